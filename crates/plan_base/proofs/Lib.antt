@@ -1,0 +1,3 @@
+pub mod MoreRead
+pub mod MoreWritten
+pub mod PlaceAgain

@@ -1,0 +1,34 @@
+use Rattle.std.specs.Prelude.{ℕ}
+use Rattle.plan_base.specs.declared.limits.Caps.{Caps}
+use Rattle.plan_base.specs.declared.limits.Kind.{Kind}
+use Rattle.plan_base.specs.declared.limits.Kind.TheVariants.{Nodes, Arcs, Links, Stops, Trips, Calls, OsmNodes, Ways, Refs, Routes, Services, Dates}
+
+-- the limit of things of this kind
+abbrev pub cap_of : Caps → Kind → ℕ
+cap_of caps Nodes = caps.nodes
+cap_of caps Arcs = caps.arcs
+cap_of caps Links = caps.links
+cap_of caps Stops = caps.stops
+cap_of caps Trips = caps.trips
+cap_of caps Calls = caps.calls
+cap_of caps OsmNodes = caps.osm_nodes
+cap_of caps Ways = caps.ways
+cap_of caps Refs = caps.refs
+cap_of caps Routes = caps.routes
+cap_of caps Services = caps.services
+cap_of caps Dates = caps.dates
+
+-- the greatest limit of things of this kind
+abbrev pub full_cap_of : Kind → ℕ
+full_cap_of Nodes = 16777216
+full_cap_of Arcs = 67108864
+full_cap_of Links = 8388608
+full_cap_of Stops = 1048576
+full_cap_of Trips = 1048576
+full_cap_of Calls = 33554432
+full_cap_of OsmNodes = 33554432
+full_cap_of Ways = 8388608
+full_cap_of Refs = 67108864
+full_cap_of Routes = 1048576
+full_cap_of Services = 1048576
+full_cap_of Dates = 16777216

@@ -1,0 +1,14 @@
+pub mod CapsByKind
+pub mod Counts
+pub mod DaySets
+pub mod Limits
+pub mod MemoryAnswers
+pub mod MemoryFiles
+pub mod MemoryStates
+pub mod PlaceOf
+pub mod Places
+pub mod ReadCauses
+pub mod ReadFaults
+pub mod ShelfCauses
+pub mod Shelves
+pub mod Sinks

@@ -1,0 +1,28 @@
+//! What every crate of the planner stands on: times, places, sets of days and limits, and the two
+//! ends of the program: a shelf, which files are read from, and a sink, which bytes are written to.
+//!
+//! A shelf and a sink are traits whose ghost member is what they hold, as far as they tell it. Code
+//! above is generic over them and proved once; [`MemoryShelf`] and [`MemorySink`] tell everything,
+//! and [`FolderShelf`] and [`StreamSink`], over real files and streams, tell nothing of content.
+#![tactic(auto)]
+
+pub mod days;
+pub mod limits;
+pub mod memory_ends;
+pub mod places;
+pub mod reading;
+pub mod system_ends;
+#[cfg(test)]
+mod tests;
+pub mod writing;
+
+pub use days::DaySet;
+pub use limits::{Caps, Kind};
+pub use memory_ends::{MemoryShelf, MemorySink};
+pub use places::Place;
+pub use reading::{ReadFault, Shelf, ShelfError, read_whole};
+pub use system_ends::{FolderShelf, StreamSink};
+pub use writing::{Sink, SinkFailed, write_all};
+
+/// A point of time: milliseconds of the region clock.
+pub type Time = u128;
