@@ -1,0 +1,9 @@
+pub mod Reading
+pub mod Digits
+pub mod Decimal
+pub mod Signed
+pub mod Hexadecimal
+pub mod FixedDecimal
+pub mod Pieces
+pub mod Spaced
+pub mod Course

@@ -1,0 +1,7 @@
+use Rattle.std.proofs.Common.{List, ℕ}
+use Rattle.std.specs.Borrow.{Bor}
+use Rattle.plain_texts.proofs.Spaced.{words_joined}
+use Rattle.plain_texts.proofs.words.words_of.Goals as goal
+
+pub returns-clause-joined : goal.returns-clause-joined
+returns-clause-joined c = words_joined (λ (b : Bor (List ℕ)). b.now) (λ v. v.items) c.args.line.now c.split.result c.split.ensures
