@@ -1,0 +1,4 @@
+pub mod GraphLaws
+pub mod LabelLaws
+pub mod Walks
+pub mod Collapse

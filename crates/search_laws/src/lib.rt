@@ -1,0 +1,12 @@
+//! What a route search asks of the graph that it walks and of the automaton that it obeys, as traits with laws,
+//! and what a walk, its word and a least arrival are. Everything above is proved once over these laws.
+#![tactic(auto)]
+
+mod graph;
+mod labels;
+
+pub use graph::{Graph, GraphArc};
+pub use labels::{Labels, Move, RoadLabels};
+
+/// A moment, in milliseconds from an origin that the graph fixes.
+pub type Time = u128;
