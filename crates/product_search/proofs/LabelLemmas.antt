@@ -1,0 +1,71 @@
+-- There is one list of the least labels.
+use Rattle.std.proofs.Common.{◌≡◌, ℕ, zero, suc, ◌⊎◌, List, [], ◌∷◌, Less, inl, inr, refl, sym, ◌∙◌, ap, subst, arith}
+use Rattle.std.specs.Prelude.{Option, Contains}
+use Rattle.std.specs.Ordering.{ordering_reverse}
+use Rattle.std.proofs.lemmas.List.Elements.{All-contains}
+use Rattle.search_laws.specs.GraphLaws.{GraphMeaning}
+use Rattle.search_laws.specs.LabelLaws.{LabelsMeaning}
+use Rattle.product_search.specs.declared.label.Label.{Label}
+use Rattle.product_search.specs.Reach.{IsLeastAt, IsToList}
+use Rattle.product_search.specs.Listed.{IsBelow, IsAscending, AreLeastLabels}
+use Rattle.product_search.proofs.CheckLemmas.{label_total}
+
+-- ---- ascending lists with the same labels
+
+tail_ascends : (x : Label) (xs : List Label) → IsAscending (x ∷ xs) → IsAscending xs
+tail_ascends x xs ascending i j d lt in_range = ascending (suc i) (suc j) d (omega arith) (omega arith)
+
+head_below : (x : Label) (xs : List Label) → IsAscending (x ∷ xs) → (y : Label) → Contains xs y → IsBelow x y
+head_below x xs ascending y (k, lt, is) = subst (λ z. IsBelow x z) is (ascending zero (suc k) y (omega arith) (omega arith))
+
+head_or_tail : (x : Label) (xs : List Label) (y : Label) → Contains (x ∷ xs) y → (x ≡ y) ⊎ Contains xs y
+head_or_tail x xs y (zero, lt, is) = inl is
+head_or_tail x xs y (suc k, lt, is) = inr (k, (omega arith), is)
+
+in_tail : (x : Label) (xs : List Label) (y : Label) → Contains xs y → Contains (x ∷ xs) y
+in_tail x xs y (k, lt, is) = (suc k, (omega arith), is)
+
+not_both : {G : Type 0} (x y : Label) → IsBelow x y → IsBelow y x → G
+not_both x y below above = let e : Less ≡ ordering_reverse Less = sym below ∙ label_total.antisymm x y ∙ ap ordering_reverse above in cc
+
+SubList : List Label → List Label → Type 0
+SubList xs ys = (z : Label) → Contains xs z → Contains ys z
+
+same_head : (x y : Label) (xs ys : List Label) → IsAscending (x ∷ xs) → IsAscending (y ∷ ys) → SubList (x ∷ xs) (y ∷ ys) → SubList (y ∷ ys) (x ∷ xs) → x ≡ y
+unfolding SubList
+same_head x y xs ys up above there back = elim (head_or_tail y ys x (there x (0, (omega arith), refl))) [
+  | inl e ↦ sym e
+  | inr below ↦ elim (head_or_tail x xs y (back y (0, (omega arith), refl))) [
+    | inl e ↦ e
+    | inr also ↦ not_both x y (head_below x xs up y also) (head_below y ys above x below)
+  ]
+]
+
+tails : (x y : Label) (xs ys : List Label) → x ≡ y → IsAscending (x ∷ xs) → SubList (x ∷ xs) (y ∷ ys) → SubList xs ys
+unfolding SubList
+tails x y xs ys same up there z has = elim (head_or_tail y ys z (there z (in_tail x xs z has))) [
+  | inr in_ys ↦ in_ys
+  | inl e ↦ (let below : IsBelow x x = subst (λ w. IsBelow x w) (sym (same ∙ e)) (head_below x xs up z has) in not_both x x below below)
+]
+
+same_lists : (xs ys : List Label) → IsAscending xs → IsAscending ys → SubList xs ys → SubList ys xs → xs ≡ ys
+unfolding SubList
+same_lists [] [] up above there back = refl
+same_lists [] (y ∷ ys) up above there back = let h = back y (0, (omega arith), refl) in absurd (omega (arith, h.1))
+same_lists (x ∷ xs) [] up above there back = let h = there x (0, (omega arith), refl) in absurd (omega (arith, h.1))
+same_lists (x ∷ xs) (y ∷ ys) up above there back =
+    let head : x ≡ y = same_head x y xs ys up above there back in
+    let tail : xs ≡ ys = same_lists xs ys (tail_ascends x xs up) (tail_ascends y ys above) (tails x y xs ys head up there) (tails y x ys xs (sym head) above back) in
+    ap (λ z. z ∷ xs) head ∙ ap (λ zs. y ∷ zs) tail
+
+-- ---- the least labels
+
+module _ (g : GraphMeaning) (l : LabelsMeaning) (starts : List ℕ) (dep : ℕ) (bound arrival : Option ℕ) where
+  has_all : (xs ys : List Label) → AreLeastLabels g l starts dep bound arrival xs → AreLeastLabels g l starts dep bound arrival ys → SubList xs ys
+  unfolding SubList
+  has_all xs ys first next z has =
+      let least = All-contains (λ x. IsLeastAt g l starts dep x.node x.state x.at × IsToList bound arrival x.at) xs z first.least has in
+      next.complete z.node z.state z.at least.0 least.1
+
+  pub labels_unique : (xs ys : List Label) → AreLeastLabels g l starts dep bound arrival xs → AreLeastLabels g l starts dep bound arrival ys → xs ≡ ys
+  labels_unique xs ys first next = same_lists xs ys first.ascending next.ascending (has_all xs ys first next) (has_all ys xs next first)

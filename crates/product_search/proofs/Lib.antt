@@ -1,0 +1,13 @@
+pub mod HopLemmas
+pub mod LabelLemmas
+mod QueueLemmas
+mod OfferLemmas
+mod SumLemmas
+mod StepLemmas
+mod ReachLemmas
+mod EndLemmas
+mod TrailLemmas
+mod ListLemmas
+mod CheckLemmas
+mod StartLemmas
+mod BoundLemmas

@@ -1,0 +1,5 @@
+use Rattle.product_search.specs.Closed.{ArcsAreListedAt, HoldsBelow}
+use Rattle.product_search.proofs.arc_check.first_open_arcs.Given as goal
+
+abbrev pub invariant-loop-k : goal.invariant-loop-k
+invariant-loop-k g l = HoldsBelow l.k (ArcsAreListedAt (g.G.Graph.meaning l.graph) (g.L.Labels.automaton l.labels) l.arrival l.list)

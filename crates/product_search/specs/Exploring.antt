@@ -1,0 +1,82 @@
+-- What the arcs out of a settled product state add to what is reached.
+use Rattle.std.specs.Prelude.{◌≡◌, ℕ, ◌+◌, ◌<◌, ◌≤◌, true, false, ⊤, ◌⊎◌, List, Option, Some, None, IsTrue, IsBitSet, Contains}
+use Rattle.search_laws.specs.GraphLaws.{GraphMeaning, HasArc}
+use Rattle.search_laws.specs.declared.labels.Move.{Move}
+use Rattle.search_laws.specs.LabelLaws.{LabelsMeaning, Follows, AllAfter}
+use Rattle.product_search.specs.declared.frontier.Reached.{Reached}
+use Rattle.product_search.specs.declared.frontier.Settled.{Settled}
+use Rattle.product_search.specs.declared.frontier.Frontier.{Frontier}
+use Rattle.product_search.specs.Reach.{IsWithin}
+use Rattle.product_search.specs.Waiting.{reached_at}
+
+-- the product state is reached by then
+abbrev pub IsReachedBy : Frontier → ℕ → ℕ → ℕ → Type 0
+IsReachedBy f w r u = (x : Reached) × (reached_at f w r ≡ Some x) × (x.at ≤ u)
+
+-- what is settled has no later time than t
+abbrev pub IsSettledBy : Frontier → ℕ → Type 0
+IsSettledBy f t = (w r : ℕ) (x : Reached) → reached_at f w r ≡ Some x → x.settled ≡ true → x.at ≤ t
+
+-- a way of the time u is better than what is known
+abbrev pub CanHasten : Option Reached → ℕ → Type 0
+CanHasten None u = ⊤
+CanHasten (Some x) u = (x.settled ≡ false) × (u < x.at)
+
+-- what has changed waits, by a better way, of which P holds
+abbrev pub Offers : Frontier → Frontier → (ℕ → ℕ → Reached → Type 0) → Type 0
+Offers old new P = (w r : ℕ) → (reached_at new w r ≡ reached_at old w r)
+    ⊎ ((x : Reached) × (reached_at new w r ≡ Some x) × P w r x × (x.settled ≡ false) × CanHasten (reached_at old w r) x.at)
+
+-- way leads to the node to by a move, if that is by the letter
+pub record IsByMove (step : Move) (letter to : ℕ) (way : Reached) (w r : ℕ) (x : Reached) : Type 0 where
+  pub by : IsBitSet step.letters letter
+  pub node : w ≡ to
+  pub state : step.to ≡ r
+  pub as_given : x ≡ way
+
+-- way leads to the node to, in a state after the letter of an arc, or after none, from q
+pub record LeadsTo (l : LabelsMeaning) (to q : ℕ) (letter : Option ℕ) (way : Reached) (w r : ℕ) (x : Reached) : Type 0 where
+  pub node : w ≡ to
+  pub state : Follows l q letter r
+  pub as_given : x ≡ way
+
+-- the way by the arc at place i of the settled product state s
+abbrev pub way_by : Settled → ℕ → ℕ → Reached
+way_by s i u = record { at = u; arcs = s.arcs + 1; parent = Some (record { node = s.node; state = s.state; arc = i }); settled = false }
+
+-- x is the way to w and r by some arc of s, within the bound
+pub record IsSuccessor (g : GraphMeaning) (l : LabelsMeaning) (bound : Option ℕ) (s : Settled) (w r : ℕ) (x : Reached) : Type 0 where
+  pub place : ℕ
+  pub has : HasArc g s.node place
+  pub arrives : g.arrive s.node place s.at ≡ Some x.at
+  pub within : IsWithin bound x.at
+  pub node : w ≡ (g.arc_at s.node place).to
+  pub state : Follows l s.state (g.arc_at s.node place).letter r
+  pub as_made : x ≡ way_by s place x.at
+
+-- what the arc at place i of v leads to from q and t, within the bound, is reached by then
+abbrev pub ArcIsReached : GraphMeaning → LabelsMeaning → Option ℕ → Frontier → ℕ → ℕ → ℕ → ℕ → Type 0
+ArcIsReached g l bound f v q t i = (u : ℕ) → g.arrive v i t ≡ Some u → IsWithin bound u
+    → AllAfter l q (g.arc_at v i).letter (λ r. IsReachedBy f (g.arc_at v i).to r u)
+
+-- ---- starts
+
+abbrev pub way_from : ℕ → Reached
+way_from dep = record { at = dep; arcs = 0; parent = None; settled = false }
+
+-- x is the way to the start node, in a start state, by no arc
+pub record IsStartAt (l : LabelsMeaning) (node dep w r : ℕ) (x : Reached) : Type 0 where
+  pub node_is : w ≡ node
+  pub is_state : r < l.states
+  pub is_start : IsTrue (l.is_start r)
+  pub as_made : x ≡ way_from dep
+
+pub record IsStartAmong (l : LabelsMeaning) (starts : List ℕ) (dep w r : ℕ) (x : Reached) : Type 0 where
+  pub starts_there : Contains starts w
+  pub is_state : r < l.states
+  pub is_start : IsTrue (l.is_start r)
+  pub as_made : x ≡ way_from dep
+
+-- the node is reached at dep in each start state
+abbrev pub StartIsReached : Frontier → LabelsMeaning → ℕ → ℕ → Type 0
+StartIsReached f l dep node = (q : ℕ) → q < l.states → IsTrue (l.is_start q) → IsReachedBy f node q dep

@@ -1,0 +1,9 @@
+pub mod Reach
+pub mod Listed
+pub mod Answer
+pub mod Closed
+pub mod Waiting
+pub mod Exploring
+pub mod Searching
+pub mod Trail
+pub mod Towns

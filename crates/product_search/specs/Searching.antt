@@ -1,0 +1,105 @@
+-- What the search keeps while it settles one product state after the other.
+use Rattle.std.specs.Prelude.{◌≡◌, ℕ, zero, suc, ◌+◌, ◌*◌, ◌^◌, ◌<◌, ◌≤◌, Bool, true, false, List, length, slice_index, Option, Some, None, IsTrue, Contains, ◌&&◌, if◌then◌else◌}
+use Rattle.search_laws.specs.GraphLaws.{GraphMeaning, HasArc}
+use Rattle.search_laws.specs.LabelLaws.{LabelsMeaning, Follows}
+use Rattle.product_search.specs.declared.frontier.Parent.{Parent}
+use Rattle.product_search.specs.declared.frontier.Reached.{Reached}
+use Rattle.product_search.specs.declared.frontier.Settled.{Settled}
+use Rattle.product_search.specs.declared.frontier.Frontier.{Frontier}
+use Rattle.product_search.specs.Reach.{IsReachedAt, IsWithin, IsToList, is_before}
+use Rattle.product_search.specs.Listed.{label_of}
+use Rattle.product_search.specs.declared.label.Label.{Label}
+use Rattle.product_search.specs.Waiting.{reached_at, waits_at, IsQueueRight}
+use Rattle.product_search.specs.Exploring.{StartIsReached, ArcIsReached}
+
+-- ---- how many product states are not settled
+
+abbrev pub sum_below : ℕ → (ℕ → ℕ) → ℕ
+sum_below zero f = 0
+sum_below (suc n) f = f n + sum_below n f
+
+abbrev pub is_settled : Option Reached → Bool
+is_settled None = false
+is_settled (Some x) = x.settled
+
+abbrev pub count_unless : Bool → ℕ
+count_unless b = if b then 0 else 1
+
+abbrev pub unsettled_at : LabelsMeaning → Frontier → ℕ → ℕ
+unsettled_at l f v = sum_below l.states (λ q. count_unless (is_settled (reached_at f v q)))
+
+abbrev pub unsettled : GraphMeaning → LabelsMeaning → Frontier → ℕ
+unsettled g l f = sum_below g.nodes (unsettled_at l f)
+
+-- ---- where a way comes from
+
+pub record IsFromStart (l : LabelsMeaning) (starts : List ℕ) (dep v q : ℕ) (x : Reached) : Type 0 where
+  pub starts_there : Contains starts v
+  pub is_state : q < l.states
+  pub is_start : IsTrue (l.is_start q)
+  pub at : x.at ≡ dep
+
+-- by an arc of a settled product state, which one arc less leads to
+pub record IsFromParent (g : GraphMeaning) (l : LabelsMeaning) (f : Frontier) (v q : ℕ) (x : Reached) (p : Parent) : Type 0 where
+  pub before : Reached
+  pub known : reached_at f p.node p.state ≡ Some before
+  pub settled : before.settled ≡ true
+  pub one_more : x.arcs ≡ before.arcs + 1
+  pub has : HasArc g p.node p.arc
+  pub arrives : g.arrive p.node p.arc before.at ≡ Some x.at
+  pub node : v ≡ (g.arc_at p.node p.arc).to
+  pub state : Follows l p.state (g.arc_at p.node p.arc).letter q
+
+abbrev pub IsTracedTo : GraphMeaning → LabelsMeaning → List ℕ → ℕ → Frontier → ℕ → ℕ → Reached → Option Parent → Type 0
+IsTracedTo g l starts dep f v q x None = IsFromStart l starts dep v q x
+IsTracedTo g l starts dep f v q x (Some p) = IsFromParent g l f v q x p
+
+abbrev pub IsTraced : GraphMeaning → LabelsMeaning → List ℕ → ℕ → Frontier → Type 0
+IsTraced g l starts dep f = (v q : ℕ) (x : Reached) → reached_at f v q ≡ Some x → IsTracedTo g l starts dep f v q x x.parent
+
+-- ---- the invariant
+
+pub record IsSearching (g : GraphMeaning) (l : LabelsMeaning) (starts targets : List ℕ) (dep : ℕ) (bound : Option ℕ) (f : Frontier) : Type 0 where
+  pub right : IsQueueRight f
+  pub in_range : (v q : ℕ) (x : Reached) → reached_at f v q ≡ Some x → (v < g.nodes) × (q < l.states)
+  pub traced : IsTraced g l starts dep f
+  pub bounded : (v q : ℕ) (x : Reached) → reached_at f v q ≡ Some x → x.at + 2 ^ 57 * unsettled g l f ≤ dep + 2 ^ 57 * (g.nodes * l.states)
+  pub few_arcs : (v q : ℕ) (x : Reached) → reached_at f v q ≡ Some x → x.arcs + unsettled g l f ≤ g.nodes * l.states
+  pub within : (v q : ℕ) (x : Reached) → reached_at f v q ≡ Some x → IsWithin bound x.at
+  pub starts_reached : (k : ℕ) → k < length starts → StartIsReached f l dep (slice_index starts k)
+  pub in_order : (v q w r u : ℕ) (x : Reached) → reached_at f v q ≡ Some x → x.settled ≡ true → waits_at (reached_at f w r) u ≡ true → x.at ≤ u
+  pub closed : (v q : ℕ) (x : Reached) → reached_at f v q ≡ Some x → x.settled ≡ true → (i : ℕ) → i < g.arcs v → ArcIsReached g l bound f v q x.at i
+  pub no_end : (v q : ℕ) (x : Reached) → reached_at f v q ≡ Some x → x.settled ≡ true → Contains targets v → IsTrue (l.accepts q) → ⊥
+
+-- ---- what it ends with
+
+-- the product state is settled by then
+abbrev pub IsSettledAt : Frontier → ℕ → ℕ → ℕ → Type 0
+IsSettledAt f v q t = (x : Reached) × (reached_at f v q ≡ Some x) × (x.settled ≡ true) × (x.at ≤ t)
+
+-- all that is reached at a time to list is settled, and is no end
+pub record IsSearched (g : GraphMeaning) (l : LabelsMeaning) (starts targets : List ℕ) (dep : ℕ) (bound arrival : Option ℕ) (f : Frontier) : Type 0 where
+  pub traced : IsTraced g l starts dep f
+  pub bounded : (v q : ℕ) (x : Reached) → reached_at f v q ≡ Some x → x.at ≤ dep + 2 ^ 98
+  pub within : (v q : ℕ) (x : Reached) → reached_at f v q ≡ Some x → IsWithin bound x.at
+  pub complete : (v q t : ℕ) → IsReachedAt g l starts dep v q t → IsToList bound arrival t → IsSettledAt f v q t
+  pub no_end : (v q : ℕ) (x : Reached) → reached_at f v q ≡ Some x → x.settled ≡ true → IsToList bound arrival x.at → Contains targets v → IsTrue (l.accepts q) → ⊥
+
+-- s is settled, and is an end
+pub record IsEnd (l : LabelsMeaning) (targets : List ℕ) (f : Frontier) (s : Settled) : Type 0 where
+  pub entry : Reached
+  pub known : reached_at f s.node s.state ≡ Some entry
+  pub at : s.at ≡ entry.at
+  pub target : Contains targets s.node
+  pub accepts : IsTrue (l.accepts s.state)
+
+-- the search has ended at the least end, or has found none
+abbrev pub IsExplored : GraphMeaning → LabelsMeaning → List ℕ → List ℕ → ℕ → Option ℕ → Frontier → Option Settled → Type 0
+IsExplored g l starts targets dep bound f None = IsSearched g l starts targets dep bound None f
+IsExplored g l starts targets dep bound f (Some s) = IsSearched g l starts targets dep bound (Some s.at) f × IsEnd l targets f s
+
+-- ---- what it lists
+
+-- the label of an entry that is settled before the arrival
+abbrev pub listed_label : Option ℕ → (ℕ × ℕ) × Reached → Option Label
+listed_label arrival e = if (e.1).settled && is_before arrival (e.1).at then Some (label_of e.0.0 e.0.1 (e.1).at) else None

@@ -1,0 +1,26 @@
+//! The exact search over the product of a lawful graph and an automaton, and the check of a list of labels that
+//! bounds every accepted walk. Both are proved once, for all graphs and automata.
+#![tactic(auto)]
+
+mod arc_check;
+mod checking;
+mod end_check;
+mod explore;
+mod frontier;
+mod label;
+mod listing;
+mod lookup;
+mod order_check;
+mod retrace;
+mod searching;
+mod settling;
+mod start;
+mod start_check;
+#[cfg(test)]
+mod tests;
+mod verdict;
+
+pub use checking::check_labels;
+pub use label::{Found, Hop, Label, Walk};
+pub use searching::search;
+pub use verdict::LabelVerdict;

@@ -1,0 +1,58 @@
+//! The search for the least arrival.
+
+ghost use Rattle.std.specs.Prelude.{◌<◌, ◌^◌, All, IfOk};
+ghost use Rattle.product_search.specs.Reach.{IsWithin};
+ghost use Rattle.product_search.specs.Listed.{AreLeastLabels};
+ghost use Rattle.product_search.specs.Answer.{IsArrival, IsWalkFor, IsInTime};
+
+use crate::label::Found;
+use crate::listing::list_labels;
+use crate::retrace::retrace;
+use crate::settling::settle_all;
+use search_laws::{Graph, Labels, Time};
+use std::alloc::{AllocError, Global};
+
+/// Finds the least arrival over all walks from a start at `dep` to a target that the automaton accepts, and that
+/// arrive no later than `bound`, if there is one.
+///
+/// A walk leaves its start in a start state and may wait anywhere. The starts and the targets may be empty, or hold
+/// a node twice. The answer has the arrival, a walk without waits that has it, and the least arrivals of all
+/// product states that are reached before, or where no walk counts, of all that are reached within the bound.
+/// No time in it is above `dep + 2^98`. Fails where memory runs out.
+///
+/// The method is Dijkstra's, over pairs of a node and a state, as Barrett, Jacob and Marathe use it for languages.
+pub fn search<G: Graph, L: Labels>(
+    alloc: Global,
+    graph: &G,
+    labels: &L,
+    starts: &[u32],
+    targets: &[u32],
+    dep: Time,
+    bound: Option<Time>,
+) -> Result<Found, AllocError>
+    requires starts { All (λ v. v < (G.meaning graph.now).nodes) starts.now }
+    requires targets { All (λ v. v < (G.meaning graph.now).nodes) targets.now }
+    requires dep { dep < 2 ^ 64 }
+    requires bound { IsWithin bound dep }
+    ensures arrival { IfOk result (λ f. IsArrival (G.meaning graph.now) (L.automaton labels.now) starts.now targets.now dep
+        bound f.arrival) }
+    ensures walk { IfOk result (λ f. IsWalkFor (G.meaning graph.now) (L.automaton labels.now) starts.now targets.now dep
+        f.arrival f.walk) }
+    ensures labels { IfOk result (λ f. AreLeastLabels (G.meaning graph.now) (L.automaton labels.now) starts.now dep
+        bound f.arrival f.labels.items) }
+    ensures times { IfOk result (IsInTime dep) }
+{
+    let explored = settle_all(alloc, graph, labels, starts, targets, dep, bound)?;
+    match explored.end {
+        None => Ok(Found {
+            arrival: None,
+            labels: list_labels(alloc, &explored.frontier, None)?,
+            walk: None,
+        }),
+        Some(end) => Ok(Found {
+            arrival: Some(end.at),
+            labels: list_labels(alloc, &explored.frontier, Some(end.at))?,
+            walk: Some(retrace(alloc, &explored.frontier, end)?),
+        }),
+    }
+}

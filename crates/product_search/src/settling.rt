@@ -1,0 +1,70 @@
+//! The main loop: product states are settled in the order of their times, until an end is, or nobody waits.
+
+ghost use Rattle.std.specs.Prelude.{◌≡◌, ℕ, ◌<◌, ◌^◌, ◌&&◌, All, IfOk};
+ghost use Rattle.std.specs.BTreeSet as sorted;
+ghost use Rattle.std.specs.Ordering.{nat_cmp};
+ghost use Rattle.product_search.specs.Reach.{IsWithin};
+ghost use Rattle.product_search.specs.Searching.{IsExplored};
+
+use crate::explore::explore;
+use crate::frontier::{Frontier, Settled};
+use crate::start::offer_starts;
+use search_laws::{Graph, Labels, Time};
+use std::alloc::{AllocError, Global};
+use std::collections::BTreeSet;
+
+/// What a search has settled, and the end that it has come to, if any.
+#[derive(Drop)]
+pub(crate) struct Explored {
+    pub frontier: Frontier,
+    pub end: Option<Settled>,
+}
+
+/// Settles product states from the starts on, up to the first end.
+pub(crate) fn settle_all<G: Graph, L: Labels>(
+    alloc: Global,
+    graph: &G,
+    labels: &L,
+    starts: &[u32],
+    targets: &[u32],
+    dep: Time,
+    bound: Option<Time>,
+) -> Result<Explored, AllocError>
+    requires starts { All (λ v. v < (G.meaning graph.now).nodes) starts.now }
+    requires dep { dep < 2 ^ 64 }
+    requires bound { IsWithin bound dep }
+    ensures { IfOk result (λ e. IsExplored (G.meaning graph.now) (L.automaton labels.now) starts.now targets.now dep bound
+        e.frontier e.end) }
+{
+    let ends = set_of(alloc, targets)?;
+    let mut frontier = Frontier::new(alloc);
+    offer_starts(&mut frontier, labels, starts, dep)?;
+    while let Some(settled) = frontier.settle_least() {
+        if is_end(labels, &ends, settled) {
+            return Ok(Explored {
+                frontier,
+                end: Some(settled),
+            });
+        }
+        explore(&mut frontier, graph, labels, bound, settled)?;
+    }
+    Ok(Explored {
+        frontier,
+        end: None,
+    })
+}
+
+/// Whether a product state is a target in an accepting state.
+fn is_end<L: Labels>(labels: &L, ends: &BTreeSet<u32>, settled: Settled) -> bool
+    requires { settled.state < (L.automaton labels.now).states }
+    ensures { result ≡ ((L.automaton labels.now).accepts settled.state && sorted.contains nat_cmp ends.now settled.node) }
+{
+    labels.accepts(settled.state) && ends.contains(&settled.node)
+}
+
+/// The nodes of a list, to be looked up.
+fn set_of(alloc: Global, nodes: &[u32]) -> Result<BTreeSet<u32>, AllocError>
+    ensures { IfOk result (sorted.IsFromIterResult nat_cmp nodes.now) }
+{
+    nodes.iter().copied().collect(alloc)
+}
