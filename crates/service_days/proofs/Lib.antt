@@ -1,0 +1,11 @@
+pub mod CivilDates
+pub mod ClockAscii
+pub mod ClockLaws
+pub mod DateSteps
+pub mod InOrder
+pub mod Noons
+pub mod OneDayMore
+pub mod PlainDays
+pub mod ReadClockLaws
+pub mod RisingLists
+pub mod ZoneDays

@@ -1,0 +1,9 @@
+use Rattle.std.proofs.Common.{◌≡◌, ℕ, ◌&&◌, nat_lt}
+use Rattle.plan_base.specs.DaySets.{contains_day}
+use Rattle.service_days.specs.Days.{date_of}
+use Rattle.service_days.specs.Services.{runs_on}
+use Rattle.service_days.proofs.region_days.Days.days_of.Given as goal
+
+-- the days so far on which the service runs
+abbrev pub invariant-loop-day : goal.invariant-loop-day
+invariant-loop-day l = (other : ℕ) → contains_day l.days other ≡ (nat_lt other l.day && runs_on l.rule l.added l.removed (date_of l.self other))
