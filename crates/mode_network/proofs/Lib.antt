@@ -1,0 +1,4 @@
+pub mod RuleLemmas
+pub mod IndexLemmas
+pub mod FindLemmas
+pub mod CopyLemmas

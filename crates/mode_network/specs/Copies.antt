@@ -1,0 +1,33 @@
+-- Which nodes an endpoint of a query names.
+use Rattle.std.specs.Prelude.{◌≡◌, ℕ, ℤ, ◌<◌, ◌≤◌, ◌↔◌, List, Option, Some, None, slice_get, option_map}
+use Rattle.mode_network.specs.declared.nodes.Node.{Node}
+use Rattle.mode_network.specs.declared.nodes.NodeKey.TheVariants.{Road as RoadKey}
+use Rattle.mode_network.specs.declared.endpoints.Endpoint.{Endpoint}
+use Rattle.mode_network.specs.declared.endpoints.Endpoint.TheVariants.{Road, Stop}
+use Rattle.mode_network.specs.NetworkLists.{NetworkLists, stop_node}
+
+-- the node is the OSM node of this id, in the layer of some mode
+abbrev pub IsRoadCopy : List Node → ℤ → ℕ → Type 0
+IsRoadCopy roads id v = (mode : ℕ) × (option_map (λ (node : Node). node.key) (slice_get roads v) ≡ Some (RoadKey mode id))
+
+-- the node is the stop of this name
+abbrev pub IsStopCopy : NetworkLists → List ℕ → ℕ → Type 0
+IsStopCopy n name v = (stop : ℕ) × (slice_get n.stop_names stop ≡ Some name) × (v ≡ stop_node n stop)
+
+-- the node is a copy of the endpoint
+abbrev pub IsCopy : NetworkLists → Endpoint → ℕ → Type 0
+IsCopy n (Road id) v = IsRoadCopy n.roads id v
+IsCopy n (Stop name) v = IsStopCopy n name v
+
+-- the nodes from the first of these numbers to before the second are those with the property; or none has it
+abbrev pub AreExactly : (ℕ → Type 0) → Option (ℕ × ℕ) → Type 0
+AreExactly P (Some range) = (range.0 < range.1) × ((v : ℕ) → P v ↔ ((range.0 ≤ v) × (v < range.1)))
+AreExactly P None = (v : ℕ) → P v → ⊥
+
+abbrev pub AreCopies : NetworkLists → Endpoint → Option (ℕ × ℕ) → Type 0
+AreCopies n endpoint range = AreExactly (IsCopy n endpoint) range
+
+-- the place where a name stands in a list, and the only one; or it stands nowhere
+abbrev pub IsPlaceOf : List (List ℕ) → List ℕ → Option ℕ → Type 0
+IsPlaceOf names name (Some place) = (slice_get names place ≡ Some name) × ((k : ℕ) → slice_get names k ≡ Some name → k ≡ place)
+IsPlaceOf names name None = (k : ℕ) → slice_get names k ≡ Some name → ⊥

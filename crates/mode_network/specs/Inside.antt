@@ -1,0 +1,20 @@
+-- What the fields of a network show, and what they keep.
+use Rattle.mode_network.specs.declared.network.Network.TheInside.{Inside}
+use Rattle.mode_network.specs.NetworkLists.{NetworkLists}
+use Rattle.mode_network.specs.Rules.{IsNetwork}
+use Rattle.mode_network.specs.Indexes.{AreIndexes}
+
+abbrev pub lists_of : Inside → NetworkLists
+lists_of n = record {
+  days = n.days;
+  roads = n.roads.items;
+  stop_names = n.stop_names.items;
+  stops = n.stops.items;
+  switches = n.switches.items;
+  arcs = n.arcs.items;
+  links = n.links.items;
+}
+
+pub record IsKept (n : Inside) : Type 0 where
+  pub rules : IsNetwork (lists_of n)
+  pub indexes : AreIndexes (lists_of n) n.arc_offsets.items n.link_offsets.items n.linked.items

@@ -1,0 +1,34 @@
+use Rattle.std.specs.Prelude.{ℕ, ◌+◌, List, ◌++◌, length, Option, None, Some, slice_get, option_and_then}
+use Rattle.service_days.specs.DaysMeaning.{DaysMeaning}
+use Rattle.mode_network.specs.declared.nodes.Node.{Node}
+use Rattle.mode_network.specs.declared.nodes.Arc.{Arc}
+use Rattle.mode_network.specs.declared.nodes.NodeKey.{NodeKey}
+use Rattle.mode_network.specs.declared.nodes.NodeKey.TheVariants.{Road, Stop, Switch}
+
+-- what a network consists of, as lists
+pub record NetworkLists : Type 0 where
+  pub days : DaysMeaning
+  pub roads : List Node
+  pub stop_names : List (List ℕ)
+  pub stops : List Node
+  pub switches : List Node
+  pub arcs : List Arc
+  pub links : List Arc
+
+-- the nodes in the order of their numbers: the road nodes, then the stops, then the switches
+abbrev pub nodes_of : NetworkLists → List Node
+nodes_of n = n.roads ++ n.stops ++ n.switches
+
+-- the road mode of a node: foot is 0, bike is 1 and car is 2; a stop or a switch has none
+abbrev pub mode_of : NodeKey → Option ℕ
+mode_of (Road mode id) = Some mode
+mode_of (Stop stop) = None
+mode_of (Switch id) = None
+
+-- the road mode of the node of this number
+abbrev pub mode_at : List Node → ℕ → Option ℕ
+mode_at roads v = option_and_then (λ (node : Node). mode_of node.key) (slice_get roads v)
+
+-- the node number of a stop
+abbrev pub stop_node : NetworkLists → ℕ → ℕ
+stop_node n stop = length n.roads + stop

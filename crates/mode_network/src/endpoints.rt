@@ -1,0 +1,48 @@
+//! The endpoints of a query, as it names them.
+
+ghost use Rattle.std.specs.Prelude.{◌≡◌, List, ℕ};
+
+use std::marker::Model;
+
+/// Bytes. A contract sees them as a list.
+#[derive(Debug, Drop)]
+pub struct Bytes {
+    items: Vec<u8>,
+}
+
+impl Model for Bytes {
+    ghost Value = { List ℕ };
+
+    ghost view = { λ b. b.items.items };
+}
+
+impl Bytes {
+    pub fn as_slice(&self) -> &[u8]
+        ensures { result.now ≡ self.now }
+    {
+        &self.items
+    }
+
+    pub fn into_vec(self) -> Vec<u8>
+        ensures { result.items ≡ self }
+    {
+        self.items
+    }
+}
+
+impl From<Vec<u8>> for Bytes {
+    ghost from_gives = { λ items bytes. bytes ≡ items.items };
+
+    fn from(items: Vec<u8>) -> Bytes {
+        Bytes { items }
+    }
+}
+
+/// What a query names as its origin or its destination.
+#[derive(Debug, Drop)]
+pub enum Endpoint {
+    /// The OSM node of this id, in the layers of all modes.
+    Road(i64),
+    /// The stop of this name.
+    Stop(Bytes),
+}

@@ -1,0 +1,53 @@
+//! Tables that find the arcs and links of a node.
+
+ghost use Rattle.std.specs.Prelude.{◌≡◌, ◌+◌, ◌<◌, ◌≤◌, ◌^◌, ℕ, length, All, IfOk, slice_index_or};
+ghost use Rattle.std.specs.List.{AllWithin};
+ghost use Rattle.mode_network.specs.declared.nodes.Arc.{Arc};
+ghost use Rattle.mode_network.specs.Rules.{IsAscending, arc_cmp};
+ghost use Rattle.mode_network.specs.Indexes.{AreOffsets, AreEnds};
+
+use crate::nodes::Arc;
+use std::alloc::{AllocError, Global};
+
+/// The first place, from this one on, whose arc leaves `v` or a later node.
+fn skip_below(arcs: &[Arc], mut place: usize, v: u32) -> usize
+    requires within { place ≤ length arcs.now }
+    requires below { AllWithin (λ arc. arc.from < v) arcs.now 0 place }
+    ensures within { result ≤ length arcs.now }
+    ensures below { AllWithin (λ arc. arc.from < v) arcs.now 0 result }
+    ensures next { (d : Arc) → result < length arcs.now → v ≤ (slice_index_or arcs.now result d).from }
+{
+    while place < arcs.len() && arcs[place].from < v {
+        place += 1;
+    }
+    place
+}
+
+/// For each node number and one past the last: how many arcs begin at lower nodes.
+pub(crate) fn offsets(alloc: Global, nodes: u32, arcs: &[Arc]) -> Result<Vec<u32>, AllocError>
+    requires few_nodes { nodes < 2 ^ 31 }
+    requires few_arcs { length arcs.now < 2 ^ 31 }
+    requires ascend { IsAscending arc_cmp arcs.now }
+    ensures { IfOk result (λ offsets. AreOffsets nodes arcs.now offsets.items) }
+{
+    let mut offsets = Vec::with_capacity(alloc, nodes as usize + 1)?;
+    let mut place = 0;
+    for v in 0..nodes + 1 {
+        place = skip_below(arcs, place, v);
+        offsets.push(place as u32)?;
+    }
+    Ok(offsets)
+}
+
+/// For each node number: whether some arc begins or ends there.
+pub(crate) fn ends(alloc: Global, nodes: u32, arcs: &[Arc]) -> Result<Vec<bool>, AllocError>
+    requires in_range { All (λ arc. (arc.from < nodes) × (arc.to < nodes)) arcs.now }
+    ensures { IfOk result (λ ends. AreEnds nodes arcs.now ends.items) }
+{
+    let mut ends = vec![in alloc; false; nodes as usize]?;
+    for arc in arcs {
+        ends[arc.from as usize] = true;
+        ends[arc.to as usize] = true;
+    }
+    Ok(ends)
+}

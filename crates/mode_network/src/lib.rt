@@ -1,0 +1,22 @@
+//! The network of a region: its nodes, road arcs and links, the rules that they keep, and what a
+//! journey over them is.
+#![tactic(auto)]
+
+pub mod endpoints;
+pub mod faults;
+mod indexes;
+pub mod network;
+pub mod nodes;
+mod order;
+pub mod parts;
+mod rules;
+pub mod steps;
+#[cfg(test)]
+mod tests;
+
+pub use endpoints::{Bytes, Endpoint};
+pub use faults::NetFault;
+pub use network::Network;
+pub use nodes::{Arc, Node, NodeKey};
+pub use parts::Parts;
+pub use steps::{Journey, Step};

@@ -1,0 +1,296 @@
+//! A network: its lists, and what finds things in them.
+
+ghost use Rattle.std.specs.Prelude.{◌≡◌, ◌<◌, ◌≤◌, ◌^◌, ◌↔◌, ℕ, Some, None, ◌++◌, length, All, IfOk, OnOk, IfErr, slice_get};
+ghost use Rattle.mode_network.specs.NetworkLists.{nodes_of, mode_at, stop_node};
+ghost use Rattle.mode_network.specs.Rules.{AreParts, IsNetwork, IsFaultOf, IsAscending, IsRoad, arc_cmp, node_cmp, name_cmp, rank_of, first_fault};
+ghost use Rattle.mode_network.specs.Journeys.{IsDuration};
+ghost use Rattle.mode_network.specs.Copies.{IsRoadCopy, IsStopCopy, AreExactly, AreCopies, IsPlaceOf};
+ghost use Rattle.mode_network.specs.Indexes.{range_from, IsRange, is_end_of};
+
+use crate::endpoints::Endpoint;
+use crate::faults::NetFault;
+use crate::indexes::{ends, offsets};
+use crate::nodes::{Arc, Node, NodeKey};
+use crate::parts::Parts;
+use crate::rules;
+use plain_texts::Name;
+use plan_base::Caps;
+use service_days::Days;
+use std::alloc::Global;
+use std::marker::Model;
+
+/// The network of a region. Each keeps the rules of [`Network::build`]; a contract sees its lists.
+#[derive(Drop)]
+pub struct Network {
+    days: Days,
+    roads: Vec<Node>,
+    stop_names: Vec<Name>,
+    stops: Vec<Node>,
+    switches: Vec<Node>,
+    arcs: Vec<Arc>,
+    links: Vec<Arc>,
+    arc_offsets: Vec<u32>,
+    link_offsets: Vec<u32>,
+    linked: Vec<bool>,
+}
+
+impl Model for Network {
+    ghost use Rattle.mode_network.specs.NetworkLists.{NetworkLists};
+
+    ghost Value = { NetworkLists };
+
+    ghost use Rattle.mode_network.specs.Inside.{lists_of, IsKept};
+
+    ghost view = { lists_of };
+
+    ghost invariant = { IsKept };
+}
+
+impl Network {
+    /// The network of these parts, or the first rule that they break. The rules are tried in this order: the
+    /// counts of nodes, stops, arcs and links are within `caps`; the road nodes ascend strictly by (id, mode),
+    /// the stop names by bytes and the switches by id; each arc in turn joins different road nodes of one mode,
+    /// and the arcs ascend strictly by (from, to); each link in turn joins a road node with a node that is none,
+    /// and the links ascend likewise.
+    pub fn build(alloc: Global, parts: Parts, caps: &Caps) -> Result<Network, NetFault>
+        requires { AreParts parts }
+        ensures built { IfOk result (λ network. network ≡ parts) }
+        ensures faultless { OnOk result (first_fault caps.now parts ≡ None) }
+        ensures fault { IfErr result (IsFaultOf caps.now parts) }
+    {
+        if let Some(fault) = rules::first_fault(caps, &parts) {
+            return Err(fault);
+        }
+        rules::have_durations(&parts.arcs);
+        rules::have_durations(&parts.links);
+        let nodes = rules::node_count(&parts) as u32;
+        let arc_offsets = offsets(alloc, nodes, &parts.arcs)?;
+        let link_offsets = offsets(alloc, nodes, &parts.links)?;
+        let linked = ends(alloc, nodes, &parts.links)?;
+        let Parts {
+            days,
+            roads,
+            stop_names,
+            stops,
+            switches,
+            arcs,
+            links,
+        } = parts;
+        Ok(Network {
+            days,
+            roads,
+            stop_names,
+            stops,
+            switches,
+            arcs,
+            links,
+            arc_offsets,
+            link_offsets,
+            linked,
+        })
+    }
+
+    /// Each network keeps the rules.
+    pub fn known(&self)
+        ensures { IsNetwork self.now }
+    {
+        let _ = &self.roads;
+    }
+
+    /// The days of the region.
+    pub fn days(&self) -> &Days
+        ensures { result.now ≡ self.now.days }
+    {
+        &self.days
+    }
+
+    /// How many nodes there are. The road nodes have the first numbers, then come the stops, then the switches.
+    pub fn nodes(&self) -> u32
+        ensures { result ≡ length (nodes_of self.now) }
+    {
+        (self.roads.len() + self.stops.len() + self.switches.len()) as u32
+    }
+
+    /// The node of this number.
+    pub fn node(&self, v: u32) -> Node
+        requires { v < length (nodes_of self.now) }
+        ensures { slice_get (nodes_of self.now) v ≡ Some result }
+    {
+        node_at(&self.roads, &self.stops, &self.switches, v as usize)
+    }
+
+    /// The mode of the road node of this number: 0 is foot, 1 is bike and 2 is car. None exactly where no road node
+    /// has the number.
+    pub fn mode(&self, v: u32) -> Option<u8>
+        ensures { result ≡ mode_at self.now.roads v }
+    {
+        rules::mode_at(&self.roads, v)
+    }
+
+    /// The name of this stop.
+    pub fn stop_name(&self, stop: u32) -> &[u8]
+        requires { stop < length self.now.stop_names }
+        ensures { slice_get self.now.stop_names stop ≡ Some result.now }
+    {
+        self.stop_names[stop as usize].as_bytes()
+    }
+
+    /// The node number of this stop.
+    pub fn stop_node(&self, stop: u32) -> u32
+        requires { stop < length self.now.stop_names }
+        ensures { result ≡ stop_node self.now stop }
+    {
+        self.roads.len() as u32 + stop
+    }
+
+    /// The road arcs, ascending by (from, to).
+    pub fn arcs(&self) -> &[Arc]
+        ensures { result.now ≡ self.now.arcs }
+    {
+        &self.arcs
+    }
+
+    /// The first place in [`arcs`](Self::arcs) of those that begin at `v`, and one past the last. Where none
+    /// begins at `v`, both are the number of those that begin at lower nodes.
+    pub fn arcs_from(&self, v: u32) -> (u32, u32)
+        requires { v < length (nodes_of self.now) }
+        ensures range { result ≡ range_from self.now.arcs v }
+        ensures within { IsRange result self.now.arcs }
+    {
+        (
+            self.arc_offsets[v as usize],
+            self.arc_offsets[v as usize + 1],
+        )
+    }
+
+    /// The links, ascending by (from, to).
+    pub fn links(&self) -> &[Arc]
+        ensures { result.now ≡ self.now.links }
+    {
+        &self.links
+    }
+
+    /// The first place in [`links`](Self::links) of those that begin at `v`, and one past the last. Where none
+    /// begins at `v`, both are the number of those that begin at lower nodes.
+    pub fn links_from(&self, v: u32) -> (u32, u32)
+        requires { v < length (nodes_of self.now) }
+        ensures range { result ≡ range_from self.now.links v }
+        ensures within { IsRange result self.now.links }
+    {
+        (
+            self.link_offsets[v as usize],
+            self.link_offsets[v as usize + 1],
+        )
+    }
+
+    /// Whether some link begins or ends at `v`.
+    pub fn has_link(&self, v: u32) -> bool
+        requires { v < length (nodes_of self.now) }
+        ensures { result ≡ is_end_of self.now.links v }
+    {
+        self.linked[v as usize]
+    }
+
+    /// How long the road arc from `u` to `v` takes; None exactly where there is none.
+    pub fn arc_ms(&self, u: u32, v: u32) -> Option<u32>
+        ensures { IsDuration self.now.arcs u v result }
+    {
+        self.known();
+        ms_between(self.arcs(), u, v)
+    }
+
+    /// How long the link from `u` to `v` takes; None exactly where there is none.
+    pub fn link_ms(&self, u: u32, v: u32) -> Option<u32>
+        ensures { IsDuration self.now.links u v result }
+    {
+        self.known();
+        ms_between(self.links(), u, v)
+    }
+
+    /// The copies of an endpoint: the first node number, and one past the last; None exactly where there is none.
+    /// Those of an OSM id are the road nodes with this id, in the layers of all modes; that of a stop is the stop.
+    pub fn copies(&self, endpoint: &Endpoint) -> Option<(u32, u32)>
+        ensures { AreCopies self.now endpoint.now result }
+    {
+        match endpoint {
+            Endpoint::Road(id) => self.copies_of_id(*id),
+            Endpoint::Stop(name) => self.copies_of_name(name.as_slice()),
+        }
+    }
+
+    fn copies_of_id(&self, id: i64) -> Option<(u32, u32)>
+        ensures { AreExactly (IsRoadCopy self.now.roads id) result }
+    {
+        road_copies(&self.roads, id)
+    }
+
+    fn copies_of_name(&self, name: &[u8]) -> Option<(u32, u32)>
+        ensures { AreExactly (IsStopCopy self.now name.now) result }
+    {
+        let stop = place_of_name(&self.stop_names, name)?;
+        let first = (self.roads.len() + stop) as u32;
+        Some((first, first + 1))
+    }
+}
+
+/// The node at a place of three lists in a row.
+fn node_at(roads: &[Node], stops: &[Node], switches: &[Node], place: usize) -> Node
+    requires { place < length (roads.now ++ stops.now ++ switches.now) }
+    ensures { slice_get (roads.now ++ stops.now ++ switches.now) place ≡ Some result }
+{
+    if place < roads.len() {
+        roads[place]
+    } else if place < roads.len() + stops.len() {
+        stops[place - roads.len()]
+    } else {
+        switches[place - roads.len() - stops.len()]
+    }
+}
+
+/// The duration of the arc with these ends, in a list that ascends by them.
+fn ms_between(arcs: &[Arc], u: u32, v: u32) -> Option<u32>
+    requires { IsAscending arc_cmp arcs.now }
+    ensures { IsDuration arcs.now u v result }
+{
+    match arcs.binary_search_by(|arc| (arc.from, arc.to).cmp(&(u, v))) {
+        Ok(place) => Some(arcs[place].ms),
+        Err(_) => None,
+    }
+}
+
+/// The id of a road node or a switch.
+fn id_of(key: NodeKey) -> i64
+    ensures { result ≡ (rank_of key).0 }
+{
+    match key {
+        NodeKey::Road(_, id) | NodeKey::Switch(id) => id,
+        NodeKey::Stop(_) => 0,
+    }
+}
+
+/// The places of the road nodes with this id: the first, and one past the last.
+fn road_copies(roads: &[Node], id: i64) -> Option<(u32, u32)>
+    requires few { length roads.now < 2 ^ 32 }
+    requires ascend { IsAscending node_cmp roads.now }
+    requires are { All (λ node. IsRoad node.key) roads.now }
+    ensures { AreExactly (IsRoadCopy roads.now id) result }
+{
+    let first = roads.partition_point(|node| id_of(node.key) < id);
+    let end = roads.partition_point(|node| id_of(node.key) <= id);
+    if first < end {
+        Some((first as u32, end as u32))
+    } else {
+        None
+    }
+}
+
+/// The place of a name in a list that ascends by bytes.
+fn place_of_name(names: &[Name], name: &[u8]) -> Option<usize>
+    requires { IsAscending name_cmp names.now }
+    ensures { IsPlaceOf names.now name.now result }
+{
+    match names.binary_search_by(|held| held.as_bytes().cmp(name)) {
+        Ok(place) => Some(place),
+        Err(_) => None,
+    }
+}
