@@ -1,0 +1,158 @@
+-- What the bytes of a region spell: the laws of the whole.
+use Rattle.std.proofs.Common.{◌≡◌, ℕ, List, [], ◌∷◌, ◌++◌, length, map, take, drop, refl, ap, sym, ◌∙◌, subst}
+use Rattle.std.specs.Prelude.{Option, Some, None, Result, Ok, Err, fold, IfOk, IfErr}
+use Rattle.std.specs.Str.{bytes_eq}
+use Rattle.std.specs.List.{AllByRecursion}
+use Rattle.std.proofs.lemmas.List.{take-append-drop}
+use Rattle.std.proofs.lemmas.Option.{none-some, cond_some}
+use Rattle.std.proofs.lemmas.Slice.Eq.{bytes_eq-Decides}
+use Rattle.plain_texts.specs.Lines.{IsLine, lines_text, pieces}
+use Rattle.plain_texts.specs.Course.{Course, whole, bad, trailing, lines_from}
+use Rattle.plain_texts.proofs.Pieces.{pieces_lines, text_of_lines}
+use Rattle.plain_texts.proofs.Spaced.{spaced_is_line}
+use Rattle.plain_texts.proofs.Course.{course_takes, course_bad, course_trailing, course_again}
+use Rattle.plan_base.specs.declared.limits.Caps.{Caps}
+use Rattle.mode_network.specs.declared.faults.NetFault.{NetFault}
+use Rattle.mode_network.specs.NetworkLists.{NetworkLists}
+use Rattle.mode_network.specs.Rules.{first_fault}
+use Rattle.region_file.specs.declared.fault.RegionFault.{RegionFault}
+use Rattle.region_file.specs.declared.fault.RegionFault.TheVariants.{BadHead, BadRecord, Network, Trailing, OutOfMemory}
+use Rattle.region_file.specs.declared.lines.Line.{Line}
+use Rattle.region_file.specs.declared.section.Section.TheVariants.{Start, End}
+use Rattle.region_file.specs.Lines.{FitsLine, IsRegion, head_line, region_lines, region_text, spelled}
+use Rattle.region_file.specs.Sections.{is_end, line_at, section_after}
+use Rattle.region_file.specs.Regions.{Gives, HasCause, IsDecoded, behind_head, from_text, lists_of, network_of, nothing, or_fault, put, put_all, region_of}
+use Rattle.region_file.proofs.KindLaws.{words_are_words}
+use Rattle.region_file.proofs.SectionLaws.{reads_lines}
+use Rattle.region_file.proofs.Found.{all_lines}
+use Rattle.region_file.proofs.PartsMade.{are_parts}
+use Rattle.region_file.proofs.Again.{runs_to_end, made_again}
+
+-- what a course gives
+same_Ok : {A E : Type 0} (x y : A) → ◌≡◌ {A = Result A E} (Ok x) (Ok y) → x ≡ y
+same_Ok x y e = cc
+
+same_Err : {A E : Type 0} (x y : E) → ◌≡◌ {A = Result A E} (Err x) (Err y) → x ≡ y
+same_Err x y e = cc
+
+-- What is read is spelled so.
+pub lists_found : (text : List ℕ) (n : NetworkLists) → lists_of text ≡ Ok n → IsRegion n × (text ≡ lines_text (map spelled (region_lines n)))
+unfolding lists_of
+lists_found text n e = by_course (lines_from line_at is_end Start 2 (pieces text)) refl e
+  where
+    by_course : (c : Course Line) → lines_from line_at is_end Start 2 (pieces text) ≡ c → put_all nothing c ≡ Ok n → IsRegion n × (text ≡ lines_text (map spelled (region_lines n)))
+    by_course (whole ls) is e =
+        let h = course_takes spelled FitsLine section_after is_end line_at reads_lines (pieces text) Start 2 ls is in
+        let lines = all_lines ls h.place h.runs h.last in
+        let made : fold put nothing ls ≡ n = same_Ok (fold put nothing ls) n e in
+        subst (λ m. IsRegion m × (text ≡ lines_text (map spelled (region_lines m)))) made
+        (record { parts = are_parts ls h.fits; fits = subst (λ x. AllByRecursion FitsLine x) (sym lines) h.fits }, text_of_lines text (map spelled ls) h.are ∙ ap (λ x. lines_text (map spelled x)) (sym lines))
+    by_course (bad k) is e = absurd (cc)
+    by_course (trailing k) is e = absurd (cc)
+
+each_is_line : (ls : List Line) → AllByRecursion FitsLine ls → AllByRecursion IsLine (map spelled ls)
+each_is_line [] h = tt
+each_is_line (l ∷ ls) h = (spaced_is_line _ (words_are_words l h.0), each_is_line ls h.1)
+
+-- What is spelled so is read.
+pub lists_again : (n : NetworkLists) → IsRegion n → lists_of (lines_text (map spelled (region_lines n))) ≡ Ok n
+unfolding lists_of
+lists_again n h =
+    ap (λ x. put_all nothing (lines_from line_at is_end Start 2 x)) (pieces_lines (map spelled (region_lines n)) (each_is_line (region_lines n) h.fits))
+    ∙ ap (put_all nothing) (course_again spelled FitsLine section_after is_end line_at reads_lines (region_lines n) Start End 2 refl (runs_to_end n h.parts) refl h.fits)
+    ∙ ap Ok (made_again n h.parts)
+
+-- the head
+pub head_found : (bytes text : List ℕ) → behind_head bytes ≡ Some text → bytes ≡ head_line ++ text
+unfolding behind_head
+head_found bytes text e =
+    let found = cond_some (bytes_eq (take (length head_line) bytes) head_line) (drop (length head_line) bytes) text e in
+    sym (take-append-drop (length head_line) bytes) ∙ ap (λ x. x ++ drop (length head_line) bytes) ((bytes_eq-Decides (take (length head_line) bytes) head_line).0 found.0) ∙ ap (λ x. head_line ++ x) found.1
+
+pub head_again : (text : List ℕ) → behind_head (head_line ++ text) ≡ Some text
+unfolding behind_head
+head_again text = refl
+
+-- the course that a fault comes from
+text_cause : (caps : Caps) (bytes text : List ℕ) (fault : RegionFault) → bytes ≡ head_line ++ text → lists_of text ≡ Err fault → HasCause caps bytes fault
+unfolding lists_of
+text_cause caps bytes text fault head e = by_course (lines_from line_at is_end Start 2 (pieces text)) refl e
+  where
+    by_course : (c : Course Line) → lines_from line_at is_end Start 2 (pieces text) ≡ c → put_all nothing c ≡ Err fault → HasCause caps bytes fault
+    by_course (whole ls) is e = absurd (cc)
+    by_course (bad k) is e =
+        subst (λ f. HasCause caps bytes f) (same_Err {A = NetworkLists} (BadRecord k) fault e)
+        (text, record { is = head }, course_bad spelled FitsLine section_after is_end line_at reads_lines (pieces text) Start 2 k is)
+    by_course (trailing k) is e =
+        subst (λ f. HasCause caps bytes f) (same_Err {A = NetworkLists} (Trailing k) fault e)
+        (text, record { is = head }, course_trailing spelled FitsLine section_after is_end line_at reads_lines (pieces text) Start 2 k is)
+
+spelled_so : (bytes text : List ℕ) (n : NetworkLists) → bytes ≡ head_line ++ text → lists_of text ≡ Ok n → IsRegion n × (bytes ≡ region_text n)
+unfolding region_text
+spelled_so bytes text n head e =
+    let found = lists_found text n e in
+    (found.0, head ∙ ap (λ x. head_line ++ x) found.1)
+
+-- A refusal has its cause.
+pub region_cause : (caps : Caps) (bytes : List ℕ) (fault : RegionFault) → region_of caps bytes ≡ Err fault → HasCause caps bytes fault
+unfolding region_of
+region_cause caps bytes fault e = by_head (behind_head bytes) refl e
+  where
+    by_rules : (text : List ℕ) (n : NetworkLists) → bytes ≡ head_line ++ text → lists_of text ≡ Ok n → (o : Option NetFault) → first_fault caps n ≡ o → or_fault n o ≡ Err fault → HasCause caps bytes fault
+    by_rules text n head is None rules e = absurd (cc)
+    by_rules text n head is (Some broken) rules e =
+        let found = spelled_so bytes text n head is in
+        subst (λ f. HasCause caps bytes f) (same_Err {A = NetworkLists} (Network broken) fault e) (n, found.0, found.1, rules)
+
+    by_lists : (text : List ℕ) → bytes ≡ head_line ++ text → (r : Result NetworkLists RegionFault) → lists_of text ≡ r → network_of caps r ≡ Err fault → HasCause caps bytes fault
+    by_lists text head (Ok n) is e = by_rules text n head is (first_fault caps n) refl e
+    by_lists text head (Err f) is e = text_cause caps bytes text fault head (is ∙ e)
+
+    by_head : (o : Option (List ℕ)) → behind_head bytes ≡ o → from_text caps o ≡ Err fault → HasCause caps bytes fault
+    by_head None is e =
+        subst (λ f. HasCause caps bytes f) (same_Err {A = NetworkLists} BadHead fault e) (λ text head. none-some text (sym is ∙ ap behind_head head ∙ head_again text))
+    by_head (Some text) is e = by_lists text (head_found bytes text is) (lists_of text) refl e
+
+-- What is answered as a network is one, and spelled so.
+pub region_found : (caps : Caps) (bytes : List ℕ) (n : NetworkLists) → region_of caps bytes ≡ Ok n → IsDecoded caps bytes n
+unfolding region_of
+region_found caps bytes n e = by_head (behind_head bytes) refl e
+  where
+    by_rules : (text : List ℕ) (m : NetworkLists) → bytes ≡ head_line ++ text → lists_of text ≡ Ok m → (o : Option NetFault) → first_fault caps m ≡ o → or_fault m o ≡ Ok n → IsDecoded caps bytes n
+    by_rules text m head is None rules e =
+        let found = spelled_so bytes text m head is in
+        subst (λ x. IsDecoded caps bytes x) (same_Ok {E = RegionFault} m n e) (record { region = found.0; spelled = found.1; faultless = rules })
+    by_rules text m head is (Some broken) rules e = absurd (cc)
+
+    by_lists : (text : List ℕ) → bytes ≡ head_line ++ text → (r : Result NetworkLists RegionFault) → lists_of text ≡ r → network_of caps r ≡ Ok n → IsDecoded caps bytes n
+    by_lists text head (Ok m) is e = by_rules text m head is (first_fault caps m) refl e
+    by_lists text head (Err f) is e = absurd (cc)
+
+    by_head : (o : Option (List ℕ)) → behind_head bytes ≡ o → from_text caps o ≡ Ok n → IsDecoded caps bytes n
+    by_head None is e = absurd (cc)
+    by_head (Some text) is e = by_lists text (head_found bytes text is) (lists_of text) refl e
+
+-- A network that is spelled and keeps the rules is answered.
+pub region_again : (caps : Caps) (bytes : List ℕ) (n : NetworkLists) → IsDecoded caps bytes n → region_of caps bytes ≡ Ok n
+unfolding region_of region_text
+region_again caps bytes n h =
+    ap (λ x. from_text caps (behind_head x)) h.spelled
+    ∙ ap (from_text caps) (head_again (lines_text (map spelled (region_lines n))))
+    ∙ ap (network_of caps) (lists_again n h.region)
+    ∙ ap (or_fault n) h.faultless
+
+-- The clauses of decode, from what it gives.
+pub gives_found : (caps : Caps) (bytes : List ℕ) (r : Result NetworkLists RegionFault) → Gives r (region_of caps bytes) → IfOk r (IsDecoded caps bytes)
+gives_found caps bytes (Ok n) e = region_found caps bytes n e
+gives_found caps bytes (Err fault) e = tt
+
+pub gives_only : (caps : Caps) (bytes : List ℕ) (r : Result NetworkLists RegionFault) → Gives r (region_of caps bytes) → (n : NetworkLists) → IsDecoded caps bytes n → Gives r (Ok n)
+gives_only caps bytes r e n h = subst (λ x. Gives r x) (region_again caps bytes n h) e
+
+pub gives_cause : (caps : Caps) (bytes : List ℕ) (r : Result NetworkLists RegionFault) → Gives r (region_of caps bytes) → IfErr r (HasCause caps bytes)
+gives_cause caps bytes (Ok n) e = tt
+gives_cause caps bytes (Err BadHead) e = region_cause caps bytes BadHead e
+gives_cause caps bytes (Err (BadRecord at)) e = region_cause caps bytes (BadRecord at) e
+gives_cause caps bytes (Err (Network broken)) e = region_cause caps bytes (Network broken) e
+gives_cause caps bytes (Err (Trailing at)) e = region_cause caps bytes (Trailing at) e
+gives_cause caps bytes (Err OutOfMemory) e = tt

@@ -1,0 +1,7 @@
+mod OneLine
+mod KindLaws
+mod SectionLaws
+mod Found
+mod PartsMade
+mod Again
+mod Decoded

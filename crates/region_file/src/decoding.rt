@@ -1,0 +1,170 @@
+//! From bytes to a network.
+
+ghost use Rattle.std.specs.Prelude.{◌≡◌, option_map, IfOk, IfErr};
+ghost use Rattle.plain_texts.specs.Course.{lines_from};
+ghost use Rattle.plain_texts.specs.Lines.{pieces};
+ghost use Rattle.mode_network.specs.NetworkLists.{NetworkLists};
+ghost use Rattle.mode_network.specs.Rules.{AreParts, first_fault};
+ghost use Rattle.region_file.specs.Sections.{is_end, line_at};
+ghost use Rattle.region_file.specs.Regions.{Gives, HasCause, IsDecoded, behind_head, lists_of, network_of, or_fault, put_all, region_of};
+ghost use Rattle.region_file.specs.declared.lines.Line.TheVariants as line;
+ghost use Rattle.region_file.specs.declared.section.Section.TheVariants as section;
+
+use crate::fault::RegionFault;
+use crate::kinds::line_of;
+use crate::lines::Line;
+use crate::records::{no_parts, put};
+use crate::section::Section;
+use mode_network::{NetFault, Network, Parts};
+use plain_texts::next_line;
+use plan_base::Caps;
+use service_days::Days;
+use std::alloc::{AllocError, Global};
+
+/// The line that a text spells, if it may stand behind this section, and its section.
+#[tactic(auto, unfolding(crate::specs::Sections::line_at))]
+fn line_behind(
+    alloc: Global,
+    before: Section,
+    text: &[u8],
+) -> Result<Option<(Line, Section)>, AllocError>
+    ensures { IfOk result (λ read. read ≡ line_at before text.now) }
+{
+    let Some(line) = line_of(alloc, text)? else {
+        return Ok(None);
+    };
+    let section = Section::of(&line);
+    if before.may_precede(section) {
+        Ok(Some((line, section)))
+    } else {
+        Ok(None)
+    }
+}
+
+fn is_end(section: Section) -> bool
+    ensures { result ≡ is_end section }
+{
+    match section {
+        Section::End => true,
+        _ => false,
+    }
+}
+
+/// The parts with what the lines of `rest` say, where the first of them is line 3 of a region text and
+/// stands behind `section`.
+fn read_lines(
+    alloc: Global,
+    mut parts: Parts,
+    mut section: Section,
+    mut rest: &[u8],
+) -> Result<Parts, RegionFault>
+    ensures { Gives result (put_all parts (lines_from line_at is_end section 3 (pieces rest.now))) }
+{
+    let mut at = 3;
+    loop {
+        let Some((line, behind)) = next_line(rest) else {
+            return Err(RegionFault::BadRecord { at });
+        };
+        let Some((line, next)) = line_behind(alloc, section, line)? else {
+            return Err(RegionFault::BadRecord { at });
+        };
+        put(&mut parts, line)?;
+        rest = behind;
+        section = next;
+        at += 1;
+        if is_end(section) {
+            if !rest.is_empty() {
+                return Err(RegionFault::Trailing { at });
+            }
+            return Ok(parts);
+        }
+    }
+}
+
+/// The days that a text spells, if it is a line of days.
+fn first_line(alloc: Global, text: &[u8]) -> Result<Option<Days>, AllocError>
+    ensures { IfOk result (λ read. option_map (λ days. (line.Days days, section.Days)) read ≡ line_at section.Start text.now) }
+{
+    match line_behind(alloc, Section::Start, text)? {
+        Some((line, _)) => match line {
+            Line::Days(days) => Ok(Some(days)),
+            _ => Ok(None),
+        },
+        None => Ok(None),
+    }
+}
+
+/// The parts that the text behind the head line spells.
+#[tactic(auto, unfolding(crate::specs::Regions::lists_of))]
+fn read_parts(alloc: Global, text: &[u8]) -> Result<Parts, RegionFault>
+    ensures { Gives result (lists_of text.now) }
+{
+    let Some((line, rest)) = next_line(text) else {
+        return Err(RegionFault::BadRecord { at: 2 });
+    };
+    match first_line(alloc, line)? {
+        Some(days) => read_lines(alloc, no_parts(alloc, days), Section::Days, rest),
+        None => Err(RegionFault::BadRecord { at: 2 }),
+    }
+}
+
+/// The network of these parts, or the first rule that they break.
+fn build(alloc: Global, parts: Parts, caps: &Caps) -> Result<Network, RegionFault>
+    requires { AreParts parts }
+    ensures { Gives result (or_fault parts (first_fault caps.now parts)) }
+{
+    match Network::build(alloc, parts, caps) {
+        Ok(network) => Ok(network),
+        Err(NetFault::OutOfMemory) => Err(RegionFault::OutOfMemory),
+        Err(fault) => Err(RegionFault::Network(fault)),
+    }
+}
+
+/// The network that the text behind the head line spells.
+fn read_text(alloc: Global, text: &[u8], caps: &Caps) -> Result<Network, RegionFault>
+    ensures { Gives result (network_of caps.now (lists_of text.now)) }
+{
+    let parts = read_parts(alloc, text)?;
+    build(alloc, parts, caps)
+}
+
+const HEAD: &[u8] = b"modeplan region 1\n";
+
+/// The text behind the head line.
+#[tactic(auto, unfolding(crate::specs::Regions::behind_head))]
+fn behind_head(bytes: &[u8]) -> Option<&[u8]>
+    ensures { option_map (λ text. text.now) result ≡ behind_head bytes.now }
+{
+    bytes.strip_prefix(HEAD)
+}
+
+#[tactic(auto, unfolding(crate::specs::Regions::region_of))]
+fn read_region(alloc: Global, bytes: &[u8], caps: &Caps) -> Result<Network, RegionFault>
+    ensures { Gives result (region_of caps.now bytes.now) }
+{
+    match behind_head(bytes) {
+        Some(text) => read_text(alloc, text, caps),
+        None => Err(RegionFault::BadHead),
+    }
+}
+
+/// The network that the bytes of a region spell.
+///
+/// The bytes are read as lines. The first is the head line `modeplan region 1`, and the others are those of
+/// the days, the nodes, the arcs and the links, in this order, and the line `end`. Each network has exactly
+/// one spelling, and other bytes are refused: first where the head is not there, then at the first line that
+/// may not stand where it does, then where bytes follow the end, and at last where the network breaks a rule
+/// of [`Network::build`] or is past a limit of `caps`. 2^32 stops are refused like want of memory, since no
+/// network numbers so many nodes.
+pub fn decode(alloc: Global, bytes: &[u8], caps: &Caps) -> Result<Network, RegionFault>
+    // What is read is a network that keeps the rules, and is spelled so.
+    ensures found { IfOk result (IsDecoded caps.now bytes.now) }
+    // The network that is spelled so is read, unless memory runs out.
+    ensures only { (n : NetworkLists) → IsDecoded caps.now bytes.now n → Gives result (Ok n) }
+    // Each refusal has its cause.
+    ensures cause { IfErr result (HasCause caps.now bytes.now) }
+    // Which one comes first.
+    ensures exact { Gives result (region_of caps.now bytes.now) }
+{
+    read_region(alloc, bytes, caps)
+}

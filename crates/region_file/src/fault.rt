@@ -1,0 +1,31 @@
+//! Why bytes are no region.
+
+ghost use Rattle.std.specs.Prelude.{◌≡◌};
+ghost use Rattle.region_file.specs.declared.fault.RegionFault.TheVariants.{OutOfMemory};
+
+use mode_network::NetFault;
+use std::alloc::{AllocError, AllocFailed};
+
+/// The first thing that is wrong with the bytes of a region.
+#[derive(Clone, Copy, Debug, PartialEq, Eq)]
+pub enum RegionFault {
+    /// The bytes do not begin with the head line.
+    BadHead,
+    /// This line, counted from 1, is the first that may not stand there. Where the text ends too early it is
+    /// the line after the last whole one.
+    BadRecord { at: u64 },
+    /// Each line may stand where it does, but the network breaks a rule.
+    Network(NetFault),
+    /// Bytes follow the last line; this line, counted from 1, is where they begin.
+    Trailing { at: u64 },
+    /// Memory ran out.
+    OutOfMemory,
+}
+
+impl From<AllocError> for RegionFault {
+    ghost from_gives = { λ _ fault. fault ≡ OutOfMemory };
+
+    fn from(_error: AllocError) -> RegionFault {
+        RegionFault::OutOfMemory
+    }
+}

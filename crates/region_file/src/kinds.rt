@@ -1,0 +1,184 @@
+//! What a line says, by its words.
+
+ghost use Rattle.std.specs.Prelude.{◌≡◌, ◌^◌, ◌<◌, map, option_map, IfOk, IfSome};
+ghost use Rattle.region_file.specs.Kinds as spec;
+ghost use Rattle.service_days.specs.Days.{new_days};
+ghost use Rattle.region_file.specs.declared.lines.Line.TheVariants as line;
+
+use crate::lines::Line;
+use mode_network::Arc;
+use plain_texts::{Name, read_id, read_number, read_signed, words_of};
+use plan_base::Place;
+use service_days::{Days, RangeFault};
+use std::alloc::{AllocError, Global};
+
+/// A number below 2^32.
+fn word_of(text: &[u8]) -> Option<u32>
+    ensures { result ≡ spec.word_at text.now }
+{
+    let n = read_number(text, 1 << 32)?;
+    Some(n as u32)
+}
+
+fn mode_of(text: &[u8]) -> Option<u8>
+    ensures { result ≡ spec.mode_at text.now }
+{
+    if text == b"foot".as_slice() {
+        Some(0)
+    } else if text == b"bike".as_slice() {
+        Some(1)
+    } else if text == b"car".as_slice() {
+        Some(2)
+    } else {
+        None
+    }
+}
+
+#[tactic(auto, unfolding(crate::specs::Kinds::place_at))]
+fn place_of(lat: &[u8], lon: &[u8]) -> Option<Place>
+    ensures { result ≡ spec.place_at lat.now lon.now }
+{
+    let lat = read_signed(lat, 2_000_000_000)?;
+    let lon = read_signed(lon, 2_000_000_000)?;
+    Place::new(lat, lon)
+}
+
+#[tactic(auto, unfolding(crate::specs::Kinds::road_at))]
+fn road_of(fields: &[&[u8]]) -> Option<Line>
+    ensures { result ≡ spec.road_at (map (λ w. w.now) fields.now) }
+{
+    match fields {
+        [mode, id, lat, lon] => {
+            let mode = mode_of(mode)?;
+            let id = read_id(id)?;
+            let place = place_of(lat, lon)?;
+            Some(Line::Road(mode, id, place))
+        }
+        _ => None,
+    }
+}
+
+#[tactic(auto, unfolding(crate::specs::Kinds::switch_at))]
+fn switch_of(fields: &[&[u8]]) -> Option<Line>
+    ensures { result ≡ spec.switch_at (map (λ w. w.now) fields.now) }
+{
+    match fields {
+        [id, lat, lon] => {
+            let id = read_id(id)?;
+            let place = place_of(lat, lon)?;
+            Some(Line::Switch(id, place))
+        }
+        _ => None,
+    }
+}
+
+#[tactic(auto, unfolding(crate::specs::Kinds::arc_at))]
+fn arc_of(fields: &[&[u8]]) -> Option<Arc>
+    ensures { result ≡ spec.arc_at (map (λ w. w.now) fields.now) }
+{
+    match fields {
+        [from, to, ms] => {
+            let from = word_of(from)?;
+            let to = word_of(to)?;
+            let ms = word_of(ms)?;
+            if 0 < ms {
+                Some(Arc { from, to, ms })
+            } else {
+                None
+            }
+        }
+        _ => None,
+    }
+}
+
+#[tactic(auto, unfolding(crate::specs::Kinds::end_at))]
+fn end_of(fields: &[&[u8]]) -> Option<Line>
+    ensures { result ≡ spec.end_at (map (λ w. w.now) fields.now) }
+{
+    match fields {
+        [] => Some(Line::End),
+        _ => None,
+    }
+}
+
+#[tactic(auto, unfolding(crate::specs::Kinds::stop_at))]
+fn stop_of(alloc: Global, fields: &[&[u8]]) -> Result<Option<Line>, AllocError>
+    ensures { IfOk result (λ read. read ≡ spec.stop_at (map (λ w. w.now) fields.now)) }
+{
+    match fields {
+        [name, lat, lon] => {
+            let Some(name) = Name::from_slice(alloc, name)? else {
+                return Ok(None);
+            };
+            let Some(place) = place_of(lat, lon) else {
+                return Ok(None);
+            };
+            Ok(Some(Line::Stop(name, place)))
+        }
+        _ => Ok(None),
+    }
+}
+
+/// The days of a first date and a count; `None` exactly where there are none.
+fn made_days(alloc: Global, first: u32, count: u32) -> Result<Option<Days>, AllocError>
+    ensures { IfOk result (λ days. days ≡ spec.made (new_days first count)) }
+{
+    match Days::new(alloc, first, count) {
+        Ok(days) => Ok(Some(days)),
+        Err(RangeFault::OutOfMemory) => Err(AllocError),
+        Err(_) => Ok(None),
+    }
+}
+
+#[tactic(auto, unfolding(crate::specs::Kinds::days_at))]
+fn days_of(alloc: Global, fields: &[&[u8]]) -> Result<Option<Line>, AllocError>
+    ensures { IfOk result (λ read. read ≡ spec.days_at (map (λ w. w.now) fields.now)) }
+{
+    match fields {
+        [first, count] => {
+            let Some(first) = word_of(first) else {
+                return Ok(None);
+            };
+            let Some(count) = word_of(count) else {
+                return Ok(None);
+            };
+            Ok(made_days(alloc, first, count)?.map(Line::Days))
+        }
+        _ => Ok(None),
+    }
+}
+
+#[tactic(auto, unfolding(crate::specs::Kinds::kind_at))]
+fn kind_of(alloc: Global, kind: &[u8], fields: &[&[u8]]) -> Result<Option<Line>, AllocError>
+    ensures { IfOk result (λ read. read ≡ spec.kind_at kind.now (map (λ w. w.now) fields.now)) }
+{
+    if kind == b"arc".as_slice() {
+        Ok(arc_of(fields).map(Line::Arc))
+    } else if kind == b"link".as_slice() {
+        Ok(arc_of(fields).map(Line::Link))
+    } else if kind == b"node".as_slice() {
+        Ok(road_of(fields))
+    } else if kind == b"stop".as_slice() {
+        stop_of(alloc, fields)
+    } else if kind == b"switch".as_slice() {
+        Ok(switch_of(fields))
+    } else if kind == b"days".as_slice() {
+        days_of(alloc, fields)
+    } else if kind == b"end".as_slice() {
+        Ok(end_of(fields))
+    } else {
+        Ok(None)
+    }
+}
+
+/// The line that a text spells; `None` exactly where it spells none.
+#[tactic(auto, unfolding(crate::specs::Kinds::line_of))]
+pub fn line_of(alloc: Global, text: &[u8]) -> Result<Option<Line>, AllocError>
+    ensures { IfOk result (λ read. read ≡ spec.line_of text.now) }
+{
+    let words = words_of(alloc, text)?;
+    match words.as_slice() {
+        [] => Ok(None),
+        [kind, fields @ ..] => kind_of(alloc, kind, fields),
+    }
+}

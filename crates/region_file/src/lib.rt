@@ -1,0 +1,15 @@
+//! Regions as text: a network in lines, with exactly one spelling.
+#![tactic(auto)]
+
+mod decoding;
+pub mod fault;
+mod kinds;
+pub mod lines;
+mod records;
+pub mod section;
+
+pub use decoding::decode;
+pub use fault::RegionFault;
+
+#[cfg(test)]
+mod tests;

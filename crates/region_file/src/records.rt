@@ -1,0 +1,56 @@
+//! The lists of a network, line by line.
+
+ghost use Rattle.std.specs.Prelude.{◌≡◌, OnOk};
+ghost use Rattle.region_file.specs.Regions as spec;
+ghost use Rattle.region_file.specs.declared.lines.Line.TheVariants as line;
+
+use crate::lines::Line;
+use mode_network::{Node, NodeKey, Parts};
+use service_days::Days;
+use std::alloc::{AllocError, Global};
+
+/// The parts of a network of these days that has no nodes yet.
+pub fn no_parts(alloc: Global, days: Days) -> Parts
+    ensures { result ≡ spec.put spec.nothing (line.Days days) }
+{
+    Parts {
+        days,
+        roads: Vec::new(alloc),
+        stop_names: Vec::new(alloc),
+        stops: Vec::new(alloc),
+        switches: Vec::new(alloc),
+        arcs: Vec::new(alloc),
+        links: Vec::new(alloc),
+    }
+}
+
+/// Puts what a line says at the end of its list.
+///
+/// 2^32 stops or more, which the nodes of no network reach, are refused like want of memory.
+pub fn put(parts: &mut Parts, said: Line) -> Result<(), AllocError>
+    ensures { OnOk result (parts.new ≡ spec.put parts.old said) }
+{
+    match said {
+        Line::Days(days) => parts.days = days,
+        Line::Road(mode, id, place) => {
+            let key = NodeKey::Road(mode, id);
+            parts.roads.push(Node { key, place })?;
+        }
+        Line::Stop(name, place) => {
+            let Ok(stop) = u32::try_from(parts.stops.len()) else {
+                return Err(AllocError);
+            };
+            let key = NodeKey::Stop(stop);
+            parts.stops.push(Node { key, place })?;
+            parts.stop_names.push(name)?;
+        }
+        Line::Switch(id, place) => {
+            let key = NodeKey::Switch(id);
+            parts.switches.push(Node { key, place })?;
+        }
+        Line::Arc(arc) => parts.arcs.push(arc)?,
+        Line::Link(arc) => parts.links.push(arc)?,
+        Line::End => {}
+    }
+    Ok(())
+}
