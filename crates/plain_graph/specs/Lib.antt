@@ -1,0 +1,4 @@
+pub mod PlainArcs
+pub mod OutArcs
+pub mod Lawful
+pub mod Simulation

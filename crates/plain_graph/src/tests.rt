@@ -1,0 +1,137 @@
+use crate::{Plain, PlainArc};
+use mode_network::{Arc, Network, Node, NodeKey, Parts};
+use plain_texts::Name;
+use plan_base::{Caps, Place};
+use search_laws::Graph;
+use service_days::Days;
+use std::alloc::Global;
+use std::test::Fail;
+
+fn arc(from: u32, to: u32, ms: u32) -> Arc {
+    Arc { from, to, ms }
+}
+
+/// A car node, an OSM node in the layers of foot and bike, a foot node, a stop and a switch: nodes 0 to 5.
+fn town(alloc: Global) -> Result<Network, Fail> {
+    let place = Place::new(480_000_000, 110_000_000).ok_or("no place")?;
+    let parts = Parts {
+        days: Days::new(alloc, 20240304, 1)?,
+        roads: vec![in alloc;
+            Node {
+                key: NodeKey::Road(2, -7),
+                place
+            },
+            Node {
+                key: NodeKey::Road(0, 101),
+                place
+            },
+            Node {
+                key: NodeKey::Road(1, 101),
+                place
+            },
+            Node {
+                key: NodeKey::Road(0, 102),
+                place
+            },
+        ]?,
+        stop_names: vec![in alloc; Name::from_slice(alloc, b"A")?.ok_or("no name")?]?,
+        stops: vec![in alloc;
+            Node {
+                key: NodeKey::Stop(0),
+                place
+            },
+        ]?,
+        switches: vec![in alloc;
+            Node {
+                key: NodeKey::Switch(9),
+                place
+            },
+        ]?,
+        arcs: vec![in alloc;
+            Arc {
+                from: 1,
+                to: 3,
+                ms: 79515
+            },
+            Arc {
+                from: 3,
+                to: 1,
+                ms: 79515
+            },
+        ]?,
+        links: vec![in alloc;
+            Arc {
+                from: 1,
+                to: 4,
+                ms: 60000
+            },
+            Arc {
+                from: 2,
+                to: 5,
+                ms: 30000
+            },
+            Arc {
+                from: 4,
+                to: 1,
+                ms: 60000
+            },
+            Arc {
+                from: 5,
+                to: 1,
+                ms: 30000
+            },
+        ]?,
+    };
+    Ok(Network::build(alloc, parts, &Caps::FULL)?)
+}
+
+#[test]
+fn nodes_of_each_kind_have_their_arcs(rt: HostRuntime) -> Result<(), Fail> {
+    let network = town(rt.alloc())?;
+    let plain = Plain::new(&network);
+    assert_eq!(rt; plain.nodes(), 6);
+    for (v, arcs) in [(0, 1), (1, 3), (2, 2), (3, 2), (4, 1), (5, 1)] {
+        assert!(rt; v < plain.nodes());
+        assert_eq!(rt; plain.arcs(v), arcs, "{v}");
+    }
+    // a node, the place of an arc, where it leads, its letter, and when it arrives if it is taken at 1,000
+    let arcs: [(u32, u64, u32, Option<u8>, u128); 10] = [
+        (0, 0, 0, Some(2), 1_000),
+        (1, 0, 3, Some(0), 80_515),
+        (1, 1, 4, None, 61_000),
+        (1, 2, 1, Some(0), 1_000),
+        (2, 0, 5, None, 31_000),
+        (2, 1, 2, Some(1), 1_000),
+        (3, 0, 1, Some(0), 80_515),
+        (3, 1, 3, Some(0), 1_000),
+        (4, 0, 1, None, 61_000),
+        (5, 0, 1, None, 31_000),
+    ];
+    for (v, i, to, letter, at) in arcs {
+        assert!(rt; v < plain.nodes());
+        assert!(rt; i < plain.arcs(v));
+        let arc = plain.arc_at(v, i);
+        assert_eq!(rt; (arc.to, arc.letter), (to, letter), "{v} {i}");
+        assert_eq!(rt; plain.arrive(v, i, 1_000), Some(at), "{v} {i}");
+    }
+    Ok(())
+}
+
+#[test]
+fn arcs_are_the_networks_own(rt: HostRuntime) -> Result<(), Fail> {
+    let network = town(rt.alloc())?;
+    let plain = Plain::new(&network);
+    let arcs = [
+        PlainArc::Road(arc(1, 3, 79515)),
+        PlainArc::Link(arc(1, 4, 60000)),
+        PlainArc::Stand,
+    ];
+    for (i, wanted) in arcs.into_iter().enumerate() {
+        let i = i as u64;
+        assert!(rt; 1 < plain.nodes());
+        assert!(rt; i < plain.arcs(1));
+        assert_eq!(rt; plain.plain_arc(1, i), wanted);
+    }
+    assert_eq!(rt; plain.network().nodes(), 6);
+    Ok(())
+}
