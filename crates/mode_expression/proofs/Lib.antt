@@ -1,0 +1,10 @@
+pub mod LetterLemmas
+pub mod MachineLemmas
+pub mod ReadingLemmas
+pub mod TokenLemmas
+pub mod FormLemmas
+pub mod NestingLemmas
+pub mod ParseLemmas
+pub mod PlacesLemmas
+pub mod UniqueLemmas
+pub mod ExistsLemmas

@@ -1,0 +1,8 @@
+use Rattle.std.proofs.Common.{◌≡◌, ◌<◌, ℕ, [], get_or, false}
+use Rattle.std.specs.Str.{bytes_eq}
+use Rattle.mode_expression.specs.Letters.{letter_names}
+use Rattle.mode_expression.proofs.letter.Letter.from_name.Given as goal
+
+-- no letter below this number has the name
+abbrev pub invariant-loop-number : goal.invariant-loop-number
+invariant-loop-number l = (k : ℕ) → k < l.number → bytes_eq (get_or letter_names k []) l.name ≡ false

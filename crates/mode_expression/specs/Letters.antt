@@ -1,0 +1,44 @@
+-- The letters of words: fourteen means of transport, by number.
+use Rattle.std.specs.Prelude.{ℕ, List, [], ◌∷◌, Option, Some, ◌^◌, codes, position, option_map, slice_get, if◌then◌else◌}
+use Rattle.std.specs.Str.{bytes_eq}
+use Rattle.mode_expression.specs.declared.letter.Letter.{Letter}
+use Rattle.mode_expression.specs.declared.letter.Letter.TheVariants.{Foot, Bike, Car, Tram, Metro, Rail, Bus, Ferry, Cable, Lift, Funicular, Trolley, Monorail, Other}
+
+-- the names of the letters 0 to 13
+abbrev pub letter_names : List (List ℕ)
+letter_names =
+    codes "foot" ∷ codes "bike" ∷ codes "car" ∷ codes "tram" ∷ codes "metro" ∷ codes "rail" ∷ codes "bus" ∷ codes "ferry"
+    ∷ codes "cable" ∷ codes "lift" ∷ codes "funicular" ∷ codes "trolley" ∷ codes "monorail" ∷ codes "other" ∷ []
+
+abbrev pub number_of : Letter → ℕ
+number_of Foot = 0
+number_of Bike = 1
+number_of Car = 2
+number_of Tram = 3
+number_of Metro = 4
+number_of Rail = 5
+number_of Bus = 6
+number_of Ferry = 7
+number_of Cable = 8
+number_of Lift = 9
+number_of Funicular = 10
+number_of Trolley = 11
+number_of Monorail = 12
+number_of Other = 13
+
+abbrev pub letters : List Letter
+letters = Foot ∷ Bike ∷ Car ∷ Tram ∷ Metro ∷ Rail ∷ Bus ∷ Ferry ∷ Cable ∷ Lift ∷ Funicular ∷ Trolley ∷ Monorail ∷ Other ∷ []
+
+-- the letter with this number
+abbrev pub letter_numbered : ℕ → Option Letter
+letter_numbered number = slice_get letters number
+
+-- the number of the letter with this name
+abbrev pub letter_named : List ℕ → Option ℕ
+letter_named name = position (λ known. bytes_eq known name) letter_names
+
+-- the letters that a name in an expression stands for, as bits
+abbrev pub letters_named : List ℕ → Option ℕ
+letters_named name =
+    if bytes_eq name (codes "any") then Some 0x3fff
+    else (if bytes_eq name (codes "transit") then Some 0x3ff8 else option_map (λ number. 2 ^ number) (letter_named name))

@@ -1,0 +1,7 @@
+pub mod Form
+pub mod Letters
+pub mod Tokens
+pub mod Grammar
+pub mod Machine
+pub mod Reading
+pub mod Views

@@ -1,0 +1,29 @@
+-- What the reader holds, as the reading that it stands for.
+use Rattle.std.specs.Prelude.{◌≡◌, Bool, List, Option, Some, None, map, reverse, if◌then◌else◌}
+use Rattle.mode_expression.specs.declared.expr.Expr.{Expr}
+use Rattle.mode_expression.specs.declared.level.Level.{Level}
+use Rattle.mode_expression.specs.Form.{Form, form_of}
+use Rattle.mode_expression.specs.declared.reader.Reader.{Reader}
+use Rattle.mode_expression.specs.Machine.{Frame, Reading}
+
+-- the forms, the latest first
+abbrev pub latest : List Expr → List Form
+latest items = reverse (map form_of items)
+
+abbrev pub frame_of : Level → Frame
+frame_of level = record { choices = latest level.choices.items; parts = latest level.parts.items }
+
+-- the groups around, the innermost first
+abbrev pub frames_of : List Level → List Frame
+frames_of levels = reverse (map frame_of levels)
+
+abbrev pub state_of : Reader → Reading
+state_of reader = record { outer = frames_of reader.outer.items; frame = frame_of reader.level; place = reader.place }
+
+-- the reader is as a step made it, if there was one
+abbrev pub IsAfter : Option Reading → Reader → Bool → Type 0
+IsAfter after reader done = after ≡ (if done then Some (state_of reader) else None)
+
+-- the level is as a step made it, if there was one
+abbrev pub IsLevelAfter : Option Frame → Level → Bool → Type 0
+IsLevelAfter after level done = after ≡ (if done then Some (frame_of level) else None)
