@@ -1,0 +1,10 @@
+pub mod LanguageLemmas
+pub mod WrittenLemmas
+pub mod RowLemmas
+pub mod SetLemmas
+pub mod AddLemmas
+pub mod PartLemmas
+pub mod StateLemmas
+pub mod PositionLemmas
+pub mod OfLemmas
+pub mod CollapsedLemmas

@@ -1,0 +1,89 @@
+use Rattle.std.proofs.Common.{ℕ, ◌∙◌, [], false, ap, subst, map, length, arith}
+use Rattle.std.proofs.lemmas.List.{length-map}
+use Rattle.mode_expression.specs.Form.{form_of}
+use Rattle.automaton.specs.Builds.{Built, built_of, row_of, Adds}
+use Rattle.automaton.specs.Sets.{has}
+use Rattle.automaton.specs.Written.{written}
+use Rattle.automaton.specs.States.{view_of, states_for}
+use Rattle.automaton.proofs.PositionLemmas.{end}
+use Rattle.automaton.proofs.OfLemmas.{few_rows, of_lawful, of_states, of_accepts, of_few_states, of_few_moves}
+use Rattle.automaton.proofs.positions.Positions.of.Goals as goal
+
+abbrev fresh_of : ℕ → Built
+fresh_of n = record { at = n; dry = false; rows = [] }
+
+pub make_states-requires : goal.make_states-requires
+make_states-requires c =
+    let form = form_of c.args.expr.now in
+    let old = built_of c.new-builder.result in
+    let new = built_of c.add.new.self in
+    let first = has c.in_ok-first.first in
+    let fresh = c.new-builder.ensures ∙ ap (λ n. fresh_of n) c.places.ensures in
+    let adds : Adds old new (written form) end first = subst (λ K. Adds old new (written form) K first) c.just.ensures c.in_ok-first.ensures in
+    let drafts = ap (map row_of) c.deref.ensures.value ∙ c.into_drafts-drafts.ensures in
+    omega (arith, few_rows form c.requires old new first fresh adds, ap length drafts, length-map c.deref.result.now row_of)
+
+pub invariant_of-result : goal.invariant_of-result
+invariant_of-result c =
+    let form = form_of c.args.expr.now in
+    let old = built_of c.new-builder.result in
+    let new = built_of c.add.new.self in
+    let first = has c.in_ok-first.first in
+    let fresh = c.new-builder.ensures ∙ ap (λ n. fresh_of n) c.places.ensures in
+    let adds : Adds old new (written form) end first = subst (λ K. Adds old new (written form) K first) c.just.ensures c.in_ok-first.ensures in
+    let drafts = ap (map row_of) c.deref.ensures.value ∙ c.into_drafts-drafts.ensures in
+    let views = map view_of c.in_ok-states.states.items in
+    let made = c.in_ok-states.ensures ∙ ap (λ r. states_for r first) drafts in
+    record { lawful = of_lawful form c.requires old new first fresh adds views made }
+
+pub returns-clause-states : goal.returns-clause-states
+returns-clause-states c =
+    let form = form_of c.args.expr.now in
+    let old = built_of c.new-builder.result in
+    let new = built_of c.add.new.self in
+    let first = has c.in_ok-first.first in
+    let fresh = c.new-builder.ensures ∙ ap (λ n. fresh_of n) c.places.ensures in
+    let adds : Adds old new (written form) end first = subst (λ K. Adds old new (written form) K first) c.just.ensures c.in_ok-first.ensures in
+    let drafts = ap (map row_of) c.deref.ensures.value ∙ c.into_drafts-drafts.ensures in
+    let views = map view_of c.in_ok-states.states.items in
+    let made = c.in_ok-states.ensures ∙ ap (λ r. states_for r first) drafts in
+    of_states form c.requires old new first fresh adds views made
+
+pub returns-clause-accepts : goal.returns-clause-accepts
+returns-clause-accepts c =
+    let form = form_of c.args.expr.now in
+    let old = built_of c.new-builder.result in
+    let new = built_of c.add.new.self in
+    let first = has c.in_ok-first.first in
+    let fresh = c.new-builder.ensures ∙ ap (λ n. fresh_of n) c.places.ensures in
+    let adds : Adds old new (written form) end first = subst (λ K. Adds old new (written form) K first) c.just.ensures c.in_ok-first.ensures in
+    let drafts = ap (map row_of) c.deref.ensures.value ∙ c.into_drafts-drafts.ensures in
+    let views = map view_of c.in_ok-states.states.items in
+    let made = c.in_ok-states.ensures ∙ ap (λ r. states_for r first) drafts in
+    of_accepts form c.requires old new first fresh adds views made
+
+pub returns-clause-few_states : goal.returns-clause-few_states
+returns-clause-few_states c =
+    let form = form_of c.args.expr.now in
+    let old = built_of c.new-builder.result in
+    let new = built_of c.add.new.self in
+    let first = has c.in_ok-first.first in
+    let fresh = c.new-builder.ensures ∙ ap (λ n. fresh_of n) c.places.ensures in
+    let adds : Adds old new (written form) end first = subst (λ K. Adds old new (written form) K first) c.just.ensures c.in_ok-first.ensures in
+    let drafts = ap (map row_of) c.deref.ensures.value ∙ c.into_drafts-drafts.ensures in
+    let views = map view_of c.in_ok-states.states.items in
+    let made = c.in_ok-states.ensures ∙ ap (λ r. states_for r first) drafts in
+    of_few_states form c.requires old new first fresh adds views made
+
+pub returns-clause-few_moves : goal.returns-clause-few_moves
+returns-clause-few_moves c =
+    let form = form_of c.args.expr.now in
+    let old = built_of c.new-builder.result in
+    let new = built_of c.add.new.self in
+    let first = has c.in_ok-first.first in
+    let fresh = c.new-builder.ensures ∙ ap (λ n. fresh_of n) c.places.ensures in
+    let adds : Adds old new (written form) end first = subst (λ K. Adds old new (written form) K first) c.just.ensures c.in_ok-first.ensures in
+    let drafts = ap (map row_of) c.deref.ensures.value ∙ c.into_drafts-drafts.ensures in
+    let views = map view_of c.in_ok-states.states.items in
+    let made = c.in_ok-states.ensures ∙ ap (λ r. states_for r first) drafts in
+    of_few_moves form c.requires old new first fresh adds views made

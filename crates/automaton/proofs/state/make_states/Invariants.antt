@@ -1,0 +1,10 @@
+use Rattle.std.proofs.Common.{◌≡◌, ◌∷◌, map, take}
+use Rattle.automaton.specs.Builds.{row_of}
+use Rattle.automaton.specs.Sets.{has}
+use Rattle.automaton.specs.States.{state_for, view_of}
+use Rattle.automaton.proofs.state.make_states.Given as goal
+
+abbrev pub invariant-loop-draft : goal.invariant-loop-draft
+invariant-loop-draft l =
+    map view_of l.states.items
+    ≡ state_for (map row_of l.drafts) (has l.fn.first) ∷ map (λ draft. state_for (map row_of l.drafts) (has draft.next)) (take l.draft-index l.drafts)

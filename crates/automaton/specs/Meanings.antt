@@ -1,0 +1,8 @@
+-- What the automata of this crate answer.
+use Rattle.std.specs.Prelude.{map}
+use Rattle.search_laws.specs.LabelLaws.{LabelsMeaning}
+use Rattle.automaton.specs.declared.positions.Positions.{Positions}
+use Rattle.automaton.specs.States.{labels_of, view_of}
+
+abbrev pub position_meaning : Positions → LabelsMeaning
+position_meaning positions = labels_of (map view_of positions.states.items)

@@ -1,0 +1,16 @@
+//! Automata of expressions over means of transport: the position automaton of an expression, and the
+//! automaton that reads adjacent equal road letters as one.
+#![tactic(auto)]
+
+mod builder;
+mod collapsed;
+mod one_state;
+mod position_set;
+mod positions;
+mod state;
+#[cfg(test)]
+mod tests;
+
+pub use collapsed::Collapsed;
+pub use one_state::{OneState, one_state_accepts};
+pub use positions::Positions;
