@@ -1,0 +1,5 @@
+pub mod QueryLemmas
+pub mod CollapseLemmas
+pub mod StepLemmas
+pub mod ToldLemmas
+pub mod PrintLemmas

@@ -1,0 +1,89 @@
+-- Steps of a network, one after the other.
+use Rattle.std.proofs.Common.{◌≡◌, ℕ, ◌+◌, ◌<◌, ◌≤◌, ◌∙◌, List, [], ◌∷◌, ◌++◌, length, append_assoc, append-nil, ◌⊎◌, inl, inr, ◌^◌, Option, Some, refl, ap, sym, subst, arith}
+use Rattle.std.specs.Prelude.{option_to_list}
+use Rattle.plain_texts.specs.Lines.{with_feed}
+use Rattle.mode_network.specs.declared.nodes.Arc.{Arc}
+use Rattle.mode_network.specs.declared.steps.Step.{Step}
+use Rattle.mode_network.specs.declared.steps.Step.TheVariants.{Wait, Road, Link, Stand}
+use Rattle.mode_network.specs.NetworkLists.{NetworkLists, nodes_of}
+use Rattle.mode_network.specs.Rules.{IsNetwork}
+use Rattle.mode_network.specs.Journeys.{IsStep, AreSteps}
+use Rattle.std.proofs.Math.Nat.{lt_of_lt_of_le}
+use Rattle.mode_network.proofs.FindLemmas.{leads_once}
+use Rattle.mode_network.proofs.RuleLemmas.{some_is, arcs_in_range, links_in_range, nodes_hold_roads}
+use Rattle.journey.specs.Ends.{AreTaken, HasTime}
+use Rattle.journey.specs.Texts.{step_text, AreTold}
+
+module _ (n : NetworkLists) where
+  -- a step ends at one place, at one time and with one letter
+  pub step_once : IsNetwork n → (v t : ℕ) (step : Step) (w u : ℕ) (c : Option ℕ) (w2 u2 : ℕ) (c2 : Option ℕ)
+      → IsStep n v t step w u c → IsStep n v t step w2 u2 c2 → (w ≡ w2) × (u ≡ u2) × (c ≡ c2)
+  step_once network v t (Wait until) w u c w2 u2 c2 (later, a, b, d) (later2, a2, b2, d2) = (a ∙ sym a2, b ∙ sym b2, d ∙ sym d2)
+  step_once network v t (Road to) w u c w2 u2 c2 (ms, leads, a, b, d) (ms2, leads2, a2, b2, d2) =
+      let same = leads_once n.arcs network.arcs_ascend v to ms ms2 leads leads2 in
+      (a ∙ sym a2, b ∙ (ap (λ x. t + x) same ∙ sym b2), d ∙ sym d2)
+  step_once network v t (Link to) w u c w2 u2 c2 (ms, leads, a, b, d) (ms2, leads2, a2, b2, d2) =
+      let same = leads_once n.links network.links_ascend v to ms ms2 leads leads2 in
+      (a ∙ sym a2, b ∙ (ap (λ x. t + x) same ∙ sym b2), d ∙ sym d2)
+  step_once network v t Stand w u c w2 u2 c2 (mode, has, a, b, d) (mode2, has2, a2, b2, d2) =
+      (a ∙ sym a2, b ∙ sym b2, d ∙ (ap Some (some_is (sym has ∙ has2)) ∙ sym d2))
+
+  -- a step more at the end
+  pub told_more : (v t : ℕ) (steps : List Step) (w u : ℕ) (letters text : List ℕ) (step : Step) (w2 u2 : ℕ) (c : Option ℕ)
+      → AreTold n v t steps w u letters text → IsStep n w u step w2 u2 c
+      → AreTold n v t (steps ++ step ∷ []) w2 u2 (letters ++ option_to_list c) (text ++ with_feed (step_text n step w2 u2))
+  told_more v t [] w u letters text step w2 u2 c (at, now, none, empty) next = (
+    w2,
+    u2,
+    c,
+    [],
+    [],
+    subst (λ x. IsStep n x t step w2 u2 c) at (subst (λ y. IsStep n w y step w2 u2 c) now next),
+    (refl, refl, refl, refl),
+    ap (λ (x : List ℕ). x ++ option_to_list c) none ∙ sym (append-nil (option_to_list c)),
+    ap (λ (x : List ℕ). x ++ with_feed (step_text n step w2 u2)) empty ∙ sym (append-nil (with_feed (step_text n step w2 u2))),
+  )
+  told_more v t (first ∷ steps) w u letters text step w2 u2 c (v1, t1, letter, rest, lines, here, more, e, f) next = (
+    v1,
+    t1,
+    letter,
+    rest ++ option_to_list c,
+    lines ++ with_feed (step_text n step w2 u2),
+    here,
+    told_more v1 t1 steps w u rest lines step w2 u2 c more next,
+    ap (λ (x : List ℕ). x ++ option_to_list c) e ∙ append_assoc (option_to_list letter) rest (option_to_list c),
+    ap (λ (x : List ℕ). x ++ with_feed (step_text n step w2 u2)) f ∙ append_assoc (with_feed (step_text n first v1 t1)) lines (with_feed (step_text n step w2 u2)),
+  )
+
+  -- what is left of steps after the first can be taken from its end
+  pub taken_on : IsNetwork n → (v t : ℕ) (step : Step) (steps : List Step) (w u : ℕ) (c : Option ℕ) → AreTaken n v t (step ∷ steps) → IsStep n v t step w u c → AreTaken n w u steps
+  taken_on network v t step steps w u c taken here =
+      let (v1, t1, letter, rest, first, more, e) = taken.are in
+      let same = step_once network v t step v1 t1 letter w u c first here in
+      record {
+        end = taken.end;
+        arrival = taken.arrival;
+        letters = rest;
+        are = subst (λ x. AreSteps n x u steps taken.end taken.arrival rest) same.0 (subst (λ y. AreSteps n v1 y steps taken.end taken.arrival rest) same.1 more);
+      }
+
+  -- a step leads from a node to one
+  pub step_in_range : IsNetwork n → (v t : ℕ) (step : Step) (w u : ℕ) (c : Option ℕ) → v < length (nodes_of n) → IsStep n v t step w u c → w < length (nodes_of n)
+  step_in_range network v t (Wait until) w u c h (later, at, now, none) = subst (λ x. x < length (nodes_of n)) (sym at) h
+  step_in_range network v t (Road to) w u c h (ms, (k, lt, is), at, now, read) =
+      let inside = subst (λ (a : Arc). a.to < length n.roads) is (arcs_in_range n network k _ lt).1 in
+      rw at (lt_of_lt_of_le inside (nodes_hold_roads n network))
+  step_in_range network v t (Link to) w u c h (ms, (k, lt, is), at, now, read) =
+      rw at (subst (λ (a : Arc). a.to < length (nodes_of n)) is (links_in_range n network k _ lt).1)
+  step_in_range network v t Stand w u c h (mode, has, at, now, read) = subst (λ x. x < length (nodes_of n)) (sym at) h
+
+  -- a step ends no more than 2 ^ 32 ms later, or when a wait does
+  pub step_in_time : IsNetwork n → (v t : ℕ) (step : Step) (w u : ℕ) (c : Option ℕ) → HasTime step → IsStep n v t step w u c → (u ≤ t + 2 ^ 32) ⊎ (u < 10 ^ 30)
+  step_in_time network v t (Wait until) w u c h (later, at, now, none) = inr (subst (λ x. x < 10 ^ 30) (sym now) h)
+  step_in_time network v t (Road to) w u c h (ms, (k, lt, is), at, now, read) =
+      let fits = subst (λ (a : Arc). a.ms < 2 ^ 32) is (network.arcs_fit k _ lt) in
+      inl (omega arith)
+  step_in_time network v t (Link to) w u c h (ms, (k, lt, is), at, now, read) =
+      let fits = subst (λ (a : Arc). a.ms < 2 ^ 32) is (network.links_fit k _ lt) in
+      inl (omega arith)
+  step_in_time network v t Stand w u c h (mode, has, at, now, read) = inl (omega arith)

@@ -1,0 +1,7 @@
+use Rattle.std.proofs.Common.{◌≡◌, ◌++◌, ◌∷◌, take}
+use Rattle.std.specs.List.{flat_map}
+use Rattle.journey.specs.Texts.{letter_text}
+use Rattle.journey.proofs.texts.push_letters.Given as goal
+
+abbrev pub invariant-loop-letter : goal.invariant-loop-letter
+invariant-loop-letter l = l.out.items ≡ l.fn.out.items ++ flat_map (λ letter. 32 ∷ letter_text letter) (take l.letter-index l.word)

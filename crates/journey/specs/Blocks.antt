@@ -1,0 +1,39 @@
+-- The block of a query line: the line, what is answered, and the line `end`.
+use Rattle.std.specs.Prelude.{◌≡◌, ◌≢◌, ℕ, ◌<◌, List, ◌++◌, length, codes}
+use Rattle.plain_texts.specs.Lines.{with_feed}
+use Rattle.mode_network.specs.NetworkLists.{NetworkLists, nodes_of}
+use Rattle.mode_network.specs.Journeys.{Route}
+use Rattle.journey.specs.declared.fault.QueryFault.TheVariants.{OutOfMemory}
+use Rattle.journey.specs.declared.answer.BlockBody.{BlockBody}
+use Rattle.journey.specs.declared.answer.BlockBody.TheVariants.{Journey, Nothing, Refused}
+use Rattle.journey.specs.Ends.{AreTaken, HasTimes}
+use Rattle.journey.specs.Texts.{IsJourneyText, refusal_text, block_text}
+
+-- a journey that can be printed: it is real, and its times are below 10 ^ 30
+pub record IsPrintable (n : NetworkLists) (j : Route) : Type 0 where
+  pub node : j.start < length (nodes_of n)
+  pub times : HasTimes j
+  pub taken : AreTaken n j.start j.at j.steps
+
+abbrev pub IsPrintableBody : NetworkLists → BlockBody → Type 0
+IsPrintableBody n (Journey j) = IsPrintable n j
+IsPrintableBody n Nothing = Unit {0}
+IsPrintableBody n (Refused fault) = fault ≢ OutOfMemory
+
+-- what is printed for a journey, for the answer that there is none, and for a refusal
+abbrev pub IsBodyText : NetworkLists → BlockBody → List ℕ → Type 0
+IsBodyText n (Journey j) text = IsJourneyText n j text
+IsBodyText n Nothing text = text ≡ with_feed (codes "no journey")
+IsBodyText n (Refused fault) text = text ≡ with_feed (refusal_text fault)
+
+-- the block of a line with this body
+pub record IsBlockText (n : NetworkLists) (line : List ℕ) (body : BlockBody) (block : List ℕ) : Type 0 where
+  pub text : List ℕ
+  pub is_body : IsBodyText n body text
+  pub block_is : block ≡ block_text line text
+
+-- a text that has the property was added at the end
+pub record AddsText (P : List ℕ → Type 0) (old new : List ℕ) : Type 0 where
+  pub text : List ℕ
+  pub is : P text
+  pub added : new ≡ old ++ text

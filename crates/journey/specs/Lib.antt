@@ -1,0 +1,10 @@
+pub mod Shapes
+pub mod Shown
+pub mod Faults
+pub mod Queries
+pub mod Words
+pub mod Ends
+pub mod Texts
+pub mod Telling
+pub mod Blocks
+pub mod Best

@@ -1,0 +1,60 @@
+-- What a query line asks of a network, or the first fault that it has.
+use Rattle.std.specs.Prelude.{◌≡◌, ◌⊎◌, ℕ, List, Some, None, Ok, Err}
+use Rattle.mode_expression.specs.declared.fault.ExprFault.{ExprFault}
+use Rattle.mode_expression.specs.declared.fault.ExprFault.TheVariants.{TooLong as LongExpression, TooDeep as DeepExpression, Syntax as BadSyntax, TooLarge as LargeExpression}
+use Rattle.mode_expression.specs.Form.{Form}
+use Rattle.mode_expression.specs.Reading.{IsExpression, IsFault}
+use Rattle.mode_network.specs.declared.endpoints.Endpoint.{Endpoint}
+use Rattle.mode_network.specs.NetworkLists.{NetworkLists}
+use Rattle.mode_network.specs.Copies.{IsCopy}
+use Rattle.journey.specs.declared.fault.QueryFault.{QueryFault}
+use Rattle.journey.specs.declared.fault.QueryFault.TheVariants.{Shape as NoShape, BadClock, OutOfRange, UnknownFrom, UnknownTo, TooLong, TooDeep, Syntax, TooLarge, OutOfMemory}
+use Rattle.journey.specs.Shapes.{Shape, shape_of, departs_at}
+
+-- some node of the network is a copy of the endpoint; or none is
+abbrev pub IsKnown : NetworkLists → Endpoint → Type 0
+IsKnown n endpoint = (v : ℕ) × IsCopy n endpoint v
+
+abbrev pub IsUnknown : NetworkLists → Endpoint → Type 0
+IsUnknown n endpoint = (v : ℕ) → IsCopy n endpoint v → ⊥
+
+-- the line has this shape, and departs then
+pub record Departs (n : NetworkLists) (line : List ℕ) (shape : Shape) (depart : ℕ) : Type 0 where
+  pub shape_is : shape_of line ≡ Some shape
+  pub departs : departs_at n.days shape ≡ Ok depart
+
+-- all parts of the line but its expression are right
+pub record ReachesExpression (n : NetworkLists) (line : List ℕ) (shape : Shape) (depart : ℕ) : Type 0 where
+  pub departs : Departs n line shape depart
+  pub from_known : IsKnown n shape.from
+  pub to_known : IsKnown n shape.to
+
+-- the line is a query of the network: for journeys between copies of these endpoints, from this time on, with a word that the form denotes
+pub record IsQuery (n : NetworkLists) (line : List ℕ) (from to : Endpoint) (depart : ℕ) (form : Form) : Type 0 where
+  pub shape : Shape
+  pub reaches : ReachesExpression n line shape depart
+  pub from_is : from ≡ shape.from
+  pub to_is : to ≡ shape.to
+  pub expression : IsExpression shape.expr form
+
+-- all other parts are right, and the expression has this fault
+abbrev pub HasBadExpression : NetworkLists → List ℕ → ExprFault → Type 0
+HasBadExpression n line fault = (shape : Shape) × (depart : ℕ) × ReachesExpression n line shape depart × IsFault shape.expr fault
+
+-- the line is refused with this fault: that part of it fails, and all earlier parts are right
+abbrev pub IsRefused : NetworkLists → List ℕ → QueryFault → Type 0
+IsRefused n line NoShape = shape_of line ≡ None
+IsRefused n line BadClock = (shape : Shape) × (shape_of line ≡ Some shape) × (departs_at n.days shape ≡ Err BadClock)
+IsRefused n line OutOfRange = (shape : Shape) × (shape_of line ≡ Some shape) × (departs_at n.days shape ≡ Err OutOfRange)
+IsRefused n line UnknownFrom = (shape : Shape) × (depart : ℕ) × Departs n line shape depart × IsUnknown n shape.from
+IsRefused n line UnknownTo =
+    (shape : Shape) × (depart : ℕ) × Departs n line shape depart × IsKnown n shape.from × IsUnknown n shape.to
+IsRefused n line (TooLong bytes) = HasBadExpression n line (LongExpression bytes)
+IsRefused n line (TooDeep at) = HasBadExpression n line (DeepExpression at)
+IsRefused n line (Syntax at) = HasBadExpression n line (BadSyntax at)
+IsRefused n line (TooLarge places) = HasBadExpression n line (LargeExpression places)
+IsRefused n line OutOfMemory = ⊥
+
+-- what reading a line answers where it is no query: the fault with which it is refused. Want of memory has no cause
+abbrev pub IsRefusal : NetworkLists → List ℕ → QueryFault → Type 0
+IsRefusal n line fault = (fault ≡ OutOfMemory) ⊎ IsRefused n line fault

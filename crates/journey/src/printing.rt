@@ -1,0 +1,111 @@
+//! How blocks are printed.
+
+ghost use Rattle.std.specs.Prelude.{◌≡◌, ◌<◌, ◌^◌, ◌++◌, length, codes, All, IfOk, OnOk};
+ghost use Rattle.plain_texts.specs.Lines.{with_feed};
+ghost use Rattle.service_days.specs.Clock.{clock_text_of};
+ghost use Rattle.mode_network.specs.NetworkLists.{nodes_of};
+ghost use Rattle.journey.specs.Ends.{AreTaken, HasTime};
+ghost use Rattle.journey.specs.Texts.{IsJourneyText, place_text};
+ghost use Rattle.journey.specs.Blocks.{IsPrintable, IsPrintableBody, IsBodyText, IsBlockText, AddsText};
+
+use crate::answer::BlockBody;
+use crate::telling::tell;
+use crate::texts::{push_place, push_refusal, push_word};
+use mode_network::{Journey, Network, Step};
+use plain_texts::push_line_feed;
+use plan_base::Time;
+use std::alloc::{AllocError, Global};
+
+/// The line of an arrival.
+fn push_arrival(out: &mut Vec<u8>, network: &Network, t: Time) -> Result<(), AllocError>
+    ensures { OnOk result (out.new.items ≡ out.old.items ++ with_feed (codes "arrive " ++ clock_text_of network.now.days t)) }
+{
+    out.extend_from_slice(b"arrive ")?;
+    network.days().push_clock(out, t)?;
+    push_line_feed(out)
+}
+
+/// The line of a start.
+fn push_start(out: &mut Vec<u8>, network: &Network, v: u32, t: Time) -> Result<(), AllocError>
+    requires { v < length (nodes_of network.now) }
+    ensures { OnOk result (out.new.items ≡ out.old.items ++ with_feed (codes "from " ++ place_text network.now v t)) }
+{
+    out.extend_from_slice(b"from ")?;
+    push_place(out, network, v, t)?;
+    push_line_feed(out)
+}
+
+/// What is printed of a journey: when it arrives, its word, where and when it starts, and its steps.
+fn push_steps(
+    alloc: Global,
+    out: &mut Vec<u8>,
+    network: &Network,
+    start: u32,
+    at: Time,
+    steps: &[Step],
+) -> Result<(), AllocError>
+    requires { IsPrintable network.now (record { start = start; at = at; steps = steps.now }) }
+    ensures { OnOk result (AddsText (IsJourneyText network.now (record { start = start; at = at; steps = steps.now })) out.old.items out.new.items) }
+{
+    let told = tell(alloc, network, start, at, steps)?;
+    push_arrival(out, network, told.at)?;
+    push_word(out, &told.word)?;
+    push_start(out, network, start, at)?;
+    out.extend_from_slice(&told.lines)?;
+    Ok(())
+}
+
+fn push_journey(
+    alloc: Global,
+    out: &mut Vec<u8>,
+    network: &Network,
+    journey: &Journey,
+) -> Result<(), AllocError>
+    requires { IsPrintable network.now journey.now }
+    ensures { OnOk result (AddsText (IsJourneyText network.now journey.now) out.old.items out.new.items) }
+{
+    push_steps(
+        alloc,
+        out,
+        network,
+        journey.start,
+        journey.at,
+        &journey.steps,
+    )
+}
+
+fn push_body(
+    alloc: Global,
+    out: &mut Vec<u8>,
+    network: &Network,
+    body: &BlockBody,
+) -> Result<(), AllocError>
+    requires { IsPrintableBody network.now body.now }
+    ensures { OnOk result (AddsText (IsBodyText network.now body.now) out.old.items out.new.items) }
+{
+    match body {
+        BlockBody::Journey(journey) => push_journey(alloc, out, network, journey)?,
+        BlockBody::Nothing => out.extend_from_slice(b"no journey\n")?,
+        BlockBody::Refused(fault) => push_refusal(out, *fault)?,
+    }
+    Ok(())
+}
+
+/// The block of a query line: the line, what is answered, and the line `end`.
+pub fn block(
+    alloc: Global,
+    network: &Network,
+    line: &[u8],
+    body: &BlockBody,
+) -> Result<Vec<u8>, AllocError>
+    requires { IsPrintableBody network.now body.now }
+    ensures { IfOk result (λ block. IsBlockText network.now line.now body.now block.items) }
+{
+    let mut out = Vec::new(alloc);
+    out.extend_from_slice(b"query ")?;
+    out.extend_from_slice(line)?;
+    push_line_feed(&mut out)?;
+    push_body(alloc, &mut out, network, body)?;
+    out.extend_from_slice(b"end\n")?;
+    Ok(out)
+}

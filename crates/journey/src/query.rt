@@ -1,0 +1,62 @@
+//! Queries.
+
+ghost use Rattle.std.specs.Prelude.{◌≡◌, ◌<◌, ◌^◌, ℕ, Option, IfOk, IfErr, OnOk, IsTrue, ◌↔◌};
+ghost use Rattle.mode_expression.specs.Form.{form_of, IsUsable};
+ghost use Rattle.journey.specs.Shown.{shown};
+ghost use Rattle.journey.specs.Queries.{IsQuery, IsRefusal, IsKnown};
+
+use crate::fault::QueryFault;
+use crate::shape::{Shape, departs_at, read_shape};
+use mode_expression::{Expr, parse};
+use mode_network::{Bytes, Endpoint, Network};
+use plan_base::Time;
+use std::alloc::{AllocError, Global};
+
+/// A query: for journeys from a copy of one endpoint to a copy of another, at the departure or later, with a
+/// word that the expression denotes.
+#[derive(Drop)]
+pub struct Query {
+    /// The line that says it.
+    pub line: Bytes,
+    pub from: Endpoint,
+    pub to: Endpoint,
+    /// The departure, in milliseconds of the region clock.
+    pub depart: Time,
+    pub expr: Expr,
+}
+
+/// Reads a query line, or answers its first fault. The faults are tried in the order of [`QueryFault`].
+pub fn read_query(alloc: Global, network: &Network, line: &[u8]) -> Result<Query, QueryFault>
+    ensures query { IfOk result (λ q. IsQuery network.now line.now q.from q.to q.depart (form_of q.expr)) }
+    ensures usable { IfOk result (λ q. IsUsable (form_of q.expr)) }
+    ensures soon { IfOk result (λ q. q.depart < 2 ^ 64) }
+    ensures line { IfOk result (λ q. q.line ≡ line.now) }
+    ensures fault { IfErr result (IsRefusal network.now line.now) }
+{
+    let Some(shape) = read_shape(alloc, line)? else {
+        return Err(QueryFault::Shape);
+    };
+    let depart = departs_at(network.days(), &shape)?;
+    if !is_known(network, &shape.from) {
+        return Err(QueryFault::UnknownFrom);
+    }
+    if !is_known(network, &shape.to) {
+        return Err(QueryFault::UnknownTo);
+    }
+    let expr = parse(alloc, shape.expr)?;
+    let line = Bytes::from(Vec::from_slice(alloc, line)?);
+    Ok(Query {
+        line,
+        from: shape.from,
+        to: shape.to,
+        depart,
+        expr,
+    })
+}
+
+/// Whether some node of the network is a copy of the endpoint.
+fn is_known(network: &Network, endpoint: &Endpoint) -> bool
+    ensures { IsTrue result ↔ IsKnown network.now endpoint.now }
+{
+    network.copies(endpoint).is_some()
+}

@@ -1,0 +1,141 @@
+//! The texts of nodes, words and steps.
+
+ghost use Rattle.std.specs.Prelude.{◌≡◌, ◌<◌, ◌++◌, ◌∷◌, List, ℕ, length, codes, OnOk};
+ghost use Rattle.std.specs.List.{flat_map};
+ghost use Rattle.plain_texts.specs.Lines.{with_feed};
+ghost use Rattle.mode_network.specs.NetworkLists.{nodes_of};
+ghost use Rattle.journey.specs.Texts.{IsNamed, letter_text, key_text, node_text, place_text, step_text, word_text, refusal_text};
+
+use crate::fault::QueryFault;
+use mode_expression::Letter;
+use mode_network::{Network, NodeKey, Step};
+use plain_texts::{push_decimal, push_line_feed, push_signed};
+use plan_base::Time;
+use std::alloc::AllocError;
+
+/// The name of a letter.
+fn push_letter(out: &mut Vec<u8>, letter: u8) -> Result<(), AllocError>
+    ensures { OnOk result (out.new.items ≡ out.old.items ++ letter_text letter) }
+{
+    let Some(letter) = Letter::from_number(letter) else {
+        return Ok(());
+    };
+    out.extend_from_slice(letter.name().as_bytes())
+}
+
+/// What a node stands for: a mode or a kind, a colon, and an id or a name.
+fn push_key(out: &mut Vec<u8>, network: &Network, key: NodeKey) -> Result<(), AllocError>
+    requires { IsNamed network.now key }
+    ensures { OnOk result (out.new.items ≡ out.old.items ++ key_text network.now key) }
+{
+    match key {
+        NodeKey::Road(mode, id) => {
+            push_letter(out, mode)?;
+            out.push(b':')?;
+            push_signed(out, id)
+        }
+        NodeKey::Stop(stop) => {
+            out.extend_from_slice(b"stop:")?;
+            out.extend_from_slice(network.stop_name(stop))
+        }
+        NodeKey::Switch(id) => {
+            out.extend_from_slice(b"switch:")?;
+            push_signed(out, id)
+        }
+    }
+}
+
+/// The node of this number.
+fn push_node(out: &mut Vec<u8>, network: &Network, v: u32) -> Result<(), AllocError>
+    requires { v < length (nodes_of network.now) }
+    ensures { OnOk result (out.new.items ≡ out.old.items ++ node_text network.now v) }
+{
+    network.known();
+    push_key(out, network, network.node(v).key)
+}
+
+/// A node, a space and a clock text.
+pub(crate) fn push_place(
+    out: &mut Vec<u8>,
+    network: &Network,
+    v: u32,
+    t: Time,
+) -> Result<(), AllocError>
+    requires { v < length (nodes_of network.now) }
+    ensures { OnOk result (out.new.items ≡ out.old.items ++ place_text network.now v t) }
+{
+    push_node(out, network, v)?;
+    out.push(b' ')?;
+    network.days().push_clock(out, t)
+}
+
+/// The line of a step that ends at `v` at the time `t`.
+pub(crate) fn push_step(
+    out: &mut Vec<u8>,
+    network: &Network,
+    step: Step,
+    v: u32,
+    t: Time,
+) -> Result<(), AllocError>
+    requires { v < length (nodes_of network.now) }
+    ensures { OnOk result (out.new.items ≡ out.old.items ++ with_feed (step_text network.now step v t)) }
+{
+    match step {
+        Step::Wait { .. } => {
+            out.extend_from_slice(b"wait ")?;
+            network.days().push_clock(out, t)?;
+        }
+        Step::Road { .. } => {
+            out.extend_from_slice(b"road ")?;
+            push_place(out, network, v, t)?;
+        }
+        Step::Link { .. } => {
+            out.extend_from_slice(b"link ")?;
+            push_place(out, network, v, t)?;
+        }
+        Step::Stand => out.extend_from_slice(b"stand")?,
+    }
+    push_line_feed(out)
+}
+
+/// The line of a word: each letter's name, after a space.
+pub(crate) fn push_word(out: &mut Vec<u8>, word: &[u8]) -> Result<(), AllocError>
+    ensures { OnOk result (out.new.items ≡ out.old.items ++ with_feed (word_text word.now)) }
+{
+    out.extend_from_slice(b"word")?;
+    push_letters(out, word)?;
+    push_line_feed(out)
+}
+
+fn push_letters(out: &mut Vec<u8>, word: &[u8]) -> Result<(), AllocError>
+    ensures { OnOk result (out.new.items ≡ out.old.items ++ flat_map (λ letter. 32 ∷ letter_text letter) word.now) }
+{
+    for letter in word {
+        out.push(b' ')?;
+        push_letter(out, *letter)?;
+    }
+    Ok(())
+}
+
+/// The line that says why a query is refused.
+pub(crate) fn push_refusal(out: &mut Vec<u8>, fault: QueryFault) -> Result<(), AllocError>
+    ensures { OnOk result (out.new.items ≡ out.old.items ++ with_feed (refusal_text fault)) }
+{
+    let (text, number): (&[u8], Option<u64>) = match fault {
+        QueryFault::Shape => (b"refused shape", None),
+        QueryFault::BadClock => (b"refused clock", None),
+        QueryFault::OutOfRange => (b"refused range", None),
+        QueryFault::UnknownFrom => (b"refused from", None),
+        QueryFault::UnknownTo => (b"refused to", None),
+        QueryFault::TooLong { bytes } => (b"refused long ", Some(bytes)),
+        QueryFault::TooDeep { at } => (b"refused deep ", Some(at)),
+        QueryFault::Syntax { at } => (b"refused syntax ", Some(at)),
+        QueryFault::TooLarge { places } => (b"refused large ", Some(places)),
+        QueryFault::OutOfMemory => (b"", None),
+    };
+    out.extend_from_slice(text)?;
+    if let Some(number) = number {
+        push_decimal(out, u128::from(number))?;
+    }
+    push_line_feed(out)
+}
