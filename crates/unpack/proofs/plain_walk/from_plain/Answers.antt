@@ -1,0 +1,25 @@
+use Rattle.std.proofs.Common.{List, ◌∙◌, ap, sym, subst}
+use Rattle.std.specs.Prelude.{All}
+use Rattle.mode_network.specs.declared.steps.Step.{Step}
+use Rattle.mode_network.specs.Journeys.{AreSteps}
+use Rattle.unpack.specs.Unpacking.{IsNoWait, steps_of, end_of, arrival_of, letters_of}
+use Rattle.unpack.proofs.UnpackLemmas.{hops_are_steps, have_arcs, no_waits}
+use Rattle.unpack.proofs.plain_walk.from_plain.Goals as goal
+
+pub steps-requires : goal.steps-requires
+steps-requires c = rw c.deref.ensures.value (have_arcs c.args.plain.now.network.now c.args.plain.now.kept c.args.walk.now.node c.args.walk.now.at c.args.walk.now.hops.items c.requires)
+
+pub returns-clause-real : goal.returns-clause-real
+returns-clause-real c =
+    let n = c.args.plain.now.network.now in
+    let walk = c.args.walk.now in
+    let steps = c.in_ok-steps.ensures ∙ ap (steps_of n walk.node) c.deref.ensures.value in
+    subst (λ (s : List Step). AreSteps n walk.node walk.at s (end_of walk.node walk.hops.items) (arrival_of walk.at walk.hops.items) (letters_of n walk.node walk.hops.items)) (sym steps)
+    (hops_are_steps n c.args.plain.now.kept walk.node walk.at walk.hops.items c.requires)
+
+pub returns-clause-waits : goal.returns-clause-waits
+returns-clause-waits c =
+    let n = c.args.plain.now.network.now in
+    let walk = c.args.walk.now in
+    let steps = c.in_ok-steps.ensures ∙ ap (steps_of n walk.node) c.deref.ensures.value in
+    subst (λ (s : List Step). All IsNoWait s) (sym steps) (no_waits n walk.node walk.hops.items)

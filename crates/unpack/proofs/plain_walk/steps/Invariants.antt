@@ -1,0 +1,9 @@
+use Rattle.std.proofs.Common.{◌≡◌, ◌++◌, drop}
+use Rattle.unpack.specs.Unpacking.{HaveArcs, steps_of}
+use Rattle.unpack.proofs.plain_walk.steps.Given as goal
+
+abbrev pub invariant-loop-hop : goal.invariant-loop-hop
+invariant-loop-hop l = record {
+  told : l.steps.items ++ steps_of l.plain.network.now l.node (drop l.hop-index l.hops) ≡ steps_of l.plain.network.now l.start l.hops;
+  rest : HaveArcs l.plain.network.now l.node (drop l.hop-index l.hops);
+}

@@ -1,0 +1,58 @@
+//! Walks through the graph of a network.
+
+ghost use Rattle.std.specs.Prelude.{◌≡◌, IfOk, All};
+ghost use Rattle.mode_network.specs.Journeys.{AreSteps};
+ghost use Rattle.plain_graph.specs.Simulation.{step_of};
+ghost use Rattle.unpack.specs.Unpacking.{ArePlainHops, HaveArcs, IsNoWait, steps_of, end_of, arrival_of, letters_of};
+
+use mode_network::{Journey, Step};
+use plain_graph::{Plain, PlainArc};
+use product_search::{Hop, Walk};
+use std::alloc::{AllocError, Global};
+
+/// The step of a journey that takes an arc of the graph.
+fn step_of(arc: PlainArc) -> Step
+    ensures { result ≡ step_of arc }
+{
+    match arc {
+        PlainArc::Road(arc) => Step::Road { to: arc.to },
+        PlainArc::Link(link) => Step::Link { to: link.to },
+        PlainArc::Stand => Step::Stand,
+    }
+}
+
+/// The step of each hop, from `start` on.
+fn steps(
+    alloc: Global,
+    plain: &Plain<'_>,
+    start: u32,
+    hops: &[Hop],
+) -> Result<Vec<Step>, AllocError>
+    requires { HaveArcs plain.now.network.now start hops.now }
+    ensures { IfOk result (λ steps. steps.items ≡ steps_of plain.now.network.now start hops.now) }
+{
+    let mut steps = Vec::with_capacity(alloc, hops.len())?;
+    let mut node = start;
+    for hop in hops {
+        steps.push(step_of(plain.plain_arc(node, hop.arc)))?;
+        node = hop.to;
+    }
+    Ok(steps)
+}
+
+/// The journey that takes a walk's hops one after the other. It is real, and has the walk's ends, times and
+/// letters.
+pub fn from_plain(alloc: Global, plain: &Plain<'_>, walk: &Walk) -> Result<Journey, AllocError>
+    requires { ArePlainHops plain.now.network.now walk.now.node walk.now.at walk.now.hops.items }
+    ensures start { IfOk result (λ j. j.start ≡ walk.now.node) }
+    ensures at { IfOk result (λ j. j.at ≡ walk.now.at) }
+    ensures real { IfOk result (λ j. AreSteps plain.now.network.now j.start j.at j.steps (end_of walk.now.node walk.now.hops.items)
+        (arrival_of walk.now.at walk.now.hops.items) (letters_of plain.now.network.now walk.now.node walk.now.hops.items)) }
+    ensures waits { IfOk result (λ j. All IsNoWait j.steps) }
+{
+    Ok(Journey {
+        start: walk.node,
+        at: walk.at,
+        steps: steps(alloc, plain, walk.node, &walk.hops)?,
+    })
+}

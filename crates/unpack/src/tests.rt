@@ -1,0 +1,121 @@
+ghost use Rattle.std.specs.Prelude.{◌≡◌, ◌<◌, ◌^◌, Some, IfOk};
+ghost use Rattle.search_laws.specs.GraphLaws.{HasArc};
+ghost use Rattle.plain_graph.specs.PlainArcs.{plain_meaning};
+
+use crate::from_plain;
+use mode_network::{Arc, Network, Node, NodeKey, Parts, Step};
+use plain_graph::Plain;
+use plain_texts::Name;
+use plan_base::{Caps, Place};
+use product_search::{Hop, Walk};
+use search_laws::{Graph, Time};
+use service_days::Days;
+use std::alloc::Global;
+use std::test::Fail;
+
+/// Two foot nodes, a stop at the first of them, and a road arc and a link from it.
+fn town(alloc: Global) -> Result<Network, Fail> {
+    let place = Place::new(480_000_000, 110_000_000).ok_or("no place")?;
+    let parts = Parts {
+        days: Days::new(alloc, 20240304, 1)?,
+        roads: vec![in alloc;
+            Node {
+                key: NodeKey::Road(0, 101),
+                place
+            },
+            Node {
+                key: NodeKey::Road(0, 102),
+                place
+            },
+        ]?,
+        stop_names: vec![in alloc; Name::from_slice(alloc, b"A")?.ok_or("no name")?]?,
+        stops: vec![in alloc;
+            Node {
+                key: NodeKey::Stop(0),
+                place
+            },
+        ]?,
+        switches: Vec::new(alloc),
+        arcs: vec![in alloc;
+            Arc {
+                from: 0,
+                to: 1,
+                ms: 79515
+            },
+        ]?,
+        links: vec![in alloc;
+            Arc {
+                from: 1,
+                to: 2,
+                ms: 60000
+            },
+            Arc {
+                from: 2,
+                to: 1,
+                ms: 50000
+            },
+        ]?,
+    };
+    Ok(Network::build(alloc, parts, &Caps::FULL)?)
+}
+
+/// The hop by the arc at place `i` of those out of `v`, taken at `t`.
+fn hop(plain: &Plain<'_>, v: u32, t: Time, i: u64) -> Result<Hop, Fail>
+    ensures has { IfOk result (λ h. HasArc (plain_meaning plain.now.network.now) v h.arc) }
+    ensures arrives { IfOk result (λ h. (plain_meaning plain.now.network.now).arrive v h.arc t ≡ Some h.at) }
+    ensures to { IfOk result (λ h. h.to ≡ ((plain_meaning plain.now.network.now).arc_at v h.arc).to) }
+{
+    if v >= plain.nodes() || t >= 1_000_000_000_000 {
+        return Err("no node".into());
+    }
+    if i >= plain.arcs(v) {
+        return Err("no arc".into());
+    }
+    Ok(Hop {
+        arc: i,
+        to: plain.arc_at(v, i).to,
+        state: 0,
+        at: plain.arrive(v, i, t).ok_or("never")?,
+    })
+}
+
+#[test]
+fn each_hop_is_a_step(rt: HostRuntime) -> Result<(), Fail> {
+    let alloc = rt.alloc();
+    let network = town(alloc)?;
+    let plain = Plain::new(&network);
+    // from node 0: its road arc, the link to the stop, the link back, and a stand
+    let road = hop(&plain, 0, 1_000, 0)?;
+    let link = hop(&plain, road.to, road.at, 0)?;
+    let back = hop(&plain, link.to, link.at, 0)?;
+    let stand = hop(&plain, back.to, back.at, 1)?;
+    let walk = Walk {
+        node: 0,
+        state: 0,
+        at: 1_000,
+        hops: vec![in alloc; road, link, back, stand]?,
+    };
+    let journey = from_plain(alloc, &plain, &walk)?;
+    assert_eq!(rt; journey.start, 0);
+    assert_eq!(rt; journey.at, 1_000);
+    assert_eq!(rt;
+        journey.steps.as_slice(),
+        [
+            Step::Road { to: 1 },
+            Step::Link { to: 2 },
+            Step::Link { to: 1 },
+            Step::Stand,
+        ]
+        .as_slice()
+    );
+    let none = Walk {
+        node: 1,
+        state: 0,
+        at: 5,
+        hops: Vec::new(alloc),
+    };
+    let journey = from_plain(alloc, &plain, &none)?;
+    assert_eq!(rt; (journey.start, journey.at), (1, 5));
+    assert!(rt; journey.steps.is_empty());
+    Ok(())
+}
