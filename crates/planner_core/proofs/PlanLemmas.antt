@@ -1,0 +1,109 @@
+-- A least arrival in the product of a network and the automaton of an expression is that of a best journey.
+use Rattle.std.proofs.Common.{◌≡◌, ℕ, ◌^◌, ◌<◌, ◌∙◌, List, ◌∷◌, Option, Some, None, refl, sym, subst, arith}
+use Rattle.std.specs.Prelude.{All, ◌↔◌, slice_index_or}
+use Rattle.search_laws.specs.LabelLaws.{LabelsMeaning, Accepts}
+use Rattle.search_laws.specs.Walks.{wait, ArrivesAt, IsLeast}
+use Rattle.search_laws.specs.Collapse.{collapse}
+use Rattle.product_search.specs.declared.label.Walk.{Walk}
+use Rattle.product_search.specs.Answer.{IsArrival, IsWalkTo, IsWalkFor}
+use Rattle.product_search.proofs.HopLemmas.{reads_of_hops}
+use Rattle.automaton.specs.Collapsed.{collapsed, AcceptsCollapsed}
+use Rattle.plain_graph.specs.PlainArcs.{plain_meaning}
+use Rattle.plain_graph.specs.Simulation.{JourneysAreWalks}
+use Rattle.mode_expression.specs.Form.{IsWordOf}
+use Rattle.mode_network.specs.declared.steps.Step.{Step}
+use Rattle.mode_network.specs.declared.steps.Step.TheVariants.{Wait, Road, Link, Stand}
+use Rattle.mode_network.specs.NetworkLists.{NetworkLists}
+use Rattle.mode_network.specs.Rules.{IsNetwork}
+use Rattle.mode_network.specs.Journeys.{Route, AreSteps}
+use Rattle.mode_network.specs.Copies.{IsCopy}
+use Rattle.journey.specs.Best.{Asked, Answers, IsBest, HasNone}
+use Rattle.journey.specs.Ends.{HasTime}
+use Rattle.journey.specs.Blocks.{IsPrintable}
+use Rattle.unpack.specs.Unpacking.{IsNoWait, end_of, arrival_of, letters_of}
+use Rattle.unpack.proofs.UnpackLemmas.{hops_end, hops_letters, plain_hops}
+use Rattle.planner_core.specs.Plans.{AreTheCopies, IsPlan, IsPlainWalk, IsUnpacked}
+use Rattle.planner_core.proofs.CopyLemmas.{copy_in_range}
+
+module _ (n : NetworkLists) (network : IsNetwork n) (q : Asked) (l : LabelsMeaning) (starts targets : List ℕ)
+    (denotes : (word : List ℕ) → Accepts l word ↔ IsWordOf q.form word) (collapses : AcceptsCollapsed l)
+    (journeys : JourneysAreWalks n) (from : AreTheCopies n q.from starts) (to : AreTheCopies n q.to targets) where
+  -- each journey that answers is an accepted walk
+  arrives : (k : Route) (t : ℕ) → Answers n q k t → ArrivesAt (plain_meaning n) (collapsed l) starts targets q.depart t
+  arrives k t a =
+      let walk = journeys k.start k.at k.steps a.end t a.real.letters a.real.steps in
+      let word = subst (IsWordOf q.form) a.real.word_is a.denoted in
+      let accepted = (collapses a.real.letters).1 ((denotes (collapse a.real.letters)).1 word) in
+      record {
+        start = k.start;
+        end = a.end;
+        steps = wait k.at ∷ walk.walk;
+        starts_there = (from k.start).1 a.starts_at_copy;
+        ends_there = (to a.end).1 a.ends_at_copy;
+        walk = (a.not_before, walk.leads);
+        word = subst (Accepts (collapsed l)) (sym walk.word) accepted;
+      }
+
+  pub none_answers : IsArrival (plain_meaning n) (collapsed l) starts targets q.depart None None → HasNone n q
+  none_answers none k t a = none t tt (arrives k t a)
+
+  has_time : (step : Step) → IsNoWait step → HasTime step
+  has_time (Wait until) none = absurd none
+  has_time (Road to) none = tt
+  has_time (Link to) none = tt
+  has_time Stand none = tt
+
+  pub best_answers : (a : ℕ) (w : Walk) (j : Route) → IsLeast (plain_meaning n) (collapsed l) starts targets q.depart a
+      → IsWalkTo (plain_meaning n) (collapsed l) starts targets q.depart a w → q.depart < 2 ^ 64
+      → j.start ≡ w.node → j.at ≡ w.at
+      → AreSteps n j.start j.at j.steps (end_of w.node w.hops.items) (arrival_of w.at w.hops.items) (letters_of n w.node w.hops.items)
+      → All IsNoWait j.steps → IsBest n q j × IsPrintable n j
+  best_answers a w j least is soon start at real waits =
+      let ends = hops_end n (collapsed l) w.hops.items w.node w.state w.at is.end is.final a is.hops in
+      let letters = hops_letters n (collapsed l) w.hops.items w.node w.state w.at is.end is.final a is.hops in
+      let reads = reads_of_hops (plain_meaning n) (collapsed l) w.hops.items w.node w.state w.at is.end is.final a is.hops in
+      let accepted : Accepts (collapsed l) (letters_of n w.node w.hops.items) =
+      subst (Accepts (collapsed l)) (sym letters) (w.state, is.final, is.is_state, is.is_start, reads, is.accepts) in
+      let copy = subst (IsCopy n q.from) (sym start) ((from w.node).0 is.starts_there) in
+      let leaves = at ∙ is.leaves in (
+        record {
+          arrival = a;
+          answers = record {
+            end = is.end;
+            word = collapse (letters_of n w.node w.hops.items);
+            starts_at_copy = copy;
+            not_before = omega arith;
+            real = record {
+              letters = letters_of n w.node w.hops.items;
+              steps = subst (λ x. AreSteps n j.start j.at j.steps x a (letters_of n w.node w.hops.items)) ends.0
+                  (subst (λ y. AreSteps n j.start j.at j.steps (end_of w.node w.hops.items) y (letters_of n w.node w.hops.items)) ends.1 real);
+              word_is = refl;
+            };
+            ends_at_copy = (to is.end).0 is.ends_there;
+            denoted = (denotes (collapse (letters_of n w.node w.hops.items))).0 ((collapses (letters_of n w.node w.hops.items)).0 accepted);
+          };
+          least = λ k t answers. least.least t (arrives k t answers);
+        },
+        record {
+          node = copy_in_range n network q.from j.start copy;
+          times = record { at = omega arith; waits = λ k d h. has_time (slice_index_or j.steps k d) (waits k d h) };
+          taken = record { end = _; arrival = _; letters = _; are = real };
+        },
+      )
+
+  -- a walk that counts is one of the network's graph
+  pub walk_is_plain : (arrival : Option ℕ) (walk : Option Walk) → IsWalkFor (plain_meaning n) (collapsed l) starts targets q.depart arrival walk → IsPlainWalk n walk
+  walk_is_plain None None is = tt
+  walk_is_plain None (Some w) is = absurd is
+  walk_is_plain (Some a) None is = absurd is
+  walk_is_plain (Some a) (Some w) is = plain_hops n (collapsed l) w.hops.items w.node w.state w.at is.end is.final a is.hops
+
+  -- what a search found is a plan
+  pub planned : (arrival : Option ℕ) (walk : Option Walk) (j : Option Route) → IsArrival (plain_meaning n) (collapsed l) starts targets q.depart None arrival
+      → IsWalkFor (plain_meaning n) (collapsed l) starts targets q.depart arrival walk → q.depart < 2 ^ 64 → IsUnpacked n walk j → IsPlan n q j
+  planned None None None none is soon unpacked = none_answers none
+  planned None None (Some j) none is soon unpacked = absurd unpacked
+  planned None (Some w) j none is soon unpacked = absurd is
+  planned (Some a) None j least is soon unpacked = absurd is
+  planned (Some a) (Some w) None least is soon unpacked = absurd unpacked
+  planned (Some a) (Some w) (Some j) least is soon unpacked = best_answers a w j least.0 is soon unpacked.start unpacked.at unpacked.real unpacked.waits

@@ -1,0 +1,96 @@
+-- Blocks that are written one after the other.
+use Rattle.std.proofs.Common.{◌≡◌, ℕ, ◌∙◌, inl, inr, List, [], ◌∷◌, ◌++◌, append_assoc, append-nil, take, Option, Some, None, refl, ap, sym, subst}
+use Rattle.std.specs.Prelude.{option_map, option_to_list}
+use Rattle.plain_texts.specs.Lines.{lines_of}
+use Rattle.plan_base.specs.Sinks.{SinkMeaning}
+use Rattle.plan_base.proofs.MoreWritten.{appended_twice}
+use Rattle.mode_network.specs.NetworkLists.{NetworkLists}
+use Rattle.journey.specs.Best.{IsBlock}
+use Rattle.planner_core.specs.Written.{as_query, without_return, queries_among, query_lines, AreBlocks, WroteBlocks, BeginsNext, WroteFront, WroteBlock, WrotePart}
+
+module _ (n : NetworkLists) where
+  -- a right block more
+  blocks_more : (lines : List (List ℕ)) (out line block : List ℕ) → AreBlocks n lines out → IsBlock n line block → AreBlocks n (lines ++ line ∷ []) (out ++ block)
+  blocks_more [] out line block none is = (block, [], is, refl, ap (λ (x : List ℕ). x ++ block) none ∙ sym (append-nil block))
+  blocks_more (first ∷ lines) out line block (head, rest, right, more, e) is =
+      (head, rest ++ block, right, blocks_more lines rest line block more is, ap (λ (x : List ℕ). x ++ block) e ∙ append_assoc head rest block)
+
+  -- how far the writing has come: blocks are written for the lines that are done, and the others are those of the rest of the text
+  pub record IsWriting (old new : SinkMeaning) (text rest : List ℕ) : Type 0 where
+    pub done : List (List ℕ)
+    pub split : query_lines text ≡ done ++ query_lines rest
+    pub wrote : WroteBlocks old new n done
+
+  pub writing_starts : (old : SinkMeaning) (text : List ℕ) → IsWriting old old text text
+  writing_starts old text = record { done = []; split = refl; wrote = record { out = []; blocks = refl; appended = none_more old.bytes } }
+    where
+      none_more : (bytes : Option (List ℕ)) → bytes ≡ option_map (λ b. b ++ []) bytes
+      none_more None = refl
+      none_more (Some b) = ap Some (sym (append-nil b))
+
+  -- the first line of the rest, where it is a query line or none
+  lines_split : (rest line after : List ℕ) → lines_of rest ≡ line ∷ lines_of after → query_lines rest ≡ option_to_list (as_query (without_return line)) ++ query_lines after
+  lines_split rest line after e = ap queries_among e
+
+  pub writing_passes : (old new : SinkMeaning) (text rest line after : List ℕ) → IsWriting old new text rest → lines_of rest ≡ line ∷ lines_of after
+      → as_query (without_return line) ≡ None → IsWriting old new text after
+  writing_passes old new text rest line after writing e none =
+      record { done = writing.done; split = writing.split ∙ ap (λ (x : List (List ℕ)). writing.done ++ x) (lines_split rest line after e ∙ ap (λ (o : Option (List ℕ)). option_to_list o ++ query_lines after) none); wrote = writing.wrote }
+
+  query_first : (rest line after query : List ℕ) → lines_of rest ≡ line ∷ lines_of after → as_query (without_return line) ≡ Some query → query_lines rest ≡ query ∷ query_lines after
+  query_first rest line after query e is = lines_split rest line after e ∙ ap (λ (o : Option (List ℕ)). option_to_list o ++ query_lines after) is
+
+  pub writing_writes : (old mid new : SinkMeaning) (text rest line after query : List ℕ) → IsWriting old mid text rest → lines_of rest ≡ line ∷ lines_of after
+      → as_query (without_return line) ≡ Some query → WroteBlock mid new n query → IsWriting old new text after
+  writing_writes old mid new text rest line after query writing e is block = record {
+    done = writing.done ++ query ∷ [];
+    split = writing.split ∙ (ap (λ (x : List (List ℕ)). writing.done ++ x) (query_first rest line after query e is) ∙ sym (append_assoc writing.done (query ∷ []) (query_lines after)));
+    wrote = record {
+      out = writing.wrote.out ++ block.block;
+      blocks = blocks_more writing.done writing.wrote.out query block.block writing.wrote.blocks block.is;
+      appended = appended_twice old mid new _ _ writing.wrote.appended block.appended;
+    };
+  }
+
+  pub writing_done : (old new : SinkMeaning) (text rest : List ℕ) → IsWriting old new text rest → lines_of rest ≡ [] → WroteBlocks old new n (query_lines text)
+  writing_done old new text rest writing e =
+      subst (WroteBlocks old new n) (sym (writing.split ∙ (ap (λ (x : List (List ℕ)). writing.done ++ queries_among x) e ∙ append-nil writing.done))) writing.wrote
+
+  -- a write failed within the block of a query line
+  pub writing_fails : (old mid new : SinkMeaning) (text rest line after query : List ℕ) → IsWriting old mid text rest → lines_of rest ≡ line ∷ lines_of after
+      → as_query (without_return line) ≡ Some query → WrotePart mid new n query → WroteFront old new n (query_lines text)
+  writing_fails old mid new text rest line after query writing e is part = record {
+    out = writing.wrote.out ++ take part.part.count part.block;
+    begins = record {
+      done = writing.done;
+      rest = query_lines rest;
+      whole = writing.wrote.out;
+      part = take part.part.count part.block;
+      lines_are = writing.split;
+      blocks = writing.wrote.blocks;
+      next = subst (λ (x : List (List ℕ)). BeginsNext n x (take part.part.count part.block)) (sym (query_first rest line after query e is)) (inr (part.block, part.part.count, part.is, refl));
+      out_is = refl;
+    };
+    appended = appended_twice old mid new _ _ writing.wrote.appended part.part.front;
+  }
+
+  -- nothing of the next block is written
+  pub writing_stops : (old mid new : SinkMeaning) (text rest : List ℕ) → IsWriting old mid text rest → new.bytes ≡ mid.bytes → WroteFront old new n (query_lines text)
+  writing_stops old mid new text rest writing same = record {
+    out = writing.wrote.out;
+    begins = record {
+      done = writing.done;
+      rest = query_lines rest;
+      whole = writing.wrote.out;
+      part = [];
+      lines_are = writing.split;
+      blocks = writing.wrote.blocks;
+      next = nothing_next (query_lines rest);
+      out_is = sym (append-nil writing.wrote.out);
+    };
+    appended = same ∙ writing.wrote.appended;
+  }
+    where
+      nothing_next : (lines : List (List ℕ)) → BeginsNext n lines []
+      nothing_next [] = refl
+      nothing_next (line ∷ lines) = inl refl

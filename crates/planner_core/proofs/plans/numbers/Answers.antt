@@ -1,0 +1,12 @@
+use Rattle.std.proofs.Common.{◌≡◌, ◌∙◌, ℕ, ◌+◌, ◌-◌, List, [], ◌∷◌, ◌++◌, ap, sym, arith}
+use Rattle.std.specs.List.{range_with_len}
+use Rattle.planner_core.proofs.CopyLemmas.{range_more}
+use Rattle.planner_core.proofs.plans.numbers.Goals as goal
+
+pub loop-v-preserved : goal.loop-v-preserved
+loop-v-preserved c =
+    let first = c.args.first in
+    let count : ℕ = c.loop-v.v - first in
+    let next : c.loop-v.v + 1 - first ≡ count + 1 = omega arith in
+    let here : first + count ≡ c.loop-v.v = omega arith in
+    rw next (c.in_ok-push.ensures.items ∙ (ap (λ (l : List ℕ). l ++ c.loop-v.v ∷ []) c.loop-v.invariant ∙ sym (range_more count first ∙ ap (λ v. range_with_len first count ++ v ∷ []) here)))

@@ -1,0 +1,57 @@
+use Rattle.std.proofs.Common.{ℕ, List, sym, subst}
+use Rattle.std.specs.Prelude.{◌↔◌}
+use Rattle.search_laws.specs.LabelLaws.{Accepts}
+use Rattle.automaton.specs.Collapsed.{AcceptsCollapsed}
+use Rattle.automaton.specs.Meanings.{position_meaning}
+use Rattle.automaton.specs.declared.positions.Positions.{Positions}
+use Rattle.automaton.specs.Written.{written}
+use Rattle.automaton.specs.States.{IsPositionAutomaton}
+use Rattle.mode_expression.specs.Form.{Denotes, form_of}
+use Rattle.planner_core.specs.Plans.{asked_by}
+use Rattle.planner_core.proofs.CopyLemmas.{copies_in_range}
+use Rattle.planner_core.proofs.PlanLemmas.{walk_is_plain, planned}
+use Rattle.planner_core.proofs.plans.plan.Goals as goal
+
+pub search-requires-clause-starts : goal.search-requires-clause-starts
+search-requires-clause-starts c =
+    rw (c.new-plain.ensures.network, c.deref.ensures.value) (copies_in_range c.args.network.now c.known.ensures c.args.query.now.from c.in_ok-starts.starts.items c.in_ok-starts.ensures)
+
+pub search-requires-clause-targets : goal.search-requires-clause-targets
+search-requires-clause-targets c =
+    rw (c.new-plain.ensures.network, c.deref-2.ensures.value) (copies_in_range c.args.network.now c.known.ensures c.args.query.now.to c.in_ok-targets.targets.items c.in_ok-targets.ensures)
+
+pub unpacked-requires : goal.unpacked-requires
+unpacked-requires c =
+    let automaton = c.new-automaton.result.inner in
+    let same = sym c.new-automaton.ensures.same in
+    let denotes = subst (λ (p : Positions). (word : List ℕ) → Accepts (position_meaning p) word ↔ Denotes c.args.query.now.expr word) same c.in_ok-of.ensures.accepts in
+    let collapses = subst (λ (p : Positions). AcceptsCollapsed (position_meaning p)) same c.new-automaton.ensures.accepts in
+    let walk = rw (c.new-plain.ensures.network, c.deref.ensures.value, c.deref-2.ensures.value) at c.in_ok-found.ensures.walk in
+    rw c.new-plain.ensures.network (walk_is_plain c.args.network.now c.known.ensures (asked_by c.args.query.now) (position_meaning automaton)
+    c.in_ok-starts.starts.items c.in_ok-targets.targets.items denotes collapses c.new-plain.ensures.journeys c.in_ok-starts.ensures c.in_ok-targets.ensures _ _ walk)
+
+pub returns : goal.returns
+returns c =
+    let automaton = c.new-automaton.result.inner in
+    let same = sym c.new-automaton.ensures.same in
+    let denotes = subst (λ (p : Positions). (word : List ℕ) → Accepts (position_meaning p) word ↔ Denotes c.args.query.now.expr word) same c.in_ok-of.ensures.accepts in
+    let collapses = subst (λ (p : Positions). AcceptsCollapsed (position_meaning p)) same c.new-automaton.ensures.accepts in
+    let walk = rw (c.new-plain.ensures.network, c.deref.ensures.value, c.deref-2.ensures.value) at c.in_ok-found.ensures.walk in
+    let arrival = rw (c.new-plain.ensures.network, c.deref.ensures.value, c.deref-2.ensures.value) at c.in_ok-found.ensures.arrival in
+    let unpacked = rw c.new-plain.ensures.network at c.in_ok-journey.ensures in
+    record {
+      journey = planned c.args.network.now c.known.ensures (asked_by c.args.query.now) (position_meaning automaton)
+          c.in_ok-starts.starts.items c.in_ok-targets.targets.items denotes collapses c.new-plain.ensures.journeys c.in_ok-starts.ensures c.in_ok-targets.ensures
+          _ _ _ arrival walk c.requires.soon unpacked;
+      labels = record {
+        automaton = position_meaning automaton;
+        positions = subst (λ (p : Positions). IsPositionAutomaton (written (form_of c.args.query.now.expr)) (position_meaning p)) same c.in_ok-of.ensures.states;
+        starts = c.in_ok-starts.starts.items;
+        targets = c.in_ok-targets.targets.items;
+        origin = c.in_ok-starts.ensures;
+        destination = c.in_ok-targets.ensures;
+        arrival = _;
+        first = arrival;
+        least = rw (c.new-plain.ensures.network, c.deref.ensures.value) at c.in_ok-found.ensures.labels;
+      };
+    }

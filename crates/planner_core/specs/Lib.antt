@@ -1,0 +1,4 @@
+pub mod Plans
+pub mod Bodies
+pub mod Written
+pub mod Outcomes

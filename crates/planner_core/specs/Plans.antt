@@ -1,0 +1,72 @@
+-- What a plan answers to a query.
+use Rattle.std.specs.Prelude.{◌≡◌, ℕ, ◌<◌, ◌^◌, ◌↔◌, List, Option, Some, None, All, Contains}
+use Rattle.mode_expression.specs.Form.{form_of, IsUsable}
+use Rattle.search_laws.specs.LabelLaws.{LabelsMeaning}
+use Rattle.product_search.specs.declared.label.Label.{Label}
+use Rattle.product_search.specs.declared.label.Walk.{Walk}
+use Rattle.unpack.specs.Unpacking.{ArePlainHops, IsNoWait, end_of, arrival_of, letters_of}
+use Rattle.product_search.specs.Listed.{AreLeastLabels}
+use Rattle.product_search.specs.Answer.{IsArrival}
+use Rattle.automaton.specs.Written.{written}
+use Rattle.automaton.specs.States.{IsPositionAutomaton}
+use Rattle.automaton.specs.Collapsed.{collapsed}
+use Rattle.plain_graph.specs.PlainArcs.{plain_meaning}
+use Rattle.mode_network.specs.declared.endpoints.Endpoint.{Endpoint}
+use Rattle.mode_network.specs.NetworkLists.{NetworkLists}
+use Rattle.mode_network.specs.Journeys.{Route, AreSteps}
+use Rattle.mode_network.specs.Copies.{IsCopy}
+use Rattle.journey.specs.declared.query.Query.{Query}
+use Rattle.journey.specs.Queries.{IsQuery}
+use Rattle.journey.specs.Best.{Asked, IsBest, HasNone}
+use Rattle.journey.specs.Blocks.{IsPrintable}
+
+-- what a query asks
+abbrev pub asked_by : Query → Asked
+asked_by q = record { from = q.from; to = q.to; depart = q.depart; form = form_of q.expr }
+
+-- the query was read from its line on this network
+pub record IsRead (n : NetworkLists) (q : Query) : Type 0 where
+  pub asks : IsQuery n q.line q.from q.to q.depart (form_of q.expr)
+  pub usable : IsUsable (form_of q.expr)
+  pub soon : q.depart < 2 ^ 64
+
+-- a best journey, or None where no journey answers
+abbrev pub IsPlan : NetworkLists → Asked → Option Route → Type 0
+IsPlan n q (Some j) = IsBest n q j × IsPrintable n j
+IsPlan n q None = HasNone n q
+
+-- the numbers are those of the copies of an endpoint
+abbrev pub AreTheCopies : NetworkLists → Endpoint → List ℕ → Type 0
+AreTheCopies n endpoint list = (v : ℕ) → Contains list v ↔ IsCopy n endpoint v
+
+-- the labels of the search over the network's graph and the automaton of the expression: all product states that are
+-- reached before the least arrival, each with the least time at which it is
+pub record AreTheLabels (n : NetworkLists) (q : Query) (labels : List Label) : Type 0 where
+  pub automaton : LabelsMeaning
+  pub positions : IsPositionAutomaton (written (form_of q.expr)) automaton
+  pub starts : List ℕ
+  pub targets : List ℕ
+  pub origin : AreTheCopies n q.from starts
+  pub destination : AreTheCopies n q.to targets
+  pub arrival : Option ℕ
+  pub first : IsArrival (plain_meaning n) (collapsed automaton) starts targets q.depart None arrival
+  pub least : AreLeastLabels (plain_meaning n) (collapsed automaton) starts q.depart None arrival labels
+
+-- a walk that was found, if there is one, is one of the network's graph
+abbrev pub IsPlainWalk : NetworkLists → Option Walk → Type 0
+IsPlainWalk n None = Unit {0}
+IsPlainWalk n (Some walk) = ArePlainHops n walk.node walk.at walk.hops.items
+
+-- the journey takes the hops of the walk one after the other
+pub record TakesHops (n : NetworkLists) (walk : Walk) (j : Route) : Type 0 where
+  pub start : j.start ≡ walk.node
+  pub at : j.at ≡ walk.at
+  pub real : AreSteps n j.start j.at j.steps (end_of walk.node walk.hops.items) (arrival_of walk.at walk.hops.items) (letters_of n walk.node walk.hops.items)
+  pub waits : All IsNoWait j.steps
+
+-- the journey of a walk, if there is one
+abbrev pub IsUnpacked : NetworkLists → Option Walk → Option Route → Type 0
+IsUnpacked n None None = Unit {0}
+IsUnpacked n None (Some j) = ⊥
+IsUnpacked n (Some walk) None = ⊥
+IsUnpacked n (Some walk) (Some j) = TakesHops n walk j

@@ -1,0 +1,14 @@
+//! The planner: a best journey for a query, and what a command writes.
+#![tactic(auto)]
+
+mod blocks;
+pub mod outcome;
+pub mod plans;
+mod running;
+
+pub use outcome::{FileRole, Outcome};
+pub use plans::{Answer, plan};
+pub use running::{run, run_within};
+
+#[cfg(test)]
+mod tests;

@@ -1,0 +1,109 @@
+//! How a run ends.
+
+use region_file::RegionFault;
+use std::alloc::{AllocError, Global};
+
+/// A file that a command names.
+#[derive(Clone, Copy, Debug, PartialEq, Eq)]
+pub enum FileRole {
+    Region,
+    Queries,
+}
+
+impl FileRole {
+    /// What people call the file.
+    pub fn name(self) -> &'static str {
+        match self {
+            FileRole::Region => "region",
+            FileRole::Queries => "queries",
+        }
+    }
+}
+
+/// How a run ends. Each outcome has an exit status.
+#[derive(Clone, Copy, Debug, PartialEq, Eq)]
+pub enum Outcome {
+    /// The command did all of its work.
+    Done,
+    /// The words are not those of a command.
+    Usage,
+    /// There is no such file.
+    Missing { file: FileRole },
+    /// The file could not be read.
+    ReadFault { file: FileRole },
+    /// The file has more than 2^30 bytes.
+    TooLong { file: FileRole },
+    /// Standard output could not be written.
+    WriteFault,
+    /// The region file spells no region; this is its first fault.
+    BadRegion { fault: RegionFault },
+    /// Memory ran out.
+    OutOfMemory,
+}
+
+impl Outcome {
+    /// The exit status of the program.
+    pub fn status(self) -> u8 {
+        match self {
+            Outcome::Done => 0,
+            Outcome::Usage => 2,
+            Outcome::Missing { .. } => 3,
+            Outcome::ReadFault { .. } => 4,
+            Outcome::TooLong { .. } => 5,
+            Outcome::WriteFault => 6,
+            Outcome::BadRegion { .. } => 7,
+            Outcome::OutOfMemory => 13,
+        }
+    }
+
+    /// The line that says to people how the run ended.
+    pub fn note(self, alloc: Global) -> Result<String, AllocError> {
+        match self {
+            Outcome::Done => format!(in alloc; "modeplan: each query line has its block\n"),
+            Outcome::Usage => format!(in alloc; "usage: modeplan answer REGION QUERIES\n"),
+            Outcome::Missing { file } => {
+                format!(in alloc; "modeplan: there is no {} file of this name\n", file.name())
+            }
+            Outcome::ReadFault { file } => {
+                format!(in alloc; "modeplan: the {} file could not be read\n", file.name())
+            }
+            Outcome::TooLong { file } => {
+                format!(in alloc;
+                    "modeplan: the {} file has more than 2^30 bytes\n",
+                    file.name()
+                )
+            }
+            Outcome::WriteFault => format!(in alloc;
+                "modeplan: standard output could not be written\n"
+            ),
+            Outcome::BadRegion {
+                fault: RegionFault::BadHead,
+            } => {
+                format!(in alloc;
+                    "modeplan: the region file does not begin with the line `modeplan region 1`\n"
+                )
+            }
+            Outcome::BadRegion {
+                fault: RegionFault::BadRecord { at },
+            } => {
+                format!(in alloc; "modeplan: line {at} of the region file may not stand there\n")
+            }
+            Outcome::BadRegion {
+                fault: RegionFault::Network(fault),
+            } => {
+                format!(in alloc;
+                    "modeplan: the network of the region file breaks a rule: {fault:?}\n"
+                )
+            }
+            Outcome::BadRegion {
+                fault: RegionFault::Trailing { at },
+            } => {
+                format!(in alloc; "modeplan: line {at} of the region file comes after its `end`\n")
+            }
+            Outcome::BadRegion {
+                fault: RegionFault::OutOfMemory,
+            }
+            | Outcome::OutOfMemory => { format!(in alloc; "modeplan: memory ran out\n") }
+        }
+    }
+}
