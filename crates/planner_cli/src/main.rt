@@ -1,0 +1,37 @@
+//! `modeplan`: runs a command over the file system, standard output and standard error.
+#![tactic(auto)]
+
+use plan_base::{FolderShelf, StreamSink};
+use planner_core::{Outcome, run};
+use std::env;
+use std::io::{self, ErrorKind};
+use std::process::ExitCode;
+
+fn main(rt: HostRuntime) -> ExitCode {
+    let outcome = match words(&rt) {
+        Ok(words) => {
+            let mut shelf = FolderShelf::new(&rt);
+            let mut out = StreamSink::new(rt.stdout());
+            let mut notes = StreamSink::new(rt.stderr());
+            run(
+                rt.alloc(),
+                words.as_slice(),
+                &mut shelf,
+                &mut out,
+                &mut notes,
+            )
+        }
+        Err(error) if error.kind() == ErrorKind::OutOfMemory => Outcome::OutOfMemory,
+        Err(_) => Outcome::Usage,
+    };
+    ExitCode::from(outcome.status())
+}
+
+/// The words that the program was called with; a word that is no text is an error.
+fn words(rt: &HostRuntime) -> io::Result<Vec<String>> {
+    let mut words = Vec::new(rt.alloc());
+    for word in env::args(rt)? {
+        words.push(word)?;
+    }
+    Ok(words)
+}
