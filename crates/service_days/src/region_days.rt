@@ -149,6 +149,13 @@ impl Days {
         self.bases[day as usize]
     }
 
+    /// The bases of all day numbers in order, in milliseconds of the region clock.
+    pub fn bases(&self) -> &[u64]
+        ensures { result.now ≡ self.now.bases }
+    {
+        &self.bases
+    }
+
     /// The date of a day number.
     pub fn date(&self, day: u32) -> u32
         requires { day < numbers_of self.now }
