@@ -1,0 +1,4 @@
+pub mod LengthLaws
+pub mod NearestLaws
+pub mod RootLaws
+pub mod WidthLaws

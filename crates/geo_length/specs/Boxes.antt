@@ -1,0 +1,14 @@
+-- Boxes of places, from a south-western corner to a north-eastern one.
+use Rattle.std.specs.Prelude.{ℤ, ◌≤ℤ◌, List, All}
+use Rattle.plan_base.specs.declared.places.Place.{Place}
+use Rattle.geo_length.specs.declared.boxes.Bounds.{Bounds}
+
+pub record IsInside (bounds : Bounds) (place : Place) : Type 0 where
+  pub south : bounds.low.lat ≤ℤ place.lat
+  pub north : place.lat ≤ℤ bounds.high.lat
+  pub west : bounds.low.lon ≤ℤ place.lon
+  pub east : place.lon ≤ℤ bounds.high.lon
+
+-- each of the points is inside
+abbrev pub AreInside : Bounds → List (ℤ × Place) → Type 0
+AreInside bounds points = All (λ point. IsInside bounds point.1) points

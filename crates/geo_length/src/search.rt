@@ -1,0 +1,126 @@
+//! The search for the nearest point of a tree.
+
+ghost use Rattle.std.specs.Prelude.{◌≡◌, ◌≤◌, ◌<◌, ◌∷◌, [], true};
+ghost use Rattle.geo_length.specs.Boxes.{AreInside};
+ghost use Rattle.geo_length.specs.Lengths.{length_between};
+ghost use Rattle.geo_length.specs.Nearest.{TakesIn, limit_of, nearer_of};
+ghost use Rattle.geo_length.specs.Trees.{AreBounded, points_of};
+
+use crate::boxes::Bounds;
+use crate::gaps::least_mm;
+use crate::lengths::{east_mm, length_mm, north_mm};
+use crate::tree::Tree;
+use plan_base::Place;
+
+// The greatest length of a point that still matters.
+fn limit(best: Option<(i64, u64)>, within: u64) -> u64
+    ensures { result ≡ limit_of within best }
+{
+    match best {
+        Some((_, mm)) => mm,
+        None => within,
+    }
+}
+
+// Whether a place is surely past a length: it is that far to the north or to the east alone.
+fn is_past(place: Place, other: Place, limit: u64) -> bool
+    ensures { result ≡ true → limit < length_between place other }
+{
+    limit < north_mm(place, other).max(east_mm(place, other))
+}
+
+// The nearest with this point at this length too.
+fn nearer(
+    best: Option<(i64, u64)>,
+    within: u64,
+    point: &(i64, Place),
+    mm: u64,
+) -> Option<(i64, u64)>
+    ensures { result ≡ nearer_of within best point.now.0 mm }
+{
+    match best {
+        Some((id, least)) => {
+            if least < mm || least == mm && id <= point.0 {
+                best
+            } else {
+                Some((point.0, mm))
+            }
+        }
+        None => {
+            if within < mm {
+                None
+            } else {
+                Some((point.0, mm))
+            }
+        }
+    }
+}
+
+/// The nearest of the points before, which is `best`, and of this point too, within a length: the least
+/// (length, id), with the length in millimetres.
+pub fn with_point(
+    point: &(i64, Place),
+    place: Place,
+    within: u64,
+    best: Option<(i64, u64)>,
+) -> Option<(i64, u64)>
+    ensures { TakesIn (point.now ∷ []) place within best result }
+{
+    if is_past(place, point.1, limit(best, within)) {
+        return best;
+    }
+    nearer(best, within, point, length_mm(place, point.1))
+}
+
+fn with_points(
+    points: &[(i64, Place)],
+    place: Place,
+    within: u64,
+    best: Option<(i64, u64)>,
+) -> Option<(i64, u64)>
+    ensures { TakesIn points.now place within best result }
+{
+    let mut nearest = best;
+    for point in points {
+        nearest = with_point(point, place, within, nearest);
+    }
+    nearest
+}
+
+fn bounds_of(tree: &Tree) -> Bounds
+    requires { AreBounded tree.now }
+    ensures { AreInside result (points_of tree.now) }
+{
+    match tree {
+        Tree::Leaf(bounds, _) => *bounds,
+        Tree::Fork(bounds, _, _) => *bounds,
+    }
+}
+
+/// The nearest of the points before and of the points of a tree, within a length. The nearer part of a tree
+/// is searched first, and a part whose box is too far is passed over.
+pub fn with_tree(
+    tree: &Tree,
+    place: Place,
+    within: u64,
+    best: Option<(i64, u64)>,
+) -> Option<(i64, u64)>
+    requires { AreBounded tree.now }
+    ensures { TakesIn (points_of tree.now) place within best result }
+{
+    if limit(best, within) < least_mm(&bounds_of(tree), place) {
+        return best;
+    }
+    match tree {
+        Tree::Leaf(_, points) => with_points(points, place, within, best),
+        Tree::Fork(_, left, right) => {
+            if least_mm(&bounds_of(left), place) <= least_mm(&bounds_of(right), place) {
+                let nearest = with_tree(left, place, within, best);
+                with_tree(right, place, within, nearest)
+            } else {
+                let nearest = with_tree(right, place, within, best);
+                with_tree(left, place, within, nearest)
+            }
+        }
+    }
+}
