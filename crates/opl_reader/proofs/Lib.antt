@@ -1,0 +1,13 @@
+mod FirstBytes
+mod Powers
+mod DigitLemmas
+mod CutLemmas
+mod EscapeLemmas
+mod ByteLemmas
+mod AppendLemmas
+mod LineLemmas
+mod SeenLemmas
+mod PlacedLemmas
+mod ReadingLemmas
+mod IdLemmas
+mod SoundLemmas

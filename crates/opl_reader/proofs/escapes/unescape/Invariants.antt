@@ -1,0 +1,10 @@
+use Rattle.std.proofs.Common.{◌≡◌, ◌++◌, length}
+use Rattle.std.specs.Prelude.{option_map}
+use Rattle.opl_reader.specs.Escapes.{unescaped}
+use Rattle.opl_reader.proofs.escapes.unescape.Given as goal
+
+abbrev pub invariant-loop-plain : goal.invariant-loop-plain
+invariant-loop-plain l = option_map (λ tail. l.bytes.items ++ tail) (unescaped l.rest) ≡ unescaped l.text
+
+abbrev pub decreases-loop-plain : goal.decreases-loop-plain
+decreases-loop-plain l = length l.rest

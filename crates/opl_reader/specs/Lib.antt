@@ -1,0 +1,12 @@
+pub mod Optional
+pub mod Cuts
+pub mod Ids
+pub mod Escapes
+pub mod Tags
+pub mod References
+pub mod ObjectLists
+pub mod Lines
+pub mod Objects
+pub mod Gathered
+pub mod Readers
+pub mod Readings
