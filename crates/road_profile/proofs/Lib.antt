@@ -1,0 +1,7 @@
+pub mod ClassLaws
+pub mod ClosedLaws
+pub mod LeastRows
+pub mod Lists
+pub mod PlaceLaws
+pub mod RowOrder
+pub mod TimedLaws

@@ -1,0 +1,10 @@
+use Rattle.std.proofs.Common.{◌≡◌, ◌++◌, drop}
+use Rattle.std.specs.List.{flat_map}
+use Rattle.std.specs.HashMap.{get}
+use Rattle.std.specs.Ordering.{int_eq}
+use Rattle.road_profile.specs.Legs.{neighbours_behind, step_legs}
+use Rattle.road_profile.proofs.legs.push_behind.Given as goal
+
+abbrev pub invariant-loop-to : goal.invariant-loop-to
+invariant-loop-to l =
+    l.rows.items ++ flat_map (step_legs (get int_eq l.places.by_id) l.passages) (neighbours_behind l.from (drop l.to-index l.rest)) ≡ l.initial.rows.items ++ flat_map (step_legs (get int_eq l.places.by_id) l.passages) (neighbours_behind l.fn.first l.rest)

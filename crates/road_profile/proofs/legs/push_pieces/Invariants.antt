@@ -1,0 +1,10 @@
+use Rattle.std.proofs.Common.{◌≡◌, ◌++◌, take}
+use Rattle.std.specs.List.{flat_map}
+use Rattle.std.specs.HashMap.{get}
+use Rattle.std.specs.Ordering.{int_eq}
+use Rattle.road_profile.specs.Legs.{piece_legs}
+use Rattle.road_profile.proofs.legs.push_pieces.Given as goal
+
+abbrev pub invariant-loop-piece : goal.invariant-loop-piece
+invariant-loop-piece l =
+    l.rows.items ≡ l.initial.rows.items ++ flat_map (piece_legs (get int_eq l.places.by_id) l.passages) (take l.piece-index l.pieces)

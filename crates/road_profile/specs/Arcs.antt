@@ -1,0 +1,37 @@
+-- The road arcs of a map.
+use Rattle.std.specs.Prelude.{◌≡◌, ◌<◌, ◌≤◌, ◌↔◌, List, All, AllPairs, Contains}
+use Rattle.std.specs.Ordering.{int_cmp, nat_cmp, ordering_then}
+use Rattle.std.specs.declared.cmp.Ordering.{Ordering}
+use Rattle.std.specs.declared.cmp.Ordering.TheVariants.{Less}
+use Rattle.opl_reader.specs.ObjectLists.{ObjectLists}
+use Rattle.road_profile.specs.declared.rows.RoadRow.{RoadRow}
+use Rattle.road_profile.specs.Legs.{legs_of}
+
+-- two rows have the same ends and the same mode
+pub record AreParallel (a b : RoadRow) : Type 0 where
+  pub from : a.from ≡ b.from
+  pub to : a.to ≡ b.to
+  pub mode : a.mode ≡ b.mode
+
+-- a row is of one of the three modes, and takes some time
+pub record IsTimed (row : RoadRow) : Type 0 where
+  pub mode : row.mode < 3
+  pub time : 1 ≤ row.ms
+
+-- A leg is an arc where no leg that is parallel to it takes less time.
+pub record IsArcOf (legs : List RoadRow) (row : RoadRow) : Type 0 where
+  pub leg : Contains legs row
+  pub least : All (λ leg. AreParallel leg row → row.ms ≤ leg.ms) legs
+
+-- the order of arcs: by their ends, then by their mode
+abbrev pub row_cmp : RoadRow → RoadRow → Ordering
+row_cmp a b = ordering_then (int_cmp a.from b.from) (ordering_then (int_cmp a.to b.to) (nat_cmp a.mode b.mode))
+
+-- the arcs of some legs, ascending
+pub record AreArcsOf (legs rows : List RoadRow) : Type 0 where
+  pub ascending : AllPairs (λ a b. row_cmp a b ≡ Less) rows
+  pub arcs : (row : RoadRow) → Contains rows row ↔ IsArcOf legs row
+
+-- the road arcs of a map, ascending
+abbrev pub AreRoadArcs : ObjectLists → List RoadRow → Type 0
+AreRoadArcs objects rows = AreArcsOf (legs_of objects) rows
