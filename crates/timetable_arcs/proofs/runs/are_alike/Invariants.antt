@@ -1,0 +1,8 @@
+use Rattle.std.proofs.Common.{◌<◌, ℕ}
+use Rattle.std.specs.Prelude.{slice_index_or}
+use Rattle.timetable_arcs.specs.declared.trips.Call.{Call}
+use Rattle.timetable_arcs.specs.Patterns.{IsAlike}
+use Rattle.timetable_arcs.proofs.runs.are_alike.Given as goal
+
+abbrev pub invariant-loop-k : goal.invariant-loop-k
+invariant-loop-k l = (j : ℕ) (d : Call) → j < l.k → IsAlike (slice_index_or l.a.calls j d) (slice_index_or l.b.calls j d)

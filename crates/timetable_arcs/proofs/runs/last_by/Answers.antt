@@ -1,0 +1,17 @@
+use Rattle.std.proofs.Common.{◌≡◌, ◌∙◌, ◌-◌, length, take, rules, of_calls, arith, nat_le}
+use Rattle.std.specs.Prelude.{slice_get}
+use Rattle.std.proofs.lemmas.Fn.{always_returns_same}
+use Rattle.std.proofs.lemmas.Grind.{common_steps}
+use Rattle.std.proofs.lemmas.Option.{gets}
+use Rattle.std.proofs.lemmas.List.Sorted.{IsPartitionedBy-leb}
+use Rattle.timetable_arcs.specs.declared.trips.Instance.{Instance}
+use Rattle.timetable_arcs.specs.Patterns.{plain_table, arrives}
+use Rattle.timetable_arcs.proofs.RunLemmas.{found_by}
+use Rattle.timetable_arcs.proofs.runs.last_by.Goals as goal
+
+pub returns : goal.returns
+returns c =
+    let got : c.copied.result ≡ slice_get (take c.partition_point-place.result c.args.runs.now) (length (take c.partition_point-place.result c.args.runs.now) - 1) = grind (arith, common_steps, gets) in
+    got ∙ found_by (plain_table c.args.bases.now c.args.trips.now) c.args.call c.args.time c.args.runs.now c.partition_point-place.result
+    (c.partition_point-place.ensures.partitioned (λ (run : Instance). nat_le (arrives (plain_table c.args.bases.now c.args.trips.now) run c.args.call) c.args.time) (always_returns_same _ _ _ (λ a r f k. search (rules, of_calls)))
+    (IsPartitionedBy-leb (λ (run : Instance). arrives (plain_table c.args.bases.now c.args.trips.now) run c.args.call) c.args.runs.now c.args.time c.requires))

@@ -1,0 +1,32 @@
+-- All runs of trips, and how they are sorted into patterns.
+use Rattle.std.specs.Prelude.{ℕ, zero, suc, ◌+◌, ◌-◌, ◌<◌, List, [], ◌∷◌, ◌++◌, length, All, AllPairs, sum_by, slice_index_or, if◌then◌else◌}
+use Rattle.plan_base.specs.declared.days.DaySet.{DaySet}
+use Rattle.plan_base.specs.DaySets.{contains_day}
+use Rattle.timetable_arcs.specs.declared.trips.Instance.{Instance}
+use Rattle.timetable_arcs.specs.Trips.{TripLists}
+use Rattle.timetable_arcs.specs.Patterns.{TableLists, trip_at, no_run, AreAlike, IsBehind}
+
+-- the runs of the trip at a place on its days below n
+abbrev pub runs_below : ℕ → DaySet → ℕ → List Instance
+runs_below place days zero = []
+runs_below place days (suc n) = runs_below place days n ++ (if contains_day days n then record { trip = place; day = n } ∷ [] else [])
+
+-- the runs of the trips, whose places are counted from one on, on their days below n
+abbrev pub runs_from : ℕ → ℕ → List TripLists → List Instance
+runs_from n place [] = []
+runs_from n place (trip ∷ trips) = runs_below place trip.days n ++ runs_from n (place + 1) trips
+
+-- the sum of a weight of runs over all patterns
+abbrev pub sum_all : (Instance → ℕ) → List (List Instance) → ℕ
+sum_all weight patterns = sum_by (λ runs. sum_by weight runs) patterns
+
+-- runs that stand in a pattern
+pub record IsPattern (t : TableLists) (runs : List Instance) : Type 0 where
+  pub some : 0 < length runs
+  pub alike : All (λ run. AreAlike (trip_at t (slice_index_or runs 0 no_run).trip) (trip_at t run.trip)) runs
+  pub in_turn : AllPairs (IsBehind t) runs
+
+-- a run may stand behind those of a pattern: its trip is alike, and it is behind the last one
+pub record Follows (t : TableLists) (runs : List Instance) (run : Instance) : Type 0 where
+  pub alike : AreAlike (trip_at t (slice_index_or runs 0 no_run).trip) (trip_at t run.trip)
+  pub behind : IsBehind t (slice_index_or runs (length runs - 1) no_run) run

@@ -1,0 +1,137 @@
+//! When runs are where, and which may share a pattern.
+
+ghost use Rattle.std.specs.Prelude.{◌≡◌, [], nat_le, find, slice_index};
+ghost use Rattle.std.specs.List.Sorted.{IsNonDecreasingBy};
+ghost use Rattle.std.specs.Bool.{OnTrue};
+ghost use Rattle.timetable_arcs.specs.Patterns.{plain_table, trip_at, call_of, arrives, departs, last_arrived, IsAlike, AreAlike, IsBehind};
+
+use crate::trips::{Call, Instance, Trip};
+use plan_base::Time;
+
+/// The calls of the trip of a run.
+pub(crate) fn calls_of<'a>(trips: &'a [Trip], run: Instance) -> &'a [Call]
+    ensures { result.now ≡ (trip_at (plain_table [] trips.now) run.trip).calls }
+{
+    match trips.get(run.trip as usize) {
+        Some(trip) => &trip.calls,
+        None => &[],
+    }
+}
+
+/// The call of a run at this place.
+fn call_of(trips: &[Trip], run: Instance, call: usize) -> Call
+    ensures { result ≡ call_of (plain_table [] trips.now) run call }
+{
+    match calls_of(trips, run).get(call) {
+        Some(held) => *held,
+        None => Call {
+            stop: 0,
+            arr: 0,
+            dep: 0,
+            board: false,
+            alight: false,
+        },
+    }
+}
+
+/// The base of the day on which a run runs.
+fn base_of(bases: &[u64], run: Instance) -> Time
+    ensures { result ≡ slice_index bases.now run.day }
+{
+    match bases.get(run.day as usize) {
+        Some(base) => Time::from(*base),
+        None => 0,
+    }
+}
+
+/// When a run arrives at a call.
+pub(crate) fn arrives(bases: &[u64], trips: &[Trip], run: Instance, call: usize) -> Time
+    ensures { result ≡ arrives (plain_table bases.now trips.now) run call }
+{
+    base_of(bases, run) + 1000 * Time::from(call_of(trips, run, call).arr)
+}
+
+/// When a run departs from a call.
+pub(crate) fn departs(bases: &[u64], trips: &[Trip], run: Instance, call: usize) -> Time
+    ensures { result ≡ departs (plain_table bases.now trips.now) run call }
+{
+    base_of(bases, run) + 1000 * Time::from(call_of(trips, run, call).dep)
+}
+
+/// Whether calls are at the same stop, with the same leave to board and to alight.
+fn is_alike(a: &Call, b: &Call) -> bool
+    ensures { OnTrue result (IsAlike a.now b.now) }
+{
+    a.stop == b.stop && a.board == b.board && a.alight == b.alight
+}
+
+/// Whether trips have the same letter and alike calls.
+fn are_alike(a: &Trip, b: &Trip) -> bool
+    ensures { OnTrue result (AreAlike a.now b.now) }
+{
+    if a.letter != b.letter || a.calls.len() != b.calls.len() {
+        return false;
+    }
+    for (k, call) in a.calls.iter().enumerate() {
+        if !is_alike(call, &b.calls[k]) {
+            return false;
+        }
+    }
+    true
+}
+
+/// Whether the trips of runs have the same letter and alike calls.
+pub(crate) fn have_alike_trips(trips: &[Trip], a: Instance, b: Instance) -> bool
+    ensures { OnTrue result (AreAlike (trip_at (plain_table [] trips.now) a.trip) (trip_at (plain_table [] trips.now) b.trip)) }
+{
+    match (trips.get(a.trip as usize), trips.get(b.trip as usize)) {
+        (Some(a), Some(b)) => are_alike(a, b),
+        _ => false,
+    }
+}
+
+/// Whether one run is behind another: at every call it departs later, and arrives no earlier.
+pub(crate) fn is_behind(bases: &[u64], trips: &[Trip], first: Instance, second: Instance) -> bool
+    ensures { OnTrue result (IsBehind (plain_table bases.now trips.now) first second) }
+{
+    for call in 0..calls_of(trips, first).len() {
+        let departs_later = departs(bases, trips, first, call)
+            < departs(bases, trips, second, call);
+        let arrives_no_earlier = arrives(bases, trips, first, call)
+            <= arrives(bases, trips, second, call);
+        if !departs_later || !arrives_no_earlier {
+            return false;
+        }
+    }
+    true
+}
+
+/// The first of these runs that departs from a call at this time or later.
+pub(crate) fn first_from(
+    bases: &[u64],
+    trips: &[Trip],
+    runs: &[Instance],
+    call: usize,
+    time: Time,
+) -> Option<Instance>
+    requires { IsNonDecreasingBy (λ run. departs (plain_table bases.now trips.now) run call) runs.now }
+    ensures { result ≡ find (λ run. nat_le time (departs (plain_table bases.now trips.now) run call)) runs.now }
+{
+    let place = runs.partition_point(|run| departs(bases, trips, *run, call) < time);
+    runs.get(place).copied()
+}
+
+/// The last of these runs that arrives at a call at this time or earlier.
+pub(crate) fn last_by(
+    bases: &[u64],
+    trips: &[Trip],
+    runs: &[Instance],
+    call: usize,
+    time: Time,
+) -> Option<Instance>
+    requires { IsNonDecreasingBy (λ run. arrives (plain_table bases.now trips.now) run call) runs.now }
+    ensures { result ≡ last_arrived (plain_table bases.now trips.now) call time runs.now None }
+{
+    let place = runs.partition_point(|run| arrives(bases, trips, *run, call) <= time);
+    runs[..place].last().copied()
+}
