@@ -1,15 +1,30 @@
 -- Why query lines are refused.
-use Rattle.std.proofs.Common.{◌≡◌, ℕ, ◌⊎◌, ◌∙◌, inl, inr, is_some, Option, Some, None, Result, Ok, Err, List, refl, ap, sym, subst}
-use Rattle.std.specs.Prelude.{IsTrue, ◌↔◌}
+use Rattle.std.proofs.Common.{◌≡◌, ℕ, ℤ, zero, suc, ◌<◌, ◌≤◌, ◌⊎◌, ◌∙◌, inl, inr, is_some, nat_lt, Bool, true, false, Option, Some, None, Result, Ok, Err, List, [], ◌∷◌, length, refl, ap, sym, subst, arith}
+use Rattle.std.specs.Prelude.{IsTrue, ◌↔◌, All, slice_index_or}
 use Rattle.std.specs.Option.{ok_or}
 use Rattle.std.proofs.Math.Nat.{le_refl}
 use Rattle.service_days.specs.DaysMeaning.{DaysMeaning}
 use Rattle.mode_network.specs.NetworkLists.{NetworkLists}
-use Rattle.mode_network.specs.Copies.{AreExactly}
+use Rattle.mode_network.specs.declared.nodes.Node.{Node}
+use Rattle.mode_network.specs.declared.nodes.NodeKey.{NodeKey}
+use Rattle.mode_network.specs.declared.nodes.NodeKey.TheVariants.{Road as RoadKey, Stop as StopKey, Switch as SwitchKey}
+use Rattle.mode_network.specs.declared.endpoints.Endpoint.{Endpoint}
+use Rattle.mode_network.specs.declared.endpoints.Endpoint.TheVariants.{Road, Stop, Near}
+use Rattle.mode_network.specs.Rules.{IsNetwork, IsRoad, rank_of}
+use Rattle.mode_network.specs.Copies.{AreExactly, IsCopy, IsRoadCopy, IsNearestRoad, road_points}
+use Rattle.geo_length.specs.Nearest.{Point}
+use Rattle.plan_base.specs.declared.places.Place.{Place}
+use Rattle.std.proofs.lemmas.Bool.{ltb-true, ltb-false}
+use Rattle.mode_expression.specs.declared.fault.ExprFault.{ExprFault}
+use Rattle.mode_expression.specs.declared.fault.ExprFault.TheVariants.{TooLong as LongExpression, TooDeep as DeepExpression, Syntax as BadSyntax, TooLarge as LargeExpression, OutOfMemory as NoMemory}
+use Rattle.mode_expression.specs.Reading.{IsFault}
+use Rattle.journey.specs.declared.endpoints.Lack.{Lack}
+use Rattle.journey.specs.declared.endpoints.Lack.TheVariants.{Unknown, Far}
 use Rattle.journey.specs.declared.fault.QueryFault.{QueryFault}
-use Rattle.journey.specs.declared.fault.QueryFault.TheVariants.{BadClock, OutOfRange, UnknownTo}
+use Rattle.journey.specs.declared.fault.QueryFault.TheVariants.{BadClock, OutOfRange}
 use Rattle.journey.specs.Shapes.{Shape, shape_of, date_at, time_at, departure_on, departs_on, departs_at}
-use Rattle.journey.specs.Queries.{IsRefusal, IsKnown}
+use Rattle.journey.specs.Faults.{fault_of, origin_fault, destination_fault}
+use Rattle.journey.specs.Queries.{IsRefusal, ReachesExpression, IsKnown, IsUnknown, IsFar, IsLack}
 
 err_is : {a b : QueryFault} → (let r : Result ℕ QueryFault = Err a in r) ≡ Err b → a ≡ b
 err_is e = cc
@@ -36,7 +51,68 @@ clock_refusal n line shape is fault e = on_fault (clock_fault n.days (date_at sh
     on_fault (inl bad) = subst (λ f. IsRefusal n line f) (sym bad) (inr (shape, is, e ∙ ap Err bad))
     on_fault (inr out) = subst (λ f. IsRefusal n line f) (sym out) (inr (shape, is, e ∙ ap Err out))
 
-pub to_refusal : (n : NetworkLists) (line : List ℕ) (shape : Shape) (depart : ℕ) → shape_of line ≡ Some shape → departs_at n.days shape ≡ Ok depart
-    → IsKnown n shape.from → (IsKnown n shape.to → ⊥) → IsRefusal n line UnknownTo
-to_refusal n line shape depart is departs from to =
-    inr (shape, depart, record { shape_is = is; departs = departs }, from, λ v copy. to (v, copy))
+-- an origin that lacks something, where the clock is right
+pub origin_refusal : (n : NetworkLists) (line : List ℕ) (shape : Shape) (depart : ℕ) → shape_of line ≡ Some shape → departs_at n.days shape ≡ Ok depart
+    → (lack : Lack) → IsLack n shape.from (Some lack) → IsRefusal n line (origin_fault lack)
+origin_refusal n line shape depart is departs Unknown unknown = inr (shape, depart, record { shape_is = is; departs = departs }, unknown)
+origin_refusal n line shape depart is departs (Far mm) far = inr (shape, depart, record { shape_is = is; departs = departs }, far)
+
+-- a destination that lacks something, where the origin is known too
+pub destination_refusal : (n : NetworkLists) (line : List ℕ) (shape : Shape) (depart : ℕ) → shape_of line ≡ Some shape → departs_at n.days shape ≡ Ok depart
+    → IsKnown n shape.from → (lack : Lack) → IsLack n shape.to (Some lack) → IsRefusal n line (destination_fault lack)
+destination_refusal n line shape depart is departs known Unknown unknown = inr (shape, depart, record { shape_is = is; departs = departs }, known, unknown)
+destination_refusal n line shape depart is departs known (Far mm) far = inr (shape, depart, record { shape_is = is; departs = departs }, known, far)
+
+-- a point of the road nodes is that of one of them
+point_copy : (roads : List Node) → All (λ (node : Node). IsRoad node.key) roads → (k : ℕ) (id : ℤ) (at : Place) → k < length (road_points roads)
+    → slice_index_or (road_points roads) k (id, at) ≡ (id, at) → IsRoadCopy roads id k
+point_copy [] are k id at lt is = absurd (omega arith)
+point_copy (node ∷ roads) are zero id at lt is = on_key node.key refl (are 0 node (omega arith))
+  where
+    on_key : (key : NodeKey) → node.key ≡ key → IsRoad key → IsRoadCopy (node ∷ roads) id 0
+    on_key (RoadKey mode other) e road =
+        let same : other ≡ id = ap (λ (k : NodeKey). (rank_of k).0) (sym e) ∙ ap (λ (p : Point). p.0) is in
+        (mode, ap Some e ∙ ap (λ i. Some (RoadKey mode i)) same)
+    on_key (StopKey stop) e road = absurd road
+    on_key (SwitchKey other) e road = absurd road
+point_copy (node ∷ roads) are (suc k) id at lt is = point_copy roads (λ j d h. are (suc j) d (omega arith)) k id at (omega arith) is
+
+-- the place has a copy where its nearest road node is near enough
+pub near_known : (n : NetworkLists) → IsNetwork n → (place : Place) (id : ℤ) (mm : ℕ) → IsNearestRoad n.roads place (Some (id, mm)) → mm ≤ 2000000 → IsKnown n (Near place)
+near_known n network place id mm nearest near =
+    let (k, lt, is) = nearest.given in
+    (k, record { id = id; mm = mm; nearest = nearest; within = near; copy = point_copy n.roads network.parts.roads_are k id nearest.at lt is })
+
+-- where it has none, its nearest road node is far
+pub far_away : (n : NetworkLists) → IsNetwork n → (place : Place) (id : ℤ) (mm : ℕ) → IsNearestRoad n.roads place (Some (id, mm)) → (IsKnown n (Near place) → ⊥) → IsFar n (Near place) mm
+far_away n network place id mm nearest unknown = (id, nearest, on_test (nat_lt 2000000 mm) refl)
+  where
+    on_test : (b : Bool) → nat_lt 2000000 mm ≡ b → 2000000 < mm
+    on_test true e = ltb-true 2000000 mm e
+    on_test false e = absurd (unknown (near_known n network place id mm nearest (ltb-false 2000000 mm e)))
+
+-- an id or a name that is not known
+pub unknown_id : (n : NetworkLists) (endpoint : Endpoint) (id : ℤ) → endpoint ≡ Road id → (IsKnown n endpoint → ⊥) → IsUnknown n endpoint
+unknown_id n endpoint id is unknown = subst (IsUnknown n) (sym is) (λ v copy. unknown (v, subst (λ (e : Endpoint). IsCopy n e v) (sym is) copy))
+
+pub unknown_name : (n : NetworkLists) (endpoint : Endpoint) (name : List ℕ) → endpoint ≡ Stop name → (IsKnown n endpoint → ⊥) → IsUnknown n endpoint
+unknown_name n endpoint name is unknown = subst (IsUnknown n) (sym is) (λ v copy. unknown (v, subst (λ (e : Endpoint). IsCopy n e v) (sym is) copy))
+
+-- the first fault of an expression, where all other parts are right
+pub expression_refusal : (n : NetworkLists) (line : List ℕ) (shape : Shape) (depart : ℕ) → shape_of line ≡ Some shape → departs_at n.days shape ≡ Ok depart
+    → IsKnown n shape.from → IsKnown n shape.to → (fault : ExprFault) → (fault ≡ NoMemory) ⊎ IsFault shape.expr fault → IsRefusal n line (fault_of fault)
+expression_refusal n line shape depart is departs from to fault h = on_fault fault h
+  where
+    reaches : ReachesExpression n line shape depart
+    reaches = record { departs = record { shape_is = is; departs = departs }; from_known = from; to_known = to }
+
+    on_fault : (fault : ExprFault) → (fault ≡ NoMemory) ⊎ IsFault shape.expr fault → IsRefusal n line (fault_of fault)
+    on_fault NoMemory h = inl refl
+    on_fault (LongExpression bytes) (inl e) = cc
+    on_fault (LongExpression bytes) (inr bad) = inr (shape, depart, reaches, bad)
+    on_fault (DeepExpression at) (inl e) = cc
+    on_fault (DeepExpression at) (inr bad) = inr (shape, depart, reaches, bad)
+    on_fault (BadSyntax at) (inl e) = cc
+    on_fault (BadSyntax at) (inr bad) = inr (shape, depart, reaches, bad)
+    on_fault (LargeExpression places) (inl e) = cc
+    on_fault (LargeExpression places) (inr bad) = inr (shape, depart, reaches, bad)

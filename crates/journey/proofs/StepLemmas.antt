@@ -1,18 +1,23 @@
 -- Steps of a network, one after the other.
-use Rattle.std.proofs.Common.{◌≡◌, ℕ, ◌+◌, ◌<◌, ◌≤◌, ◌∙◌, List, [], ◌∷◌, ◌++◌, length, append_assoc, append-nil, ◌⊎◌, inl, inr, ◌^◌, Option, Some, refl, ap, sym, subst, arith}
-use Rattle.std.specs.Prelude.{option_to_list}
+use Rattle.std.proofs.Common.{◌≡◌, ℕ, ◌+◌, ◌<◌, ◌≤◌, ◌∙◌, List, [], ◌∷◌, ◌++◌, length, length-append, ◌*◌, append_assoc, append-nil, ◌⊎◌, inl, inr, ◌^◌, Option, Some, refl, ap, sym, subst, arith}
+use Rattle.std.specs.Prelude.{option_to_list, slice_get}
+use Rattle.std.proofs.lemmas.Option.{slice_get_within}
+use Rattle.timetable_arcs.specs.declared.trips.Call.{Call}
+use Rattle.timetable_arcs.specs.Trips.{TripLists, arrival_of}
 use Rattle.plain_texts.specs.Lines.{with_feed}
 use Rattle.mode_network.specs.declared.nodes.Arc.{Arc}
 use Rattle.mode_network.specs.declared.steps.Step.{Step}
-use Rattle.mode_network.specs.declared.steps.Step.TheVariants.{Wait, Road, Link, Stand}
-use Rattle.mode_network.specs.NetworkLists.{NetworkLists, nodes_of}
+use Rattle.mode_network.specs.declared.steps.Step.TheVariants.{Wait, Road, Link, Stand, Ride}
+use Rattle.mode_network.specs.NetworkLists.{NetworkLists, nodes_of, stop_node}
 use Rattle.mode_network.specs.Rules.{IsNetwork}
 use Rattle.mode_network.specs.Journeys.{IsStep, AreSteps}
 use Rattle.std.proofs.Math.Nat.{lt_of_lt_of_le}
 use Rattle.mode_network.proofs.FindLemmas.{leads_once}
 use Rattle.mode_network.proofs.RuleLemmas.{some_is, arcs_in_range, links_in_range, nodes_hold_roads}
 use Rattle.journey.specs.Ends.{AreTaken, HasTime}
-use Rattle.journey.specs.Texts.{step_text, AreTold}
+use Rattle.journey.specs.Texts.{step_text, AreTold, IsThere}
+use Rattle.journey.specs.Rides.{KeepsRules}
+use Rattle.journey.proofs.RideLemmas.{call_named, run_within, arrives_soon}
 
 module _ (n : NetworkLists) where
   -- a step ends at one place, at one time and with one letter
@@ -27,8 +32,37 @@ module _ (n : NetworkLists) where
       (a ∙ sym a2, b ∙ (ap (λ x. t + x) same ∙ sym b2), d ∙ sym d2)
   step_once network v t Stand w u c w2 u2 c2 (mode, has, a, b, d) (mode2, has2, a2, b2, d2) =
       (a ∙ sym a2, b ∙ sym b2, d ∙ (ap Some (some_is (sym has ∙ has2)) ∙ sym d2))
+  step_once network v t (Ride trip day board alight) w u c w2 u2 c2 (run, on, off, ride, at, soon, a, b, d) (run2, on2, off2, ride2, at2, soon2, a2, b2, d2) =
+      let same : run ≡ run2 = some_is (sym ride.run.is ∙ ride2.run.is) in
+      let same_off : off ≡ off2 = some_is (sym ride.off_is ∙ (ap (λ (r : TripLists). slice_get r.calls alight) same ∙ ride2.off_is)) in (
+        a ∙ (ap (λ (x : Call). stop_node n x.stop) same_off ∙ sym a2),
+        b ∙ (ap (λ (x : Call). arrival_of n.days.bases day x) same_off ∙ sym b2),
+        d ∙ (ap (λ (r : TripLists). Some r.letter) same ∙ sym d2),
+      )
 
   -- a step more at the end
+  pub steps_more : (v t : ℕ) (steps : List Step) (w u : ℕ) (letters : List ℕ) (step : Step) (w2 u2 : ℕ) (c : Option ℕ)
+      → AreSteps n v t steps w u letters → IsStep n w u step w2 u2 c → AreSteps n v t (steps ++ step ∷ []) w2 u2 (letters ++ option_to_list c)
+  steps_more v t [] w u letters step w2 u2 c (at, now, none) next = (
+    w2,
+    u2,
+    c,
+    [],
+    subst (λ x. IsStep n x t step w2 u2 c) at (subst (λ y. IsStep n w y step w2 u2 c) now next),
+    (refl, refl, refl),
+    ap (λ (x : List ℕ). x ++ option_to_list c) none ∙ sym (append-nil (option_to_list c)),
+  )
+  steps_more v t (first ∷ steps) w u letters step w2 u2 c (v1, t1, letter, rest, here, more, e) next = (
+    v1,
+    t1,
+    letter,
+    rest ++ option_to_list c,
+    here,
+    steps_more v1 t1 steps w u rest step w2 u2 c more next,
+    ap (λ (x : List ℕ). x ++ option_to_list c) e ∙ append_assoc (option_to_list letter) rest (option_to_list c),
+  )
+
+  -- the same with the lines of the steps
   pub told_more : (v t : ℕ) (steps : List Step) (w u : ℕ) (letters text : List ℕ) (step : Step) (w2 u2 : ℕ) (c : Option ℕ)
       → AreTold n v t steps w u letters text → IsStep n w u step w2 u2 c
       → AreTold n v t (steps ++ step ∷ []) w2 u2 (letters ++ option_to_list c) (text ++ with_feed (step_text n step w2 u2))
@@ -68,22 +102,43 @@ module _ (n : NetworkLists) where
       }
 
   -- a step leads from a node to one
-  pub step_in_range : IsNetwork n → (v t : ℕ) (step : Step) (w u : ℕ) (c : Option ℕ) → v < length (nodes_of n) → IsStep n v t step w u c → w < length (nodes_of n)
-  step_in_range network v t (Wait until) w u c h (later, at, now, none) = subst (λ x. x < length (nodes_of n)) (sym at) h
-  step_in_range network v t (Road to) w u c h (ms, (k, lt, is), at, now, read) =
-      let inside = subst (λ (a : Arc). a.to < length n.roads) is (arcs_in_range n network k _ lt).1 in
-      rw at (lt_of_lt_of_le inside (nodes_hold_roads n network))
-  step_in_range network v t (Link to) w u c h (ms, (k, lt, is), at, now, read) =
-      rw at (subst (λ (a : Arc). a.to < length (nodes_of n)) is (links_in_range n network k _ lt).1)
-  step_in_range network v t Stand w u c h (mode, has, at, now, read) = subst (λ x. x < length (nodes_of n)) (sym at) h
+  pub step_in_range : KeepsRules n → (v t : ℕ) (step : Step) (w u : ℕ) (c : Option ℕ) → v < length (nodes_of n) → IsStep n v t step w u c → w < length (nodes_of n)
+  step_in_range rules v t (Wait until) w u c h (later, at, now, none) = subst (λ x. x < length (nodes_of n)) (sym at) h
+  step_in_range rules v t (Road to) w u c h (ms, (k, lt, is), at, now, read) =
+      let inside = subst (λ (a : Arc). a.to < length n.roads) is (arcs_in_range n rules.network k _ lt).1 in
+      rw at (lt_of_lt_of_le inside (nodes_hold_roads n rules.network))
+  step_in_range rules v t (Link to) w u c h (ms, (k, lt, is), at, now, read) =
+      rw at (subst (λ (a : Arc). a.to < length (nodes_of n)) is (links_in_range n rules.network k _ lt).1)
+  step_in_range rules v t Stand w u c h (mode, has, at, now, read) = subst (λ x. x < length (nodes_of n)) (sym at) h
+  step_in_range rules v t (Ride trip day board alight) w u c h (run, on, off, ride, from, soon, at, now, read) =
+      let named = call_named n rules.network trip run ride.run.is alight off ride.off_is in
+      let held : length n.roads + off.stop < length (nodes_of n) = omega (arith, named, rules.network.parts.one_name_each, length-append (n.roads ++ n.stops) n.switches, length-append n.roads n.stops) in
+      rw at held
 
   -- a step ends no more than 2 ^ 32 ms later, or when a wait does
-  pub step_in_time : IsNetwork n → (v t : ℕ) (step : Step) (w u : ℕ) (c : Option ℕ) → HasTime step → IsStep n v t step w u c → (u ≤ t + 2 ^ 32) ⊎ (u < 10 ^ 30)
-  step_in_time network v t (Wait until) w u c h (later, at, now, none) = inr (subst (λ x. x < 10 ^ 30) (sym now) h)
-  step_in_time network v t (Road to) w u c h (ms, (k, lt, is), at, now, read) =
-      let fits = subst (λ (a : Arc). a.ms < 2 ^ 32) is (network.arcs_fit k _ lt) in
+  pub step_in_time : KeepsRules n → (v t : ℕ) (step : Step) (w u : ℕ) (c : Option ℕ) → HasTime step → IsStep n v t step w u c → (u ≤ t + 2 ^ 32) ⊎ (u < 10 ^ 30)
+  step_in_time rules v t (Wait until) w u c h (later, at, now, none) = inr (subst (λ x. x < 10 ^ 30) (sym now) h)
+  step_in_time rules v t (Road to) w u c h (ms, (k, lt, is), at, now, read) =
+      let fits = subst (λ (a : Arc). a.ms < 2 ^ 32) is (rules.network.arcs_fit k _ lt) in
       inl (omega arith)
-  step_in_time network v t (Link to) w u c h (ms, (k, lt, is), at, now, read) =
-      let fits = subst (λ (a : Arc). a.ms < 2 ^ 32) is (network.links_fit k _ lt) in
+  step_in_time rules v t (Link to) w u c h (ms, (k, lt, is), at, now, read) =
+      let fits = subst (λ (a : Arc). a.ms < 2 ^ 32) is (rules.network.links_fit k _ lt) in
       inl (omega arith)
-  step_in_time network v t Stand w u c h (mode, has, at, now, read) = inl (omega arith)
+  step_in_time rules v t Stand w u c h (mode, has, at, now, read) = inl (omega arith)
+  step_in_time rules v t (Ride trip day board alight) w u c h (run, on, off, ride, from, soon, at, now, read) =
+      let small = arrives_soon n rules trip day run ride.run alight off ride.off_is in
+      inr (omega (arith, small, now))
+
+  -- the trip and the day of a step are there
+  pub step_there : KeepsRules n → (v t : ℕ) (step : Step) (w u : ℕ) (c : Option ℕ) → IsStep n v t step w u c → IsThere n step
+  step_there rules v t (Wait until) w u c is = tt
+  step_there rules v t (Road to) w u c is = tt
+  step_there rules v t (Link to) w u c is = tt
+  step_there rules v t Stand w u c is = tt
+  step_there rules v t (Ride trip day board alight) w u c (run, on, off, ride, from, soon, at, now, read) =
+      (slice_get_within n.trips trip run ride.run.is, run_within n rules trip day run ride.run)
+
+-- the times of steps rise no faster
+pub on_time : (k at u : ℕ) → at < 10 ^ 30 + k * 2 ^ 32 → (u ≤ at + 2 ^ 32) ⊎ (u < 10 ^ 30) → u < 10 ^ 30 + (k + 1) * 2 ^ 32
+on_time k at u before (inl near) = omega arith
+on_time k at u before (inr waited) = omega arith

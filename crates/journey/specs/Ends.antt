@@ -1,10 +1,10 @@
 -- Where and when a step ends.
 use Rattle.std.specs.Prelude.{ℕ, ◌<◌, ◌^◌, List, Option, Some, None, All}
 use Rattle.mode_network.specs.declared.steps.Step.{Step}
-use Rattle.mode_network.specs.declared.steps.Step.TheVariants.{Wait, Road, Link, Stand}
+use Rattle.mode_network.specs.declared.steps.Step.TheVariants.{Wait, Road, Link, Stand, Ride}
 use Rattle.mode_network.specs.NetworkLists.{NetworkLists}
 use Rattle.mode_network.specs.Journeys.{Route, IsStep, AreSteps}
-use Rattle.journey.specs.declared.ends.StepEnd.{StepEnd}
+use Rattle.journey.specs.declared.step_ends.StepEnd.{StepEnd}
 
 -- where, when and with which letter the step ends that is taken from v at t; or there is no such step
 abbrev pub IsStepEnd : NetworkLists → ℕ → ℕ → Step → Option StepEnd → Type 0
@@ -17,6 +17,7 @@ HasTime (Wait until) = until < 10 ^ 30
 HasTime (Road to) = Unit {0}
 HasTime (Link to) = Unit {0}
 HasTime Stand = Unit {0}
+HasTime (Ride trip day board alight) = Unit {0}
 
 -- the times of a journey, its start and its waits, are below 10 ^ 30
 pub record HasTimes (j : Route) : Type 0 where

@@ -4,6 +4,8 @@ pub mod Faults
 pub mod Queries
 pub mod Words
 pub mod Ends
+pub mod Rides
+pub mod Real
 pub mod Texts
 pub mod Telling
 pub mod Blocks

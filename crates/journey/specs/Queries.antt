@@ -1,22 +1,40 @@
 -- What a query line asks of a network, or the first fault that it has.
-use Rattle.std.specs.Prelude.{◌≡◌, ◌⊎◌, ℕ, List, Some, None, Ok, Err}
+use Rattle.std.specs.Prelude.{◌≡◌, ◌<◌, ◌⊎◌, ℕ, ℤ, List, true, false, Option, Some, None, Ok, Err}
 use Rattle.mode_expression.specs.declared.fault.ExprFault.{ExprFault}
 use Rattle.mode_expression.specs.declared.fault.ExprFault.TheVariants.{TooLong as LongExpression, TooDeep as DeepExpression, Syntax as BadSyntax, TooLarge as LargeExpression}
 use Rattle.mode_expression.specs.Form.{Form}
 use Rattle.mode_expression.specs.Reading.{IsExpression, IsFault}
 use Rattle.mode_network.specs.declared.endpoints.Endpoint.{Endpoint}
+use Rattle.mode_network.specs.declared.endpoints.Endpoint.TheVariants.{Road, Stop, Near}
 use Rattle.mode_network.specs.NetworkLists.{NetworkLists}
-use Rattle.mode_network.specs.Copies.{IsCopy}
+use Rattle.mode_network.specs.Copies.{IsCopy, IsNearestRoad}
 use Rattle.journey.specs.declared.fault.QueryFault.{QueryFault}
-use Rattle.journey.specs.declared.fault.QueryFault.TheVariants.{Shape as NoShape, BadClock, OutOfRange, UnknownFrom, UnknownTo, TooLong, TooDeep, Syntax, TooLarge, OutOfMemory}
+use Rattle.journey.specs.declared.fault.QueryFault.TheVariants.{Shape as NoShape, BadClock, OutOfRange, UnknownFrom, UnknownTo, TooLong, TooDeep, Syntax, TooLarge, OffNetwork, OutOfMemory}
+use Rattle.journey.specs.declared.endpoints.Lack.{Lack}
+use Rattle.journey.specs.declared.endpoints.Lack.TheVariants.{Unknown, Far}
 use Rattle.journey.specs.Shapes.{Shape, shape_of, departs_at}
 
--- some node of the network is a copy of the endpoint; or none is
+-- some node of the network is a copy of the endpoint
 abbrev pub IsKnown : NetworkLists → Endpoint → Type 0
 IsKnown n endpoint = (v : ℕ) × IsCopy n endpoint v
 
+-- no node has the id or the name; a place is unknown where there is no road node
 abbrev pub IsUnknown : NetworkLists → Endpoint → Type 0
-IsUnknown n endpoint = (v : ℕ) → IsCopy n endpoint v → ⊥
+IsUnknown n (Road id) = (v : ℕ) → IsCopy n (Road id) v → ⊥
+IsUnknown n (Stop name) = (v : ℕ) → IsCopy n (Stop name) v → ⊥
+IsUnknown n (Near place) = IsNearestRoad n.roads place None
+
+-- the endpoint is a place, and its nearest road node lies so many millimetres away, which is more than two kilometres
+abbrev pub IsFar : NetworkLists → Endpoint → ℕ → Type 0
+IsFar n (Road id) mm = ⊥
+IsFar n (Stop name) mm = ⊥
+IsFar n (Near place) mm = (id : ℤ) × IsNearestRoad n.roads place (Some (id, mm)) × (2000000 < mm)
+
+-- what an endpoint lacks; or it lacks nothing, and is known
+abbrev pub IsLack : NetworkLists → Endpoint → Option Lack → Type 0
+IsLack n endpoint None = IsKnown n endpoint
+IsLack n endpoint (Some Unknown) = IsUnknown n endpoint
+IsLack n endpoint (Some (Far mm)) = IsFar n endpoint mm
 
 -- the line has this shape, and departs then
 pub record Departs (n : NetworkLists) (line : List ℕ) (shape : Shape) (depart : ℕ) : Type 0 where
@@ -53,6 +71,9 @@ IsRefused n line (TooLong bytes) = HasBadExpression n line (LongExpression bytes
 IsRefused n line (TooDeep at) = HasBadExpression n line (DeepExpression at)
 IsRefused n line (Syntax at) = HasBadExpression n line (BadSyntax at)
 IsRefused n line (TooLarge places) = HasBadExpression n line (LargeExpression places)
+IsRefused n line (OffNetwork false mm) = (shape : Shape) × (depart : ℕ) × Departs n line shape depart × IsFar n shape.from mm
+IsRefused n line (OffNetwork true mm) =
+    (shape : Shape) × (depart : ℕ) × Departs n line shape depart × IsKnown n shape.from × IsFar n shape.to mm
 IsRefused n line OutOfMemory = ⊥
 
 -- what reading a line answers where it is no query: the fault with which it is refused. Want of memory has no cause

@@ -3,24 +3,37 @@ use Rattle.std.specs.Prelude.{ℕ, ◌+◌, ◌*◌, List, [], ◌∷◌, length
 use Rattle.std.specs.Option.{ok_or}
 use Rattle.journey.specs.declared.fault.QueryFault.{QueryFault}
 use Rattle.journey.specs.declared.fault.QueryFault.TheVariants.{BadClock, OutOfRange}
+use Rattle.plan_base.specs.declared.places.Place.{Place}
+use Rattle.plan_base.specs.PlaceOf.{place_of}
+use Rattle.geo_length.specs.Degrees.{degrees_of}
 use Rattle.plain_texts.specs.Numbers.{id_at}
 use Rattle.plain_texts.specs.FixedDecimal.{fixed_at}
 use Rattle.service_days.specs.DaysMeaning.{DaysMeaning}
 use Rattle.service_days.specs.Days.{base_of, day_with_date}
 use Rattle.service_days.specs.Dates.{is_civil}
 use Rattle.mode_network.specs.declared.endpoints.Endpoint.{Endpoint}
-use Rattle.mode_network.specs.declared.endpoints.Endpoint.TheVariants.{Road, Stop}
+use Rattle.mode_network.specs.declared.endpoints.Endpoint.TheVariants.{Road, Stop, Near}
 
--- what stands before the first space of a text, and what stands after it
+-- what stands before the first such byte of a text, and what stands after it
+abbrev pub at_byte : ℕ → List ℕ → Option (List ℕ × List ℕ)
+at_byte byte text = option_map (λ k. (take k text, drop (k + 1) text)) (position (λ b. b == byte) text)
+
 abbrev pub at_space : List ℕ → Option (List ℕ × List ℕ)
-at_space text = option_map (λ k. (take k text, drop (k + 1) text)) (position (λ b. b == 32) text)
+at_space text = at_byte 32 text
 
--- `n` and the id of an OSM node, or `s` and the name of a stop, which is at least one byte
+-- LAT,LON: degrees of a latitude and of a longitude, with a comma between them
+abbrev pub place_at : List ℕ → Option Place
+place_at text =
+    option_and_then (λ parts. option_and_then (λ lat. option_and_then (λ lon. place_of lat lon)
+    (degrees_of 180 parts.1)) (degrees_of 90 parts.0)) (at_byte 44 text)
+
+-- `n` and the id of an OSM node, or `s` and the name of a stop, which is at least one byte, or `@` and a place
 abbrev pub endpoint_of : List ℕ → Option Endpoint
 endpoint_of [] = None
 endpoint_of (mark ∷ name) =
     if mark == 110 then option_map Road (id_at name)
-    else (if (mark == 115) && nat_lt 0 (length name) then Some (Stop name) else None)
+    else (if (mark == 115) && nat_lt 0 (length name) then Some (Stop name)
+    else (if mark == 64 then option_map Near (place_at name) else None))
 
 -- the fields of a query line
 pub record Fields : Type 0 where

@@ -1,20 +1,24 @@
 -- The block that is printed for a query line.
-use Rattle.std.specs.Prelude.{◌≡◌, ℕ, ◌<◌, List, length, [], ◌∷◌, ◌++◌, Option, codes, slice_get, unwrap_or, option_map, option_to_list}
+use Rattle.std.specs.Prelude.{◌≡◌, ℕ, ◌<◌, List, length, [], ◌∷◌, ◌++◌, Option, codes, slice_get, unwrap_or, option_map, option_to_list, slice_index_or, true, false}
 use Rattle.std.specs.List.{flat_map}
 use Rattle.std.specs.Fmt.{decimal, signed_decimal}
 use Rattle.plain_texts.specs.Lines.{with_feed}
+use Rattle.plain_texts.specs.FixedDecimal.{fixed_decimal}
 use Rattle.service_days.specs.Clock.{clock_text_of}
+use Rattle.service_days.specs.Days.{date_of, numbers_of}
+use Rattle.timetable_arcs.specs.Trips.{TripLists}
+use Rattle.timetable_arcs.specs.Patterns.{no_trip}
 use Rattle.mode_expression.specs.Letters.{letter_names}
 use Rattle.mode_network.specs.declared.nodes.Node.{Node}
 use Rattle.mode_network.specs.declared.nodes.NodeKey.{NodeKey}
 use Rattle.mode_network.specs.declared.nodes.NodeKey.TheVariants.{Road as RoadKey, Stop as StopKey, Switch as SwitchKey}
 use Rattle.mode_network.specs.declared.steps.Step.{Step}
-use Rattle.mode_network.specs.declared.steps.Step.TheVariants.{Wait, Road, Link, Stand}
+use Rattle.mode_network.specs.declared.steps.Step.TheVariants.{Wait, Road, Link, Stand, Ride}
 use Rattle.mode_network.specs.NetworkLists.{NetworkLists, nodes_of}
 use Rattle.search_laws.specs.Collapse.{collapse}
 use Rattle.mode_network.specs.Journeys.{Route, IsStep}
 use Rattle.journey.specs.declared.fault.QueryFault.{QueryFault}
-use Rattle.journey.specs.declared.fault.QueryFault.TheVariants.{Shape, BadClock, OutOfRange, UnknownFrom, UnknownTo, TooLong, TooDeep, Syntax, TooLarge, OutOfMemory}
+use Rattle.journey.specs.declared.fault.QueryFault.TheVariants.{Shape, BadClock, OutOfRange, UnknownFrom, UnknownTo, TooLong, TooDeep, Syntax, TooLarge, OffNetwork, OutOfMemory}
 
 -- the name of a letter
 abbrev pub letter_text : ℕ → List ℕ
@@ -25,6 +29,14 @@ abbrev pub IsNamed : NetworkLists → NodeKey → Type 0
 IsNamed n (RoadKey mode id) = Unit {0}
 IsNamed n (StopKey stop) = stop < length n.stop_names
 IsNamed n (SwitchKey id) = Unit {0}
+
+-- the trip and the day that a step names are there
+abbrev pub IsThere : NetworkLists → Step → Type 0
+IsThere n (Wait until) = Unit {0}
+IsThere n (Road to) = Unit {0}
+IsThere n (Link to) = Unit {0}
+IsThere n Stand = Unit {0}
+IsThere n (Ride trip day board alight) = (trip < length n.trips) × (day < numbers_of n.days)
 
 -- foot:ID, bike:ID or car:ID, stop:NAME, or switch:ID
 abbrev pub key_text : NetworkLists → NodeKey → List ℕ
@@ -39,12 +51,18 @@ node_text n v = unwrap_or (option_map (λ (node : Node). key_text n node.key) (s
 abbrev pub place_text : NetworkLists → ℕ → ℕ → List ℕ
 place_text n v t = node_text n v ++ 32 ∷ clock_text_of n.days t
 
+-- the letter, the day's date, and where and when the ride alights, and then the trip's name
+abbrev pub ride_text : NetworkLists → TripLists → ℕ → ℕ → ℕ → List ℕ
+ride_text n trip day v t =
+    letter_text trip.letter ++ 32 ∷ fixed_decimal 8 (date_of n.days day) ++ 32 ∷ place_text n v t ++ 32 ∷ trip.name
+
 -- the line of a step that ends at v at the time t
 abbrev pub step_text : NetworkLists → Step → ℕ → ℕ → List ℕ
 step_text n (Wait until) v t = codes "wait " ++ clock_text_of n.days t
 step_text n (Road to) v t = codes "road " ++ place_text n v t
 step_text n (Link to) v t = codes "link " ++ place_text n v t
 step_text n Stand v t = codes "stand"
+step_text n (Ride trip day board alight) v t = codes "ride " ++ ride_text n (slice_index_or n.trips trip no_trip) day v t
 
 -- the steps lead from v at t to w at u with these letters, and this is the line of each, one below the other
 abbrev pub AreTold : NetworkLists → ℕ → ℕ → List Step → ℕ → ℕ → List ℕ → List ℕ → Type 0
@@ -78,6 +96,8 @@ refusal_text (TooLong bytes) = codes "refused long " ++ decimal bytes
 refusal_text (TooDeep at) = codes "refused deep " ++ decimal at
 refusal_text (Syntax at) = codes "refused syntax " ++ decimal at
 refusal_text (TooLarge places) = codes "refused large " ++ decimal places
+refusal_text (OffNetwork false mm) = codes "refused far from " ++ decimal mm
+refusal_text (OffNetwork true mm) = codes "refused far to " ++ decimal mm
 refusal_text OutOfMemory = []
 
 -- the query line, a body and the line `end`

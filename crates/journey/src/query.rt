@@ -1,10 +1,11 @@
 //! Queries.
 
-ghost use Rattle.std.specs.Prelude.{◌≡◌, ◌<◌, ◌^◌, ℕ, Option, IfOk, IfErr, OnOk, IsTrue, ◌↔◌};
+ghost use Rattle.std.specs.Prelude.{◌≡◌, ◌<◌, ◌^◌, ℕ, Option, IfOk, IfErr};
 ghost use Rattle.mode_expression.specs.Form.{form_of, IsUsable};
 ghost use Rattle.journey.specs.Shown.{shown};
-ghost use Rattle.journey.specs.Queries.{IsQuery, IsRefusal, IsKnown};
+ghost use Rattle.journey.specs.Queries.{IsQuery, IsRefusal};
 
+use crate::endpoints::lack_of;
 use crate::fault::QueryFault;
 use crate::shape::{Shape, departs_at, read_shape};
 use mode_expression::{Expr, parse};
@@ -25,7 +26,8 @@ pub struct Query {
     pub expr: Expr,
 }
 
-/// Reads a query line, or answers its first fault. The faults are tried in the order of [`QueryFault`].
+/// Reads a query line, or answers its first fault: of its shape, its clock, its date, its origin, its destination,
+/// and then its expression.
 pub fn read_query(alloc: Global, network: &Network, line: &[u8]) -> Result<Query, QueryFault>
     ensures query { IfOk result (λ q. IsQuery network.now line.now q.from q.to q.depart (form_of q.expr)) }
     ensures usable { IfOk result (λ q. IsUsable (form_of q.expr)) }
@@ -37,11 +39,11 @@ pub fn read_query(alloc: Global, network: &Network, line: &[u8]) -> Result<Query
         return Err(QueryFault::Shape);
     };
     let depart = departs_at(network.days(), &shape)?;
-    if !is_known(network, &shape.from) {
-        return Err(QueryFault::UnknownFrom);
+    if let Some(lack) = lack_of(network, &shape.from) {
+        return Err(lack.at_origin());
     }
-    if !is_known(network, &shape.to) {
-        return Err(QueryFault::UnknownTo);
+    if let Some(lack) = lack_of(network, &shape.to) {
+        return Err(lack.at_destination());
     }
     let expr = parse(alloc, shape.expr)?;
     let line = Bytes::from(Vec::from_slice(alloc, line)?);
@@ -52,11 +54,4 @@ pub fn read_query(alloc: Global, network: &Network, line: &[u8]) -> Result<Query
         depart,
         expr,
     })
-}
-
-/// Whether some node of the network is a copy of the endpoint.
-fn is_known(network: &Network, endpoint: &Endpoint) -> bool
-    ensures { IsTrue result ↔ IsKnown network.now endpoint.now }
-{
-    network.copies(endpoint).is_some()
 }

@@ -1,31 +1,47 @@
 //! The fields of a query line.
 
 ghost use Rattle.std.specs.Prelude.{◌≡◌, ◌==◌, option_map, position, IfOk, IfSome, ◌<◌, ◌^◌};
-ghost use Rattle.journey.specs.Shapes.{at_space, endpoint_of, shape_of, date_at, part_at, millis_at, time_at, departure_on, fields_of};
+ghost use Rattle.journey.specs.Shapes.{at_byte, at_space, place_at, endpoint_of, shape_of, date_at, part_at, millis_at, time_at, departure_on, fields_of};
 ghost use Rattle.journey.specs.Shown.{shown};
 ghost use Rattle.journey.specs.Shapes.{departs_at};
 
 use crate::fault::QueryFault;
+use geo_length::read_degrees;
 use mode_network::{Bytes, Endpoint};
 use plain_texts::{read_fixed, read_id};
-use plan_base::Time;
+use plan_base::{Place, Time};
 use service_days::{Days, is_date};
 use std::alloc::{AllocError, Global};
 
-fn place_of_space(text: &[u8]) -> Option<usize>
-    ensures { result ≡ position (λ b. b == 32) text.now }
+fn place_of_byte(byte: u8, text: &[u8]) -> Option<usize>
+    ensures { result ≡ position (λ b. b == byte) text.now }
 {
-    text.iter().position(|byte| *byte == b' ')
+    text.iter().position(|other| *other == byte)
+}
+
+/// What stands before the first such byte, and what stands after it.
+fn at_byte(byte: u8, text: &[u8]) -> Option<(&[u8], &[u8])>
+    ensures { option_map (λ x. (x.0.now, x.1.now)) result ≡ at_byte byte text.now }
+{
+    let place = place_of_byte(byte, text)?;
+    let (before, _) = text.split_at(place);
+    let (_, after) = text.split_at(place + 1);
+    Some((before, after))
 }
 
 /// What stands before the first space, and what stands after it.
 fn at_space(text: &[u8]) -> Option<(&[u8], &[u8])>
     ensures { option_map (λ x. (x.0.now, x.1.now)) result ≡ at_space text.now }
 {
-    let place = place_of_space(text)?;
-    let (before, _) = text.split_at(place);
-    let (_, after) = text.split_at(place + 1);
-    Some((before, after))
+    at_byte(b' ', text)
+}
+
+/// The place of a latitude and a longitude in degrees, with a comma between them.
+fn read_place(text: &[u8]) -> Option<Place>
+    ensures { result ≡ place_at text.now }
+{
+    let (lat, lon) = at_byte(b',', text)?;
+    Place::new(read_degrees(lat, 90)?, read_degrees(lon, 180)?)
 }
 
 /// The endpoint that a field names.
@@ -38,6 +54,7 @@ fn endpoint(alloc: Global, field: &[u8]) -> Result<Option<Endpoint>, AllocError>
             let name = Vec::from_slice(alloc, name)?;
             Ok(Some(Endpoint::Stop(Bytes::from(name))))
         }
+        [b'@', place @ ..] => Ok(read_place(place).map(Endpoint::Near)),
         _ => Ok(None),
     }
 }

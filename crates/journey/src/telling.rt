@@ -4,11 +4,12 @@ ghost use Rattle.std.specs.Prelude.{◌≡◌, OnOk, IfOk, ◌<◌, ◌^◌, ◌
 ghost use Rattle.plain_texts.specs.Lines.{with_feed};
 ghost use Rattle.mode_network.specs.NetworkLists.{nodes_of};
 ghost use Rattle.journey.specs.Words.{goes_on, appended, with_letter};
-ghost use Rattle.journey.specs.Texts.{step_text};
+ghost use Rattle.journey.specs.Texts.{IsThere, step_text};
 ghost use Rattle.journey.specs.Ends.{HasTime, AreTaken};
 ghost use Rattle.journey.specs.Telling.{IsTold};
 
-use crate::ends::{StepEnd, step_end};
+use crate::rides::keeps_rules;
+use crate::step_ends::{StepEnd, step_end};
 use crate::texts::push_step;
 use mode_network::{Network, Step};
 use plan_base::Time;
@@ -34,6 +35,16 @@ fn append_letter(word: &mut Vec<u8>, letter: u8) -> Result<(), AllocError>
     Ok(())
 }
 
+/// Writes a letter, if there is one, after a word that is collapsed.
+pub(crate) fn append(word: &mut Vec<u8>, letter: Option<u8>) -> Result<(), AllocError>
+    ensures { OnOk result (word.new.items ≡ with_letter word.old.items letter) }
+{
+    match letter {
+        Some(letter) => append_letter(word, letter),
+        None => Ok(()),
+    }
+}
+
 /// A journey as far as it is told: where and when it is, its word, and the lines of its steps.
 #[derive(Drop)]
 pub(crate) struct Told {
@@ -45,15 +56,14 @@ pub(crate) struct Told {
 
 /// Tells one more step, which ends so.
 fn tell_step(told: &mut Told, network: &Network, step: Step, end: StepEnd) -> Result<(), AllocError>
-    requires { end.node < length (nodes_of network.now) }
+    requires node { end.node < length (nodes_of network.now) }
+    requires there { IsThere network.now step }
     ensures node { OnOk result (told.new.node ≡ end.node) }
     ensures at { OnOk result (told.new.at ≡ end.at) }
     ensures word { OnOk result (told.new.word.items ≡ with_letter told.old.word.items end.letter) }
     ensures lines { OnOk result (told.new.lines.items ≡ told.old.lines.items ++ with_feed (step_text network.now step end.node end.at)) }
 {
-    if let Some(letter) = end.letter {
-        append_letter(&mut told.word, letter)?;
-    }
+    append(&mut told.word, end.letter)?;
     push_step(&mut told.lines, network, step, end.node, end.at)?;
     told.node = end.node;
     told.at = end.at;
@@ -74,7 +84,7 @@ pub(crate) fn tell(
     requires taken { AreTaken network.now start at steps.now }
     ensures { IfOk result (IsTold network.now start at steps.now) }
 {
-    network.known();
+    keeps_rules(network);
     let mut told = Told {
         node: start,
         at,

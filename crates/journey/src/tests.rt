@@ -1,15 +1,14 @@
 ghost use Rattle.std.specs.Prelude.{◌≡◌, IfOk, IfSome, IsTrue, All};
-ghost use Rattle.journey.specs.Ends.{AreTaken, HasTime};
-ghost use Rattle.journey.specs.Blocks.{IsPrintable};
+ghost use Rattle.journey.specs.Ends.{HasTime, HasTimes};
 
-use crate::ends::step_end;
-use crate::{BlockBody, QueryFault, block, read_query};
+use crate::{BlockBody, QueryFault, block, ends, first_bad, is_real, read_query, word};
 use mode_network::{Arc, Endpoint, Journey, Network, Node, NodeKey, Parts, Step};
 use plain_texts::Name;
-use plan_base::{Caps, Place, Time};
+use plan_base::{Caps, DaySet, Place, Time};
 use service_days::Days;
 use std::alloc::Global;
 use std::test::Fail;
+use timetable_arcs::{Call, Trip};
 
 /// A car node, an OSM node in the layers of foot and bike, a foot node, a stop and a switch: nodes 0 to 5. The
 /// days are 2024-03-04 and the day after.
@@ -82,6 +81,7 @@ fn town(alloc: Global) -> Result<Network, Fail> {
                 ms: 30000
             },
         ]?,
+        trips: Vec::new(alloc),
     };
     Ok(Network::build(alloc, parts, &Caps::FULL)?)
 }
@@ -259,7 +259,7 @@ fn the_first_part_that_fails_is_named(rt: HostRuntime) -> Result<(), Fail> {
 #[test]
 fn refusals_have_their_lines(rt: HostRuntime) -> Result<(), Fail> {
     let network = town(rt.alloc())?;
-    let cases: [(QueryFault, &str); 9] = [
+    let cases: [(QueryFault, &str); 11] = [
         (QueryFault::Shape, "shape"),
         (QueryFault::BadClock, "clock"),
         (QueryFault::OutOfRange, "range"),
@@ -271,6 +271,20 @@ fn refusals_have_their_lines(rt: HostRuntime) -> Result<(), Fail> {
         (
             QueryFault::TooLarge { places: u64::MAX },
             "large 18446744073709551615",
+        ),
+        (
+            QueryFault::OffNetwork {
+                to: false,
+                mm: 111_208_680,
+            },
+            "far from 111208680",
+        ),
+        (
+            QueryFault::OffNetwork {
+                to: true,
+                mm: 2_000_001,
+            },
+            "far to 2000001",
         ),
     ];
     for (fault, text) in cases {
@@ -286,32 +300,40 @@ fn refusals_have_their_lines(rt: HostRuntime) -> Result<(), Fail> {
     Ok(())
 }
 
-/// Whether the steps can be taken from `v` at `t`, at times that a block can tell.
-fn are_taken(network: &Network, v: u32, t: Time, steps: &[Step]) -> bool
-    ensures taken { IsTrue result → AreTaken network.now v t steps.now }
-    ensures waits { IsTrue result → All HasTime steps.now }
-{
-    match steps {
-        [] => true,
-        [step, rest @ ..] => {
-            if t >= 1 << 100 || !has_time(*step) {
-                return false;
-            }
-            match step_end(network, v, t, *step) {
-                Some(end) => are_taken(network, end.node, end.at, rest),
-                None => false,
-            }
-        }
-    }
-}
-
 fn has_time(step: Step) -> bool
     ensures { IsTrue result → HasTime step }
 {
     match step {
         Step::Wait { until } => until < 1_000_000_000_000_000_000_000_000_000_000,
-        Step::Road { .. } | Step::Link { .. } | Step::Stand => true,
+        Step::Road { .. } | Step::Link { .. } | Step::Stand | Step::Ride { .. } => true,
     }
+}
+
+/// Whether the waits are at times that are counted.
+fn have_times(steps: &[Step]) -> bool
+    ensures { IsTrue result → All HasTime steps.now }
+{
+    for step in steps {
+        if !has_time(*step) {
+            return false;
+        }
+    }
+    true
+}
+
+/// The journey from `v` at `t` by these steps.
+fn journey(alloc: Global, v: u32, t: Time, steps: &[Step]) -> Result<Journey, Fail>
+    ensures start { IfOk result (λ j. j.start ≡ v) }
+    ensures times { IfOk result HasTimes }
+{
+    if t >= 1_000_000_000_000_000_000_000_000_000_000 || !have_times(steps) {
+        return Err("a time is too late".into());
+    }
+    Ok(Journey {
+        start: v,
+        at: t,
+        steps: Vec::from_slice(alloc, steps)?,
+    })
 }
 
 /// The block of a journey from `v` at `t` by these steps, for the line `q`.
@@ -322,16 +344,11 @@ fn told(
     t: Time,
     steps: &[Step],
 ) -> Result<Vec<u8>, Fail> {
-    let most = 1_000_000_000_000_000_000_000_000_000_000;
-    if v >= network.nodes() || t >= most || !are_taken(network, v, t, steps) {
+    let journey = journey(alloc, v, t, steps)?;
+    if v >= network.nodes() || !is_real(network, &journey) {
         return Err("no journey".into());
     }
-    let steps = Vec::from_slice(alloc, steps)?;
-    let body = BlockBody::Journey(Journey {
-        start: v,
-        at: t,
-        steps,
-    });
+    let body = BlockBody::Journey(journey);
     Ok(block(alloc, network, b"q", &body)?)
 }
 
@@ -414,6 +431,159 @@ end
     for (v, t, steps, wanted) in cases {
         let written = told(rt.alloc(), &network, v, t, steps)?;
         assert_eq!(rt; written.as_slice(), wanted.as_bytes(), "{v}");
+    }
+    Ok(())
+}
+
+/// A call at a stop that many seconds after the base of the day, where one may board and alight.
+fn call(stop: u32, seconds: u32) -> Call {
+    Call {
+        stop,
+        arr: seconds,
+        dep: seconds,
+        board: true,
+        alight: true,
+    }
+}
+
+fn bus(alloc: Global, name: &[u8], day: u32, calls: &[Call]) -> Result<Trip, Fail> {
+    if day >= 128 {
+        return Err("no day".into());
+    }
+    Ok(Trip {
+        letter: 6,
+        days: DaySet::new().with_day(day),
+        name: Name::from_slice(alloc, name)?.ok_or("no name")?,
+        calls: Vec::from_slice(alloc, calls)?,
+    })
+}
+
+/// A foot node, the stops A, B and C, and links between the foot node and B: nodes 0 to 3. Three buses run on the
+/// day of 2024-03-04; one only alights at its first call and only boards at its last but one.
+fn line(alloc: Global) -> Result<Network, Fail> {
+    let place = Place::new(480_000_000, 110_000_000).ok_or("no place")?;
+    let mut closed = call(0, 28_800);
+    closed.board = false;
+    let mut leaving = call(0, 30_000);
+    leaving.alight = false;
+    let parts = Parts {
+        days: Days::new(alloc, 20240304, 1)?,
+        roads: vec![in alloc;
+            Node {
+                key: NodeKey::Road(0, 201),
+                place
+            },
+        ]?,
+        stop_names: vec![in alloc;
+            Name::from_slice(alloc, b"A")?.ok_or("no name")?,
+            Name::from_slice(alloc, b"B")?.ok_or("no name")?,
+            Name::from_slice(alloc, b"C")?.ok_or("no name")?,
+        ]?,
+        stops: vec![in alloc;
+            Node {
+                key: NodeKey::Stop(0),
+                place
+            },
+            Node {
+                key: NodeKey::Stop(1),
+                place
+            },
+            Node {
+                key: NodeKey::Stop(2),
+                place
+            },
+        ]?,
+        switches: Vec::new(alloc),
+        arcs: Vec::new(alloc),
+        links: vec![in alloc;
+            Arc {
+                from: 0,
+                to: 2,
+                ms: 60000
+            },
+            Arc {
+                from: 2,
+                to: 0,
+                ms: 60000
+            },
+        ]?,
+        trips: vec![in alloc;
+            bus(alloc, b"t1", 7, &[call(0, 28_800), call(1, 29_400)])?,
+            bus(alloc, b"t3", 7, &[call(1, 29_520), call(2, 30_300)])?,
+            bus(
+                alloc,
+                b"loop",
+                7,
+                &[closed, call(1, 29_400), leaving, call(2, 30_600)]
+            )?,
+        ]?,
+    };
+    Ok(Network::build(alloc, parts, &Caps::FULL)?)
+}
+
+fn ride(trip: u32, day: u32, board: u32, alight: u32) -> Step {
+    Step::Ride {
+        trip,
+        day,
+        board,
+        alight,
+    }
+}
+
+#[test]
+fn rides_are_told(rt: HostRuntime) -> Result<(), Fail> {
+    let network = line(rt.alloc())?;
+    let steps = [
+        ride(0, 7, 0, 1),
+        Step::Link { to: 0 },
+        Step::Stand,
+        Step::Link { to: 2 },
+        ride(1, 7, 0, 1),
+    ];
+    let journey = journey(rt.alloc(), 1, 633_600_000, &steps)?;
+    if !is_real(&network, &journey) {
+        return Err("no journey".into());
+    }
+    assert_eq!(rt; first_bad(&network, &journey), None);
+    assert_eq!(rt; ends(&network, &journey), (3, 635_100_000));
+    let word = word(rt.alloc(), &network, &journey)?;
+    assert_eq!(rt; word.as_slice(), [6, 0, 6].as_slice());
+    let written = told(rt.alloc(), &network, 1, 633_600_000, &steps)?;
+    let wanted = "query q
+arrive 20240304 08:25:00.000
+word bus foot bus
+from stop:A 20240304 08:00:00.000
+ride bus 20240304 stop:B 20240304 08:10:00.000 t1
+link foot:201 20240304 08:11:00.000
+stand
+link stop:B 20240304 08:12:00.000
+ride bus 20240304 stop:C 20240304 08:25:00.000 t3
+end
+";
+    assert_eq!(rt; written.as_slice(), wanted.as_bytes());
+    Ok(())
+}
+
+#[test]
+fn the_first_bad_step_is_found(rt: HostRuntime) -> Result<(), Fail> {
+    let network = line(rt.alloc())?;
+    // from this node at 08:00, and the first step that is none
+    let cases: [(u32, &[Step], u64); 9] = [
+        (0, &[Step::Stand, Step::Wait { until: 633_599_999 }], 1),
+        (0, &[Step::Road { to: 0 }], 0),
+        (0, &[Step::Link { to: 2 }, Step::Link { to: 3 }], 1),
+        (1, &[Step::Wait { until: 633_600_001 }, ride(0, 7, 0, 1)], 1),
+        (2, &[ride(0, 7, 0, 1)], 0),
+        (1, &[ride(0, 6, 0, 1)], 0),
+        (1, &[ride(9, 7, 0, 1)], 0),
+        // boarding is not allowed, and then alighting is not
+        (1, &[ride(2, 7, 0, 1)], 0),
+        (2, &[ride(2, 7, 1, 2)], 0),
+    ];
+    for (v, steps, place) in cases {
+        let journey = journey(rt.alloc(), v, 633_600_000, steps)?;
+        assert_eq!(rt; first_bad(&network, &journey), Some(place), "{steps:?}");
+        assert!(rt; !is_real(&network, &journey));
     }
     Ok(())
 }

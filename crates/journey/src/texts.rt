@@ -1,15 +1,18 @@
 //! The texts of nodes, words and steps.
 
-ghost use Rattle.std.specs.Prelude.{◌≡◌, ◌<◌, ◌++◌, ◌∷◌, List, ℕ, length, codes, OnOk};
+ghost use Rattle.std.specs.Prelude.{◌≡◌, ◌<◌, ◌++◌, ◌∷◌, List, ℕ, length, codes, slice_index_or, OnOk};
 ghost use Rattle.std.specs.List.{flat_map};
 ghost use Rattle.plain_texts.specs.Lines.{with_feed};
+ghost use Rattle.service_days.specs.Days.{numbers_of};
+ghost use Rattle.timetable_arcs.specs.Patterns.{no_trip};
 ghost use Rattle.mode_network.specs.NetworkLists.{nodes_of};
-ghost use Rattle.journey.specs.Texts.{IsNamed, letter_text, key_text, node_text, place_text, step_text, word_text, refusal_text};
+ghost use Rattle.journey.specs.Texts.{IsNamed, IsThere, letter_text, key_text, node_text, place_text, ride_text, step_text, word_text, refusal_text};
 
 use crate::fault::QueryFault;
+use crate::rides::trips;
 use mode_expression::Letter;
 use mode_network::{Network, NodeKey, Step};
-use plain_texts::{push_decimal, push_line_feed, push_signed};
+use plain_texts::{push_decimal, push_fixed, push_line_feed, push_signed};
 use plan_base::Time;
 use std::alloc::AllocError;
 
@@ -69,6 +72,31 @@ pub(crate) fn push_place(
     network.days().push_clock(out, t)
 }
 
+/// What a ride's line says after its first word: the letter, the day's date, where and when it alights, and the
+/// trip's name.
+fn push_ride(
+    out: &mut Vec<u8>,
+    network: &Network,
+    trip: u32,
+    day: u32,
+    v: u32,
+    t: Time,
+) -> Result<(), AllocError>
+    requires trip { trip < length network.now.trips }
+    requires day { day < numbers_of network.now.days }
+    requires node { v < length (nodes_of network.now) }
+    ensures { OnOk result (out.new.items ≡ out.old.items ++ ride_text network.now (slice_index_or network.now.trips trip no_trip) day v t) }
+{
+    let trip = &trips(network)[trip as usize];
+    push_letter(out, trip.letter)?;
+    out.push(b' ')?;
+    push_fixed(out, 8, network.days().date(day))?;
+    out.push(b' ')?;
+    push_place(out, network, v, t)?;
+    out.push(b' ')?;
+    out.extend_from_slice(trip.name.as_bytes())
+}
+
 /// The line of a step that ends at `v` at the time `t`.
 pub(crate) fn push_step(
     out: &mut Vec<u8>,
@@ -77,7 +105,8 @@ pub(crate) fn push_step(
     v: u32,
     t: Time,
 ) -> Result<(), AllocError>
-    requires { v < length (nodes_of network.now) }
+    requires node { v < length (nodes_of network.now) }
+    requires there { IsThere network.now step }
     ensures { OnOk result (out.new.items ≡ out.old.items ++ with_feed (step_text network.now step v t)) }
 {
     match step {
@@ -94,6 +123,10 @@ pub(crate) fn push_step(
             push_place(out, network, v, t)?;
         }
         Step::Stand => out.extend_from_slice(b"stand")?,
+        Step::Ride { trip, day, .. } => {
+            out.extend_from_slice(b"ride ")?;
+            push_ride(out, network, trip, day, v, t)?;
+        }
     }
     push_line_feed(out)
 }
@@ -131,6 +164,8 @@ pub(crate) fn push_refusal(out: &mut Vec<u8>, fault: QueryFault) -> Result<(), A
         QueryFault::TooDeep { at } => (b"refused deep ", Some(at)),
         QueryFault::Syntax { at } => (b"refused syntax ", Some(at)),
         QueryFault::TooLarge { places } => (b"refused large ", Some(places)),
+        QueryFault::OffNetwork { to: false, mm } => (b"refused far from ", Some(mm)),
+        QueryFault::OffNetwork { to: true, mm } => (b"refused far to ", Some(mm)),
         QueryFault::OutOfMemory => (b"", None),
     };
     out.extend_from_slice(text)?;

@@ -2,3 +2,4 @@ pub mod RuleLemmas
 pub mod IndexLemmas
 pub mod FindLemmas
 pub mod CopyLemmas
+pub mod NearLemmas

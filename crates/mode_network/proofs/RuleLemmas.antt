@@ -14,6 +14,7 @@ use Rattle.plan_base.specs.declared.limits.Kind.{Kind}
 use Rattle.mode_network.specs.declared.faults.NetFault.{NetFault}
 use Rattle.std.proofs.lemmas.Cmp.{then_total, on_total, nat_cmp_total, int_cmp_total, nat_list_cmp_total}
 use Rattle.plan_base.specs.declared.limits.Caps.{Caps}
+use Rattle.timetable_arcs.specs.TripRules.{AreTrips}
 use Rattle.mode_network.specs.declared.nodes.Node.{Node}
 use Rattle.mode_network.specs.declared.nodes.Arc.{Arc}
 use Rattle.std.specs.Prelude.{slice_get, option_and_then}
@@ -21,7 +22,7 @@ use Rattle.std.proofs.lemmas.Option.{slice_get_within, get_or_from_slice_get}
 use Rattle.mode_network.specs.declared.nodes.NodeKey.{NodeKey}
 use Rattle.mode_network.specs.declared.nodes.NodeKey.TheVariants.{Road as RoadKey, Stop as StopKey, Switch as SwitchKey}
 use Rattle.mode_network.specs.NetworkLists.{NetworkLists, nodes_of, mode_of, mode_at}
-use Rattle.mode_network.specs.Rules.{rank_of, node_cmp, name_cmp, arc_cmp, first_unsorted, first_fault, IsAscending, IsRoad, is_same_mode, AreParts, HaveDurations, IsNetwork, or_else, row_fault, unsorted_fault}
+use Rattle.mode_network.specs.Rules.{rank_of, node_cmp, name_cmp, arc_cmp, first_unsorted, lists_fault, IsAscending, IsRoad, is_same_mode, AreParts, HaveDurations, IsNetwork, or_else, row_fault, unsorted_fault}
 
 less_of : (o : Ordering) → is_lt o ≡ true → o ≡ Less
 less_of Less e = refl
@@ -101,8 +102,9 @@ pub nodes_total : IsTotalOrder node_cmp
 nodes_total = then_total (on_total (λ (a : Node). (rank_of a.key).0) int_cmp_total) (on_total (λ (a : Node). (rank_of a.key).1) nat_cmp_total)
 
 -- parts without a fault are those of a network
-pub network_of : (caps : Caps) (n : NetworkLists) → AreParts n → HaveDurations n.arcs → HaveDurations n.links → first_fault caps n ≡ None → IsNetwork n
-network_of caps n parts arcs_fit links_fit none =
+pub network_of : (caps : Caps) (n : NetworkLists) → AreParts n → HaveDurations n.arcs → HaveDurations n.links → lists_fault caps n ≡ None
+    → AreTrips (length n.days.bases) (length n.stops) n.trips → IsNetwork n
+network_of caps n parts arcs_fit links_fit none trips_fit =
     let (count, order) = neither _ _ none in
     let (nodes, after_nodes) = few caps.nodes (length (nodes_of n)) _ _ count in
     let (stops, after_stops) = few caps.stops (length n.stops) _ _ after_nodes in
@@ -129,6 +131,7 @@ network_of caps n parts arcs_fit links_fit none =
       links_ascend = ascending_from arc_cmp arcs_total _ 0 link_order;
       arcs_fit = arcs_fit;
       links_fit = links_fit;
+      trips_fit = trips_fit;
     }
 
 pub both : (a b : Bool) → a && b ≡ true → (a ≡ true) × (b ≡ true)

@@ -1,10 +1,13 @@
 -- Which nodes an endpoint of a query names.
-use Rattle.std.specs.Prelude.{◌≡◌, ℕ, ℤ, ◌<◌, ◌≤◌, ◌↔◌, List, Option, Some, None, slice_get, option_map}
+use Rattle.std.specs.Prelude.{◌≡◌, ℕ, ℤ, ◌<◌, ◌≤◌, ◌↔◌, List, [], map, Option, Some, None, slice_get, option_map}
+use Rattle.plan_base.specs.declared.places.Place.{Place}
+use Rattle.geo_length.specs.Nearest.{Point, IsClosest}
 use Rattle.mode_network.specs.declared.nodes.Node.{Node}
 use Rattle.mode_network.specs.declared.nodes.NodeKey.TheVariants.{Road as RoadKey}
 use Rattle.mode_network.specs.declared.endpoints.Endpoint.{Endpoint}
-use Rattle.mode_network.specs.declared.endpoints.Endpoint.TheVariants.{Road, Stop}
+use Rattle.mode_network.specs.declared.endpoints.Endpoint.TheVariants.{Road, Stop, Near}
 use Rattle.mode_network.specs.NetworkLists.{NetworkLists, stop_node}
+use Rattle.mode_network.specs.Rules.{rank_of}
 
 -- the node is the OSM node of this id, in the layer of some mode
 abbrev pub IsRoadCopy : List Node → ℤ → ℕ → Type 0
@@ -14,10 +17,31 @@ IsRoadCopy roads id v = (mode : ℕ) × (option_map (λ (node : Node). node.key)
 abbrev pub IsStopCopy : NetworkLists → List ℕ → ℕ → Type 0
 IsStopCopy n name v = (stop : ℕ) × (slice_get n.stop_names stop ≡ Some name) × (v ≡ stop_node n stop)
 
+-- the id and the place of a road node, and of each
+abbrev pub point_of : Node → Point
+point_of node = ((rank_of node.key).0, node.place)
+
+abbrev pub road_points : List Node → List Point
+road_points roads = map point_of roads
+
+-- the id of the road node that is nearest to a place, the lowest of those as near, and how far away it is; or there is no road node
+abbrev pub IsNearestRoad : List Node → Place → Option (ℤ × ℕ) → Type 0
+IsNearestRoad roads place (Some nearest) = IsClosest (road_points roads) place nearest.0 nearest.1
+IsNearestRoad roads place None = roads ≡ []
+
+-- the OSM node of the nearest road node, where that lies within two kilometres of the place
+pub record IsNearCopy (roads : List Node) (place : Place) (v : ℕ) : Type 0 where
+  pub id : ℤ
+  pub mm : ℕ
+  pub nearest : IsNearestRoad roads place (Some (id, mm))
+  pub within : mm ≤ 2000000
+  pub copy : IsRoadCopy roads id v
+
 -- the node is a copy of the endpoint
 abbrev pub IsCopy : NetworkLists → Endpoint → ℕ → Type 0
 IsCopy n (Road id) v = IsRoadCopy n.roads id v
 IsCopy n (Stop name) v = IsStopCopy n name v
+IsCopy n (Near place) v = IsNearCopy n.roads place v
 
 -- the nodes from the first of these numbers to before the second are those with the property; or none has it
 abbrev pub AreExactly : (ℕ → Type 0) → Option (ℕ × ℕ) → Type 0

@@ -2,6 +2,7 @@
 use Rattle.mode_network.specs.declared.network.Network.TheInside.{Inside}
 use Rattle.mode_network.specs.NetworkLists.{NetworkLists}
 use Rattle.mode_network.specs.Rules.{IsNetwork}
+use Rattle.mode_network.specs.Timetables.{IsTimetableOf}
 use Rattle.mode_network.specs.Indexes.{AreIndexes}
 
 abbrev pub lists_of : Inside → NetworkLists
@@ -13,8 +14,10 @@ lists_of n = record {
   switches = n.switches.items;
   arcs = n.arcs.items;
   links = n.links.items;
+  trips = n.timetable.trips;
 }
 
 pub record IsKept (n : Inside) : Type 0 where
   pub rules : IsNetwork (lists_of n)
+  pub timetable : IsTimetableOf (lists_of n) n.timetable
   pub indexes : AreIndexes (lists_of n) n.arc_offsets.items n.link_offsets.items n.linked.items

@@ -1,10 +1,12 @@
 -- Journeys over a network.
 use Rattle.std.specs.Prelude.{◌≡◌, ℕ, ◌+◌, ◌≤◌, List, [], ◌∷◌, ◌++◌, Option, Some, None, Contains, option_to_list}
 use Rattle.search_laws.specs.Collapse.{collapse}
+use Rattle.timetable_arcs.specs.declared.trips.Call.{Call}
+use Rattle.timetable_arcs.specs.Trips.{TripLists, IsRide, arrival_of, departure_of}
 use Rattle.mode_network.specs.declared.nodes.Arc.{Arc}
 use Rattle.mode_network.specs.declared.steps.Step.{Step}
-use Rattle.mode_network.specs.declared.steps.Step.TheVariants.{Wait, Road, Link, Stand}
-use Rattle.mode_network.specs.NetworkLists.{NetworkLists, mode_at}
+use Rattle.mode_network.specs.declared.steps.Step.TheVariants.{Wait, Road, Link, Stand, Ride}
+use Rattle.mode_network.specs.NetworkLists.{NetworkLists, mode_at, stop_node}
 
 -- where and when a journey starts, and its steps
 pub record Route : Type 0 where
@@ -27,6 +29,10 @@ IsStep n v t (Wait until) w u letter = (t ≤ until) × (w ≡ v) × (u ≡ unti
 IsStep n v t (Road to) w u letter = (ms : ℕ) × Leads n.arcs v to ms × (w ≡ to) × (u ≡ t + ms) × (letter ≡ mode_at n.roads v)
 IsStep n v t (Link to) w u letter = (ms : ℕ) × Leads n.links v to ms × (w ≡ to) × (u ≡ t + ms) × (letter ≡ None)
 IsStep n v t Stand w u letter = (mode : ℕ) × (mode_at n.roads v ≡ Some mode) × (w ≡ v) × (u ≡ t) × (letter ≡ Some mode)
+IsStep n v t (Ride trip day board alight) w u letter =
+    (run : TripLists) × (on : Call) × (off : Call) × IsRide n.trips trip day board alight run on off
+    × (v ≡ stop_node n on.stop) × (t ≤ departure_of n.days.bases day on)
+    × (w ≡ stop_node n off.stop) × (u ≡ arrival_of n.days.bases day off) × (letter ≡ Some run.letter)
 
 -- the steps lead from v at t to w at u, each from where and when the one before it ended, and these are their letters
 abbrev pub AreSteps : NetworkLists → ℕ → ℕ → List Step → ℕ → ℕ → List ℕ → Type 0

@@ -1,5 +1,6 @@
-use Rattle.std.specs.Prelude.{ℕ, ◌+◌, List, ◌++◌, length, Option, None, Some, slice_get, option_and_then}
+use Rattle.std.specs.Prelude.{ℕ, ◌+◌, ◌-◌, ◌&&◌, nat_le, nat_lt, if◌then◌else◌, List, ◌++◌, length, Option, None, Some, slice_get, option_and_then}
 use Rattle.service_days.specs.DaysMeaning.{DaysMeaning}
+use Rattle.timetable_arcs.specs.Trips.{TripLists}
 use Rattle.mode_network.specs.declared.nodes.Node.{Node}
 use Rattle.mode_network.specs.declared.nodes.Arc.{Arc}
 use Rattle.mode_network.specs.declared.nodes.NodeKey.{NodeKey}
@@ -14,6 +15,7 @@ pub record NetworkLists : Type 0 where
   pub switches : List Node
   pub arcs : List Arc
   pub links : List Arc
+  pub trips : List TripLists
 
 -- the nodes in the order of their numbers: the road nodes, then the stops, then the switches
 abbrev pub nodes_of : NetworkLists → List Node
@@ -28,6 +30,11 @@ mode_of (Switch id) = None
 -- the road mode of the node of this number
 abbrev pub mode_at : List Node → ℕ → Option ℕ
 mode_at roads v = option_and_then (λ (node : Node). mode_of node.key) (slice_get roads v)
+
+-- the stop that has this node number, by its place among the stops
+abbrev pub stop_at : NetworkLists → ℕ → Option ℕ
+stop_at n v =
+    if nat_le (length n.roads) v && nat_lt (v - length n.roads) (length n.stops) then Some (v - length n.roads) else None
 
 -- the node number of a stop
 abbrev pub stop_node : NetworkLists → ℕ → ℕ

@@ -9,12 +9,14 @@ use Rattle.plain_texts.specs.Numbers.{IsId}
 use Rattle.plan_base.specs.declared.limits.Caps.{Caps}
 use Rattle.plan_base.specs.declared.limits.Kind.{Kind}
 use Rattle.plan_base.specs.declared.limits.Kind.TheVariants.{Nodes, Arcs, Links, Stops}
+use Rattle.timetable_arcs.specs.TripRules.{table_fault, AreTrips}
+use Rattle.timetable_arcs.specs.declared.faults.TableFault.{TableFault}
 use Rattle.mode_network.specs.declared.nodes.Node.{Node}
 use Rattle.mode_network.specs.declared.nodes.Arc.{Arc}
 use Rattle.mode_network.specs.declared.nodes.NodeKey.{NodeKey}
 use Rattle.mode_network.specs.declared.nodes.NodeKey.TheVariants.{Road, Stop, Switch}
 use Rattle.mode_network.specs.declared.faults.NetFault.{NetFault}
-use Rattle.mode_network.specs.declared.faults.NetFault.TheVariants.{OutOfOrder, BadEnd, TooMany, OutOfMemory}
+use Rattle.mode_network.specs.declared.faults.NetFault.TheVariants.{OutOfOrder, BadEnd, Table, TooMany, OutOfMemory}
 use Rattle.mode_network.specs.NetworkLists.{NetworkLists, nodes_of, mode_at}
 
 -- ids and then modes: what road nodes are ordered by, and switches, which have no mode
@@ -86,14 +88,21 @@ abbrev pub or_else : Option NetFault → Option NetFault → Option NetFault
 or_else (Some fault) later = Some fault
 or_else None later = later
 
--- the first rule of a network that its parts break
-abbrev pub first_fault : Caps → NetworkLists → Option NetFault
-first_fault caps n =
+-- the first rule of nodes, arcs and links that the parts break
+abbrev pub lists_fault : Caps → NetworkLists → Option NetFault
+lists_fault caps n =
     or_else (count_fault caps n)
     (or_else (unsorted_fault Nodes (first_unsorted node_cmp 0 n.roads))
     (or_else (unsorted_fault Stops (first_unsorted name_cmp 0 n.stop_names))
     (or_else (unsorted_fault Nodes (first_unsorted node_cmp 0 n.switches))
     (or_else (arcs_fault n) (links_fault n)))))
+
+abbrev pub trips_fault : Caps → NetworkLists → Option TableFault
+trips_fault caps n = table_fault caps (length n.days.bases) (length n.stops) n.trips
+
+-- the first rule of a network that its parts break: those of the timetable come last
+abbrev pub first_fault : Caps → NetworkLists → Option NetFault
+first_fault caps n = or_else (lists_fault caps n) (option_map Table (trips_fault caps n))
 
 -- what a road node, the stop at a place of its list, and a switch have as their key
 abbrev pub IsRoad : NodeKey → Type 0
@@ -143,12 +152,14 @@ pub record IsNetwork (n : NetworkLists) : Type 0 where
   pub links_ascend : IsAscending arc_cmp n.links
   pub arcs_fit : HaveDurations n.arcs
   pub links_fit : HaveDurations n.links
+  pub trips_fit : AreTrips (length n.days.bases) (length n.stops) n.trips
 
 -- a refusal has its cause in the parts; want of memory has none
 abbrev pub IsFaultOf : Caps → NetworkLists → NetFault → Type 0
 IsFaultOf caps n OutOfMemory = Unit {0}
 IsFaultOf caps n (OutOfOrder kind row) = first_fault caps n ≡ Some (OutOfOrder kind row)
 IsFaultOf caps n (BadEnd kind row) = first_fault caps n ≡ Some (BadEnd kind row)
+IsFaultOf caps n (Table fault) = first_fault caps n ≡ Some (Table fault)
 IsFaultOf caps n (TooMany kind) = first_fault caps n ≡ Some (TooMany kind)
 
 -- there is one proof at most that a key is such a key, and that lists are those of a network

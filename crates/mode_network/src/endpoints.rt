@@ -2,6 +2,7 @@
 
 ghost use Rattle.std.specs.Prelude.{◌≡◌, List, ℕ};
 
+use plan_base::Place;
 use std::marker::Model;
 
 /// Bytes. A contract sees them as a list.
@@ -45,4 +46,6 @@ pub enum Endpoint {
     Road(i64),
     /// The stop of this name.
     Stop(Bytes),
+    /// The OSM node of the road node that is nearest to this place, which has to lie within two kilometres.
+    Near(Place),
 }

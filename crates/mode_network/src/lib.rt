@@ -2,6 +2,7 @@
 //! journey over them is.
 #![tactic(auto)]
 
+mod bases;
 pub mod endpoints;
 pub mod faults;
 mod indexes;

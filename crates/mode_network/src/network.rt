@@ -1,23 +1,31 @@
 //! A network: its lists, and what finds things in them.
 
 ghost use Rattle.std.specs.Prelude.{◌≡◌, ◌<◌, ◌≤◌, ◌^◌, ◌↔◌, ℕ, Some, None, ◌++◌, length, All, IfOk, OnOk, IfErr, slice_get};
-ghost use Rattle.mode_network.specs.NetworkLists.{nodes_of, mode_at, stop_node};
+ghost use Rattle.mode_network.specs.NetworkLists.{nodes_of, mode_at, stop_at, stop_node};
 ghost use Rattle.mode_network.specs.Rules.{AreParts, IsNetwork, IsFaultOf, IsAscending, IsRoad, arc_cmp, node_cmp, name_cmp, rank_of, first_fault};
 ghost use Rattle.mode_network.specs.Journeys.{IsDuration};
-ghost use Rattle.mode_network.specs.Copies.{IsRoadCopy, IsStopCopy, AreExactly, AreCopies, IsPlaceOf};
+ghost use Rattle.mode_network.specs.Timetables.{IsTimetableOf};
+ghost use Rattle.timetable_arcs.specs.Table.{IsTable};
+ghost use Rattle.mode_network.specs.Copies.{point_of, IsNearestRoad, IsNearCopy, IsRoadCopy, IsStopCopy, AreExactly, AreCopies, IsPlaceOf};
 ghost use Rattle.mode_network.specs.Indexes.{range_from, IsRange, is_end_of};
 
+use crate::bases::bases;
 use crate::endpoints::Endpoint;
 use crate::faults::NetFault;
 use crate::indexes::{ends, offsets};
 use crate::nodes::{Arc, Node, NodeKey};
 use crate::parts::Parts;
 use crate::rules;
+use geo_length::with_point;
 use plain_texts::Name;
-use plan_base::Caps;
+use plan_base::{Caps, Place};
 use service_days::Days;
 use std::alloc::Global;
 use std::marker::Model;
+use timetable_arcs::Timetable;
+
+/// How far away from a place its nearest road node may lie, in millimetres.
+const MOST_AWAY: u64 = 2_000_000;
 
 /// The network of a region. Each keeps the rules of [`Network::build`]; a contract sees its lists.
 #[derive(Drop)]
@@ -29,6 +37,7 @@ pub struct Network {
     switches: Vec<Node>,
     arcs: Vec<Arc>,
     links: Vec<Arc>,
+    timetable: Timetable,
     arc_offsets: Vec<u32>,
     link_offsets: Vec<u32>,
     linked: Vec<bool>,
@@ -51,22 +60,20 @@ impl Network {
     /// counts of nodes, stops, arcs and links are within `caps`; the road nodes ascend strictly by (id, mode),
     /// the stop names by bytes and the switches by id; each arc in turn joins different road nodes of one mode,
     /// and the arcs ascend strictly by (from, to); each link in turn joins a road node with a node that is none,
-    /// and the links ascend likewise.
+    /// and the links ascend likewise; and the trips
+    /// keep the rules of [`Timetable::build`].
     pub fn build(alloc: Global, parts: Parts, caps: &Caps) -> Result<Network, NetFault>
         requires { AreParts parts }
         ensures built { IfOk result (λ network. network ≡ parts) }
         ensures faultless { OnOk result (first_fault caps.now parts ≡ None) }
         ensures fault { IfErr result (IsFaultOf caps.now parts) }
     {
-        if let Some(fault) = rules::first_fault(caps, &parts) {
+        if let Some(fault) = rules::lists_fault(caps, &parts) {
             return Err(fault);
         }
         rules::have_durations(&parts.arcs);
         rules::have_durations(&parts.links);
         let nodes = rules::node_count(&parts) as u32;
-        let arc_offsets = offsets(alloc, nodes, &parts.arcs)?;
-        let link_offsets = offsets(alloc, nodes, &parts.links)?;
-        let linked = ends(alloc, nodes, &parts.links)?;
         let Parts {
             days,
             roads,
@@ -75,7 +82,14 @@ impl Network {
             switches,
             arcs,
             links,
+            trips,
         } = parts;
+        let bases = bases(alloc, &days)?;
+        let timetable = Timetable::build(alloc, bases, stops.len() as u32, trips, caps)?;
+        timetable.known();
+        let arc_offsets = offsets(alloc, nodes, &arcs)?;
+        let link_offsets = offsets(alloc, nodes, &links)?;
+        let linked = ends(alloc, nodes, &links)?;
         Ok(Network {
             days,
             roads,
@@ -84,6 +98,7 @@ impl Network {
             switches,
             arcs,
             links,
+            timetable,
             arc_offsets,
             link_offsets,
             linked,
@@ -143,6 +158,18 @@ impl Network {
         self.roads.len() as u32 + stop
     }
 
+    /// The stop of the node of this number, by its place among the stops; None exactly where the node is no stop.
+    pub fn stop_at(&self, v: u32) -> Option<u32>
+        ensures { result ≡ stop_at self.now v }
+    {
+        let (roads, v) = (self.roads.len(), v as usize);
+        if roads <= v && v - roads < self.stops.len() {
+            Some((v - roads) as u32)
+        } else {
+            None
+        }
+    }
+
     /// The road arcs, ascending by (from, to).
     pub fn arcs(&self) -> &[Arc]
         ensures { result.now ≡ self.now.arcs }
@@ -183,6 +210,15 @@ impl Network {
         )
     }
 
+    /// The timetable of the network's trips.
+    pub fn timetable(&self) -> &Timetable
+        ensures of { IsTimetableOf self.now result.now }
+        ensures keeps { IsTable result.now }
+    {
+        self.timetable.known();
+        &self.timetable
+    }
+
     /// Whether some link begins or ends at `v`.
     pub fn has_link(&self, v: u32) -> bool
         requires { v < length (nodes_of self.now) }
@@ -208,13 +244,34 @@ impl Network {
     }
 
     /// The copies of an endpoint: the first node number, and one past the last; None exactly where there is none.
-    /// Those of an OSM id are the road nodes with this id, in the layers of all modes; that of a stop is the stop.
+    /// Those of an OSM id are the road nodes with this id, in the layers of all modes; that of a stop is the stop;
+    /// those of a place are those of the id of the nearest road node, where that is within two kilometres.
     pub fn copies(&self, endpoint: &Endpoint) -> Option<(u32, u32)>
         ensures { AreCopies self.now endpoint.now result }
     {
         match endpoint {
             Endpoint::Road(id) => self.copies_of_id(*id),
             Endpoint::Stop(name) => self.copies_of_name(name.as_slice()),
+            Endpoint::Near(place) => self.copies_near(*place),
+        }
+    }
+
+    /// The id of the road node of any layer that is nearest to a place, and how far away it is in millimetres: the least
+    /// (length, id). None exactly where there is no road node.
+    pub fn nearest_road(&self, place: Place) -> Option<(i64, u64)>
+        ensures { IsNearestRoad self.now.roads place result }
+    {
+        nearest_road(&self.roads, place)
+    }
+
+    fn copies_near(&self, place: Place) -> Option<(u32, u32)>
+        ensures { AreExactly (IsNearCopy self.now.roads place) result }
+    {
+        let (id, mm) = self.nearest_road(place)?;
+        if mm <= MOST_AWAY {
+            self.copies_of_id(id)
+        } else {
+            None
         }
     }
 
@@ -266,6 +323,23 @@ fn id_of(key: NodeKey) -> i64
         NodeKey::Road(_, id) | NodeKey::Switch(id) => id,
         NodeKey::Stop(_) => 0,
     }
+}
+
+fn point_of(node: &Node) -> (i64, Place)
+    ensures { result ≡ point_of node.now }
+{
+    (id_of(node.key), node.place)
+}
+
+/// The id of the nearest of these road nodes, and how far away it is.
+fn nearest_road(roads: &[Node], place: Place) -> Option<(i64, u64)>
+    ensures { IsNearestRoad roads.now place result }
+{
+    let mut nearest = None;
+    for node in roads {
+        nearest = with_point(&point_of(node), place, u64::MAX, nearest);
+    }
+    nearest
 }
 
 /// The places of the road nodes with this id: the first, and one past the last.

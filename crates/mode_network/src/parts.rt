@@ -4,6 +4,7 @@ use crate::nodes::{Arc, Node};
 use plain_texts::Name;
 use service_days::Days;
 use std::marker::Model;
+use timetable_arcs::Trip;
 
 /// The lists that [`Network::build`](crate::Network::build) takes. A contract sees them as lists.
 ///
@@ -19,6 +20,7 @@ pub struct Parts {
     pub switches: Vec<Node>,
     pub arcs: Vec<Arc>,
     pub links: Vec<Arc>,
+    pub trips: Vec<Trip>,
 }
 
 impl Model for Parts {
@@ -26,5 +28,5 @@ impl Model for Parts {
 
     ghost Value = { NetworkLists };
 
-    ghost view = { λ p. record { days = p.days; roads = p.roads.items; stop_names = p.stop_names.items; stops = p.stops.items; switches = p.switches.items; arcs = p.arcs.items; links = p.links.items } };
+    ghost view = { λ p. record { days = p.days; roads = p.roads.items; stop_names = p.stop_names.items; stops = p.stops.items; switches = p.switches.items; arcs = p.arcs.items; links = p.links.items; trips = p.trips.items } };
 }

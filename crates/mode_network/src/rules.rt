@@ -3,7 +3,7 @@
 ghost use Rattle.std.specs.Prelude.{◌≡◌, ◌<◌, ◌^◌, length, not, option_map};
 ghost use Rattle.std.specs.List.{position};
 ghost use Rattle.mode_network.specs.NetworkLists.{mode_at, nodes_of};
-ghost use Rattle.mode_network.specs.Rules.{joins_modes, joins_layers, row_fault, unsorted_fault, count_fault, first_fault, arcs_fault, links_fault, HaveDurations};
+ghost use Rattle.mode_network.specs.Rules.{joins_modes, joins_layers, row_fault, unsorted_fault, count_fault, lists_fault, arcs_fault, links_fault, HaveDurations};
 
 use crate::faults::NetFault;
 use crate::nodes::{Arc, Node, NodeKey};
@@ -101,9 +101,9 @@ fn count_fault(caps: &Caps, parts: &Parts) -> Option<NetFault>
     Some(NetFault::TooMany { kind })
 }
 
-/// The first rule that the parts break.
-pub(crate) fn first_fault(caps: &Caps, parts: &Parts) -> Option<NetFault>
-    ensures { result ≡ first_fault caps.now parts.now }
+/// The first rule of nodes, arcs and links that the parts break.
+pub(crate) fn lists_fault(caps: &Caps, parts: &Parts) -> Option<NetFault>
+    ensures { result ≡ lists_fault caps.now parts.now }
 {
     count_fault(caps, parts)
         .or_else(|| unsorted_fault(Kind::Nodes, first_unsorted(&parts.roads)))

@@ -4,12 +4,14 @@ ghost use Rattle.mode_network.specs.Rules.{AreParts, IsRoad, IsStop, IsSwitch};
 
 use crate::{Arc, Bytes, Endpoint, NetFault, Network, Node, NodeKey, Parts};
 use plain_texts::Name;
-use plan_base::{Caps, Kind, Place};
+use plan_base::{Caps, DaySet, Kind, Place};
 use service_days::Days;
 use std::alloc::Global;
 use std::test::Fail;
+use timetable_arcs::{Call, TableFault, Trip};
 
-/// The lists of a network: road nodes by mode and id, stops by name, switches by id, and (from, to, ms).
+/// The lists of a network: road nodes by mode and id, stops by name, switches by id, (from, to, ms), and of each bus of
+/// the first date the stops of its calls.
 #[derive(Clone, Copy)]
 struct Rows<'a> {
     roads: &'a [(u8, i64)],
@@ -17,6 +19,7 @@ struct Rows<'a> {
     switches: &'a [i64],
     arcs: &'a [(u32, u32, u32)],
     links: &'a [(u32, u32, u32)],
+    trips: &'a [&'a [u32]],
 }
 
 fn road(place: Place, mode: u8, id: i64) -> Option<Node>
@@ -101,6 +104,34 @@ fn names(alloc: Global, texts: &[&str]) -> Result<Vec<Name>, Fail> {
     Ok(names)
 }
 
+fn trips(alloc: Global, rows: &[&[u32]]) -> Result<Vec<Trip>, Fail> {
+    let mut trips = Vec::new(alloc);
+    for stops in rows {
+        trips.push(Trip {
+            letter: 6,
+            days: DaySet(1 << 7),
+            name: Name::from_slice(alloc, b"bus")?.ok_or("no name")?,
+            calls: calls(alloc, stops)?,
+        })?;
+    }
+    Ok(trips)
+}
+
+/// A call at each of these stops, all at eight o'clock.
+fn calls(alloc: Global, stops: &[u32]) -> Result<Vec<Call>, Fail> {
+    let mut calls = Vec::new(alloc);
+    for stop in stops {
+        calls.push(Call {
+            stop: *stop,
+            arr: 28_800,
+            dep: 28_800,
+            board: true,
+            alight: true,
+        })?;
+    }
+    Ok(calls)
+}
+
 /// The parts of these lists, with one day.
 fn parts(alloc: Global, rows: Rows<'_>) -> Result<Parts, Fail>
     ensures { IfOk result AreParts }
@@ -118,6 +149,7 @@ fn parts(alloc: Global, rows: Rows<'_>) -> Result<Parts, Fail>
         switches: switches(alloc, place, rows.switches)?,
         arcs: arcs(alloc, rows.arcs)?,
         links: arcs(alloc, rows.links)?,
+        trips: trips(alloc, rows.trips)?,
     })
 }
 
@@ -128,6 +160,7 @@ const TOWN: Rows<'static> = Rows {
     switches: &[9],
     arcs: &[(1, 3, 79515), (3, 1, 79515), (3, 4, 53203)],
     links: &[(1, 5, 60000), (2, 7, 30000), (5, 1, 60000), (7, 1, 30000)],
+    trips: &[&[0, 1]],
 };
 
 const EMPTY: Rows<'static> = Rows {
@@ -136,6 +169,7 @@ const EMPTY: Rows<'static> = Rows {
     switches: &[],
     arcs: &[],
     links: &[],
+    trips: &[],
 };
 
 /// Limits that no test comes near.
@@ -151,6 +185,10 @@ fn unsorted(kind: Kind, row: u64) -> Option<NetFault> {
 
 fn bad_end(kind: Kind, row: u64) -> Option<NetFault> {
     Some(NetFault::BadEnd { kind, row })
+}
+
+fn table(fault: TableFault) -> Option<NetFault> {
+    Some(NetFault::Table(fault))
 }
 
 /// The fault of these lists under limits of nodes, stops, arcs and links.
@@ -271,6 +309,7 @@ fn the_first_step_with_a_fault_answers(rt: HostRuntime) -> Result<(), Fail> {
         switches: &[2, 1],
         arcs: &[(0, 0, 1)],
         links: &[(0, 1, 1)],
+        trips: &[&[0, 1], &[0, 2], &[0]],
     };
     let roads = Rows {
         roads: &[(0, 4), (0, 5)],
@@ -292,13 +331,23 @@ fn the_first_step_with_a_fault_answers(rt: HostRuntime) -> Result<(), Fail> {
         links: &[(0, 2, 1)],
         ..arcs
     };
-    let cases: [(Rows<'_>, Option<NetFault>); 6] = [
+    let trips = Rows {
+        trips: &[&[0, 1], &[0]],
+        ..links
+    };
+    let sound = Rows {
+        trips: &[&[0, 1], &[1, 0]],
+        ..links
+    };
+    let cases: [(Rows<'_>, Option<NetFault>); 8] = [
         (all, unsorted(Kind::Nodes, 1)),
         (roads, unsorted(Kind::Stops, 1)),
         (stops, unsorted(Kind::Nodes, 1)),
         (switches, bad_end(Kind::Arcs, 0)),
         (arcs, bad_end(Kind::Links, 0)),
-        (links, None),
+        (links, table(TableFault::UnknownStop { trip: 1, call: 1 })),
+        (trips, table(TableFault::BadTrip { trip: 1 })),
+        (sound, None),
     ];
     for (rows, wanted) in cases {
         assert_eq!(rt; fault(rt.alloc(), rows, MANY)?, wanted);
@@ -381,6 +430,22 @@ fn durations_and_copies_are_found(rt: HostRuntime) -> Result<(), Fail> {
 }
 
 #[test]
+fn a_place_has_a_nearest_road_node(rt: HostRuntime) -> Result<(), Fail> {
+    let town = Network::build(rt.alloc(), parts(rt.alloc(), TOWN)?, &Caps::FULL)?;
+    let empty = Network::build(rt.alloc(), parts(rt.alloc(), EMPTY)?, &Caps::FULL)?;
+    // all road nodes of the town lie at one place, so the lowest id counts
+    let near = Place::new(480_005_000, 110_000_000).ok_or("no place")?;
+    assert_eq!(rt; town.nearest_road(near), Some((-7, 55_660)));
+    assert_eq!(rt; town.copies(&Endpoint::Near(near)), Some((0, 1)));
+    assert_eq!(rt; empty.nearest_road(near), None);
+    assert_eq!(rt; empty.copies(&Endpoint::Near(near)), None);
+    let far = Place::new(490_000_000, 110_000_000).ok_or("no place")?;
+    assert_eq!(rt; town.nearest_road(far), Some((-7, 111_320_000)));
+    assert_eq!(rt; town.copies(&Endpoint::Near(far)), None);
+    Ok(())
+}
+
+#[test]
 fn stops_have_names_and_nodes(rt: HostRuntime) -> Result<(), Fail> {
     let parts = parts(rt.alloc(), TOWN)?;
     assert_eq!(rt; parts.stop_names.len(), 2);
@@ -389,5 +454,9 @@ fn stops_have_names_and_nodes(rt: HostRuntime) -> Result<(), Fail> {
     assert_eq!(rt; network.stop_name(1), b"B".as_slice());
     assert_eq!(rt; network.stop_node(0), 5);
     assert_eq!(rt; network.stop_node(1), 6);
+    assert_eq!(rt; network.stop_at(4), None);
+    assert_eq!(rt; network.stop_at(6), Some(1));
+    assert_eq!(rt; network.stop_at(7), None);
+    assert_eq!(rt; network.timetable().trips().len(), 1);
     Ok(())
 }

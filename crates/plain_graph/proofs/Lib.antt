@@ -1,1 +1,2 @@
 pub mod Same
+mod RunLemmas

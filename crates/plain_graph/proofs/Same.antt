@@ -1,19 +1,33 @@
 -- The walks of the graph of a network are its journeys, step by step.
-use Rattle.std.proofs.Common.{◌≡◌, ℕ, ◌++◌, ◌∷◌, [], ◌∙◌, List, Option, Some, None, refl, ap, sym, subst}
-use Rattle.std.specs.Prelude.{option_to_list}
+use Rattle.std.proofs.Common.{◌≡◌, ℕ, ◌++◌, ◌∷◌, [], ◌∙◌, ◌≤◌, ◌<◌, List, length, Option, Some, None, refl, ap, sym, subst, arith}
+use Rattle.std.specs.Prelude.{option_to_list, option_map, slice_index_or}
 use Rattle.std.proofs.lemmas.List.{get_or_default}
+use Rattle.std.proofs.lemmas.Option.{slice_get-get_or, slice_get_within, get_or_from_slice_get}
 use Rattle.search_laws.specs.GraphLaws.{HasArc}
 use Rattle.search_laws.specs.Walks.{wait, arc, IsWalk, word_from}
+use Rattle.timetable_arcs.specs.declared.trips.Call.{Call}
+use Rattle.timetable_arcs.specs.declared.trips.Instance.{Instance}
+use Rattle.timetable_arcs.specs.declared.rides.Ride.{Ride as RideCalls}
+use Rattle.timetable_arcs.specs.Trips.{TripLists, IsRunOf, IsRide, arrival_of, departure_of}
+use Rattle.timetable_arcs.specs.Patterns.{TableLists, IsIn, IsAlike, AreAlike, trip_at, pattern_trip, call_of, departs, arrives, no_trip, no_call}
+use Rattle.timetable_arcs.specs.Rides.{IsRideAt}
+use Rattle.timetable_arcs.specs.Table.{IsTable}
+use Rattle.timetable_arcs.proofs.TableLemmas.{next_first, next_none, trip_of_run}
+use Rattle.timetable_arcs.proofs.TripLemmas.{known_stops}
+use Rattle.timetable_arcs.proofs.RunLemmas.{within_patterns}
 use Rattle.mode_network.specs.declared.nodes.Arc.{Arc}
-use Rattle.mode_network.specs.declared.steps.Step.TheVariants.{Wait, Road as TakeRoad, Link as TakeLink, Stand as StandStill}
-use Rattle.mode_network.specs.NetworkLists.{NetworkLists}
+use Rattle.mode_network.specs.declared.steps.Step.{Step}
+use Rattle.mode_network.specs.declared.steps.Step.TheVariants.{Wait, Road as TakeRoad, Link as TakeLink, Stand as StandStill, Ride as TakeRide}
+use Rattle.mode_network.specs.NetworkLists.{NetworkLists, stop_node}
 use Rattle.mode_network.specs.Rules.{IsNetwork}
+use Rattle.mode_network.specs.Timetables.{IsTimetableOf}
 use Rattle.mode_network.specs.Journeys.{Leads, IsStep}
 use Rattle.plain_graph.specs.declared.plain.PlainArc.{PlainArc}
-use Rattle.plain_graph.specs.declared.plain.PlainArc.TheVariants.{Road, Link, Stand}
-use Rattle.plain_graph.specs.PlainArcs.{plain_arc, plain_meaning, graph_arc, arrival, no_arc}
+use Rattle.plain_graph.specs.declared.plain.PlainArc.TheVariants.{Road, Link, Stand, Ride}
+use Rattle.plain_graph.specs.PlainArcs.{plain_arc, plain_meaning, graph_arc, run_at, arrival, no_arc, pattern_call}
 use Rattle.plain_graph.specs.Simulation.{step_of, WalksAreJourneys, HasWalk, JourneysAreWalks}
-use Rattle.plain_graph.specs.OutArcs.{IsListed, IsOut, out_of, place_of}
+use Rattle.plain_graph.specs.OutArcs.{IsListed, IsRideFrom, IsOut, out_of, place_of}
+use Rattle.plain_graph.specs.Rides.{takes, alights_within}
 use Rattle.plain_graph.specs.Lawful.{node_of}
 use Rattle.mode_network.proofs.RuleLemmas.{some_is}
 
@@ -34,67 +48,193 @@ listed_of arcs v w ms (place, within, is) = record {
   begins = refl;
 }
 
-module _ (n : NetworkLists) (network : IsNetwork n) where
-  -- an arc is a step of the network
-  pub step_at : (v t : ℕ) (a : PlainArc) → IsOut n v a → IsStep n v t (step_of a) (graph_arc n v a).to (arrival t a) (graph_arc n v a).letter
-  step_at v t (Road a) out = (a.ms, leads_of n.arcs v a out, refl, refl, refl)
-  step_at v t (Link a) out = (a.ms, leads_of n.links v a out, refl, refl, refl)
-  step_at v t Stand (mode, has) = (mode, has, refl, refl, has)
+module _ (n : NetworkLists) (network : IsNetwork n) (table : TableLists) (keeps : IsTable table) (of : IsTimetableOf n table) where
+  -- a run of a pattern may be ridden where the pattern may
+  run_rides : (stop : ℕ) (ride : RideCalls) → IsRideAt table stop ride → (run : Instance) → IsIn table ride.pattern run
+      → IsRide n.trips run.trip run.day ride.board ride.alight (trip_at table run.trip) (call_of table run ride.board) (call_of table run ride.alight)
+  run_rides stop ride is run is_in =
+      let runs = keeps.patterns.are_runs ride.pattern run is_in in
+      let alike = keeps.patterns.alike ride.pattern run is_in in
+      let within = alights_within table keeps stop ride is run is_in in
+      let boards_within = is.later in
+      record {
+        run = subst (λ trips. IsRunOf trips run.trip run.day (trip_at table run.trip)) of.trips runs;
+        on_is = slice_get-get_or (trip_at table run.trip).calls ride.board no_call (omega (arith, within, boards_within));
+        off_is = slice_get-get_or (trip_at table run.trip).calls ride.alight no_call within;
+        later = is.later;
+        boards = sym (alike.each ride.board no_call (omega (arith, is.within, boards_within))).board ∙ is.boards;
+        alights = sym (alike.each ride.alight no_call is.within).alight ∙ is.alights;
+      }
 
-  pub walks_are_journeys : WalksAreJourneys n
+  ride_step : (v t at : ℕ) (ride : RideCalls) → IsRideFrom n table v ride → (run : Option Instance) → run_at table t ride ≡ run
+      → option_map (λ r. arrives table r ride.alight) run ≡ Some at
+      → (step : Step) × (option_map (λ (r : Instance). TakeRide r.trip r.day ride.board ride.alight) run ≡ Some step) × IsStep n v t step (graph_arc n table v (Ride ride)).to at (graph_arc n table v (Ride ride)).letter
+  ride_step v t at ride out None e none = cc
+  ride_step v t at ride out (Some run) e some =
+      let is = out.ride_at in
+      let (is_in, in_time) = takes table keeps out.stop ride is t run e in
+      let alike = keeps.patterns.alike ride.pattern run is_in in
+      let on = alike.each ride.board no_call (omega (arith, is.within, is.later)) in
+      let off = alike.each ride.alight no_call is.within in
+      let bases = of.bases in (
+        TakeRide run.trip run.day ride.board ride.alight,
+        refl,
+        (
+          trip_at table run.trip,
+          call_of table run ride.board,
+          call_of table run ride.alight,
+          run_rides out.stop ride is run is_in,
+          out.at ∙ ap (stop_node n) (sym is.at_stop ∙ on.stop),
+          subst (λ bases. t ≤ departure_of bases run.day (call_of table run ride.board)) bases in_time,
+          ap (stop_node n) off.stop,
+          sym (some_is some) ∙ ap (λ bases. arrival_of bases run.day (call_of table run ride.alight)) bases,
+          ap Some alike.letter,
+        ),
+      )
+
+  -- an arc that arrives is a step of the network
+  pub step_at : (v t at : ℕ) (a : PlainArc) → IsOut n table v a → arrival table t a ≡ Some at
+      → (step : Step) × (step_of table t a ≡ Some step) × IsStep n v t step (graph_arc n table v a).to at (graph_arc n table v a).letter
+  step_at v t at (Road a) out e = (TakeRoad a.to, refl, (a.ms, leads_of n.arcs v a out, refl, sym (some_is e), refl))
+  step_at v t at (Link a) out e = (TakeLink a.to, refl, (a.ms, leads_of n.links v a out, refl, sym (some_is e), refl))
+  step_at v t at Stand (mode, has) e = (StandStill, refl, (mode, has, refl, sym (some_is e), has))
+  step_at v t at (Ride ride) out e = ride_step v t at ride out (run_at table t ride) refl e
+
+  pub walks_are_journeys : WalksAreJourneys n table
   walks_are_journeys v t [] w u (same, now) = ([], (same, now, refl))
   walks_are_journeys v t (wait until ∷ walk) w u (later, leads) =
       let rest = walks_are_journeys v until walk w u leads in
       (Wait until ∷ rest.0, (v, until, None, _, (later, refl, refl, refl), rest.1, refl))
-  walks_are_journeys v t (arc i ∷ walk) w u (at, has, arrives, leads) =
-      let rest = walks_are_journeys ((plain_meaning n).arc_at v i).to at walk w u leads in
-      let a = plain_arc n v i in
-      let step = step_at v t a (out_of n network v i has.arc) in
-      let first = subst (λ x. IsStep n v t (step_of a) (graph_arc n v a).to x (graph_arc n v a).letter) (some_is arrives) step in
-      (step_of a ∷ rest.0, (_, at, _, _, first, rest.1, refl))
+  walks_are_journeys v t (arc i ∷ walk) w u (at, has, arrives_at, leads) =
+      let rest = walks_are_journeys ((plain_meaning n table).arc_at v i).to at walk w u leads in
+      let step = step_at v t at (plain_arc n table v i) (out_of n network table keeps v i has.arc) arrives_at in
+      (step.0 ∷ rest.0, (_, at, _, _, step.2, rest.1, refl))
 
-  -- a step that is no wait is an arc
+  -- a step that is no wait is an arc that arrives no later
   record TakesArc (v t w u : ℕ) (letter : Option ℕ) : Type 0 where
     i : ℕ
-    has : HasArc (plain_meaning n) v i
-    arrives : (plain_meaning n).arrive v i t ≡ Some u
-    to : ((plain_meaning n).arc_at v i).to ≡ w
-    same : ((plain_meaning n).arc_at v i).letter ≡ letter
+    at : ℕ
+    has : HasArc (plain_meaning n table) v i
+    arrives_at : (plain_meaning n table).arrive v i t ≡ Some at
+    soon : at ≤ u
+    to : ((plain_meaning n table).arc_at v i).to ≡ w
+    same : ((plain_meaning n table).arc_at v i).letter ≡ letter
 
-  takes : (v t : ℕ) (a : PlainArc) (w u : ℕ) (letter : Option ℕ) → IsOut n v a
-      → (graph_arc n v a).to ≡ w → arrival t a ≡ u → (graph_arc n v a).letter ≡ letter → TakesArc v t w u letter
-  takes v t a w u letter out to arrives same =
-      let place = place_of n network v a out in
+  takes_arc : (v t at : ℕ) (a : PlainArc) (w u : ℕ) (letter : Option ℕ) → IsOut n table v a
+      → (graph_arc n table v a).to ≡ w → arrival table t a ≡ Some at → at ≤ u → (graph_arc n table v a).letter ≡ letter → TakesArc v t w u letter
+  takes_arc v t at a w u letter out to arrives_at soon same =
+      let place = place_of n network table keeps v a out in
       record {
         i = place.i;
-        has = record { node = node_of n network v a out; arc = place.within };
-        arrives = ap (λ (x : PlainArc). Some (arrival t x)) place.is ∙ ap Some arrives;
-        to = ap (λ (x : PlainArc). (graph_arc n v x).to) place.is ∙ to;
-        same = ap (λ (x : PlainArc). (graph_arc n v x).letter) place.is ∙ same;
+        at = at;
+        has = record { node = node_of n network table keeps of v a out; arc = place.within };
+        arrives_at = ap (arrival table t) place.is ∙ arrives_at;
+        soon = soon;
+        to = ap (λ (x : PlainArc). (graph_arc n table v x).to) place.is ∙ to;
+        same = ap (λ (x : PlainArc). (graph_arc n table v x).letter) place.is ∙ same;
       }
 
-  go_on : (v t w1 t1 : ℕ) (letter : Option ℕ) (w u : ℕ) (rest letters : List ℕ) → TakesArc v t w1 t1 letter → HasWalk n w1 t1 w u rest → letters ≡ option_to_list letter ++ rest
-      → HasWalk n v t w u letters
+  -- the arc, a wait until the step ends, and then on
+  go_on : (v t w1 t1 : ℕ) (letter : Option ℕ) (w u : ℕ) (rest letters : List ℕ) → TakesArc v t w1 t1 letter → HasWalk n table w1 t1 w u rest → letters ≡ option_to_list letter ++ rest
+      → HasWalk n table v t w u letters
   go_on v t w1 t1 letter w u rest letters first later e =
-      let g = plain_meaning n in
+      let g = plain_meaning n table in
       let word : word_from g (g.arc_at v first.i).to later.walk ≡ rest = subst (λ x. word_from g x later.walk ≡ rest) (sym first.to) later.word in
       record {
-        walk = arc first.i ∷ later.walk;
-        leads = (t1, first.has, first.arrives, subst (λ x. IsWalk g x t1 later.walk w u) (sym first.to) later.leads);
+        walk = arc first.i ∷ wait t1 ∷ later.walk;
+        leads = (first.at, first.has, first.arrives_at, (first.soon, subst (λ x. IsWalk g x t1 later.walk w u) (sym first.to) later.leads));
         word = rw (first.same, word) (sym e);
       }
 
-  pub journeys_are_walks : JourneysAreWalks n
+  -- the step of a ride: some run of its pattern is no later
+  ride_taken : (v t w u trip day board alight : ℕ) (letter : Option ℕ) → IsStep n v t (TakeRide trip day board alight) w u letter → TakesArc v t w u letter
+  ride_taken v t w u trip day board alight letter (held, on, off, rides, from, in_time, to, at, read) = on_run (run_at table t ride) refl
+    where
+      run : Instance
+      run = record { trip = trip; day = day }
+
+      is_run : IsRunOf table.trips trip day held
+      is_run = subst (λ trips. IsRunOf trips trip day held) (sym of.trips) rides.run
+
+      sorted : (p : ℕ) × IsIn table p run
+      sorted = keeps.patterns.each run held is_run
+
+      ride : RideCalls
+      ride = record { pattern = sorted.0; board = board; alight = alight }
+
+      alike : AreAlike (pattern_trip table sorted.0) (trip_at table trip)
+      alike = keeps.patterns.alike sorted.0 run sorted.1
+
+      held_is : trip_at table trip ≡ held
+      held_is = get_or_from_slice_get table.trips trip held no_trip is_run.is
+
+      on_is : call_of table run board ≡ on
+      on_is = ap (λ (x : TripLists). slice_index_or x.calls board no_call) held_is ∙ get_or_from_slice_get held.calls board on no_call rides.on_is
+
+      off_is : call_of table run alight ≡ off
+      off_is = ap (λ (x : TripLists). slice_index_or x.calls alight no_call) held_is ∙ get_or_from_slice_get held.calls alight off no_call rides.off_is
+
+      within : alight < length (pattern_trip table sorted.0).calls
+      within =
+          let inside = slice_get_within held.calls alight off rides.off_is in
+          let calls = ap (λ (x : TripLists). length x.calls) held_is in
+          omega (arith, inside, calls, alike.calls)
+
+      board_within : board < length (pattern_trip table sorted.0).calls
+      board_within = omega (arith, within, rides.later)
+
+      boards : IsAlike (pattern_call table sorted.0 board) on
+      boards = subst (IsAlike (pattern_call table sorted.0 board)) on_is (alike.each board no_call board_within)
+
+      ends : IsAlike (pattern_call table sorted.0 alight) off
+      ends = subst (IsAlike (pattern_call table sorted.0 alight)) off_is (alike.each alight no_call within)
+
+      is : IsRideAt table on.stop ride
+      is = record {
+        pattern = within_patterns table keeps.patterns sorted.0 run sorted.1;
+        later = rides.later;
+        within = within;
+        at_stop = boards.stop;
+        boards = boards.board ∙ rides.boards;
+        alights = ends.alight ∙ rides.alights;
+      }
+
+      on_stop : on.stop < length n.stops
+      on_stop =
+          let known = known_stops table.stops (trip_at table trip) (trip_of_run table keeps sorted.0 run sorted.1).known in
+          let inside : board < length (trip_at table trip).calls = omega (arith, board_within, alike.calls) in
+          subst (λ stops. on.stop < stops) of.stops (subst (λ (call : Call). call.stop < table.stops) on_is (known board no_call inside))
+
+      out : IsRideFrom n table v ride
+      out = record { stop = on.stop; is_stop = on_stop; at = from; ride_at = is }
+
+      departs_in_time : t ≤ departs table run board
+      departs_in_time = rw (of.bases, on_is) in_time
+
+      on_run : (o : Option Instance) → run_at table t ride ≡ o → TakesArc v t w u letter
+      on_run None none = let late = next_none table keeps sorted.0 board t run none sorted.1 in absurd (omega (arith, late, departs_in_time))
+      on_run (Some next) found =
+          let soon = next_first table keeps sorted.0 board t next run board_within found sorted.1 departs_in_time alight within in
+          let arrives_then : arrives table run alight ≡ u = rw (of.bases, off_is) (sym at) in
+          takes_arc v t (arrives table next alight) (Ride ride) w u letter out (ap (stop_node n) ends.stop ∙ sym to) (ap (option_map (λ r. arrives table r alight)) found) (omega (arith, soon, arrives_then))
+          (ap Some (alike.letter ∙ ap (λ (x : TripLists). x.letter) held_is) ∙ sym read)
+
+  no_later : (a : ℕ) → a ≤ a
+  no_later a = omega arith
+
+  pub journeys_are_walks : JourneysAreWalks n table
   journeys_are_walks v t [] w u letters (same, now, none) = record { walk = []; leads = (same, now); word = sym none }
   journeys_are_walks v t (Wait until ∷ steps) w u letters (v1, t1, letter, rest, (later, same, now, none), more, e) =
-      let walk = subst (λ x. HasWalk n x until w u rest) same (subst (λ x. HasWalk n v1 x w u rest) now (journeys_are_walks v1 t1 steps w u rest more)) in
+      let walk = subst (λ x. HasWalk n table x until w u rest) same (subst (λ x. HasWalk n table v1 x w u rest) now (journeys_are_walks v1 t1 steps w u rest more)) in
       record { walk = wait until ∷ walk.walk; leads = (later, walk.leads); word = walk.word ∙ sym (e ∙ ap (λ (x : Option ℕ). option_to_list x ++ rest) none) }
   journeys_are_walks v t (TakeRoad to ∷ steps) w u letters (v1, t1, letter, rest, (ms, leads, same, now, read), more, e) =
-      go_on v t v1 t1 letter w u rest letters (takes v t (Road (arc_of v to ms)) v1 t1 letter (listed_of n.arcs v to ms leads) (sym same) (sym now) (sym read))
+      go_on v t v1 t1 letter w u rest letters (takes_arc v t t1 (Road (arc_of v to ms)) v1 t1 letter (listed_of n.arcs v to ms leads) (sym same) (ap Some (sym now)) (no_later t1) (sym read))
       (journeys_are_walks v1 t1 steps w u rest more) e
   journeys_are_walks v t (TakeLink to ∷ steps) w u letters (v1, t1, letter, rest, (ms, leads, same, now, read), more, e) =
-      go_on v t v1 t1 letter w u rest letters (takes v t (Link (arc_of v to ms)) v1 t1 letter (listed_of n.links v to ms leads) (sym same) (sym now) (sym read))
+      go_on v t v1 t1 letter w u rest letters (takes_arc v t t1 (Link (arc_of v to ms)) v1 t1 letter (listed_of n.links v to ms leads) (sym same) (ap Some (sym now)) (no_later t1) (sym read))
       (journeys_are_walks v1 t1 steps w u rest more) e
   journeys_are_walks v t (StandStill ∷ steps) w u letters (v1, t1, letter, rest, (mode, has, same, now, read), more, e) =
-      go_on v t v1 t1 letter w u rest letters (takes v t Stand v1 t1 letter (mode, has) (sym same) (sym now) (has ∙ sym read))
+      go_on v t v1 t1 letter w u rest letters (takes_arc v t t1 Stand v1 t1 letter (mode, has) (sym same) (ap Some (sym now)) (no_later t1) (has ∙ sym read))
       (journeys_are_walks v1 t1 steps w u rest more) e
+  journeys_are_walks v t (TakeRide trip day board alight ∷ steps) w u letters (v1, t1, letter, rest, ride, more, e) =
+      go_on v t v1 t1 letter w u rest letters (ride_taken v t v1 t1 trip day board alight letter ride) (journeys_are_walks v1 t1 steps w u rest more) e

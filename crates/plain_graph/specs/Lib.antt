@@ -1,4 +1,5 @@
 pub mod PlainArcs
 pub mod OutArcs
+pub mod Rides
 pub mod Lawful
 pub mod Simulation

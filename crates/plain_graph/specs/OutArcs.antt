@@ -1,15 +1,23 @@
 -- The arcs out of a node are the network's own, and each has a place among them.
-use Rattle.std.proofs.Common.{◌≡◌, List, ℕ, ◌+◌, ◌-◌, ◌<◌, ◌≤◌, ◌∙◌, cond, length, nat_lt, Bool, true, false, Option, Some, None, refl, ap, subst, arith}
-use Rattle.std.specs.Prelude.{slice_index_or, is_some}
-use Rattle.std.proofs.lemmas.Bool.{ltb-true, ltb-false, lt-ltb, le-ltb}
+use Rattle.std.proofs.Common.{◌≡◌, List, ℕ, ◌+◌, ◌-◌, ◌<◌, ◌≤◌, ◌∙◌, cond, length, nat_lt, nat_le, ◌&&◌, Bool, true, false, Option, Some, None, refl, ap, subst, arith}
+use Rattle.std.specs.Prelude.{slice_index_or, is_some, option_and_then}
+use Rattle.std.proofs.lemmas.Bool.{ltb-true, ltb-false, leb-true, le-leb, lt-ltb, le-ltb}
+use Rattle.std.proofs.lemmas.Option.{slice_get-get_or, get_or_from_slice_get, slice_get_past}
+use Rattle.timetable_arcs.specs.declared.rides.Ride.{Ride as RideCalls}
+use Rattle.timetable_arcs.specs.Patterns.{TableLists}
+use Rattle.timetable_arcs.specs.Rides.{rides_at, IsRideAt}
+use Rattle.timetable_arcs.specs.Table.{IsTable}
+use Rattle.timetable_arcs.proofs.TableLemmas.{ride_fits, ride_there}
+use Rattle.mode_network.specs.declared.nodes.Node.{Node}
 use Rattle.mode_network.specs.declared.nodes.Arc.{Arc}
-use Rattle.mode_network.specs.NetworkLists.{NetworkLists, mode_at}
+use Rattle.mode_network.specs.NetworkLists.{NetworkLists, mode_of, mode_at, stop_at, stop_node}
 use Rattle.mode_network.specs.Rules.{IsNetwork, IsAscending, arc_cmp}
 use Rattle.mode_network.specs.Indexes.{range_from}
 use Rattle.mode_network.proofs.IndexLemmas.{range_is_range, begins_in_range, in_range_of_begin}
+use Rattle.mode_network.proofs.RuleLemmas.{both, some_is}
 use Rattle.plain_graph.specs.declared.plain.PlainArc.{PlainArc}
-use Rattle.plain_graph.specs.declared.plain.PlainArc.TheVariants.{Road, Link, Stand}
-use Rattle.plain_graph.specs.PlainArcs.{plain_arc, count_from, stands_at, arcs_at, no_arc}
+use Rattle.plain_graph.specs.declared.plain.PlainArc.TheVariants.{Road, Link, Stand, Ride}
+use Rattle.plain_graph.specs.PlainArcs.{plain_arc, count_from, stands_at, rides_from, rides_of, arcs_at, no_arc, no_ride}
 
 -- the arc stands at this place of the list, and begins at v
 pub record IsListed (arcs : List Arc) (v : ℕ) (arc : Arc) : Type 0 where
@@ -18,12 +26,44 @@ pub record IsListed (arcs : List Arc) (v : ℕ) (arc : Arc) : Type 0 where
   pub is : slice_index_or arcs place no_arc ≡ arc
   pub begins : arc.from ≡ v
 
-abbrev pub IsOut : NetworkLists → ℕ → PlainArc → Type 0
-IsOut n v (Road arc) = IsListed n.arcs v arc
-IsOut n v (Link link) = IsListed n.links v link
-IsOut n v Stand = (mode : ℕ) × (mode_at n.roads v ≡ Some mode)
+-- the ride begins at the stop that the node v is
+pub record IsRideFrom (n : NetworkLists) (t : TableLists) (v : ℕ) (ride : RideCalls) : Type 0 where
+  pub stop : ℕ
+  pub is_stop : stop < length n.stops
+  pub at : v ≡ stop_node n stop
+  pub ride_at : IsRideAt t stop ride
 
-module _ (n : NetworkLists) (network : IsNetwork n) where
+abbrev pub IsOut : NetworkLists → TableLists → ℕ → PlainArc → Type 0
+IsOut n t v (Road arc) = IsListed n.arcs v arc
+IsOut n t v (Link link) = IsListed n.links v link
+IsOut n t v Stand = (mode : ℕ) × (mode_at n.roads v ≡ Some mode)
+IsOut n t v (Ride ride) = IsRideFrom n t v ride
+
+-- what stop_at finds is the stop of that node number
+pub stop_found : (n : NetworkLists) (v stop : ℕ) → stop_at n v ≡ Some stop → (stop < length n.stops) × (v ≡ stop_node n stop)
+stop_found n v stop e = on_tests (nat_le (length n.roads) v && nat_lt (v - length n.roads) (length n.stops)) refl e
+  where
+    on_tests : (b : Bool) → nat_le (length n.roads) v && nat_lt (v - length n.roads) (length n.stops) ≡ b → cond b (Some (v - length n.roads)) None ≡ Some stop
+        → (stop < length n.stops) × (v ≡ stop_node n stop)
+    on_tests false h none = cc
+    on_tests true h some =
+        let (from, to) = both (nat_le (length n.roads) v) (nat_lt (v - length n.roads) (length n.stops)) h in
+        let least = leb-true (length n.roads) v from in
+        let most = ltb-true (v - length n.roads) (length n.stops) to in
+        let same = some_is some in
+        (omega (arith, same, most), omega (arith, same, least))
+
+pub stop_is_found : (n : NetworkLists) (stop : ℕ) → stop < length n.stops → stop_at n (stop_node n stop) ≡ Some stop
+stop_is_found n stop h =
+    let from : nat_le (length n.roads) (stop_node n stop) ≡ true = le-leb (length n.roads) (length n.roads + stop) (omega arith) in
+    let back : stop_node n stop - length n.roads ≡ stop = omega arith in
+    rw (from, back, lt-ltb _ _ h) refl
+
+-- no stop is a road node
+pub no_mode : (n : NetworkLists) (stop : ℕ) → mode_at n.roads (stop_node n stop) ≡ None
+no_mode n stop = ap (option_and_then (λ (node : Node). mode_of node.key)) (slice_get_past n.roads (length n.roads + stop) (omega arith))
+
+module _ (n : NetworkLists) (network : IsNetwork n) (t : TableLists) (table : IsTable t) where
   listed : (arcs : List Arc) → IsAscending arc_cmp arcs → (v i : ℕ) → i < count_from arcs v → IsListed arcs v (slice_index_or arcs ((range_from arcs v).0 + i) no_arc)
   listed arcs ascend v i h =
       let range = range_is_range arcs v in
@@ -34,7 +74,18 @@ module _ (n : NetworkLists) (network : IsNetwork n) where
         begins = begins_in_range arcs ascend v _ no_arc (omega arith) (omega arith);
       }
 
-  pub out_of : (v i : ℕ) → i < arcs_at n v → IsOut n v (plain_arc n v i)
+  ride_listed : (v k : ℕ) (stop : Option ℕ) → stop_at n v ≡ stop → k < length (rides_from t stop) → IsRideFrom n t v (slice_index_or (rides_from t stop) k no_ride)
+  ride_listed v k None e h = absurd (omega arith)
+  ride_listed v k (Some stop) e h =
+      let found = stop_found n v stop e in
+      record {
+        stop = stop;
+        is_stop = found.0;
+        at = found.1;
+        ride_at = ride_fits t table stop k _ (slice_get-get_or (rides_at t stop) k no_ride h);
+      }
+
+  pub out_of : (v i : ℕ) → i < arcs_at n t v → IsOut n t v (plain_arc n t v i)
   out_of v i h = by_kind (nat_lt i (count_from n.arcs v)) refl (nat_lt (i - count_from n.arcs v) (count_from n.links v)) refl (mode_at n.roads v) refl
     where
       road : Arc
@@ -43,22 +94,25 @@ module _ (n : NetworkLists) (network : IsNetwork n) where
       link : Arc
       link = slice_index_or n.links ((range_from n.links v).0 + (i - count_from n.arcs v)) no_arc
 
-      by_kind : (s : Bool) → nat_lt i (count_from n.arcs v) ≡ s → (t : Bool) → nat_lt (i - count_from n.arcs v) (count_from n.links v) ≡ t
-          → (r : Option ℕ) → mode_at n.roads v ≡ r → IsOut n v (cond s (Road road) (cond t (Link link) Stand))
-      by_kind true e t f r g = listed n.arcs network.arcs_ascend v i (ltb-true _ _ e)
+      k : ℕ
+      k = i - count_from n.arcs v - count_from n.links v
+
+      by_kind : (s : Bool) → nat_lt i (count_from n.arcs v) ≡ s → (l : Bool) → nat_lt (i - count_from n.arcs v) (count_from n.links v) ≡ l
+          → (r : Option ℕ) → mode_at n.roads v ≡ r → IsOut n t v (cond s (Road road) (cond l (Link link) (cond (is_some r) Stand (Ride (slice_index_or (rides_of n t v) k no_ride)))))
+      by_kind true e l f r g = listed n.arcs network.arcs_ascend v i (ltb-true _ _ e)
       by_kind false e true f r g = listed n.links network.links_ascend v (i - count_from n.arcs v) (ltb-true _ _ f)
       by_kind false e false f (Some mode) g = (mode, g)
       by_kind false e false f None g =
           let none : stands_at n v ≡ 0 = ap (λ (o : Option ℕ). cond (is_some o) 1 0) g in
           let past_roads = ltb-false _ _ e in
           let past_links = ltb-false _ _ f in
-          absurd (omega arith)
+          ride_listed v k (stop_at n v) refl (omega (arith, none, past_roads, past_links, h))
 
   -- a place of the arc among those out of v
   pub record HasPlace (v : ℕ) (a : PlainArc) : Type 0 where
     pub i : ℕ
-    pub within : i < arcs_at n v
-    pub is : plain_arc n v i ≡ a
+    pub within : i < arcs_at n t v
+    pub is : plain_arc n t v i ≡ a
 
   -- how far behind the first of its node the arc stands
   stands_in : (arcs : List Arc) → IsAscending arc_cmp arcs → (v : ℕ) (arc : Arc) → IsListed arcs v arc
@@ -69,7 +123,7 @@ module _ (n : NetworkLists) (network : IsNetwork n) where
       let back : (range_from arcs v).0 + (out.place - (range_from arcs v).0) ≡ out.place = omega arith in
       (out.place - (range_from arcs v).0, omega arith, rw back out.is)
 
-  pub place_of : (v : ℕ) (a : PlainArc) → IsOut n v a → HasPlace v a
+  pub place_of : (v : ℕ) (a : PlainArc) → IsOut n t v a → HasPlace v a
   place_of v (Road arc) out =
       let at = stands_in n.arcs network.arcs_ascend v arc out in
       let inside = lt-ltb _ _ at.1 in
@@ -84,6 +138,18 @@ module _ (n : NetworkLists) (network : IsNetwork n) where
   place_of v Stand out =
       let i = count_from n.arcs v + count_from n.links v in
       let one : stands_at n v ≡ 1 = ap (λ (o : Option ℕ). cond (is_some o) 1 0) out.1 in
+      let some : is_some (mode_at n.roads v) ≡ true = ap is_some out.1 in
       let past_roads = le-ltb i (count_from n.arcs v) (omega arith) in
       let past_links = le-ltb (i - count_from n.arcs v) (count_from n.links v) (omega arith) in
-      record { i = i; within = omega arith; is = rw (past_roads, past_links) refl }
+      record { i = i; within = omega arith; is = rw (past_roads, past_links, some) refl }
+  place_of v (Ride ride) out =
+      let at = ride_there t table out.stop ride out.ride_at in
+      let i = count_from n.arcs v + count_from n.links v + at.0 in
+      let rides : rides_of n t v ≡ rides_at t out.stop = ap (rides_from t) (ap (stop_at n) out.at ∙ stop_is_found n out.stop out.is_stop) in
+      let none : is_some (mode_at n.roads v) ≡ false = ap is_some (ap (mode_at n.roads) out.at ∙ no_mode n out.stop) in
+      let stands : stands_at n v ≡ 0 = rw none refl in
+      let past_roads = le-ltb i (count_from n.arcs v) (omega arith) in
+      let past_links = le-ltb (i - count_from n.arcs v) (count_from n.links v) (omega arith) in
+      let back : i - count_from n.arcs v - count_from n.links v ≡ at.0 = omega arith in
+      let count = ap length rides in
+      record { i = i; within = omega (arith, count, stands, at.1); is = rw (past_roads, past_links, none, back, rides, get_or_from_slice_get (rides_at t out.stop) at.0 ride no_ride at.2) refl }

@@ -1,31 +1,34 @@
 -- The walks of the graph of a network are its journeys.
-use Rattle.std.specs.Prelude.{◌≡◌, ℕ, List}
+use Rattle.std.specs.Prelude.{◌≡◌, ℕ, List, Option, Some, option_map}
 use Rattle.search_laws.specs.Walks.{WalkStep, IsWalk, word_from}
+use Rattle.timetable_arcs.specs.declared.trips.Instance.{Instance}
+use Rattle.timetable_arcs.specs.Patterns.{TableLists}
 use Rattle.mode_network.specs.declared.steps.Step.{Step}
-use Rattle.mode_network.specs.declared.steps.Step.TheVariants.{Road as TakeRoad, Link as TakeLink, Stand as StandStill}
+use Rattle.mode_network.specs.declared.steps.Step.TheVariants.{Road as TakeRoad, Link as TakeLink, Stand as StandStill, Ride as TakeRide}
 use Rattle.mode_network.specs.NetworkLists.{NetworkLists}
 use Rattle.mode_network.specs.Journeys.{AreSteps}
 use Rattle.plain_graph.specs.declared.plain.PlainArc.{PlainArc}
-use Rattle.plain_graph.specs.declared.plain.PlainArc.TheVariants.{Road, Link, Stand}
-use Rattle.plain_graph.specs.PlainArcs.{plain_meaning}
+use Rattle.plain_graph.specs.declared.plain.PlainArc.TheVariants.{Road, Link, Stand, Ride}
+use Rattle.plain_graph.specs.PlainArcs.{plain_meaning, run_at}
 
--- the step of a journey that takes the arc
-abbrev pub step_of : PlainArc → Step
-step_of (Road arc) = TakeRoad arc.to
-step_of (Link link) = TakeLink link.to
-step_of Stand = StandStill
+-- the step of a journey that takes the arc at a time; none where no run makes the ride any more
+abbrev pub step_of : TableLists → ℕ → PlainArc → Option Step
+step_of t time (Road arc) = Some (TakeRoad arc.to)
+step_of t time (Link link) = Some (TakeLink link.to)
+step_of t time Stand = Some StandStill
+step_of t time (Ride ride) = option_map (λ (run : Instance). TakeRide run.trip run.day ride.board ride.alight) (run_at t time ride)
 
 -- each walk is a journey with the same ends, times and letters
-abbrev pub WalksAreJourneys : NetworkLists → Type 0
-WalksAreJourneys n = (v t : ℕ) (walk : List WalkStep) (w u : ℕ) → IsWalk (plain_meaning n) v t walk w u
-    → (steps : List Step) × AreSteps n v t steps w u (word_from (plain_meaning n) v walk)
+abbrev pub WalksAreJourneys : NetworkLists → TableLists → Type 0
+WalksAreJourneys n table = (v t : ℕ) (walk : List WalkStep) (w u : ℕ) → IsWalk (plain_meaning n table) v t walk w u
+    → (steps : List Step) × AreSteps n v t steps w u (word_from (plain_meaning n table) v walk)
 
 -- a walk from v at t to w at u with these letters
-pub record HasWalk (n : NetworkLists) (v t w u : ℕ) (letters : List ℕ) : Type 0 where
+pub record HasWalk (n : NetworkLists) (table : TableLists) (v t w u : ℕ) (letters : List ℕ) : Type 0 where
   pub walk : List WalkStep
-  pub leads : IsWalk (plain_meaning n) v t walk w u
-  pub word : word_from (plain_meaning n) v walk ≡ letters
+  pub leads : IsWalk (plain_meaning n table) v t walk w u
+  pub word : word_from (plain_meaning n table) v walk ≡ letters
 
 -- for each journey there is a walk with the same ends, times and letters
-abbrev pub JourneysAreWalks : NetworkLists → Type 0
-JourneysAreWalks n = (v t : ℕ) (steps : List Step) (w u : ℕ) (letters : List ℕ) → AreSteps n v t steps w u letters → HasWalk n v t w u letters
+abbrev pub JourneysAreWalks : NetworkLists → TableLists → Type 0
+JourneysAreWalks n table = (v t : ℕ) (steps : List Step) (w u : ℕ) (letters : List ℕ) → AreSteps n v t steps w u letters → HasWalk n table v t w u letters

@@ -1,11 +1,17 @@
 //! A network as a graph.
 
-ghost use Rattle.std.specs.Prelude.{◌≡◌, ◌<◌, length};
+ghost use Rattle.std.specs.Prelude.{◌≡◌, ◌<◌, ◌^◌, length};
+ghost use Rattle.timetable_arcs.specs.Rides.{rides_at};
+ghost use Rattle.search_laws.specs.GraphLaws.{IsLawfulGraph};
 ghost use Rattle.mode_network.specs.NetworkLists.{nodes_of};
 ghost use Rattle.mode_network.specs.Rules.{IsNetwork, IsNetwork-prop};
+ghost use Rattle.mode_network.specs.Timetables.{IsTimetableOf, IsTimetableOf-prop};
+ghost use Rattle.plain_graph.specs.PlainArcs.{plain_meaning};
+ghost use Rattle.plain_graph.specs.Lawful.{IsLawfulGraph-prop};
 
 use mode_network::{Arc, Network};
 use search_laws::{Graph, GraphArc, Time};
+use timetable_arcs::{Ride, Timetable};
 
 /// An arc out of a node of the graph.
 #[derive(Clone, Copy, Debug, PartialEq, Eq)]
@@ -16,30 +22,43 @@ pub enum PlainArc {
     Link(Arc),
     /// A leg of length zero at a road node, in the mode of its layer.
     Stand,
+    /// A ride from a stop, on the next run of its pattern.
+    Ride(Ride),
 }
 
-/// The network as a graph: its road arcs, its links, and at each road node an arc that stands.
+/// The network as a graph: its road arcs, its links, at each road node an arc that stands, and at each stop the
+/// rides that begin there.
 #[derive(Clone, Copy)]
 pub struct Plain<'a> {
     network: &'a Network,
+    timetable: &'a Timetable,
     pub ghost kept: { IsNetwork network.now } by { IsNetwork-prop network.now },
+    pub ghost of: { IsTimetableOf network.now timetable.now } by { IsTimetableOf-prop network.now timetable.now },
+    pub ghost lawful: { IsLawfulGraph (plain_meaning network.now timetable.now) } by { IsLawfulGraph-prop (plain_meaning network.now timetable.now) },
 }
 
 impl<'a> Plain<'a> {
-    ghost use Rattle.std.specs.Prelude.{◌≡◌, ◌<◌, length};
-    ghost use Rattle.mode_network.specs.NetworkLists.{nodes_of, mode_at};
-    ghost use Rattle.plain_graph.specs.PlainArcs.{plain_arc, arcs_at};
+    ghost use Rattle.std.specs.Prelude.{◌≡◌, ◌<◌, ◌^◌, length, Some, option_map};
+    ghost use Rattle.timetable_arcs.specs.Patterns.{pattern_trip, arrives};
+    ghost use Rattle.timetable_arcs.specs.Table.{IsTable};
+    ghost use Rattle.plain_graph.specs.Rides.{IsRideOf, IsKnownRide};
+    ghost use Rattle.mode_network.specs.NetworkLists.{nodes_of, stop_node};
+    ghost use Rattle.mode_network.specs.Timetables.{IsTimetableOf};
+    ghost use Rattle.plain_graph.specs.PlainArcs.{plain_arc, inner_arc, arcs_at, inner_arcs_at, rides_of, ride_of, run_at, pattern_call};
     ghost use Rattle.plain_graph.specs.Simulation.{WalksAreJourneys, JourneysAreWalks};
 
     /// The graph of a network. Its walks are the network's journeys, and conversely, with the same ends, times
     /// and letters.
     pub fn new(network: &'a Network) -> Plain<'a>
         ensures network { result.network.now ≡ network.now }
-        ensures walks { WalksAreJourneys network.now }
-        ensures journeys { JourneysAreWalks network.now }
+        ensures of { IsTimetableOf network.now result.timetable.now }
+        ensures keeps { IsTable result.timetable.now }
+        ensures walks { WalksAreJourneys network.now result.timetable.now }
+        ensures journeys { JourneysAreWalks network.now result.timetable.now }
     {
         network.known();
-        Plain { network }
+        let timetable = network.timetable();
+        Plain { network, timetable }
     }
 
     /// The network.
@@ -49,12 +68,22 @@ impl<'a> Plain<'a> {
         self.network
     }
 
+    /// The network's timetable.
+    pub fn timetable(&self) -> &'a Timetable
+        ensures same { result.now ≡ self.now.timetable.now }
+        ensures keeps { IsTable result.now }
+    {
+        self.timetable.known();
+        self.timetable
+    }
+
     /// The arc at this place of those out of `v`: first come the road arcs and then the links, in the
-    /// network's order, and last the one that stands.
+    /// network's order, and then the one that stands, or the rides in the timetable's order.
     pub fn plain_arc(&self, v: u32, i: u64) -> PlainArc
         requires node { v < length (nodes_of self.now.network.now) }
-        requires arc { i < arcs_at self.now.network.now v }
-        ensures { result ≡ plain_arc self.now.network.now v i }
+        requires arc { i < arcs_at self.now.network.now self.now.timetable.now v }
+        ensures value { result ≡ plain_arc self.now.network.now self.now.timetable.now v i }
+        ensures ride { IsKnownRide self.now.timetable.now result }
     {
         let (first_arc, past_arc) = self.network.arcs_from(v);
         let (first_link, past_link) = self.network.links_from(v);
@@ -65,16 +94,87 @@ impl<'a> Plain<'a> {
         } else if i - arcs < links {
             PlainArc::Link(self.network.links()[first_link as usize + (i - arcs) as usize])
         } else {
-            PlainArc::Stand
+            self.inner_arc(v, i - arcs - links)
         }
     }
+
+    /// The arc at this place of those out of `v` that are neither road arcs nor links.
+    fn inner_arc(&self, v: u32, i: u64) -> PlainArc
+        requires node { v < length (nodes_of self.now.network.now) }
+        requires arc { i < inner_arcs_at self.now.network.now self.now.timetable.now v }
+        ensures value { result ≡ inner_arc self.now.network.now self.now.timetable.now v i }
+        ensures ride { IsKnownRide self.now.timetable.now result }
+    {
+        self.timetable.known();
+        match (self.network.mode(v), self.network.stop_at(v)) {
+            (None, Some(stop)) => PlainArc::Ride(self.timetable.ride(stop, i)),
+            _ => PlainArc::Stand,
+        }
+    }
+
+    /// The pattern of a ride, and its calls at which the ride begins and ends; None exactly where the arc is no ride.
+    pub fn ride(&self, v: u32, i: u64) -> Option<(u32, u32, u32)>
+        requires node { v < length (nodes_of self.now.network.now) }
+        requires arc { i < arcs_at self.now.network.now self.now.timetable.now v }
+        ensures { result ≡ ride_of (plain_arc self.now.network.now self.now.timetable.now v i) }
+    {
+        match self.plain_arc(v, i) {
+            PlainArc::Ride(ride) => Some((ride.pattern, ride.board, ride.alight)),
+            _ => None,
+        }
+    }
+
+    /// How many rides begin at `v`.
+    fn rides(&self, v: u32) -> u64
+        ensures value { result ≡ length (rides_of self.now.network.now self.now.timetable.now v) }
+        ensures few { result < 2 ^ 63 }
+    {
+        match self.network.stop_at(v) {
+            Some(stop) => rides_at(self.timetable, stop),
+            None => 0,
+        }
+    }
+
+    /// Where a ride leads, and its letter.
+    fn ride_arc(&self, ride: Ride) -> GraphArc
+        requires { IsRideOf self.now.timetable.now ride }
+        ensures to { result.to ≡ stop_node self.now.network.now (pattern_call self.now.timetable.now ride.pattern ride.alight).stop }
+        ensures letter { result.letter ≡ Some (pattern_trip self.now.timetable.now ride.pattern).letter }
+    {
+        self.timetable.known();
+        let stop = self.timetable.pattern_calls(ride.pattern)[ride.alight as usize].stop;
+        GraphArc {
+            to: self.network.stop_node(stop),
+            letter: Some(self.timetable.pattern_letter(ride.pattern)),
+        }
+    }
+
+    /// When a ride arrives that is taken at `t`.
+    fn ride_arrival(&self, ride: Ride, t: Time) -> Option<Time>
+        requires { IsRideOf self.now.timetable.now ride }
+        ensures { result ≡ option_map (λ run. arrives self.now.timetable.now run ride.alight) (run_at self.now.timetable.now t ride) }
+    {
+        self.timetable.known();
+        let run = self.timetable.next(ride.pattern, ride.board, t)?;
+        let (arrival, _) = self.timetable.at(run.trip, run.day, ride.alight);
+        Some(arrival)
+    }
+}
+
+/// How many rides begin at a stop.
+fn rides_at(timetable: &Timetable, stop: u32) -> u64
+    requires { stop < timetable.now.stops }
+    ensures value { result ≡ length (rides_at timetable.now stop) }
+    ensures few { result < 2 ^ 63 }
+{
+    timetable.known();
+    timetable.rides(stop)
 }
 
 impl Graph for Plain<'_> {
     ghost use Rattle.plain_graph.specs.PlainArcs.{plain_meaning};
-    ghost use Rattle.plain_graph.specs.Lawful.{plain_lawful};
 
-    ghost meaning = { λ g. plain_meaning g.network.now };
+    ghost meaning = { λ g. plain_meaning g.network.now g.timetable.now };
 
     fn nodes(&self) -> u32 {
         self.network.nodes()
@@ -84,7 +184,7 @@ impl Graph for Plain<'_> {
         let (first_arc, past_arc) = self.network.arcs_from(v);
         let (first_link, past_link) = self.network.links_from(v);
         let stands = if self.network.mode(v).is_some() { 1 } else { 0 };
-        (past_arc - first_arc) as u64 + (past_link - first_link) as u64 + stands
+        (past_arc - first_arc) as u64 + (past_link - first_link) as u64 + stands + self.rides(v)
     }
 
     fn arc_at(&self, v: u32, i: u64) -> GraphArc {
@@ -101,15 +201,17 @@ impl Graph for Plain<'_> {
                 to: v,
                 letter: self.network.mode(v),
             },
+            PlainArc::Ride(ride) => self.ride_arc(ride),
         }
     }
 
     fn arrive(&self, v: u32, i: u64, t: Time) -> Option<Time> {
-        Some(match self.plain_arc(v, i) {
-            PlainArc::Road(arc) | PlainArc::Link(arc) => t + Time::from(arc.ms),
-            PlainArc::Stand => t,
-        })
+        match self.plain_arc(v, i) {
+            PlainArc::Road(arc) | PlainArc::Link(arc) => Some(t + Time::from(arc.ms)),
+            PlainArc::Stand => Some(t),
+            PlainArc::Ride(ride) => self.ride_arrival(ride, t),
+        }
     }
 
-    ghost lawful = { λ g. plain_lawful g.network.now g.kept };
+    ghost lawful = { λ g. g.lawful };
 }

@@ -1,5 +1,5 @@
 -- The copies of an endpoint are nodes, and stand in a row.
-use Rattle.std.proofs.Common.{◌≡◌, ℕ, zero, suc, ◌∷◌, ◌+◌, ◌-◌, ◌<◌, ◌∙◌, List, [], ◌++◌, length, length-append, Option, Some, None, refl, ap, arith}
+use Rattle.std.proofs.Common.{◌≡◌, ℕ, ℤ, zero, suc, ◌∷◌, ◌+◌, ◌-◌, ◌<◌, ◌∙◌, List, [], ◌++◌, length, length-append, Option, Some, None, refl, ap, arith}
 use Rattle.std.specs.Prelude.{All, Contains, slice_index_or, slice_get, option_map, ◌↔◌}
 use Rattle.std.specs.List.{range_with_len}
 use Rattle.std.proofs.Math.Nat.{lt_of_lt_of_le}
@@ -9,23 +9,27 @@ use Rattle.std.proofs.lemmas.Option.{slice_get_within}
 use Rattle.mode_network.specs.declared.nodes.Node.{Node}
 use Rattle.mode_network.specs.declared.nodes.NodeKey.TheVariants.{Road as RoadKey}
 use Rattle.mode_network.specs.declared.endpoints.Endpoint.{Endpoint}
-use Rattle.mode_network.specs.declared.endpoints.Endpoint.TheVariants.{Road, Stop}
+use Rattle.mode_network.specs.declared.endpoints.Endpoint.TheVariants.{Road, Stop, Near}
 use Rattle.mode_network.specs.NetworkLists.{NetworkLists, nodes_of}
 use Rattle.mode_network.specs.Rules.{IsNetwork}
-use Rattle.mode_network.specs.Copies.{IsCopy, AreExactly}
+use Rattle.mode_network.specs.Copies.{IsRoadCopy, IsCopy, AreExactly}
 use Rattle.mode_network.proofs.RuleLemmas.{nodes_hold_roads}
 use Rattle.planner_core.specs.Plans.{AreTheCopies}
 
 module _ (n : NetworkLists) (network : IsNetwork n) where
-  pub copy_in_range : (endpoint : Endpoint) (v : ℕ) → IsCopy n endpoint v → v < length (nodes_of n)
-  copy_in_range (Road id) v (mode, e) = on_node (slice_get n.roads v) refl e
+  road_in_range : (id : ℤ) (v : ℕ) → IsRoadCopy n.roads id v → v < length (nodes_of n)
+  road_in_range id v (mode, e) = on_node (slice_get n.roads v) refl e
     where
       on_node : (o : Option Node) → slice_get n.roads v ≡ o → option_map (λ (node : Node). node.key) o ≡ Some (RoadKey mode id) → v < length (nodes_of n)
       on_node None is e = cc
       on_node (Some node) is e = lt_of_lt_of_le (slice_get_within n.roads v node is) (nodes_hold_roads n network)
+
+  pub copy_in_range : (endpoint : Endpoint) (v : ℕ) → IsCopy n endpoint v → v < length (nodes_of n)
+  copy_in_range (Road id) v copy = road_in_range id v copy
   copy_in_range (Stop name) v (stop, named, is) =
       let inside = slice_get_within n.stop_names stop name named in
       omega (arith, network.parts.one_name_each, length-append (n.roads ++ n.stops) n.switches, length-append n.roads n.stops)
+  copy_in_range (Near place) v near = road_in_range near.id v near.copy
 
   pub copies_in_range : (endpoint : Endpoint) (list : List ℕ) → AreTheCopies n endpoint list → All (λ v. v < length (nodes_of n)) list
   copies_in_range endpoint list are k d h =

@@ -12,7 +12,8 @@ use Rattle.plain_graph.specs.PlainArcs.{plain_meaning}
 use Rattle.plain_graph.specs.Simulation.{JourneysAreWalks}
 use Rattle.mode_expression.specs.Form.{IsWordOf}
 use Rattle.mode_network.specs.declared.steps.Step.{Step}
-use Rattle.mode_network.specs.declared.steps.Step.TheVariants.{Wait, Road, Link, Stand}
+use Rattle.mode_network.specs.declared.steps.Step.TheVariants.{Wait, Road, Link, Stand, Ride}
+use Rattle.timetable_arcs.specs.Patterns.{TableLists}
 use Rattle.mode_network.specs.NetworkLists.{NetworkLists}
 use Rattle.mode_network.specs.Rules.{IsNetwork}
 use Rattle.mode_network.specs.Journeys.{Route, AreSteps}
@@ -25,11 +26,11 @@ use Rattle.unpack.proofs.UnpackLemmas.{hops_end, hops_letters, plain_hops}
 use Rattle.planner_core.specs.Plans.{AreTheCopies, IsPlan, IsPlainWalk, IsUnpacked}
 use Rattle.planner_core.proofs.CopyLemmas.{copy_in_range}
 
-module _ (n : NetworkLists) (network : IsNetwork n) (q : Asked) (l : LabelsMeaning) (starts targets : List ℕ)
+module _ (n : NetworkLists) (network : IsNetwork n) (table : TableLists) (q : Asked) (l : LabelsMeaning) (starts targets : List ℕ)
     (denotes : (word : List ℕ) → Accepts l word ↔ IsWordOf q.form word) (collapses : AcceptsCollapsed l)
-    (journeys : JourneysAreWalks n) (from : AreTheCopies n q.from starts) (to : AreTheCopies n q.to targets) where
+    (journeys : JourneysAreWalks n table) (from : AreTheCopies n q.from starts) (to : AreTheCopies n q.to targets) where
   -- each journey that answers is an accepted walk
-  arrives : (k : Route) (t : ℕ) → Answers n q k t → ArrivesAt (plain_meaning n) (collapsed l) starts targets q.depart t
+  arrives : (k : Route) (t : ℕ) → Answers n q k t → ArrivesAt (plain_meaning n table) (collapsed l) starts targets q.depart t
   arrives k t a =
       let walk = journeys k.start k.at k.steps a.end t a.real.letters a.real.steps in
       let word = subst (IsWordOf q.form) a.real.word_is a.denoted in
@@ -44,7 +45,7 @@ module _ (n : NetworkLists) (network : IsNetwork n) (q : Asked) (l : LabelsMeani
         word = subst (Accepts (collapsed l)) (sym walk.word) accepted;
       }
 
-  pub none_answers : IsArrival (plain_meaning n) (collapsed l) starts targets q.depart None None → HasNone n q
+  pub none_answers : IsArrival (plain_meaning n table) (collapsed l) starts targets q.depart None None → HasNone n q
   none_answers none k t a = none t tt (arrives k t a)
 
   has_time : (step : Step) → IsNoWait step → HasTime step
@@ -52,17 +53,18 @@ module _ (n : NetworkLists) (network : IsNetwork n) (q : Asked) (l : LabelsMeani
   has_time (Road to) none = tt
   has_time (Link to) none = tt
   has_time Stand none = tt
+  has_time (Ride trip day board alight) none = tt
 
-  pub best_answers : (a : ℕ) (w : Walk) (j : Route) → IsLeast (plain_meaning n) (collapsed l) starts targets q.depart a
-      → IsWalkTo (plain_meaning n) (collapsed l) starts targets q.depart a w → q.depart < 2 ^ 64
+  pub best_answers : (a : ℕ) (w : Walk) (j : Route) → IsLeast (plain_meaning n table) (collapsed l) starts targets q.depart a
+      → IsWalkTo (plain_meaning n table) (collapsed l) starts targets q.depart a w → q.depart < 2 ^ 64
       → j.start ≡ w.node → j.at ≡ w.at
-      → AreSteps n j.start j.at j.steps (end_of w.node w.hops.items) (arrival_of w.at w.hops.items) (letters_of n w.node w.hops.items)
+      → AreSteps n j.start j.at j.steps (end_of w.node w.hops.items) (arrival_of w.at w.hops.items) (letters_of n table w.node w.hops.items)
       → All IsNoWait j.steps → IsBest n q j × IsPrintable n j
   best_answers a w j least is soon start at real waits =
-      let ends = hops_end n (collapsed l) w.hops.items w.node w.state w.at is.end is.final a is.hops in
-      let letters = hops_letters n (collapsed l) w.hops.items w.node w.state w.at is.end is.final a is.hops in
-      let reads = reads_of_hops (plain_meaning n) (collapsed l) w.hops.items w.node w.state w.at is.end is.final a is.hops in
-      let accepted : Accepts (collapsed l) (letters_of n w.node w.hops.items) =
+      let ends = hops_end n table (collapsed l) w.hops.items w.node w.state w.at is.end is.final a is.hops in
+      let letters = hops_letters n table (collapsed l) w.hops.items w.node w.state w.at is.end is.final a is.hops in
+      let reads = reads_of_hops (plain_meaning n table) (collapsed l) w.hops.items w.node w.state w.at is.end is.final a is.hops in
+      let accepted : Accepts (collapsed l) (letters_of n table w.node w.hops.items) =
       subst (Accepts (collapsed l)) (sym letters) (w.state, is.final, is.is_state, is.is_start, reads, is.accepts) in
       let copy = subst (IsCopy n q.from) (sym start) ((from w.node).0 is.starts_there) in
       let leaves = at ∙ is.leaves in (
@@ -70,17 +72,17 @@ module _ (n : NetworkLists) (network : IsNetwork n) (q : Asked) (l : LabelsMeani
           arrival = a;
           answers = record {
             end = is.end;
-            word = collapse (letters_of n w.node w.hops.items);
+            word = collapse (letters_of n table w.node w.hops.items);
             starts_at_copy = copy;
             not_before = omega arith;
             real = record {
-              letters = letters_of n w.node w.hops.items;
-              steps = subst (λ x. AreSteps n j.start j.at j.steps x a (letters_of n w.node w.hops.items)) ends.0
-                  (subst (λ y. AreSteps n j.start j.at j.steps (end_of w.node w.hops.items) y (letters_of n w.node w.hops.items)) ends.1 real);
+              letters = letters_of n table w.node w.hops.items;
+              steps = subst (λ x. AreSteps n j.start j.at j.steps x a (letters_of n table w.node w.hops.items)) ends.0
+                  (subst (λ y. AreSteps n j.start j.at j.steps (end_of w.node w.hops.items) y (letters_of n table w.node w.hops.items)) ends.1 real);
               word_is = refl;
             };
             ends_at_copy = (to is.end).0 is.ends_there;
-            denoted = (denotes (collapse (letters_of n w.node w.hops.items))).0 ((collapses (letters_of n w.node w.hops.items)).0 accepted);
+            denoted = (denotes (collapse (letters_of n table w.node w.hops.items))).0 ((collapses (letters_of n table w.node w.hops.items)).0 accepted);
           };
           least = λ k t answers. least.least t (arrives k t answers);
         },
@@ -92,15 +94,15 @@ module _ (n : NetworkLists) (network : IsNetwork n) (q : Asked) (l : LabelsMeani
       )
 
   -- a walk that counts is one of the network's graph
-  pub walk_is_plain : (arrival : Option ℕ) (walk : Option Walk) → IsWalkFor (plain_meaning n) (collapsed l) starts targets q.depart arrival walk → IsPlainWalk n walk
+  pub walk_is_plain : (arrival : Option ℕ) (walk : Option Walk) → IsWalkFor (plain_meaning n table) (collapsed l) starts targets q.depart arrival walk → IsPlainWalk n table walk
   walk_is_plain None None is = tt
   walk_is_plain None (Some w) is = absurd is
   walk_is_plain (Some a) None is = absurd is
-  walk_is_plain (Some a) (Some w) is = plain_hops n (collapsed l) w.hops.items w.node w.state w.at is.end is.final a is.hops
+  walk_is_plain (Some a) (Some w) is = plain_hops n table (collapsed l) w.hops.items w.node w.state w.at is.end is.final a is.hops
 
   -- what a search found is a plan
-  pub planned : (arrival : Option ℕ) (walk : Option Walk) (j : Option Route) → IsArrival (plain_meaning n) (collapsed l) starts targets q.depart None arrival
-      → IsWalkFor (plain_meaning n) (collapsed l) starts targets q.depart arrival walk → q.depart < 2 ^ 64 → IsUnpacked n walk j → IsPlan n q j
+  pub planned : (arrival : Option ℕ) (walk : Option Walk) (j : Option Route) → IsArrival (plain_meaning n table) (collapsed l) starts targets q.depart None arrival
+      → IsWalkFor (plain_meaning n table) (collapsed l) starts targets q.depart arrival walk → q.depart < 2 ^ 64 → IsUnpacked n table walk j → IsPlan n q j
   planned None None None none is soon unpacked = none_answers none
   planned None None (Some j) none is soon unpacked = absurd unpacked
   planned None (Some w) j none is soon unpacked = absurd is

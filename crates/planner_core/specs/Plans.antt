@@ -12,7 +12,10 @@ use Rattle.automaton.specs.States.{IsPositionAutomaton}
 use Rattle.automaton.specs.Collapsed.{collapsed}
 use Rattle.plain_graph.specs.PlainArcs.{plain_meaning}
 use Rattle.mode_network.specs.declared.endpoints.Endpoint.{Endpoint}
+use Rattle.timetable_arcs.specs.Patterns.{TableLists}
+use Rattle.timetable_arcs.specs.Table.{IsTable}
 use Rattle.mode_network.specs.NetworkLists.{NetworkLists}
+use Rattle.mode_network.specs.Timetables.{IsTimetableOf}
 use Rattle.mode_network.specs.Journeys.{Route, AreSteps}
 use Rattle.mode_network.specs.Copies.{IsCopy}
 use Rattle.journey.specs.declared.query.Query.{Query}
@@ -39,9 +42,12 @@ IsPlan n q None = HasNone n q
 abbrev pub AreTheCopies : NetworkLists → Endpoint → List ℕ → Type 0
 AreTheCopies n endpoint list = (v : ℕ) → Contains list v ↔ IsCopy n endpoint v
 
--- the labels of the search over the network's graph and the automaton of the expression: all product states that are
--- reached before the least arrival, each with the least time at which it is
+-- the labels of the search over the network's graph, with a timetable of the network's trips, and the automaton of the
+-- expression: all product states that are reached before the least arrival, each with the least time at which it is
 pub record AreTheLabels (n : NetworkLists) (q : Query) (labels : List Label) : Type 0 where
+  pub table : TableLists
+  pub of : IsTimetableOf n table
+  pub keeps : IsTable table
   pub automaton : LabelsMeaning
   pub positions : IsPositionAutomaton (written (form_of q.expr)) automaton
   pub starts : List ℕ
@@ -49,24 +55,24 @@ pub record AreTheLabels (n : NetworkLists) (q : Query) (labels : List Label) : T
   pub origin : AreTheCopies n q.from starts
   pub destination : AreTheCopies n q.to targets
   pub arrival : Option ℕ
-  pub first : IsArrival (plain_meaning n) (collapsed automaton) starts targets q.depart None arrival
-  pub least : AreLeastLabels (plain_meaning n) (collapsed automaton) starts q.depart None arrival labels
+  pub first : IsArrival (plain_meaning n table) (collapsed automaton) starts targets q.depart None arrival
+  pub least : AreLeastLabels (plain_meaning n table) (collapsed automaton) starts q.depart None arrival labels
 
 -- a walk that was found, if there is one, is one of the network's graph
-abbrev pub IsPlainWalk : NetworkLists → Option Walk → Type 0
-IsPlainWalk n None = Unit {0}
-IsPlainWalk n (Some walk) = ArePlainHops n walk.node walk.at walk.hops.items
+abbrev pub IsPlainWalk : NetworkLists → TableLists → Option Walk → Type 0
+IsPlainWalk n table None = Unit {0}
+IsPlainWalk n table (Some walk) = ArePlainHops n table walk.node walk.at walk.hops.items
 
 -- the journey takes the hops of the walk one after the other
-pub record TakesHops (n : NetworkLists) (walk : Walk) (j : Route) : Type 0 where
+pub record TakesHops (n : NetworkLists) (table : TableLists) (walk : Walk) (j : Route) : Type 0 where
   pub start : j.start ≡ walk.node
   pub at : j.at ≡ walk.at
-  pub real : AreSteps n j.start j.at j.steps (end_of walk.node walk.hops.items) (arrival_of walk.at walk.hops.items) (letters_of n walk.node walk.hops.items)
+  pub real : AreSteps n j.start j.at j.steps (end_of walk.node walk.hops.items) (arrival_of walk.at walk.hops.items) (letters_of n table walk.node walk.hops.items)
   pub waits : All IsNoWait j.steps
 
 -- the journey of a walk, if there is one
-abbrev pub IsUnpacked : NetworkLists → Option Walk → Option Route → Type 0
-IsUnpacked n None None = Unit {0}
-IsUnpacked n None (Some j) = ⊥
-IsUnpacked n (Some walk) None = ⊥
-IsUnpacked n (Some walk) (Some j) = TakesHops n walk j
+abbrev pub IsUnpacked : NetworkLists → TableLists → Option Walk → Option Route → Type 0
+IsUnpacked n table None None = Unit {0}
+IsUnpacked n table None (Some j) = ⊥
+IsUnpacked n table (Some walk) None = ⊥
+IsUnpacked n table (Some walk) (Some j) = TakesHops n table walk j

@@ -79,8 +79,8 @@ fn unpacked(
     plain: &Plain<'_>,
     walk: &Option<Walk>,
 ) -> Result<Option<Journey>, AllocError>
-    requires { IsPlainWalk plain.now.network.now walk.now }
-    ensures { IfOk result (λ journey. IsUnpacked plain.now.network.now walk.now journey) }
+    requires { IsPlainWalk plain.now.network.now plain.now.timetable.now walk.now }
+    ensures { IfOk result (λ journey. IsUnpacked plain.now.network.now plain.now.timetable.now walk.now journey) }
 {
     match walk {
         Some(walk) => {

@@ -35,6 +35,93 @@ link 5 1 30000
 end
 ";
 
+/// A bike stands ready at the first place, or is taken at a switch beside it; nobody can walk.
+const BIKES: &[u8] = b"modeplan region 1
+days 20240304 1
+node foot 1 480000000 110000000
+node bike 1 480000000 110000000
+node bike 2 480010000 110000000
+switch 9 480000000 110000000
+arc 1 2 20000
+link 0 3 30000
+link 3 1 30000
+end
+";
+
+/// Three buses between three stops, and a foot node beside the second stop.
+const BUSES: &[u8] = b"modeplan region 1
+days 20240304 1
+node foot 201 480000000 110000000
+stop A 480000000 110005000
+stop B 480000000 110010000
+stop C 480000000 110015000
+link 0 2 60000
+link 2 0 60000
+trip bus 80 2 t1
+call 0 28800 28800 3
+call 1 29400 29400 3
+trip bus 80 2 t2
+call 1 29460 29460 3
+call 2 30000 30000 3
+trip bus 80 2 t3
+call 1 29520 29520 3
+call 2 30300 30300 3
+end
+";
+
+/// A bus of the day before the first date that runs past midnight.
+const NIGHT: &[u8] = b"modeplan region 1
+days 20240304 1
+stop A 480000000 110000000
+stop B 480010000 110000000
+trip bus 40 2 night
+call 0 88800 88800 3
+call 1 89400 89400 3
+end
+";
+
+/// A bus of both days.
+const DAILY: &[u8] = b"modeplan region 1
+days 20240304 2
+stop A 480000000 110000000
+stop B 480010000 110000000
+trip bus 180 2 daily
+call 0 28800 28800 3
+call 1 29400 29400 3
+end
+";
+
+/// A bus that another one overtakes, but for where both depart at once.
+const OVERTAKEN: &[u8] = b"modeplan region 1
+days 20240304 1
+stop A 480000000 110000000
+stop B 480010000 110000000
+stop C 480020000 110000000
+trip bus 80 3 u1
+call 0 28800 28800 3
+call 1 29520 29520 3
+call 2 30000 30000 3
+trip bus 80 3 u2
+call 0 29100 29100 3
+call 1 29460 29520 3
+call 2 30600 30600 3
+end
+";
+
+/// A bus that calls twice at one stop, where one may only alight the first time.
+const TWICE: &[u8] = b"modeplan region 1
+days 20240304 1
+stop A 480000000 110000000
+stop B 480010000 110000000
+stop C 480020000 110000000
+trip bus 80 4 ring
+call 0 28800 28800 2
+call 1 29400 29400 3
+call 0 30000 30000 3
+call 2 30600 30600 3
+end
+";
+
 /// A query of each kind of answer, and what is written for them.
 const MANY: &[u8] = b"# a walk, lines that are no queries, and refused ones\r
 n101 n103 20240304 08:00:00 foot\r
@@ -133,10 +220,21 @@ fn is_one_line(bytes: &[u8]) -> bool {
     bytes.ends_with(b"\n") && bytes.iter().filter(|byte| **byte == b'\n').count() == 1
 }
 
+/// Whether a run over one query line is done, writes its block with this body, and says one line of itself.
+fn is_answered(alloc: Global, region: &[u8], line: &str, body: &str) -> Result<bool, Fail> {
+    let told = run_on(alloc, ANSWER, Some(region), Some(line.as_bytes()), WHOLE)?;
+    let wanted = format!(in alloc; "query {line}\n{body}\nend\n")?;
+    Ok(
+        told.outcome == Outcome::Done
+            && told.out.as_slice() == wanted.as_bytes()
+            && is_one_line(&told.notes),
+    )
+}
+
 #[test]
 fn the_block_of_a_query_line(rt: HostRuntime) -> Result<(), Fail> {
     let alloc = rt.alloc();
-    let cases: [(&[u8], &str, &str); 28] = [
+    let cases: [(&[u8], &str, &str); 31] = [
         (
             WALK,
             "n101 n103 20240304 08:00:00 foot",
@@ -210,6 +308,26 @@ road foot:103 20240304 24:02:12.717",
             "refused deep 64",
         ),
         (
+            BIKES,
+            "n1 n2 20240304 08:00:00 foot bike",
+            "arrive 20240304 08:01:20.000
+word foot bike
+from foot:1 20240304 08:00:00.000
+stand
+link switch:9 20240304 08:00:30.000
+link bike:1 20240304 08:01:00.000
+road bike:2 20240304 08:01:20.000",
+        ),
+        (
+            BIKES,
+            "n1 n2 20240304 08:00:00 bike",
+            "arrive 20240304 08:00:20.000
+word bike
+from bike:1 20240304 08:00:00.000
+road bike:2 20240304 08:00:20.000",
+        ),
+        (BIKES, "n1 n2 20240304 08:00:00 foot", "no journey"),
+        (
             MIXED,
             "n1 n2 20240305 08:00:00.500 foot|bike",
             "arrive 20240305 08:00:27.005
@@ -247,11 +365,116 @@ link foot:1 20240304 08:01:00.000",
         (MIXED, "sB n1 20240304 08:00:00 foot", "refused from"),
     ];
     for (region, line, body) in cases {
-        let told = run_on(alloc, ANSWER, Some(region), Some(line.as_bytes()), WHOLE)?;
-        let wanted = format!(in alloc; "query {line}\n{body}\nend\n")?;
-        assert_eq!(rt; told.outcome, Outcome::Done, "{line}");
-        assert!(rt; told.out.as_slice() == wanted.as_bytes(), "{line}");
-        assert!(rt; is_one_line(&told.notes), "{line}");
+        assert!(rt; is_answered(alloc, region, line, body)?, "{line}");
+    }
+    Ok(())
+}
+
+#[test]
+fn the_blocks_of_rides(rt: HostRuntime) -> Result<(), Fail> {
+    let cases: [(&[u8], &str, &str); 9] = [
+        (
+            BUSES,
+            "sA sC 20240304 08:00:00 bus bus",
+            "arrive 20240304 08:20:00.000
+word bus bus
+from stop:A 20240304 08:00:00.000
+ride bus 20240304 stop:B 20240304 08:10:00.000 t1
+ride bus 20240304 stop:C 20240304 08:20:00.000 t2",
+        ),
+        (
+            BUSES,
+            "sA sC 20240304 08:00:00 bus foot bus",
+            "arrive 20240304 08:25:00.000
+word bus foot bus
+from stop:A 20240304 08:00:00.000
+ride bus 20240304 stop:B 20240304 08:10:00.000 t1
+link foot:201 20240304 08:11:00.000
+stand
+link stop:B 20240304 08:12:00.000
+ride bus 20240304 stop:C 20240304 08:25:00.000 t3",
+        ),
+        (
+            NIGHT,
+            "sA sB 20240304 00:30:00 bus",
+            "arrive 20240304 00:50:00.000
+word bus
+from stop:A 20240304 00:30:00.000
+ride bus 20240303 stop:B 20240304 00:50:00.000 night",
+        ),
+        (
+            DAILY,
+            "sA sB 20240304 08:00:00 bus",
+            "arrive 20240304 08:10:00.000
+word bus
+from stop:A 20240304 08:00:00.000
+ride bus 20240304 stop:B 20240304 08:10:00.000 daily",
+        ),
+        (
+            DAILY,
+            "sA sB 20240304 08:00:00.001 bus",
+            "arrive 20240305 08:10:00.000
+word bus
+from stop:A 20240304 08:00:00.001
+ride bus 20240305 stop:B 20240305 08:10:00.000 daily",
+        ),
+        (
+            OVERTAKEN,
+            "sA sC 20240304 08:01:00 bus",
+            "arrive 20240304 08:30:00.000
+word bus
+from stop:A 20240304 08:01:00.000
+ride bus 20240304 stop:C 20240304 08:30:00.000 u2",
+        ),
+        (
+            OVERTAKEN,
+            "sA sC 20240304 08:01:00 bus bus",
+            "arrive 20240304 08:20:00.000
+word bus bus
+from stop:A 20240304 08:01:00.000
+ride bus 20240304 stop:B 20240304 08:11:00.000 u2
+ride bus 20240304 stop:C 20240304 08:20:00.000 u1",
+        ),
+        (
+            TWICE,
+            "sA sC 20240304 08:00:00 bus",
+            "arrive 20240304 08:30:00.000
+word bus
+from stop:A 20240304 08:00:00.000
+ride bus 20240304 stop:C 20240304 08:30:00.000 ring",
+        ),
+        (TWICE, "sA sB 20240304 08:00:00 bus", "no journey"),
+    ];
+    for (region, line, body) in cases {
+        assert!(rt; is_answered(rt.alloc(), region, line, body)?, "{line}");
+    }
+    Ok(())
+}
+
+#[test]
+fn the_blocks_of_places(rt: HostRuntime) -> Result<(), Fail> {
+    let cases = [
+        (
+            "@48.0005,11.0 n103 20240304 08:00:00 foot",
+            "arrive 20240304 08:02:12.718
+word foot
+from foot:101 20240304 08:00:00.000
+road foot:102 20240304 08:01:19.515
+road foot:103 20240304 08:02:12.718",
+        ),
+        (
+            "@49.0,11.0 n103 20240304 08:00:00 foot",
+            "refused far from 111208680",
+        ),
+        (
+            "n101 @49.0,11.0 20240304 08:00:00 foot",
+            "refused far to 111208680",
+        ),
+        ("@91,11 n103 20240304 08:00:00 foot", "refused shape"),
+        ("@48.0 n103 20240304 08:00:00 foot", "refused shape"),
+    ];
+    for (line, body) in cases {
+        assert!(rt; is_answered(rt.alloc(), WALK, line, body)?, "{line}");
     }
     Ok(())
 }

@@ -18,15 +18,14 @@ use Rattle.mode_network.specs.Rules.{first_fault}
 use Rattle.region_file.specs.declared.fault.RegionFault.{RegionFault}
 use Rattle.region_file.specs.declared.fault.RegionFault.TheVariants.{BadHead, BadRecord, Network, Trailing, OutOfMemory}
 use Rattle.region_file.specs.declared.lines.Line.{Line}
-use Rattle.region_file.specs.declared.section.Section.TheVariants.{Start, End}
 use Rattle.region_file.specs.Lines.{FitsLine, IsRegion, head_line, region_lines, region_text, spelled}
-use Rattle.region_file.specs.Sections.{is_end, line_at, section_after}
+use Rattle.region_file.specs.Sections.{is_end, line_at, progress_after, start}
 use Rattle.region_file.specs.Regions.{Gives, HasCause, IsDecoded, behind_head, from_text, lists_of, network_of, nothing, or_fault, put, put_all, region_of}
 use Rattle.region_file.proofs.KindLaws.{words_are_words}
 use Rattle.region_file.proofs.SectionLaws.{reads_lines}
 use Rattle.region_file.proofs.Found.{all_lines}
 use Rattle.region_file.proofs.PartsMade.{are_parts}
-use Rattle.region_file.proofs.Again.{runs_to_end, made_again}
+use Rattle.region_file.proofs.Again.{behind_end, runs_to_end, made_again}
 
 -- what a course gives
 same_Ok : {A E : Type 0} (x y : A) → ◌≡◌ {A = Result A E} (Ok x) (Ok y) → x ≡ y
@@ -38,11 +37,11 @@ same_Err x y e = cc
 -- What is read is spelled so.
 pub lists_found : (text : List ℕ) (n : NetworkLists) → lists_of text ≡ Ok n → IsRegion n × (text ≡ lines_text (map spelled (region_lines n)))
 unfolding lists_of
-lists_found text n e = by_course (lines_from line_at is_end Start 2 (pieces text)) refl e
+lists_found text n e = by_course (lines_from line_at is_end start 2 (pieces text)) refl e
   where
-    by_course : (c : Course Line) → lines_from line_at is_end Start 2 (pieces text) ≡ c → put_all nothing c ≡ Ok n → IsRegion n × (text ≡ lines_text (map spelled (region_lines n)))
+    by_course : (c : Course Line) → lines_from line_at is_end start 2 (pieces text) ≡ c → put_all nothing c ≡ Ok n → IsRegion n × (text ≡ lines_text (map spelled (region_lines n)))
     by_course (whole ls) is e =
-        let h = course_takes spelled FitsLine section_after is_end line_at reads_lines (pieces text) Start 2 ls is in
+        let h = course_takes spelled FitsLine progress_after is_end line_at reads_lines (pieces text) start 2 ls is in
         let lines = all_lines ls h.place h.runs h.last in
         let made : fold put nothing ls ≡ n = same_Ok (fold put nothing ls) n e in
         subst (λ m. IsRegion m × (text ≡ lines_text (map spelled (region_lines m)))) made
@@ -58,8 +57,8 @@ each_is_line (l ∷ ls) h = (spaced_is_line _ (words_are_words l h.0), each_is_l
 pub lists_again : (n : NetworkLists) → IsRegion n → lists_of (lines_text (map spelled (region_lines n))) ≡ Ok n
 unfolding lists_of
 lists_again n h =
-    ap (λ x. put_all nothing (lines_from line_at is_end Start 2 x)) (pieces_lines (map spelled (region_lines n)) (each_is_line (region_lines n) h.fits))
-    ∙ ap (put_all nothing) (course_again spelled FitsLine section_after is_end line_at reads_lines (region_lines n) Start End 2 refl (runs_to_end n h.parts) refl h.fits)
+    ap (λ x. put_all nothing (lines_from line_at is_end start 2 x)) (pieces_lines (map spelled (region_lines n)) (each_is_line (region_lines n) h.fits))
+    ∙ ap (put_all nothing) (course_again spelled FitsLine progress_after is_end line_at reads_lines (region_lines n) start behind_end 2 refl (runs_to_end n h.parts) refl h.fits)
     ∙ ap Ok (made_again n h.parts)
 
 -- the head
@@ -76,16 +75,16 @@ head_again text = refl
 -- the course that a fault comes from
 text_cause : (caps : Caps) (bytes text : List ℕ) (fault : RegionFault) → bytes ≡ head_line ++ text → lists_of text ≡ Err fault → HasCause caps bytes fault
 unfolding lists_of
-text_cause caps bytes text fault head e = by_course (lines_from line_at is_end Start 2 (pieces text)) refl e
+text_cause caps bytes text fault head e = by_course (lines_from line_at is_end start 2 (pieces text)) refl e
   where
-    by_course : (c : Course Line) → lines_from line_at is_end Start 2 (pieces text) ≡ c → put_all nothing c ≡ Err fault → HasCause caps bytes fault
+    by_course : (c : Course Line) → lines_from line_at is_end start 2 (pieces text) ≡ c → put_all nothing c ≡ Err fault → HasCause caps bytes fault
     by_course (whole ls) is e = absurd (cc)
     by_course (bad k) is e =
         subst (λ f. HasCause caps bytes f) (same_Err {A = NetworkLists} (BadRecord k) fault e)
-        (text, record { is = head }, course_bad spelled FitsLine section_after is_end line_at reads_lines (pieces text) Start 2 k is)
+        (text, record { is = head }, course_bad spelled FitsLine progress_after is_end line_at reads_lines (pieces text) start 2 k is)
     by_course (trailing k) is e =
         subst (λ f. HasCause caps bytes f) (same_Err {A = NetworkLists} (Trailing k) fault e)
-        (text, record { is = head }, course_trailing spelled FitsLine section_after is_end line_at reads_lines (pieces text) Start 2 k is)
+        (text, record { is = head }, course_trailing spelled FitsLine progress_after is_end line_at reads_lines (pieces text) start 2 k is)
 
 spelled_so : (bytes text : List ℕ) (n : NetworkLists) → bytes ≡ head_line ++ text → lists_of text ≡ Ok n → IsRegion n × (bytes ≡ region_text n)
 unfolding region_text

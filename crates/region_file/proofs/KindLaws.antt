@@ -1,31 +1,40 @@
 -- The two laws of a line by itself: what is read is spelled so, and what is spelled so is read.
-use Rattle.std.proofs.Common.{◌≡◌, ℕ, zero, suc, ℤ, List, [], ◌∷◌, refl, ap, ap₂, sym, ◌∙◌, subst, ◌<◌, ◌*◌, ◌^◌, Bool, true, false, cond, arith}
-use Rattle.std.specs.Prelude.{Option, Some, None, option_map, Result, Ok, Err, codes, decimal, unsigned_abs, nat_lt, ◌==◌, int_le, pos, neg_ℤ, ◌≤ℤ◌}
+use Rattle.std.proofs.Common.{◌≡◌, ℕ, zero, suc, ℤ, List, [], ◌∷◌, length, get_or, refl, ap, ap₂, sym, ◌∙◌, subst, ◌<◌, ◌≤◌, ◌+◌, ◌-◌, ◌*◌, ◌%◌, ◌^◌, Bool, true, false, cond, arith}
+use Rattle.std.specs.Prelude.{Option, Some, None, option_map, Result, Ok, Err, codes, decimal, unsigned_abs, nat_eq, nat_le, nat_lt, not, ◌==◌, ◌&&◌, position, int_le, pos, neg_ℤ, ◌≤ℤ◌}
 use Rattle.std.specs.Fmt.{signed_decimal}
 use Rattle.std.specs.Str.{bytes_eq}
-use Rattle.std.specs.List.{AllByRecursion}
+use Rattle.std.specs.List.{AllByRecursion, list_all}
+use Rattle.std.proofs.lemmas.Bool.{false≢true}
 use Rattle.std.proofs.lemmas.Bool.Decides.{nat_tests}
 use Rattle.std.proofs.lemmas.Int.{ints}
+use Rattle.std.proofs.lemmas.List.Elements.{All-weaker}
+use Rattle.std.proofs.lemmas.List.Quantifiers.{position-Some}
+use Rattle.std.proofs.lemmas.List.Sums.{AllPass-from_list_all}
 use Rattle.std.proofs.lemmas.Slice.Eq.{bytes_eq-Decides}
 use Rattle.std.proofs.lemmas.Option.{none-some, same_Some, cond_some, option_and_then_some}
 use Rattle.plain_texts.specs.Lines.{IsWord, words_of, spaced}
+use Rattle.plain_texts.specs.Hexadecimal.{hexadecimal, hexadecimal_at}
 use Rattle.plain_texts.specs.Names.{is_name, name_of}
-use Rattle.plain_texts.specs.Numbers.{IsId, id_at, signed_at}
+use Rattle.plain_texts.specs.Numbers.{IsId, id_at, number_at, signed_at}
 use Rattle.plain_texts.proofs.Decimal.{number_takes, number_again}
+use Rattle.plain_texts.proofs.Hexadecimal.{hexadecimal_takes, hexadecimal_again}
 use Rattle.plain_texts.proofs.Signed.{signed_takes, signed_again}
-use Rattle.plain_texts.proofs.Spaced.{spaced-words_of, words_of-spaced, word_by_test, decimal_is_word, signed_is_word, name_is_word}
+use Rattle.plain_texts.proofs.Spaced.{spaced-words_of, words_of-spaced, word_by_test, decimal_is_word, signed_is_word, hexadecimal_is_word, name_is_word}
 use Rattle.plan_base.specs.declared.places.Place.{Place}
 use Rattle.plan_base.specs.PlaceOf.{place_of, shown}
 use Rattle.plan_base.proofs.PlaceAgain.{place_again}
 use Rattle.service_days.specs.DaysMeaning.{DaysMeaning}
 use Rattle.service_days.specs.Days.{is_day_count, is_first_date, new_days, plain_days}
+use Rattle.service_days.specs.Zones.{Zone, dates_and_next, days_in_read, days_with_bases, have_day_lengths, is_rule_text, read_zone, zone_days}
 use Rattle.service_days.specs.declared.range.RangeFault.{RangeFault}
-use Rattle.service_days.specs.declared.range.RangeFault.TheVariants.{BadCount, BadDate}
+use Rattle.service_days.specs.declared.range.RangeFault.TheVariants.{BadCount, BadDate, BadZone}
+use Rattle.timetable_arcs.specs.declared.trips.Call.{Call}
 use Rattle.mode_network.specs.declared.nodes.Arc.{Arc}
 use Rattle.region_file.specs.declared.lines.Line.{Line}
 use Rattle.region_file.specs.declared.lines.Line.TheVariants as line
-use Rattle.region_file.specs.Lines.{FitsArc, FitsDays, FitsLine, arc_words, mode_name, place_words, spelled, words}
-use Rattle.region_file.specs.Kinds.{arc_at, days_at, end_at, kind_at, line_of, line_of_words, made, mode_at, place_at, road_at, stop_at, switch_at, word_at}
+use Rattle.region_file.specs.Letters.{letter_at, letter_name, letter_names}
+use Rattle.region_file.specs.Lines.{FitsArc, FitsCall, FitsDays, FitsLine, FitsTrip, arc_words, call_words, days_of, flags_of, mode_name, place_words, rule_words, spelled, words}
+use Rattle.region_file.specs.Kinds.{arc_at, call_at, days_at, end_at, kind_at, line_of, line_of_words, made, mode_at, place_at, road_at, rule_at, stop_at, switch_at, trip_at, word_at}
 
 mapped : {A B : Type 0} (f : A → B) (o : Option A) (y : B) → option_map f o ≡ Some y → (x : A) × (o ≡ Some x) × (f x ≡ y)
 mapped f None y e = absurd (none-some y e)
@@ -69,6 +78,39 @@ mode_again zero h = refl
 mode_again (suc zero) h = refl
 mode_again (suc (suc zero)) h = refl
 mode_again (suc (suc (suc n))) h = absurd (omega (arith, h))
+
+-- names of letters
+place_laws : (k : ℕ) → k < 11 → (position (λ known. bytes_eq known (get_or letter_names k [])) letter_names ≡ Some k) × IsWord (get_or letter_names k [])
+place_laws zero h = (refl, word_by_test (codes "tram") refl)
+place_laws (suc zero) h = (refl, word_by_test (codes "metro") refl)
+place_laws (suc (suc zero)) h = (refl, word_by_test (codes "rail") refl)
+place_laws (suc (suc (suc zero))) h = (refl, word_by_test (codes "bus") refl)
+place_laws (suc (suc (suc (suc zero)))) h = (refl, word_by_test (codes "ferry") refl)
+place_laws (suc (suc (suc (suc (suc zero))))) h = (refl, word_by_test (codes "cable") refl)
+place_laws (suc (suc (suc (suc (suc (suc zero)))))) h = (refl, word_by_test (codes "lift") refl)
+place_laws (suc (suc (suc (suc (suc (suc (suc zero))))))) h = (refl, word_by_test (codes "funicular") refl)
+place_laws (suc (suc (suc (suc (suc (suc (suc (suc zero)))))))) h = (refl, word_by_test (codes "trolley") refl)
+place_laws (suc (suc (suc (suc (suc (suc (suc (suc (suc zero))))))))) h = (refl, word_by_test (codes "monorail") refl)
+place_laws (suc (suc (suc (suc (suc (suc (suc (suc (suc (suc zero)))))))))) h = (refl, word_by_test (codes "other") refl)
+place_laws (suc (suc (suc (suc (suc (suc (suc (suc (suc (suc (suc k))))))))))) h = absurd (omega (arith, h))
+
+letter_takes : (name : List ℕ) (letter : ℕ) → letter_at name ≡ Some letter → (letter_name letter ≡ name) × (3 ≤ letter) × (letter < 14)
+unfolding letter_at
+letter_takes name letter e =
+    let found = mapped (λ place. 3 + place) (position (λ known. bytes_eq known name) letter_names) letter e in
+    let at = position-Some (λ known. bytes_eq known name) letter_names found.0 [] found.1 in
+    let few : found.0 < 11 = at.0 in
+    let place : letter - 3 ≡ found.0 = omega (arith, found.2) in
+    (ap (λ k. get_or letter_names k []) place ∙ same_bytes (get_or letter_names found.0 []) name at.1, omega (arith, found.2), omega (arith, found.2, few))
+
+letter_again : (letter : ℕ) → 3 ≤ letter → letter < 14 → letter_at (letter_name letter) ≡ Some letter
+unfolding letter_at
+letter_again letter low high =
+    let again : 3 + (letter - 3) ≡ letter = omega (arith, low) in
+    ap (option_map (λ place. 3 + place)) (place_laws (letter - 3) (omega (arith, low, high))).0 ∙ ap Some again
+
+letter_is_word : (letter : ℕ) → 3 ≤ letter → letter < 14 → IsWord (letter_name letter)
+letter_is_word letter low high = (place_laws (letter - 3) (omega (arith, low, high))).1
 
 -- places
 place_of_takes : (lat lon : ℤ) (place : Place) → place_of lat lon ≡ Some place → (lat ≡ place.lat) × (lon ≡ place.lon)
@@ -120,6 +162,73 @@ arc_takes (a ∷ b ∷ c ∷ []) arc e =
 arc_again : (arc : Arc) → FitsArc arc → arc_at (arc_words arc) ≡ Some arc
 unfolding arc_at
 arc_again arc h = rw (word_again arc.from h.from, word_again arc.to h.to, word_again arc.ms h.ms) (grind (arith, nat_tests, h.some))
+
+-- calls
+flags_read : (marks : ℕ) → marks < 4 → cond (marks % 2 == 1) 1 0 + cond (nat_le 2 marks) 2 0 ≡ marks
+flags_read zero h = refl
+flags_read (suc zero) h = refl
+flags_read (suc (suc zero)) h = refl
+flags_read (suc (suc (suc zero))) h = refl
+flags_read (suc (suc (suc (suc n)))) h = absurd (omega (arith, h))
+
+record AreFlags (board alight : Bool) (marks : ℕ) : Type 0 where
+  few : marks < 4
+  boards : (marks % 2 == 1) ≡ board
+  alights : nat_le 2 marks ≡ alight
+
+flags_again : (board alight : Bool) → AreFlags board alight (cond board 1 0 + cond alight 2 0)
+flags_again true true = record { few = omega arith; boards = refl; alights = refl }
+flags_again true false = record { few = omega arith; boards = refl; alights = refl }
+flags_again false true = record { few = omega arith; boards = refl; alights = refl }
+flags_again false false = record { few = omega arith; boards = refl; alights = refl }
+
+call_takes : (fields : List (List ℕ)) (call : Call) → call_at fields ≡ Some call → (call_words call ≡ fields) × FitsCall call
+unfolding call_at
+call_takes [] call e = absurd (none-some call e)
+call_takes (a ∷ []) call e = absurd (none-some call e)
+call_takes (a ∷ b ∷ []) call e = absurd (none-some call e)
+call_takes (a ∷ b ∷ c ∷ []) call e = absurd (none-some call e)
+call_takes (a ∷ b ∷ c ∷ d ∷ f ∷ more) call e = absurd (none-some call e)
+call_takes (a ∷ b ∷ c ∷ d ∷ []) call e =
+    option_and_then_some _ (word_at a) call e (λ stop is_stop e.
+    option_and_then_some _ (word_at b) call e (λ arr is_arr e.
+    option_and_then_some _ (word_at c) call e (λ dep is_dep e.
+    option_and_then_some _ (number_at 4 d) call e (λ marks is_marks e.
+    let place = word_takes a stop is_stop in
+    let arrival = word_takes b arr is_arr in
+    let departure = word_takes c dep is_dep in
+    let flags = number_takes d 4 marks (omega arith) is_marks in
+    let read : Call = record { stop = stop; arr = arr; dep = dep; board = marks % 2 == 1; alight = nat_le 2 marks } in
+    let same : call_words read ≡ a ∷ b ∷ c ∷ d ∷ [] = cc (place.1, arrival.1, departure.1, flags.1, flags_read marks flags.0) in
+    subst (λ x. (call_words x ≡ a ∷ b ∷ c ∷ d ∷ []) × FitsCall x) (same_Some read call e) (same, record { stop = place.0; arr = arrival.0; dep = departure.0 })))))
+
+call_again : (call : Call) → FitsCall call → call_at (call_words call) ≡ Some call
+unfolding call_at
+call_again call h =
+    let flags = flags_again call.board call.alight in
+    rw (word_again call.stop h.stop, word_again call.arr h.arr, word_again call.dep h.dep, number_again 4 (flags_of call) (omega arith) flags.few)
+    (ap₂ (λ board alight. Some (record { stop = call.stop; arr = call.arr; dep = call.dep; board = board; alight = alight })) flags.boards flags.alights)
+
+-- the lines of trips
+trip_takes : (fields : List (List ℕ)) (l : Line) → trip_at fields ≡ Some l → (words l ≡ codes "trip" ∷ fields) × FitsLine l
+unfolding trip_at
+trip_takes [] l e = absurd (none-some l e)
+trip_takes (a ∷ []) l e = absurd (none-some l e)
+trip_takes (a ∷ b ∷ []) l e = absurd (none-some l e)
+trip_takes (a ∷ b ∷ c ∷ []) l e = absurd (none-some l e)
+trip_takes (a ∷ b ∷ c ∷ d ∷ f ∷ more) l e = absurd (none-some l e)
+trip_takes (a ∷ b ∷ c ∷ d ∷ []) l e =
+    option_and_then_some _ (letter_at a) l e (λ letter is_letter e.
+    option_and_then_some _ (hexadecimal_at b) l e (λ set is_set e.
+    option_and_then_some _ (word_at c) l e (λ calls is_calls e.
+    option_and_then_some _ (name_of d) l e (λ name is_name_of e.
+    let means = letter_takes a letter is_letter in
+    let days = hexadecimal_takes b set is_set in
+    let count = word_takes c calls is_calls in
+    let named = cond_some (is_name d) d name is_name_of in
+    let same : codes "trip" ∷ letter_name letter ∷ hexadecimal set ∷ decimal calls ∷ name ∷ [] ≡ codes "trip" ∷ a ∷ b ∷ c ∷ d ∷ [] = cc (means.0, days.1, count.1, named.1) in
+    let fits : FitsTrip letter (record { 0 = set }) calls name = record { from_tram = means.1; to_other = means.2; some_day = days.0; few = count.0; named = subst (λ x. is_name x ≡ true) named.1 named.0 } in
+    subst (λ x. (words x ≡ codes "trip" ∷ a ∷ b ∷ c ∷ d ∷ []) × FitsLine x) (same_Some (line.Trip letter (record { 0 = set }) calls name) l e) (same, fits)))))
 
 -- the lines of nodes
 road_takes : (fields : List (List ℕ)) (l : Line) → road_at fields ≡ Some l → (words l ≡ codes "node" ∷ fields) × FitsLine l
@@ -174,33 +283,91 @@ if_made true true made days f g e = cc
 if_made true false made days f g e = absurd (cc)
 if_made false counted made days f g e = absurd (cc)
 
--- days are of the first date and the count that they are made of
-made_of : (first count : ℕ) (days : DaysMeaning) → new_days first count ≡ Ok days → (first ≡ days.first) × (count ≡ days.count)
+-- days are of the first date, the count and the rule that they are made of
+record AreMade (first count : ℕ) (zone : Option (List ℕ)) (days : DaysMeaning) : Type 0 where
+  first_is : first ≡ days.first
+  count_is : count ≡ days.count
+  zone_is : zone ≡ days.zone
+
+fits_days : (first count : ℕ) (rule : Option (List ℕ)) (days : DaysMeaning) → first < 2 ^ 32 → count < 2 ^ 32 → AreMade first count rule days → days_of first count rule ≡ Ok days → FitsDays days
+fits_days first count rule days date number of is = record {
+  first = subst (λ n. n < 2 ^ 32) of.first_is date;
+  count = subst (λ n. n < 2 ^ 32) of.count_is number;
+  made = ap (λ n. days_of n days.count days.zone) (sym of.first_is) ∙ ap₂ (λ n z. days_of first n z) (sym of.count_is) (sym of.zone_is) ∙ is;
+}
+
+made_of : (first count : ℕ) (days : DaysMeaning) → new_days first count ≡ Ok days → AreMade first count None days
 made_of first count days e =
-    let same = if_made (is_first_date first) (is_day_count count) (plain_days first count) days BadCount BadDate e in
-    (ap (λ (d : DaysMeaning). d.first) same, ap (λ (d : DaysMeaning). d.count) same)
+    let is = if_made (is_first_date first) (is_day_count count) (plain_days first count) days BadCount BadDate e in
+    record { first_is = ap (λ (d : DaysMeaning). d.first) is; count_is = ap (λ (d : DaysMeaning). d.count) is; zone_is = ap (λ (d : DaysMeaning). d.zone) is }
+
+if_ok : (t : Bool) (r : Result DaysMeaning RangeFault) (f : RangeFault) (days : DaysMeaning) → cond t r (Err f) ≡ Ok days → (t ≡ true) × (r ≡ Ok days)
+if_ok true r f days e = (refl, e)
+if_ok false r f days e = absurd (cc)
+
+made_in : (first count : ℕ) (rule : List ℕ) (days : DaysMeaning) → zone_days first count rule ≡ Ok days → (is_rule_text rule ≡ true) × AreMade first count (Some rule) days
+made_in first count rule days e =
+    let dated = if_ok (is_first_date first) _ BadDate days e in
+    let counted = if_ok (is_day_count count) _ BadCount days dated.1 in
+    let ruled = if_ok (is_rule_text rule) _ BadZone days counted.1 in
+    (ruled.0, by_zone (read_zone rule) ruled.1)
+  where
+    by_zone : (o : Option Zone) → days_in_read o rule first count ≡ Ok days → AreMade first count (Some rule) days
+    by_zone None e = absurd (cc)
+    by_zone (Some zone) e =
+        let dates = dates_and_next first count in
+        let same = (if_ok (have_day_lengths zone dates (count + 7)) (Ok (days_with_bases zone rule first count dates)) BadZone days e).1 in
+        let is : days_with_bases zone rule first count dates ≡ days = cc same in
+        record { first_is = ap (λ (d : DaysMeaning). d.first) is; count_is = ap (λ (d : DaysMeaning). d.count) is; zone_is = ap (λ (d : DaysMeaning). d.zone) is }
+
+made_by : (first count : ℕ) (zone : Option (List ℕ)) (days : DaysMeaning) → days_of first count zone ≡ Ok days → AreMade first count zone days
+made_by first count None days e = made_of first count days e
+made_by first count (Some rule) days e = (made_in first count rule days e).1
+
+rule_takes : (fields : List (List ℕ)) (read : Option (List ℕ)) → rule_at fields ≡ Some read → rule_words read ≡ fields
+rule_takes [] read e = ap rule_words (sym (same_Some None read e))
+rule_takes (rule ∷ []) read e = ap rule_words (sym (same_Some (Some rule) read e))
+rule_takes (rule ∷ next ∷ more) read e = absurd (none-some read e)
+
+rule_again : (zone : Option (List ℕ)) → rule_at (rule_words zone) ≡ Some zone
+rule_again None = refl
+rule_again (Some rule) = refl
 
 days_takes : (fields : List (List ℕ)) (l : Line) → days_at fields ≡ Some l → (words l ≡ codes "days" ∷ fields) × FitsLine l
 unfolding days_at
 days_takes [] l e = absurd (none-some l e)
 days_takes (a ∷ []) l e = absurd (none-some l e)
-days_takes (a ∷ b ∷ c ∷ more) l e = absurd (none-some l e)
-days_takes (a ∷ b ∷ []) l e =
+days_takes (a ∷ b ∷ rule) l e =
     option_and_then_some _ (word_at a) l e (λ first is_first e.
     option_and_then_some _ (word_at b) l e (λ count is_count e.
-    let found = mapped line.Days (made (new_days first count)) l e in
+    option_and_then_some _ (rule_at rule) l e (λ zone is_zone e.
+    let found = mapped line.Days (made (days_of first count zone)) l e in
     let days = found.0 in
-    let new = made_takes (new_days first count) days found.1 in
-    let of = made_of first count days new in
+    let new = made_takes (days_of first count zone) days found.1 in
+    let of = made_by first count zone days new in
     let date = word_takes a first is_first in
     let number = word_takes b count is_count in
-    let same : codes "days" ∷ decimal days.first ∷ decimal days.count ∷ [] ≡ codes "days" ∷ a ∷ b ∷ [] = cc (of.0, of.1, date.1, number.1) in
-    let fits : FitsDays days = record { first = subst (λ n. n < 2 ^ 32) of.0 date.0; count = subst (λ n. n < 2 ^ 32) of.1 number.0; made = sym (ap₂ new_days of.0 of.1) ∙ new } in
-    subst (λ x. (words x ≡ codes "days" ∷ a ∷ b ∷ []) × FitsLine x) found.2 (same, fits)))
+    let named : rule_words days.zone ≡ rule = ap rule_words (sym of.zone_is) ∙ rule_takes rule zone is_zone in
+    let same : codes "days" ∷ decimal days.first ∷ decimal days.count ∷ rule_words days.zone ≡ codes "days" ∷ a ∷ b ∷ rule = cc (of.first_is, of.count_is, date.1, number.1, named) in
+    subst (λ x. (words x ≡ codes "days" ∷ a ∷ b ∷ rule) × FitsLine x) found.2 (same, fits_days first count zone days date.0 number.0 of new))))
 
-days_again : (days : DaysMeaning) → FitsDays days → days_at (decimal days.first ∷ decimal days.count ∷ []) ≡ Some (line.Days days)
+days_again : (days : DaysMeaning) → FitsDays days → days_at (decimal days.first ∷ decimal days.count ∷ rule_words days.zone) ≡ Some (line.Days days)
 unfolding days_at
-days_again days h = rw (word_again days.first h.first, word_again days.count h.count, h.made) refl
+days_again days h = rw (word_again days.first h.first, word_again days.count h.count, rule_again days.zone, h.made) refl
+
+-- a rule is a word
+and_last : (a b : Bool) → (a && b) ≡ true → b ≡ true
+and_last true b e = e
+and_last false b e = absurd (false≢true e)
+
+rule_is_word : (rule : List ℕ) → is_rule_text rule ≡ true → IsWord rule
+rule_is_word rule e =
+    let bytes = and_last (not (nat_eq (length rule) 0) && nat_le (length rule) 64) (list_all (λ b. nat_le 33 b && nat_le b 126) rule) e in
+    All-weaker (λ b. (nat_le 33 b && nat_le b 126) ≡ true) (λ b. 32 < b) (λ b h. grind (arith, nat_tests)) rule (AllPass-from_list_all (λ b. nat_le 33 b && nat_le b 126) rule bytes)
+
+zone_is_words : (zone : Option (List ℕ)) (days : DaysMeaning) → days_of days.first days.count zone ≡ Ok days → AllByRecursion IsWord (rule_words zone)
+zone_is_words None days made = tt
+zone_is_words (Some rule) days made = (rule_is_word rule (made_in days.first days.count rule days made).0, tt)
 
 end_takes : (fields : List (List ℕ)) (l : Line) → end_at fields ≡ Some l → (words l ≡ codes "end" ∷ fields) × FitsLine l
 unfolding end_at
@@ -218,16 +385,23 @@ by_kind {P} kind literal x y l e here later = by_test (bytes_eq kind literal) re
 kind_takes : (kind : List ℕ) (fields : List (List ℕ)) (l : Line) → kind_at kind fields ≡ Some l → (words l ≡ kind ∷ fields) × FitsLine l
 unfolding kind_at
 kind_takes kind fields l e =
+    by_kind kind (codes "call") _ _ l e (λ is e. call_said is (mapped line.Call (call_at fields) l e)) (λ e.
+    by_kind kind (codes "trip") _ _ l e (λ is e. said (codes "trip") is (trip_takes fields l e)) (λ e.
     by_kind kind (codes "arc") _ _ l e (λ is e. arc_said is (mapped line.Arc (arc_at fields) l e)) (λ e.
     by_kind kind (codes "link") _ _ l e (λ is e. link_said is (mapped line.Link (arc_at fields) l e)) (λ e.
     by_kind kind (codes "node") _ _ l e (λ is e. said (codes "node") is (road_takes fields l e)) (λ e.
     by_kind kind (codes "stop") _ _ l e (λ is e. said (codes "stop") is (stop_takes fields l e)) (λ e.
     by_kind kind (codes "switch") _ _ l e (λ is e. said (codes "switch") is (switch_takes fields l e)) (λ e.
     by_kind kind (codes "days") _ _ l e (λ is e. said (codes "days") is (days_takes fields l e)) (λ e.
-    by_kind kind (codes "end") _ _ l e (λ is e. said (codes "end") is (end_takes fields l e)) (λ e. absurd (none-some l e))))))))
+    by_kind kind (codes "end") _ _ l e (λ is e. said (codes "end") is (end_takes fields l e)) (λ e. absurd (none-some l e))))))))))
   where
     said : (literal : List ℕ) → literal ≡ kind → (words l ≡ literal ∷ fields) × FitsLine l → (words l ≡ kind ∷ fields) × FitsLine l
     said literal is h = (h.0 ∙ ap (λ x. x ∷ fields) is, h.1)
+
+    call_said : codes "call" ≡ kind → (call : Call) × (call_at fields ≡ Some call) × (line.Call call ≡ l) → (words l ≡ kind ∷ fields) × FitsLine l
+    call_said is found =
+        let read = call_takes fields found.0 found.1 in
+        subst (λ x. (words x ≡ kind ∷ fields) × FitsLine x) found.2 (ap₂ (λ x y. x ∷ y) is read.0, read.1)
 
     arc_said : codes "arc" ≡ kind → (arc : Arc) × (arc_at fields ≡ Some arc) × (line.Arc arc ≡ l) → (words l ≡ kind ∷ fields) × FitsLine l
     arc_said is found =
@@ -272,23 +446,33 @@ place_is_words place =
 arc_is_words : (arc : Arc) → FitsArc arc → AllByRecursion IsWord (arc_words arc)
 arc_is_words arc h = (decimal_is_word arc.from (omega (arith, h.from)), (decimal_is_word arc.to (omega (arith, h.to)), (decimal_is_word arc.ms (omega (arith, h.ms)), tt)))
 
+call_is_words : (call : Call) → FitsCall call → AllByRecursion IsWord (call_words call)
+call_is_words call h =
+    let few = (flags_again call.board call.alight).few in
+    (decimal_is_word call.stop (omega (arith, h.stop)), (decimal_is_word call.arr (omega (arith, h.arr)), (decimal_is_word call.dep (omega (arith, h.dep)), (decimal_is_word (flags_of call) (omega (arith, few)), tt))))
+
 pub words_are_words : (l : Line) → FitsLine l → AllByRecursion IsWord (words l)
-words_are_words (line.Days days) h = (word_by_test (codes "days") refl, (decimal_is_word days.first (omega (arith, h.first)), (decimal_is_word days.count (omega (arith, h.count)), tt)))
+words_are_words (line.Days days) h = (word_by_test (codes "days") refl, (decimal_is_word days.first (omega (arith, h.first)), (decimal_is_word days.count (omega (arith, h.count)), zone_is_words days.zone days h.made)))
 words_are_words (line.Road mode id place) h = (word_by_test (codes "node") refl, (mode_is_word mode, (id_is_word id h.1, place_is_words place)))
 words_are_words (line.Stop name place) h = (word_by_test (codes "stop") refl, (name_is_word name h, place_is_words place))
 words_are_words (line.Switch id place) h = (word_by_test (codes "switch") refl, (id_is_word id h, place_is_words place))
 words_are_words (line.Arc arc) h = (word_by_test (codes "arc") refl, arc_is_words arc h)
 words_are_words (line.Link arc) h = (word_by_test (codes "link") refl, arc_is_words arc h)
+words_are_words (line.Trip letter days calls name) h =
+    (word_by_test (codes "trip") refl, (letter_is_word letter h.from_tram h.to_other, (hexadecimal_is_word days.0 h.some_day, (decimal_is_word calls (omega (arith, h.few)), (name_is_word name h.named, tt)))))
+words_are_words (line.Call call) h = (word_by_test (codes "call") refl, call_is_words call h)
 words_are_words line.End h = (word_by_test (codes "end") refl, tt)
 
 said_again : (l : Line) → FitsLine l → line_of_words (words l) ≡ Some l
-unfolding kind_at road_at stop_at switch_at end_at
+unfolding kind_at road_at stop_at switch_at trip_at end_at
 said_again (line.Days days) h = days_again days h
 said_again (line.Road mode id place) h = rw (mode_again mode h.0, id_again id h.1, place_is_read place) refl
 said_again (line.Stop name place) h = rw (h, place_is_read place) refl
 said_again (line.Switch id place) h = rw (id_again id h, place_is_read place) refl
 said_again (line.Arc arc) h = ap (option_map line.Arc) (arc_again arc h)
 said_again (line.Link arc) h = ap (option_map line.Link) (arc_again arc h)
+said_again (line.Trip letter days calls name) h = rw (letter_again letter h.from_tram h.to_other, hexadecimal_again days.0 h.some_day, word_again calls h.few, h.named) refl
+said_again (line.Call call) h = ap (option_map line.Call) (call_again call h)
 said_again line.End h = refl
 
 words_cons : (l : Line) → (kind : List ℕ) × (fields : List (List ℕ)) × (words l ≡ kind ∷ fields)
@@ -298,6 +482,8 @@ words_cons (line.Stop name place) = (_, _, refl)
 words_cons (line.Switch id place) = (_, _, refl)
 words_cons (line.Arc arc) = (_, _, refl)
 words_cons (line.Link arc) = (_, _, refl)
+words_cons (line.Trip letter days calls name) = (_, _, refl)
+words_cons (line.Call call) = (_, _, refl)
 words_cons line.End = (_, _, refl)
 
 words_again : (l : Line) → FitsLine l → words_of (spaced (words l)) ≡ words l

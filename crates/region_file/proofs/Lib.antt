@@ -1,3 +1,4 @@
+mod LastTrip
 mod OneLine
 mod KindLaws
 mod SectionLaws

@@ -69,6 +69,8 @@ put_keeps n (line.Link arc) h fits = record {
   arcs_last = h.arcs_last;
   links_last = All-push (λ (arc : Arc). 0 < arc.ms) n.links arc h.links_last fits.some;
 }
+put_keeps n (line.Trip letter days calls name) h fits = record { roads_are = h.roads_are; stops_are = h.stops_are; switches_are = h.switches_are; one_name_each = h.one_name_each; arcs_last = h.arcs_last; links_last = h.links_last }
+put_keeps n (line.Call call) h fits = record { roads_are = h.roads_are; stops_are = h.stops_are; switches_are = h.switches_are; one_name_each = h.one_name_each; arcs_last = h.arcs_last; links_last = h.links_last }
 put_keeps n line.End h fits = h
 
 all_kept : (ls : List Line) (n : NetworkLists) → AreParts n → AllByRecursion FitsLine ls → AreParts (fold put n ls)

@@ -1,15 +1,18 @@
 -- What a line says, read word by word.
-use Rattle.std.specs.Prelude.{ℕ, ◌^◌, ◌*◌, List, [], ◌∷◌, codes, Option, Some, None, option_and_then, option_map, Result, Ok, Err, nat_lt, if◌then◌else◌}
+use Rattle.std.specs.Prelude.{ℕ, ◌^◌, ◌*◌, ◌%◌, ◌==◌, List, [], ◌∷◌, codes, Option, Some, None, option_and_then, option_map, Result, Ok, Err, nat_lt, nat_le, if◌then◌else◌}
 use Rattle.std.specs.Str.{bytes_eq}
 use Rattle.plain_texts.specs.Lines.{words_of}
 use Rattle.plain_texts.specs.Names.{name_of}
+use Rattle.plain_texts.specs.Hexadecimal.{hexadecimal_at}
 use Rattle.plain_texts.specs.Numbers.{id_at, number_at, signed_at}
 use Rattle.plan_base.specs.declared.places.Place.{Place}
 use Rattle.plan_base.specs.PlaceOf.{place_of}
 use Rattle.service_days.specs.DaysMeaning.{DaysMeaning}
-use Rattle.service_days.specs.Days.{new_days}
 use Rattle.service_days.specs.declared.range.RangeFault.{RangeFault}
 use Rattle.mode_network.specs.declared.nodes.Arc.{Arc}
+use Rattle.timetable_arcs.specs.declared.trips.Call.{Call}
+use Rattle.region_file.specs.Letters.{letter_at}
+use Rattle.region_file.specs.Lines.{days_of}
 use Rattle.region_file.specs.declared.lines.Line.{Line}
 use Rattle.region_file.specs.declared.lines.Line.TheVariants as line
 
@@ -38,11 +41,18 @@ abbrev pub made : Result DaysMeaning RangeFault → Option DaysMeaning
 made (Ok days) = Some days
 made (Err fault) = None
 
+-- no word of a zone rule, or one
+abbrev pub rule_at : List (List ℕ) → Option (Option (List ℕ))
+rule_at [] = Some None
+rule_at (rule ∷ []) = Some (Some rule)
+rule_at (rule ∷ next ∷ more) = None
+
 unfoldable pub days_at : List (List ℕ) → Option Line
-days_at (first ∷ count ∷ []) = do
+days_at (first ∷ count ∷ rule) = do
   date ← word_at first
   days ← word_at count
-  option_map line.Days (made (new_days date days))
+  zone ← rule_at rule
+  option_map line.Days (made (days_of date days zone))
 days_at _ = None
 
 unfoldable pub road_at : List (List ℕ) → Option Line
@@ -76,19 +86,41 @@ arc_at (from ∷ to ∷ ms ∷ []) = do
   if nat_lt 0 time then Some (record { from = tail; to = head; ms = time }) else None
 arc_at _ = None
 
+-- a set of days has at least one
+unfoldable pub trip_at : List (List ℕ) → Option Line
+trip_at (letter ∷ days ∷ calls ∷ name ∷ []) = do
+  means ← letter_at letter
+  set ← hexadecimal_at days
+  count ← word_at calls
+  key ← name_of name
+  Some (line.Trip means (record { 0 = set }) count key)
+trip_at _ = None
+
+-- flags are 1 for boarding plus 2 for alighting
+unfoldable pub call_at : List (List ℕ) → Option Call
+call_at (stop ∷ arr ∷ dep ∷ flags ∷ []) = do
+  place ← word_at stop
+  arrival ← word_at arr
+  departure ← word_at dep
+  marks ← number_at 4 flags
+  Some (record { stop = place; arr = arrival; dep = departure; board = marks % 2 == 1; alight = nat_le 2 marks })
+call_at _ = None
+
 unfoldable pub end_at : List (List ℕ) → Option Line
 end_at [] = Some line.End
 end_at _ = None
 
 unfoldable pub kind_at : List ℕ → List (List ℕ) → Option Line
 kind_at kind fields =
-    if bytes_eq kind (codes "arc") then option_map line.Arc (arc_at fields)
+    if bytes_eq kind (codes "call") then option_map line.Call (call_at fields)
+    else (if bytes_eq kind (codes "trip") then trip_at fields
+    else (if bytes_eq kind (codes "arc") then option_map line.Arc (arc_at fields)
     else (if bytes_eq kind (codes "link") then option_map line.Link (arc_at fields)
     else (if bytes_eq kind (codes "node") then road_at fields
     else (if bytes_eq kind (codes "stop") then stop_at fields
     else (if bytes_eq kind (codes "switch") then switch_at fields
     else (if bytes_eq kind (codes "days") then days_at fields
-    else (if bytes_eq kind (codes "end") then end_at fields else None))))))
+    else (if bytes_eq kind (codes "end") then end_at fields else None))))))))
 
 abbrev pub line_of_words : List (List ℕ) → Option Line
 line_of_words [] = None

@@ -1,3 +1,4 @@
+pub mod Letters
 pub mod Lines
 pub mod Kinds
 pub mod Sections

@@ -7,14 +7,15 @@ use Rattle.plan_base.specs.declared.limits.Caps.{Caps}
 use Rattle.mode_network.specs.declared.nodes.NodeKey.TheVariants.{Road, Stop, Switch}
 use Rattle.mode_network.specs.declared.faults.NetFault.{NetFault}
 use Rattle.mode_network.specs.NetworkLists.{NetworkLists}
+use Rattle.timetable_arcs.specs.declared.trips.Call.{Call}
+use Rattle.timetable_arcs.specs.Trips.{TripLists}
 use Rattle.mode_network.specs.Rules.{first_fault}
 use Rattle.region_file.specs.declared.fault.RegionFault.{RegionFault}
 use Rattle.region_file.specs.declared.fault.RegionFault.TheVariants.{BadHead, BadRecord, Network, Trailing, OutOfMemory}
 use Rattle.region_file.specs.declared.lines.Line.{Line}
 use Rattle.region_file.specs.declared.lines.Line.TheVariants as line
-use Rattle.region_file.specs.declared.section.Section.TheVariants.{Start}
 use Rattle.region_file.specs.Lines.{FitsLine, IsRegion, head_line, region_text, spelled}
-use Rattle.region_file.specs.Sections.{is_end, line_at, section_after}
+use Rattle.region_file.specs.Sections.{is_end, line_at, progress_after, start}
 
 -- no line yet
 abbrev pub nothing : NetworkLists
@@ -26,7 +27,14 @@ nothing = record {
   switches = [];
   arcs = [];
   links = [];
+  trips = [];
 }
+
+-- the trips with one call more of the last
+abbrev pub with_call : List TripLists → Call → List TripLists
+with_call [] call = []
+with_call (trip ∷ []) call = record trip { calls = trip.calls ++ call ∷ [] } ∷ []
+with_call (trip ∷ next ∷ more) call = trip ∷ with_call (next ∷ more) call
 
 -- the lists with one line more
 abbrev pub put : NetworkLists → Line → NetworkLists
@@ -36,6 +44,8 @@ put n (line.Stop name place) = record n { stop_names = n.stop_names ++ name ∷ 
 put n (line.Switch id place) = record n { switches = n.switches ++ record { key = Switch id; place = place } ∷ [] }
 put n (line.Arc arc) = record n { arcs = n.arcs ++ arc ∷ [] }
 put n (line.Link arc) = record n { links = n.links ++ arc ∷ [] }
+put n (line.Trip letter days calls name) = record n { trips = n.trips ++ record { letter = letter; days = days; name = name; calls = [] } ∷ [] }
+put n (line.Call call) = record n { trips = with_call n.trips call }
 put n line.End = n
 
 -- the lists with all lines of a course, or its fault
@@ -46,7 +56,7 @@ put_all n (trailing at) = Err (Trailing at)
 
 -- the lists that the text behind the head line spells
 unfoldable pub lists_of : List ℕ → Result NetworkLists RegionFault
-lists_of text = put_all nothing (lines_from line_at is_end Start 2 (pieces text))
+lists_of text = put_all nothing (lines_from line_at is_end start 2 (pieces text))
 
 -- the network of some lists, or the first rule that they break
 abbrev pub or_fault : NetworkLists → Option NetFault → Result NetworkLists RegionFault
@@ -93,7 +103,7 @@ pub record HasHead (bytes text : List ℕ) : Type 0 where
 -- out has no cause.
 abbrev pub HasCause : Caps → List ℕ → RegionFault → Type 0
 HasCause caps bytes BadHead = (text : List ℕ) → bytes ≡ head_line ++ text → ⊥
-HasCause caps bytes (BadRecord at) = (text : List ℕ) × HasHead bytes text × IsFirstBad spelled FitsLine section_after Start 2 (pieces text) at
-HasCause caps bytes (Trailing at) = (text : List ℕ) × HasHead bytes text × IsTrailing spelled FitsLine section_after is_end Start 2 (pieces text) at
+HasCause caps bytes (BadRecord at) = (text : List ℕ) × HasHead bytes text × IsFirstBad spelled FitsLine progress_after start 2 (pieces text) at
+HasCause caps bytes (Trailing at) = (text : List ℕ) × HasHead bytes text × IsTrailing spelled FitsLine progress_after is_end start 2 (pieces text) at
 HasCause caps bytes (Network fault) = (n : NetworkLists) × IsRegion n × (bytes ≡ region_text n) × (first_fault caps n ≡ Some fault)
 HasCause caps bytes OutOfMemory = Unit {0}

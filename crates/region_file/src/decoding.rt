@@ -5,74 +5,64 @@ ghost use Rattle.plain_texts.specs.Course.{lines_from};
 ghost use Rattle.plain_texts.specs.Lines.{pieces};
 ghost use Rattle.mode_network.specs.NetworkLists.{NetworkLists};
 ghost use Rattle.mode_network.specs.Rules.{AreParts, first_fault};
-ghost use Rattle.region_file.specs.Sections.{is_end, line_at};
+ghost use Rattle.region_file.specs.Sections.{behind_days, is_end, line_at, start};
 ghost use Rattle.region_file.specs.Regions.{Gives, HasCause, IsDecoded, behind_head, lists_of, network_of, or_fault, put_all, region_of};
 ghost use Rattle.region_file.specs.declared.lines.Line.TheVariants as line;
-ghost use Rattle.region_file.specs.declared.section.Section.TheVariants as section;
 
 use crate::fault::RegionFault;
 use crate::kinds::line_of;
 use crate::lines::Line;
 use crate::records::{no_parts, put};
-use crate::section::Section;
+use crate::section::Progress;
 use mode_network::{NetFault, Network, Parts};
 use plain_texts::next_line;
 use plan_base::Caps;
 use service_days::Days;
 use std::alloc::{AllocError, Global};
 
-/// The line that a text spells, if it may stand behind this section, and its section.
+/// The line that a text spells, if it may stand here, and the place behind it.
 #[tactic(auto, unfolding(crate::specs::Sections::line_at))]
 fn line_behind(
     alloc: Global,
-    before: Section,
+    before: Progress,
     text: &[u8],
-) -> Result<Option<(Line, Section)>, AllocError>
+) -> Result<Option<(Line, Progress)>, AllocError>
     ensures { IfOk result (λ read. read ≡ line_at before text.now) }
 {
     let Some(line) = line_of(alloc, text)? else {
         return Ok(None);
     };
-    let section = Section::of(&line);
-    if before.may_precede(section) {
-        Ok(Some((line, section)))
+    if before.may_precede(&line) {
+        let behind = before.behind(&line);
+        Ok(Some((line, behind)))
     } else {
         Ok(None)
     }
 }
 
-fn is_end(section: Section) -> bool
-    ensures { result ≡ is_end section }
-{
-    match section {
-        Section::End => true,
-        _ => false,
-    }
-}
-
 /// The parts with what the lines of `rest` say, where the first of them is line 3 of a region text and
-/// stands behind `section`.
+/// stands behind `progress`.
 fn read_lines(
     alloc: Global,
     mut parts: Parts,
-    mut section: Section,
+    mut progress: Progress,
     mut rest: &[u8],
 ) -> Result<Parts, RegionFault>
-    ensures { Gives result (put_all parts (lines_from line_at is_end section 3 (pieces rest.now))) }
+    ensures { Gives result (put_all parts (lines_from line_at is_end progress 3 (pieces rest.now))) }
 {
     let mut at = 3;
     loop {
         let Some((line, behind)) = next_line(rest) else {
             return Err(RegionFault::BadRecord { at });
         };
-        let Some((line, next)) = line_behind(alloc, section, line)? else {
+        let Some((line, next)) = line_behind(alloc, progress, line)? else {
             return Err(RegionFault::BadRecord { at });
         };
-        put(&mut parts, line)?;
+        put(alloc, &mut parts, line)?;
         rest = behind;
-        section = next;
+        progress = next;
         at += 1;
-        if is_end(section) {
+        if progress.is_end() {
             if !rest.is_empty() {
                 return Err(RegionFault::Trailing { at });
             }
@@ -83,9 +73,9 @@ fn read_lines(
 
 /// The days that a text spells, if it is a line of days.
 fn first_line(alloc: Global, text: &[u8]) -> Result<Option<Days>, AllocError>
-    ensures { IfOk result (λ read. option_map (λ days. (line.Days days, section.Days)) read ≡ line_at section.Start text.now) }
+    ensures { IfOk result (λ read. option_map (λ days. (line.Days days, behind_days)) read ≡ line_at start text.now) }
 {
-    match line_behind(alloc, Section::Start, text)? {
+    match line_behind(alloc, Progress::start(), text)? {
         Some((line, _)) => match line {
             Line::Days(days) => Ok(Some(days)),
             _ => Ok(None),
@@ -103,7 +93,7 @@ fn read_parts(alloc: Global, text: &[u8]) -> Result<Parts, RegionFault>
         return Err(RegionFault::BadRecord { at: 2 });
     };
     match first_line(alloc, line)? {
-        Some(days) => read_lines(alloc, no_parts(alloc, days), Section::Days, rest),
+        Some(days) => read_lines(alloc, no_parts(alloc, days), Progress::behind_days(), rest),
         None => Err(RegionFault::BadRecord { at: 2 }),
     }
 }
@@ -151,11 +141,12 @@ fn read_region(alloc: Global, bytes: &[u8], caps: &Caps) -> Result<Network, Regi
 /// The network that the bytes of a region spell.
 ///
 /// The bytes are read as lines. The first is the head line `modeplan region 1`, and the others are those of
-/// the days, the nodes, the arcs and the links, in this order, and the line `end`. Each network has exactly
-/// one spelling, and other bytes are refused: first where the head is not there, then at the first line that
-/// may not stand where it does, then where bytes follow the end, and at last where the network breaks a rule
-/// of [`Network::build`] or is past a limit of `caps`. 2^32 stops are refused like want of memory, since no
-/// network numbers so many nodes.
+/// the days, the nodes, the arcs, the links and the trips, in this order, and the line `end`; behind the line
+/// of a trip come exactly as many lines of calls as it says. Each network has exactly one spelling, and other
+/// bytes are refused: first where the head is not there, then at the first line that may not stand where it
+/// does, then where bytes follow the end, and at last where the network breaks a rule of [`Network::build`]
+/// or is past a limit of `caps`. 2^32 stops are refused like want of memory, since no network numbers so many
+/// nodes.
 pub fn decode(alloc: Global, bytes: &[u8], caps: &Caps) -> Result<Network, RegionFault>
     // What is read is a network that keeps the rules, and is spelled so.
     ensures found { IfOk result (IsDecoded caps.now bytes.now) }

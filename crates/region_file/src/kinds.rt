@@ -2,15 +2,17 @@
 
 ghost use Rattle.std.specs.Prelude.{◌≡◌, ◌^◌, ◌<◌, map, option_map, IfOk, IfSome};
 ghost use Rattle.region_file.specs.Kinds as spec;
-ghost use Rattle.service_days.specs.Days.{new_days};
+ghost use Rattle.region_file.specs.Lines.{days_of};
 ghost use Rattle.region_file.specs.declared.lines.Line.TheVariants as line;
 
+use crate::letters::letter_of;
 use crate::lines::Line;
 use mode_network::Arc;
-use plain_texts::{Name, read_id, read_number, read_signed, words_of};
-use plan_base::Place;
+use plain_texts::{Name, read_hexadecimal, read_id, read_number, read_signed, words_of};
+use plan_base::{DaySet, Place};
 use service_days::{Days, RangeFault};
 use std::alloc::{AllocError, Global};
+use timetable_arcs::Call;
 
 /// A number below 2^32.
 fn word_of(text: &[u8]) -> Option<u32>
@@ -91,6 +93,60 @@ fn arc_of(fields: &[&[u8]]) -> Option<Arc>
     }
 }
 
+/// A call, whose last word is 1 for boarding plus 2 for alighting.
+#[tactic(auto, unfolding(crate::specs::Kinds::call_at))]
+fn call_of(fields: &[&[u8]]) -> Option<Call>
+    ensures { result ≡ spec.call_at (map (λ w. w.now) fields.now) }
+{
+    match fields {
+        [stop, arr, dep, flags] => {
+            let stop = word_of(stop)?;
+            let arr = word_of(arr)?;
+            let dep = word_of(dep)?;
+            let flags = read_number(flags, 4)?;
+            let (board, alight) = (flags % 2 == 1, 2 <= flags);
+            Some(Call {
+                stop,
+                arr,
+                dep,
+                board,
+                alight,
+            })
+        }
+        _ => None,
+    }
+}
+
+#[tactic(auto, unfolding(crate::specs::Kinds::trip_at))]
+fn trip_of(alloc: Global, fields: &[&[u8]]) -> Result<Option<Line>, AllocError>
+    ensures { IfOk result (λ read. read ≡ spec.trip_at (map (λ w. w.now) fields.now)) }
+{
+    match fields {
+        [letter, days, calls, name] => {
+            let Some(letter) = letter_of(letter) else {
+                return Ok(None);
+            };
+            let Some(days) = read_hexadecimal(days) else {
+                return Ok(None);
+            };
+            let Some(calls) = word_of(calls) else {
+                return Ok(None);
+            };
+            let Some(name) = Name::from_slice(alloc, name)? else {
+                return Ok(None);
+            };
+            let days = DaySet(days);
+            Ok(Some(Line::Trip {
+                letter,
+                days,
+                calls,
+                name,
+            }))
+        }
+        _ => Ok(None),
+    }
+}
+
 #[tactic(auto, unfolding(crate::specs::Kinds::end_at))]
 fn end_of(fields: &[&[u8]]) -> Option<Line>
     ensures { result ≡ spec.end_at (map (λ w. w.now) fields.now) }
@@ -119,14 +175,35 @@ fn stop_of(alloc: Global, fields: &[&[u8]]) -> Result<Option<Line>, AllocError>
     }
 }
 
-/// The days of a first date and a count; `None` exactly where there are none.
-fn made_days(alloc: Global, first: u32, count: u32) -> Result<Option<Days>, AllocError>
-    ensures { IfOk result (λ days. days ≡ spec.made (new_days first count)) }
+/// The days of a first date and a count, in the zone of a rule if there is one; `None` exactly where there are
+/// none.
+fn made_days(
+    alloc: Global,
+    first: u32,
+    count: u32,
+    rule: Option<&[u8]>,
+) -> Result<Option<Days>, AllocError>
+    ensures { IfOk result (λ days. days ≡ spec.made (days_of first count (option_map (λ r. r.now) rule.entry))) }
 {
-    match Days::new(alloc, first, count) {
+    let made = match rule {
+        Some(rule) => Days::in_zone(alloc, first, count, rule),
+        None => Days::new(alloc, first, count),
+    };
+    match made {
         Ok(days) => Ok(Some(days)),
         Err(RangeFault::OutOfMemory) => Err(AllocError),
         Err(_) => Ok(None),
+    }
+}
+
+/// The zone rule that these fields are, where there is at most one.
+fn rule_of<'a>(fields: &[&'a [u8]]) -> Option<Option<&'a [u8]>>
+    ensures { option_map (option_map (λ r. r.now)) result ≡ spec.rule_at (map (λ w. w.now) fields.now) }
+{
+    match fields {
+        [] => Some(None),
+        [rule] => Some(Some(rule)),
+        _ => None,
     }
 }
 
@@ -135,14 +212,17 @@ fn days_of(alloc: Global, fields: &[&[u8]]) -> Result<Option<Line>, AllocError>
     ensures { IfOk result (λ read. read ≡ spec.days_at (map (λ w. w.now) fields.now)) }
 {
     match fields {
-        [first, count] => {
+        [first, count, rule @ ..] => {
             let Some(first) = word_of(first) else {
                 return Ok(None);
             };
             let Some(count) = word_of(count) else {
                 return Ok(None);
             };
-            Ok(made_days(alloc, first, count)?.map(Line::Days))
+            let Some(rule) = rule_of(rule) else {
+                return Ok(None);
+            };
+            Ok(made_days(alloc, first, count, rule)?.map(Line::Days))
         }
         _ => Ok(None),
     }
@@ -152,7 +232,11 @@ fn days_of(alloc: Global, fields: &[&[u8]]) -> Result<Option<Line>, AllocError>
 fn kind_of(alloc: Global, kind: &[u8], fields: &[&[u8]]) -> Result<Option<Line>, AllocError>
     ensures { IfOk result (λ read. read ≡ spec.kind_at kind.now (map (λ w. w.now) fields.now)) }
 {
-    if kind == b"arc".as_slice() {
+    if kind == b"call".as_slice() {
+        Ok(call_of(fields).map(Line::Call))
+    } else if kind == b"trip".as_slice() {
+        trip_of(alloc, fields)
+    } else if kind == b"arc".as_slice() {
         Ok(arc_of(fields).map(Line::Arc))
     } else if kind == b"link".as_slice() {
         Ok(arc_of(fields).map(Line::Link))

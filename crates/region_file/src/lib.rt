@@ -4,6 +4,7 @@
 mod decoding;
 pub mod fault;
 mod kinds;
+mod letters;
 pub mod lines;
 mod records;
 pub mod section;

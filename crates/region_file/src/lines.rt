@@ -2,8 +2,9 @@
 
 use mode_network::Arc;
 use plain_texts::Name;
-use plan_base::Place;
+use plan_base::{DaySet, Place};
 use service_days::Days;
+use timetable_arcs::Call;
 
 /// A line behind the head, which it says by itself: what it means does not hang on the lines around it.
 #[derive(Drop)]
@@ -20,6 +21,16 @@ pub enum Line {
     Arc(Arc),
     /// A link.
     Link(Arc),
+    /// A trip: its letter, which is 3 for tram to 13 for other, the days on which it runs, how many lines of
+    /// its calls follow, and its name.
+    Trip {
+        letter: u8,
+        days: DaySet,
+        calls: u32,
+        name: Name,
+    },
+    /// A call of the trip before.
+    Call(Call),
     /// The last line.
     End,
 }

@@ -8,6 +8,7 @@ use crate::lines::Line;
 use mode_network::{Node, NodeKey, Parts};
 use service_days::Days;
 use std::alloc::{AllocError, Global};
+use timetable_arcs::{Call, Trip};
 
 /// The parts of a network of these days that has no nodes yet.
 pub fn no_parts(alloc: Global, days: Days) -> Parts
@@ -21,13 +22,24 @@ pub fn no_parts(alloc: Global, days: Days) -> Parts
         switches: Vec::new(alloc),
         arcs: Vec::new(alloc),
         links: Vec::new(alloc),
+        trips: Vec::new(alloc),
     }
+}
+
+/// Puts a call at the end of those of the last trip, if there is a trip.
+fn put_call(trips: &mut Vec<Trip>, call: Call) -> Result<(), AllocError>
+    ensures { OnOk result (trips.new.items ≡ spec.with_call trips.old.items call) }
+{
+    if let Some(trip) = trips.last_mut() {
+        trip.calls.push(call)?;
+    }
+    Ok(())
 }
 
 /// Puts what a line says at the end of its list.
 ///
 /// 2^32 stops or more, which the nodes of no network reach, are refused like want of memory.
-pub fn put(parts: &mut Parts, said: Line) -> Result<(), AllocError>
+pub fn put(alloc: Global, parts: &mut Parts, said: Line) -> Result<(), AllocError>
     ensures { OnOk result (parts.new ≡ spec.put parts.old said) }
 {
     match said {
@@ -50,6 +62,21 @@ pub fn put(parts: &mut Parts, said: Line) -> Result<(), AllocError>
         }
         Line::Arc(arc) => parts.arcs.push(arc)?,
         Line::Link(arc) => parts.links.push(arc)?,
+        Line::Trip {
+            letter,
+            days,
+            name,
+            ..
+        } => {
+            let calls = Vec::new(alloc);
+            parts.trips.push(Trip {
+                letter,
+                days,
+                name,
+                calls,
+            })?;
+        }
+        Line::Call(call) => put_call(&mut parts.trips, call)?,
         Line::End => {}
     }
     Ok(())

@@ -1,7 +1,7 @@
 //! Where a line may stand.
 
 ghost use Rattle.std.specs.Prelude.{◌≡◌};
-ghost use Rattle.region_file.specs.Sections.{may_follow, rank, section_of};
+ghost use Rattle.region_file.specs.Sections.{behind, behind_days, due_behind, is_due, is_end, may_follow, may_stand, rank, section_of, start};
 
 use crate::lines::Line;
 
@@ -15,6 +15,8 @@ pub enum Section {
     Switches,
     Arcs,
     Links,
+    /// Each trip with its calls behind it.
+    Trips,
     End,
 }
 
@@ -30,6 +32,8 @@ impl Section {
             Line::Switch(..) => Section::Switches,
             Line::Arc(_) => Section::Arcs,
             Line::Link(_) => Section::Links,
+            Line::Trip { .. } => Section::Trips,
+            Line::Call(_) => Section::Trips,
             Line::End => Section::End,
         }
     }
@@ -45,7 +49,8 @@ impl Section {
             Section::Switches => 4,
             Section::Arcs => 5,
             Section::Links => 6,
-            Section::End => 7,
+            Section::Trips => 7,
+            Section::End => 8,
         }
     }
 
@@ -58,7 +63,82 @@ impl Section {
         if before == 0 {
             after == 1
         } else {
-            1 < after && before <= after && before < 7
+            1 < after && before <= after && before < 8
         }
+    }
+}
+
+/// A place between two lines of a region text: the section of the line before, and how many calls of the last
+/// trip are still to come.
+#[derive(Clone, Copy, Debug, PartialEq, Eq)]
+pub struct Progress {
+    pub section: Section,
+    pub calls_due: u32,
+}
+
+impl Progress {
+    /// The place before the first line.
+    pub fn start() -> Progress
+        ensures { result ≡ start }
+    {
+        Progress {
+            section: Section::Start,
+            calls_due: 0,
+        }
+    }
+
+    /// The place behind the line of the days.
+    pub fn behind_days() -> Progress
+        ensures { result ≡ behind_days }
+    {
+        Progress {
+            section: Section::Days,
+            calls_due: 0,
+        }
+    }
+
+    /// Whether a line is due here: a call where calls are still to come, and any other line where none is.
+    fn is_due(self, line: &Line) -> bool
+        ensures { result ≡ is_due self.calls_due line.now }
+    {
+        match line {
+            Line::Call(_) => 0 < self.calls_due,
+            _ => self.calls_due == 0,
+        }
+    }
+
+    /// How many calls are to come behind a line that is due here.
+    fn due_behind(self, line: &Line) -> u32
+        ensures { result ≡ due_behind self.calls_due line.now }
+    {
+        match line {
+            Line::Trip { calls, .. } => *calls,
+            Line::Call(_) => self.calls_due.saturating_sub(1),
+            _ => 0,
+        }
+    }
+
+    /// Whether a line may stand here.
+    pub fn may_precede(self, line: &Line) -> bool
+        ensures { result ≡ may_stand self line.now }
+    {
+        self.section.may_precede(Section::of(line)) && self.is_due(line)
+    }
+
+    /// The place behind a line that stands here.
+    pub fn behind(self, line: &Line) -> Progress
+        ensures { result ≡ behind self line.now }
+    {
+        Progress {
+            section: Section::of(line),
+            calls_due: self.due_behind(line),
+        }
+    }
+
+    /// Whether the line before was the last one.
+    pub fn is_end(self) -> bool
+        ensures { result ≡ is_end self }
+    {
+        self.section.rank() == 8
     }
 }

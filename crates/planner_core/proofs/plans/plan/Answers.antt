@@ -27,7 +27,7 @@ unpacked-requires c =
     let denotes = subst (λ (p : Positions). (word : List ℕ) → Accepts (position_meaning p) word ↔ Denotes c.args.query.now.expr word) same c.in_ok-of.ensures.accepts in
     let collapses = subst (λ (p : Positions). AcceptsCollapsed (position_meaning p)) same c.new-automaton.ensures.accepts in
     let walk = rw (c.new-plain.ensures.network, c.deref.ensures.value, c.deref-2.ensures.value) at c.in_ok-found.ensures.walk in
-    rw c.new-plain.ensures.network (walk_is_plain c.args.network.now c.known.ensures (asked_by c.args.query.now) (position_meaning automaton)
+    rw c.new-plain.ensures.network (walk_is_plain c.args.network.now c.known.ensures c.new-plain.result.timetable.now (asked_by c.args.query.now) (position_meaning automaton)
     c.in_ok-starts.starts.items c.in_ok-targets.targets.items denotes collapses c.new-plain.ensures.journeys c.in_ok-starts.ensures c.in_ok-targets.ensures _ _ walk)
 
 pub returns : goal.returns
@@ -40,10 +40,13 @@ returns c =
     let arrival = rw (c.new-plain.ensures.network, c.deref.ensures.value, c.deref-2.ensures.value) at c.in_ok-found.ensures.arrival in
     let unpacked = rw c.new-plain.ensures.network at c.in_ok-journey.ensures in
     record {
-      journey = planned c.args.network.now c.known.ensures (asked_by c.args.query.now) (position_meaning automaton)
+      journey = planned c.args.network.now c.known.ensures c.new-plain.result.timetable.now (asked_by c.args.query.now) (position_meaning automaton)
           c.in_ok-starts.starts.items c.in_ok-targets.targets.items denotes collapses c.new-plain.ensures.journeys c.in_ok-starts.ensures c.in_ok-targets.ensures
           _ _ _ arrival walk c.requires.soon unpacked;
       labels = record {
+        table = c.new-plain.result.timetable.now;
+        of = c.new-plain.ensures.of;
+        keeps = c.new-plain.ensures.keeps;
         automaton = position_meaning automaton;
         positions = subst (λ (p : Positions). IsPositionAutomaton (written (form_of c.args.query.now.expr)) (position_meaning p)) same c.in_ok-of.ensures.states;
         starts = c.in_ok-starts.starts.items;

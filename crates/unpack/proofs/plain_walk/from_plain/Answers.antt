@@ -1,5 +1,6 @@
 use Rattle.std.proofs.Common.{List, ◌∙◌, ap, sym, subst}
 use Rattle.std.specs.Prelude.{All}
+use Rattle.timetable_arcs.specs.Table.{IsTable}
 use Rattle.mode_network.specs.declared.steps.Step.{Step}
 use Rattle.mode_network.specs.Journeys.{AreSteps}
 use Rattle.unpack.specs.Unpacking.{IsNoWait, steps_of, end_of, arrival_of, letters_of}
@@ -7,19 +8,24 @@ use Rattle.unpack.proofs.UnpackLemmas.{hops_are_steps, have_arcs, no_waits}
 use Rattle.unpack.proofs.plain_walk.from_plain.Goals as goal
 
 pub steps-requires : goal.steps-requires
-steps-requires c = rw c.deref.ensures.value (have_arcs c.args.plain.now.network.now c.args.plain.now.kept c.args.walk.now.node c.args.walk.now.at c.args.walk.now.hops.items c.requires)
+steps-requires c =
+    let plain = c.args.plain.now in
+    let keeps = subst IsTable c.timetable.ensures.same c.timetable.ensures.keeps in
+    rw c.deref.ensures.value (have_arcs plain.network.now plain.kept plain.timetable.now keeps plain.of c.args.walk.now.node c.args.walk.now.at c.args.walk.now.hops.items c.requires)
 
 pub returns-clause-real : goal.returns-clause-real
 returns-clause-real c =
-    let n = c.args.plain.now.network.now in
+    let plain = c.args.plain.now in
+    let keeps = subst IsTable c.timetable.ensures.same c.timetable.ensures.keeps in
     let walk = c.args.walk.now in
-    let steps = c.in_ok-steps.ensures ∙ ap (steps_of n walk.node) c.deref.ensures.value in
-    subst (λ (s : List Step). AreSteps n walk.node walk.at s (end_of walk.node walk.hops.items) (arrival_of walk.at walk.hops.items) (letters_of n walk.node walk.hops.items)) (sym steps)
-    (hops_are_steps n c.args.plain.now.kept walk.node walk.at walk.hops.items c.requires)
+    let steps = c.in_ok-steps.ensures ∙ ap (steps_of plain.network.now plain.timetable.now walk.node walk.at) c.deref.ensures.value in
+    subst (λ (s : List Step). AreSteps plain.network.now walk.node walk.at s (end_of walk.node walk.hops.items) (arrival_of walk.at walk.hops.items) (letters_of plain.network.now plain.timetable.now walk.node walk.hops.items)) (sym steps)
+    (hops_are_steps plain.network.now plain.kept plain.timetable.now keeps plain.of walk.node walk.at walk.hops.items c.requires)
 
 pub returns-clause-waits : goal.returns-clause-waits
 returns-clause-waits c =
-    let n = c.args.plain.now.network.now in
+    let plain = c.args.plain.now in
+    let keeps = subst IsTable c.timetable.ensures.same c.timetable.ensures.keeps in
     let walk = c.args.walk.now in
-    let steps = c.in_ok-steps.ensures ∙ ap (steps_of n walk.node) c.deref.ensures.value in
-    subst (λ (s : List Step). All IsNoWait s) (sym steps) (no_waits n walk.node walk.hops.items)
+    let steps = c.in_ok-steps.ensures ∙ ap (steps_of plain.network.now plain.timetable.now walk.node walk.at) c.deref.ensures.value in
+    subst (λ (s : List Step). All IsNoWait s) (sym steps) (no_waits plain.network.now plain.kept plain.timetable.now keeps plain.of walk.node walk.at walk.hops.items)

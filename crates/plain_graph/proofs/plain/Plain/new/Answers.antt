@@ -1,8 +1,18 @@
+use Rattle.plain_graph.specs.Lawful.{plain_lawful}
 use Rattle.plain_graph.proofs.Same.{walks_are_journeys, journeys_are_walks}
 use Rattle.plain_graph.proofs.plain.Plain.new.Goals as goal
 
+pub invariant_of-result : goal.invariant_of-result
+invariant_of-result c =
+    let table = c.timetable-timetable in
+    record {
+      kept = c.known.ensures;
+      of = table.ensures.of;
+      lawful = plain_lawful c.args.network.now c.known.ensures table.result.now table.ensures.keeps table.ensures.of;
+    }
+
 pub returns-clause-walks : goal.returns-clause-walks
-returns-clause-walks c = walks_are_journeys c.args.network.now c.known.ensures
+returns-clause-walks c = walks_are_journeys c.args.network.now c.known.ensures c.timetable-timetable.result.now c.timetable-timetable.ensures.keeps c.timetable-timetable.ensures.of
 
 pub returns-clause-journeys : goal.returns-clause-journeys
-returns-clause-journeys c = journeys_are_walks c.args.network.now c.known.ensures
+returns-clause-journeys c = journeys_are_walks c.args.network.now c.known.ensures c.timetable-timetable.result.now c.timetable-timetable.ensures.keeps c.timetable-timetable.ensures.of

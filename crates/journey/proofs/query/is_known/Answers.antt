@@ -1,6 +1,0 @@
-use Rattle.mode_network.specs.Copies.{IsCopy}
-use Rattle.journey.proofs.QueryLemmas.{some_exactly}
-use Rattle.journey.proofs.query.is_known.Goals as goal
-
-pub returns : goal.returns
-returns c = rw c.is_some.ensures (some_exactly (IsCopy c.args.network.now c.args.endpoint.now) _ c.copies.ensures)

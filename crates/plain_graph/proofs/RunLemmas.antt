@@ -1,0 +1,59 @@
+-- The run that a ride takes is one of the timetable.
+use Rattle.std.proofs.Common.{◌≡◌, ℕ, ◌<◌, ◌≤◌, ◌^◌, ◌%◌, length, Bool, true, false, nat_lt, Some, refl, ap, arith, lit<}
+use Rattle.std.specs.Int.{bit_at}
+use Rattle.std.proofs.Math.Nat.{div-eq_of_lt, pow-le-pow_right}
+use Rattle.std.proofs.lemmas.Bool.{ltb-true, ltb-false}
+use Rattle.std.proofs.lemmas.Option.{slice_get_within}
+use Rattle.plan_base.specs.declared.days.DaySet.{DaySet}
+use Rattle.plan_base.specs.DaySets.{contains_day}
+use Rattle.timetable_arcs.specs.declared.trips.Instance.{Instance}
+use Rattle.timetable_arcs.specs.declared.rides.Ride.{Ride}
+use Rattle.timetable_arcs.specs.Patterns.{TableLists, trip_at, pattern_trip, no_call}
+use Rattle.timetable_arcs.specs.Table.{IsTable}
+use Rattle.timetable_arcs.proofs.TripLemmas.{trip_well, known_stops}
+use Rattle.timetable_arcs.proofs.TableLemmas.{trip_of_run, trip_of_pattern, next_is}
+use Rattle.mode_network.specs.NetworkLists.{NetworkLists}
+use Rattle.mode_network.specs.Rules.{IsNetwork}
+use Rattle.mode_network.specs.Timetables.{IsTimetableOf}
+use Rattle.plain_graph.specs.PlainArcs.{run_at, pattern_call}
+use Rattle.plain_graph.specs.Rides.{IsRideOf}
+
+-- a set of days below so many has no later one
+day_within : (set : DaySet) (days day : ℕ) → set.0 < 2 ^ days → contains_day set day ≡ true → day < days
+day_within set days day few has = on_test (nat_lt day days) refl
+  where
+    on_test : (b : Bool) → nat_lt day days ≡ b → day < days
+    on_test true e = ltb-true day days e
+    on_test false e =
+        let more : 2 ^ days ≤ 2 ^ day = pow-le-pow_right {n = 2} (lit< tt) {i = days} {j = day} (ltb-false day days e) in
+        let below : set.0 < 2 ^ day = omega (arith, few, more) in
+        let none = div-eq_of_lt below in
+        let bit : bit_at set.0 day ≡ 0 = ap (λ q. q % 2) none in
+        let no : contains_day set day ≡ false = rw bit refl in
+        cc
+
+-- the trip, the day and the call at which a ride ends are there
+pub record IsThere (t : TableLists) (ride : Ride) (run : Instance) : Type 0 where
+  pub trip : run.trip < length t.trips
+  pub day : run.day < length t.bases
+  pub call : ride.alight < length (trip_at t run.trip).calls
+
+pub run_there : (t : TableLists) → IsTable t → (ride : Ride) → IsRideOf t ride → (time : ℕ) (run : Instance) → run_at t time ride ≡ Some run → IsThere t ride run
+run_there t table ride is time run e =
+    let is_in = (next_is t table ride.pattern ride.board time run e).0 in
+    let held = table.patterns.are_runs ride.pattern run is_in in
+    let well = trip_well (length t.bases) t.stops (trip_at t run.trip) (trip_of_run t table ride.pattern run is_in) in
+    let calls = (table.patterns.alike ride.pattern run is_in).calls in
+    record {
+      trip = slice_get_within t.trips run.trip (trip_at t run.trip) held.is;
+      day = day_within (trip_at t run.trip).days (length t.bases) run.day well.within held.runs;
+      call = omega (arith, calls, is.within);
+    }
+
+-- a ride ends at a stop of the network
+pub ends_at_stop : (n : NetworkLists) → IsNetwork n → (t : TableLists) → IsTable t → IsTimetableOf n t → (ride : Ride) → IsRideOf t ride
+    → (pattern_call t ride.pattern ride.alight).stop < length n.stop_names
+ends_at_stop n network t table of ride is =
+    let known = known_stops t.stops (pattern_trip t ride.pattern) (trip_of_pattern t table ride.pattern is.pattern).known in
+    let few = known ride.alight no_call is.within in
+    omega (arith, few, of.stops, network.parts.one_name_each)

@@ -1,0 +1,37 @@
+-- What is true of the ride that an arc stands for.
+use Rattle.std.proofs.Common.{◌≡◌, ℕ, ◌<◌, ◌≤◌, length, Some, arith}
+use Rattle.timetable_arcs.specs.declared.trips.Instance.{Instance}
+use Rattle.timetable_arcs.specs.declared.rides.Ride.{Ride}
+use Rattle.timetable_arcs.specs.Patterns.{TableLists, IsIn, trip_at, pattern_trip, departs, arrives}
+use Rattle.timetable_arcs.specs.Rides.{IsRideAt}
+use Rattle.timetable_arcs.specs.Table.{IsTable}
+use Rattle.timetable_arcs.proofs.TableLemmas.{never_back, next_is}
+use Rattle.plain_graph.specs.declared.plain.PlainArc.{PlainArc}
+use Rattle.plain_graph.specs.declared.plain.PlainArc.TheVariants.{Road as RoadArc, Link as LinkArc, Stand as StandArc, Ride as RideArc}
+use Rattle.plain_graph.specs.PlainArcs.{run_at}
+
+-- a ride along a pattern, from some stop
+pub record IsRideOf (t : TableLists) (ride : Ride) : Type 0 where
+  pub pattern : ride.pattern < length t.patterns
+  pub later : ride.board < ride.alight
+  pub within : ride.alight < length (pattern_trip t ride.pattern).calls
+
+-- an arc that is a ride is one along a pattern
+abbrev pub IsKnownRide : TableLists → PlainArc → Type 0
+IsKnownRide t (RoadArc arc) = Unit {0}
+IsKnownRide t (LinkArc link) = Unit {0}
+IsKnownRide t StandArc = Unit {0}
+IsKnownRide t (RideArc ride) = IsRideOf t ride
+
+module _ (t : TableLists) (table : IsTable t) (stop : ℕ) (ride : Ride) (is : IsRideAt t stop ride) where
+  -- a run of the pattern has as many calls as the pattern
+  pub alights_within : (run : Instance) → IsIn t ride.pattern run → ride.alight < length (trip_at t run.trip).calls
+  alights_within run is_in = let same = (table.patterns.alike ride.pattern run is_in).calls in omega (arith, same, is.within)
+
+  -- it arrives no earlier than it departs
+  pub rides_on : (run : Instance) → IsIn t ride.pattern run → departs t run ride.board ≤ arrives t run ride.alight
+  rides_on run is_in = never_back t table ride.pattern run is_in ride.board ride.alight is.later (alights_within run is_in)
+
+  -- the run that it takes is one of its pattern, and departs at the time or later
+  pub takes : (time : ℕ) (run : Instance) → run_at t time ride ≡ Some run → IsIn t ride.pattern run × (time ≤ departs t run ride.board)
+  takes time run e = next_is t table ride.pattern ride.board time run e

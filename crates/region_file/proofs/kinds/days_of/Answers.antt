@@ -1,0 +1,13 @@
+use Rattle.std.proofs.Common.{◌≡◌, ℕ, List, [], ◌∷◌, length, map, refl, sym, ◌<◌, arith, Bor}
+use Rattle.std.specs.Prelude.{None}
+use Rattle.region_file.specs.Kinds.{days_at}
+use Rattle.region_file.proofs.kinds.days_of.Goals as goal
+
+too_few : (fields : List (Bor (List ℕ))) → length fields < 2 → days_at (map (λ w. w.now) fields) ≡ None
+unfolding days_at
+too_few [] h = refl
+too_few (first ∷ []) h = refl
+too_few (first ∷ count ∷ rule) h = absurd (omega (arith, h))
+
+pub returns-in_default : goal.returns-in_default
+returns-in_default c = sym (too_few c.args.fields.now c.in_default.len_below)
