@@ -1,9 +1,10 @@
 //! A network: its lists, and what finds things in them.
 
-ghost use Rattle.std.specs.Prelude.{◌≡◌, ◌<◌, ◌≤◌, ◌^◌, ◌↔◌, ℕ, Some, None, ◌++◌, length, All, IfOk, OnOk, IfErr, slice_get};
+ghost use Rattle.std.specs.Prelude.{◌≡◌, ◌<◌, ◌≤◌, ◌^◌, ◌↔◌, ℕ, Some, None, ◌++◌, length, All, IfOk, OnOk, IfErr, slice_get, true};
 ghost use Rattle.mode_network.specs.NetworkLists.{nodes_of, mode_at, stop_at, stop_node};
 ghost use Rattle.mode_network.specs.Rules.{AreParts, IsNetwork, IsFaultOf, IsAscending, IsRoad, arc_cmp, node_cmp, name_cmp, rank_of, first_fault};
 ghost use Rattle.mode_network.specs.Journeys.{IsDuration};
+ghost use Rattle.plain_texts.specs.Names.{is_name};
 ghost use Rattle.mode_network.specs.Timetables.{IsTimetableOf};
 ghost use Rattle.timetable_arcs.specs.Table.{IsTable};
 ghost use Rattle.mode_network.specs.Copies.{point_of, IsNearestRoad, IsNearCopy, IsRoadCopy, IsStopCopy, AreExactly, AreCopies, IsPlaceOf};
@@ -145,7 +146,8 @@ impl Network {
     /// The name of this stop.
     pub fn stop_name(&self, stop: u32) -> &[u8]
         requires { stop < length self.now.stop_names }
-        ensures { slice_get self.now.stop_names stop ≡ Some result.now }
+        ensures at { slice_get self.now.stop_names stop ≡ Some result.now }
+        ensures name { is_name result.now ≡ true }
     {
         self.stop_names[stop as usize].as_bytes()
     }

@@ -25,7 +25,7 @@ use Rattle.plan_base.specs.PlaceOf.{place_of, shown}
 use Rattle.plan_base.proofs.PlaceAgain.{place_again}
 use Rattle.service_days.specs.DaysMeaning.{DaysMeaning}
 use Rattle.service_days.specs.Days.{is_day_count, is_first_date, new_days, plain_days}
-use Rattle.service_days.specs.Zones.{Zone, dates_and_next, days_in_read, days_with_bases, have_day_lengths, is_rule_text, read_zone, zone_days}
+use Rattle.service_days.specs.Zones.{Zone, dates_and_next, days_in_read, days_made, days_with_bases, have_day_lengths, is_rule_text, read_zone, zone_days}
 use Rattle.service_days.specs.declared.range.RangeFault.{RangeFault}
 use Rattle.service_days.specs.declared.range.RangeFault.TheVariants.{BadCount, BadDate, BadZone}
 use Rattle.timetable_arcs.specs.declared.trips.Call.{Call}
@@ -33,7 +33,7 @@ use Rattle.mode_network.specs.declared.nodes.Arc.{Arc}
 use Rattle.region_file.specs.declared.lines.Line.{Line}
 use Rattle.region_file.specs.declared.lines.Line.TheVariants as line
 use Rattle.region_file.specs.Letters.{letter_at, letter_name, letter_names}
-use Rattle.region_file.specs.Lines.{FitsArc, FitsCall, FitsDays, FitsLine, FitsTrip, arc_words, call_words, days_of, flags_of, mode_name, place_words, rule_words, spelled, words}
+use Rattle.region_file.specs.Lines.{FitsArc, FitsCall, FitsDays, FitsLine, FitsTrip, arc_words, call_words, flags_of, mode_name, place_words, rule_words, spelled, words}
 use Rattle.region_file.specs.Kinds.{arc_at, call_at, days_at, end_at, kind_at, line_of, line_of_words, made, mode_at, place_at, road_at, rule_at, stop_at, switch_at, trip_at, word_at}
 
 mapped : {A B : Type 0} (f : A → B) (o : Option A) (y : B) → option_map f o ≡ Some y → (x : A) × (o ≡ Some x) × (f x ≡ y)
@@ -289,11 +289,11 @@ record AreMade (first count : ℕ) (zone : Option (List ℕ)) (days : DaysMeanin
   count_is : count ≡ days.count
   zone_is : zone ≡ days.zone
 
-fits_days : (first count : ℕ) (rule : Option (List ℕ)) (days : DaysMeaning) → first < 2 ^ 32 → count < 2 ^ 32 → AreMade first count rule days → days_of first count rule ≡ Ok days → FitsDays days
+fits_days : (first count : ℕ) (rule : Option (List ℕ)) (days : DaysMeaning) → first < 2 ^ 32 → count < 2 ^ 32 → AreMade first count rule days → days_made first count rule ≡ Ok days → FitsDays days
 fits_days first count rule days date number of is = record {
   first = subst (λ n. n < 2 ^ 32) of.first_is date;
   count = subst (λ n. n < 2 ^ 32) of.count_is number;
-  made = ap (λ n. days_of n days.count days.zone) (sym of.first_is) ∙ ap₂ (λ n z. days_of first n z) (sym of.count_is) (sym of.zone_is) ∙ is;
+  made = ap (λ n. days_made n days.count days.zone) (sym of.first_is) ∙ ap₂ (λ n z. days_made first n z) (sym of.count_is) (sym of.zone_is) ∙ is;
 }
 
 made_of : (first count : ℕ) (days : DaysMeaning) → new_days first count ≡ Ok days → AreMade first count None days
@@ -320,7 +320,7 @@ made_in first count rule days e =
         let is : days_with_bases zone rule first count dates ≡ days = cc same in
         record { first_is = ap (λ (d : DaysMeaning). d.first) is; count_is = ap (λ (d : DaysMeaning). d.count) is; zone_is = ap (λ (d : DaysMeaning). d.zone) is }
 
-made_by : (first count : ℕ) (zone : Option (List ℕ)) (days : DaysMeaning) → days_of first count zone ≡ Ok days → AreMade first count zone days
+made_by : (first count : ℕ) (zone : Option (List ℕ)) (days : DaysMeaning) → days_made first count zone ≡ Ok days → AreMade first count zone days
 made_by first count None days e = made_of first count days e
 made_by first count (Some rule) days e = (made_in first count rule days e).1
 
@@ -341,9 +341,9 @@ days_takes (a ∷ b ∷ rule) l e =
     option_and_then_some _ (word_at a) l e (λ first is_first e.
     option_and_then_some _ (word_at b) l e (λ count is_count e.
     option_and_then_some _ (rule_at rule) l e (λ zone is_zone e.
-    let found = mapped line.Days (made (days_of first count zone)) l e in
+    let found = mapped line.Days (made (days_made first count zone)) l e in
     let days = found.0 in
-    let new = made_takes (days_of first count zone) days found.1 in
+    let new = made_takes (days_made first count zone) days found.1 in
     let of = made_by first count zone days new in
     let date = word_takes a first is_first in
     let number = word_takes b count is_count in
@@ -365,7 +365,7 @@ rule_is_word rule e =
     let bytes = and_last (not (nat_eq (length rule) 0) && nat_le (length rule) 64) (list_all (λ b. nat_le 33 b && nat_le b 126) rule) e in
     All-weaker (λ b. (nat_le 33 b && nat_le b 126) ≡ true) (λ b. 32 < b) (λ b h. grind (arith, nat_tests)) rule (AllPass-from_list_all (λ b. nat_le 33 b && nat_le b 126) rule bytes)
 
-zone_is_words : (zone : Option (List ℕ)) (days : DaysMeaning) → days_of days.first days.count zone ≡ Ok days → AllByRecursion IsWord (rule_words zone)
+zone_is_words : (zone : Option (List ℕ)) (days : DaysMeaning) → days_made days.first days.count zone ≡ Ok days → AllByRecursion IsWord (rule_words zone)
 zone_is_words None days made = tt
 zone_is_words (Some rule) days made = (rule_is_word rule (made_in days.first days.count rule days made).0, tt)
 

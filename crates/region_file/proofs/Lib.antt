@@ -6,3 +6,5 @@ mod Found
 mod PartsMade
 mod Again
 mod Decoded
+mod Fits
+mod Encoded

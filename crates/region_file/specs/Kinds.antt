@@ -8,11 +8,11 @@ use Rattle.plain_texts.specs.Numbers.{id_at, number_at, signed_at}
 use Rattle.plan_base.specs.declared.places.Place.{Place}
 use Rattle.plan_base.specs.PlaceOf.{place_of}
 use Rattle.service_days.specs.DaysMeaning.{DaysMeaning}
+use Rattle.service_days.specs.Zones.{days_made}
 use Rattle.service_days.specs.declared.range.RangeFault.{RangeFault}
 use Rattle.mode_network.specs.declared.nodes.Arc.{Arc}
 use Rattle.timetable_arcs.specs.declared.trips.Call.{Call}
 use Rattle.region_file.specs.Letters.{letter_at}
-use Rattle.region_file.specs.Lines.{days_of}
 use Rattle.region_file.specs.declared.lines.Line.{Line}
 use Rattle.region_file.specs.declared.lines.Line.TheVariants as line
 
@@ -52,7 +52,7 @@ days_at (first ∷ count ∷ rule) = do
   date ← word_at first
   days ← word_at count
   zone ← rule_at rule
-  option_map line.Days (made (days_of date days zone))
+  option_map line.Days (made (days_made date days zone))
 days_at _ = None
 
 unfoldable pub road_at : List (List ℕ) → Option Line

@@ -3,3 +3,4 @@ pub mod Lines
 pub mod Kinds
 pub mod Sections
 pub mod Regions
+pub mod Texts

@@ -1,5 +1,5 @@
 -- The spelling of a region: its lines in words.
-use Rattle.std.specs.Prelude.{◌≡◌, ℕ, ◌+◌, ◌<◌, ◌≤◌, ◌^◌, List, [], ◌∷◌, ◌++◌, length, map, Option, Some, None, Result, Ok, codes, decimal, true, ◌==◌, if◌then◌else◌, zip}
+use Rattle.std.specs.Prelude.{◌≡◌, ℕ, ◌+◌, ◌<◌, ◌≤◌, ◌^◌, List, [], ◌∷◌, ◌++◌, length, map, Option, Some, None, Ok, codes, decimal, true, ◌==◌, if◌then◌else◌, zip}
 use Rattle.std.specs.Fmt.{signed_decimal}
 use Rattle.std.specs.List.{AllByRecursion, flat_map}
 use Rattle.plain_texts.specs.Lines.{lines_text, spaced}
@@ -9,9 +9,7 @@ use Rattle.plain_texts.specs.Numbers.{IsId}
 use Rattle.plan_base.specs.declared.days.DaySet.{DaySet}
 use Rattle.plan_base.specs.declared.places.Place.{Place}
 use Rattle.service_days.specs.DaysMeaning.{DaysMeaning}
-use Rattle.service_days.specs.Days.{new_days}
-use Rattle.service_days.specs.Zones.{zone_days}
-use Rattle.service_days.specs.declared.range.RangeFault.{RangeFault}
+use Rattle.service_days.specs.Zones.{days_made}
 use Rattle.timetable_arcs.specs.declared.trips.Call.{Call}
 use Rattle.timetable_arcs.specs.Trips.{TripLists}
 use Rattle.mode_network.specs.declared.nodes.Arc.{Arc}
@@ -70,16 +68,11 @@ pub record FitsArc (arc : Arc) : Type 0 where
   pub some : 0 < arc.ms
   pub ms : arc.ms < 2 ^ 32
 
--- the days of a first date and a count, with a zone rule or without
-abbrev pub days_of : ℕ → ℕ → Option (List ℕ) → Result DaysMeaning RangeFault
-days_of first count None = new_days first count
-days_of first count (Some rule) = zone_days first count rule
-
 -- Days are those of their first date, their count and their zone rule, if they have one.
 pub record FitsDays (days : DaysMeaning) : Type 0 where
   pub first : days.first < 2 ^ 32
   pub count : days.count < 2 ^ 32
-  pub made : days_of days.first days.count days.zone ≡ Ok days
+  pub made : days_made days.first days.count days.zone ≡ Ok days
 
 -- Letters are 3 to 13. There is some day, and none above 127.
 pub record FitsTrip (letter : ℕ) (days : DaySet) (calls : ℕ) (name : List ℕ) : Type 0 where

@@ -11,7 +11,7 @@ ghost use Rattle.region_file.specs.declared.lines.Line.TheVariants as line;
 
 use crate::fault::RegionFault;
 use crate::kinds::line_of;
-use crate::lines::Line;
+use crate::lines::{HEAD, Line};
 use crate::records::{no_parts, put};
 use crate::section::Progress;
 use mode_network::{NetFault, Network, Parts};
@@ -117,8 +117,6 @@ fn read_text(alloc: Global, text: &[u8], caps: &Caps) -> Result<Network, RegionF
     let parts = read_parts(alloc, text)?;
     build(alloc, parts, caps)
 }
-
-const HEAD: &[u8] = b"modeplan region 1\n";
 
 /// The text behind the head line.
 #[tactic(auto, unfolding(crate::specs::Regions::behind_head))]

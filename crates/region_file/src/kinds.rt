@@ -2,8 +2,8 @@
 
 ghost use Rattle.std.specs.Prelude.{◌≡◌, ◌^◌, ◌<◌, map, option_map, IfOk, IfSome};
 ghost use Rattle.region_file.specs.Kinds as spec;
-ghost use Rattle.region_file.specs.Lines.{days_of};
 ghost use Rattle.region_file.specs.declared.lines.Line.TheVariants as line;
+ghost use Rattle.service_days.specs.Zones.{days_made};
 
 use crate::letters::letter_of;
 use crate::lines::Line;
@@ -183,7 +183,7 @@ fn made_days(
     count: u32,
     rule: Option<&[u8]>,
 ) -> Result<Option<Days>, AllocError>
-    ensures { IfOk result (λ days. days ≡ spec.made (days_of first count (option_map (λ r. r.now) rule.entry))) }
+    ensures { IfOk result (λ days. days ≡ spec.made (days_made first count (option_map (λ r. r.now) rule.entry))) }
 {
     let made = match rule {
         Some(rule) => Days::in_zone(alloc, first, count, rule),

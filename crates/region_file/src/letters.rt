@@ -2,7 +2,7 @@
 
 ghost use Rattle.std.specs.Prelude.{◌≡◌, position};
 ghost use Rattle.std.specs.Str.{bytes_eq};
-ghost use Rattle.region_file.specs.Letters.{letter_at};
+ghost use Rattle.region_file.specs.Letters.{letter_at, letter_name};
 
 const FIRST: u8 = 3;
 
@@ -34,4 +34,16 @@ pub fn letter_of(name: &[u8]) -> Option<u8>
 {
     let place = place_among(&NAMES, name)?;
     Some(FIRST + place as u8)
+}
+
+/// The name of a letter; empty where the letter is none of a means of transport that runs by a timetable.
+pub fn letter_name(letter: u8) -> &'static [u8]
+    ensures { result.now ≡ letter_name letter }
+{
+    let place = letter.saturating_sub(FIRST) as usize;
+    if place < NAMES.len() {
+        NAMES[place]
+    } else {
+        b""
+    }
 }

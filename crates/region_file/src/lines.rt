@@ -6,6 +6,9 @@ use plan_base::{DaySet, Place};
 use service_days::Days;
 use timetable_arcs::Call;
 
+/// The head line, with its line feed.
+pub(crate) const HEAD: &[u8] = b"modeplan region 1\n";
+
 /// A line behind the head, which it says by itself: what it means does not hang on the lines around it.
 #[derive(Drop)]
 pub enum Line {

@@ -53,6 +53,35 @@ call 1 604799 604799 0
 end
 ";
 
+const COMPILED: &[u8] = b"modeplan region 1
+days 20240304 1
+node foot 1 480000000 110000000
+node foot 2 480010000 110000000
+stop S1 480000000 110000000
+stop S2 481000000 110000000
+switch 3 480005000 110000000
+arc 0 1 79515
+arc 1 0 79515
+link 0 2 1
+link 2 0 1
+link 4 0 39758
+trip bus ff 2 t1
+call 0 28800 28800 3
+call 1 29400 29400 3
+end
+";
+
+const OVER_A_SHORT_DAY: &[u8] = b"modeplan region 1
+days 20240330 3 CET-1CEST,M3.5.0,M10.5.0/3
+node car -7 480000000 -110000000
+stop S1 480000000 110000000
+stop S2 481000000 110000000
+trip bus 3ff 2 t1
+call 0 28800 28800 3
+call 1 29400 29400 3
+end
+";
+
 fn fault_of(alloc: Global, text: &[u8], caps: &Caps) -> Option<RegionFault> {
     match decode(alloc, text, caps) {
         Ok(_) => None,
@@ -180,6 +209,16 @@ fn letters_days_flags_and_zones_are_read(rt: HostRuntime) -> Result<(), Fail> {
         for (call, (board, alight)) in trip.calls.iter().zip(flags) {
             assert_eq!(rt; (call.board, call.alight), (board, alight));
         }
+    }
+    Ok(())
+}
+
+#[test]
+fn what_was_read_is_written_again(rt: HostRuntime) -> Result<(), Fail> {
+    for text in [SMALL, THREE_BUSES, ZONED, COMPILED, OVER_A_SHORT_DAY] {
+        let network: Network = decode(rt.alloc(), text, &Caps::FULL)?;
+        let written = encode(rt.alloc(), &network, 1)?;
+        assert_eq!(rt; written.as_slice(), text);
     }
     Ok(())
 }

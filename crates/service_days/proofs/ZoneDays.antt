@@ -7,11 +7,11 @@ use Rattle.jiff_core.specs.Calendar.{IsWithin}
 use Rattle.jiff_core.proofs.SignedLemmas.{signed_arith}
 use Rattle.std.proofs.lemmas.List.FromFn.{length-map-range_with_len, take-map-range_with_len}
 use Rattle.service_days.specs.Dates.{is_civil}
-use Rattle.service_days.specs.Days.{AreDays, date_on, is_first_date, is_day_count}
+use Rattle.service_days.specs.Days.{AreDays, date_on, is_first_date, is_day_count, plain_days}
 use Rattle.service_days.specs.Days.{IsRefusal}
 use Rattle.service_days.specs.declared.range.RangeFault.{RangeFault}
 use Rattle.service_days.specs.declared.range.RangeFault.TheVariants.{BadDate, BadCount, BadZone, OutOfMemory}
-use Rattle.service_days.specs.Zones.{RefusesLengths, days_in, days_in_read, is_rule_text, read_zone, zone_days, Zone, have_day_lengths, is_day_length, noon_in, noon_on, zone_base, zone_of, dates_and_next, days_with_bases}
+use Rattle.service_days.specs.Zones.{AreKept, RefusesLengths, days_in, days_in_read, is_rule_text, read_zone, zone_days, Zone, have_day_lengths, is_day_length, noon_in, noon_on, zone_base, zone_of, dates_and_next, days_with_bases}
 use Rattle.service_days.specs.DaysMeaning.{DaysMeaning}
 use Rattle.std.proofs.lemmas.Option.{same_Some}
 use Rattle.jiff_core.specs.declared.civil.datetime.DateTime.{DateTime}
@@ -19,7 +19,7 @@ use Rattle.jiff_tz.specs.declared.posix.TimeZone.{TimeZone}
 use Rattle.service_days.specs.Noons.{CountFromNoons, IsNoonOf}
 use Rattle.service_days.proofs.Noons.{noon_is_instant, zone_again}
 use Rattle.service_days.proofs.DateSteps.{pos-unsigned_abs}
-use Rattle.service_days.proofs.PlainDays.{at_day}
+use Rattle.service_days.proofs.PlainDays.{at_day, plain_are_days}
 use Rattle.service_days.proofs.CivilDates.{on_day, parts_civil}
 
 -- where the days so far have led: to this noon, in seconds, which is not before the first one
@@ -147,6 +147,15 @@ zone_are_days zone rule first count date few lengths =
   where
     none_some : (rule : List ℕ) → ◌≡◌ {A = Option (List ℕ)} (Some rule) None → ⊥
     none_some rule e = cc
+
+-- what is made without a rule
+pub plain_are_kept : (first count : ℕ) → is_first_date first ≡ true → is_day_count count ≡ true → AreKept (plain_days first count)
+plain_are_kept first count date few = record { are = plain_are_days first count date few; made = rw (date, few) refl }
+
+-- what is made in a zone
+pub zone_are_kept : (zone : Zone) (rule : List ℕ) (first count : ℕ) → is_first_date first ≡ true → is_day_count count ≡ true → have_day_lengths zone (dates_and_next first count) (count + 7) ≡ true
+    → zone_days first count rule ≡ Ok (days_with_bases zone rule first count (dates_and_next first count)) → AreKept (days_with_bases zone rule first count (dates_and_next first count))
+zone_are_kept zone rule first count date few lengths made = record { are = zone_are_days zone rule first count date few lengths; made = made }
 
 -- the dates of a first date are civil dates
 pub dates_civil : (first n day : ℕ) → is_first_date first ≡ true → n < 100 → day < length (map (date_on first) (range_with_len 0 n)) → is_civil (get_or (map (date_on first) (range_with_len 0 n)) day 0) ≡ true

@@ -18,7 +18,7 @@ use Rattle.jiff_tz.specs.declared.posix.TimeZone.{TimeZone}
 use Rattle.plan_base.specs.PlaceOf.{shown}
 use Rattle.service_days.specs.DaysMeaning.{DaysMeaning}
 use Rattle.service_days.specs.Dates.{year_of, epoch_day_of}
-use Rattle.service_days.specs.Days.{date_on, is_first_date, is_day_count}
+use Rattle.service_days.specs.Days.{AreDays, date_on, is_first_date, is_day_count, new_days}
 use Rattle.service_days.specs.declared.range.RangeFault.{RangeFault}
 use Rattle.service_days.specs.declared.range.RangeFault.TheVariants.{BadDate, BadCount, BadZone, OutOfMemory}
 
@@ -145,6 +145,16 @@ zone_days first count rule =
     (if is_rule_text rule then days_in_read (read_zone rule) rule first count else Err BadZone)
     else Err BadCount)
     else Err BadDate
+
+-- what a first date and a count give, with a zone rule or without
+abbrev pub days_made : ℕ → ℕ → Option (List ℕ) → Result DaysMeaning RangeFault
+days_made first count None = new_days first count
+days_made first count (Some rule) = zone_days first count rule
+
+-- what days keep: what is true of all days, and that their first date, their count and their zone rule give them
+pub record AreKept (days : DaysMeaning) : Type 0 where
+  pub are : AreDays days
+  pub made : days_made days.first days.count days.zone ≡ Ok days
 
 -- why bases were refused: a day is too short or too long
 abbrev pub RefusesLengths : Bool → RangeFault → Type 0

@@ -35,13 +35,13 @@ pub struct Days {
 impl Model for Days {
     ghost use Rattle.std.specs.Option.{option_map};
     ghost use Rattle.service_days.specs.DaysMeaning.{DaysMeaning};
-    ghost use Rattle.service_days.specs.Days.{AreDays};
+    ghost use Rattle.service_days.specs.Zones.{AreKept};
 
     ghost Value = { DaysMeaning };
 
     ghost view = { λ days. record { first = days.first; count = days.count; bases = days.bases.items; dates = days.dates.items; zone = option_map (λ rule. rule.items) days.zone } };
 
-    ghost invariant = { λ days. AreDays (record { first = days.first; count = days.count; bases = days.bases.items; dates = days.dates.items; zone = option_map (λ rule. rule.items) days.zone }) };
+    ghost invariant = { λ days. AreKept (record { first = days.first; count = days.count; bases = days.bases.items; dates = days.dates.items; zone = option_map (λ rule. rule.items) days.zone }) };
 }
 
 impl Days {
@@ -50,7 +50,7 @@ impl Days {
     ghost use Rattle.std.specs.Option.{option_map};
     ghost use Rattle.service_days.specs.Clock.{clock_text_of};
     ghost use Rattle.service_days.specs.Noons.{CountFromNoons};
-    ghost use Rattle.service_days.specs.Zones.{zone_days};
+    ghost use Rattle.service_days.specs.Zones.{days_made, zone_days};
     ghost use Rattle.service_days.specs.ReadClock.{clock_at, front_at, moment_at};
     ghost use Rattle.service_days.specs.Services.{runs_on};
     ghost use Rattle.plan_base.specs.DaySets.{contains_day};
@@ -112,10 +112,12 @@ impl Days {
         }
     }
 
-    /// What is true of all days.
+    /// What is true of all days. They are those that [`Days::new`] or [`Days::in_zone`] makes of their first
+    /// date, their count and their zone rule.
     pub fn facts(&self)
         ensures days { AreDays self.now }
         ensures order { AreInOrder self.now }
+        ensures made { days_made self.now.first self.now.count self.now.zone ≡ Ok self.now }
     {
         let _ = &self.first;
     }

@@ -1,7 +1,16 @@
-use Rattle.std.proofs.Common.{subst}
-use Rattle.service_days.specs.Days.{AreInOrder}
+use Rattle.std.proofs.Common.{◌≡◌, subst}
+use Rattle.std.specs.Prelude.{Ok}
+use Rattle.service_days.specs.DaysMeaning.{DaysMeaning}
+use Rattle.service_days.specs.Days.{AreDays, AreInOrder}
+use Rattle.service_days.specs.Zones.{days_made}
 use Rattle.service_days.proofs.InOrder.{are_in_order}
 use Rattle.service_days.proofs.region_days.Days.facts.Goals as goal
 
+pub returns-clause-days : goal.returns-clause-days
+returns-clause-days c = subst AreDays c.self.view_is c.self.invariant.are
+
 pub returns-clause-order : goal.returns-clause-order
-returns-clause-order c = subst AreInOrder c.self.view_is (are_in_order _ c.self.invariant)
+returns-clause-order c = subst AreInOrder c.self.view_is (are_in_order _ c.self.invariant.are)
+
+pub returns-clause-made : goal.returns-clause-made
+returns-clause-made c = subst (λ (days : DaysMeaning). days_made days.first days.count days.zone ≡ Ok days) c.self.view_is c.self.invariant.made

@@ -1,11 +1,11 @@
 use Rattle.std.proofs.Common.{◌≡◌, true, ◌+◌, ◌-◌, sym, ap, ap₂, subst, ◌∙◌, arith, length, take, map, Some, None, Ok}
 use Rattle.std.specs.List.{range_with_len}
 use Rattle.service_days.specs.DaysMeaning.{DaysMeaning}
-use Rattle.service_days.specs.Days.{AreDays, IsRefusal}
+use Rattle.service_days.specs.Days.{IsRefusal}
 use Rattle.service_days.specs.Noons.{CountFromNoons}
-use Rattle.service_days.specs.Zones.{RefusesLengths, dates_and_next, days_with_bases, have_day_lengths, zone_base, zone_of}
+use Rattle.service_days.specs.Zones.{AreKept, RefusesLengths, dates_and_next, days_with_bases, have_day_lengths, zone_base, zone_days, zone_of}
 use Rattle.service_days.proofs.PlainDays.{few_days}
-use Rattle.service_days.proofs.ZoneDays.{count_from_noons, dates_civil, days_in_ok, days_in_refused, first_dates, length-dates_and_next, same_days, zone_are_days, zone_days_is}
+use Rattle.service_days.proofs.ZoneDays.{count_from_noons, dates_civil, days_in_ok, days_in_refused, first_dates, length-dates_and_next, same_days, zone_are_kept, zone_days_is}
 use Rattle.service_days.proofs.region_days.Days.in_zone.Goals as goal
 
 pub returns-in-None-clause-err : goal.returns-in-None-clause-err
@@ -47,16 +47,19 @@ is_made c =
           c.in_ok-from_slice.ensures.items;
     }
 
+-- they are what the first date, the count and the rule give
+given : (c : goal.In_ok-from_slice) → zone_days c.args.first c.args.count c.args.rule.now ≡ Ok (days_with_bases (zone_of c.in-Some.zone) c.args.rule.now c.args.first c.args.count (dates_and_next c.args.first c.args.count))
+given c =
+    zone_days_is c.args.first c.args.count c.args.rule.now (Some (zone_of c.in-Some.zone)) c.in_ok-check_range.ensures.date c.in_ok-check_range.ensures.count c.in-Some.ensures
+    ∙ days_in_ok (zone_of c.in-Some.zone) c.args.rule.now c.args.first c.args.count (is_made c).lengths
+
 pub invariant_of-result : goal.invariant_of-result
 invariant_of-result c =
     let made = is_made c in
-    subst AreDays (sym made.days) (zone_are_days (zone_of c.in-Some.zone) c.args.rule.now c.args.first c.args.count c.in_ok-check_range.ensures.date c.in_ok-check_range.ensures.count made.lengths)
+    subst AreKept (sym made.days) (zone_are_kept (zone_of c.in-Some.zone) c.args.rule.now c.args.first c.args.count c.in_ok-check_range.ensures.date c.in_ok-check_range.ensures.count made.lengths (given c))
 
 pub returns-clause-ok : goal.returns-clause-ok
-returns-clause-ok c =
-    let made = is_made c in
-    zone_days_is c.args.first c.args.count c.args.rule.now (Some (zone_of c.in-Some.zone)) c.in_ok-check_range.ensures.date c.in_ok-check_range.ensures.count c.in-Some.ensures
-    ∙ days_in_ok (zone_of c.in-Some.zone) c.args.rule.now c.args.first c.args.count made.lengths ∙ ap Ok (sym made.days)
+returns-clause-ok c = given c ∙ ap Ok (sym (is_made c).days)
 
 pub returns-clause-noons : goal.returns-clause-noons
 returns-clause-noons c =

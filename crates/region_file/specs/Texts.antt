@@ -1,0 +1,51 @@
+-- What is written of the parts of a network.
+use Rattle.std.specs.Prelude.{◌≡◌, ℕ, List, [], ◌++◌, length, true, slice_index_or, ◌<◌}
+use Rattle.std.specs.List.{flat_map}
+use Rattle.plain_texts.specs.Lines.{with_feed}
+use Rattle.plain_texts.specs.Names.{is_name}
+use Rattle.plan_base.specs.declared.places.Place.{Place}
+use Rattle.timetable_arcs.specs.declared.trips.Call.{Call}
+use Rattle.timetable_arcs.specs.Trips.{TripLists}
+use Rattle.mode_network.specs.declared.nodes.Node.{Node}
+use Rattle.mode_network.specs.declared.nodes.NodeKey.{NodeKey}
+use Rattle.mode_network.specs.declared.nodes.NodeKey.TheVariants.{Road, Stop, Switch}
+use Rattle.region_file.specs.declared.lines.Line.{Line}
+use Rattle.region_file.specs.declared.lines.Line.TheVariants as line
+use Rattle.region_file.specs.Lines.{spelled}
+
+-- a line and its line feed
+abbrev pub line_text : Line → List ℕ
+line_text l = with_feed (spelled l)
+
+-- the name of the stop at a place of these
+abbrev pub name_at : List (List ℕ) → ℕ → List ℕ
+name_at names stop = slice_index_or names stop []
+
+-- the line of a node, whose stop has its name
+abbrev pub named_line : List (List ℕ) → NodeKey → Place → Line
+named_line names (Road mode id) place = line.Road mode id place
+named_line names (Stop stop) place = line.Stop (name_at names stop) place
+named_line names (Switch id) place = line.Switch id place
+
+abbrev pub node_text : List (List ℕ) → Node → List ℕ
+node_text names node = line_text (named_line names node.key node.place)
+
+abbrev pub call_text : Call → List ℕ
+call_text call = line_text (line.Call call)
+
+-- the line of a trip, and those of its calls
+abbrev pub trip_text : TripLists → List ℕ
+trip_text trip =
+    line_text (line.Trip trip.letter trip.days (length trip.calls) trip.name) ++ flat_map call_text trip.calls
+
+-- a stop is one of those that have a name
+abbrev pub IsListed : List (List ℕ) → NodeKey → Type 0
+IsListed names (Road mode id) = Unit {0}
+IsListed names (Stop stop) = stop < length names
+IsListed names (Switch id) = Unit {0}
+
+-- the name of a stop is a name
+abbrev pub IsNamed : List (List ℕ) → NodeKey → Type 0
+IsNamed names (Road mode id) = Unit {0}
+IsNamed names (Stop stop) = is_name (name_at names stop) ≡ true
+IsNamed names (Switch id) = Unit {0}
