@@ -11,3 +11,4 @@ mod ListLemmas
 mod CheckLemmas
 mod StartLemmas
 mod BoundLemmas
+mod ClosureLemmas

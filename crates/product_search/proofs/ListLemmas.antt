@@ -21,6 +21,7 @@ use Rattle.product_search.specs.declared.frontier.Frontier.{Frontier}
 use Rattle.product_search.specs.Reach.{IsReachedAt, IsLeastAt, IsWithin, IsToList, is_before}
 use Rattle.product_search.specs.Listed.{label_of, label_order, IsBelow, IsAscending, AreLeastLabels}
 use Rattle.product_search.specs.Answer.{last_time}
+use Rattle.product_search.specs.Closed.{IsListedBy}
 use Rattle.product_search.specs.Waiting.{state_eq, reached_at}
 use Rattle.product_search.specs.Searching.{IsSearched, listed_label}
 use Rattle.product_search.proofs.QueueLemmas.{same_parts}
@@ -195,6 +196,13 @@ module _ (g : GraphMeaning) (l : LabelsMeaning) (starts targets : List ℕ) (dep
         (λ k d lt. label_least (get_or f.reached.entries k d) (entries k d lt)));
     complete = λ v q t least listed. Contains-permutation (filter_map (listed_label arrival) f.reached.entries) list (label_of v q t) same (all_there v q t least listed);
   }
+
+  -- all that is reached at a time to list is listed by then
+  pub reached_listed : (v q t : ℕ) → IsReachedAt g l starts dep v q t → IsToList bound arrival t → IsListedBy list v q t
+  reached_listed v q t reached listed =
+      let y = searched.complete v q t reached listed in
+      let by_then = listed_down bound arrival (y.0).at t y.3 listed in
+      ((y.0).at, y.3, least_labels.complete v q (y.0).at (least_at v q y.0 y.1 by_then) by_then)
 
   label_in_time : (e : (ℕ × ℕ) × Reached) → reached_at f e.0.0 e.0.1 ≡ Some e.1 → (x : Label) → listed_label arrival e ≡ Some x → x.at ≤ last_time dep
   label_in_time e is x kept = let p = label_parts arrival e x kept in

@@ -1,9 +1,10 @@
 //! The search for the least arrival.
 
-ghost use Rattle.std.specs.Prelude.{◌<◌, ◌^◌, All, IfOk};
+ghost use Rattle.std.specs.Prelude.{◌≡◌, ◌<◌, ◌^◌, All, IfOk, None};
 ghost use Rattle.product_search.specs.Reach.{IsWithin};
 ghost use Rattle.product_search.specs.Listed.{AreLeastLabels};
 ghost use Rattle.product_search.specs.Answer.{IsArrival, IsWalkFor, IsInTime};
+ghost use Rattle.product_search.specs.Closed.{IsClosed};
 
 use crate::label::Found;
 use crate::listing::list_labels;
@@ -18,7 +19,8 @@ use std::alloc::{AllocError, Global};
 /// A walk leaves its start in a start state and may wait anywhere. The starts and the targets may be empty, or hold
 /// a node twice. The answer has the arrival, a walk without waits that has it, and the least arrivals of all
 /// product states that are reached before, or where no walk counts, of all that are reached within the bound.
-/// No time in it is above `dep + 2^98`. Fails where memory runs out.
+/// Without a bound the labels are closed, as `check_labels` looks for it. No time in the answer is above `dep + 2^98`.
+/// Fails where memory runs out.
 ///
 /// The method is Dijkstra's, over pairs of a node and a state, as Barrett, Jacob and Marathe use it for languages.
 pub fn search<G: Graph, L: Labels>(
@@ -40,6 +42,8 @@ pub fn search<G: Graph, L: Labels>(
         f.arrival f.walk) }
     ensures labels { IfOk result (λ f. AreLeastLabels (G.meaning graph.now) (L.automaton labels.now) starts.now dep
         bound f.arrival f.labels.items) }
+    ensures closed { bound ≡ None → IfOk result (λ f. IsClosed (G.meaning graph.now) (L.automaton labels.now) starts.now targets.now dep
+        f.arrival f.labels.items) }
     ensures times { IfOk result (IsInTime dep) }
 {
     let explored = settle_all(alloc, graph, labels, starts, targets, dep, bound)?;

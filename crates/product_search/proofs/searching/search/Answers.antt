@@ -1,6 +1,7 @@
 use Rattle.std.proofs.Common.{Some, None}
 use Rattle.product_search.proofs.EndLemmas.{arrives}
-use Rattle.product_search.proofs.ListLemmas.{least_labels, labels_in_time}
+use Rattle.product_search.proofs.ListLemmas.{least_labels, reached_listed, labels_in_time}
+use Rattle.product_search.proofs.ClosureLemmas.{labels_closed}
 use Rattle.product_search.proofs.TrailLemmas.{walk_of, walk_in_time, end_in_time}
 use Rattle.product_search.proofs.searching.search.Goals as goal
 
@@ -15,6 +16,16 @@ returns-in-None-clause-labels g c =
     least_labels (g.G.Graph.meaning c.args.graph.now) (g.L.Labels.automaton c.args.labels.now) c.args.starts.now c.args.targets.now c.args.dep c.args.bound None
     c.in_ok-explored.explored.frontier (rw c.in-None.is at c.in_ok-explored.ensures) listed.unique listed.entries
     c.in_ok-list_labels-in-None.field-0.items listed.sorted listed.labels
+
+pub returns-in-None-clause-closed : goal.returns-in-None-clause-closed
+returns-in-None-clause-closed g c unbounded =
+    let listed = c.in_ok-list_labels-in-None.ensures in
+    labels_closed (g.G.Graph.meaning c.args.graph.now) (g.met.G.Graph.lawful c.args.graph.now) (g.L.Labels.automaton c.args.labels.now) (g.met.L.Labels.lawful c.args.labels.now)
+    c.args.starts.now c.args.targets.now c.requires.starts c.args.dep c.args.bound None unbounded c.in_ok-list_labels-in-None.field-0.items
+    (returns-in-None-clause-arrival g c) (returns-in-None-clause-labels g c)
+    (reached_listed (g.G.Graph.meaning c.args.graph.now) (g.L.Labels.automaton c.args.labels.now) c.args.starts.now c.args.targets.now c.args.dep c.args.bound None
+    c.in_ok-explored.explored.frontier (rw c.in-None.is at c.in_ok-explored.ensures) listed.unique listed.entries
+    c.in_ok-list_labels-in-None.field-0.items listed.sorted listed.labels)
 
 pub returns-in-None-clause-times : goal.returns-in-None-clause-times
 returns-in-None-clause-times g c =
@@ -44,6 +55,16 @@ returns-clause-labels g c =
     let listed = c.in_ok-list_labels-in-Some.ensures in
     least_labels (g.G.Graph.meaning c.args.graph.now) (g.L.Labels.automaton c.args.labels.now) c.args.starts.now c.args.targets.now c.args.dep c.args.bound (Some c.in-Some.end.at)
     c.in_ok-explored.explored.frontier found.0 listed.unique listed.entries c.in_ok-list_labels-in-Some.field-0.items listed.sorted listed.labels
+
+pub returns-clause-closed : goal.returns-clause-closed
+returns-clause-closed g c unbounded =
+    let found = rw c.in-Some.is at c.in_ok-explored.ensures in
+    let listed = c.in_ok-list_labels-in-Some.ensures in
+    labels_closed (g.G.Graph.meaning c.args.graph.now) (g.met.G.Graph.lawful c.args.graph.now) (g.L.Labels.automaton c.args.labels.now) (g.met.L.Labels.lawful c.args.labels.now)
+    c.args.starts.now c.args.targets.now c.requires.starts c.args.dep c.args.bound (Some c.in-Some.end.at) unbounded c.in_ok-list_labels-in-Some.field-0.items
+    (returns-clause-arrival g c) (returns-clause-labels g c)
+    (reached_listed (g.G.Graph.meaning c.args.graph.now) (g.L.Labels.automaton c.args.labels.now) c.args.starts.now c.args.targets.now c.args.dep c.args.bound (Some c.in-Some.end.at)
+    c.in_ok-explored.explored.frontier found.0 listed.unique listed.entries c.in_ok-list_labels-in-Some.field-0.items listed.sorted listed.labels)
 
 pub returns-clause-times : goal.returns-clause-times
 returns-clause-times g c =
