@@ -1,0 +1,24 @@
+-- Time zones of earlier rows.
+use Rattle.std.proofs.Common.{◌≡◌, ℕ, List, [], ◌∷◌, ◌++◌, filter_map, refl, false, Some}
+use Rattle.std.specs.Prelude.{unwrap_or}
+use Rattle.std.specs.List.{list_any}
+use Rattle.gtfs_tables.specs.Agencies.{agencies, first_of, is_first}
+use Rattle.gtfs_tables.specs.Tables.{has_first_zone}
+
+-- no row has the key of an earlier one, and none gives a record
+pub without_key : (zones : List (List ℕ)) (zone : List ℕ) → list_any (agencies.has_key_of zone) zones ≡ false
+without_key [] zone = refl
+without_key (first ∷ zones) zone = without_key zones zone
+
+pub without_record : (zones : List (List ℕ)) → filter_map agencies.gives zones ≡ []
+without_record [] = refl
+without_record (first ∷ zones) = without_record zones
+
+-- the first time zone
+pub same_zone : (zones : List (List ℕ)) (zone : List ℕ) → has_first_zone agencies zones zone ≡ is_first (first_of zones) zone
+same_zone [] zone = refl
+same_zone (first ∷ zones) zone = refl
+
+pub first_stays : (zones : List (List ℕ)) (zone : List ℕ) → Some (unwrap_or (first_of zones) zone) ≡ first_of (zones ++ zone ∷ [])
+first_stays [] zone = refl
+first_stays (first ∷ zones) zone = refl

@@ -1,0 +1,242 @@
+-- A feed that was read keeps the rules of feeds.
+use Rattle.std.proofs.Common.{◌≡◌, ℕ, ◌+◌, ◌-◌, ◌*◌, ◌<◌, ◌≤◌, take, drop, List, [], ◌∷◌, map, length, refl, sym, ap, ap₂, subst, Bool, true, false, cond, nat_eq, nat_le, ◌&&◌, ◌||◌, Option, None, Some, Ok, arith}
+use Rattle.std.specs.Prelude.{bytes_eq, option_map, IfSome}
+use Rattle.std.specs.Cmp.{IsEquivalence}
+use Rattle.std.specs.List.{AllByRecursion, IsDistinct}
+use Rattle.std.specs.Option.{ok_or}
+use Rattle.std.proofs.lemmas.Bool.Decides.{nat_tests}
+use Rattle.std.proofs.lemmas.Cmp.{and_equiv, nat_eq_equiv, nat_list_eq_equiv, on_equiv}
+use Rattle.std.proofs.lemmas.List.Quantifiers.{position-Some}
+use Rattle.std.proofs.lemmas.Option.{none-some, same_Some}
+use Rattle.std.proofs.lemmas.Result.{IfOk-at_ok}
+use Rattle.plain_texts.specs.FixedDecimal.{fixed_at}
+use Rattle.plan_base.specs.declared.limits.Caps.{Caps}
+use Rattle.gtfs_tables.specs.declared.calls.CallRow.{CallRow}
+use Rattle.gtfs_tables.specs.declared.calls.Times.{Times}
+use Rattle.gtfs_tables.specs.declared.calls.Visit.{Visit}
+use Rattle.gtfs_tables.specs.declared.columns.Column.{Column}
+use Rattle.gtfs_tables.specs.declared.columns.Column.TheVariants as column
+use Rattle.gtfs_tables.specs.declared.dates.DateRow.{DateRow}
+use Rattle.gtfs_tables.specs.declared.routes.RouteRow.{RouteRow}
+use Rattle.gtfs_tables.specs.declared.services.ServiceRow.{ServiceRow}
+use Rattle.gtfs_tables.specs.declared.stops.StopRow.{StopRow}
+use Rattle.gtfs_tables.specs.declared.trips.TripRow.{TripRow}
+use Rattle.gtfs_tables.specs.Calls.{StopTime, call_at, call_columns, call_between, call_of, calls, times_in, times_of, visit_in}
+use Rattle.gtfs_tables.specs.Columns.{field_in}
+use Rattle.gtfs_tables.specs.Forms.{added_at, date_at, digits_at, hours_and_part, id_at, is_id, is_usual_at, letter_of, optional_time_at, part_at, time_at, trimmed}
+use Rattle.gtfs_tables.specs.Holding.{AreRead}
+use Rattle.gtfs_tables.specs.Routes.{route_columns, routes}
+use Rattle.gtfs_tables.specs.ServiceDates.{date_columns, dates}
+use Rattle.gtfs_tables.specs.Services.{rule_in, service_columns, services}
+use Rattle.gtfs_tables.specs.Sound.{IsCall, IsId, IsRoute, IsTrip, is_same_call}
+use Rattle.gtfs_tables.specs.Stops.{Station, place_in, stop_columns, stops}
+use Rattle.gtfs_tables.specs.Trips.{Journey, place_among, trip_columns, trip_of, trip_over, trips}
+use Rattle.gtfs_tables.proofs.CallLemmas.{same_place}
+use Rattle.gtfs_tables.proofs.SoundLemmas.{behind, distinct_keys, each_keeps, has_value, no_two}
+use Rattle.gtfs_tables.proofs.StopLemmas.{has_id_of}
+
+id_is : (text : List ℕ) (column : Column) (id : List ℕ) → ok_or (id_at text) column ≡ Ok id → IsId id
+id_is text column id e = by_test (is_id text) refl (has_value (id_at text) column id e)
+  where
+    by_test : (t : Bool) → is_id text ≡ t → cond t (Some text) None ≡ Some id → is_id id ≡ true
+    by_test true is e = subst (λ id. is_id id ≡ true) (same_Some text id e) is
+    by_test false is e = absurd (none-some id e)
+
+same_ids : {F : Type 0} (id : F → List ℕ) → IsEquivalence (λ (f g : F). bytes_eq (id f) (id g))
+same_ids id = on_equiv id nat_list_eq_equiv
+
+-- times are within a week
+week : (o p : Option ℕ) (t : ℕ) → hours_and_part o p ≡ Some t → t ≤ 604799
+week None p t e = absurd (none-some t e)
+week (Some hours) None t e = absurd (none-some t e)
+week (Some hours) (Some part) t e = by_test (nat_le (hours * 3600 + part) 604799) refl e
+  where
+    by_test : (few : Bool) → nat_le (hours * 3600 + part) 604799 ≡ few → cond few (Some (hours * 3600 + part)) None ≡ Some t → t ≤ 604799
+    by_test true is e = subst (λ t. t ≤ 604799) (same_Some (hours * 3600 + part) t e) (grind (arith, nat_tests, is))
+    by_test false is e = absurd (none-some t e)
+
+time_within : (text : List ℕ) (t : ℕ) → time_at text ≡ Some t → t ≤ 604799
+unfolding time_at
+time_within text t e = by_test (nat_le 7 (length text) && nat_le (length text) 9) e
+  where
+    by_test : (sized : Bool) → cond sized (hours_and_part (fixed_at (take (length text - 6) text)) (part_at (drop (length text - 6) text))) None ≡ Some t → t ≤ 604799
+    by_test true e = week (fixed_at (take (length text - 6) text)) (part_at (drop (length text - 6) text)) t e
+    by_test false e = absurd (none-some t e)
+
+within_a_week : (text : List ℕ) (time : Option ℕ) → optional_time_at text ≡ Some time → IfSome time (λ t. t ≤ 604799)
+within_a_week [] time e = subst (λ time. IfSome time (λ t. t ≤ 604799)) (same_Some None time e) tt
+within_a_week (b ∷ bs) time e = by_time (time_at (b ∷ bs)) refl e
+  where
+    by_time : (o : Option ℕ) → time_at (b ∷ bs) ≡ o → option_map Some o ≡ Some time → IfSome time (λ t. t ≤ 604799)
+    by_time None is e = absurd (none-some time e)
+    by_time (Some t) is e = subst (λ time. IfSome time (λ t. t ≤ 604799)) (same_Some (Some t) time e) (time_within (b ∷ bs) t is)
+
+module _ (caps : Caps) (text : Option (List ℕ)) where
+  -- stops
+  module _ (rows : List StopRow) (read : AreRead (stops caps) text rows) where
+    pub stops_keep : AllByRecursion (λ (stop : StopRow). IsId stop.id) rows
+    stops_keep = each_keeps (stops caps) text rows read (λ station. IsId station.id) (λ stop. IsId stop.id)
+        (λ header n row.
+        let at = stop_columns header in
+        behind (ok_or (id_at (field_in row at.id)) column.StopId) _ _ (λ id is.
+        behind (ok_or (is_usual_at 4 (trimmed (field_in row at.location_type))) column.LocationType) _ _ (λ is_stop _.
+        behind (place_in at row is_stop) _ _ (λ place _.
+        id_is (field_in row at.id) column.StopId id is))))
+        (λ station stop kept gave. subst IsId (sym (has_id_of station stop gave)) kept)
+
+    pub stop_ids : IsDistinct bytes_eq (map (λ (stop : StopRow). stop.id) rows)
+    stop_ids = distinct_keys (λ stop. stop.id) bytes_eq rows (no_two (stops caps) text rows read (same_ids (λ (station : Station). station.id)) (λ stop other. bytes_eq stop.id other.id)
+        (λ station other stop another gave also. ap₂ bytes_eq (has_id_of station stop gave) (has_id_of other another also)))
+
+  -- routes
+  module _ (rows : List RouteRow) (read : AreRead (routes caps) text rows) where
+    letters : (n : ℕ) → (3 ≤ letter_of n) × (letter_of n ≤ 13)
+    letters n = by_tests (nat_le n 7) refl (nat_eq n 11 || nat_eq n 12) refl
+      where
+        by_tests : (low : Bool) → nat_le n 7 ≡ low → (high : Bool) → (nat_eq n 11 || nat_eq n 12) ≡ high → (3 ≤ cond low (n + 3) (cond high n 13)) × (cond low (n + 3) (cond high n 13) ≤ 13)
+        by_tests true is high _ = (omega arith, grind (arith, nat_tests, is))
+        by_tests false _ true is = (grind (arith, nat_tests, is), grind (arith, nat_tests, is))
+        by_tests false _ false _ = (omega arith, omega arith)
+
+    letter_is : (o : Option ℕ) (letter : ℕ) → option_map letter_of o ≡ Some letter → (3 ≤ letter) × (letter ≤ 13)
+    letter_is None letter e = absurd (none-some letter e)
+    letter_is (Some n) letter e = subst (λ letter. (3 ≤ letter) × (letter ≤ 13)) (same_Some (letter_of n) letter e) (letters n)
+
+    pub routes_keep : AllByRecursion IsRoute rows
+    routes_keep = each_keeps (routes caps) text rows read IsRoute IsRoute
+        (λ header n row.
+        let at = route_columns header in
+        behind (ok_or (id_at (field_in row at.id)) column.RouteId) _ _ (λ id is.
+        behind (ok_or (option_map letter_of (digits_at (trimmed (field_in row at.type_)))) column.RouteType) _ _ (λ letter also.
+        let within = letter_is (digits_at (trimmed (field_in row at.type_))) letter (has_value _ column.RouteType letter also) in
+        record { id = id_is (field_in row at.id) column.RouteId id is; above_road = within.0; letter = within.1 })))
+        (λ route row kept gave. subst IsRoute (same_Some route row gave) kept)
+
+    pub route_ids : IsDistinct bytes_eq (map (λ (route : RouteRow). route.id) rows)
+    route_ids = distinct_keys (λ route. route.id) bytes_eq rows (no_two (routes caps) text rows read (same_ids (λ (route : RouteRow). route.id)) (λ route other. bytes_eq route.id other.id)
+        (λ route other row another gave also. ap₂ (λ (r s : RouteRow). bytes_eq r.id s.id) (sym (same_Some route row gave)) (sym (same_Some other another also))))
+
+  -- services
+  module _ (rows : List ServiceRow) (read : AreRead (services caps) text rows) where
+    pub services_keep : AllByRecursion (λ (service : ServiceRow). IsId service.id) rows
+    services_keep = each_keeps (services caps) text rows read (λ service. IsId service.id) (λ service. IsId service.id)
+        (λ header n row.
+        let at = service_columns header in
+        behind (ok_or (id_at (field_in row at.id)) column.ServiceId) _ _ (λ id is.
+        behind (rule_in at row) _ _ (λ rule _.
+        id_is (field_in row at.id) column.ServiceId id is)))
+        (λ service row kept gave. subst (λ (service : ServiceRow). IsId service.id) (same_Some service row gave) kept)
+
+    pub service_ids : IsDistinct bytes_eq (map (λ (service : ServiceRow). service.id) rows)
+    service_ids = distinct_keys (λ service. service.id) bytes_eq rows (no_two (services caps) text rows read (same_ids (λ (service : ServiceRow). service.id)) (λ service other. bytes_eq service.id other.id)
+        (λ service other row another gave also. ap₂ (λ (r s : ServiceRow). bytes_eq r.id s.id) (sym (same_Some service row gave)) (sym (same_Some other another also))))
+
+  -- dates
+  module _ (rows : List DateRow) (read : AreRead (dates caps) text rows) where
+    pub dates_keep : AllByRecursion (λ (date : DateRow). IsId date.id) rows
+    dates_keep = each_keeps (dates caps) text rows read (λ date. IsId date.id) (λ date. IsId date.id)
+        (λ header n row.
+        let at = date_columns header in
+        behind (ok_or (id_at (field_in row at.id)) column.ServiceId) _ _ (λ id is.
+        behind (ok_or (date_at (trimmed (field_in row at.date))) column.Date) _ _ (λ date _.
+        behind (ok_or (added_at (trimmed (field_in row at.exception))) column.ExceptionType) _ _ (λ added _.
+        id_is (field_in row at.id) column.ServiceId id is))))
+        (λ date row kept gave. subst (λ (date : DateRow). IsId date.id) (same_Some date row gave) kept)
+
+  -- trips
+  module _ (route_ids : List (List ℕ)) (rows : List TripRow) (read : AreRead (trips caps route_ids) text rows) where
+    -- a trip is that of its row, over a route that is there
+    record IsOver (journey : Journey) (trip : TripRow) : Type 0 where
+      is : trip ≡ trip_over journey trip.route
+      there : trip.route < length route_ids
+
+    is_over : (journey : Journey) (trip : TripRow) → trip_of route_ids journey ≡ Some trip → IsOver journey trip
+    is_over journey trip e = by_place (place_among route_ids journey.route) refl e
+      where
+        by_place : (o : Option ℕ) → place_among route_ids journey.route ≡ o → option_map (trip_over journey) o ≡ Some trip → IsOver journey trip
+        by_place None at e = absurd (none-some trip e)
+        by_place (Some place) at e =
+            let same = same_Some (trip_over journey place) trip e in
+            subst (IsOver journey) same (record { is = refl; there = (position-Some (bytes_eq journey.route) route_ids place [] at).0 })
+
+    pub trips_keep : AllByRecursion (IsTrip (length route_ids)) rows
+    trips_keep = each_keeps (trips caps route_ids) text rows read (λ journey. IsId journey.id × IsId journey.service) (IsTrip (length route_ids))
+        (λ header n row.
+        let at = trip_columns header in
+        behind (ok_or (id_at (field_in row at.id)) column.TripId) _ _ (λ id is.
+        behind (ok_or (id_at (field_in row at.route)) column.RouteId) _ _ (λ route _.
+        behind (ok_or (id_at (field_in row at.service)) column.ServiceId) _ _ (λ service also.
+        (id_is (field_in row at.id) column.TripId id is, id_is (field_in row at.service) column.ServiceId service also)))))
+        (λ journey trip kept gave.
+        let over = is_over journey trip gave in
+        record { id = subst IsId (sym (ap (λ (trip : TripRow). trip.id) over.is)) kept.0; service = subst IsId (sym (ap (λ (trip : TripRow). trip.service) over.is)) kept.1; route = over.there })
+
+    pub trip_ids : IsDistinct bytes_eq (map (λ (trip : TripRow). trip.id) rows)
+    trip_ids = distinct_keys (λ trip. trip.id) bytes_eq rows (no_two (trips caps route_ids) text rows read (same_ids (λ (journey : Journey). journey.id)) (λ trip other. bytes_eq trip.id other.id)
+        (λ journey other trip another gave also. ap₂ bytes_eq (ap (λ (trip : TripRow). trip.id) (is_over journey trip gave).is) (ap (λ (trip : TripRow). trip.id) (is_over other another also).is)))
+
+  -- calls
+  module _ (trip_ids stop_ids : List (List ℕ)) (rows : List CallRow) (read : AreRead (calls caps trip_ids stop_ids) text rows) where
+    abbrev AreTimes : Times → Type 0
+    AreTimes times = (times.arr ≤ 604799) × (times.dep ≤ 604799)
+
+    -- a call is that of its row, of a trip and at a stop that are there
+    record IsBetween (time : StopTime) (call : CallRow) : Type 0 where
+      trip : place_among trip_ids time.trip ≡ Some call.trip
+      stop : place_among stop_ids time.stop ≡ Some call.stop
+      sequence : call.sequence ≡ time.visit.sequence
+      times : time.visit.times ≡ Some (record { arr = call.arr; dep = call.dep })
+
+    is_between : (time : StopTime) (call : CallRow) → call_of trip_ids stop_ids time ≡ Some call → IsBetween time call
+    is_between time call e = by_places (place_among trip_ids time.trip) refl (place_among stop_ids time.stop) refl e
+      where
+        by_times : (trip stop : ℕ) → place_among trip_ids time.trip ≡ Some trip → place_among stop_ids time.stop ≡ Some stop → (o : Option Times) → time.visit.times ≡ o
+            → call_at time.row trip stop (record time.visit { times = o }) ≡ Some call → IsBetween time call
+        by_times trip stop here there None at e = absurd (none-some call e)
+        by_times trip stop here there (Some times) at e =
+            subst (IsBetween time) (same_Some _ call e) (record { trip = here; stop = there; sequence = refl; times = at })
+
+        by_places : (o : Option ℕ) → place_among trip_ids time.trip ≡ o → (p : Option ℕ) → place_among stop_ids time.stop ≡ p → call_between time o p ≡ Some call → IsBetween time call
+        by_places None here p there e = absurd (none-some call e)
+        by_places (Some trip) here None there e = absurd (none-some call e)
+        by_places (Some trip) here (Some stop) there e = by_times trip stop here there time.visit.times refl e
+
+    times_within : (arr dep : Option ℕ) → IfSome arr (λ t. t ≤ 604799) → IfSome dep (λ t. t ≤ 604799) → IfSome (times_of arr dep) AreTimes
+    times_within None None arrives departs = tt
+    times_within (Some arr) None arrives departs = (arrives, arrives)
+    times_within None (Some dep) arrives departs = (departs, departs)
+    times_within (Some arr) (Some dep) arrives departs = (arrives, departs)
+
+    pub calls_keep : AllByRecursion (IsCall (length trip_ids) (length stop_ids)) rows
+    calls_keep = each_keeps (calls caps trip_ids stop_ids) text rows read (λ time. IfSome time.visit.times AreTimes) (IsCall (length trip_ids) (length stop_ids))
+        (λ header n row.
+        let at = call_columns header in
+        behind (ok_or (id_at (field_in row at.trip)) column.TripId) _ _ (λ trip _.
+        behind (ok_or (id_at (field_in row at.stop)) column.StopId) _ _ (λ stop _.
+        behind (visit_in at row) _ _ (λ visit is.
+        IfOk-at_ok (λ (visit : Visit). IfSome visit.times AreTimes) is
+        (behind (ok_or (digits_at (trimmed (field_in row at.sequence))) column.StopSequence) _ _ (λ sequence _.
+        behind (times_in at row) _ _ (λ times timed.
+        behind (ok_or (is_usual_at 3 (trimmed (field_in row at.pickup))) column.PickupType) _ _ (λ board _.
+        behind (ok_or (is_usual_at 3 (trimmed (field_in row at.drop_off))) column.DropOffType) _ _ (λ alight _.
+        IfOk-at_ok (λ times. IfSome times AreTimes) timed
+        (behind (ok_or (optional_time_at (trimmed (field_in row at.arrival))) column.ArrivalTime) _ _ (λ arr arrives.
+        behind (ok_or (optional_time_at (trimmed (field_in row at.departure))) column.DepartureTime) _ _ (λ dep departs.
+        times_within arr dep (within_a_week (trimmed (field_in row at.arrival)) arr (has_value _ column.ArrivalTime arr arrives)) (within_a_week (trimmed (field_in row at.departure)) dep (has_value _ column.DepartureTime dep departs))))))))))))))
+        (λ time call kept gave.
+        let between = is_between time call gave in
+        let within = subst (λ (times : Option Times). IfSome times AreTimes) between.times kept in
+        record {
+          trip = (position-Some (bytes_eq time.trip) trip_ids call.trip [] between.trip).0;
+          stop = (position-Some (bytes_eq time.stop) stop_ids call.stop [] between.stop).0;
+          arr = within.0;
+          dep = within.1;
+        })
+
+    pub sequences : IsDistinct is_same_call rows
+    sequences = no_two (calls caps trip_ids stop_ids) text rows read
+        (and_equiv (on_equiv (λ (time : StopTime). time.trip) nat_list_eq_equiv) (on_equiv (λ (time : StopTime). time.visit.sequence) nat_eq_equiv)) is_same_call
+        (λ time other call another gave also.
+        let between = is_between time call gave in
+        let too = is_between other another also in
+        ap₂ ◌&&◌ (sym (same_place trip_ids time.trip other.trip call.trip another.trip between.trip too.trip)) (ap₂ nat_eq between.sequence too.sequence))

@@ -1,0 +1,10 @@
+mod ColumnLemmas
+mod ListLemmas
+mod CsvLemmas
+mod TableLemmas
+mod AgencyLemmas
+mod CallLemmas
+mod StopLemmas
+mod SoundLemmas
+mod FeedSound
+mod FeedLemmas

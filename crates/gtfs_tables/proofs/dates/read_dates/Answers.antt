@@ -1,0 +1,26 @@
+use Rattle.std.proofs.Common.{[]}
+use Rattle.std.proofs.lemmas.Result.{err_from_is_err_and}
+use Rattle.csv.specs.Records.{fields_of}
+use Rattle.gtfs_tables.specs.ServiceDates.{dates, pair_of}
+use Rattle.gtfs_tables.proofs.TableLemmas.{are_read, faulty_header, faulty_rows, holds_nothing}
+use Rattle.gtfs_tables.proofs.dates.read_dates.Goals as goal
+
+pub returns-clause-dates : goal.returns-clause-dates
+returns-clause-dates c =
+    let nothing = holds_nothing (dates c.args.caps.now) pair_of _ _ c.new-dates.ensures.pairs c.new-dates.ensures.rows in
+    let taken = c.in_ok-take_rows.ensures (fields_of c.in_ok-header.header) c.of.ensures [] nothing in
+    let opened = c.in_ok-header.ensures in
+    rw c.in-Some.is (are_read (dates c.args.caps.now) c.in-Some.text.now (fields_of c.in_ok-header.header) c.in_ok-header.rows opened.named opened.header opened.rows pair_of c.take_rows.new.self.pairs c.take_rows.new.self.rows.items taken)
+
+pub returns-in_err-header-clause-fault : goal.returns-in_err-header-clause-fault
+returns-in_err-header-clause-fault c =
+    let p = err_from_is_err_and c.from_residual.result c.from_residual.ensures.1 in
+    rw (p.1, p.2, c.in-Some.is) (faulty_header (dates c.args.caps.now) c.in-Some.text.now c.in_err-header.field-0.0 c.in_err-header.ensures.fault)
+
+pub returns-in_err-take_rows-clause-fault : goal.returns-in_err-take_rows-clause-fault
+returns-in_err-take_rows-clause-fault c =
+    let p = err_from_is_err_and c.from_residual-in_err-take_rows.result c.from_residual-in_err-take_rows.ensures.1 in
+    let nothing = holds_nothing (dates c.args.caps.now) pair_of _ _ c.new-dates.ensures.pairs c.new-dates.ensures.rows in
+    let fault = c.in_err-take_rows.ensures (fields_of c.in_ok-header.header) c.of.ensures [] nothing in
+    let opened = c.in_ok-header.ensures in
+    rw (p.1, p.2, c.in-Some.is) (faulty_rows (dates c.args.caps.now) c.in-Some.text.now (fields_of c.in_ok-header.header) c.in_ok-header.rows opened.named opened.header opened.rows c.in_err-take_rows.field-0.0 fault)

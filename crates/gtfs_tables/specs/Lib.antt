@@ -1,0 +1,16 @@
+pub mod Answers
+pub mod Columns
+pub mod Forms
+pub mod Tables
+pub mod FeedLists
+pub mod Agencies
+pub mod Stops
+pub mod Routes
+pub mod Services
+pub mod ServiceDates
+pub mod Trips
+pub mod Calls
+pub mod Feeds
+pub mod Sound
+pub mod RowsLeft
+pub mod Holding
