@@ -5,3 +5,6 @@ pub mod StepLemmas
 pub mod ToldLemmas
 pub mod WalkLemmas
 pub mod PrintLemmas
+pub mod CopyLemmas
+pub mod ExpressionLines
+pub mod LineLemmas

@@ -1,5 +1,5 @@
 -- What is true of the rides that a network's runs allow.
-use Rattle.std.proofs.Common.{◌≡◌, ℕ, ◌+◌, ◌*◌, ◌<◌, ◌≤◌, ◌^◌, length, Some, true, false, Bool, nat_lt, refl, ap, subst, sym, arith, List, Option, None}
+use Rattle.std.proofs.Common.{◌≡◌, ℕ, ◌<◌, ◌^◌, length, Some, true, false, Bool, nat_lt, refl, ap, subst, arith, List, Option, None}
 use Rattle.std.specs.Prelude.{slice_get, option_map, option_and_then}
 use Rattle.std.proofs.lemmas.Bool.{leb-true, ltb-true, ltb-false, eqb-true}
 use Rattle.std.proofs.lemmas.Nat.Bits.{bit_at_above}
@@ -9,7 +9,7 @@ use Rattle.plan_base.specs.DaySets.{contains_day}
 use Rattle.std.proofs.lemmas.Option.{slice_get_within, get_or_from_slice_get}
 use Rattle.service_days.specs.Days.{numbers_of}
 use Rattle.timetable_arcs.specs.declared.trips.Call.{Call}
-use Rattle.timetable_arcs.specs.Trips.{TripLists, IsRunOf, IsRide, arrival_of}
+use Rattle.timetable_arcs.specs.Trips.{TripLists, IsRunOf, arrival_of}
 use Rattle.timetable_arcs.specs.TripRules.{is_early}
 use Rattle.timetable_arcs.proofs.TripLemmas.{IsKeptTrip, trips_kept, trip_well, known_stops, both_true}
 use Rattle.mode_network.specs.NetworkLists.{NetworkLists}

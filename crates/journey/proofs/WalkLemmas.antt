@@ -1,6 +1,6 @@
 -- How far the steps of a journey can be taken, and the word of those that are taken.
-use Rattle.std.proofs.Common.{◌≡◌, ℕ, zero, suc, ◌+◌, ◌*◌, ◌^◌, ◌<◌, ◌≤◌, ◌∙◌, List, [], ◌∷◌, ◌++◌, length, take, drop, Option, Some, None, is_some, not, Bool, true, false, refl, ap, sym, subst, arith}
-use Rattle.std.specs.Prelude.{option_to_list, slice_index_or, slice_get, All, IsTrue, ◌↔◌}
+use Rattle.std.proofs.Common.{◌≡◌, ℕ, zero, suc, ◌+◌, ◌*◌, ◌^◌, ◌<◌, ◌∙◌, List, [], ◌∷◌, ◌++◌, length, take, drop, Option, Some, None, is_some, not, Bool, true, false, refl, ap, sym, subst, arith}
+use Rattle.std.specs.Prelude.{option_to_list, slice_index_or, All, IsTrue, ◌↔◌}
 use Rattle.std.proofs.Math.Seq.{take-length}
 use Rattle.std.proofs.lemmas.List.{take_more}
 use Rattle.std.proofs.lemmas.Option.{slice_get-get_or}

@@ -2,6 +2,7 @@ pub mod Shapes
 pub mod Shown
 pub mod Faults
 pub mod Queries
+pub mod CopyLists
 pub mod Words
 pub mod Ends
 pub mod Rides

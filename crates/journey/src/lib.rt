@@ -3,6 +3,7 @@
 #![tactic(auto)]
 
 pub mod answer;
+mod copy_list;
 mod endpoints;
 pub mod fault;
 mod printing;
@@ -10,14 +11,18 @@ pub mod query;
 pub mod real;
 mod rides;
 mod shape;
-mod step_ends;
+pub mod step_ends;
 mod telling;
 #[cfg(test)]
 mod tests;
 mod texts;
+pub mod verdict;
 
 pub use answer::BlockBody;
+pub use copy_list::copies;
 pub use fault::QueryFault;
 pub use printing::block;
 pub use query::{Query, read_query};
 pub use real::{ends, first_bad, is_real, word};
+pub use step_ends::{StepEnd, step_end};
+pub use verdict::{CertFault, CertVerdict};

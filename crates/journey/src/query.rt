@@ -1,9 +1,12 @@
 //! Queries.
 
-ghost use Rattle.std.specs.Prelude.{◌≡◌, ◌<◌, ◌^◌, ℕ, Option, IfOk, IfErr};
+ghost use Rattle.std.specs.Prelude.{◌≡◌, ◌<◌, ◌^◌, ℕ, Option, IfOk, IfErr, List, true};
+ghost use Rattle.plain_texts.specs.Lines.{IsLine};
+ghost use Rattle.plain_texts.specs.Names.{is_name};
 ghost use Rattle.mode_expression.specs.Form.{form_of, IsUsable};
+ghost use Rattle.mode_network.specs.declared.endpoints.Endpoint.TheVariants.{Stop};
 ghost use Rattle.journey.specs.Shown.{shown};
-ghost use Rattle.journey.specs.Queries.{IsQuery, IsRefusal};
+ghost use Rattle.journey.specs.Queries.{IsKnown, IsQuery, IsRefusal};
 
 use crate::endpoints::lack_of;
 use crate::fault::QueryFault;
@@ -27,12 +30,13 @@ pub struct Query {
 }
 
 /// Reads a query line, or answers its first fault: of its shape, its clock, its date, its origin, its destination,
-/// and then its expression.
+/// and then its expression. A line that is a query has no line feed in it.
 pub fn read_query(alloc: Global, network: &Network, line: &[u8]) -> Result<Query, QueryFault>
     ensures query { IfOk result (λ q. IsQuery network.now line.now q.from q.to q.depart (form_of q.expr)) }
     ensures usable { IfOk result (λ q. IsUsable (form_of q.expr)) }
     ensures soon { IfOk result (λ q. q.depart < 2 ^ 64) }
     ensures line { IfOk result (λ q. q.line ≡ line.now) }
+    ensures plain { IfOk result (λ _. IsLine line.now) }
     ensures fault { IfErr result (IsRefusal network.now line.now) }
 {
     let Some(shape) = read_shape(alloc, line)? else {
@@ -46,6 +50,8 @@ pub fn read_query(alloc: Global, network: &Network, line: &[u8]) -> Result<Query
         return Err(lack.at_destination());
     }
     let expr = parse(alloc, shape.expr)?;
+    is_named(network, &shape.from);
+    is_named(network, &shape.to);
     let line = Bytes::from(Vec::from_slice(alloc, line)?);
     Ok(Query {
         line,
@@ -54,4 +60,22 @@ pub fn read_query(alloc: Global, network: &Network, line: &[u8]) -> Result<Query
         depart,
         expr,
     })
+}
+
+/// The name of a stop that the network has is a name, since that of each of its stops is.
+fn is_named(network: &Network, endpoint: &Endpoint)
+    requires { IsKnown network.now endpoint.now }
+    ensures { (name : List ℕ) → endpoint.now ≡ Stop name → is_name name ≡ true }
+{
+    network.known();
+    let Endpoint::Stop(_) = endpoint else {
+        return;
+    };
+    let Some((first, _)) = network.copies(endpoint) else {
+        return;
+    };
+    let Some(stop) = network.stop_at(first) else {
+        return;
+    };
+    let _name = network.stop_name(stop);
 }

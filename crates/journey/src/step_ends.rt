@@ -9,14 +9,14 @@ use plan_base::Time;
 
 /// Where and when a step ends, and its letter, if it has one.
 #[derive(Clone, Copy, Debug, PartialEq, Eq)]
-pub(crate) struct StepEnd {
+pub struct StepEnd {
     pub node: u32,
     pub at: Time,
     pub letter: Option<u8>,
 }
 
 /// The end of a step that is taken from `v` at `t`; None exactly where the network has no such step.
-pub(crate) fn step_end(network: &Network, v: u32, t: Time, step: Step) -> Option<StepEnd>
+pub fn step_end(network: &Network, v: u32, t: Time, step: Step) -> Option<StepEnd>
     requires { t < 2 ^ 127 }
     ensures { IsStepEnd network.now v t step result }
 {

@@ -1,5 +1,5 @@
 pub mod PlanLemmas
-pub mod CopyLemmas
+pub mod AnyTable
 pub mod BlockLemmas
 pub mod WriteLemmas
 pub mod OutcomeLemmas

@@ -23,8 +23,9 @@ use Rattle.journey.specs.Ends.{HasTime}
 use Rattle.journey.specs.Blocks.{IsPrintable}
 use Rattle.unpack.specs.Unpacking.{IsNoWait, end_of, arrival_of, letters_of}
 use Rattle.unpack.proofs.UnpackLemmas.{hops_end, hops_letters, plain_hops}
-use Rattle.planner_core.specs.Plans.{AreTheCopies, IsPlan, IsPlainWalk, IsUnpacked}
-use Rattle.planner_core.proofs.CopyLemmas.{copy_in_range}
+use Rattle.journey.specs.CopyLists.{AreTheCopies}
+use Rattle.planner_core.specs.Plans.{IsPlan, IsPlainWalk, IsUnpacked}
+use Rattle.journey.proofs.CopyLemmas.{copy_in_range}
 
 module _ (n : NetworkLists) (network : IsNetwork n) (table : TableLists) (q : Asked) (l : LabelsMeaning) (starts targets : List ℕ)
     (denotes : (word : List ℕ) → Accepts l word ↔ IsWordOf q.form word) (collapses : AcceptsCollapsed l)
@@ -39,8 +40,8 @@ module _ (n : NetworkLists) (network : IsNetwork n) (table : TableLists) (q : As
         start = k.start;
         end = a.end;
         steps = wait k.at ∷ walk.walk;
-        starts_there = (from k.start).1 a.starts_at_copy;
-        ends_there = (to a.end).1 a.ends_at_copy;
+        starts_there = (from.are k.start).1 a.starts_at_copy;
+        ends_there = (to.are a.end).1 a.ends_at_copy;
         walk = (a.not_before, walk.leads);
         word = subst (Accepts (collapsed l)) (sym walk.word) accepted;
       }
@@ -66,7 +67,7 @@ module _ (n : NetworkLists) (network : IsNetwork n) (table : TableLists) (q : As
       let reads = reads_of_hops (plain_meaning n table) (collapsed l) w.hops.items w.node w.state w.at is.end is.final a is.hops in
       let accepted : Accepts (collapsed l) (letters_of n table w.node w.hops.items) =
       subst (Accepts (collapsed l)) (sym letters) (w.state, is.final, is.is_state, is.is_start, reads, is.accepts) in
-      let copy = subst (IsCopy n q.from) (sym start) ((from w.node).0 is.starts_there) in
+      let copy = subst (IsCopy n q.from) (sym start) ((from.are w.node).0 is.starts_there) in
       let leaves = at ∙ is.leaves in (
         record {
           arrival = a;
@@ -81,7 +82,7 @@ module _ (n : NetworkLists) (network : IsNetwork n) (table : TableLists) (q : As
                   (subst (λ y. AreSteps n j.start j.at j.steps (end_of w.node w.hops.items) y (letters_of n table w.node w.hops.items)) ends.1 real);
               word_is = refl;
             };
-            ends_at_copy = (to is.end).0 is.ends_there;
+            ends_at_copy = (to.are is.end).0 is.ends_there;
             denoted = (denotes (collapse (letters_of n table w.node w.hops.items))).0 ((collapses (letters_of n table w.node w.hops.items)).0 accepted);
           };
           least = λ k t answers. least.least t (arrives k t answers);

@@ -20,6 +20,7 @@ use Rattle.mode_network.specs.Journeys.{Route, AreSteps}
 use Rattle.mode_network.specs.Copies.{IsCopy}
 use Rattle.journey.specs.declared.query.Query.{Query}
 use Rattle.journey.specs.Queries.{IsQuery}
+use Rattle.journey.specs.CopyLists.{AreTheCopies}
 use Rattle.journey.specs.Best.{Asked, IsBest, HasNone}
 use Rattle.journey.specs.Blocks.{IsPrintable}
 
@@ -38,12 +39,14 @@ abbrev pub IsPlan : NetworkLists → Asked → Option Route → Type 0
 IsPlan n q (Some j) = IsBest n q j × IsPrintable n j
 IsPlan n q None = HasNone n q
 
--- the numbers are those of the copies of an endpoint
-abbrev pub AreTheCopies : NetworkLists → Endpoint → List ℕ → Type 0
-AreTheCopies n endpoint list = (v : ℕ) → Contains list v ↔ IsCopy n endpoint v
+-- the labels over the network's graph with this timetable: all product states that are reached before the least arrival, each with
+-- the least time at which it is
+pub record AreLabelsOver (n : NetworkLists) (table : TableLists) (automaton : LabelsMeaning) (starts targets : List ℕ) (depart : ℕ) (arrival : Option ℕ) (labels : List Label) : Type 0 where
+  pub first : IsArrival (plain_meaning n table) (collapsed automaton) starts targets depart None arrival
+  pub least : AreLeastLabels (plain_meaning n table) (collapsed automaton) starts depart None arrival labels
 
--- the labels of the search over the network's graph, with a timetable of the network's trips, and the automaton of the
--- expression: all product states that are reached before the least arrival, each with the least time at which it is
+-- The labels of the search over the network's graph and the automaton of the expression. There is a timetable of the network's trips; and
+-- with each one, however it sorts the runs into patterns, these are the labels.
 pub record AreTheLabels (n : NetworkLists) (q : Query) (labels : List Label) : Type 0 where
   pub table : TableLists
   pub of : IsTimetableOf n table
@@ -55,8 +58,7 @@ pub record AreTheLabels (n : NetworkLists) (q : Query) (labels : List Label) : T
   pub origin : AreTheCopies n q.from starts
   pub destination : AreTheCopies n q.to targets
   pub arrival : Option ℕ
-  pub first : IsArrival (plain_meaning n table) (collapsed automaton) starts targets q.depart None arrival
-  pub least : AreLeastLabels (plain_meaning n table) (collapsed automaton) starts q.depart None arrival labels
+  pub over : (other : TableLists) → IsTimetableOf n other → IsTable other → AreLabelsOver n other automaton starts targets q.depart arrival labels
 
 -- a walk that was found, if there is one, is one of the network's graph
 abbrev pub IsPlainWalk : NetworkLists → TableLists → Option Walk → Type 0

@@ -1,12 +1,11 @@
 //! A best journey for a query.
 
-ghost use Rattle.std.specs.Prelude.{◌≡◌, ◌-◌, ◌≤◌, IfOk, option_map, List, ℕ};
-ghost use Rattle.std.specs.List.{range_with_len};
-ghost use Rattle.planner_core.specs.Plans.{IsRead, IsPlan, AreTheLabels, AreTheCopies, IsPlainWalk, IsUnpacked, asked_by};
+ghost use Rattle.std.specs.Prelude.{IfOk};
+ghost use Rattle.planner_core.specs.Plans.{IsRead, IsPlan, AreTheLabels, IsPlainWalk, IsUnpacked, asked_by};
 
 use automaton::{Collapsed, Positions};
-use journey::Query;
-use mode_network::{Endpoint, Journey, Network};
+use journey::{Query, copies};
+use mode_network::{Journey, Network};
 use plain_graph::Plain;
 use product_search::{Found, Label, Walk, search};
 use std::alloc::{AllocError, Global};
@@ -17,31 +16,6 @@ use unpack::from_plain;
 pub struct Answer {
     pub journey: Option<Journey>,
     pub labels: Vec<Label>,
-}
-
-/// The node numbers of the copies of an endpoint.
-fn copies(alloc: Global, network: &Network, endpoint: &Endpoint) -> Result<Vec<u32>, AllocError>
-    ensures { IfOk result (λ copies. AreTheCopies network.now endpoint.now copies.items) }
-{
-    match network.copies(endpoint) {
-        Some((first, end)) => {
-            let copies = numbers(alloc, first, end)?;
-            Ok(copies)
-        }
-        None => Ok(Vec::new(alloc)),
-    }
-}
-
-/// The numbers from one to before another.
-fn numbers(alloc: Global, first: u32, end: u32) -> Result<Vec<u32>, AllocError>
-    requires { first ≤ end }
-    ensures { IfOk result (λ numbers. numbers.items ≡ range_with_len first (end - first)) }
-{
-    let mut numbers = Vec::new(alloc);
-    for v in first..end {
-        numbers.push(v)?;
-    }
-    Ok(numbers)
 }
 
 /// A best journey for a query, or none exactly where no journey answers it; and exactly the labels of the search.

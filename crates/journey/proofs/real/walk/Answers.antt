@@ -1,4 +1,4 @@
-use Rattle.std.proofs.Common.{◌≡◌, ℕ, ◌+◌, ap, sym, subst}
+use Rattle.std.proofs.Common.{ℕ, ◌+◌, ap, sym, subst}
 use Rattle.std.proofs.lemmas.List.{get_or_default}
 use Rattle.journey.specs.Real.{IsFirstBad}
 use Rattle.journey.proofs.WalkLemmas.{walking_more, walking_ends}

@@ -1,5 +1,5 @@
 use Rattle.std.proofs.Common.{arith}
-use Rattle.journey.proofs.RideLemmas.{AreThere, allowed_there, no_ride}
+use Rattle.journey.proofs.RideLemmas.{allowed_there, no_ride}
 use Rattle.journey.proofs.rides.ride_end.Goals as goal
 
 pub returns-in_err-ride : goal.returns-in_err-ride

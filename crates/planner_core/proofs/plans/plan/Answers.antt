@@ -8,17 +8,16 @@ use Rattle.automaton.specs.Written.{written}
 use Rattle.automaton.specs.States.{IsPositionAutomaton}
 use Rattle.mode_expression.specs.Form.{Denotes, form_of}
 use Rattle.planner_core.specs.Plans.{asked_by}
-use Rattle.planner_core.proofs.CopyLemmas.{copies_in_range}
+use Rattle.plain_graph.proofs.Same.{walks_are_journeys, journeys_are_walks}
 use Rattle.planner_core.proofs.PlanLemmas.{walk_is_plain, planned}
+use Rattle.planner_core.proofs.AnyTable.{labels_over}
 use Rattle.planner_core.proofs.plans.plan.Goals as goal
 
 pub search-requires-clause-starts : goal.search-requires-clause-starts
-search-requires-clause-starts c =
-    rw (c.new-plain.ensures.network, c.deref.ensures.value) (copies_in_range c.args.network.now c.known.ensures c.args.query.now.from c.in_ok-starts.starts.items c.in_ok-starts.ensures)
+search-requires-clause-starts c = rw (c.new-plain.ensures.network, c.deref.ensures.value) c.in_ok-starts.ensures.nodes
 
 pub search-requires-clause-targets : goal.search-requires-clause-targets
-search-requires-clause-targets c =
-    rw (c.new-plain.ensures.network, c.deref-2.ensures.value) (copies_in_range c.args.network.now c.known.ensures c.args.query.now.to c.in_ok-targets.targets.items c.in_ok-targets.ensures)
+search-requires-clause-targets c = rw (c.new-plain.ensures.network, c.deref-2.ensures.value) c.in_ok-targets.ensures.nodes
 
 pub unpacked-requires : goal.unpacked-requires
 unpacked-requires c =
@@ -28,7 +27,7 @@ unpacked-requires c =
     let collapses = subst (λ (p : Positions). AcceptsCollapsed (position_meaning p)) same c.new-automaton.ensures.accepts in
     let walk = rw (c.new-plain.ensures.network, c.deref.ensures.value, c.deref-2.ensures.value) at c.in_ok-found.ensures.walk in
     rw c.new-plain.ensures.network (walk_is_plain c.args.network.now c.known.ensures c.new-plain.result.timetable.now (asked_by c.args.query.now) (position_meaning automaton)
-    c.in_ok-starts.starts.items c.in_ok-targets.targets.items denotes collapses c.new-plain.ensures.journeys c.in_ok-starts.ensures c.in_ok-targets.ensures _ _ walk)
+    c.in_ok-starts.starts.items c.in_ok-targets.targets.items denotes collapses c.new-plain.ensures.journeys c.in_ok-starts.ensures.are c.in_ok-targets.ensures.are _ _ walk)
 
 pub returns : goal.returns
 returns c =
@@ -41,7 +40,7 @@ returns c =
     let unpacked = rw c.new-plain.ensures.network at c.in_ok-journey.ensures in
     record {
       journey = planned c.args.network.now c.known.ensures c.new-plain.result.timetable.now (asked_by c.args.query.now) (position_meaning automaton)
-          c.in_ok-starts.starts.items c.in_ok-targets.targets.items denotes collapses c.new-plain.ensures.journeys c.in_ok-starts.ensures c.in_ok-targets.ensures
+          c.in_ok-starts.starts.items c.in_ok-targets.targets.items denotes collapses c.new-plain.ensures.journeys c.in_ok-starts.ensures.are c.in_ok-targets.ensures.are
           _ _ _ arrival walk c.requires.soon unpacked;
       labels = record {
         table = c.new-plain.result.timetable.now;
@@ -51,10 +50,12 @@ returns c =
         positions = subst (λ (p : Positions). IsPositionAutomaton (written (form_of c.args.query.now.expr)) (position_meaning p)) same c.in_ok-of.ensures.states;
         starts = c.in_ok-starts.starts.items;
         targets = c.in_ok-targets.targets.items;
-        origin = c.in_ok-starts.ensures;
-        destination = c.in_ok-targets.ensures;
+        origin = c.in_ok-starts.ensures.are;
+        destination = c.in_ok-targets.ensures.are;
         arrival = _;
-        first = arrival;
-        least = rw (c.new-plain.ensures.network, c.deref.ensures.value) at c.in_ok-found.ensures.labels;
+        over = λ other of keeps. labels_over c.args.network.now c.new-plain.result.timetable.now other c.new-plain.ensures.walks c.new-plain.ensures.journeys
+            (walks_are_journeys c.args.network.now c.known.ensures other keeps of) (journeys_are_walks c.args.network.now c.known.ensures other keeps of)
+            (position_meaning automaton) c.in_ok-starts.starts.items c.in_ok-targets.targets.items c.args.query.now.depart _ _
+            (record { first = arrival; least = rw (c.new-plain.ensures.network, c.deref.ensures.value) at c.in_ok-found.ensures.labels });
       };
     }

@@ -1,6 +1,6 @@
 -- The copies of an endpoint are nodes, and stand in a row.
 use Rattle.std.proofs.Common.{◌≡◌, ℕ, ℤ, zero, suc, ◌∷◌, ◌+◌, ◌-◌, ◌<◌, ◌∙◌, List, [], ◌++◌, length, length-append, Option, Some, None, refl, ap, arith}
-use Rattle.std.specs.Prelude.{All, Contains, slice_index_or, slice_get, option_map, ◌↔◌}
+use Rattle.std.specs.Prelude.{All, AllPairs, Contains, slice_index_or, slice_get, option_map, ◌↔◌}
 use Rattle.std.specs.List.{range_with_len}
 use Rattle.std.proofs.Math.Nat.{lt_of_lt_of_le}
 use Rattle.std.proofs.lemmas.List.{get_or_default}
@@ -14,7 +14,7 @@ use Rattle.mode_network.specs.NetworkLists.{NetworkLists, nodes_of}
 use Rattle.mode_network.specs.Rules.{IsNetwork}
 use Rattle.mode_network.specs.Copies.{IsRoadCopy, IsCopy, AreExactly}
 use Rattle.mode_network.proofs.RuleLemmas.{nodes_hold_roads}
-use Rattle.planner_core.specs.Plans.{AreTheCopies}
+use Rattle.journey.specs.CopyLists.{AreTheCopies}
 
 module _ (n : NetworkLists) (network : IsNetwork n) where
   road_in_range : (id : ℤ) (v : ℕ) → IsRoadCopy n.roads id v → v < length (nodes_of n)
@@ -32,8 +32,8 @@ module _ (n : NetworkLists) (network : IsNetwork n) where
   copy_in_range (Near place) v near = road_in_range near.id v near.copy
 
   pub copies_in_range : (endpoint : Endpoint) (list : List ℕ) → AreTheCopies n endpoint list → All (λ v. v < length (nodes_of n)) list
-  copies_in_range endpoint list are k d h =
-      copy_in_range endpoint (slice_index_or list k d) ((are (slice_index_or list k d)).0 (k, h, get_or_default list k (slice_index_or list k d) d h))
+  copies_in_range endpoint list copies k d h =
+      copy_in_range endpoint (slice_index_or list k d) ((copies.are (slice_index_or list k d)).0 (k, h, get_or_default list k (slice_index_or list k d) d h))
 
 -- the numbers from one to before another
 pub in_a_row : (P : ℕ → Type 0) (range : ℕ × ℕ) → AreExactly P (Some range) → (v : ℕ) → Contains (range_with_len range.0 (range.1 - range.0)) v ↔ P v
@@ -63,3 +63,14 @@ range_more (suc n) a =
     let same : (a + 1) + n ≡ a + suc n = omega arith in
     let more : suc n + 1 ≡ suc (n + 1) = omega arith in
     rw more (ap (λ (l : List ℕ). a ∷ l) (range_more n (a + 1) ∙ ap (λ b. range_with_len (a + 1) n ++ b ∷ []) same))
+
+-- the numbers in a row ascend
+pub range_ascends : (a n : ℕ) → AllPairs (λ v w. v < w) (range_with_len a n)
+range_ascends a n i j d lt within =
+    let inside : j < n = omega (arith, within, length-range_with_len a n) in
+    let at_i = get_or-range_with_len a n i d (omega arith) in
+    let at_j = get_or-range_with_len a n j d inside in
+    omega (arith, at_i, at_j)
+
+pub none_ascend : AllPairs (λ (v w : ℕ). v < w) []
+none_ascend i j d lt within = absurd (omega arith)

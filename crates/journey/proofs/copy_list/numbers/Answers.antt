@@ -1,7 +1,7 @@
 use Rattle.std.proofs.Common.{◌≡◌, ◌∙◌, ℕ, ◌+◌, ◌-◌, List, [], ◌∷◌, ◌++◌, ap, sym, arith}
 use Rattle.std.specs.List.{range_with_len}
-use Rattle.planner_core.proofs.CopyLemmas.{range_more}
-use Rattle.planner_core.proofs.plans.numbers.Goals as goal
+use Rattle.journey.proofs.CopyLemmas.{range_more}
+use Rattle.journey.proofs.copy_list.numbers.Goals as goal
 
 pub loop-v-preserved : goal.loop-v-preserved
 loop-v-preserved c =

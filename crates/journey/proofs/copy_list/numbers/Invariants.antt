@@ -1,6 +1,6 @@
 use Rattle.std.proofs.Common.{◌≡◌, ◌-◌}
 use Rattle.std.specs.List.{range_with_len}
-use Rattle.planner_core.proofs.plans.numbers.Given as goal
+use Rattle.journey.proofs.copy_list.numbers.Given as goal
 
 abbrev pub invariant-loop-v : goal.invariant-loop-v
 invariant-loop-v l = l.numbers.items ≡ range_with_len l.first (l.v - l.first)
