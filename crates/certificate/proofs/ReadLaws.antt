@@ -1,0 +1,164 @@
+-- What the bytes of a certificate spell: the laws of the whole.
+use Rattle.std.proofs.Common.{◌≡◌, ℕ, List, [], ◌∷◌, ◌++◌, map, refl, ap, sym, ◌∙◌, subst, Bool, true, false, cond}
+use Rattle.std.specs.Prelude.{Option, Some, None, Result, Ok, Err, All, fold, codes, IfOk, IfErr}
+use Rattle.std.specs.List.{AllByRecursion, slice_split, onto_first}
+use Rattle.std.proofs.lemmas.List.Elements.{All-nil, All-cons, All-append, All-drop}
+use Rattle.plain_texts.specs.Lines.{IsLine, is_feed, pieces, spaced}
+use Rattle.plain_texts.specs.Course.{Course, whole, bad, trailing, lines_from, CannotStand, IsFirstBad}
+use Rattle.plain_texts.proofs.Pieces.{pieces_lines, text_of_lines}
+use Rattle.plain_texts.proofs.Spaced.{spaced_is_line}
+use Rattle.plain_texts.proofs.Course.{course_takes, course_bad, course_trailing, course_again}
+use Rattle.mode_network.specs.declared.steps.Step.{Step}
+use Rattle.mode_network.specs.declared.steps.Step.TheVariants.{Wait, Road, Link, Stand, Ride}
+use Rattle.mode_network.specs.Journeys.{Route}
+use Rattle.journey.specs.Ends.{HasTime}
+use Rattle.journey.specs.declared.verdict.CertFault.{CertFault}
+use Rattle.journey.specs.declared.verdict.CertFault.TheVariants.{BadLine, OutOfMemory}
+use Rattle.product_search.specs.declared.label.Label.{Label}
+use Rattle.certificate.specs.declared.lines.Line.{Line}
+use Rattle.certificate.specs.declared.lines.Line.TheVariants as line
+use Rattle.certificate.specs.declared.due.Due.{Due}
+use Rattle.certificate.specs.declared.due.Due.TheVariants as due
+use Rattle.certificate.specs.Certificates.{Claim}
+use Rattle.certificate.specs.Lines.{FitsLine, FitsStep, HasLabelTime, spelled}
+use Rattle.certificate.specs.Sections.{due_behind, is_last, line_at}
+use Rattle.certificate.specs.Texts.{FitsCertificate, FitsResult, IsCertText, cert_lines, cert_text, label_lines, result_lines}
+use Rattle.certificate.specs.Reading.{Gives, HasCause, cert_of, nothing, put, put_all}
+use Rattle.certificate.proofs.FitLemmas.{both_parts, of_both}
+use Rattle.certificate.proofs.KindLaws.{IsInWords, words_are_words}
+use Rattle.certificate.proofs.SectionLaws.{reads_lines, stops}
+use Rattle.certificate.proofs.Again.{made_again, runs_to_end}
+use Rattle.certificate.proofs.Found.{cert_is}
+
+same_Ok : {A E : Type 0} (x y : A) → ◌≡◌ {A = Result A E} (Ok x) (Ok y) → x ≡ y
+same_Ok x y e = cc
+
+same_Err : {A E : Type 0} (x y : E) → ◌≡◌ {A = Result A E} (Err x) (Err y) → x ≡ y
+same_Err x y e = cc
+
+-- No piece of a text has a line feed in it.
+pieces_are_lines : (text : List ℕ) → AllByRecursion IsLine (pieces text)
+unfolding pieces
+pieces_are_lines [] = (All-nil (λ b. is_feed b ≡ false), tt)
+pieces_are_lines (b ∷ bs) = by_test (is_feed b) refl (slice_split is_feed bs) (pieces_are_lines bs)
+  where
+    by_test : (t : Bool) → is_feed b ≡ t → (parts : List (List ℕ)) → AllByRecursion IsLine parts → AllByRecursion IsLine (cond t ([] ∷ parts) (onto_first b parts))
+    by_test true is parts h = (All-nil (λ b. is_feed b ≡ false), h)
+    by_test false is [] h = (All-cons (λ b. is_feed b ≡ false) b [] is (All-nil (λ b. is_feed b ≡ false)), tt)
+    by_test false is (part ∷ parts) h = (All-cons (λ b. is_feed b ≡ false) b part is h.0, h.1)
+
+query_is_line : (bytes : List ℕ) → IsLine (spelled (line.Query bytes)) → IsLine bytes
+unfolding spaced
+query_is_line bytes h = All-drop (λ b. is_feed b ≡ false) 6 (codes "query " ++ bytes) h
+
+-- What the lines say fits the format.
+step_has_time : (step : Step) → FitsStep step → HasTime step
+step_has_time (Wait until) h = h
+step_has_time (Road to) h = tt
+step_has_time (Link to) h = tt
+step_has_time Stand h = tt
+step_has_time (Ride trip day board alight) h = tt
+
+steps_have_times : (steps : List Step) → AllByRecursion FitsLine (map line.Step steps) → All HasTime steps
+steps_have_times [] h = All-nil HasTime
+steps_have_times (step ∷ steps) h = All-cons HasTime step steps (step_has_time step h.0) (steps_have_times steps h.1)
+
+labels_have_times : (labels : List Label) → AllByRecursion FitsLine (map line.Label labels) → All HasLabelTime labels
+labels_have_times [] h = All-nil HasLabelTime
+labels_have_times (label ∷ labels) h = All-cons HasLabelTime label labels h.0.at (labels_have_times labels h.1)
+
+result_fits : (result : Option (ℕ × Route)) → AllByRecursion FitsLine (result_lines result) → FitsResult result
+result_fits None h = tt
+result_fits (Some answer) h = (h.0, record { at = h.1.0.1; waits = steps_have_times answer.1.steps h.1.1 })
+
+fits : (c : Claim) → AllByRecursion FitsLine (cert_lines c) → IsLine c.line → FitsCertificate c
+fits c h query =
+    let parts = both_parts FitsLine (result_lines c.result) (label_lines c.labels) h.1.1.1 in
+    let labels = both_parts FitsLine (map line.Label c.labels) (line.End ∷ []) parts.1.1 in
+    record { line = query; result = result_fits c.result parts.0; labels = labels_have_times c.labels labels.0 }
+
+-- What is read is spelled so.
+found : (bytes : List ℕ) (c : Claim) → cert_of bytes ≡ Ok c → IsCertText bytes c
+unfolding cert_of cert_text
+found bytes c e = by_course (lines_from line_at is_last due.Head 1 (pieces bytes)) refl e
+  where
+    by_course : (course : Course Line) → lines_from line_at is_last due.Head 1 (pieces bytes) ≡ course → put_all nothing course ≡ Ok c → IsCertText bytes c
+    by_course (whole ls) is e =
+        let h = course_takes spelled FitsLine due_behind is_last line_at reads_lines (pieces bytes) due.Head 1 ls is in
+        let cert = cert_is ls h.place h.runs h.last in
+        let made : cert.0 ≡ c = sym (made_again cert.0) ∙ ap (fold put nothing) (sym cert.1) ∙ same_Ok (fold put nothing ls) c e in
+        let lines : ls ≡ cert_lines c = cert.1 ∙ ap cert_lines made in
+        let are : pieces bytes ≡ map spelled (cert_lines c) ++ [] ∷ [] = h.are ∙ ap (λ x. map spelled x ++ [] ∷ []) lines in
+        let each = subst (λ ps. AllByRecursion IsLine ps) are (pieces_are_lines bytes) in
+        let all = subst (λ x. AllByRecursion FitsLine x) lines h.fits in
+        record { fits = fits c all (query_is_line c.line each.1.0); lines = all; spelled = text_of_lines bytes (map spelled (cert_lines c)) are }
+    by_course (bad k) is e = absurd (cc)
+    by_course (trailing k) is e = absurd (cc)
+
+-- all lines but the query line are words
+mapped_in_words : {X : Type 0} (f : X → Line) → ((x : X) → IsInWords (f x)) → (xs : List X) → AllByRecursion IsInWords (map f xs)
+mapped_in_words f h [] = tt
+mapped_in_words f h (x ∷ xs) = (h x, mapped_in_words f h xs)
+
+result_in_words : (result : Option (ℕ × Route)) → AllByRecursion IsInWords (result_lines result)
+result_in_words None = (tt, tt)
+result_in_words (Some answer) = (tt, (tt, mapped_in_words line.Step (λ step. tt) answer.1.steps))
+
+each_is_line : (ls : List Line) → AllByRecursion IsInWords ls → AllByRecursion FitsLine ls → AllByRecursion IsLine (map spelled ls)
+each_is_line [] in_words h = tt
+each_is_line (l ∷ ls) in_words h = (spaced_is_line _ (words_are_words l in_words.0 h.0), each_is_line ls in_words.1 h.1)
+
+query_line : (bytes : List ℕ) → IsLine bytes → IsLine (spelled (line.Query bytes))
+unfolding spaced pieces
+query_line bytes h = All-append (λ b. is_feed b ≡ false) (codes "query ") bytes (pieces_are_lines (codes "query ")).0 h
+
+all_lines : (c : Claim) → IsLine c.line → AllByRecursion FitsLine (cert_lines c) → AllByRecursion IsLine (map spelled (cert_lines c))
+all_lines c query h =
+    let in_words = of_both IsInWords (result_lines c.result) (label_lines c.labels) (result_in_words c.result) (tt, of_both IsInWords (map line.Label c.labels) (line.End ∷ []) (mapped_in_words line.Label (λ label. tt) c.labels) (tt, tt)) in
+    (spaced_is_line _ (words_are_words line.Head tt tt), (query_line c.line query, (spaced_is_line _ (words_are_words (line.Graph c.phases) tt tt), each_is_line (result_lines c.result ++ label_lines c.labels) in_words h.1.1.1)))
+
+-- What is spelled so is read.
+again : (bytes : List ℕ) (c : Claim) → IsCertText bytes c → cert_of bytes ≡ Ok c
+unfolding cert_of cert_text
+again bytes c h =
+    ap (λ x. put_all nothing (lines_from line_at is_last due.Head 1 (pieces x))) h.spelled
+    ∙ ap (λ x. put_all nothing (lines_from line_at is_last due.Head 1 x)) (pieces_lines (map spelled (cert_lines c)) (all_lines c h.fits.line h.lines))
+    ∙ ap (put_all nothing) (course_again spelled FitsLine due_behind is_last line_at reads_lines (cert_lines c) due.Head due.Nothing 1 refl (runs_to_end c) refl h.lines)
+    ∙ ap Ok (made_again c)
+
+-- No line may stand behind the end.
+cannot : (place : Due) (ps : List (List ℕ)) → is_last place ≡ true → CannotStand spelled FitsLine due_behind place ps
+cannot place [] last = tt
+cannot place (piece ∷ []) last = tt
+cannot place (piece ∷ next ∷ more) last = λ l fits spelled. stops place l last
+
+-- The line that is named is the first that may not stand.
+first_bad : (bytes : List ℕ) (k : ℕ) → cert_of bytes ≡ Err (BadLine k) → IsFirstBad spelled FitsLine due_behind due.Head 1 (pieces bytes) k
+unfolding cert_of
+first_bad bytes k e = by_course (lines_from line_at is_last due.Head 1 (pieces bytes)) refl e
+  where
+    by_course : (course : Course Line) → lines_from line_at is_last due.Head 1 (pieces bytes) ≡ course → put_all nothing course ≡ Err (BadLine k) → IsFirstBad spelled FitsLine due_behind due.Head 1 (pieces bytes) k
+    by_course (whole ls) is e = absurd (cc)
+    by_course (bad n) is e =
+        let same : n ≡ k = cc e in
+        subst (λ m. IsFirstBad spelled FitsLine due_behind due.Head 1 (pieces bytes) m) same (course_bad spelled FitsLine due_behind is_last line_at reads_lines (pieces bytes) due.Head 1 n is)
+    by_course (trailing n) is e =
+        let same : n ≡ k = cc e in
+        let h = course_trailing spelled FitsLine due_behind is_last line_at reads_lines (pieces bytes) due.Head 1 n is in
+        record { lines = h.lines; place = h.place; rest = h.rest; runs = h.runs; fits = h.fits; are = h.are; number = sym same ∙ h.number; no_line = cannot h.place h.rest h.last }
+
+-- The clauses of read, from what it gives.
+pub gives_found : (bytes : List ℕ) (r : Result Claim CertFault) → Gives r (cert_of bytes) → IfOk r (IsCertText bytes)
+gives_found bytes (Ok c) e = found bytes c e
+gives_found bytes (Err fault) e = tt
+
+pub gives_only : (bytes : List ℕ) (r : Result Claim CertFault) → Gives r (cert_of bytes) → (c : Claim) → IsCertText bytes c → Gives r (Ok c)
+gives_only bytes r e c h = subst (λ x. Gives r x) (again bytes c h) e
+
+pub gives_cause : (bytes : List ℕ) (r : Result Claim CertFault) → Gives r (cert_of bytes) → IfErr r (HasCause bytes)
+gives_cause bytes (Ok c) e = tt
+gives_cause bytes (Err (BadLine k)) e = (first_bad bytes k e, λ c h. differ c (sym (again bytes c h) ∙ e))
+  where
+    differ : (c : Claim) → ◌≡◌ {A = Result Claim CertFault} (Ok c) (Err (BadLine k)) → ⊥
+    differ c e = cc
+gives_cause bytes (Err OutOfMemory) e = tt

@@ -1,0 +1,58 @@
+-- Sets of states, state by state and letter by letter.
+use Rattle.std.proofs.Common.{◌≡◌, ℕ, ◌^◌, ◌<◌, inl, inr, Bool, false, List, [], ◌∷◌, ◌++◌, length, get_or, refl, sym, subst, arith}
+use Rattle.std.specs.Prelude.{IsBitSet, ◌↔◌}
+use Rattle.std.proofs.lemmas.Bool.{cases_lt}
+use Rattle.std.proofs.lemmas.List.{get_or_past}
+use Rattle.std.proofs.lemmas.Nat.Bits.{bit_at_above}
+use Rattle.search_laws.specs.LabelLaws.{LabelsMeaning, HasMove, Reads}
+use Rattle.search_laws.proofs.WalkLemmas.{reads_more}
+use Rattle.automaton.specs.CollapsedLaws.{set_bit}
+use Rattle.certificate.specs.declared.state_sets.StateSets.{StateSets}
+use Rattle.certificate.specs.StateSets.{IsIn, HasMoveFrom, IsReadTo, AreAfter}
+
+-- ---- sets
+
+pub in_range : (s : List Bool) (q : ℕ) → IsIn s q → q < length s
+in_range s q is = elim (cases_lt q (length s)) [
+  | inl lt ↦ lt
+  | inr ge ↦ (let none : get_or s q false ≡ false = get_or_past s q false ge in cc)
+]
+
+-- ---- letters
+
+pub low_letter : (n c : ℕ) → n < 2 ^ 14 → IsBitSet n c → c < 14
+low_letter n c lt is = elim (cases_lt c 14) [
+  | inl low ↦ low
+  | inr high ↦ (let one = set_bit n c is in let none = bit_at_above n 14 c lt high in cc)
+]
+
+module _ (l : LabelsMeaning) where
+  -- the last letter of a word is read by a move
+  reads_last : (word : List ℕ) (c q r : ℕ) → Reads l q (word ++ c ∷ []) r → (p : ℕ) × Reads l q word p × HasMove l p c r
+  reads_last [] c q r (p, move, is) = (q, refl, subst (λ x. HasMove l q c x) (sym is) move)
+  reads_last (d ∷ word) c q r (p, move, reads) =
+      let (m, before, last) = reads_last word c p r reads in
+      (m, (p, move, before), last)
+
+  read_more : (letters : List ℕ) (c p r : ℕ) → IsReadTo l letters p → HasMove l p c r → IsReadTo l (letters ++ c ∷ []) r
+  read_more letters c p r read move = record {
+    first = read.first;
+    is_state = read.is_state;
+    is_start = read.is_start;
+    reads = reads_more l letters (c ∷ []) read.first p r read.reads (r, move, refl);
+  }
+
+  -- one letter more
+  pub after_more : (letters : List ℕ) (c : ℕ) (old new : StateSets) → AreAfter l letters old → length new.reached.items ≡ l.states → length new.next.items ≡ l.states
+      → ((r : ℕ) → IsIn new.reached.items r ↔ HasMoveFrom l l.states old.reached.items c r) → AreAfter l (letters ++ c ∷ []) new
+  after_more letters c old new after size room followed = record { size = size; room = room; are = λ r. (there r, back r) } where
+    there : (r : ℕ) → IsIn new.reached.items r → IsReadTo l (letters ++ c ∷ []) r
+    there r is =
+        let (q, below, held, move) = (followed r).0 is in
+        read_more letters c q r ((after.are q).0 held) move
+
+    back : (r : ℕ) → IsReadTo l (letters ++ c ∷ []) r → IsIn new.reached.items r
+    back r read =
+        let (p, before, move) = reads_last letters c read.first r read.reads in
+        let held = (after.are p).1 (record { first = read.first; is_state = read.is_state; is_start = read.is_start; reads = before }) in
+        (followed r).1 (p, omega (arith, in_range old.reached.items p held, after.size), held, move)

@@ -1,0 +1,10 @@
+use Rattle.std.proofs.Common.{arith}
+use Rattle.std.proofs.lemmas.Bool.Decides.{nat_tests}
+use Rattle.certificate.proofs.StateLemmas.{low_letter}
+use Rattle.certificate.proofs.state_sets.has_letter.Goals as goal
+
+pub returns-else-letter-lt14 : goal.returns-else-letter-lt14
+returns-else-letter-lt14 c = (
+  λ low none. grind (arith, nat_tests),
+  λ is. absurd (omega (arith, low_letter c.args.step.letters c.args.letter c.requires is)),
+)

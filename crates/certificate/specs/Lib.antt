@@ -1,0 +1,10 @@
+pub mod Certificates
+pub mod Lines
+pub mod Kinds
+pub mod Sections
+pub mod Texts
+pub mod Reading
+pub mod Valid
+pub mod Verdicts
+pub mod StateSets
+pub mod Walked

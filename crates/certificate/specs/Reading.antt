@@ -1,0 +1,60 @@
+-- What the lines of a certificate text make, and what is wrong with bytes that are no certificate.
+use Rattle.std.specs.Prelude.{◌≡◌, ℕ, List, [], ◌∷◌, ◌++◌, Some, None, option_map, Result, Ok, Err, fold, false}
+use Rattle.plain_texts.specs.Lines.{pieces}
+use Rattle.plain_texts.specs.Course.{Course, whole, bad, trailing, lines_from, IsFirstBad}
+use Rattle.mode_network.specs.declared.steps.Step.{Step}
+use Rattle.mode_network.specs.Journeys.{Route}
+use Rattle.journey.specs.declared.verdict.CertFault.{CertFault}
+use Rattle.journey.specs.declared.verdict.CertFault.TheVariants.{BadLine, OutOfMemory}
+use Rattle.certificate.specs.declared.lines.Line.{Line}
+use Rattle.certificate.specs.declared.lines.Line.TheVariants as line
+use Rattle.certificate.specs.declared.due.Due.TheVariants as due
+use Rattle.certificate.specs.Certificates.{Claim}
+use Rattle.certificate.specs.Lines.{FitsLine, spelled}
+use Rattle.certificate.specs.Sections.{due_behind, is_last, line_at}
+use Rattle.certificate.specs.Texts.{IsCertText}
+
+-- no line yet
+abbrev pub nothing : Claim
+nothing = record { line = []; phases = false; result = None; labels = [] }
+
+-- the journey with another start, and with one step more
+abbrev pub started : ℕ → ℕ → ℕ × Route → ℕ × Route
+started node at answer = (answer.0, record { start = node; at = at; steps = answer.1.steps })
+
+abbrev pub with_step : Step → ℕ × Route → ℕ × Route
+with_step step answer = (answer.0, record { start = answer.1.start; at = answer.1.at; steps = answer.1.steps ++ step ∷ [] })
+
+-- the certificate with one line more
+abbrev pub put : Claim → Line → Claim
+put c line.Head = c
+put c (line.Query bytes) = record c { line = bytes }
+put c (line.Graph phases) = record c { phases = phases }
+put c (line.Arrive at) = record c { result = Some (at, record { start = 0; at = 0; steps = [] }) }
+put c line.Nothing = record c { result = None }
+put c (line.Start node at) = record c { result = option_map (started node at) c.result }
+put c (line.Step step) = record c { result = option_map (with_step step) c.result }
+put c (line.Labels count) = c
+put c (line.Label label) = record c { labels = c.labels ++ label ∷ [] }
+put c line.End = c
+
+-- the certificate of all lines of a course, or its fault
+abbrev pub put_all : Claim → Course Line → Result Claim CertFault
+put_all c (whole lines) = Ok (fold put c lines)
+put_all c (bad at) = Err (BadLine at)
+put_all c (trailing at) = Err (BadLine at)
+
+-- what bytes spell: a certificate, or the first line that may not stand where it does
+unfoldable pub cert_of : List ℕ → Result Claim CertFault
+cert_of bytes = put_all nothing (lines_from line_at is_last due.Head 1 (pieces bytes))
+
+-- What a function returned is what is defined, unless memory ran out.
+abbrev pub Gives : Result Claim CertFault → Result Claim CertFault → Type 0
+Gives (Ok c) defined = defined ≡ Ok c
+Gives (Err OutOfMemory) defined = Unit {0}
+Gives (Err (BadLine at)) defined = defined ≡ Err (BadLine at)
+
+-- Why bytes are refused: this line is the first that may not stand where it does, and no certificate is spelled so. That memory ran out has no cause.
+abbrev pub HasCause : List ℕ → CertFault → Type 0
+HasCause bytes (BadLine at) = IsFirstBad spelled FitsLine due_behind due.Head 1 (pieces bytes) at × ((c : Claim) → IsCertText bytes c → ⊥)
+HasCause bytes OutOfMemory = Unit {0}

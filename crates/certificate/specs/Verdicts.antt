@@ -1,0 +1,131 @@
+-- The first clause of a certificate that fails, at the first place where it does.
+use Rattle.std.specs.Prelude.{◌≡◌, ℕ, ◌≤◌, ◌↔◌, ◌⊎◌, true, false, List, Option, Some, None}
+use Rattle.mode_expression.specs.Form.{Form, form_of, IsWordOf}
+use Rattle.search_laws.specs.LabelLaws.{LabelsMeaning, Accepts}
+use Rattle.search_laws.specs.Collapse.{collapse}
+use Rattle.product_search.specs.declared.label.Label.{Label}
+use Rattle.product_search.specs.declared.verdict.LabelVerdict.{LabelVerdict}
+use Rattle.product_search.specs.declared.verdict.LabelVerdict.TheVariants.{Closed, Open}
+use Rattle.product_search.specs.Closed.{IsVerdict}
+use Rattle.automaton.specs.Collapsed.{collapsed}
+use Rattle.plain_graph.specs.PlainArcs.{plain_meaning}
+use Rattle.mode_network.specs.NetworkLists.{NetworkLists}
+use Rattle.mode_network.specs.Journeys.{Route, IsJourney}
+use Rattle.mode_network.specs.Copies.{IsCopy}
+use Rattle.journey.specs.declared.fault.QueryFault.{QueryFault}
+use Rattle.journey.specs.declared.query.Query.{Query}
+use Rattle.journey.specs.declared.verdict.CertVerdict.{CertVerdict}
+use Rattle.journey.specs.declared.verdict.CertVerdict.TheVariants.{Valid, Invalid}
+use Rattle.journey.specs.Faults.{number_of}
+use Rattle.journey.specs.Queries.{IsRefused}
+use Rattle.journey.specs.Real.{IsFirstBad}
+use Rattle.journey.specs.Best.{Asked, Asks, Answers}
+use Rattle.certificate.specs.Certificates.{Claim}
+use Rattle.certificate.specs.Valid.{Setting, ResultHolds, claimed_arrival, IsValid}
+
+-- what a query asks
+abbrev pub asked_by : Query → Asked
+asked_by q = record { from = q.from; to = q.to; depart = q.depart; form = form_of q.expr }
+
+-- what is claimed of a query, by labels of the network's own nodes
+abbrev pub claim_on : Query → Option (ℕ × Route) → List Label → Claim
+claim_on q result labels = record { line = q.line; phases = false; result = result; labels = labels }
+
+-- the automaton accepts exactly the words whose collapse the form denotes
+abbrev pub AreDenoted : Form → LabelsMeaning → Type 0
+AreDenoted form l = (word : List ℕ) → Accepts l word ↔ IsWordOf form (collapse word)
+
+-- ---- clause 1: the line is refused, with the fault of this number
+
+pub record LineFails (n : NetworkLists) (c : Claim) (clause at : ℕ) : Type 0 where
+  pub clause_is : clause ≡ 1
+  pub fault : QueryFault
+  pub refused : IsRefused n c.line fault
+  pub number : number_of fault ≡ Some at
+
+-- ---- clause 2: the line is a query, and the labels are of phases
+
+pub record PhasesFail (n : NetworkLists) (c : Claim) (clause at : ℕ) : Type 0 where
+  pub clause_is : clause ≡ 2
+  pub place : at ≡ 0
+  pub asked : Asked
+  pub asks : Asks n c.line asked
+  pub phases : c.phases ≡ true
+
+-- ---- clauses 3 to 5: of the journey that is claimed
+
+-- the journey starts at a copy of the origin, at the departure or later
+pub record StartsWell (n : NetworkLists) (q : Asked) (j : Route) : Type 0 where
+  pub at_copy : IsCopy n q.from j.start
+  pub not_before : q.depart ≤ j.at
+
+pub record StartFails (n : NetworkLists) (q : Asked) (j : Route) (clause at : ℕ) : Type 0 where
+  pub clause_is : clause ≡ 3
+  pub place : at ≡ 0
+  pub fails : StartsWell n q j → ⊥
+
+-- the step at this place is the first that is none
+pub record StepFails (n : NetworkLists) (q : Asked) (j : Route) (clause at : ℕ) : Type 0 where
+  pub clause_is : clause ≡ 4
+  pub starts : StartsWell n q j
+  pub bad : IsFirstBad n j.start j.at j.steps at
+
+-- the first of three facts that fails has this place, from 0
+abbrev pub FailsFirst : Type 0 → Type 0 → Type 0 → ℕ → Type 0
+FailsFirst P Q R at = ((at ≡ 0) × (P → ⊥)) ⊎ ((at ≡ 1) × P × (Q → ⊥)) ⊎ ((at ≡ 2) × P × Q × (R → ⊥))
+
+-- the place of the first of three facts that fails; or all hold
+abbrev pub IsFirstFailing : Type 0 → Type 0 → Type 0 → Option ℕ → Type 0
+IsFirstFailing P Q R (Some at) = FailsFirst P Q R at
+IsFirstFailing P Q R None = P × Q × R
+
+-- the journey is real, but ends at no copy of the destination, or arrives at another time than is claimed, or has a word that is not
+-- denoted
+pub record EndFails (n : NetworkLists) (q : Asked) (arrival : ℕ) (j : Route) (clause at : ℕ) : Type 0 where
+  pub clause_is : clause ≡ 5
+  pub starts : StartsWell n q j
+  pub end : ℕ
+  pub time : ℕ
+  pub word : List ℕ
+  pub real : IsJourney n j end time word
+  pub bad : FailsFirst (IsCopy n q.to end) (time ≡ arrival) (IsWordOf q.form word) at
+
+abbrev pub JourneyFails : NetworkLists → Asked → ℕ → Route → ℕ → ℕ → Type 0
+JourneyFails n q arrival j clause at = StartFails n q j clause at ⊎ StepFails n q j clause at ⊎ EndFails n q arrival j clause at
+
+-- the verdict on a journey that is claimed with an arrival
+abbrev pub IsJourneyVerdict : NetworkLists → Asked → ℕ → Route → CertVerdict → Type 0
+IsJourneyVerdict n q arrival j Valid = Answers n q j arrival
+IsJourneyVerdict n q arrival j (Invalid clause at) = JourneyFails n q arrival j clause at
+
+-- the verdict on a result, which is skipped where it is claimed that no journey answers
+abbrev pub IsResultVerdict : NetworkLists → Asked → Option (ℕ × Route) → CertVerdict → Type 0
+IsResultVerdict n q (Some claimed) verdict = IsJourneyVerdict n q claimed.0 claimed.1 verdict
+IsResultVerdict n q None verdict = verdict ≡ Valid
+
+pub record ResultFails (n : NetworkLists) (c : Claim) (clause at : ℕ) : Type 0 where
+  pub asked : Asked
+  pub asks : Asks n c.line asked
+  pub plain : c.phases ≡ false
+  pub fails : IsResultVerdict n asked c.result (Invalid clause at)
+
+-- ---- clauses 6 to 9: of the labels
+
+-- a verdict on labels as one on their certificate
+abbrev pub as_verdict : LabelVerdict → CertVerdict
+as_verdict Closed = Valid
+as_verdict (Open clause at) = Invalid clause at
+
+pub record LabelsFail (n : NetworkLists) (c : Claim) (clause at : ℕ) : Type 0 where
+  pub setting : Setting n c.line
+  pub plain : c.phases ≡ false
+  pub holds : ResultHolds n setting.asked c.result
+  pub open_at : IsVerdict (plain_meaning n setting.table) (collapsed setting.automaton) setting.starts setting.targets setting.asked.depart
+      (claimed_arrival c.result) c.labels (Open clause at)
+
+-- ---- all nine
+
+-- The certificate is valid; or the clause is the first that fails, at its first place.
+abbrev pub IsCertVerdict : NetworkLists → Claim → CertVerdict → Type 0
+IsCertVerdict n c Valid = IsValid n c
+IsCertVerdict n c (Invalid clause at) = LineFails n c clause at ⊎ PhasesFail n c clause at ⊎ ResultFails n c clause at ⊎ LabelsFail n c clause at

@@ -1,0 +1,20 @@
+-- A journey that was walked: where and when it ends, and the states that its letters are read to.
+use Rattle.std.specs.Prelude.{ℕ, List, Result, Ok, Err}
+use Rattle.search_laws.specs.LabelLaws.{LabelsMeaning}
+use Rattle.mode_network.specs.declared.steps.Step.{Step}
+use Rattle.mode_network.specs.NetworkLists.{NetworkLists}
+use Rattle.mode_network.specs.Journeys.{AreSteps}
+use Rattle.journey.specs.Real.{IsFirstBad}
+use Rattle.certificate.specs.declared.walked.Walked.{Walked}
+use Rattle.certificate.specs.StateSets.{AreAfter}
+
+-- the steps from v at t end so, and these are the states after their letters
+pub record IsWalkedTo (n : NetworkLists) (l : LabelsMeaning) (v t : ℕ) (steps : List Step) (walked : Walked) : Type 0 where
+  pub letters : List ℕ
+  pub are : AreSteps n v t steps walked.node walked.at letters
+  pub states : AreAfter l letters walked.states
+
+-- all steps were walked; or the step at this place is the first that is none
+abbrev pub IsWalked : NetworkLists → LabelsMeaning → ℕ → ℕ → List Step → Result Walked ℕ → Type 0
+IsWalked n l v t steps (Ok walked) = IsWalkedTo n l v t steps walked
+IsWalked n l v t steps (Err place) = IsFirstBad n v t steps place

@@ -1,0 +1,131 @@
+//! The states of an automaton that the letters of a journey are read to.
+
+ghost use Rattle.std.specs.Prelude.{◌≡◌, ℕ, ◌<◌, ◌^◌, ◌↔◌, ◌++◌, ◌∷◌, [], List, length, IfOk, IsTrue, IsBitSet};
+ghost use Rattle.search_laws.specs.LabelLaws.{HasMove, Accepts};
+ghost use Rattle.certificate.specs.StateSets.{IsIn, AreAdded, HasMoveFrom, AreAfter};
+
+use search_laws::{Labels, Move};
+use std::alloc::{AllocError, Global};
+use std::mem::swap;
+
+/// The states of an automaton that the letters so far are read to, and room for those after one letter more.
+#[derive(Drop)]
+pub(crate) struct StateSets {
+    pub reached: Vec<bool>,
+    pub next: Vec<bool>,
+}
+
+impl StateSets {
+    /// The start states: no letter is read yet. All memory that reading takes is taken here.
+    pub fn start<L: Labels>(alloc: Global, labels: &L) -> Result<StateSets, AllocError>
+        ensures { IfOk result (λ sets. AreAfter (L.automaton labels.now) [] sets) }
+    {
+        Ok(StateSets {
+            reached: start_states(alloc, labels)?,
+            next: no_states(alloc, labels)?,
+        })
+    }
+
+    /// Reads one letter more.
+    pub fn read<L: Labels>(&mut self, labels: &L, letter: u8)
+        requires { (letters : List ℕ) × AreAfter (L.automaton labels.now) letters self.old }
+        ensures { (letters : List ℕ) → AreAfter (L.automaton labels.now) letters self.old → AreAfter (L.automaton labels.now) (letters ++ letter ∷ []) self.new }
+    {
+        follow(labels, &self.reached, letter, &mut self.next);
+        swap(&mut self.reached, &mut self.next);
+    }
+
+    /// Whether the automaton accepts the letters so far.
+    pub fn accepts<L: Labels>(&self, labels: &L) -> bool
+        requires { (letters : List ℕ) × AreAfter (L.automaton labels.now) letters self.now }
+        ensures { (letters : List ℕ) → AreAfter (L.automaton labels.now) letters self.now → IsTrue result ↔ Accepts (L.automaton labels.now) letters }
+    {
+        for state in 0..labels.states() {
+            if self.reached[state as usize] && labels.accepts(state) {
+                return true;
+            }
+        }
+        false
+    }
+}
+
+/// Whether each state is a start state.
+fn start_states<L: Labels>(alloc: Global, labels: &L) -> Result<Vec<bool>, AllocError>
+    ensures size { IfOk result (λ set. length set.items ≡ (L.automaton labels.now).states) }
+    ensures are { IfOk result (λ set. (q : ℕ) → IsIn set.items q ↔ ((q < (L.automaton labels.now).states) × IsTrue ((L.automaton labels.now).is_start q))) }
+{
+    let mut set = Vec::new(alloc);
+    for state in 0..labels.states() {
+        set.push(labels.is_start(state))?;
+    }
+    Ok(set)
+}
+
+/// A set with a place for each state.
+fn no_states<L: Labels>(alloc: Global, labels: &L) -> Result<Vec<bool>, AllocError>
+    ensures { IfOk result (λ set. length set.items ≡ (L.automaton labels.now).states) }
+{
+    let mut set = Vec::new(alloc);
+    set.resize(labels.states() as usize, false)?;
+    Ok(set)
+}
+
+/// Makes a set hold exactly the states that a move by the letter leads to from one that is reached.
+fn follow<L: Labels>(labels: &L, reached: &[bool], letter: u8, set: &mut [bool])
+    requires reached { length reached.now ≡ (L.automaton labels.now).states }
+    requires set { length set.old ≡ (L.automaton labels.now).states }
+    ensures { (r : ℕ) → IsIn set.new r ↔ HasMoveFrom (L.automaton labels.now) (L.automaton labels.now).states reached.now letter r }
+{
+    clear(set);
+    mark_states(labels, reached, letter, set);
+}
+
+/// Takes all states out of a set.
+fn clear(set: &mut [bool])
+    ensures { (q : ℕ) → IsIn set.new q → ⊥ }
+{
+    set.fill(false);
+}
+
+/// Puts into a set each state that a move by the letter leads to from one that is reached.
+fn mark_states<L: Labels>(labels: &L, reached: &[bool], letter: u8, set: &mut [bool])
+    requires reached { length reached.now ≡ (L.automaton labels.now).states }
+    requires set { length set.old ≡ (L.automaton labels.now).states }
+    ensures { AreAdded set.old set.new (λ r. HasMoveFrom (L.automaton labels.now) (L.automaton labels.now).states reached.now letter r) }
+{
+    for state in 0..labels.states() {
+        if reached[state as usize] {
+            mark_moves(labels, state, letter, set);
+        }
+    }
+}
+
+/// Puts into a set each state that a move by the letter leads to from one state.
+fn mark_moves<L: Labels>(labels: &L, state: u32, letter: u8, set: &mut [bool])
+    requires state { state < (L.automaton labels.now).states }
+    requires set { length set.old ≡ (L.automaton labels.now).states }
+    ensures { AreAdded set.old set.new (λ r. HasMove (L.automaton labels.now) state letter r) }
+{
+    for i in 0..labels.moves(state) {
+        mark_move(labels.move_at(state, i), letter, set);
+    }
+}
+
+/// Puts the state that a move leads to into a set, if it is by the letter.
+fn mark_move(step: Move, letter: u8, set: &mut [bool])
+    requires to { step.to < length set.old }
+    requires letters { step.letters < 2 ^ 14 }
+    ensures { AreAdded set.old set.new (λ r. IsBitSet step.letters letter × (step.to ≡ r)) }
+{
+    if has_letter(step, letter) {
+        set[step.to as usize] = true;
+    }
+}
+
+/// Whether a move is by the letter. Letters are below 14.
+fn has_letter(step: Move, letter: u8) -> bool
+    requires { step.letters < 2 ^ 14 }
+    ensures { IsTrue result ↔ IsBitSet step.letters letter }
+{
+    letter < 14 && step.letters & (1 << letter) != 0
+}

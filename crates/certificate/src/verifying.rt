@@ -1,0 +1,223 @@
+//! The check of a certificate.
+
+ghost use Rattle.std.specs.Prelude.{◌≡◌, ◌≤◌, ◌↔◌, ℕ, List, Some, [], Contains, IfOk, IfSome, IsTrue};
+ghost use Rattle.search_laws.specs.LabelLaws.{Accepts};
+ghost use Rattle.mode_expression.specs.Form.{form_of, IsUsable};
+ghost use Rattle.journey.specs.Best.{Asks};
+ghost use Rattle.journey.specs.CopyLists.{AreTheCopies};
+ghost use Rattle.journey.specs.declared.verdict.CertVerdict.TheVariants.{Valid, Invalid};
+ghost use Rattle.journey.specs.Ends.{HasTimes};
+ghost use Rattle.journey.specs.Faults.{number_of};
+ghost use Rattle.certificate.specs.Valid.{HaveTimes, Proves, claimed_arrival};
+ghost use Rattle.certificate.specs.Verdicts.{asked_by, claim_on, AreDenoted, IsCertVerdict, IsJourneyVerdict, IsResultVerdict, IsFirstFailing, as_verdict};
+ghost use Rattle.certificate.specs.StateSets.{AreAfter};
+
+use crate::certificate::Certificate;
+use crate::state_sets::StateSets;
+use crate::walked::{Walked, walk};
+use automaton::{Collapsed, Positions};
+use journey::{CertVerdict, Query, QueryFault, copies, read_query};
+use mode_network::{Journey, Network};
+use plain_graph::Plain;
+use plan_base::Time;
+use product_search::{Label, LabelVerdict, check_labels};
+use search_laws::Labels;
+use std::alloc::{AllocError, Global};
+
+/// Decides whether a certificate is valid: the clauses are tried in turn, and the first that fails is answered at the
+/// first place where it does.
+///
+/// Clause 1: the line is a query; at the number of its fault. 2: the labels are of the network's own nodes; at 0. Where a
+/// journey is claimed, 3: it starts at a copy of the origin, at the departure or later; at 0. 4: each step is one of the
+/// network; at the step. 5: its last node is a copy of the destination, it arrives as is claimed, and the expression
+/// denotes its word; at 0, 1 and 2. 6 to 9: those of [`LabelVerdict`], over the network's graph.
+///
+/// Where it is valid, no journey answers the query better than the one that is claimed, or at all where none is. Who made
+/// the certificate is not asked. All memory is taken before clause 3 is tried.
+///
+/// All times of the certificate are below 10^30.
+///
+/// # Errors
+///
+/// Where memory is refused.
+pub fn verify(
+    alloc: Global,
+    network: &Network,
+    certificate: &Certificate,
+) -> Result<CertVerdict, AllocError>
+    requires { HaveTimes certificate.now }
+    ensures verdict { IfOk result (λ verdict. IsCertVerdict network.now certificate.now verdict) }
+    ensures proves { IfOk result (λ verdict. verdict ≡ Valid → Proves network.now certificate.now) }
+{
+    match read_query(alloc, network, certificate.line.as_slice()) {
+        Ok(_) if certificate.phases => Ok(CertVerdict::Invalid { clause: 2, at: 0 }),
+        Ok(query) => verify_claim(
+            alloc,
+            network,
+            &query,
+            &certificate.result,
+            &certificate.labels,
+        ),
+        Err(fault) => refused(fault),
+    }
+}
+
+/// The verdict on a line that is refused with this fault, unless that is want of memory.
+fn refused(fault: QueryFault) -> Result<CertVerdict, AllocError>
+    ensures { IfOk result (λ verdict. (at : ℕ) × (number_of fault ≡ Some at) × (verdict ≡ Invalid 1 at)) }
+{
+    match fault.number() {
+        Some(at) => Ok(CertVerdict::Invalid { clause: 1, at }),
+        None => Err(AllocError),
+    }
+}
+
+/// The verdict on what is claimed of a query, by clauses 3 to 9.
+fn verify_claim(
+    alloc: Global,
+    network: &Network,
+    query: &Query,
+    claimed: &Option<(Time, Journey)>,
+    labels: &[Label],
+) -> Result<CertVerdict, AllocError>
+    requires asks { Asks network.now query.now.line (asked_by query.now) }
+    requires usable { IsUsable (form_of query.now.expr) }
+    requires times { HaveTimes (claim_on query.now claimed.now labels.now) }
+    ensures verdict { IfOk result (λ verdict. IsCertVerdict network.now (claim_on query.now claimed.now labels.now) verdict) }
+    ensures proves { IfOk result (λ verdict. verdict ≡ Valid → Proves network.now (claim_on query.now claimed.now labels.now)) }
+{
+    network.known();
+    let plain = Plain::new(network);
+    let automaton = Collapsed::new(Positions::of(alloc, &query.expr)?);
+    let starts = copies(alloc, network, &query.from)?;
+    let targets = copies(alloc, network, &query.to)?;
+    let states = StateSets::start(alloc, &automaton)?;
+    if let CertVerdict::Invalid { clause, at } = result_verdict(
+        network, query, &automaton, &starts, &targets, states, claimed,
+    ) {
+        return Ok(CertVerdict::Invalid { clause, at });
+    }
+    let arrival = claimed_arrival(claimed);
+    let verdict = check_labels(
+        &plain,
+        &automaton,
+        &starts,
+        &targets,
+        query.depart,
+        arrival,
+        labels,
+    );
+    Ok(as_verdict(verdict))
+}
+
+/// The verdict by clauses 3 to 5; they are skipped where it is claimed that no journey answers.
+fn result_verdict<L: Labels>(
+    network: &Network,
+    query: &Query,
+    labels: &L,
+    starts: &[u32],
+    targets: &[u32],
+    states: StateSets,
+    claimed: &Option<(Time, Journey)>,
+) -> CertVerdict
+    requires times { IfSome claimed.now (λ claimed. HasTimes claimed.1) }
+    requires starts { AreTheCopies network.now query.now.from starts.now }
+    requires targets { AreTheCopies network.now query.now.to targets.now }
+    requires denotes { AreDenoted (form_of query.now.expr) (L.automaton labels.now) }
+    requires states { AreAfter (L.automaton labels.now) [] states }
+    ensures { IsResultVerdict network.now (asked_by query.now) claimed.now result }
+{
+    match claimed {
+        Some((arrival, journey)) => journey_verdict(
+            network, query, labels, starts, targets, states, *arrival, journey,
+        ),
+        None => CertVerdict::Valid,
+    }
+}
+
+/// The verdict on a journey that is claimed with an arrival, by clauses 3 to 5.
+fn journey_verdict<L: Labels>(
+    network: &Network,
+    query: &Query,
+    labels: &L,
+    starts: &[u32],
+    targets: &[u32],
+    states: StateSets,
+    arrival: Time,
+    journey: &Journey,
+) -> CertVerdict
+    requires times { HasTimes journey.now }
+    requires starts { AreTheCopies network.now query.now.from starts.now }
+    requires targets { AreTheCopies network.now query.now.to targets.now }
+    requires denotes { AreDenoted (form_of query.now.expr) (L.automaton labels.now) }
+    requires states { AreAfter (L.automaton labels.now) [] states }
+    ensures { IsJourneyVerdict network.now (asked_by query.now) arrival journey.now result }
+{
+    if !starts_well(query, starts, journey) {
+        return CertVerdict::Invalid { clause: 3, at: 0 };
+    }
+    match walk(network, labels, journey, states) {
+        Ok(walked) => match first_bad_end(labels, targets, arrival, &walked) {
+            Some(at) => CertVerdict::Invalid { clause: 5, at },
+            None => CertVerdict::Valid,
+        },
+        Err(at) => CertVerdict::Invalid { clause: 4, at },
+    }
+}
+
+/// Whether a journey starts at one of the nodes, at the departure or later.
+fn starts_well(query: &Query, starts: &[u32], journey: &Journey) -> bool
+    ensures { IsTrue result ↔ (Contains starts.now journey.now.start × (query.now.depart ≤ journey.now.at)) }
+{
+    contains(starts, journey.start) && query.depart <= journey.at
+}
+
+/// The place of the first that fails of a journey that was walked: it ends at a target, it arrives as is claimed, and the
+/// automaton accepts its letters.
+fn first_bad_end<L: Labels>(
+    labels: &L,
+    targets: &[u32],
+    arrival: Time,
+    walked: &Walked,
+) -> Option<u64>
+    requires { (letters : List ℕ) × AreAfter (L.automaton labels.now) letters walked.now.states }
+    ensures { (letters : List ℕ) → AreAfter (L.automaton labels.now) letters walked.now.states
+        → IsFirstFailing (Contains targets.now walked.now.node) (walked.now.at ≡ arrival) (Accepts (L.automaton labels.now) letters) result }
+{
+    if !contains(targets, walked.node) {
+        Some(0)
+    } else if walked.at != arrival {
+        Some(1)
+    } else if !walked.states.accepts(labels) {
+        Some(2)
+    } else {
+        None
+    }
+}
+
+/// Whether a list of nodes has the node.
+fn contains(nodes: &[u32], node: u32) -> bool
+    ensures { IsTrue result ↔ Contains nodes.now node }
+{
+    nodes.contains(&node)
+}
+
+/// The arrival that is claimed, if a journey is.
+fn claimed_arrival(claimed: &Option<(Time, Journey)>) -> Option<Time>
+    ensures { result ≡ claimed_arrival claimed.now }
+{
+    match claimed {
+        Some((arrival, _)) => Some(*arrival),
+        None => None,
+    }
+}
+
+/// A verdict on labels as one on their certificate.
+fn as_verdict(verdict: LabelVerdict) -> CertVerdict
+    ensures { result ≡ as_verdict verdict }
+{
+    match verdict {
+        LabelVerdict::Closed => CertVerdict::Valid,
+        LabelVerdict::Open { clause, at } => CertVerdict::Invalid { clause, at },
+    }
+}
