@@ -1,7 +1,7 @@
 -- What walks reach over a network does not depend on how its timetable sorts the runs into patterns.
-use Rattle.std.proofs.Common.{◌≡◌, ℕ, List, Option, Some, None, sym, subst}
+use Rattle.std.proofs.Common.{ℕ, List, Option, Some, None, sym, subst}
 use Rattle.search_laws.specs.LabelLaws.{LabelsMeaning, Accepts, Reads}
-use Rattle.search_laws.specs.Walks.{ArrivesAt, IsLeast}
+use Rattle.search_laws.specs.Walks.{ArrivesAt}
 use Rattle.product_search.specs.declared.label.Label.{Label}
 use Rattle.product_search.specs.Answer.{IsArrival}
 use Rattle.product_search.specs.Reach.{IsReachedAt, IsLeastAt}
@@ -60,11 +60,13 @@ module _ (n : NetworkLists) (one two : TableLists) (walks_one : WalksAreJourneys
   arrival_there : (arrival : Option ℕ) → IsArrival (plain_meaning n one) (collapsed automaton) starts targets dep None arrival
       → IsArrival (plain_meaning n two) (collapsed automaton) starts targets dep None arrival
   arrival_there None none = λ t within a. none t within (arrives n two one walks_two journeys_one (collapsed automaton) starts dep targets t a)
-  arrival_there (Some t) is =
-      (record {
-        reached = arrives n one two walks_one journeys_two (collapsed automaton) starts dep targets t is.0.reached;
-        least = λ u a. is.0.least u (arrives n two one walks_two journeys_one (collapsed automaton) starts dep targets u a);
-      }, is.1)
+  arrival_there (Some t) is = (
+    record {
+      reached = arrives n one two walks_one journeys_two (collapsed automaton) starts dep targets t is.0.reached;
+      least = λ u a. is.0.least u (arrives n two one walks_two journeys_one (collapsed automaton) starts dep targets u a);
+    },
+    is.1,
+  )
 
   pub labels_over : (arrival : Option ℕ) (labels : List Label) → AreLabelsOver n one automaton starts targets dep arrival labels → AreLabelsOver n two automaton starts targets dep arrival labels
   labels_over arrival labels are = record {

@@ -1,12 +1,20 @@
 -- The block of what is right to say is the right block.
-use Rattle.std.proofs.Common.{ℕ, ◌∙◌, inl, inr, List, ap}
+use Rattle.std.proofs.Common.{ℕ, ◌∙◌, inl, inr, List, Option, Some, None, ap}
 use Rattle.mode_network.specs.NetworkLists.{NetworkLists}
 use Rattle.journey.specs.declared.answer.BlockBody.{BlockBody}
 use Rattle.journey.specs.declared.answer.BlockBody.TheVariants.{Journey, Nothing, Refused}
 use Rattle.journey.specs.Texts.{block_text}
 use Rattle.journey.specs.Blocks.{IsBlockText}
-use Rattle.journey.specs.Best.{IsBlock}
+use Rattle.journey.specs.Best.{Asked, Asks, IsBlock}
+use Rattle.mode_network.specs.Journeys.{Route}
+use Rattle.mode_network.specs.Rules.{IsNetwork}
+use Rattle.journey.specs.Blocks.{IsPrintableBody}
+use Rattle.journey.proofs.CopyLemmas.{copy_in_range}
+use Rattle.certificate.specs.Certificates.{Claim}
+use Rattle.certificate.specs.Texts.{IsCertText, FitsResult}
+use Rattle.certificate.specs.Valid.{IsValid, Proves, ResultHolds, IsBestResult}
 use Rattle.planner_core.specs.Bodies.{IsRightBody}
+use Rattle.planner_core.specs.Outputs.{IsVerified, TellsValid, body_of}
 
 pub right_block : (n : NetworkLists) (line : List ℕ) (body : BlockBody) (block : List ℕ) → IsRightBody n line body → IsBlockText n line body block → IsBlock n line block
 right_block n line (Journey j) block (asked, asks, best) text =
@@ -15,3 +23,29 @@ right_block n line Nothing block (asked, asks, none) text =
     inr (inr (record { asked = asked; asks = asks; none = none; block_is = text.block_is ∙ ap (block_text line) text.is_body }))
 right_block n line (Refused fault) block refused text =
     inl (record { fault = fault; refused = refused; block_is = text.block_is ∙ ap (block_text line) text.is_body })
+
+-- what a certificate proves is right to say
+proved_body : (n : NetworkLists) (line : List ℕ) (asked : Asked) → Asks n line asked → (result : Option (ℕ × Route)) → IsBestResult n asked result → IsRightBody n line (body_of result)
+proved_body n line asked asks (Some claimed) best = (asked, asks, best.0)
+proved_body n line asked asks None none = (asked, asks, none)
+
+-- what a certificate claims can be printed
+claimed_printable : (n : NetworkLists) → IsNetwork n → (asked : Asked) (result : Option (ℕ × Route)) → ResultHolds n asked result → FitsResult result → IsPrintableBody n (body_of result)
+claimed_printable n network asked None holds fits = tt
+claimed_printable n network asked (Some claimed) answers fits = record {
+  node = copy_in_range n network asked.from (claimed.1).start answers.starts_at_copy;
+  times = fits.1;
+  taken = record { end = _; arrival = _; letters = _; are = answers.real.steps };
+}
+
+pub valid_printable : (n : NetworkLists) → IsNetwork n → (bytes : List ℕ) (c : Claim) → IsCertText bytes c → IsValid n c → IsPrintableBody n (body_of c.result)
+valid_printable n network bytes c text valid = claimed_printable n network valid.setting.asked c.result valid.holds text.fits.result
+
+pub verified_text : (n : NetworkLists) (bytes : List ℕ) (c : Claim) (out : List ℕ) → IsCertText bytes c → IsValid n c → Proves n c → TellsValid n c.line (body_of c.result) out → IsVerified n bytes out
+verified_text n bytes c out text valid proves told = record {
+  claim = c;
+  text = text;
+  valid = valid;
+  told = told;
+  right = right_block n c.line (body_of c.result) told.block (proved_body n c.line proves.asked proves.asks c.result proves.best) told.tells;
+}

@@ -3,4 +3,3 @@ pub mod AnyTable
 pub mod BlockLemmas
 pub mod WriteLemmas
 pub mod OutcomeLemmas
-pub mod WordLemmas

@@ -1,11 +1,11 @@
 -- A least arrival in the product of a network and the automaton of an expression is that of a best journey.
-use Rattle.std.proofs.Common.{◌≡◌, ℕ, ◌^◌, ◌<◌, ◌∙◌, List, ◌∷◌, Option, Some, None, refl, sym, subst, arith}
-use Rattle.std.specs.Prelude.{All, ◌↔◌, slice_index_or}
+use Rattle.std.proofs.Common.{◌≡◌, ℕ, ◌^◌, ◌<◌, ◌≤◌, ◌∙◌, List, ◌∷◌, Option, Some, None, refl, sym, subst, arith}
+use Rattle.std.specs.Prelude.{All, IfSome, ◌↔◌, slice_index_or}
 use Rattle.search_laws.specs.LabelLaws.{LabelsMeaning, Accepts}
 use Rattle.search_laws.specs.Walks.{wait, ArrivesAt, IsLeast}
 use Rattle.search_laws.specs.Collapse.{collapse}
 use Rattle.product_search.specs.declared.label.Walk.{Walk}
-use Rattle.product_search.specs.Answer.{IsArrival, IsWalkTo, IsWalkFor}
+use Rattle.product_search.specs.Answer.{IsArrival, IsWalkTo, IsWalkFor, last_time}
 use Rattle.product_search.proofs.HopLemmas.{reads_of_hops}
 use Rattle.automaton.specs.Collapsed.{collapsed, AcceptsCollapsed}
 use Rattle.plain_graph.specs.PlainArcs.{plain_meaning}
@@ -18,13 +18,15 @@ use Rattle.mode_network.specs.NetworkLists.{NetworkLists}
 use Rattle.mode_network.specs.Rules.{IsNetwork}
 use Rattle.mode_network.specs.Journeys.{Route, AreSteps}
 use Rattle.mode_network.specs.Copies.{IsCopy}
-use Rattle.journey.specs.Best.{Asked, Answers, IsBest, HasNone}
+use Rattle.journey.specs.Best.{Asked, Answers, HasNone}
 use Rattle.journey.specs.Ends.{HasTime}
 use Rattle.journey.specs.Blocks.{IsPrintable}
 use Rattle.unpack.specs.Unpacking.{IsNoWait, end_of, arrival_of, letters_of}
 use Rattle.unpack.proofs.UnpackLemmas.{hops_end, hops_letters, plain_hops}
 use Rattle.journey.specs.CopyLists.{AreTheCopies}
-use Rattle.planner_core.specs.Plans.{IsPlan, IsPlainWalk, IsUnpacked}
+use Rattle.certificate.specs.Texts.{FitsResult}
+use Rattle.certificate.specs.Valid.{ResultHolds, claimed_arrival}
+use Rattle.planner_core.specs.Plans.{IsPlan, IsPlainWalk, IsUnpacked, TakesHops, both, route_of}
 use Rattle.journey.proofs.CopyLemmas.{copy_in_range}
 
 module _ (n : NetworkLists) (network : IsNetwork n) (table : TableLists) (q : Asked) (l : LabelsMeaning) (starts targets : List ℕ)
@@ -56,43 +58,40 @@ module _ (n : NetworkLists) (network : IsNetwork n) (table : TableLists) (q : As
   has_time Stand none = tt
   has_time (Ride trip day board alight) none = tt
 
-  pub best_answers : (a : ℕ) (w : Walk) (j : Route) → IsLeast (plain_meaning n table) (collapsed l) starts targets q.depart a
-      → IsWalkTo (plain_meaning n table) (collapsed l) starts targets q.depart a w → q.depart < 2 ^ 64
-      → j.start ≡ w.node → j.at ≡ w.at
-      → AreSteps n j.start j.at j.steps (end_of w.node w.hops.items) (arrival_of w.at w.hops.items) (letters_of n table w.node w.hops.items)
-      → All IsNoWait j.steps → IsBest n q j × IsPrintable n j
-  best_answers a w j least is soon start at real waits =
+  -- the journey of a walk that counts answers
+  pub walk_answers : (a : ℕ) (w : Walk) (j : Route) → IsWalkTo (plain_meaning n table) (collapsed l) starts targets q.depart a w → j.start ≡ w.node → j.at ≡ w.at
+      → AreSteps n j.start j.at j.steps (end_of w.node w.hops.items) (arrival_of w.at w.hops.items) (letters_of n table w.node w.hops.items) → Answers n q j a
+  walk_answers a w j is start at real =
       let ends = hops_end n table (collapsed l) w.hops.items w.node w.state w.at is.end is.final a is.hops in
       let letters = hops_letters n table (collapsed l) w.hops.items w.node w.state w.at is.end is.final a is.hops in
       let reads = reads_of_hops (plain_meaning n table) (collapsed l) w.hops.items w.node w.state w.at is.end is.final a is.hops in
       let accepted : Accepts (collapsed l) (letters_of n table w.node w.hops.items) =
       subst (Accepts (collapsed l)) (sym letters) (w.state, is.final, is.is_state, is.is_start, reads, is.accepts) in
-      let copy = subst (IsCopy n q.from) (sym start) ((from.are w.node).0 is.starts_there) in
-      let leaves = at ∙ is.leaves in (
-        record {
-          arrival = a;
-          answers = record {
-            end = is.end;
-            word = collapse (letters_of n table w.node w.hops.items);
-            starts_at_copy = copy;
-            not_before = omega arith;
-            real = record {
-              letters = letters_of n table w.node w.hops.items;
-              steps = subst (λ x. AreSteps n j.start j.at j.steps x a (letters_of n table w.node w.hops.items)) ends.0
-                  (subst (λ y. AreSteps n j.start j.at j.steps (end_of w.node w.hops.items) y (letters_of n table w.node w.hops.items)) ends.1 real);
-              word_is = refl;
-            };
-            ends_at_copy = (to.are is.end).0 is.ends_there;
-            denoted = (denotes (collapse (letters_of n table w.node w.hops.items))).0 ((collapses (letters_of n table w.node w.hops.items)).0 accepted);
-          };
-          least = λ k t answers. least.least t (arrives k t answers);
-        },
-        record {
-          node = copy_in_range n network q.from j.start copy;
-          times = record { at = omega arith; waits = λ k d h. has_time (slice_index_or j.steps k d) (waits k d h) };
-          taken = record { end = _; arrival = _; letters = _; are = real };
-        },
-      )
+      let leaves = at ∙ is.leaves in
+      record {
+        end = is.end;
+        word = collapse (letters_of n table w.node w.hops.items);
+        starts_at_copy = subst (IsCopy n q.from) (sym start) ((from.are w.node).0 is.starts_there);
+        not_before = omega arith;
+        real = record {
+          letters = letters_of n table w.node w.hops.items;
+          steps = subst (λ x. AreSteps n j.start j.at j.steps x a (letters_of n table w.node w.hops.items)) ends.0
+              (subst (λ y. AreSteps n j.start j.at j.steps (end_of w.node w.hops.items) y (letters_of n table w.node w.hops.items)) ends.1 real);
+          word_is = refl;
+        };
+        ends_at_copy = (to.are is.end).0 is.ends_there;
+        denoted = (denotes (collapse (letters_of n table w.node w.hops.items))).0 ((collapses (letters_of n table w.node w.hops.items)).0 accepted);
+      }
+
+  -- and it can be printed, where it has no waits
+  walk_printable : (w : Walk) (j : Route) (a : ℕ) → Answers n q j a → q.depart < 2 ^ 64 → w.at ≡ q.depart → j.at ≡ w.at
+      → AreSteps n j.start j.at j.steps (end_of w.node w.hops.items) (arrival_of w.at w.hops.items) (letters_of n table w.node w.hops.items)
+      → All IsNoWait j.steps → IsPrintable n j
+  walk_printable w j a answers soon leaves at real waits = record {
+    node = copy_in_range n network q.from j.start answers.starts_at_copy;
+    times = record { at = (let same = at ∙ leaves in omega arith); waits = λ k d h. has_time (slice_index_or j.steps k d) (waits k d h) };
+    taken = record { end = _; arrival = _; letters = _; are = real };
+  }
 
   -- a walk that counts is one of the network's graph
   pub walk_is_plain : (arrival : Option ℕ) (walk : Option Walk) → IsWalkFor (plain_meaning n table) (collapsed l) starts targets q.depart arrival walk → IsPlainWalk n table walk
@@ -101,12 +100,32 @@ module _ (n : NetworkLists) (network : IsNetwork n) (table : TableLists) (q : As
   walk_is_plain (Some a) None is = absurd is
   walk_is_plain (Some a) (Some w) is = plain_hops n table (collapsed l) w.hops.items w.node w.state w.at is.end is.final a is.hops
 
-  -- what a search found is a plan
-  pub planned : (arrival : Option ℕ) (walk : Option Walk) (j : Option Route) → IsArrival (plain_meaning n table) (collapsed l) starts targets q.depart None arrival
-      → IsWalkFor (plain_meaning n table) (collapsed l) starts targets q.depart arrival walk → q.depart < 2 ^ 64 → IsUnpacked n table walk j → IsPlan n q j
-  planned None None None none is soon unpacked = none_answers none
-  planned None None (Some j) none is soon unpacked = absurd unpacked
-  planned None (Some w) j none is soon unpacked = absurd is
-  planned (Some a) None j least is soon unpacked = absurd is
-  planned (Some a) (Some w) None least is soon unpacked = absurd unpacked
-  planned (Some a) (Some w) (Some j) least is soon unpacked = best_answers a w j least.0 is soon unpacked.start unpacked.at unpacked.real unpacked.waits
+  -- a journey that was found, with its arrival: it is best, a certificate can hold it, and it arrives as the search said
+  pub record IsFoundFor (arrival : Option ℕ) (j : Option Route) : Type 0 where
+    pub plan : IsPlan n q (route_of (both arrival j))
+    pub holds : ResultHolds n q (both arrival j)
+    pub fits : FitsResult (both arrival j)
+    pub same : claimed_arrival (both arrival j) ≡ arrival
+
+  best_found : (a : ℕ) (w : Walk) (j : Route) → IsLeast (plain_meaning n table) (collapsed l) starts targets q.depart a → IsWalkTo (plain_meaning n table) (collapsed l) starts targets q.depart a w
+      → q.depart < 2 ^ 64 → a ≤ last_time q.depart → TakesHops n table w j → IsFoundFor (Some a) (Some j)
+  best_found a w j least is soon in_time takes =
+      let answers = walk_answers a w j is takes.start takes.at takes.real in
+      let printable = walk_printable w j a answers soon is.leaves takes.at takes.real takes.waits in
+      record {
+        plan = (record { arrival = a; answers = answers; least = λ k t k_answers. least.least t (arrives k t k_answers) }, printable);
+        holds = answers;
+        fits = (omega arith, printable.times);
+        same = refl;
+      }
+
+  -- what a search found
+  pub found_for : (arrival : Option ℕ) (walk : Option Walk) (j : Option Route) → IsArrival (plain_meaning n table) (collapsed l) starts targets q.depart None arrival
+      → IsWalkFor (plain_meaning n table) (collapsed l) starts targets q.depart arrival walk → q.depart < 2 ^ 64 → IfSome arrival (λ a. a ≤ last_time q.depart)
+      → IsUnpacked n table walk j → IsFoundFor arrival j
+  found_for None None None none is soon in_time unpacked = record { plan = none_answers none; holds = tt; fits = tt; same = refl }
+  found_for None None (Some j) none is soon in_time unpacked = absurd unpacked
+  found_for None (Some w) j none is soon in_time unpacked = absurd is
+  found_for (Some a) None j least is soon in_time unpacked = absurd is
+  found_for (Some a) (Some w) None least is soon in_time unpacked = absurd unpacked
+  found_for (Some a) (Some w) (Some j) least is soon in_time unpacked = best_found a w j least.0 is soon in_time unpacked

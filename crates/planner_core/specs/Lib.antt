@@ -1,4 +1,6 @@
 pub mod Plans
 pub mod Bodies
 pub mod Written
+pub mod Outputs
 pub mod Outcomes
+pub mod Working

@@ -1,78 +1,134 @@
 -- What each outcome of a run says.
-use Rattle.std.specs.Prelude.{◌≡◌, ℕ, ◌<◌, ◌^◌, ◌⊎◌, List, [], ◌∷◌, length, None, Ok, Err, codes, IsSomeAnd}
+use Rattle.std.specs.Prelude.{◌≡◌, ℕ, ◌<◌, ◌^◌, ◌⊎◌, List, [], ◌∷◌, length, Option, Some, None, Ok, Err, codes, IsSomeAnd}
 use Rattle.plan_base.specs.Counts.{Rose}
 use Rattle.plan_base.specs.Shelves.{ShelfMeaning, Told, HasRead}
-use Rattle.plan_base.specs.Sinks.{SinkMeaning}
+use Rattle.plan_base.specs.Sinks.{SinkMeaning, Appended}
 use Rattle.plan_base.specs.declared.limits.Caps.{Caps}
 use Rattle.plan_base.specs.declared.limits.Kind.{Kind}
 use Rattle.plan_base.specs.CapsByKind.{cap_of, full_cap_of}
 use Rattle.mode_network.specs.NetworkLists.{NetworkLists}
 use Rattle.region_file.specs.declared.fault.RegionFault.{RegionFault}
 use Rattle.region_file.specs.Regions.{region_of}
+use Rattle.journey.specs.declared.verdict.CertFault.TheVariants.{BadLine}
+use Rattle.journey.specs.declared.verdict.CertVerdict.TheVariants as verdict
+use Rattle.certificate.specs.Certificates.{Claim}
+use Rattle.certificate.specs.Texts.{IsCertText}
+use Rattle.certificate.specs.Reading.{cert_of}
+use Rattle.certificate.specs.Verdicts.{IsCertVerdict}
+use Rattle.planner_core.specs.declared.command.Command.{Command}
+use Rattle.planner_core.specs.declared.command.Command.TheVariants.{Answer, Certify, Verify}
 use Rattle.planner_core.specs.declared.outcome.FileRole.{FileRole}
-use Rattle.planner_core.specs.declared.outcome.FileRole.TheVariants.{Region, Queries}
+use Rattle.planner_core.specs.declared.outcome.FileRole.TheVariants.{Region, Queries, Certificate}
 use Rattle.planner_core.specs.declared.outcome.Outcome.{Outcome}
-use Rattle.planner_core.specs.declared.outcome.Outcome.TheVariants.{Done, Usage, Missing, ReadFault, TooLong, WriteFault, BadRegion, OutOfMemory}
-use Rattle.planner_core.specs.Written.{query_lines, WroteBlocks, WroteFront, WrotePart}
+use Rattle.planner_core.specs.declared.outcome.Outcome.TheVariants.{Done, Usage, Missing, ReadFault, TooLong, WriteFault, BadRegion, Invalid, BadCertificate, OutOfMemory}
+use Rattle.planner_core.specs.Outputs.{IsOutput, IsFront}
 
 -- a file has at most so many bytes
 abbrev pub most_bytes : ℕ
 most_bytes = 2 ^ 30
 
--- the files that a command names
-pub record Names : Type 0 where
+-- ---- the words
+
+abbrev pub command_name : Command → List ℕ
+command_name Answer = codes "answer"
+command_name Certify = codes "certify"
+command_name Verify = codes "verify"
+
+-- what words ask for: a command, a region file, and one word more: a queries file, a query line, or a certificate file
+pub record Request : Type 0 where
+  pub command : Command
   pub region : List ℕ
-  pub queries : List ℕ
+  pub word : List ℕ
 
-abbrev pub name_of : Names → FileRole → List ℕ
-name_of names Region = names.region
-name_of names Queries = names.queries
-
--- the words are the program's name, `answer`, a region file and a queries file
-pub record AreWords (words : List (List ℕ)) (names : Names) : Type 0 where
+-- the words are the program's name, the command's, and those two
+pub record AreWords (words : List (List ℕ)) (r : Request) : Type 0 where
   pub program : List ℕ
-  pub are : words ≡ program ∷ codes "answer" ∷ names.region ∷ names.queries ∷ []
+  pub are : words ≡ program ∷ command_name r.command ∷ r.region ∷ r.word ∷ []
 
 -- the words are no command's
 abbrev pub IsRefusedFor : List (List ℕ) → Type 0
-IsRefusedFor words = (names : Names) → AreWords words names → ⊥
+IsRefusedFor words = (r : Request) → AreWords words r → ⊥
+
+-- ---- the files
 
 -- the limits of the programs
 abbrev pub AreFull : Caps → Type 0
 AreFull caps = (kind : Kind) → cap_of caps kind ≡ full_cap_of kind
 
--- the region file was read, and spells this network within the greatest limits
+-- the file that a command reads after the region
+abbrev pub second_file : Command → Option FileRole
+second_file Answer = Some Queries
+second_file Certify = None
+second_file Verify = Some Certificate
+
+-- the request names this file in this role
+abbrev pub Names : Request → FileRole → List ℕ → Type 0
+Names r Region name = name ≡ r.region
+Names r file name = (second_file r.command ≡ Some file) × (name ≡ r.word)
+
+-- the region file was read, and spells this network within the limits
 pub record HasRegion (caps : Caps) (shelf : ShelfMeaning) (name : List ℕ) (n : NetworkLists) : Type 0 where
   pub bytes : List ℕ
   pub file : HasRead shelf name most_bytes bytes
   pub spells : region_of caps bytes ≡ Ok n
 
--- both files were read
-pub record HasFiles (caps : Caps) (shelf : ShelfMeaning) (names : Names) (n : NetworkLists) (queries : List ℕ) : Type 0 where
-  pub region : HasRegion caps shelf names.region n
-  pub queries_file : HasRead shelf names.queries most_bytes queries
+-- what a command works on beside the region: the query line that the word is, or the bytes of the file that it names
+abbrev pub IsGiven : Command → ShelfMeaning → List ℕ → List ℕ → Type 0
+IsGiven Certify shelf word given = given ≡ word
+IsGiven _ shelf word given = HasRead shelf word most_bytes given
 
--- each query line has its right block
-pub record AtDone (caps : Caps) (shelf : ShelfMeaning) (names : Names) (before after : SinkMeaning) : Type 0 where
-  pub network : NetworkLists
-  pub queries : List ℕ
-  pub files : HasFiles caps shelf names network queries
-  pub wrote : WroteBlocks before after network (query_lines queries)
+-- all that a command works on was read
+pub record HasFiles (caps : Caps) (shelf : ShelfMeaning) (r : Request) (n : NetworkLists) (given : List ℕ) : Type 0 where
+  pub region : HasRegion caps shelf r.region n
+  pub is_given : IsGiven r.command shelf r.word given
 
--- a write failed; a front of the blocks is written
-pub record AtWriteFault (caps : Caps) (shelf : ShelfMeaning) (names : Names) (before after : SinkMeaning) : Type 0 where
-  pub network : NetworkLists
-  pub queries : List ℕ
-  pub files : HasFiles caps shelf names network queries
-  pub rose : Rose before.faults after.faults
-  pub wrote : WroteFront before after network (query_lines queries)
+-- every earlier file was accepted
+abbrev pub Accepted : Caps → ShelfMeaning → Request → FileRole → Type 0
+Accepted caps shelf r Region = Unit {0}
+Accepted caps shelf r _ = (n : NetworkLists) × HasRegion caps shelf r.region n
 
--- memory ran out over the queries; a front of the blocks is written
-pub record AtNoMemory (caps : Caps) (shelf : ShelfMeaning) (names : Names) (before after : SinkMeaning) : Type 0 where
+-- ---- outcomes
+
+abbrev pub IsUnwritten : SinkMeaning → SinkMeaning → Type 0
+IsUnwritten before after = after.bytes ≡ before.bytes
+
+-- the whole output is written
+pub record AtDone (caps : Caps) (shelf : ShelfMeaning) (r : Request) (before after : SinkMeaning) : Type 0 where
   pub network : NetworkLists
-  pub queries : List ℕ
-  pub files : HasFiles caps shelf names network queries
-  pub wrote : WroteFront before after network (query_lines queries)
+  pub given : List ℕ
+  pub files : HasFiles caps shelf r network given
+  pub out : List ℕ
+  pub is : IsOutput r.command network given out
+  pub appended : Appended before after out
+
+-- a front of an output is written
+pub record AtFront (caps : Caps) (shelf : ShelfMeaning) (r : Request) (before after : SinkMeaning) : Type 0 where
+  pub network : NetworkLists
+  pub given : List ℕ
+  pub files : HasFiles caps shelf r network given
+  pub out : List ℕ
+  pub front : IsFront r.command network given out
+  pub appended : Appended before after out
+
+-- the file of this role, which the request names, is not told of
+pub record AtMissing (caps : Caps) (old new : ShelfMeaning) (r : Request) (file : FileRole) : Type 0 where
+  pub name : List ℕ
+  pub named : Names r file name
+  pub accepted : Accepted caps old r file
+  pub rose : Rose old.misses new.misses
+  pub told : Told old name (λ held. held ≡ None)
+
+pub record AtReadFault (caps : Caps) (old new : ShelfMeaning) (r : Request) (file : FileRole) : Type 0 where
+  pub name : List ℕ
+  pub named : Names r file name
+  pub accepted : Accepted caps old r file
+  pub rose : Rose old.faults new.faults
+
+pub record AtTooLong (caps : Caps) (shelf : ShelfMeaning) (r : Request) (file : FileRole) : Type 0 where
+  pub name : List ℕ
+  pub named : Names r file name
+  pub accepted : Accepted caps shelf r file
+  pub told : Told shelf name (λ held. IsSomeAnd held (λ bytes. most_bytes < length bytes))
 
 -- the region's bytes are read, and this is their first fault
 pub record AtBadRegion (caps : Caps) (shelf : ShelfMeaning) (name : List ℕ) (fault : RegionFault) : Type 0 where
@@ -80,62 +136,38 @@ pub record AtBadRegion (caps : Caps) (shelf : ShelfMeaning) (name : List ℕ) (f
   pub file : HasRead shelf name most_bytes bytes
   pub first : region_of caps bytes ≡ Err fault
 
--- every earlier file was accepted
-abbrev pub Accepted : Caps → ShelfMeaning → Names → FileRole → Type 0
-Accepted caps shelf names Region = Unit {0}
-Accepted caps shelf names Queries = (n : NetworkLists) × HasRegion caps shelf names.region n
+-- the certificate's bytes are read, and this is the first line that may not stand there
+pub record AtBadCertificate (caps : Caps) (shelf : ShelfMeaning) (r : Request) (line : ℕ) : Type 0 where
+  pub verifies : r.command ≡ Verify
+  pub network : NetworkLists
+  pub given : List ℕ
+  pub files : HasFiles caps shelf r network given
+  pub first : cert_of given ≡ Err (BadLine line)
 
--- why a file was not read whole
-abbrev pub IsFileOutcome : ShelfMeaning → ShelfMeaning → List ℕ → FileRole → Outcome → Type 0
-IsFileOutcome old new name file (Missing other) = (other ≡ file) × Rose old.misses new.misses × Told old name (λ held. held ≡ None)
-IsFileOutcome old new name file (ReadFault other) = (other ≡ file) × Rose old.faults new.faults
-IsFileOutcome old new name file (TooLong other) = (other ≡ file) × Told old name (λ held. IsSomeAnd held (λ bytes. most_bytes < length bytes))
-IsFileOutcome old new name file OutOfMemory = Unit {0}
-IsFileOutcome old new name file Done = ⊥
-IsFileOutcome old new name file Usage = ⊥
-IsFileOutcome old new name file WriteFault = ⊥
-IsFileOutcome old new name file (BadRegion fault) = ⊥
+-- the certificate is read, and this is its first clause that fails, and the first place where it does
+pub record AtInvalid (caps : Caps) (shelf : ShelfMeaning) (r : Request) (clause at : ℕ) : Type 0 where
+  pub verifies : r.command ≡ Verify
+  pub network : NetworkLists
+  pub given : List ℕ
+  pub files : HasFiles caps shelf r network given
+  pub claim : Claim
+  pub spells : IsCertText given claim
+  pub fails : IsCertVerdict network claim (verdict.Invalid clause at)
 
--- why no region was read
-abbrev pub IsRegionOutcome : Caps → ShelfMeaning → ShelfMeaning → List ℕ → Outcome → Type 0
-IsRegionOutcome caps old new name (BadRegion fault) = AtBadRegion caps old name fault
-IsRegionOutcome caps old new name (Missing file) = IsFileOutcome old new name Region (Missing file)
-IsRegionOutcome caps old new name (ReadFault file) = IsFileOutcome old new name Region (ReadFault file)
-IsRegionOutcome caps old new name (TooLong file) = IsFileOutcome old new name Region (TooLong file)
-IsRegionOutcome caps old new name OutOfMemory = Unit {0}
-IsRegionOutcome caps old new name Done = ⊥
-IsRegionOutcome caps old new name Usage = ⊥
-IsRegionOutcome caps old new name WriteFault = ⊥
-
-abbrev pub IsUnwritten : SinkMeaning → SinkMeaning → Type 0
-IsUnwritten before after = after.bytes ≡ before.bytes
-
--- why the block of a line was not written whole
-abbrev pub IsBlockOutcome : SinkMeaning → SinkMeaning → NetworkLists → List ℕ → Outcome → Type 0
-IsBlockOutcome before after n line WriteFault = Rose before.faults after.faults × WrotePart before after n line
-IsBlockOutcome before after n line OutOfMemory = IsUnwritten before after
-IsBlockOutcome before after n line _ = ⊥
-
--- why the blocks of some lines were not all written
-abbrev pub IsBlocksOutcome : SinkMeaning → SinkMeaning → NetworkLists → List (List ℕ) → Outcome → Type 0
-IsBlocksOutcome before after n lines WriteFault = Rose before.faults after.faults × WroteFront before after n lines
-IsBlocksOutcome before after n lines OutOfMemory = WroteFront before after n lines
-IsBlocksOutcome before after n lines _ = ⊥
-
--- what an outcome says of a run that was given the names of its files
-abbrev pub IsOutcomeFor : Caps → ShelfMeaning → ShelfMeaning → Names → SinkMeaning → SinkMeaning → Outcome → Type 0
-IsOutcomeFor caps old new names before after Done = AtDone caps old names before after
-IsOutcomeFor caps old new names before after Usage = ⊥
-IsOutcomeFor caps old new names before after (Missing file) =
-    Accepted caps old names file × Rose old.misses new.misses × Told old (name_of names file) (λ held. held ≡ None) × IsUnwritten before after
-IsOutcomeFor caps old new names before after (ReadFault file) = Accepted caps old names file × Rose old.faults new.faults × IsUnwritten before after
-IsOutcomeFor caps old new names before after (TooLong file) =
-    Accepted caps old names file × Told old (name_of names file) (λ held. IsSomeAnd held (λ bytes. most_bytes < length bytes)) × IsUnwritten before after
-IsOutcomeFor caps old new names before after WriteFault = AtWriteFault caps old names before after
-IsOutcomeFor caps old new names before after (BadRegion fault) = AtBadRegion caps old names.region fault × IsUnwritten before after
-IsOutcomeFor caps old new names before after OutOfMemory = IsUnwritten before after ⊎ AtNoMemory caps old names before after
+-- what an outcome says of a run for this request
+abbrev pub IsOutcomeFor : Caps → ShelfMeaning → ShelfMeaning → Request → SinkMeaning → SinkMeaning → Outcome → Type 0
+IsOutcomeFor caps old new r before after Done = AtDone caps old r before after
+IsOutcomeFor caps old new r before after Usage = ⊥
+IsOutcomeFor caps old new r before after (Missing file) = AtMissing caps old new r file × IsUnwritten before after
+IsOutcomeFor caps old new r before after (ReadFault file) = AtReadFault caps old new r file × IsUnwritten before after
+IsOutcomeFor caps old new r before after (TooLong file) = AtTooLong caps old r file × IsUnwritten before after
+IsOutcomeFor caps old new r before after WriteFault = Rose before.faults after.faults × AtFront caps old r before after
+IsOutcomeFor caps old new r before after (BadRegion fault) = AtBadRegion caps old r.region fault × IsUnwritten before after
+IsOutcomeFor caps old new r before after (Invalid clause at) = AtInvalid caps old r clause at × IsUnwritten before after
+IsOutcomeFor caps old new r before after (BadCertificate line) = AtBadCertificate caps old r line × IsUnwritten before after
+IsOutcomeFor caps old new r before after OutOfMemory = IsUnwritten before after ⊎ AtFront caps old r before after
 
 -- what a run with these words says by its outcome: it is refused exactly where the words are no command's
 abbrev pub IsOutcome : Caps → List (List ℕ) → ShelfMeaning → ShelfMeaning → SinkMeaning → SinkMeaning → Outcome → Type 0
 IsOutcome caps words old new before after Usage = IsRefusedFor words × IsUnwritten before after
-IsOutcome caps words old new before after outcome = (names : Names) × AreWords words names × IsOutcomeFor caps old new names before after outcome
+IsOutcome caps words old new before after outcome = (r : Request) × AreWords words r × IsOutcomeFor caps old new r before after outcome

@@ -1,5 +1,5 @@
 -- What a plan answers to a query.
-use Rattle.std.specs.Prelude.{◌≡◌, ℕ, ◌<◌, ◌^◌, ◌↔◌, List, Option, Some, None, All, Contains}
+use Rattle.std.specs.Prelude.{◌≡◌, ℕ, ◌<◌, ◌^◌, List, Option, Some, None, All, IfSome, option_map}
 use Rattle.mode_expression.specs.Form.{form_of, IsUsable}
 use Rattle.search_laws.specs.LabelLaws.{LabelsMeaning}
 use Rattle.product_search.specs.declared.label.Label.{Label}
@@ -11,22 +11,21 @@ use Rattle.automaton.specs.Written.{written}
 use Rattle.automaton.specs.States.{IsPositionAutomaton}
 use Rattle.automaton.specs.Collapsed.{collapsed}
 use Rattle.plain_graph.specs.PlainArcs.{plain_meaning}
-use Rattle.mode_network.specs.declared.endpoints.Endpoint.{Endpoint}
 use Rattle.timetable_arcs.specs.Patterns.{TableLists}
 use Rattle.timetable_arcs.specs.Table.{IsTable}
 use Rattle.mode_network.specs.NetworkLists.{NetworkLists}
 use Rattle.mode_network.specs.Timetables.{IsTimetableOf}
 use Rattle.mode_network.specs.Journeys.{Route, AreSteps}
-use Rattle.mode_network.specs.Copies.{IsCopy}
 use Rattle.journey.specs.declared.query.Query.{Query}
 use Rattle.journey.specs.Queries.{IsQuery}
 use Rattle.journey.specs.CopyLists.{AreTheCopies}
 use Rattle.journey.specs.Best.{Asked, IsBest, HasNone}
 use Rattle.journey.specs.Blocks.{IsPrintable}
-
--- what a query asks
-abbrev pub asked_by : Query → Asked
-asked_by q = record { from = q.from; to = q.to; depart = q.depart; form = form_of q.expr }
+use Rattle.journey.specs.Real.{EndsAt}
+use Rattle.certificate.specs.Lines.{HasLabelTime, IsTime}
+use Rattle.certificate.specs.Texts.{FitsResult}
+use Rattle.certificate.specs.Valid.{IsValid}
+use Rattle.certificate.specs.Verdicts.{asked_by, claim_on}
 
 -- the query was read from its line on this network
 pub record IsRead (n : NetworkLists) (q : Query) : Type 0 where
@@ -39,6 +38,27 @@ abbrev pub IsPlan : NetworkLists → Asked → Option Route → Type 0
 IsPlan n q (Some j) = IsBest n q j × IsPrintable n j
 IsPlan n q None = HasNone n q
 
+-- a journey that was found with its arrival, if one was
+abbrev pub route_of : Option (ℕ × Route) → Option Route
+route_of found = option_map (λ best. best.1) found
+
+-- an arrival and a journey, where there are both
+abbrev pub both : Option ℕ → Option Route → Option (ℕ × Route)
+both (Some arrival) (Some j) = Some (arrival, j)
+both _ _ = None
+
+-- What was found for a query can be certified: a certificate of it is valid, and a text can hold it.
+pub record IsCertifiable (n : NetworkLists) (q : Query) (found : Option (ℕ × Route)) (labels : List Label) : Type 0 where
+  pub valid : IsValid n (claim_on q found labels)
+  pub asked : valid.setting.asked ≡ asked_by q
+  pub result : FitsResult found
+  pub labels_fit : All HasLabelTime labels
+
+-- the journey, if there is one, arrives at a time below 10 ^ 30, and so are those of the labels
+pub record AreInTime (n : NetworkLists) (journey : Option Route) (labels : List Label) : Type 0 where
+  pub arrival : IfSome journey (λ j. (w : ℕ) × (u : ℕ) × EndsAt n j w u × IsTime u)
+  pub labels_fit : All HasLabelTime labels
+
 -- the labels over the network's graph with this timetable: all product states that are reached before the least arrival, each with
 -- the least time at which it is
 pub record AreLabelsOver (n : NetworkLists) (table : TableLists) (automaton : LabelsMeaning) (starts targets : List ℕ) (depart : ℕ) (arrival : Option ℕ) (labels : List Label) : Type 0 where
@@ -47,12 +67,12 @@ pub record AreLabelsOver (n : NetworkLists) (table : TableLists) (automaton : La
 
 -- The labels of the search over the network's graph and the automaton of the expression. There is a timetable of the network's trips; and
 -- with each one, however it sorts the runs into patterns, these are the labels.
-pub record AreTheLabels (n : NetworkLists) (q : Query) (labels : List Label) : Type 0 where
+pub record AreTheLabels (n : NetworkLists) (q : Asked) (labels : List Label) : Type 0 where
   pub table : TableLists
   pub of : IsTimetableOf n table
   pub keeps : IsTable table
   pub automaton : LabelsMeaning
-  pub positions : IsPositionAutomaton (written (form_of q.expr)) automaton
+  pub positions : IsPositionAutomaton (written q.form) automaton
   pub starts : List ℕ
   pub targets : List ℕ
   pub origin : AreTheCopies n q.from starts

@@ -1,11 +1,16 @@
 //! The planner: a best journey for a query, and what a command writes.
 #![tactic(auto)]
 
+mod answering;
 mod blocks;
+mod certifying;
+pub mod command;
+mod files;
 pub mod outcome;
 pub mod plans;
 mod running;
 
+pub use command::Command;
 pub use outcome::{FileRole, Outcome};
 pub use plans::{Answer, plan};
 pub use running::{run, run_within};

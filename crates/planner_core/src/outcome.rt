@@ -8,6 +8,7 @@ use std::alloc::{AllocError, Global};
 pub enum FileRole {
     Region,
     Queries,
+    Certificate,
 }
 
 impl FileRole {
@@ -16,6 +17,7 @@ impl FileRole {
         match self {
             FileRole::Region => "region",
             FileRole::Queries => "queries",
+            FileRole::Certificate => "certificate",
         }
     }
 }
@@ -37,6 +39,11 @@ pub enum Outcome {
     WriteFault,
     /// The region file spells no region; this is its first fault.
     BadRegion { fault: RegionFault },
+    /// The certificate is not valid: this clause is the first that fails, at this place.
+    Invalid { clause: u8, at: u64 },
+    /// The certificate file is no text of a certificate: this line, counted from 1, is the first that may not stand
+    /// where it does.
+    BadCertificate { line: u64 },
     /// Memory ran out.
     OutOfMemory,
 }
@@ -52,6 +59,8 @@ impl Outcome {
             Outcome::TooLong { .. } => 5,
             Outcome::WriteFault => 6,
             Outcome::BadRegion { .. } => 7,
+            Outcome::Invalid { .. } => 11,
+            Outcome::BadCertificate { .. } => 12,
             Outcome::OutOfMemory => 13,
         }
     }
@@ -59,8 +68,10 @@ impl Outcome {
     /// The line that says to people how the run ended.
     pub fn note(self, alloc: Global) -> Result<String, AllocError> {
         match self {
-            Outcome::Done => format!(in alloc; "modeplan: each query line has its block\n"),
-            Outcome::Usage => format!(in alloc; "usage: modeplan answer REGION QUERIES\n"),
+            Outcome::Done => format!(in alloc; "modeplan: all is written\n"),
+            Outcome::Usage => format!(in alloc;
+                "usage: modeplan answer REGION QUERIES | certify REGION QUERY | verify REGION CERTIFICATE\n"
+            ),
             Outcome::Missing { file } => {
                 format!(in alloc; "modeplan: there is no {} file of this name\n", file.name())
             }
@@ -99,6 +110,14 @@ impl Outcome {
                 fault: RegionFault::Trailing { at },
             } => {
                 format!(in alloc; "modeplan: line {at} of the region file comes after its `end`\n")
+            }
+            Outcome::Invalid { clause, at } => {
+                format!(in alloc;
+                    "modeplan: the certificate is not valid: clause {clause} fails at {at}\n"
+                )
+            }
+            Outcome::BadCertificate { line } => {
+                format!(in alloc; "modeplan: line {line} of the certificate may not stand there\n")
             }
             Outcome::BadRegion {
                 fault: RegionFault::OutOfMemory,

@@ -1,12 +1,14 @@
 //! A best journey for a query.
 
-ghost use Rattle.std.specs.Prelude.{IfOk};
-ghost use Rattle.planner_core.specs.Plans.{IsRead, IsPlan, AreTheLabels, IsPlainWalk, IsUnpacked, asked_by};
+ghost use Rattle.std.specs.Prelude.{◌≡◌, IfOk, is_some};
+ghost use Rattle.planner_core.specs.Plans.{IsRead, IsPlan, AreTheLabels, AreInTime, IsCertifiable, IsPlainWalk, IsUnpacked, both, route_of};
+ghost use Rattle.certificate.specs.Verdicts.{asked_by};
 
 use automaton::{Collapsed, Positions};
 use journey::{Query, copies};
 use mode_network::{Journey, Network};
 use plain_graph::Plain;
+use plan_base::Time;
 use product_search::{Found, Label, Walk, search};
 use std::alloc::{AllocError, Global};
 use unpack::from_plain;
@@ -18,11 +20,47 @@ pub struct Answer {
     pub labels: Vec<Label>,
 }
 
-/// A best journey for a query, or none exactly where no journey answers it; and exactly the labels of the search.
+/// What is found for a query: a best journey and when it arrives, if any journey answers, and the labels of the search.
+#[derive(Drop)]
+pub(crate) struct FoundPlan {
+    pub best: Option<(Time, Journey)>,
+    pub labels: Vec<Label>,
+}
+
+/// A best journey for a query, or none exactly where no journey answers it; and exactly the labels of the search. The
+/// arrival and the times of the labels are below 10^30.
 pub fn plan(alloc: Global, network: &Network, query: &Query) -> Result<Answer, AllocError>
     requires { IsRead network.now query.now }
     ensures journey { IfOk result (λ answer. IsPlan network.now (asked_by query.now) answer.journey) }
-    ensures labels { IfOk result (λ answer. AreTheLabels network.now query.now answer.labels.items) }
+    ensures labels { IfOk result (λ answer. AreTheLabels network.now (asked_by query.now) answer.labels.items) }
+    ensures times { IfOk result (λ answer. AreInTime network.now answer.journey answer.labels.items) }
+{
+    let FoundPlan { best, labels } = find_plan(alloc, network, query)?;
+    let journey = journey_of(best);
+    Ok(Answer { journey, labels })
+}
+
+/// A journey that was found with its arrival.
+fn journey_of(best: Option<(Time, Journey)>) -> Option<Journey>
+    ensures { result ≡ route_of best }
+{
+    match best {
+        Some((_, journey)) => Some(journey),
+        None => None,
+    }
+}
+
+/// A best journey for a query and when it arrives, or none exactly where no journey answers it; and exactly the labels of
+/// the search. A certificate of these is valid.
+pub(crate) fn find_plan(
+    alloc: Global,
+    network: &Network,
+    query: &Query,
+) -> Result<FoundPlan, AllocError>
+    requires { IsRead network.now query.now }
+    ensures journey { IfOk result (λ found. IsPlan network.now (asked_by query.now) (route_of found.best)) }
+    ensures labels { IfOk result (λ found. AreTheLabels network.now (asked_by query.now) found.labels.items) }
+    ensures certifiable { IfOk result (λ found. IsCertifiable network.now query.now found.best found.labels.items) }
 {
     let plain = Plain::new(network);
     network.known();
@@ -39,12 +77,13 @@ pub fn plan(alloc: Global, network: &Network, query: &Query) -> Result<Answer, A
         None,
     )?;
     let Found {
-        arrival: _,
+        arrival,
         labels,
         walk,
     } = found;
     let journey = unpacked(alloc, &plain, &walk)?;
-    Ok(Answer { journey, labels })
+    let best = with_arrival(arrival, journey);
+    Ok(FoundPlan { best, labels })
 }
 
 /// The journey of a walk that was found, if one was.
@@ -62,5 +101,15 @@ fn unpacked(
             Ok(Some(journey))
         }
         None => Ok(None),
+    }
+}
+
+/// A journey with its arrival, where there are both.
+fn with_arrival(arrival: Option<Time>, journey: Option<Journey>) -> Option<(Time, Journey)>
+    ensures { result ≡ both arrival journey }
+{
+    match (arrival, journey) {
+        (Some(arrival), Some(journey)) => Some((arrival, journey)),
+        _ => None,
     }
 }

@@ -1,3 +1,5 @@
+mod certificates;
+
 use super::*;
 use mode_network::NetFault;
 use plan_base::{Kind, MemoryShelf, MemorySink};
@@ -190,6 +192,17 @@ fn run_on(
             given.push(String::from_str(alloc, word)?)?;
         }
     }
+    run_words(alloc, &given, region, queries, ends)
+}
+
+/// Runs the words, where these are the files `r` and `q`.
+fn run_words(
+    alloc: Global,
+    given: &[String],
+    region: Option<&[u8]>,
+    queries: Option<&[u8]>,
+    ends: Ends<'_>,
+) -> Result<Told, AllocError> {
     let mut held = BTreeMap::new(alloc);
     if let Some(bytes) = region {
         held.insert(
@@ -207,7 +220,7 @@ fn run_on(
     let fail = Vec::from_slice(alloc, ends.fail_writes)?;
     let mut out = MemorySink::new(alloc, ends.room, ends.most.max(1), fail)?;
     let mut notes = MemorySink::new(alloc, ends.notes, 7, Vec::new(alloc))?;
-    let outcome = run(alloc, &given, &mut shelf, &mut out, &mut notes);
+    let outcome = run(alloc, given, &mut shelf, &mut out, &mut notes);
     Ok(Told {
         outcome,
         out: Vec::from_slice(alloc, out.bytes())?,
@@ -525,7 +538,7 @@ fn how_a_run_ends(rt: HostRuntime) -> Result<(), Fail> {
         ("modeplan answers r q", walk, many, &[], Outcome::Usage),
         ("modeplan Answer r q", walk, many, &[], Outcome::Usage),
         ("answer r q answer", walk, many, &[], Outcome::Usage),
-        ("modeplan verify r q", None, None, &[1], Outcome::Usage),
+        ("modeplan check r q", None, None, &[1], Outcome::Usage),
         ("any answer r q", walk, many, &[], Outcome::Done),
         (ANSWER, walk, many, &[5], Outcome::Done),
         (ANSWER, None, None, &[], Outcome::Missing { file: region }),
@@ -726,6 +739,8 @@ fn each_outcome_has_a_status_and_a_note(rt: HostRuntime) -> Result<(), Fail> {
         (bad(RegionFault::BadHead), 7),
         (bad(RegionFault::BadRecord { at: 4 }), 7),
         (bad(RegionFault::Trailing { at: 9 }), 7),
+        (Outcome::Invalid { clause: 9, at: 0 }, 11),
+        (Outcome::BadCertificate { line: 3 }, 12),
         (Outcome::OutOfMemory, 13),
     ];
     for (outcome, status) in cases {

@@ -1,6 +1,7 @@
 use Rattle.std.proofs.Common.{Option, subst}
 use Rattle.mode_network.specs.Journeys.{Route}
-use Rattle.planner_core.specs.Plans.{asked_by, IsPlan}
+use Rattle.certificate.specs.Verdicts.{asked_by}
+use Rattle.planner_core.specs.Plans.{IsPlan}
 use Rattle.planner_core.proofs.blocks.body.Goals as goal
 
 pub returns-clause-right : goal.returns-clause-right

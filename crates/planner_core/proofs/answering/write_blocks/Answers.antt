@@ -3,7 +3,7 @@ use Rattle.std.proofs.lemmas.Result.{err_from_is_err_and}
 use Rattle.planner_core.specs.Written.{as_query}
 use Rattle.planner_core.proofs.WriteLemmas.{writing_writes}
 use Rattle.planner_core.proofs.OutcomeLemmas.{block_fails}
-use Rattle.planner_core.proofs.running.write_blocks.Goals as goal
+use Rattle.planner_core.proofs.answering.write_blocks.Goals as goal
 
 pub returns-in_err-write_block-clause-err : goal.returns-in_err-write_block-clause-err
 returns-in_err-write_block-clause-err g c =

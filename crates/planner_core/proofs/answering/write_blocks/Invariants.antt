@@ -1,6 +1,6 @@
 use Rattle.std.proofs.Common.{◌≤◌, length}
 use Rattle.planner_core.proofs.WriteLemmas.{IsWriting}
-use Rattle.planner_core.proofs.running.write_blocks.Given as goal
+use Rattle.planner_core.proofs.answering.write_blocks.Given as goal
 
 abbrev pub invariant-loop-line : goal.invariant-loop-line
 invariant-loop-line g l = record {

@@ -1,0 +1,154 @@
+//! The commands `certify` and `verify`: a certificate for a query line, and what a certificate shows.
+
+ghost use Rattle.std.specs.Prelude.{◌≡◌, IfOk, IfErr, OnOk};
+ghost use Rattle.plain_texts.specs.Lines.{IsLine};
+ghost use Rattle.plan_base.specs.Shelves.{ShelfMeaning};
+ghost use Rattle.plan_base.specs.Sinks.{Appended};
+ghost use Rattle.journey.specs.Blocks.{IsPrintableBody};
+ghost use Rattle.planner_core.specs.declared.command.Command.TheVariants as command;
+ghost use Rattle.planner_core.specs.declared.outcome.Outcome.TheVariants.{Done};
+ghost use Rattle.planner_core.specs.Plans.{IsRead};
+ghost use Rattle.planner_core.specs.Outputs.{IsCertificateFor, IsCertified, IsVerified, TellsValid, body_of};
+ghost use Rattle.planner_core.specs.Working.{IsTextOutcome, IsUnverified, IsWorkOutcome};
+
+use crate::files::read_file;
+use crate::outcome::{FileRole, Outcome};
+use crate::plans::{FoundPlan, find_plan};
+use certificate::{CertFault, CertVerdict, Certificate, print, read};
+use journey::{BlockBody, Query, QueryFault, block, read_query};
+use mode_network::{Journey, Network};
+use plan_base::{Shelf, Sink, Time, write_all};
+use std::alloc::{AllocError, Global};
+
+/// Writes the certificate of a query line, or its block where the line is refused.
+pub(crate) fn certify<O: Sink>(
+    alloc: Global,
+    network: &Network,
+    line: &[u8],
+    out: &mut O,
+) -> Result<(), Outcome>
+    ensures ok { OnOk result ((old new : ShelfMeaning) → IsWorkOutcome command.Certify network.now old new line.now (O.meaning out.old) (O.meaning out.new) Done) }
+    ensures err { IfErr result (λ outcome. (old new : ShelfMeaning) → IsWorkOutcome command.Certify network.now old new line.now (O.meaning out.old) (O.meaning out.new) outcome) }
+{
+    let Ok(text) = certified(alloc, network, line) else {
+        return Err(Outcome::OutOfMemory);
+    };
+    write_text(out, &text)?;
+    Ok(())
+}
+
+/// Reads the certificate file of this name, and writes that it is valid and the block of its line and result.
+pub(crate) fn verify<F: Shelf, O: Sink>(
+    alloc: Global,
+    network: &Network,
+    name: &str,
+    shelf: &mut F,
+    out: &mut O,
+) -> Result<(), Outcome>
+    ensures ok { OnOk result (IsWorkOutcome command.Verify network.now (F.meaning shelf.old) (F.meaning shelf.new) name.now (O.meaning out.old) (O.meaning out.new) Done) }
+    ensures err { IfErr result (IsWorkOutcome command.Verify network.now (F.meaning shelf.old) (F.meaning shelf.new) name.now (O.meaning out.old) (O.meaning out.new)) }
+{
+    let bytes = read_file(alloc, shelf, name, FileRole::Certificate)?;
+    let text = verified(alloc, network, &bytes)?;
+    write_text(out, &text)?;
+    Ok(())
+}
+
+/// The text of the certificate of a query line, or its block where the line is refused.
+fn certified(alloc: Global, network: &Network, line: &[u8]) -> Result<Vec<u8>, AllocError>
+    ensures { IfOk result (λ text. IsCertified network.now line.now text.items) }
+{
+    match read_query(alloc, network, line) {
+        Ok(query) => {
+            let text = certificate_text(alloc, network, query)?;
+            Ok(text)
+        }
+        Err(QueryFault::OutOfMemory) => Err(AllocError),
+        Err(fault) => {
+            let text = block(alloc, network, line, &BlockBody::Refused(fault))?;
+            Ok(text)
+        }
+    }
+}
+
+/// The text of a query's certificate.
+fn certificate_text(alloc: Global, network: &Network, query: Query) -> Result<Vec<u8>, AllocError>
+    requires read { IsRead network.now query }
+    requires line { IsLine query.line }
+    ensures { IfOk result (λ text. IsCertificateFor network.now query.line text.items) }
+{
+    let FoundPlan { best, labels } = find_plan(alloc, network, &query)?;
+    let certificate = Certificate {
+        line: query.line,
+        phases: false,
+        result: best,
+        labels,
+    };
+    let text = print(alloc, &certificate)?;
+    Ok(text)
+}
+
+/// What is written of the bytes of a valid certificate; or why they are none.
+fn verified(alloc: Global, network: &Network, bytes: &[u8]) -> Result<Vec<u8>, Outcome>
+    ensures ok { IfOk result (λ text. IsVerified network.now bytes.now text.items) }
+    ensures err { IfErr result (IsUnverified network.now bytes.now) }
+{
+    network.known();
+    let certificate = match read(alloc, bytes) {
+        Ok(certificate) => certificate,
+        Err(CertFault::BadLine { line }) => return Err(Outcome::BadCertificate { line }),
+        Err(CertFault::OutOfMemory) => return Err(Outcome::OutOfMemory),
+    };
+    match certificate::verify(alloc, network, &certificate) {
+        Ok(CertVerdict::Valid) => {}
+        Ok(CertVerdict::Invalid { clause, at }) => return Err(Outcome::Invalid { clause, at }),
+        Err(_) => return Err(Outcome::OutOfMemory),
+    }
+    match valid_text(alloc, network, certificate) {
+        Ok(text) => Ok(text),
+        Err(_) => Err(Outcome::OutOfMemory),
+    }
+}
+
+/// `valid` and the block of what a certificate claims.
+fn valid_text(
+    alloc: Global,
+    network: &Network,
+    certificate: Certificate,
+) -> Result<Vec<u8>, AllocError>
+    requires { IsPrintableBody network.now (body_of certificate.result) }
+    ensures { IfOk result (λ text. TellsValid network.now certificate.line (body_of certificate.result) text.items) }
+{
+    let Certificate {
+        line,
+        phases: _,
+        result,
+        labels: _,
+    } = certificate;
+    let body = body_of(result);
+    let block = block(alloc, network, line.as_slice(), &body)?;
+    let mut text = Vec::from_slice(alloc, b"valid\n")?;
+    text.extend_from_slice(&block)?;
+    Ok(text)
+}
+
+/// What a certificate claims, as the body of a block.
+fn body_of(claimed: Option<(Time, Journey)>) -> BlockBody
+    ensures { result ≡ body_of claimed }
+{
+    match claimed {
+        Some((_, journey)) => BlockBody::Journey(journey),
+        None => BlockBody::Nothing,
+    }
+}
+
+/// Writes a text.
+fn write_text<O: Sink>(out: &mut O, text: &[u8]) -> Result<(), Outcome>
+    ensures ok { OnOk result (Appended (O.meaning out.old) (O.meaning out.new) text.now) }
+    ensures err { IfErr result (IsTextOutcome (O.meaning out.old) (O.meaning out.new) text.now) }
+{
+    match write_all(out, text) {
+        Ok(()) => Ok(()),
+        Err(_) => Err(Outcome::WriteFault),
+    }
+}
