@@ -12,3 +12,4 @@ mod CheckLemmas
 mod StartLemmas
 mod BoundLemmas
 mod ClosureLemmas
+mod LetterLemmas

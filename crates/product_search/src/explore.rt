@@ -1,6 +1,6 @@
 //! The arcs out of a settled product state, each offered to the frontier.
 
-ghost use Rattle.std.specs.Prelude.{◌≡◌, ℕ, ◌+◌, ◌<◌, ◌^◌, false, Some, OnOk, IfSome, IsTrue, IsBitSet, ◌↔◌};
+ghost use Rattle.std.specs.Prelude.{◌≡◌, ◌≢◌, ℕ, ◌+◌, ◌<◌, ◌^◌, false, None, Some, OnOk, IfSome, IsTrue, IsFalse, IsBitSet, ◌↔◌};
 ghost use Rattle.search_laws.specs.LabelLaws.{AllAfter};
 ghost use Rattle.product_search.specs.Reach.{IsWithin};
 ghost use Rattle.product_search.specs.Waiting.{IsQueueRight};
@@ -30,21 +30,49 @@ pub(crate) fn explore<G: Graph, L: Labels>(
     ensures reached { OnOk result ((i : ℕ) → i < (G.meaning graph.now).arcs from.node
         → ArcIsReached (G.meaning graph.now) (L.automaton labels.now) bound frontier.new from.node from.state from.at i) }
 {
+    let letters = letters_after(labels, from.state);
     for i in 0..graph.arcs(from.node) {
-        explore_arc(frontier, graph, labels, bound, from, i)?;
+        explore_arc(frontier, graph, labels, bound, from, letters, i)?;
     }
     Ok(())
 }
 
-/// Offers what one arc leads to, if it arrives within the bound.
+/// The letters by which moves leave a state, as bits.
+fn letters_after<L: Labels>(labels: &L, state: u32) -> u32
+    requires { state < (L.automaton labels.now).states }
+    ensures { (j c : ℕ) → j < (L.automaton labels.now).moves state → IsBitSet ((L.automaton labels.now).move_at state j).letters c
+        → IsBitSet result c }
+{
+    let mut letters = 0;
+    for j in 0..labels.moves(state) {
+        letters |= labels.move_at(state, j).letters;
+    }
+    letters
+}
+
+/// Whether an arc may be taken in a state that moves leave by these letters.
+fn is_open(letters: u32, letter: Option<u8>) -> bool
+    requires { IfSome letter (λ c. c < 14) }
+    ensures { IsFalse result → IfSome letter (λ c. IsBitSet letters c → ⊥) × (letter ≢ None) }
+{
+    match letter {
+        None => true,
+        Some(letter) => letters & (1 << letter) != 0,
+    }
+}
+
+/// Offers what one arc leads to, if a move is by its letter and it arrives within the bound.
 fn explore_arc<G: Graph, L: Labels>(
     frontier: &mut Frontier,
     graph: &G,
     labels: &L,
     bound: Option<Time>,
     from: Settled,
+    letters: u32,
     i: u64,
 ) -> Result<(), AllocError>
+    requires letters { (j c : ℕ) → j < (L.automaton labels.now).moves from.state
+        → IsBitSet ((L.automaton labels.now).move_at from.state j).letters c → IsBitSet letters c }
     requires node { from.node < (G.meaning graph.now).nodes }
     requires arc { i < (G.meaning graph.now).arcs from.node }
     requires state { from.state < (L.automaton labels.now).states }
@@ -58,9 +86,12 @@ fn explore_arc<G: Graph, L: Labels>(
     ensures reached { OnOk result
         (ArcIsReached (G.meaning graph.now) (L.automaton labels.now) bound frontier.new from.node from.state from.at i) }
 {
+    let arc = graph.arc_at(from.node, i);
+    if !is_open(letters, arc.letter) {
+        return Ok(());
+    }
     if let Some(at) = graph.arrive(from.node, i, from.at) {
         if is_within(bound, at) {
-            let arc = graph.arc_at(from.node, i);
             let parent = Parent {
                 node: from.node,
                 state: from.state,
