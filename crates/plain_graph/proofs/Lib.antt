@@ -1,2 +1,4 @@
 pub mod Same
 mod RunLemmas
+mod BoardTies
+mod PlaceTies

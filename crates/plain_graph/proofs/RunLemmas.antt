@@ -1,5 +1,5 @@
 -- The run that a ride takes is one of the timetable.
-use Rattle.std.proofs.Common.{◌≡◌, ℕ, ◌<◌, ◌≤◌, ◌^◌, ◌%◌, length, Bool, true, false, nat_lt, Some, refl, ap, arith, lit<}
+use Rattle.std.proofs.Common.{◌≡◌, ℕ, ◌<◌, ◌≤◌, ◌^◌, ◌%◌, length, Bool, true, false, nat_lt, Some, refl, ap, subst, arith, lit<}
 use Rattle.std.specs.Int.{bit_at}
 use Rattle.std.proofs.Math.Nat.{div-eq_of_lt, pow-le-pow_right}
 use Rattle.std.proofs.lemmas.Bool.{ltb-true, ltb-false}
@@ -8,10 +8,10 @@ use Rattle.plan_base.specs.declared.days.DaySet.{DaySet}
 use Rattle.plan_base.specs.DaySets.{contains_day}
 use Rattle.timetable_arcs.specs.declared.trips.Instance.{Instance}
 use Rattle.timetable_arcs.specs.declared.rides.Ride.{Ride}
-use Rattle.timetable_arcs.specs.Patterns.{TableLists, trip_at, pattern_trip, no_call}
+use Rattle.timetable_arcs.specs.Patterns.{TableLists, IsIn, AreAlike, call_of, trip_at, pattern_trip, no_call}
 use Rattle.timetable_arcs.specs.Table.{IsTable}
 use Rattle.timetable_arcs.proofs.TripLemmas.{trip_well, known_stops}
-use Rattle.timetable_arcs.proofs.TableLemmas.{trip_of_run, trip_of_pattern, next_is}
+use Rattle.timetable_arcs.proofs.TableLemmas.{trip_of_run, trip_of_pattern, next_is, pattern_short}
 use Rattle.mode_network.specs.NetworkLists.{NetworkLists}
 use Rattle.mode_network.specs.Rules.{IsNetwork}
 use Rattle.mode_network.specs.Timetables.{IsTimetableOf}
@@ -38,22 +38,53 @@ pub record IsThere (t : TableLists) (ride : Ride) (run : Instance) : Type 0 wher
   pub day : run.day < length t.bases
   pub call : ride.alight < length (trip_at t run.trip).calls
 
-pub run_there : (t : TableLists) → IsTable t → (ride : Ride) → IsRideOf t ride → (time : ℕ) (run : Instance) → run_at t time ride ≡ Some run → IsThere t ride run
-run_there t table ride is time run e =
-    let is_in = (next_is t table ride.pattern ride.board time run e).0 in
+pub is_there : (t : TableLists) → IsTable t → (ride : Ride) (run : Instance) → IsIn t ride.pattern run → ride.alight < length (pattern_trip t ride.pattern).calls → IsThere t ride run
+is_there t table ride run is_in within =
     let held = table.patterns.are_runs ride.pattern run is_in in
     let well = trip_well (length t.bases) t.stops (trip_at t run.trip) (trip_of_run t table ride.pattern run is_in) in
     let calls = (table.patterns.alike ride.pattern run is_in).calls in
     record {
       trip = slice_get_within t.trips run.trip (trip_at t run.trip) held.is;
       day = day_within (trip_at t run.trip).days (length t.bases) run.day well.within held.runs;
-      call = omega (arith, calls, is.within);
+      call = omega (arith, calls, within);
     }
+
+pub run_there : (t : TableLists) → IsTable t → (ride : Ride) → IsRideOf t ride → (time : ℕ) (run : Instance) → run_at t time ride ≡ Some run → IsThere t ride run
+run_there t table ride is time run e = is_there t table ride run (next_is t table ride.pattern ride.board time run e).0 is.within
+
+-- a call of a pattern is at a stop of the network
+pub call_at_stop : (n : NetworkLists) → IsNetwork n → (t : TableLists) → IsTable t → IsTimetableOf n t → (p call : ℕ) → p < length t.patterns → call < length (pattern_trip t p).calls
+    → (pattern_call t p call).stop < length n.stop_names
+call_at_stop n network t table of p call pattern within =
+    let known = known_stops t.stops (pattern_trip t p) (trip_of_pattern t table p pattern).known in
+    let few = known call no_call within in
+    omega (arith, few, of.stops, network.parts.one_name_each)
 
 -- a ride ends at a stop of the network
 pub ends_at_stop : (n : NetworkLists) → IsNetwork n → (t : TableLists) → IsTable t → IsTimetableOf n t → (ride : Ride) → IsRideOf t ride
     → (pattern_call t ride.pattern ride.alight).stop < length n.stop_names
-ends_at_stop n network t table of ride is =
-    let known = known_stops t.stops (pattern_trip t ride.pattern) (trip_of_pattern t table ride.pattern is.pattern).known in
-    let few = known ride.alight no_call is.within in
-    omega (arith, few, of.stops, network.parts.one_name_each)
+ends_at_stop n network t table of ride is = call_at_stop n network t table of ride.pattern ride.alight is.pattern is.within
+
+-- what is known of a run of a pattern
+pub record IsKnownRun (n : NetworkLists) (t : TableLists) (p : ℕ) (run : Instance) : Type 0 where
+  pub trip : run.trip < length t.trips
+  pub day : run.day < length t.bases
+  pub alike : AreAlike (pattern_trip t p) (trip_at t run.trip)
+  pub few : length (trip_at t run.trip).calls < 2 ^ 32
+  pub stops : (k : ℕ) → k < length (trip_at t run.trip).calls → (call_of t run k).stop < length n.stop_names
+
+pub run_known : (n : NetworkLists) → IsNetwork n → (t : TableLists) → IsTable t → IsTimetableOf n t → (p call : ℕ) (run : Instance)
+    → p < length t.patterns → call < length (pattern_trip t p).calls → IsIn t p run → IsKnownRun n t p run
+run_known n network t table of p call run pattern within is_in =
+    let there = is_there t table (record { pattern = p; board = 0; alight = call }) run is_in within in
+    let alike = table.patterns.alike p run is_in in
+    let short = pattern_short t table p in
+    record {
+      trip = there.trip;
+      day = there.day;
+      alike = alike;
+      few = omega (arith, short, alike.calls);
+      stops = λ k lt.
+      let inside : k < length (pattern_trip t p).calls = omega (arith, lt, alike.calls) in
+      subst (λ (stop : ℕ). stop < length n.stop_names) (alike.each k no_call inside).stop (call_at_stop n network t table of p k pattern inside);
+    }

@@ -29,7 +29,7 @@ use Rattle.plain_graph.specs.Rides.{alights_within, rides_on, takes}
 pub IsLawfulGraph-prop : (g : GraphMeaning) → IsProp (IsLawfulGraph g)
 IsLawfulGraph-prop g = hlevel props
 
-transit_letter : (days stops : ℕ) (trip : TripLists) → IsKeptTrip days stops trip → trip.letter < 14
+pub transit_letter : (days stops : ℕ) (trip : TripLists) → IsKeptTrip days stops trip → trip.letter < 14
 transit_letter days stops trip kept =
     let letter = nat_le 3 trip.letter && nat_le trip.letter 13 in
     let calls = letter && nat_le 2 (length trip.calls) in

@@ -3,3 +3,4 @@ pub mod OutArcs
 pub mod Rides
 pub mod Lawful
 pub mod Simulation
+pub mod BoardWays

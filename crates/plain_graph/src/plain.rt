@@ -1,6 +1,6 @@
 //! A network as a graph.
 
-ghost use Rattle.std.specs.Prelude.{◌≡◌, ◌<◌, ◌^◌, length};
+ghost use Rattle.std.specs.Prelude.{◌≡◌, ◌<◌, ◌+◌, ◌^◌, ◌++◌, ◌∷◌, OnOk, IfOk, length};
 ghost use Rattle.timetable_arcs.specs.Rides.{rides_at};
 ghost use Rattle.search_laws.specs.GraphLaws.{IsLawfulGraph};
 ghost use Rattle.mode_network.specs.NetworkLists.{nodes_of};
@@ -10,8 +10,9 @@ ghost use Rattle.plain_graph.specs.PlainArcs.{plain_meaning};
 ghost use Rattle.plain_graph.specs.Lawful.{IsLawfulGraph-prop};
 
 use mode_network::{Arc, Network};
-use search_laws::{Graph, GraphArc, Time};
-use timetable_arcs::{Ride, Timetable};
+use search_laws::{Graph, GraphArc, Time, Way, is_open};
+use std::alloc::AllocError;
+use timetable_arcs::{Board, Call, Instance, Ride, Timetable};
 
 /// An arc out of a node of the graph.
 #[derive(Clone, Copy, Debug, PartialEq, Eq)]
@@ -38,13 +39,18 @@ pub struct Plain<'a> {
 }
 
 impl<'a> Plain<'a> {
-    ghost use Rattle.std.specs.Prelude.{◌≡◌, ◌<◌, ◌^◌, length, Some, option_map};
+    ghost use Rattle.std.specs.Prelude.{◌≡◌, ◌<◌, ◌+◌, ◌^◌, ◌++◌, ◌∷◌, true, [], OnOk, IfOk, length, Some, option_map, if◌then◌else◌};
+    ghost use Rattle.timetable_arcs.specs.Patterns.{IsIn};
+    ghost use Rattle.timetable_arcs.specs.Rides.{boards_at};
+    ghost use Rattle.timetable_arcs.proofs.RideLemmas.{IsBoardOf};
+    ghost use Rattle.search_laws.specs.Ways.{ways_from};
+    ghost use Rattle.plain_graph.specs.BoardWays.{call_way, run_ways, board_ways, boards_ways};
     ghost use Rattle.timetable_arcs.specs.Patterns.{pattern_trip, arrives};
     ghost use Rattle.timetable_arcs.specs.Table.{IsTable};
     ghost use Rattle.plain_graph.specs.Rides.{IsRideOf, IsKnownRide};
     ghost use Rattle.mode_network.specs.NetworkLists.{nodes_of, stop_node};
     ghost use Rattle.mode_network.specs.Timetables.{IsTimetableOf};
-    ghost use Rattle.plain_graph.specs.PlainArcs.{plain_arc, inner_arc, arcs_at, inner_arcs_at, rides_of, ride_of, run_at, pattern_call};
+    ghost use Rattle.plain_graph.specs.PlainArcs.{plain_meaning, count_from, plain_arc, inner_arc, arcs_at, inner_arcs_at, rides_of, ride_of, run_at, pattern_call};
     ghost use Rattle.plain_graph.specs.Simulation.{WalksAreJourneys, JourneysAreWalks};
 
     /// The graph of a network. Its walks are the network's journeys, and conversely, with the same ends, times
@@ -159,6 +165,180 @@ impl<'a> Plain<'a> {
         let (arrival, _) = self.timetable.at(run.trip, run.day, ride.alight);
         Some(arrival)
     }
+
+    /// Appends the ride to a call of a run, if one may alight there, and answers the place of the next ride.
+    fn push_call(
+        &self,
+        call: Call,
+        letter: u8,
+        base: Time,
+        place: u64,
+        ways: &mut Vec<Way>,
+    ) -> Result<u64, AllocError>
+        requires stop { call.stop < length self.now.network.now.stop_names }
+        requires base { base < 2 ^ 40 }
+        requires place { place + 1 < 2 ^ 64 }
+        ensures next { IfOk result (λ next. next ≡ (if call.alight then place + 1 else place)) }
+        ensures ways { OnOk result (ways.new.items ≡ ways.old.items
+            ++ (if call.alight then call_way self.now.network.now base letter place call ∷ [] else [])) }
+    {
+        if !call.alight {
+            return Ok(place);
+        }
+        ways.push(Way {
+            place,
+            arc: GraphArc {
+                to: self.network.stop_node(call.stop),
+                letter: Some(letter),
+            },
+            at: base + 1000 * Time::from(call.arr),
+        })?;
+        Ok(place + 1)
+    }
+
+    /// Appends the rides of a run from a board, the first of which is the arc at this place.
+    fn push_run(
+        &self,
+        board: Board,
+        run: Instance,
+        first: u64,
+        ways: &mut Vec<Way>,
+    ) -> Result<(), AllocError>
+        requires board { IsBoardOf self.now.timetable.now board }
+        requires run { IsIn self.now.timetable.now board.pattern run }
+        requires place { first < 2 ^ 63 + 2 ^ 34 }
+        ensures { OnOk result (ways.new.items ≡ ways.old.items ++ run_ways self.now.network.now self.now.timetable.now first board (Some run)) }
+    {
+        self.timetable.known();
+        let calls = self.timetable.run_calls(run);
+        let letter = self.timetable.pattern_letter(board.pattern);
+        let base = self.timetable.base(run.day);
+        let mut place = first;
+        for later in board.call as usize + 1..calls.len() {
+            place = self.push_call(calls[later], letter, base, place, ways)?;
+        }
+        Ok(())
+    }
+
+    /// Appends the rides from a board that can be taken, the first of which is the arc at this place.
+    fn push_board(
+        &self,
+        board: Board,
+        first: u64,
+        t: Time,
+        letters: u32,
+        ways: &mut Vec<Way>,
+    ) -> Result<(), AllocError>
+        requires board { IsBoardOf self.now.timetable.now board }
+        requires place { first < 2 ^ 63 + 2 ^ 34 }
+        ensures { OnOk result (ways.new.items ≡ ways.old.items ++ board_ways self.now.network.now self.now.timetable.now t letters first board) }
+    {
+        self.timetable.known();
+        if is_open(letters, Some(self.timetable.pattern_letter(board.pattern))) {
+            if let Some(run) = self.timetable.next(board.pattern, board.call, t) {
+                self.push_run(board, run, first, ways)?;
+            }
+        }
+        Ok(())
+    }
+
+    /// Appends the rides from a stop that can be taken, the first of which is the arc at this place.
+    fn push_boards(
+        &self,
+        stop: u32,
+        first: u64,
+        t: Time,
+        letters: u32,
+        ways: &mut Vec<Way>,
+    ) -> Result<(), AllocError>
+        requires stop { stop < self.now.timetable.now.stops }
+        requires place { first < 2 ^ 34 }
+        ensures { OnOk result (ways.new.items ≡ ways.old.items
+            ++ boards_ways self.now.network.now self.now.timetable.now t letters first (boards_at self.now.timetable.now stop)) }
+    {
+        self.timetable.known();
+        for board in self.timetable.boards(stop) {
+            self.push_board(*board, first + board.before, t, letters, ways)?;
+        }
+        Ok(())
+    }
+
+    /// Appends the road arcs out of `v`, if their mode is in the set.
+    fn push_roads(&self, v: u32, t: Time, letters: u32, ways: &mut Vec<Way>) -> Result<(), AllocError>
+        requires node { v < length (nodes_of self.now.network.now) }
+        requires time { t < 2 ^ 127 }
+        ensures { OnOk result (ways.new.items ≡ ways.old.items
+            ++ ways_from (plain_meaning self.now.network.now self.now.timetable.now) v t letters 0 (count_from self.now.network.now.arcs v)) }
+    {
+        let mode = self.network.mode(v);
+        if is_open(letters, mode) {
+            let (first, past) = self.network.arcs_from(v);
+            for i in 0..past - first {
+                let arc = self.network.arcs()[(first + i) as usize];
+                ways.push(Way {
+                    place: u64::from(i),
+                    arc: GraphArc {
+                        to: arc.to,
+                        letter: mode,
+                    },
+                    at: t + Time::from(arc.ms),
+                })?;
+            }
+        }
+        Ok(())
+    }
+
+    /// Appends the links out of `v`, the first of which is the arc at this place.
+    fn push_links(&self, v: u32, first_place: u64, t: Time, letters: u32, ways: &mut Vec<Way>) -> Result<(), AllocError>
+        requires node { v < length (nodes_of self.now.network.now) }
+        requires place { first_place ≡ count_from self.now.network.now.arcs v }
+        requires time { t < 2 ^ 127 }
+        ensures { OnOk result (ways.new.items ≡ ways.old.items
+            ++ ways_from (plain_meaning self.now.network.now self.now.timetable.now) v t letters first_place (count_from self.now.network.now.links v)) }
+    {
+        let (first, past) = self.network.links_from(v);
+        for i in 0..past - first {
+            let link = self.network.links()[(first + i) as usize];
+            ways.push(Way {
+                place: first_place + u64::from(i),
+                arc: GraphArc {
+                    to: link.to,
+                    letter: None,
+                },
+                at: t + Time::from(link.ms),
+            })?;
+        }
+        Ok(())
+    }
+
+    /// Appends the arc that stands at `v`, or the rides that begin there, the first of which is the arc at this place.
+    fn push_inner(&self, v: u32, first: u64, t: Time, letters: u32, ways: &mut Vec<Way>) -> Result<(), AllocError>
+        requires node { v < length (nodes_of self.now.network.now) }
+        requires place { first ≡ count_from self.now.network.now.arcs v + count_from self.now.network.now.links v }
+        requires few { first < 2 ^ 34 }
+        ensures { OnOk result (ways.new.items ≡ ways.old.items
+            ++ ways_from (plain_meaning self.now.network.now self.now.timetable.now) v t letters first (inner_arcs_at self.now.network.now self.now.timetable.now v)) }
+    {
+        match (self.network.mode(v), self.network.stop_at(v)) {
+            (Some(mode), _) => {
+                if is_open(letters, Some(mode)) {
+                    ways.push(Way {
+                        place: first,
+                        arc: GraphArc {
+                            to: v,
+                            letter: Some(mode),
+                        },
+                        at: t,
+                    })?;
+                }
+            }
+            (None, Some(stop)) => {
+                self.push_boards(stop, first, t, letters, ways)?;
+            }
+            (None, None) => {}
+        }
+        Ok(())
+    }
 }
 
 /// How many rides begin at a stop.
@@ -211,6 +391,17 @@ impl Graph for Plain<'_> {
             PlainArc::Stand => Some(t),
             PlainArc::Ride(ride) => self.ride_arrival(ride, t),
         }
+    }
+
+    fn ways(&self, v: u32, t: Time, letters: u32, ways: &mut Vec<Way>) -> Result<(), AllocError> {
+        let (first_arc, past_arc) = self.network.arcs_from(v);
+        let (first_link, past_link) = self.network.links_from(v);
+        let arcs = (past_arc - first_arc) as u64;
+        let links = (past_link - first_link) as u64;
+        self.push_roads(v, t, letters, ways)?;
+        self.push_links(v, arcs, t, letters, ways)?;
+        self.push_inner(v, arcs + links, t, letters, ways)?;
+        Ok(())
     }
 
     ghost lawful = { λ g. g.lawful };

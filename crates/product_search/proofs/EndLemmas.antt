@@ -82,7 +82,7 @@ not_above g lawful l labels dep at u le = omega (arith, few_states g lawful l la
 -- ---- the end
 
 module _ (g : GraphMeaning) (lawful : IsLawfulGraph g) (l : LabelsMeaning) (labels : IsLawfulLabels l) (starts targets : List ℕ) (dep : ℕ) (bound : Option ℕ)
-    (f f1 : Frontier) (s : Settled) (searching : IsSearching g l starts targets dep bound f) (least : SettlesLeast f f1 s) where
+    (f f1 : Frontier) (s : Settled) (searching : IsSearching g l starts targets dep bound f) (right : IsQueueRight f1) (least : SettlesLeast f f1 s) where
   no_offers : Offers f1 f1 (IsSuccessor g l bound s)
   no_offers = offers_none f1 (IsSuccessor g l bound s)
 
@@ -102,6 +102,7 @@ module _ (g : GraphMeaning) (lawful : IsLawfulGraph g) (l : LabelsMeaning) (labe
 
   pub searched_to : IsSearched g l starts targets dep bound (Some s.at) f1
   searched_to = record {
+    right = right;
     traced = step.traced g lawful l labels starts targets dep bound f f1 f1 s searching least no_offers;
     bounded = λ v q x is. not_above g lawful l labels dep x.at (unsettled g l f1) (step.bounded g lawful l labels starts targets dep bound f f1 f1 s searching least no_offers v q x is);
     within = step.within g lawful l labels starts targets dep bound f f1 f1 s searching least no_offers;
@@ -119,9 +120,10 @@ module _ (g : GraphMeaning) (lawful : IsLawfulGraph g) (l : LabelsMeaning) (labe
   }
 
 module _ (g : GraphMeaning) (lawful : IsLawfulGraph g) (l : LabelsMeaning) (labels : IsLawfulLabels l) (starts targets : List ℕ) (dep : ℕ) (bound : Option ℕ)
-    (f f1 : Frontier) (searching : IsSearching g l starts targets dep bound f) (none : NobodyWaits f) (same : SameReached f f1) where
+    (f f1 : Frontier) (searching : IsSearching g l starts targets dep bound f) (right : IsQueueRight f1) (none : NobodyWaits f) (same : SameReached f f1) where
   pub searched_all : IsSearched g l starts targets dep bound None f1
   searched_all = record {
+    right = right;
     traced = λ v q x is. step.keeps_traced g l starts dep f f1 (λ w r y was settled. same w r ∙ was) v q x x.parent (searching.traced v q x (sym (same v q) ∙ is));
     bounded = λ v q x is. not_above g lawful l labels dep x.at (unsettled g l f) (searching.bounded v q x (sym (same v q) ∙ is));
     within = λ v q x is. searching.within v q x (sym (same v q) ∙ is);

@@ -1,8 +1,10 @@
 pub mod HopLemmas
 pub mod LabelLemmas
+mod HeapLemmas
 mod QueueLemmas
 mod OfferLemmas
 mod SumLemmas
+mod TakenLemmas
 mod StepLemmas
 mod ReachLemmas
 mod EndLemmas

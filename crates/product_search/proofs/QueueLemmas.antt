@@ -1,16 +1,20 @@
--- The queue and the map of a frontier, change by change.
-use Rattle.std.proofs.Common.{◌≡◌, ℕ, Bool, true, false, not, ◌==◌, cond, List, ◌∷◌, Some, None, zero, suc, inl, inr, ◌⊎◌, refl, sym, ◌∙◌, ap, subst, arith}
-use Rattle.std.specs.Prelude.{Option, Contains, IsPermutation, if◌then◌else◌}
+-- The entries and the queue of a frontier, change by change.
+use Rattle.std.proofs.Common.{◌≡◌, ◌≢◌, ℕ, ◌+◌, ◌-◌, ◌<◌, ◌≤◌, Bool, true, false, not, ◌==◌, cond, List, [], ◌∷◌, ◌++◌, length, get_or, map, Some, None, zero, suc, inl, inr, ◌⊎◌, refl, sym, ◌∙◌, ap, subst, arith}
+use Rattle.std.specs.Prelude.{Option, Contains, IsPermutation, slice_get, slice_index, slice_set, if◌then◌else◌}
+use Rattle.std.specs.List.{AllByRecursion, IsDistinct}
+use Rattle.std.specs.Map.{keys_of, lookup}
 use Rattle.std.specs.declared.cmp.Reverse.{Reverse}
-use Rattle.std.specs.BinaryHeap.{heap_items, KeepsHeap, PopsGreatest}
-use Rattle.std.specs.HashMap as hash
-use Rattle.std.specs.HashMap.{HashMap}
-use Rattle.std.proofs.lemmas.Bool.{eqb-true, and_parts, not-true, false≢true}
+use Rattle.std.proofs.lemmas.Bool.{cases_lt, eqb-true, and_parts, not-true, false≢true, cases_eq}
 use Rattle.std.proofs.lemmas.Bool.Decides.{nat_tests}
-use Rattle.std.proofs.lemmas.List.Sorted.{Contains-permutation}
+use Rattle.std.proofs.lemmas.List.{length-set}
+use Rattle.std.proofs.lemmas.Option.{slice_get_within, get_or_from_slice_get}
+use Rattle.std.proofs.lemmas.Map.Keys.{IsDistinct-cons}
 use Rattle.product_search.specs.declared.frontier.Reached.{Reached}
+use Rattle.product_search.specs.declared.frontier.Entry.{Entry}
+use Rattle.product_search.specs.declared.frontier.Settled.{Settled}
 use Rattle.product_search.specs.declared.frontier.Frontier.{Frontier}
-use Rattle.product_search.specs.Waiting.{state_eq, queue_cmp, entry_of, reached_at, waits_at, IsQueueRight, is_same, offered, IsOffered, IsSetAt, SameReached}
+use Rattle.product_search.specs.Queued.{entry_of, Queued, IsQueue, TakesIn, GivesLeast, GivesNone}
+use Rattle.product_search.specs.Waiting.{state_eq, seen, made, settled_now, keyed, keyed_entries, reached_in, reached_at, waits_at, IsAt, IsNowhere, IsApart, IsIndexed, IsClear, IsBehind, IsLast, Waits, IsQueueRight, is_same, offered, IsOffered, IsSetAt, NobodyWaits, SameReached, SettlesLeast}
 
 -- ---- equal keys
 
@@ -33,50 +37,329 @@ if_same v q w r x y z e h = h ∙ ap (λ b. cond b x y) e
 pub if_other : {A : Type 0} (v q w r : ℕ) (x y z : A) → is_same v q w r ≡ false → z ≡ (if is_same v q w r then x else y) → z ≡ y
 if_other v q w r x y z e h = h ∙ ap (λ b. cond b x y) e
 
--- ---- offers
+-- ---- elements of a list after a push and after a write
 
-pub set_at : {S : Type 0} (old new : HashMap (ℕ × ℕ) Reached S) (v q : ℕ) (way : Reached) → hash.Updates state_eq old new (v, q) (Some way) → IsSetAt old new v q way
-set_at old new v q way updates w r = updates.0 (w, r)
+get_below : {X : Type 0} (xs : List X) (x : X) (k : ℕ) (y : X) → slice_get xs k ≡ Some y → slice_get (xs ++ x ∷ []) k ≡ Some y
+get_below [] x k y is = cc
+get_below (z ∷ xs) x zero y is = is
+get_below (z ∷ xs) x (suc k) y is = get_below xs x k y is
 
-contains_head : {X : Type 0} (x : X) (xs : List X) → Contains (x ∷ xs) x
-contains_head x xs = (zero, (omega arith), refl)
+get_last : {X : Type 0} (xs : List X) (x : X) → slice_get (xs ++ x ∷ []) (length xs) ≡ Some x
+get_last [] x = refl
+get_last (z ∷ xs) x = get_last xs x
 
-contains_tail : {X : Type 0} (x : X) (xs : List X) (y : X) → Contains xs y → Contains (x ∷ xs) y
-contains_tail x xs y (k, lt, is) = (suc k, (omega arith), is)
+get_from : {X : Type 0} (xs : List X) (x : X) (k : ℕ) (y : X) → (k ≡ length xs → ⊥) → slice_get (xs ++ x ∷ []) k ≡ Some y → slice_get xs k ≡ Some y
+get_from [] x zero y other is = absurd (other refl)
+get_from [] x (suc k) y other is = cc
+get_from (z ∷ xs) x zero y other is = is
+get_from (z ∷ xs) x (suc k) y other is = get_from xs x k y (λ e. other (ap suc e)) is
 
-head_or_tail : {X : Type 0} (x : X) (xs : List X) (y : X) → Contains (x ∷ xs) y → (x ≡ y) ⊎ Contains xs y
-head_or_tail x xs y (zero, lt, is) = inl is
-head_or_tail x xs y (suc k, lt, is) = inr (k, (omega arith), is)
+get_set_same : {X : Type 0} (xs : List X) (k : ℕ) (x y : X) → slice_get xs k ≡ Some y → slice_get (slice_set xs k x) k ≡ Some x
+get_set_same [] k x y is = cc
+get_set_same (z ∷ xs) zero x y is = refl
+get_set_same (z ∷ xs) (suc k) x y is = get_set_same xs k x y is
+
+get_set_other : {X : Type 0} (xs : List X) (i k : ℕ) (x : X) → (k ≡ i → ⊥) → slice_get (slice_set xs i x) k ≡ slice_get xs k
+get_set_other [] i k x other = refl
+get_set_other (z ∷ xs) zero zero x other = absurd (other refl)
+get_set_other (z ∷ xs) zero (suc k) x other = refl
+get_set_other (z ∷ xs) (suc i) zero x other = refl
+get_set_other (z ∷ xs) (suc i) (suc k) x other = get_set_other xs i k x (λ e. other (ap suc e))
+
+-- ---- entries
+
+apart_tail : (e : Entry) (es : List Entry) → IsApart (e ∷ es) → IsApart es
+apart_tail e es apart v q j k at_j at_k =
+    let same : suc j ≡ suc k = apart v q (suc j) (suc k)
+        (record { entry = at_j.entry; known = at_j.known; node = at_j.node; state = at_j.state })
+        (record { entry = at_k.entry; known = at_k.known; node = at_k.node; state = at_k.state }) in omega arith
+
+-- what is known of a product state is what its entry says
+pub found_in : (es : List Entry) → IsApart es → (k : ℕ) (e : Entry) → slice_get es k ≡ Some e → reached_in es e.node e.state ≡ Some (seen e)
+found_in [] apart k e is = cc
+found_in (d ∷ es) apart zero e is =
+    let same : d ≡ e = cc in
+    subst (λ y. reached_in (d ∷ es) y.node y.state ≡ Some (seen y)) same
+    (ap (λ b. cond b (Some (seen d)) (reached_in es d.node d.state)) (same_itself d.node d.state))
+found_in (d ∷ es) apart (suc k) e is = go (is_same e.node e.state d.node d.state) refl (found_in es (apart_tail d es apart) k e is) where
+  go : (b : Bool) → is_same e.node e.state d.node d.state ≡ b → reached_in es e.node e.state ≡ Some (seen e) → cond (is_same e.node e.state d.node d.state) (Some (seen d)) (reached_in es e.node e.state) ≡ Some (seen e)
+  go false other later = ap (λ b. cond b (Some (seen d)) (reached_in es e.node e.state)) other ∙ later
+  go true e2 later =
+      let p = same_parts e.node e.state d.node d.state e2 in
+      let same : zero ≡ suc k = apart e.node e.state zero (suc k)
+          (record { entry = d; known = refl; node = sym p.0; state = sym p.1 })
+          (record { entry = e; known = is; node = refl; state = refl }) in absurd (omega arith)
+
+pub record IsEntryOf (es : List Entry) (v q : ℕ) (x : Reached) : Type 0 where
+  pub number : ℕ
+  pub entry : Entry
+  pub known : slice_get es number ≡ Some entry
+  pub node : entry.node ≡ v
+  pub state : entry.state ≡ q
+  pub as_seen : seen entry ≡ x
+
+pub entry_of_known : (es : List Entry) (v q : ℕ) (x : Reached) → reached_in es v q ≡ Some x → IsEntryOf es v q x
+entry_of_known [] v q x is = cc
+entry_of_known (d ∷ es) v q x is = go (is_same v q d.node d.state) refl (λ h. entry_of_known es v q x h) where
+  go : (b : Bool) → is_same v q d.node d.state ≡ b → (reached_in es v q ≡ Some x → IsEntryOf es v q x) → IsEntryOf (d ∷ es) v q x
+  go true e later_of =
+      let p = same_parts v q d.node d.state e in
+      let h : Some (seen d) ≡ Some x = sym (ap (λ b. cond b (Some (seen d)) (reached_in es v q)) e) ∙ is in
+      let same : seen d ≡ x = cc in
+      record { number = zero; entry = d; known = refl; node = sym p.0; state = sym p.1; as_seen = same }
+  go false e later_of =
+      let later = later_of (sym (ap (λ b. cond b (Some (seen d)) (reached_in es v q)) e) ∙ is) in
+      record { number = suc later.number; entry = later.entry; known = later.known; node = later.node; state = later.state; as_seen = later.as_seen }
+
+pub none_known : (es : List Entry) (v q : ℕ) → IsNowhere es v q → reached_in es v q ≡ None
+none_known es v q nowhere = go (reached_in es v q) refl where
+  go : (o : Option Reached) → reached_in es v q ≡ o → reached_in es v q ≡ None
+  go None is = is
+  go (Some x) is = let e = entry_of_known es v q x is in
+      absurd (nowhere e.number (record { entry = e.entry; known = e.known; node = e.node; state = e.state }))
+
+pub at_known : (es : List Entry) → IsApart es → (v q k : ℕ) (at : IsAt es v q k) → reached_in es v q ≡ Some (seen (at.entry))
+at_known es apart v q k at =
+    subst (λ w. reached_in es w q ≡ Some (seen (at.entry))) at.node (subst (λ r. reached_in es (at.entry).node r ≡ Some (seen (at.entry))) at.state (found_in es apart k (at.entry) at.known))
+
+-- the keys of the entries differ
+differ : (v q : ℕ) (es : List Entry) → IsNowhere es v q → AllByRecursion (λ y. state_eq (v, q) y ≡ false) (keys_of (map keyed es))
+differ v q [] nowhere = tt
+differ v q (d ∷ es) nowhere = (here, differ v q es (λ k at. nowhere (suc k) (record { entry = at.entry; known = at.known; node = at.node; state = at.state }))) where
+  here : is_same v q d.node d.state ≡ false
+  here = go (is_same v q d.node d.state) refl where
+    go : (b : Bool) → is_same v q d.node d.state ≡ b → is_same v q d.node d.state ≡ false
+    go false e = e
+    go true e = let p = same_parts v q d.node d.state e in absurd (nowhere zero (record { entry = d; known = refl; node = sym p.0; state = sym p.1 }))
+
+no_keys : IsDistinct state_eq []
+unfolding IsDistinct
+no_keys = tt
+
+pub keys_differ : (es : List Entry) → IsApart es → IsDistinct state_eq (keys_of (map keyed es))
+keys_differ [] apart = no_keys
+keys_differ (d ∷ es) apart = IsDistinct-cons state_eq (d.node, d.state) (keys_of (map keyed es))
+    (differ d.node d.state es (λ k at. let same : zero ≡ suc k = apart d.node d.state zero (suc k) (record { entry = d; known = refl; node = refl; state = refl })
+        (record { entry = at.entry; known = at.known; node = at.node; state = at.state }) in omega arith))
+    (keys_differ es (apart_tail d es apart))
+
+-- ---- one entry is new or written anew
+
+pub record Changes (old new : List Entry) (n v q c : ℕ) (way : Reached) : Type 0 where
+  pub there : slice_get new n ≡ Some (made v q c way)
+  pub others : (k : ℕ) (e : Entry) → (k ≡ n → ⊥) → slice_get new k ≡ Some e → slice_get old k ≡ Some e
+  pub stay : (k : ℕ) (e : Entry) → (k ≡ n → ⊥) → slice_get old k ≡ Some e → slice_get new k ≡ Some e
+  pub place : (e : Entry) → slice_get old n ≡ Some e → (e.node ≡ v) × (e.state ≡ q)
+  pub only : (k : ℕ) → IsAt old v q k → k ≡ n
+
+pub changes_push : (old new : List Entry) (n v q c : ℕ) (way : Reached) → n ≡ length old → IsNowhere old v q → new ≡ old ++ made v q c way ∷ [] → Changes old new n v q c way
+changes_push old new n v q c way last nowhere is = rw last (rw is (record {
+  there = get_last old (made v q c way);
+  others = λ k e other known. get_from old (made v q c way) k e other known;
+  stay = λ k e other known. get_below old (made v q c way) k e known;
+  place = λ e known. (let lt : length old < length old = slice_get_within old (length old) e known in absurd (omega arith));
+  only = λ k at. absurd (nowhere k at);
+}))
+
+pub changes_set : (old new : List Entry) (n v q c : ℕ) (way : Reached) → IsApart old → IsAt old v q n → new ≡ slice_set old n (made v q c way) → Changes old new n v q c way
+changes_set old new n v q c way apart at is = rw is (record {
+  there = get_set_same old n (made v q c way) (at.entry) at.known;
+  others = λ k e other known. sym (get_set_other old n k (made v q c way) other) ∙ known;
+  stay = λ k e other known. get_set_other old n k (made v q c way) other ∙ known;
+  place = λ e known. (let h : Some (at.entry) ≡ Some e = sym at.known ∙ known in let same : at.entry ≡ e = cc in
+      (ap (λ (y : Entry). y.node) (sym same) ∙ at.node, ap (λ (y : Entry). y.state) (sym same) ∙ at.state));
+  only = λ k also. apart v q k n also at;
+})
+
+module _ (old new : List Entry) (n v q c : ℕ) (way : Reached) (changes : Changes old new n v q c way) (apart : IsApart old) where
+  -- the entry with the number n
+  here_parts : (e : Entry) → slice_get new n ≡ Some e → made v q c way ≡ e
+  here_parts e is = let h : Some (made v q c way) ≡ Some e = sym changes.there ∙ is in cc
+
+  here_at : (w r k : ℕ) → k ≡ n → IsAt new w r k → (v ≡ w) × (q ≡ r)
+  here_at w r k same at =
+      let e = here_parts (at.entry) (subst (λ j. slice_get new j ≡ Some (at.entry)) same at.known) in
+      (ap (λ (y : Entry). y.node) e ∙ at.node, ap (λ (y : Entry). y.state) e ∙ at.state)
+
+  other_at : (w r k : ℕ) → (k ≡ n → ⊥) → IsAt new w r k → IsAt old w r k
+  other_at w r k other at = record { entry = at.entry; known = changes.others k (at.entry) other at.known; node = at.node; state = at.state }
+
+  lone : (w r j k : ℕ) → j ≡ n → IsAt new w r j → (k ≡ n → ⊥) → IsAt new w r k → ⊥
+  lone w r j k same at_j other at_k =
+      let p = here_at w r j same at_j in
+      other (changes.only k (subst (λ a. IsAt old a q k) (sym p.0) (subst (λ b. IsAt old w b k) (sym p.1) (other_at w r k other at_k))))
+
+  pub apart_still : IsApart new
+  apart_still w r j k at_j at_k = elim (cases_eq j n) [
+    | inl j_is ↦ elim (cases_eq k n) [
+      | inl k_is ↦ j_is ∙ sym k_is
+      | inr k_not ↦ absurd (lone w r j k j_is at_j k_not at_k)
+    ]
+    | inr j_not ↦ elim (cases_eq k n) [
+      | inl k_is ↦ absurd (lone w r k j k_is at_k j_not at_j)
+      | inr k_not ↦ apart w r j k (other_at w r j j_not at_j) (other_at w r k k_not at_k)
+    ]
+  ]
+
+  new_here : IsAt new v q n
+  new_here = record { entry = made v q c way; known = changes.there; node = refl; state = refl }
+
+  pub at_kept : (w r k : ℕ) → IsAt old w r k → IsAt new w r k
+  at_kept w r k at = elim (cases_eq k n) [
+    | inr other ↦ record { entry = at.entry; known = changes.stay k (at.entry) other at.known; node = at.node; state = at.state }
+    | inl same ↦ (let p = changes.place (at.entry) (subst (λ j. slice_get old j ≡ Some (at.entry)) same at.known) in
+        subst (λ j. IsAt new w r j) (sym same) (subst (λ a. IsAt new a r n) (sym p.0 ∙ at.node) (subst (λ b. IsAt new v b n) (sym p.1 ∙ at.state) new_here)))
+  ]
+
+  pub nowhere_kept : (w r : ℕ) → is_same v q w r ≡ false → IsNowhere old w r → IsNowhere new w r
+  nowhere_kept w r differs nowhere k at = elim (cases_eq k n) [
+    | inr other ↦ nowhere k (other_at w r k other at)
+    | inl same ↦ (let p = here_at w r k same at in
+        false≢true (sym differs ∙ ap (λ a. is_same v q a r) (sym p.0) ∙ ap (λ b. is_same v q v b) (sym p.1) ∙ same_itself v q))
+  ]
+
+  -- way is known of v and q, and of the others what was known
+  pub set_still : IsSetAt old new v q way
+  unfolding new_here
+  set_still w r = go (is_same v q w r) refl where
+    Kept : Type 0
+    Kept = reached_in new w r ≡ cond (is_same v q w r) (Some way) (reached_in old w r)
+
+    others : is_same v q w r ≡ false → (o : Option Reached) → reached_in old w r ≡ o → reached_in new w r ≡ o
+    others differs None is = none_known new w r (nowhere_kept w r differs (λ k at. let h : Some (seen (at.entry)) ≡ None = sym (at_known old apart w r k at) ∙ is in cc))
+    others differs (Some x) is =
+        let e = entry_of_known old w r x is in
+        let at : IsAt old w r e.number = record { entry = e.entry; known = e.known; node = e.node; state = e.state } in
+        elim (cases_eq (e.number) n) [
+          | inl same ↦ (let p = changes.place (e.entry) (subst (λ j. slice_get old j ≡ Some (e.entry)) same e.known) in
+              absurd (false≢true (sym differs ∙ ap (λ a. is_same v q a r) (sym e.node ∙ p.0) ∙ ap (λ b. is_same v q v b) (sym e.state ∙ p.1) ∙ same_itself v q)))
+          | inr other ↦ at_known new apart_still w r e.number (record { entry = e.entry; known = changes.stay e.number (e.entry) other e.known; node = e.node; state = e.state }) ∙ ap (λ y. Some y) e.as_seen
+        ]
+
+    go : (b : Bool) → is_same v q w r ≡ b → reached_in new w r ≡ (if is_same v q w r then Some way else reached_in old w r)
+    go false e = others e (reached_in old w r) refl ∙ sym (ap (λ b. cond b (Some way) (reached_in old w r)) e)
+    go true e =
+        let p = same_parts v q w r e in
+        subst (λ a. reached_in new a r ≡ Some way) p.0 (subst (λ b. reached_in new v b ≡ Some way) p.1 (at_known new apart_still v q n new_here))
+        ∙ sym (ap (λ b. cond b (Some way) (reached_in old w r)) e)
+
+-- ---- who waits
 
 known_waits : (o : Option Reached) (t : ℕ) → waits_at o t ≡ true → (x : Reached) × (o ≡ Some x) × (x.settled ≡ false) × (x.at ≡ t)
 known_waits None t e = absurd (false≢true e)
 known_waits (Some x) t e = let p = and_parts (not x.settled) (x.at == t) e in (x, refl, not-true x.settled p.0, eqb-true x.at t p.1)
 
--- a way was put into the map, and its entry into the queue
-pub right_put : (old new : Frontier) (v q : ℕ) (way : Reached) → IsQueueRight old → KeepsHeap queue_cmp (heap_items old.queue) (heap_items new.queue)
-    → IsPermutation (entry_of way.at v q ∷ heap_items old.queue) (heap_items new.queue) → IsSetAt old.reached new.reached v q way → IsQueueRight new
-right_put old new v q way right keeps put setting = record { heap = keeps right.heap; waits = waits } where
-  in_new : (e : Reverse (ℕ × ℕ × ℕ)) → Contains (entry_of way.at v q ∷ heap_items old.queue) e → Contains (heap_items new.queue) e
-  in_new e has = Contains-permutation (entry_of way.at v q ∷ heap_items old.queue) (heap_items new.queue) e put has
+-- ---- offers
 
-  waits : (w r t : ℕ) → waits_at (reached_at new w r) t ≡ true → Contains (heap_items new.queue) (entry_of t w r)
-  waits w r t waiting = go (is_same v q w r) refl where
-    go : (b : Bool) → is_same v q w r ≡ b → Contains (heap_items new.queue) (entry_of t w r)
-    go true e =
-        let p = same_parts v q w r e in
-        let is = if_same v q w r (Some way) (reached_at old w r) (reached_at new w r) e (setting w r) in
-        let known = known_waits (Some way) t (sym (ap (λ o. waits_at o t) is) ∙ waiting) in
-        let same : way ≡ known.0 = (let h : Some way ≡ Some known.0 = known.1 in cc) in
-        let at : way.at ≡ t = ap (λ (y : Reached). y.at) same ∙ known.3 in
-        in_new (entry_of t w r) (subst (λ u. Contains (entry_of way.at v q ∷ heap_items old.queue) (entry_of u w r)) at
-        (subst (λ a. Contains (entry_of way.at v q ∷ heap_items old.queue) (entry_of way.at a r)) p.0
-        (subst (λ a. Contains (entry_of way.at v q ∷ heap_items old.queue) (entry_of way.at v a)) p.1 (contains_head (entry_of way.at v q) (heap_items old.queue)))))
-    go false e =
-        let is = if_other v q w r (Some way) (reached_at old w r) (reached_at new w r) e (setting w r) in
-        in_new (entry_of t w r) (contains_tail (entry_of way.at v q) (heap_items old.queue) (entry_of t w r) (right.waits w r t (sym (ap (λ o. waits_at o t) is) ∙ waiting)))
+-- a way was taken: its entry was put into the queue
+module _ (old new : Frontier) (n v q c : ℕ) (way : Reached) (right : IsQueueRight old) (changes : Changes old.entries.items new.entries.items n v q c way)
+    (put : TakesIn old.queue new.queue way.at n) where
+  put_waits : (k t : ℕ) (e : Entry) → Waits new.entries.items k t e → Queued new.queue t k
+  put_waits k t e waits = elim (cases_eq k n) [
+    | inr other ↦ put.stays t k (right.waits k t e (record { known = changes.others k e other waits.known; unsettled = waits.unsettled; at = waits.at }))
+    | inl same ↦ (let is = here_parts old.entries.items new.entries.items n v q c way changes right.apart e (subst (λ j. slice_get new.entries.items j ≡ Some e) same waits.known) in
+        let at : way.at ≡ t = ap (λ (y : Entry). y.at) is ∙ waits.at in
+        subst (λ u. Queued new.queue u k) at (subst (λ j. Queued new.queue way.at j) (sym same) put.there))
+  ]
+
+  pub right_put : IsIndexed new → IsQueueRight new
+  right_put indexed = record {
+    queue = put.right;
+    waits = put_waits;
+    apart = apart_still old.entries.items new.entries.items n v q c way changes right.apart;
+    indexed = indexed;
+  }
+
+-- ---- the chains
+
+-- the entries are of the same nodes, and chained alike
+pub record SameLinks (old new : List Entry) : Type 0 where
+  pub back : (k : ℕ) (e : Entry) → slice_get new k ≡ Some e → (d : Entry) × (slice_get old k ≡ Some d) × (d.node ≡ e.node) × (d.next ≡ e.next)
+  pub forth : (k : ℕ) (d : Entry) → slice_get old k ≡ Some d → (e : Entry) × (slice_get new k ≡ Some e) × (e.node ≡ d.node)
+
+pub links_set : (old new : List Entry) (n v q c : ℕ) (way : Reached) (at : IsAt old v q n) → (at.entry).next ≡ c → Changes old new n v q c way → SameLinks old new
+links_set old new n v q c way at next changes = record { back = back; forth = forth } where
+  back : (k : ℕ) (e : Entry) → slice_get new k ≡ Some e → (d : Entry) × (slice_get old k ≡ Some d) × (d.node ≡ e.node) × (d.next ≡ e.next)
+  back k e is = elim (cases_eq k n) [
+    | inr other ↦ (e, changes.others k e other is, refl, refl)
+    | inl same ↦ (let h : Some (made v q c way) ≡ Some e = sym changes.there ∙ subst (λ j. slice_get new j ≡ Some e) same is in
+        let p : made v q c way ≡ e = cc in
+        (at.entry, subst (λ j. slice_get old j ≡ Some (at.entry)) (sym same) at.known, at.node ∙ ap (λ (y : Entry). y.node) p, next ∙ ap (λ (y : Entry). y.next) p))
+  ]
+
+  forth : (k : ℕ) (d : Entry) → slice_get old k ≡ Some d → (e : Entry) × (slice_get new k ≡ Some e) × (e.node ≡ d.node)
+  forth k d is = elim (cases_eq k n) [
+    | inr other ↦ (d, changes.stay k d other is, refl)
+    | inl same ↦ (let p = changes.place d (subst (λ j. slice_get old j ≡ Some d) same is) in
+        (made v q c way, subst (λ j. slice_get new j ≡ Some (made v q c way)) (sym same) changes.there, sym p.0))
+  ]
+
+last_links : (old new : List Entry) → SameLinks old new → (v below b c : ℕ) → below ≡ b → IsLast old v below c → IsLast new v b c
+last_links old new links v below b c same last = rw (sym same) (record {
+  none_after = λ k e is le lt node. (let d = links.back k e is in last.none_after k d.0 d.1 le lt (d.2 ∙ node));
+  there = λ k at. (let p = last.there k at in let e = links.forth k p.1 p.2 in (p.0, e.0, e.1, e.2 ∙ p.3));
+})
+
+pub indexed_links : (old new : Frontier) → IsIndexed old → new.first.items ≡ old.first.items → length new.entries.items ≡ length old.entries.items
+    → SameLinks old.entries.items new.entries.items → IsIndexed new
+indexed_links old new indexed first size links = record {
+  first = λ v. subst (λ xs. IsLast new.entries.items v (length new.entries.items) (slice_index xs v)) (sym first)
+      (last_links old.entries.items new.entries.items links v (length old.entries.items) (length new.entries.items) (slice_index old.first.items v) (sym size) (indexed.first v));
+  next = λ k e is. (let d = links.back k e is in
+      subst (λ v. IsLast new.entries.items v k e.next) d.2 (subst (λ c. IsLast new.entries.items (d.0).node k c) d.3
+      (last_links old.entries.items new.entries.items links (d.0).node k k (d.0).next refl (indexed.next k d.0 d.1))));
+}
+
+pub same_links : (es : List Entry) → SameLinks es es
+same_links es = record { back = λ k e is. (e, is, refl, refl); forth = λ k d is. (d, is, refl) }
+
+-- the index after a first way
+module _ (old new : Frontier) (n v q c : ℕ) (way : Reached) (indexed : IsIndexed old) (last : n ≡ length old.entries.items) (next : c ≡ slice_index old.first.items v)
+    (changes : Changes old.entries.items new.entries.items n v q c way) (size : length new.entries.items ≡ n + 1)
+    (here : slice_index new.first.items v ≡ n + 1) (others : (w : ℕ) → (w ≡ v → ⊥) → slice_index new.first.items w ≡ slice_index old.first.items w) where
+  is_old : (k : ℕ) (e : Entry) → k < n → slice_get new.entries.items k ≡ Some e → slice_get old.entries.items k ≡ Some e
+  is_old k e lt is = changes.others k e (λ same. omega arith) is
+
+  last_more : (w below c2 : ℕ) → below ≤ n → IsLast old.entries.items w below c2 → IsLast new.entries.items w below c2
+  last_more w below c2 le was = record {
+    none_after = λ k e is from lt node. was.none_after k e (is_old k e (omega arith) is) from lt node;
+    there = λ k at. (let p = was.there k at in (p.0, p.1, changes.stay k p.1 (λ same. (let lt : k < below = p.0 in omega arith)) p.2, p.3));
+  }
+
+  made_last : (e : Entry) → slice_get new.entries.items n ≡ Some e → made v q c way ≡ e
+  made_last e is = let h : Some (made v q c way) ≡ Some e = sym changes.there ∙ is in cc
+
+  first_new : (w : ℕ) → IsLast new.entries.items w (length new.entries.items) (slice_index new.first.items w)
+  first_new w = elim (cases_eq w v) [
+    | inl same ↦ subst (λ a. IsLast new.entries.items a (length new.entries.items) (slice_index new.first.items a)) (sym same) (rw (here, size) (record {
+      none_after = λ k e is from lt node. omega arith;
+      there = λ k at. (let same_k : k ≡ n = omega arith in (omega arith, made v q c way, subst (λ j. slice_get new.entries.items j ≡ Some (made v q c way)) (sym same_k) changes.there, refl));
+    }))
+    | inr other ↦ (let was = indexed.first w in rw (others w other, size) (record {
+      none_after = λ k e is from lt node. elim (cases_eq k n) [
+        | inl same_k ↦ other (sym node ∙ sym (ap (λ (y : Entry). y.node) (made_last e (subst (λ j. slice_get new.entries.items j ≡ Some e) same_k is))))
+        | inr not_k ↦ was.none_after k e (is_old k e (omega arith) is) from (omega arith) node
+      ];
+      there = λ k at. (let p = was.there k at in (omega (arith, p.0), p.1, changes.stay k p.1 (λ same_k. omega (arith, p.0)) p.2, p.3));
+    }))
+  ]
+
+  next_new : (k : ℕ) (e : Entry) → slice_get new.entries.items k ≡ Some e → IsLast new.entries.items e.node k e.next
+  next_new k e is = elim (cases_eq k n) [
+    | inl same ↦ (let p = made_last e (subst (λ j. slice_get new.entries.items j ≡ Some e) same is) in
+        subst (λ (y : Entry). IsLast new.entries.items y.node k y.next) p
+        (last_more v k c (omega arith) (rw (same ∙ last, next) (indexed.first v))))
+    | inr other ↦ (let lt : k < n + 1 = subst (λ m. k < m) size (slice_get_within new.entries.items k e is) in
+        last_more e.node k e.next (omega arith) (indexed.next k e (is_old k e (omega arith) is)))
+  ]
+
+  pub indexed_more : IsIndexed new
+  indexed_more = record { first = first_new; next = next_new }
+
+-- ---- what an offer leaves
 
 -- what an offer leaves where it is taken: the old entry is none, or one that waits for a later time
-pub offered_set : (old new : Frontier) (v q : ℕ) (way : Reached) → IsSetAt old.reached new.reached v q way
+pub offered_set : (old new : Frontier) (v q : ℕ) (way : Reached) → IsSetAt old.entries.items new.entries.items v q way
     → offered (reached_at old v q) way ≡ Some way → IsOffered old new v q way
 offered_set old new v q way setting taken w r = go (is_same v q w r) refl where
   go : (b : Bool) → is_same v q w r ≡ b → reached_at new w r ≡ (if is_same v q w r then offered (reached_at old w r) way else reached_at old w r)
@@ -89,6 +372,9 @@ offered_set old new v q way setting taken w r = go (is_same v q w r) refl where
       if_other v q w r (Some way) (reached_at old w r) (reached_at new w r) e (setting w r)
       ∙ sym (ap (λ b. cond b (offered (reached_at old w r) way) (reached_at old w r)) e)
 
+pub offered_none : (old new : Frontier) (v q : ℕ) (way : Reached) → IsSetAt old.entries.items new.entries.items v q way → reached_at old v q ≡ None → IsOffered old new v q way
+offered_none old new v q way setting none = offered_set old new v q way setting (ap (λ o. offered o way) none)
+
 -- what an offer leaves where it is not taken
 pub offered_kept : (f : Frontier) (v q : ℕ) (way : Reached) → offered (reached_at f v q) way ≡ reached_at f v q → IsOffered f f v q way
 offered_kept f v q way kept w r = at_each v q w r (λ w r. reached_at f w r ≡ (if is_same v q w r then offered (reached_at f w r) way else reached_at f w r))
@@ -97,52 +383,175 @@ offered_kept f v q way kept w r = at_each v q w r (λ w r. reached_at f w r ≡ 
 
 -- ---- the least of the queue
 
--- an entry was taken out, and nobody waits by it any more
-right_popped : (old new : Frontier) (x : Reverse (ℕ × ℕ × ℕ)) → IsQueueRight old → IsPermutation (heap_items old.queue) (x ∷ heap_items new.queue)
-    → PopsGreatest queue_cmp (heap_items old.queue) x (heap_items new.queue)
-    → ((w r u : ℕ) → waits_at (reached_at new w r) u ≡ true → (waits_at (reached_at old w r) u ≡ true) × (x ≡ entry_of u w r → ⊥)) → IsQueueRight new
-right_popped old new x right popped pops keeps = record { heap = (pops right.heap).0; waits = waits } where
-  waits : (w r u : ℕ) → waits_at (reached_at new w r) u ≡ true → Contains (heap_items new.queue) (entry_of u w r)
-  waits w r u waiting =
-      let p = keeps w r u waiting in
-      elim (head_or_tail x (heap_items new.queue) (entry_of u w r)
-      (Contains-permutation (heap_items old.queue) (x ∷ heap_items new.queue) (entry_of u w r) popped (right.waits w r u p.0))) [
-        | inl same ↦ absurd (p.1 same)
-        | inr there ↦ there
+entry_parts : (t n u k : ℕ) → entry_of t n ≡ entry_of u k → (t ≡ u) × (n ≡ k)
+entry_parts t n u k e = (ap (λ (x : Reverse (ℕ × ℕ)). x.0.0) e, ap (λ (x : Reverse (ℕ × ℕ)). x.0.1) e)
+
+-- who waits by what is known, waits by an entry
+pub waits_by : (es : List Entry) (w r u : ℕ) → waits_at (reached_in es w r) u ≡ true → (k : ℕ) × (e : Entry) × Waits es k u e
+waits_by es w r u waiting =
+    let known = known_waits (reached_in es w r) u waiting in
+    let e = entry_of_known es w r known.0 known.1 in
+    (e.number, e.entry, record {
+      known = e.known;
+      unsettled = ap (λ (y : Reached). y.settled) e.as_seen ∙ known.2;
+      at = ap (λ (y : Reached). y.at) e.as_seen ∙ known.3;
+    })
+
+module _ (old new : Frontier) (t n : ℕ) (right : IsQueueRight old) (popped : GivesLeast old.queue new.queue t n) where
+  still : (k u : ℕ) (e : Entry) → Waits old.entries.items k u e → (entry_of t n ≡ entry_of u k → ⊥) → Queued new.queue u k
+  still k u e waits other = popped.stays u k (right.waits k u e waits) other
+
+  -- by a stale entry nobody waits
+  pub right_stale : new.first.items ≡ old.first.items → new.entries.items ≡ old.entries.items → ((e : Entry) → Waits old.entries.items n t e → ⊥) → IsQueueRight new
+  right_stale first same stale = record {
+    queue = popped.right;
+    waits = λ k u e waits. (let was : Waits old.entries.items k u e = subst (λ es. Waits es k u e) same waits in
+        still k u e was (λ is. let p = entry_parts t n u k is in stale e (subst (λ j. Waits old.entries.items j t e) (sym p.1) (subst (λ s. Waits old.entries.items k s e) (sym p.0) was))));
+    apart = subst (λ es. IsApart es) (sym same) right.apart;
+    indexed = indexed_links old new right.indexed first (ap length same) (subst (λ es. SameLinks old.entries.items es) (sym same) (same_links old.entries.items));
+  }
+
+  pub same_stale : new.entries.items ≡ old.entries.items → SameReached old new
+  same_stale same w r = ap (λ es. reached_in es w r) same
+
+  -- the one that waited by it is settled
+  module _ (e : Entry) (waited : Waits old.entries.items n t e) (set : new.entries.items ≡ slice_set old.entries.items n (settled_now e)) where
+    at_entry : IsAt old.entries.items e.node e.state n
+    at_entry = record { entry = e; known = waited.known; node = refl; state = refl }
+
+    changes : Changes old.entries.items new.entries.items n e.node e.state e.next (record (seen e) { settled = true })
+    changes = changes_set old.entries.items new.entries.items n e.node e.state e.next (record (seen e) { settled = true }) right.apart at_entry set
+
+    settled_waits : (k u : ℕ) (d : Entry) → Waits new.entries.items k u d → Queued new.queue u k
+    settled_waits k u d waits = elim (cases_eq k n) [
+      | inl same ↦ (let is = here_parts old.entries.items new.entries.items n e.node e.state e.next (record (seen e) { settled = true }) changes right.apart d
+            (subst (λ j. slice_get new.entries.items j ≡ Some d) same waits.known) in
+          absurd (false≢true (sym waits.unsettled ∙ ap (λ (y : Entry). y.settled) (sym is))))
+      | inr other ↦ still k u d (record { known = changes.others k d other waits.known; unsettled = waits.unsettled; at = waits.at })
+          (λ is. let p = entry_parts t n u k is in other (sym p.1))
+    ]
+
+    pub right_settled : new.first.items ≡ old.first.items → IsQueueRight new
+    unfolding at_entry
+    right_settled first = record {
+      queue = popped.right;
+      waits = settled_waits;
+      apart = apart_still old.entries.items new.entries.items n e.node e.state e.next (record (seen e) { settled = true }) changes right.apart;
+      indexed = indexed_links old new right.indexed first (ap length set ∙ length-set old.entries.items n (settled_now e))
+          (links_set old.entries.items new.entries.items n e.node e.state e.next (record (seen e) { settled = true }) at_entry refl changes);
+    }
+
+    pub settles : (first : Frontier) → SameReached first old → (s : Settled) → s.node ≡ e.node → s.state ≡ e.state → s.at ≡ t → s.arcs ≡ e.arcs → SettlesLeast first new s
+    settles first same s node state at arcs = record {
+      entry = seen e;
+      waited = sym (same s.node s.state) ∙ at_known old.entries.items right.apart s.node s.state n (record { entry = e; known = waited.known; node = sym node; state = sym state });
+      unsettled = waited.unsettled;
+      at = at ∙ sym waited.at;
+      arcs = arcs;
+      least = λ w r u waits. (let by = waits_by old.entries.items w r u (ap (λ o. waits_at o u) (same w r) ∙ waits) in
+          let le = popped.least u by.0 (right.waits by.0 u by.1 by.2) in omega arith);
+      changed = λ w r. subst (λ a. reached_at new w r ≡ (if is_same a s.state w r then Some (record (seen e) { settled = true }) else reached_at first w r)) (sym node)
+          (subst (λ b. reached_at new w r ≡ (if is_same e.node b w r then Some (record (seen e) { settled = true }) else reached_at first w r)) (sym state)
+          (set_still old.entries.items new.entries.items n e.node e.state e.next (record (seen e) { settled = true }) changes right.apart w r
+          ∙ ap (λ o. cond (is_same e.node e.state w r) (Some (record (seen e) { settled = true })) o) (same w r)));
+    }
+
+pub nobody : (first f : Frontier) → IsQueueRight f → SameReached first f → ((u k : ℕ) → Queued f.queue u k → ⊥) → NobodyWaits first
+nobody first f right same empty w r u = go (waits_at (reached_at first w r) u) refl where
+  go : (b : Bool) → waits_at (reached_at first w r) u ≡ b → waits_at (reached_at first w r) u ≡ false
+  go false e = e
+  go true e = let by = waits_by f.entries.items w r u (ap (λ o. waits_at o u) (same w r) ∙ e) in
+      absurd (empty u by.0 (right.waits by.0 u by.1 by.2))
+
+-- the queue is empty
+pub right_same : (old new : Frontier) → IsQueueRight old → new.entries.items ≡ old.entries.items → new.first.items ≡ old.first.items → GivesNone old.queue new.queue → IsQueueRight new
+right_same old new right same first empty = record {
+  queue = empty.right;
+  waits = λ k t e waits. absurd (empty.none t k (right.waits k t e (subst (λ es. Waits es k t e) same waits)));
+  apart = subst (λ es. IsApart es) (sym same) right.apart;
+  indexed = indexed_links old new right.indexed first (ap length same) (subst (λ es. SameLinks old.entries.items es) (sym same) (same_links old.entries.items));
+}
+
+-- the entry that was read is the one with that number
+pub read_is : (es : List Entry) (k : ℕ) (x e : Entry) → x ≡ get_or es k x → slice_get es k ≡ Some e → x ≡ e
+read_is es k x e is known = is ∙ get_or_from_slice_get es k e x known
+
+pub within : (es : List Entry) (v q k : ℕ) → IsAt es v q k → k < length es
+within es v q k at = slice_get_within es k (at.entry) at.known
+
+-- what is known of a product state whose entry was read
+pub read_known : (es : List Entry) → IsApart es → (v q k : ℕ) (x : Entry) → IsAt es v q k → x ≡ get_or es k x → reached_in es v q ≡ Some (seen x)
+read_known es apart v q k x at is = at_known es apart v q k at ∙ ap (λ y. Some (seen y)) (sym (read_is es k x (at.entry) is at.known))
+
+-- ---- a node's chain
+
+-- the product state is not behind c, and c stands for an entry of the node
+pub record IsSought (es : List Entry) (v q c : ℕ) : Type 0 where
+  pub none_after : (k : ℕ) (e : Entry) → slice_get es k ≡ Some e → c ≤ k → e.node ≡ v → e.state ≡ q → ⊥
+  pub there : (k : ℕ) → c ≡ suc k → (e : Entry) × (slice_get es k ≡ Some e) × (e.node ≡ v)
+
+pub sought_first : (f : Frontier) → IsIndexed f → (v q c : ℕ) → c ≡ slice_index f.first.items v → IsSought f.entries.items v q c
+sought_first f indexed v q c is = rw is (let last = indexed.first v in record {
+  none_after = λ k e known from node state. last.none_after k e known from (slice_get_within f.entries.items k e known) node;
+  there = λ k at. (let p = last.there k at in (p.1, p.2, p.3));
+})
+
+module _ (f : Frontier) (indexed : IsIndexed f) (v q c : ℕ) (x : Entry) (some : c ≢ 0) (sought : IsSought f.entries.items v q c) (read : x ≡ get_or f.entries.items (c - 1) x) where
+  sought_entry : (slice_get f.entries.items (c - 1) ≡ Some x) × (x.node ≡ v)
+  sought_entry =
+      let p = sought.there (c - 1) (omega (arith, some)) in
+      let same = read_is f.entries.items (c - 1) x p.0 read p.1 in
+      (p.1 ∙ ap (λ y. Some y) (sym same), ap (λ (y : Entry). y.node) same ∙ p.2)
+
+  pub sought_found : x.state ≡ q → IsAt f.entries.items v q (c - 1)
+  sought_found state = record { entry = x; known = sought_entry.0; node = sought_entry.1; state = state }
+
+  sought_last : IsLast f.entries.items v (c - 1) x.next
+  sought_last = subst (λ w. IsLast f.entries.items w (c - 1) x.next) sought_entry.1 (indexed.next (c - 1) x sought_entry.0)
+
+  pub sought_next : (x.state ≡ q → ⊥) → IsSought f.entries.items v q x.next
+  sought_next differs = record {
+    none_after = λ k e known from node state. elim (cases_eq k (c - 1)) [
+      | inl same ↦ (let h : Some x ≡ Some e = sym sought_entry.0 ∙ subst (λ j. slice_get f.entries.items j ≡ Some e) same known in
+          let p : x ≡ e = cc in differs (ap (λ (y : Entry). y.state) p ∙ state))
+      | inr other ↦ elim (cases_lt k (c - 1)) [
+        | inl lt ↦ sought_last.none_after k e known from lt node
+        | inr ge ↦ sought.none_after k e known (omega (arith, ge, other)) node state
       ]
+    ];
+    there = λ k at. (let p = sought_last.there k at in (p.1, p.2, p.3));
+  }
 
-entry_parts : (t v q u w r : ℕ) → entry_of t v q ≡ entry_of u w r → (t ≡ u) × (v ≡ w) × (q ≡ r)
-entry_parts t v q u w r e = (ap (λ (x : Reverse (ℕ × ℕ × ℕ)). x.0.0) e, ap (λ (x : Reverse (ℕ × ℕ × ℕ)). x.0.1) e, ap (λ (x : Reverse (ℕ × ℕ × ℕ)). x.0.2) e)
+  pub sought_smaller : x.next < c
+  sought_smaller = go x.next refl where
+    go : (m : ℕ) → x.next ≡ m → m < c
+    go zero e = omega (arith, some)
+    go (suc k) e = let p = (sought_last.there k e).0 in omega (arith, p, some)
 
--- by a stale entry nobody waits
-pub right_stale : (old new : Frontier) (t v q : ℕ) → IsQueueRight old → IsPermutation (heap_items old.queue) (entry_of t v q ∷ heap_items new.queue)
-    → PopsGreatest queue_cmp (heap_items old.queue) (entry_of t v q) (heap_items new.queue) → waits_at (reached_at old v q) t ≡ false → SameReached old new → IsQueueRight new
-right_stale old new t v q right popped pops stale same = right_popped old new (entry_of t v q) right popped pops
-    (λ w r u waiting.
-    (let was : waits_at (reached_at old w r) u ≡ true = sym (ap (λ o. waits_at o u) (same w r)) ∙ waiting in (
-      was,
-      (λ e. let p = entry_parts t v q u w r e in
-          false≢true (sym stale ∙ ap (λ s. waits_at (reached_at old v q) s) p.0 ∙ ap (λ a. waits_at (reached_at old a q) u) p.1 ∙ ap (λ a. waits_at (reached_at old w a) u) p.2 ∙ was)),
-    )))
+pub sought_none : (es : List Entry) (v q c : ℕ) → c ≡ 0 → IsSought es v q c → IsNowhere es v q
+sought_none es v q c is sought k at = sought.none_after k (at.entry) at.known (omega (arith, is)) at.node at.state
 
--- the one that waited by it is settled
-pub right_settled : (old new : Frontier) (t v q : ℕ) (x : Reached) → IsQueueRight old → IsPermutation (heap_items old.queue) (entry_of t v q ∷ heap_items new.queue)
-    → PopsGreatest queue_cmp (heap_items old.queue) (entry_of t v q) (heap_items new.queue) → IsSetAt old.reached new.reached v q (record x { settled = true }) → IsQueueRight new
-right_settled old new t v q x right popped pops setting = right_popped old new (entry_of t v q) right popped pops keeps where
-  keeps : (w r u : ℕ) → waits_at (reached_at new w r) u ≡ true → (waits_at (reached_at old w r) u ≡ true) × (entry_of t v q ≡ entry_of u w r → ⊥)
-  keeps w r u waiting = go (is_same v q w r) refl where
-    go : (b : Bool) → is_same v q w r ≡ b → (waits_at (reached_at old w r) u ≡ true) × (entry_of t v q ≡ entry_of u w r → ⊥)
-    go true e = absurd (false≢true (sym (ap (λ o. waits_at o u)
-        (if_same v q w r (Some (record x { settled = true })) (reached_at old w r) (reached_at new w r) e (setting w r))) ∙ waiting))
-    go false e = (
-      sym (ap (λ o. waits_at o u) (if_other v q w r (Some (record x { settled = true })) (reached_at old w r) (reached_at new w r) e (setting w r))) ∙ waiting,
-      (λ same. let p = entry_parts t v q u w r same in
-          false≢true (sym e ∙ ap (λ a. is_same v q a r) (sym p.1) ∙ ap (λ a. is_same v q v a) (sym p.2) ∙ same_itself v q)),
-    )
+pub sought_within : (es : List Entry) (v q c : ℕ) → c ≢ 0 → IsSought es v q c → c - 1 < length es
+sought_within es v q c some sought = let p = sought.there (c - 1) (omega (arith, some)) in slice_get_within es (c - 1) p.0 p.1
 
--- what was written back changes nothing
-pub set_same : {S : Type 0} (old new : HashMap (ℕ × ℕ) Reached S) (v q : ℕ) (x : Reached) → IsSetAt old new v q x → hash.get state_eq old (v, q) ≡ Some x
-    → (w r : ℕ) → hash.get state_eq new (w, r) ≡ hash.get state_eq old (w, r)
-set_same old new v q x setting is w r = at_each v q w r (λ w r. hash.get state_eq new (w, r) ≡ hash.get state_eq old (w, r))
-    (if_same v q v q (Some x) (hash.get state_eq old (v, q)) (hash.get state_eq new (v, q)) (same_itself v q) (setting v q) ∙ sym is)
-    (λ other. if_other v q w r (Some x) (hash.get state_eq old (w, r)) (hash.get state_eq new (w, r)) other (setting w r))
+-- ---- the table is cleared
+
+pub behind_first : (f : Frontier) → IsIndexed f → IsBehind f.entries.items f.first.items 0
+behind_first f indexed v k is = let p = (indexed.first v).there k is in (k, omega arith, p.1, p.2, p.3)
+
+pub behind_next : (es : List Entry) (old new : List ℕ) (i : ℕ) (x : Entry) → slice_get es i ≡ Some x → IsBehind es old i
+    → slice_index new x.node ≡ 0 → ((v : ℕ) → v ≢ x.node → slice_index new v ≡ slice_index old v) → IsBehind es new (i + 1)
+behind_next es old new i x known behind here others v k is = elim (cases_eq v x.node) [
+  | inl same ↦ (let e : slice_index new x.node ≡ suc k = subst (λ w. slice_index new w ≡ suc k) same is in absurd (omega (arith, e, here)))
+  | inr other ↦ (let b = behind v k (sym (others v other) ∙ is) in elim (cases_eq b.0 i) [
+    | inr later ↦ (b.0, omega (arith, b.1, later), b.2, b.3, b.4)
+    | inl same ↦ (let h : Some x ≡ Some b.2 = sym known ∙ subst (λ j. slice_get es j ≡ Some b.2) same b.3 in
+        let p : x ≡ b.2 = cc in absurd (other (sym b.4 ∙ ap (λ (y : Entry). y.node) (sym p))))
+  ])
+]
+
+pub behind_all : (es : List Entry) (first : List ℕ) (i : ℕ) → length es ≤ i → IsBehind es first i → IsClear first
+behind_all es first i all behind v = go (slice_index first v) refl where
+  go : (m : ℕ) → slice_index first v ≡ m → slice_index first v ≡ 0
+  go zero e = e
+  go (suc k) e = let b = behind v k e in let lt = slice_get_within es b.0 b.2 b.3 in absurd (omega (arith, b.1, lt, all))

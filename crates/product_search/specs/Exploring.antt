@@ -1,6 +1,7 @@
 -- What the arcs out of a settled product state add to what is reached.
 use Rattle.std.specs.Prelude.{◌≡◌, ℕ, ◌+◌, ◌<◌, ◌≤◌, true, false, ⊤, ◌⊎◌, List, Option, Some, None, IsTrue, IsBitSet, Contains}
 use Rattle.search_laws.specs.GraphLaws.{GraphMeaning, HasArc}
+use Rattle.search_laws.specs.declared.graph.Way.{Way}
 use Rattle.search_laws.specs.declared.labels.Move.{Move}
 use Rattle.search_laws.specs.LabelLaws.{LabelsMeaning, Follows, AllAfter}
 use Rattle.product_search.specs.declared.frontier.Reached.{Reached}
@@ -43,6 +44,19 @@ pub record LeadsTo (l : LabelsMeaning) (to q : ℕ) (letter : Option ℕ) (way :
 -- the way by the arc at place i of the settled product state s
 abbrev pub way_by : Settled → ℕ → ℕ → Reached
 way_by s i u = record { at = u; arcs = s.arcs + 1; parent = Some (record { node = s.node; state = s.state; arc = i }); settled = false }
+
+-- x is the way to w and r by an arc that can be taken from s, within the bound
+pub record IsByWay (l : LabelsMeaning) (bound : Option ℕ) (s : Settled) (way : Way) (w r : ℕ) (x : Reached) : Type 0 where
+  pub within : IsWithin bound way.at
+  pub leads : LeadsTo l way.arc.to s.state way.arc.letter (way_by s way.place way.at) w r x
+
+-- the same by one of some arcs
+abbrev pub IsByWays : LabelsMeaning → Option ℕ → Settled → List Way → ℕ → ℕ → Reached → Type 0
+IsByWays l bound s ways w r x = (way : Way) × Contains ways way × IsByWay l bound s way w r x
+
+-- what the arc leads to from q, within the bound, is reached by then
+abbrev pub WayIsReached : LabelsMeaning → Option ℕ → Frontier → ℕ → Way → Type 0
+WayIsReached l bound f q way = IsWithin bound way.at → AllAfter l q way.arc.letter (λ r. IsReachedBy f way.arc.to r way.at)
 
 -- x is the way to w and r by some arc of s, within the bound
 pub record IsSuccessor (g : GraphMeaning) (l : LabelsMeaning) (bound : Option ℕ) (s : Settled) (w r : ℕ) (x : Reached) : Type 0 where

@@ -2,6 +2,7 @@ pub mod Reach
 pub mod Listed
 pub mod Answer
 pub mod Closed
+pub mod Queued
 pub mod Waiting
 pub mod Exploring
 pub mod Searching

@@ -5,11 +5,12 @@ use Rattle.search_laws.specs.LabelLaws.{LabelsMeaning, Follows}
 use Rattle.product_search.specs.declared.frontier.Parent.{Parent}
 use Rattle.product_search.specs.declared.frontier.Reached.{Reached}
 use Rattle.product_search.specs.declared.frontier.Settled.{Settled}
+use Rattle.product_search.specs.declared.frontier.Entry.{Entry}
 use Rattle.product_search.specs.declared.frontier.Frontier.{Frontier}
 use Rattle.product_search.specs.Reach.{IsReachedAt, IsWithin, IsToList, is_before}
 use Rattle.product_search.specs.Listed.{label_of}
 use Rattle.product_search.specs.declared.label.Label.{Label}
-use Rattle.product_search.specs.Waiting.{reached_at, waits_at, IsQueueRight}
+use Rattle.product_search.specs.Waiting.{keyed, reached_at, waits_at, IsQueueRight}
 use Rattle.product_search.specs.Exploring.{StartIsReached, ArcIsReached}
 
 -- ---- how many product states are not settled
@@ -79,6 +80,7 @@ IsSettledAt f v q t = (x : Reached) × (reached_at f v q ≡ Some x) × (x.settl
 
 -- all that is reached at a time to list is settled, and is no end
 pub record IsSearched (g : GraphMeaning) (l : LabelsMeaning) (starts targets : List ℕ) (dep : ℕ) (bound arrival : Option ℕ) (f : Frontier) : Type 0 where
+  pub right : IsQueueRight f
   pub traced : IsTraced g l starts dep f
   pub bounded : (v q : ℕ) (x : Reached) → reached_at f v q ≡ Some x → x.at ≤ dep + 2 ^ 98
   pub within : (v q : ℕ) (x : Reached) → reached_at f v q ≡ Some x → IsWithin bound x.at
@@ -103,3 +105,6 @@ IsExplored g l starts targets dep bound f (Some s) = IsSearched g l starts targe
 -- the label of an entry that is settled before the arrival
 abbrev pub listed_label : Option ℕ → (ℕ × ℕ) × Reached → Option Label
 listed_label arrival e = if (e.1).settled && is_before arrival (e.1).at then Some (label_of e.0.0 e.0.1 (e.1).at) else None
+
+abbrev pub label_of_entry : Option ℕ → Entry → Option Label
+label_of_entry arrival e = listed_label arrival (keyed e)

@@ -1,18 +1,19 @@
 //! The arcs out of a settled product state, each offered to the frontier.
 
-ghost use Rattle.std.specs.Prelude.{◌≡◌, ◌≢◌, ℕ, ◌+◌, ◌<◌, ◌^◌, false, None, Some, OnOk, IfSome, IsTrue, IsFalse, IsBitSet, ◌↔◌};
+ghost use Rattle.std.specs.Prelude.{◌≡◌, ℕ, ◌+◌, ◌<◌, ◌≤◌, ◌^◌, false, None, Some, All, OnOk, IfSome, IsTrue, IsBitSet, ◌↔◌};
 ghost use Rattle.search_laws.specs.LabelLaws.{AllAfter};
 ghost use Rattle.product_search.specs.Reach.{IsWithin};
 ghost use Rattle.product_search.specs.Waiting.{IsQueueRight};
-ghost use Rattle.product_search.specs.Exploring.{IsReachedBy, IsSettledBy, Offers, IsByMove, LeadsTo, IsSuccessor, ArcIsReached};
+ghost use Rattle.product_search.specs.Exploring.{IsReachedBy, IsSettledBy, Offers, IsByMove, LeadsTo, IsByWay, IsByWays, WayIsReached, IsSuccessor, ArcIsReached};
 
 use crate::frontier::{Frontier, Parent, Reached, Settled};
-use search_laws::{Graph, GraphArc, Labels, Move, Time};
+use search_laws::{Graph, GraphArc, Labels, Move, Time, Way};
 use std::alloc::AllocError;
 
-/// Offers what each arc out of a settled product state leads to within the bound.
+/// Offers what each arc out of a settled product state leads to within the bound. What `ways` holds is lost.
 pub(crate) fn explore<G: Graph, L: Labels>(
     frontier: &mut Frontier,
+    ways: &mut Vec<Way>,
     graph: &G,
     labels: &L,
     bound: Option<Time>,
@@ -30,10 +31,9 @@ pub(crate) fn explore<G: Graph, L: Labels>(
     ensures reached { OnOk result ((i : ℕ) → i < (G.meaning graph.now).arcs from.node
         → ArcIsReached (G.meaning graph.now) (L.automaton labels.now) bound frontier.new from.node from.state from.at i) }
 {
-    let letters = letters_after(labels, from.state);
-    for i in 0..graph.arcs(from.node) {
-        explore_arc(frontier, graph, labels, bound, from, letters, i)?;
-    }
+    ways.clear();
+    graph.ways(from.node, from.at, letters_after(labels, from.state), ways)?;
+    explore_ways(frontier, labels, bound, from, ways)?;
     Ok(())
 }
 
@@ -50,61 +50,61 @@ fn letters_after<L: Labels>(labels: &L, state: u32) -> u32
     letters
 }
 
-/// Whether an arc may be taken in a state that moves leave by these letters.
-fn is_open(letters: u32, letter: Option<u8>) -> bool
-    requires { IfSome letter (λ c. c < 14) }
-    ensures { IsFalse result → IfSome letter (λ c. IsBitSet letters c → ⊥) × (letter ≢ None) }
-{
-    match letter {
-        None => true,
-        Some(letter) => letters & (1 << letter) != 0,
-    }
-}
-
-/// Offers what one arc leads to, if a move is by its letter and it arrives within the bound.
-fn explore_arc<G: Graph, L: Labels>(
+/// Offers what each of some arcs leads to within the bound.
+fn explore_ways<L: Labels>(
     frontier: &mut Frontier,
-    graph: &G,
     labels: &L,
     bound: Option<Time>,
     from: Settled,
-    letters: u32,
-    i: u64,
+    ways: &[Way],
 ) -> Result<(), AllocError>
-    requires letters { (j c : ℕ) → j < (L.automaton labels.now).moves from.state
-        → IsBitSet ((L.automaton labels.now).move_at from.state j).letters c → IsBitSet letters c }
-    requires node { from.node < (G.meaning graph.now).nodes }
-    requires arc { i < (G.meaning graph.now).arcs from.node }
     requires state { from.state < (L.automaton labels.now).states }
-    requires time { from.at < 2 ^ 127 }
     requires arcs { from.arcs + 1 < 2 ^ 64 }
+    requires letters { All (λ way. IfSome way.arc.letter (λ c. c < 14)) ways.now }
+    requires times { All (λ way. from.at ≤ way.at) ways.now }
     requires right { IsQueueRight frontier.old }
     requires settled { IsSettledBy frontier.old from.at }
     ensures right { OnOk result (IsQueueRight frontier.new) }
-    ensures offers { OnOk result (Offers frontier.old frontier.new
-        (IsSuccessor (G.meaning graph.now) (L.automaton labels.now) bound from)) }
-    ensures reached { OnOk result
-        (ArcIsReached (G.meaning graph.now) (L.automaton labels.now) bound frontier.new from.node from.state from.at i) }
+    ensures offers { OnOk result (Offers frontier.old frontier.new (IsByWays (L.automaton labels.now) bound from ways.now)) }
+    ensures reached { OnOk result (All (WayIsReached (L.automaton labels.now) bound frontier.new from.state) ways.now) }
 {
-    let arc = graph.arc_at(from.node, i);
-    if !is_open(letters, arc.letter) {
-        return Ok(());
+    for way in ways {
+        explore_way(frontier, labels, bound, from, *way)?;
     }
-    if let Some(at) = graph.arrive(from.node, i, from.at) {
-        if is_within(bound, at) {
-            let parent = Parent {
-                node: from.node,
-                state: from.state,
-                arc: i,
-            };
-            let way = Reached {
-                at,
-                arcs: from.arcs + 1,
-                parent: Some(parent),
-                settled: false,
-            };
-            offer_states(frontier, labels, arc, from.state, way)?;
-        }
+    Ok(())
+}
+
+/// Offers what one arc leads to, if it arrives within the bound.
+fn explore_way<L: Labels>(
+    frontier: &mut Frontier,
+    labels: &L,
+    bound: Option<Time>,
+    from: Settled,
+    way: Way,
+) -> Result<(), AllocError>
+    requires state { from.state < (L.automaton labels.now).states }
+    requires arcs { from.arcs + 1 < 2 ^ 64 }
+    requires letter { IfSome way.arc.letter (λ c. c < 14) }
+    requires time { from.at ≤ way.at }
+    requires right { IsQueueRight frontier.old }
+    requires settled { IsSettledBy frontier.old from.at }
+    ensures right { OnOk result (IsQueueRight frontier.new) }
+    ensures offers { OnOk result (Offers frontier.old frontier.new (IsByWay (L.automaton labels.now) bound from way)) }
+    ensures reached { OnOk result (WayIsReached (L.automaton labels.now) bound frontier.new from.state way) }
+{
+    if is_within(bound, way.at) {
+        let parent = Parent {
+            node: from.node,
+            state: from.state,
+            arc: way.place,
+        };
+        let reached = Reached {
+            at: way.at,
+            arcs: from.arcs + 1,
+            parent: Some(parent),
+            settled: false,
+        };
+        offer_states(frontier, labels, way.arc, from.state, reached)?;
     }
     Ok(())
 }

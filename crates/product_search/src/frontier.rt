@@ -1,14 +1,11 @@
 //! What a search has reached, and the queue of those product states that it has not settled.
 
-ghost use Rattle.std.specs.Prelude.{◌≡◌, ℕ, false, true, None, Some, IfSome, IfNone, OnOk, IsTrue, IsFalse, IsPermutation, ◌∷◌, if◌then◌else◌};
-ghost use Rattle.std.specs.BinaryHeap.{heap_items, KeepsHeap};
-ghost use Rattle.std.specs.HashMap as hash;
-ghost use Rattle.product_search.specs.Waiting.{IsQueueRight, IsOffered, SettlesLeast, NobodyWaits, SameReached, reached_at, state_eq, is_same, offered, waits_at, queue_cmp, entry_of, IsSetAt};
+ghost use Rattle.std.specs.Prelude.{◌≡◌, ◌≢◌, ℕ, ◌<◌, ◌^◌, ◌++◌, false, true, None, Some, IfSome, IfNone, IfOk, OnOk, IsTrue, IsFalse, IsPermutation, MatchOption, ◌∷◌, [], slice_get, slice_index, slice_set, ◌+◌, if◌then◌else◌, length, };
+ghost use Rattle.product_search.specs.Waiting.{IsQueueRight, IsOffered, SettlesLeast, NobodyWaits, SameReached, reached_at, state_eq, offered, IsSetAt, IsAt, IsNowhere, IsIndexed, IsClear, IsBehind, seen, made, settled_now, Waits};
 
+use crate::queue::Queue;
 use search_laws::Time;
 use std::alloc::{AllocError, Global};
-use std::cmp::Reverse;
-use std::collections::{BinaryHeap, HashMap};
 
 /// The product state that another was reached from, and the place of the arc that led there.
 #[derive(Clone, Copy)]
@@ -30,6 +27,19 @@ pub(crate) struct Reached {
     pub settled: bool,
 }
 
+/// A product state with what is known of it.
+#[derive(Clone, Copy)]
+pub(crate) struct Entry {
+    pub node: u32,
+    pub state: u32,
+    pub at: Time,
+    pub arcs: u64,
+    pub parent: Option<Parent>,
+    pub settled: bool,
+    /// The number of the entry before this one that is of the same node, and 1; or 0.
+    pub next: u32,
+}
+
 /// A product state that was taken from the queue.
 #[derive(Clone, Copy)]
 pub(crate) struct Settled {
@@ -39,31 +49,64 @@ pub(crate) struct Settled {
     pub arcs: u64,
 }
 
-/// The product states that are reached, and of each that isn't settled an entry in the queue, by its time.
+/// The product states that are reached, each with a number, and of each that isn't settled an entry in the queue.
 ///
 /// An entry stays in the queue where a better way is found later, and is passed over when it comes up.
 #[derive(Drop)]
 pub(crate) struct Frontier {
-    pub reached: HashMap<(u32, u32), Reached>,
-    pub queue: BinaryHeap<Reverse<(Time, u32, u32)>>,
+    pub entries: Vec<Entry>,
+    /// For each node the number of its last entry, and 1; or 0. Nodes past its end have none.
+    pub first: Vec<u32>,
+    pub queue: Queue,
 }
 
 impl Frontier {
-    pub fn new(alloc: Global) -> Frontier
+    /// A frontier that uses a table in which no node has an entry.
+    pub fn new(alloc: Global, first: Vec<u32>) -> Frontier
+        requires { IsClear first.items }
         ensures right { IsQueueRight result }
         ensures empty { (v q : ℕ) → reached_at result v q ≡ None }
     {
         Frontier {
-            reached: HashMap::new(alloc),
-            queue: BinaryHeap::new(alloc),
+            entries: Vec::new(alloc),
+            first,
+            queue: Queue::new(alloc),
         }
     }
 
-    /// What is known of a product state.
+    /// The number of a product state that is reached.
+    fn find(&self, node: u32, state: u32) -> Option<u32>
+        requires { IsIndexed self.now }
+        ensures { MatchOption result (IsNowhere self.now.entries.items node state) (IsAt self.now.entries.items node state) }
+    {
+        let mut cursor = self.head(node);
+        'chain: while cursor != 0 {
+            let entry = self.entries[(cursor - 1) as usize];
+            if entry.state == state {
+                return Some(cursor - 1);
+            }
+            cursor = entry.next;
+        }
+        None
+    }
+
+    /// The number of the last entry of a node, and 1; or 0.
+    fn head(&self, node: u32) -> u32
+        ensures { result ≡ slice_index self.now.first.items node }
+    {
+        match self.first.get(node as usize) {
+            None => 0,
+            Some(cursor) => *cursor,
+        }
+    }
+
+    /// What is known of a product state that is reached.
     pub fn get(&self, node: u32, state: u32) -> Option<Reached>
+        requires { IsQueueRight self.now }
         ensures { result ≡ reached_at self.now node state }
     {
-        self.reached.get(&(node, state)).copied()
+        let number = self.find(node, state)?;
+        Some(known_of(self.entries[number as usize]))
     }
 
     /// Takes a way to a product state, if it is the first or better than the one that is known.
@@ -73,20 +116,40 @@ impl Frontier {
         ensures right { OnOk result (IsQueueRight self.new) }
         ensures offered { OnOk result (IsOffered self.old self.new node state way) }
     {
-        if is_better(way, self.get(node, state)) {
-            self.put(node, state, way)?;
+        match self.find(node, state) {
+            None => self.add(node, state, way),
+            Some(number) => self.improve(node, state, number, way),
         }
+    }
+
+    /// Takes the first way to a product state.
+    fn add(&mut self, node: u32, state: u32, way: Reached) -> Result<(), AllocError>
+        requires right { IsQueueRight self.old }
+        requires nowhere { IsNowhere self.old.entries.items node state }
+        ensures right { OnOk result (IsQueueRight self.new) }
+        ensures offered { OnOk result (IsOffered self.old self.new node state way) }
+    {
+        let number = number_of(self.entries.len())?;
+        let next = self.head(node);
+        grow(&mut self.first, node)?;
+        self.entries.push(entry_with(node, state, next, way))?;
+        self.first[node as usize] = number + 1;
+        self.queue.push(way.at, number)?;
         Ok(())
     }
 
-    /// Puts a way to a product state into the map and into the queue.
-    fn put(&mut self, node: u32, state: u32, way: Reached) -> Result<(), AllocError>
-        ensures reached { OnOk result (IsSetAt self.old.reached self.new.reached node state way) }
-        ensures heap { OnOk result (KeepsHeap queue_cmp (heap_items self.old.queue) (heap_items self.new.queue)) }
-        ensures queue { OnOk result (IsPermutation (entry_of way.at node state ∷ heap_items self.old.queue) (heap_items self.new.queue)) }
+    /// Takes a way to a product state that is reached, if it is better.
+    fn improve(&mut self, node: u32, state: u32, number: u32, way: Reached) -> Result<(), AllocError>
+        requires right { IsQueueRight self.old }
+        requires there { IsAt self.old.entries.items node state number }
+        ensures right { OnOk result (IsQueueRight self.new) }
+        ensures offered { OnOk result (IsOffered self.old self.new node state way) }
     {
-        self.reached.insert((node, state), way)?;
-        self.queue.push(Reverse((way.at, node, state)))?;
+        if is_better(way, self.entries[number as usize]) {
+            let next = self.entries[number as usize].next;
+            self.entries[number as usize] = entry_with(node, state, next, way);
+            self.queue.push(way.at, number)?;
+        }
         Ok(())
     }
 
@@ -98,13 +161,13 @@ impl Frontier {
         ensures none { IfNone result (NobodyWaits self.old) }
         ensures same { IfNone result (SameReached self.old self.new) }
     {
-        while let Some(Reverse((at, node, state))) = self.queue.pop() {
-            if let Some(known) = settle(&mut self.reached, node, state, at) {
+        while let Some((at, number)) = self.queue.pop() {
+            if let Some(entry) = settle(&mut self.entries, number, at) {
                 return Some(Settled {
-                    node,
-                    state,
+                    node: entry.node,
+                    state: entry.state,
                     at,
-                    arcs: known.arcs,
+                    arcs: entry.arcs,
                 });
             }
         }
@@ -112,37 +175,104 @@ impl Frontier {
     }
 }
 
-/// Whether a way is to be taken: the first one, or better than one that is known and not settled.
-fn is_better(way: Reached, known: Option<Reached>) -> bool
-    ensures better { IsTrue result → offered known way ≡ Some way }
-    ensures kept { IsFalse result → offered known way ≡ known }
+/// A table as it was before there were entries.
+pub(crate) fn cleared(entries: &[Entry], first: Vec<u32>) -> Vec<u32>
+    requires { IsBehind entries.now first.items 0 }
+    ensures { IsClear result.items }
 {
-    match known {
-        None => true,
-        Some(reached) => !reached.settled && way.at < reached.at,
+    let mut first = first;
+    'clear: for k in 0..entries.len() {
+        clear_at(&mut first, entries[k].node);
+    }
+    first
+}
+
+/// Clears what a table has for a node.
+fn clear_at(first: &mut Vec<u32>, node: u32)
+    ensures here { slice_index first.new.items node ≡ 0 }
+    ensures others { (v : ℕ) → v ≢ node → slice_index first.new.items v ≡ slice_index first.old.items v }
+{
+    if (node as usize) < first.len() {
+        first[node as usize] = 0;
     }
 }
 
-/// Marks a product state as settled, if it waits for that time, and answers what was known of it.
-fn settle(
-    reached: &mut HashMap<(u32, u32), Reached>,
-    node: u32,
-    state: u32,
-    at: Time,
-) -> Option<Reached>
-    ensures known { IfSome result
-        (λ x. (hash.get state_eq reached.old (node, state) ≡ Some x) × (x.settled ≡ false) × (x.at ≡ at)) }
-    ensures settled { IfSome result
-        (λ x. IsSetAt reached.old reached.new node state (record x { settled = true })) }
-    ensures stale { IfNone result (waits_at (hash.get state_eq reached.old (node, state)) at ≡ false) }
-    ensures same { IfNone result
-        ((w r : ℕ) → hash.get state_eq reached.new (w, r) ≡ hash.get state_eq reached.old (w, r)) }
+/// A count as a number of 32 bits; fails where it has more.
+fn number_of(count: usize) -> Result<u32, AllocError>
+    ensures count { IfOk result (λ n. n ≡ count) }
+    ensures small { IfOk result (λ n. n + 1 < 2 ^ 32) }
 {
-    let entry = reached.get_mut(&(node, state))?;
-    let known = *entry;
-    if known.settled || known.at != at {
+    if count < 0xffff_ffff {
+        Ok(count as u32)
+    } else {
+        Err(AllocError)
+    }
+}
+
+/// Makes a table of numbers long enough for a node.
+fn grow(first: &mut Vec<u32>, node: u32) -> Result<(), AllocError>
+    ensures same { OnOk result ((v : ℕ) → slice_index first.new.items v ≡ slice_index first.old.items v) }
+    ensures long { OnOk result (node < length first.new.items) }
+{
+    'grow: while first.len() <= node as usize {
+        first.push(0)?;
+    }
+    Ok(())
+}
+
+/// What is known by an entry.
+fn known_of(entry: Entry) -> Reached
+    ensures { result ≡ seen entry }
+{
+    Reached {
+        at: entry.at,
+        arcs: entry.arcs,
+        parent: entry.parent,
+        settled: entry.settled,
+    }
+}
+
+/// The entry of a product state with what is known of it.
+fn entry_with(node: u32, state: u32, next: u32, way: Reached) -> Entry
+    ensures { result ≡ made node state next way }
+{
+    Entry {
+        node,
+        state,
+        at: way.at,
+        arcs: way.arcs,
+        parent: way.parent,
+        settled: way.settled,
+        next,
+    }
+}
+
+/// Whether a way is better than one that is known and not settled.
+fn is_better(way: Reached, known: Entry) -> bool
+    ensures better { IsTrue result → offered (Some (seen known)) way ≡ Some way }
+    ensures kept { IsFalse result → offered (Some (seen known)) way ≡ Some (seen known) }
+{
+    !known.settled && way.at < known.at
+}
+
+/// Marks a product state as settled, if it waits for that time, and answers its entry as it was.
+fn settle(entries: &mut Vec<Entry>, number: u32, at: Time) -> Option<Entry>
+    ensures known { IfSome result (λ e. Waits entries.old.items number at e) }
+    ensures settled { IfSome result (λ e. entries.new.items ≡ slice_set entries.old.items number (settled_now e)) }
+    ensures stale { IfNone result ((e : _) → Waits entries.old.items number at e → ⊥) }
+    ensures same { IfNone result (entries.new.items ≡ entries.old.items) }
+{
+    let place = number as usize;
+    if place >= entries.len() {
         return None;
     }
-    entry.settled = true;
-    Some(known)
+    let entry = entries[place];
+    if entry.settled || entry.at != at {
+        return None;
+    }
+    entries[place] = Entry {
+        settled: true,
+        ..entry
+    };
+    Some(entry)
 }

@@ -42,3 +42,12 @@ pub struct Found {
     /// A walk with the least arrival.
     pub walk: Option<Walk>,
 }
+
+/// The answer of a search that lists no labels.
+#[derive(Debug, Drop)]
+pub struct Best {
+    /// The least arrival, or None where no walk counts.
+    pub arrival: Option<Time>,
+    /// A walk with the least arrival.
+    pub walk: Option<Walk>,
+}

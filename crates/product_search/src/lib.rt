@@ -11,6 +11,7 @@ mod label;
 mod listing;
 mod lookup;
 mod order_check;
+mod queue;
 mod retrace;
 mod searching;
 mod settling;
@@ -19,8 +20,10 @@ mod start_check;
 #[cfg(test)]
 mod tests;
 mod verdict;
+mod workspace;
 
 pub use checking::check_labels;
-pub use label::{Found, Hop, Label, Walk};
-pub use searching::search;
+pub use label::{Best, Found, Hop, Label, Walk};
+pub use searching::{search, search_best, search_best_with};
 pub use verdict::LabelVerdict;
+pub use workspace::Workspace;

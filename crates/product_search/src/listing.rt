@@ -1,13 +1,11 @@
 //! The settled product states as a list of labels.
 
 ghost use Rattle.std.specs.Prelude.{◌≡◌, ◌↔◌, All, Some, IfOk, filter_map, IsSorted, IsPermutation, IsTrue};
-ghost use Rattle.std.specs.HashMap as hash;
 ghost use Rattle.product_search.specs.Listed.{label_order};
 ghost use Rattle.product_search.specs.Reach.{IsBefore, is_before};
-ghost use Rattle.product_search.specs.Waiting.{state_eq, reached_at};
-ghost use Rattle.product_search.specs.Searching.{listed_label};
+ghost use Rattle.product_search.specs.Searching.{label_of_entry};
 
-use crate::frontier::{Frontier, Reached};
+use crate::frontier::{Entry, Frontier};
 use crate::label::Label;
 use search_laws::Time;
 use std::alloc::{AllocError, Global};
@@ -19,42 +17,37 @@ pub(crate) fn list_labels(
     arrival: Option<Time>,
 ) -> Result<Vec<Label>, AllocError>
     ensures sorted { IfOk result (λ v. IsSorted label_order v.items) }
-    ensures labels { IfOk result (λ v. IsPermutation (filter_map (listed_label arrival) frontier.now.reached.entries) v.items) }
-    ensures unique { hash.IsUnique state_eq frontier.now.reached }
-    ensures entries { All (λ e. reached_at frontier.now e.0.0 e.0.1 ≡ Some e.1) frontier.now.reached.entries }
+    ensures labels { IfOk result (λ v. IsPermutation (filter_map (label_of_entry arrival) frontier.now.entries.items) v.items) }
 {
     let mut list = settled_labels(alloc, frontier, arrival)?;
     list.sort_unstable();
     Ok(list)
 }
 
-/// The labels in the order of the map.
+/// The labels in the order of the entries.
 fn settled_labels(
     alloc: Global,
     frontier: &Frontier,
     arrival: Option<Time>,
 ) -> Result<Vec<Label>, AllocError>
-    ensures labels { IfOk result (λ v. v.items ≡ filter_map (listed_label arrival) frontier.now.reached.entries) }
-    ensures unique { hash.IsUnique state_eq frontier.now.reached }
-    ensures entries { All (λ e. reached_at frontier.now e.0.0 e.0.1 ≡ Some e.1) frontier.now.reached.entries }
+    ensures labels { IfOk result (λ v. v.items ≡ filter_map (label_of_entry arrival) frontier.now.entries.items) }
 {
     frontier
-        .reached
+        .entries
         .iter()
-        .filter_map(|(key, known)| label_before(arrival, *key, *known))
+        .filter_map(|entry| label_before(arrival, *entry))
         .collect(alloc)
 }
 
 /// The label of a product state, if that is settled before the arrival.
-fn label_before(arrival: Option<Time>, key: (u32, u32), known: Reached) -> Option<Label>
-    ensures { result ≡ listed_label arrival (key, known) }
+fn label_before(arrival: Option<Time>, entry: Entry) -> Option<Label>
+    ensures { result ≡ label_of_entry arrival entry }
 {
-    let (node, state) = key;
-    if known.settled && is_before(arrival, known.at) {
+    if entry.settled && is_before(arrival, entry.at) {
         Some(Label {
-            node,
-            state,
-            at: known.at,
+            node: entry.node,
+            state: entry.state,
+            at: entry.at,
         })
     } else {
         None

@@ -1,7 +1,7 @@
 //! The way back from an end to a start.
 
 ghost use Rattle.std.specs.Prelude.{◌≡◌, IfOk, IsSome, Some};
-ghost use Rattle.product_search.specs.Waiting.{reached_at};
+ghost use Rattle.product_search.specs.Waiting.{IsQueueRight, reached_at};
 ghost use Rattle.product_search.specs.Trail.{HasParents, IsTrailTo};
 
 use crate::frontier::{Frontier, Reached, Settled};
@@ -10,6 +10,7 @@ use std::alloc::{AllocError, Global};
 
 /// The walk by which an end was reached.
 pub(crate) fn retrace(alloc: Global, frontier: &Frontier, end: Settled) -> Result<Walk, AllocError>
+    requires right { IsQueueRight frontier.now }
     requires parents { HasParents frontier.now }
     requires known { IsSome (reached_at frontier.now end.node end.state) }
     ensures { IfOk result (IsTrailTo frontier.now end.node end.state) }
@@ -41,8 +42,9 @@ pub(crate) fn retrace(alloc: Global, frontier: &Frontier, end: Settled) -> Resul
 
 /// What is known of a product state that is reached.
 fn entry(frontier: &Frontier, node: u32, state: u32) -> Reached
-    requires { IsSome (reached_at frontier.now node state) }
+    requires right { IsQueueRight frontier.now }
+    requires known { IsSome (reached_at frontier.now node state) }
     ensures { reached_at frontier.now node state ≡ Some result }
 {
-    frontier.reached[&(node, state)]
+    frontier.get(node, state).unwrap()
 }

@@ -6,10 +6,11 @@ ghost use Rattle.product_search.specs.Listed.{AreLeastLabels};
 ghost use Rattle.product_search.specs.Answer.{IsArrival, IsWalkFor, IsInTime};
 ghost use Rattle.product_search.specs.Closed.{IsClosed};
 
-use crate::label::Found;
+use crate::label::{Best, Found};
 use crate::listing::list_labels;
 use crate::retrace::retrace;
 use crate::settling::settle_all;
+use crate::workspace::Workspace;
 use search_laws::{Graph, Labels, Time};
 use std::alloc::{AllocError, Global};
 
@@ -46,7 +47,7 @@ pub fn search<G: Graph, L: Labels>(
         f.arrival f.labels.items) }
     ensures times { IfOk result (IsInTime dep) }
 {
-    let explored = settle_all(alloc, graph, labels, starts, targets, dep, bound)?;
+    let explored = settle_all(alloc, Vec::new(alloc), graph, labels, starts, targets, dep, bound)?;
     match explored.end {
         None => Ok(Found {
             arrival: None,
@@ -58,5 +59,75 @@ pub fn search<G: Graph, L: Labels>(
             labels: list_labels(alloc, &explored.frontier, Some(end.at))?,
             walk: Some(retrace(alloc, &explored.frontier, end)?),
         }),
+    }
+}
+
+/// The same without the labels.
+pub fn search_best<G: Graph, L: Labels>(
+    alloc: Global,
+    graph: &G,
+    labels: &L,
+    starts: &[u32],
+    targets: &[u32],
+    dep: Time,
+    bound: Option<Time>,
+) -> Result<Best, AllocError>
+    requires starts { All (λ v. v < (G.meaning graph.now).nodes) starts.now }
+    requires dep { dep < 2 ^ 64 }
+    requires bound { IsWithin bound dep }
+    ensures arrival { IfOk result (λ f. IsArrival (G.meaning graph.now) (L.automaton labels.now) starts.now targets.now dep
+        bound f.arrival) }
+    ensures walk { IfOk result (λ f. IsWalkFor (G.meaning graph.now) (L.automaton labels.now) starts.now targets.now dep
+        f.arrival f.walk) }
+{
+    let explored = settle_all(alloc, Vec::new(alloc), graph, labels, starts, targets, dep, bound)?;
+    match explored.end {
+        None => Ok(Best {
+            arrival: None,
+            walk: None,
+        }),
+        Some(end) => Ok(Best {
+            arrival: Some(end.at),
+            walk: Some(retrace(alloc, &explored.frontier, end)?),
+        }),
+    }
+}
+
+/// The same with a table that is kept for the next search. Where a search fails, the next one makes a new table.
+pub fn search_best_with<G: Graph, L: Labels>(
+    alloc: Global,
+    workspace: &mut Workspace,
+    graph: &G,
+    labels: &L,
+    starts: &[u32],
+    targets: &[u32],
+    dep: Time,
+    bound: Option<Time>,
+) -> Result<Best, AllocError>
+    requires starts { All (λ v. v < (G.meaning graph.now).nodes) starts.now }
+    requires dep { dep < 2 ^ 64 }
+    requires bound { IsWithin bound dep }
+    ensures arrival { IfOk result (λ f. IsArrival (G.meaning graph.now) (L.automaton labels.now) starts.now targets.now dep
+        bound f.arrival) }
+    ensures walk { IfOk result (λ f. IsWalkFor (G.meaning graph.now) (L.automaton labels.now) starts.now targets.now dep
+        f.arrival f.walk) }
+{
+    let explored = settle_all(alloc, workspace.take(alloc), graph, labels, starts, targets, dep, bound)?;
+    match explored.end {
+        None => {
+            workspace.put(explored.frontier);
+            Ok(Best {
+                arrival: None,
+                walk: None,
+            })
+        }
+        Some(end) => {
+            let walk = retrace(alloc, &explored.frontier, end)?;
+            workspace.put(explored.frontier);
+            Ok(Best {
+                arrival: Some(end.at),
+                walk: Some(walk),
+            })
+        }
     }
 }

@@ -5,6 +5,7 @@ ghost use Rattle.std.specs.BTreeSet as sorted;
 ghost use Rattle.std.specs.Ordering.{nat_cmp};
 ghost use Rattle.product_search.specs.Reach.{IsWithin};
 ghost use Rattle.product_search.specs.Searching.{IsExplored};
+ghost use Rattle.product_search.specs.Waiting.{IsClear};
 
 use crate::explore::explore;
 use crate::frontier::{Frontier, Settled};
@@ -23,6 +24,7 @@ pub(crate) struct Explored {
 /// Settles product states from the starts on, up to the first end.
 pub(crate) fn settle_all<G: Graph, L: Labels>(
     alloc: Global,
+    first: Vec<u32>,
     graph: &G,
     labels: &L,
     starts: &[u32],
@@ -30,6 +32,7 @@ pub(crate) fn settle_all<G: Graph, L: Labels>(
     dep: Time,
     bound: Option<Time>,
 ) -> Result<Explored, AllocError>
+    requires clear { IsClear first.items }
     requires starts { All (λ v. v < (G.meaning graph.now).nodes) starts.now }
     requires dep { dep < 2 ^ 64 }
     requires bound { IsWithin bound dep }
@@ -37,8 +40,9 @@ pub(crate) fn settle_all<G: Graph, L: Labels>(
         e.frontier e.end) }
 {
     let ends = set_of(alloc, targets)?;
-    let mut frontier = Frontier::new(alloc);
+    let mut frontier = Frontier::new(alloc, first);
     offer_starts(&mut frontier, labels, starts, dep)?;
+    let mut ways = Vec::new(alloc);
     while let Some(settled) = frontier.settle_least() {
         if is_end(labels, &ends, settled) {
             return Ok(Explored {
@@ -46,7 +50,7 @@ pub(crate) fn settle_all<G: Graph, L: Labels>(
                 end: Some(settled),
             });
         }
-        explore(&mut frontier, graph, labels, bound, settled)?;
+        explore(&mut frontier, &mut ways, graph, labels, bound, settled)?;
     }
     Ok(Explored {
         frontier,

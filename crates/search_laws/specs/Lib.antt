@@ -2,3 +2,4 @@ pub mod GraphLaws
 pub mod LabelLaws
 pub mod Walks
 pub mod Collapse
+pub mod Ways

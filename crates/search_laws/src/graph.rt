@@ -1,9 +1,11 @@
 //! Time-dependent graphs that never let a later start arrive earlier.
 
-ghost use Rattle.std.specs.Prelude.{◌≡◌, ◌<◌, ◌^◌};
+ghost use Rattle.std.specs.Prelude.{◌≡◌, ◌<◌, ◌^◌, ◌++◌, OnOk, IfSome};
 ghost use Rattle.search_laws.specs.GraphLaws.{GraphMeaning, IsLawfulGraph};
+ghost use Rattle.search_laws.specs.Ways.{is_open, open_way, ways_of};
 
 use crate::Time;
+use std::alloc::AllocError;
 
 /// An arc as its node lists it: the node that it leads to, and the letter that it adds to the word, if any.
 ///
@@ -12,6 +14,44 @@ use crate::Time;
 pub struct GraphArc {
     pub to: u32,
     pub letter: Option<u8>,
+}
+
+/// An arc that can be taken at some time: its place among those of its node, the arc, and when it arrives.
+#[derive(Clone, Copy)]
+pub struct Way {
+    pub place: u64,
+    pub arc: GraphArc,
+    pub at: Time,
+}
+
+/// Whether a letter is in a set, of which it is a bit, or there is none.
+pub fn is_open(letters: u32, letter: Option<u8>) -> bool
+    requires { IfSome letter (λ c. c < 14) }
+    ensures { result ≡ is_open letters letter }
+{
+    match letter {
+        None => true,
+        Some(letter) => letters & (1 << letter) != 0,
+    }
+}
+
+/// Appends an arc that arrives, if its letter is in the set or it has none.
+pub fn push_way(
+    ways: &mut Vec<Way>,
+    letters: u32,
+    place: u64,
+    arc: GraphArc,
+    at: Option<Time>,
+) -> Result<(), AllocError>
+    requires { IfSome arc.letter (λ c. c < 14) }
+    ensures { OnOk result (ways.new.items ≡ ways.old.items ++ open_way letters place arc at) }
+{
+    if is_open(letters, arc.letter) {
+        if let Some(at) = at {
+            ways.push(Way { place, arc, at })?;
+        }
+    }
+    Ok(())
 }
 
 /// A graph whose arcs take a time that depends on when they are taken.
@@ -43,6 +83,20 @@ pub trait Graph {
         requires arc { i < (meaning self.now).arcs v }
         requires time { t < 2 ^ 127 }
         ensures { result ≡ (meaning self.now).arrive v i t };
+
+    /// Appends the arcs of `v` that arrive if they are taken at `t`, by a letter of the set or by none, in order.
+    ///
+    /// Letter c is in the set where bit c of `letters` is 1. Fails where memory runs out.
+    fn ways(&self, v: u32, t: Time, letters: u32, ways: &mut Vec<Way>) -> Result<(), AllocError>
+        requires node { v < (meaning self.now).nodes }
+        requires time { t < 2 ^ 127 }
+        ensures { OnOk result (ways.new.items ≡ ways.old.items ++ ways_of (meaning self.now) v t letters) }
+    {
+        for i in 0..self.arcs(v) {
+            push_way(ways, letters, i, self.arc_at(v, i), self.arrive(v, i, t))?;
+        }
+        Ok(())
+    }
 
     /// Every graph keeps the laws, at every time, without an upper end.
     ghost lawful: { (g : Self) → IsLawfulGraph (meaning g) };

@@ -5,7 +5,7 @@
 mod graph;
 mod labels;
 
-pub use graph::{Graph, GraphArc};
+pub use graph::{Graph, GraphArc, Way, is_open, push_way};
 pub use labels::{Labels, Move, RoadLabels};
 
 /// A moment, in milliseconds from an origin that the graph fixes.

@@ -118,7 +118,8 @@ module _ (t : TableLists) where
           ∙ ap (λ (xs : List Ride). map (ride_to p k) (alights (k + 1) cs) ++ xs) with_board
       by_test false rest with_board without = without
 
-  from_rides : (stop n p : ℕ) (patterns : List (List Instance)) → flat_map rides_on (boards_from t stop n p patterns) ≡ rides_from t stop p patterns
+  -- all rides at a stop are those of its boards in turn
+  pub from_rides : (stop n p : ℕ) (patterns : List (List Instance)) → flat_map rides_on (boards_from t stop n p patterns) ≡ rides_from t stop p patterns
   from_rides stop n p [] = refl
   from_rides stop n p (runs ∷ patterns) =
       let calls = (pattern_trip t p).calls in
@@ -154,7 +155,7 @@ module _ (t : TableLists) where
           (refl, subst (λ (m : ℕ). AreCounted m (boards_along p stop (n + length (alights (k + 1) cs)) (k + 1) cs)) (sym counted ∙ same) with_board)
       by_test false rest with_board without = without
 
-  from_counted : (stop n p : ℕ) (patterns : List (List Instance)) → AreCounted n (boards_from t stop n p patterns)
+  pub from_counted : (stop n p : ℕ) (patterns : List (List Instance)) → AreCounted n (boards_from t stop n p patterns)
   from_counted stop n p [] = tt
   from_counted stop n p (runs ∷ patterns) =
       let calls = (pattern_trip t p).calls in
@@ -438,3 +439,33 @@ from_few t stop p most (runs ∷ patterns) are short =
 
 pub at_few : (t : TableLists) (stop most : ℕ) → ((place : ℕ) → length (trip_at t place).calls ≤ most) → length (rides_at t stop) ≤ most * sum_by (calls_of_runs t) t.patterns
 at_few t stop most short = from_few t stop 0 most t.patterns (λ k lt. let same : k ≡ 0 + k = omega arith in ap (runs_of t) same) short
+
+module _ (t : TableLists) where
+  -- a board is a call of a pattern
+  pub record IsBoardOf (b : Board) : Type 0 where
+    pub pattern : b.pattern < length t.patterns
+    pub call : b.call < length (pattern_trip t b.pattern).calls
+
+  along_boards : (p stop n k : ℕ) (calls : List Call) → p < length t.patterns → calls ≡ drop k (pattern_trip t p).calls → All IsBoardOf (boards_along p stop n k calls)
+  along_boards p stop n k [] lt is = All-nil IsBoardOf
+  along_boards p stop n k (c ∷ cs) lt is =
+      let rest = rest_is (pattern_trip t p).calls k c cs is in
+      by_test (nat_eq c.stop stop && c.board) (along_boards p stop (n + length (alights (k + 1) cs)) (k + 1) cs lt rest) (along_boards p stop n (k + 1) cs lt rest)
+    where
+      by_test : (b : Bool) → All IsBoardOf (boards_along p stop (n + length (alights (k + 1) cs)) (k + 1) cs) → All IsBoardOf (boards_along p stop n (k + 1) cs)
+          → All IsBoardOf (cond b (record { pattern = p; call = k; before = n } ∷ boards_along p stop (n + length (alights (k + 1) cs)) (k + 1) cs) (boards_along p stop n (k + 1) cs))
+      by_test true with_board without =
+          All-cons IsBoardOf (record { pattern = p; call = k; before = n }) (boards_along p stop (n + length (alights (k + 1) cs)) (k + 1) cs)
+          (record { pattern = lt; call = is_within (pattern_trip t p).calls k c cs is }) with_board
+      by_test false with_board without = without
+
+  from_boards : (stop n p : ℕ) (patterns : List (List Instance)) → p + length patterns ≤ length t.patterns → All IsBoardOf (boards_from t stop n p patterns)
+  from_boards stop n p [] within = All-nil IsBoardOf
+  from_boards stop n p (runs ∷ patterns) within =
+      let m = n + length (rides_along p stop 0 (pattern_trip t p).calls) in
+      All-append IsBoardOf (boards_along p stop n 0 (pattern_trip t p).calls) (boards_from t stop m (p + 1) patterns)
+      (along_boards p stop n 0 (pattern_trip t p).calls (omega (arith, within)) refl)
+      (from_boards stop m (p + 1) patterns (omega (arith, within)))
+
+  pub boards_fit : (stop : ℕ) → All IsBoardOf (boards_at t stop)
+  boards_fit stop = from_boards stop 0 0 t.patterns (omega arith)

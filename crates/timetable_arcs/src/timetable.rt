@@ -1,6 +1,6 @@
 //! The timetable: trips, the patterns of their runs, and what finds a run or a ride.
 
-ghost use Rattle.std.specs.Prelude.{◌≡◌, ◌<◌, ◌≤◌, ◌+◌, ◌^◌, ℕ, [], min, Some, None, length, All, sum_by, IfOk, OnOk, IfErr, slice_get, slice_index_or};
+ghost use Rattle.std.specs.Prelude.{◌≡◌, ◌<◌, ◌≤◌, ◌+◌, ◌^◌, ℕ, [], min, Some, None, length, All, sum_by, IfOk, OnOk, IfErr, slice_get, slice_index, slice_index_or};
 ghost use Rattle.timetable_arcs.specs.declared.trips.Instance.{Instance};
 ghost use Rattle.timetable_arcs.specs.TripRules.{IsFaultOf, table_fault};
 ghost use Rattle.timetable_arcs.specs.Patterns.{plain_table, trip_at, pattern_trip, no_run, next_run, last_run, arrives, departs};
@@ -13,7 +13,7 @@ use crate::boards::{Places, StopBoards};
 use crate::faults::TableFault;
 use crate::patterns::{Pattern, sort_into_patterns};
 use crate::rides::{Board, Ride};
-use crate::runs::{arrives, departs, first_from, last_by};
+use crate::runs::{arrives, calls_of, departs, first_from, last_by};
 use crate::sorting::sorted_runs;
 use crate::trips::{Call, Instance, Trip};
 use crate::{boards, rules};
@@ -109,6 +109,13 @@ impl Timetable {
         boards::pattern_calls(&self.trips, self.patterns[p as usize].runs())
     }
 
+    /// The calls of a run, in order.
+    pub fn run_calls(&self, run: Instance) -> &[Call]
+        ensures { result.now ≡ (trip_at self.now run.trip).calls }
+    {
+        calls_of(&self.trips, run)
+    }
+
     /// The letter of a pattern, which is that of each of its runs.
     pub fn pattern_letter(&self, p: u32) -> u8
         requires { p < length self.now.patterns }
@@ -154,6 +161,14 @@ impl Timetable {
             arrives(&self.bases, &self.trips, run, call as usize),
             departs(&self.bases, &self.trips, run, call as usize),
         )
+    }
+
+    /// The base of a day, in milliseconds of the region clock.
+    pub fn base(&self, day: u32) -> Time
+        requires { day < length self.now.bases }
+        ensures { result ≡ slice_index self.now.bases day }
+    {
+        Time::from(self.bases[day as usize])
     }
 
     /// The calls of patterns at a stop where one may board, ascending by pattern and call.

@@ -1,20 +1,41 @@
-use Rattle.std.proofs.Common.{below_more}
-use Rattle.product_search.specs.Exploring.{IsSuccessor}
-use Rattle.product_search.proofs.OfferLemmas.{offers_more, settled_keeps, arc_keeps}
+use Rattle.std.proofs.Common.{◌≡◌, ◌∙◌, ◌++◌, List, ap, subst}
+use Rattle.search_laws.specs.Ways.{ways_of}
+use Rattle.search_laws.specs.declared.graph.Way.{Way}
+use Rattle.product_search.specs.Exploring.{IsByWays, IsSuccessor}
+use Rattle.product_search.proofs.OfferLemmas.{offers_weaker}
+use Rattle.product_search.proofs.TakenLemmas.{ways_letters, ways_times, by_ways, arcs_reached}
 use Rattle.product_search.proofs.explore.explore.Goals as goal
 
-pub loop-i-preserved : goal.loop-i-preserved
-loop-i-preserved g c =
+pub explore_ways-requires-clause-letters : goal.explore_ways-requires-clause-letters
+explore_ways-requires-clause-letters g c =
+    let graph = g.G.Graph.meaning c.args.graph.now in
+    let s = c.args.from in
+    let letters = c.letters_after.result in
+    let are : c.deref.result.now ≡ ways_of graph s.node s.at letters = c.deref.ensures.value ∙ (c.in_ok-ways.ensures ∙ ap (λ (xs : List Way). xs ++ ways_of graph s.node s.at letters) c.clear.ensures.items) in
+    ways_letters graph (g.L.Labels.automaton c.args.labels.now) c.args.bound s letters c.deref.result.now are (g.met.G.Graph.lawful c.args.graph.now) c.requires.node
+
+pub explore_ways-requires-clause-times : goal.explore_ways-requires-clause-times
+explore_ways-requires-clause-times g c =
+    let graph = g.G.Graph.meaning c.args.graph.now in
+    let s = c.args.from in
+    let letters = c.letters_after.result in
+    let are : c.deref.result.now ≡ ways_of graph s.node s.at letters = c.deref.ensures.value ∙ (c.in_ok-ways.ensures ∙ ap (λ (xs : List Way). xs ++ ways_of graph s.node s.at letters) c.clear.ensures.items) in
+    ways_times graph (g.L.Labels.automaton c.args.labels.now) c.args.bound s letters c.deref.result.now are (g.met.G.Graph.lawful c.args.graph.now) c.requires.node
+
+pub returns-clause-offers : goal.returns-clause-offers
+returns-clause-offers g c =
     let graph = g.G.Graph.meaning c.args.graph.now in
     let labels = g.L.Labels.automaton c.args.labels.now in
-    let old = c.loop-i.frontier in
-    let new = c.explore_arc.new.frontier in
-    let P = IsSuccessor graph labels c.args.bound c.args.from in
-    record {
-      right = c.in_ok-explore_arc.ensures.right;
-      settled = settled_keeps old new P c.in_ok-explore_arc.ensures.offers c.args.from.at c.loop-i.invariant.settled;
-      offers = offers_more c.args.frontier.now old new P c.loop-i.invariant.offers c.in_ok-explore_arc.ensures.offers;
-      reached = below_more _ _
-          (λ k below. arc_keeps graph labels c.args.bound old new P c.in_ok-explore_arc.ensures.offers c.args.from.node c.args.from.state c.args.from.at k (c.loop-i.invariant.reached k below))
-          c.in_ok-explore_arc.ensures.reached;
-    }
+    let s = c.args.from in
+    let letters = c.letters_after.result in
+    let are : c.deref.result.now ≡ ways_of graph s.node s.at letters = c.deref.ensures.value ∙ (c.in_ok-ways.ensures ∙ ap (λ (xs : List Way). xs ++ ways_of graph s.node s.at letters) c.clear.ensures.items) in
+    offers_weaker c.args.frontier.now c.explore_ways.new.frontier (IsByWays labels c.args.bound s c.deref.result.now) (IsSuccessor graph labels c.args.bound s)
+    (by_ways graph labels c.args.bound s letters c.deref.result.now are c.requires.node) c.in_ok-explore_ways.ensures.offers
+
+pub returns-clause-reached : goal.returns-clause-reached
+returns-clause-reached g c =
+    let graph = g.G.Graph.meaning c.args.graph.now in
+    let s = c.args.from in
+    let letters = c.letters_after.result in
+    let are : c.deref.result.now ≡ ways_of graph s.node s.at letters = c.deref.ensures.value ∙ (c.in_ok-ways.ensures ∙ ap (λ (xs : List Way). xs ++ ways_of graph s.node s.at letters) c.clear.ensures.items) in
+    arcs_reached graph (g.L.Labels.automaton c.args.labels.now) c.args.bound s letters c.deref.result.now are c.explore_ways.new.frontier c.letters_after.ensures c.in_ok-explore_ways.ensures.reached

@@ -3,8 +3,8 @@ use Rattle.std.specs.Option.{is_some}
 use Rattle.product_search.specs.declared.frontier.Reached.{Reached}
 use Rattle.product_search.proofs.retrace.retrace.Goals as goal
 
-pub entry-known-requires-in-Some : goal.entry-known-requires-in-Some
-entry-known-requires-in-Some c =
+pub entry-known-requires-in-Some-clause-known : goal.entry-known-requires-in-Some-clause-known
+entry-known-requires-in-Some-clause-known c =
     let before = c.requires.parents c.loop-known.node c.loop-known.state c.loop-known.known c.in-Some.parent c.loop-known.invariant.here c.in-Some.is in
     ap is_some before.1
 

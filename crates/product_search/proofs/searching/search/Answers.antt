@@ -14,7 +14,7 @@ pub returns-in-None-clause-labels : goal.returns-in-None-clause-labels
 returns-in-None-clause-labels g c =
     let listed = c.in_ok-list_labels-in-None.ensures in
     least_labels (g.G.Graph.meaning c.args.graph.now) (g.L.Labels.automaton c.args.labels.now) c.args.starts.now c.args.targets.now c.args.dep c.args.bound None
-    c.in_ok-explored.explored.frontier (rw c.in-None.is at c.in_ok-explored.ensures) listed.unique listed.entries
+    c.in_ok-explored.explored.frontier (rw c.in-None.is at c.in_ok-explored.ensures)
     c.in_ok-list_labels-in-None.field-0.items listed.sorted listed.labels
 
 pub returns-in-None-clause-closed : goal.returns-in-None-clause-closed
@@ -24,7 +24,7 @@ returns-in-None-clause-closed g c unbounded =
     c.args.starts.now c.args.targets.now c.requires.starts c.args.dep c.args.bound None unbounded c.in_ok-list_labels-in-None.field-0.items
     (returns-in-None-clause-arrival g c) (returns-in-None-clause-labels g c)
     (reached_listed (g.G.Graph.meaning c.args.graph.now) (g.L.Labels.automaton c.args.labels.now) c.args.starts.now c.args.targets.now c.args.dep c.args.bound None
-    c.in_ok-explored.explored.frontier (rw c.in-None.is at c.in_ok-explored.ensures) listed.unique listed.entries
+    c.in_ok-explored.explored.frontier (rw c.in-None.is at c.in_ok-explored.ensures)
     c.in_ok-list_labels-in-None.field-0.items listed.sorted listed.labels)
 
 pub returns-in-None-clause-times : goal.returns-in-None-clause-times
@@ -33,7 +33,7 @@ returns-in-None-clause-times g c =
     record {
       arrival = tt;
       labels = labels_in_time (g.G.Graph.meaning c.args.graph.now) (g.L.Labels.automaton c.args.labels.now) c.args.starts.now c.args.targets.now c.args.dep c.args.bound None
-          c.in_ok-explored.explored.frontier (rw c.in-None.is at c.in_ok-explored.ensures) listed.unique listed.entries
+          c.in_ok-explored.explored.frontier (rw c.in-None.is at c.in_ok-explored.ensures)
           c.in_ok-list_labels-in-None.field-0.items listed.sorted listed.labels;
       walk = tt;
     }
@@ -54,7 +54,7 @@ returns-clause-labels g c =
     let found = rw c.in-Some.is at c.in_ok-explored.ensures in
     let listed = c.in_ok-list_labels-in-Some.ensures in
     least_labels (g.G.Graph.meaning c.args.graph.now) (g.L.Labels.automaton c.args.labels.now) c.args.starts.now c.args.targets.now c.args.dep c.args.bound (Some c.in-Some.end.at)
-    c.in_ok-explored.explored.frontier found.0 listed.unique listed.entries c.in_ok-list_labels-in-Some.field-0.items listed.sorted listed.labels
+    c.in_ok-explored.explored.frontier found.0 c.in_ok-list_labels-in-Some.field-0.items listed.sorted listed.labels
 
 pub returns-clause-closed : goal.returns-clause-closed
 returns-clause-closed g c unbounded =
@@ -64,7 +64,7 @@ returns-clause-closed g c unbounded =
     c.args.starts.now c.args.targets.now c.requires.starts c.args.dep c.args.bound (Some c.in-Some.end.at) unbounded c.in_ok-list_labels-in-Some.field-0.items
     (returns-clause-arrival g c) (returns-clause-labels g c)
     (reached_listed (g.G.Graph.meaning c.args.graph.now) (g.L.Labels.automaton c.args.labels.now) c.args.starts.now c.args.targets.now c.args.dep c.args.bound (Some c.in-Some.end.at)
-    c.in_ok-explored.explored.frontier found.0 listed.unique listed.entries c.in_ok-list_labels-in-Some.field-0.items listed.sorted listed.labels)
+    c.in_ok-explored.explored.frontier found.0 c.in_ok-list_labels-in-Some.field-0.items listed.sorted listed.labels)
 
 pub returns-clause-times : goal.returns-clause-times
 returns-clause-times g c =
@@ -74,6 +74,6 @@ returns-clause-times g c =
     record {
       arrival = end_in_time (g.L.Labels.automaton c.args.labels.now) c.args.targets.now f c.args.dep (found.0).bounded c.in-Some.end found.1;
       labels = labels_in_time (g.G.Graph.meaning c.args.graph.now) (g.L.Labels.automaton c.args.labels.now) c.args.starts.now c.args.targets.now c.args.dep c.args.bound (Some c.in-Some.end.at)
-          f found.0 listed.unique listed.entries c.in_ok-list_labels-in-Some.field-0.items listed.sorted listed.labels;
+          f found.0 c.in_ok-list_labels-in-Some.field-0.items listed.sorted listed.labels;
       walk = walk_in_time f c.args.dep (found.0).bounded c.in-Some.end.node c.in-Some.end.state c.in_ok-retrace-in-Some.field-0 c.in_ok-retrace-in-Some.ensures;
     }

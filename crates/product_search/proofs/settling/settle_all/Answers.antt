@@ -17,9 +17,9 @@ returns-then-is_end g c =
     let least = c.in-Some.ensures.least in
     let end = end_parts c.args.targets.now c.in_ok-ends.ends s.node (labels.accepts s.state) c.in_ok-ends.ensures c.if-is_end.ensures in (
       searched_to graph (g.met.G.Graph.lawful c.args.graph.now) labels (g.met.L.Labels.lawful c.args.labels.now) c.args.starts.now c.args.targets.now c.args.dep c.args.bound
-          c.loop-settled.frontier c.settle_least.new.self s c.loop-settled.invariant least,
+          c.loop-settled.frontier c.settle_least.new.self s c.loop-settled.invariant c.in-Some.ensures.right least,
       ended graph (g.met.G.Graph.lawful c.args.graph.now) labels (g.met.L.Labels.lawful c.args.labels.now) c.args.starts.now c.args.targets.now c.args.dep c.args.bound
-          c.loop-settled.frontier c.settle_least.new.self s c.loop-settled.invariant least end.0 end.1,
+          c.loop-settled.frontier c.settle_least.new.self s c.loop-settled.invariant c.in-Some.ensures.right least end.0 end.1,
     )
 
 pub explore-requires-clause-settled : goal.explore-requires-clause-settled
@@ -49,4 +49,4 @@ pub returns : goal.returns
 returns g c =
     searched_all (g.G.Graph.meaning c.args.graph.now) (g.met.G.Graph.lawful c.args.graph.now) (g.L.Labels.automaton c.args.labels.now) (g.met.L.Labels.lawful c.args.labels.now)
     c.args.starts.now c.args.targets.now c.args.dep c.args.bound c.loop-settled.frontier c.settle_least.new.self
-    c.loop-settled.invariant c.in_default.ensures.none c.in_default.ensures.same
+    c.loop-settled.invariant c.in_default.ensures.right c.in_default.ensures.none c.in_default.ensures.same

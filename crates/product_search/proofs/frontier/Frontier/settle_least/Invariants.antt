@@ -1,4 +1,4 @@
-use Rattle.std.specs.BinaryHeap.{heap_len}
+use Rattle.product_search.specs.Queued.{queue_len}
 use Rattle.product_search.specs.Waiting.{IsQueueRight, SameReached}
 use Rattle.product_search.proofs.frontier.Frontier.settle_least.Given as goal
 
@@ -9,4 +9,4 @@ invariant-loop-at l = record {
 }
 
 abbrev pub decreases-loop-at : goal.decreases-loop-at
-decreases-loop-at l = heap_len l.self.queue
+decreases-loop-at l = queue_len l.self.queue

@@ -1,0 +1,132 @@
+-- The road arcs, the links and the arc that stands, as the ways at their places.
+use Rattle.std.proofs.Common.{◌≡◌, ℕ, ◌+◌, ◌-◌, ◌<◌, ◌≤◌, List, [], ◌∷◌, ◌++◌, length, true, false, cond, zero, suc, Some, None, refl, sym, ◌∙◌, ap, append_assoc, append-nil, arith}
+use Rattle.std.specs.Prelude.{Option, slice_index_or, is_some}
+use Rattle.std.proofs.lemmas.Bool.{le-ltb, lt-ltb}
+use Rattle.search_laws.specs.Ways.{is_open, open_way, way_at, ways_from, ways_of}
+use Rattle.search_laws.specs.declared.graph.Way.{Way}
+use Rattle.search_laws.proofs.WayLemmas.{ways_more, ways_split}
+use Rattle.timetable_arcs.specs.Patterns.{TableLists}
+use Rattle.timetable_arcs.specs.Rides.{rides_at, boards_at}
+use Rattle.mode_network.specs.declared.nodes.Arc.{Arc}
+use Rattle.mode_network.specs.NetworkLists.{NetworkLists, mode_at, stop_at}
+use Rattle.mode_network.specs.Indexes.{range_from}
+use Rattle.plain_graph.specs.declared.plain.PlainArc.{PlainArc}
+use Rattle.plain_graph.specs.declared.plain.PlainArc.TheVariants.{Road, Link, Stand}
+use Rattle.plain_graph.specs.PlainArcs.{plain_arc, plain_meaning, graph_arc, arrival, count_from, stands_at, rides_of, rides_from, inner_arcs_at, no_arc}
+use Rattle.plain_graph.specs.OutArcs.{stop_found, no_mode}
+use Rattle.plain_graph.specs.BoardWays.{boards_ways}
+use Rattle.plain_graph.proofs.BoardTies.{stop_ways}
+
+module _ (n : NetworkLists) (t : TableLists) (time letters v : ℕ) where
+  abbrev from : ℕ → ℕ → List Way
+  from i k = ways_from (plain_meaning n t) v time letters i k
+
+  abbrev roads : ℕ
+  roads = count_from n.arcs v
+
+  abbrev links : ℕ
+  links = count_from n.links v
+
+  -- a known arc at a place
+  way_is : (place : ℕ) (a : PlainArc) → plain_arc n t v place ≡ a → way_at (plain_meaning n t) v time letters place ≡ open_way letters place (graph_arc n t v a) (arrival t time a)
+  way_is place a is = ap (λ (x : PlainArc). open_way letters place (graph_arc n t v x) (arrival t time x)) is
+
+  -- one way more
+  pushed : (start i : ℕ) (way : Way) (before now next : List Way) → now ≡ before ++ from start i → way_at (plain_meaning n t) v time letters (start + i) ≡ way ∷ [] → next ≡ now ++ way ∷ []
+      → next ≡ before ++ from start (i + 1)
+  pushed start i way before now next first is push =
+      push ∙ ap (λ (ws : List Way). ws ++ way ∷ []) first ∙ append_assoc before (from start i) (way ∷ [])
+      ∙ ap (λ (ws : List Way). before ++ (from start i ++ ws)) (sym is) ∙ ap (λ (ws : List Way). before ++ ws) (sym (ways_more (plain_meaning n t) v time letters start i))
+
+  abbrev road : ℕ → Arc
+  road i = slice_index_or n.arcs ((range_from n.arcs v).0 + i) no_arc
+
+  abbrev link : ℕ → Arc
+  link i = slice_index_or n.links ((range_from n.links v).0 + i) no_arc
+
+  road_at : (i : ℕ) → i < roads → plain_arc n t v i ≡ Road (road i)
+  road_at i lt = let inside = lt-ltb i roads lt in rw inside refl
+
+  link_at : (i : ℕ) → i < links → plain_arc n t v (roads + i) ≡ Link (link i)
+  link_at i lt =
+      let past = le-ltb (roads + i) roads (omega arith) in
+      let back : roads + i - roads ≡ i = omega arith in
+      let inside = lt-ltb i links lt in
+      rw (past, back, inside) refl
+
+  pub road_pushed : (i : ℕ) (before now next : List Way) → i < roads → is_open letters (mode_at n.roads v) ≡ true → now ≡ before ++ from 0 i
+      → next ≡ now ++ record { place = i; arc = record { to = (road i).to; letter = mode_at n.roads v }; at = time + (road i).ms } ∷ [] → next ≡ before ++ from 0 (i + 1)
+  road_pushed i before now next lt opens first push =
+      let here : 0 + i ≡ i = omega arith in
+      let is : way_at (plain_meaning n t) v time letters i ≡ record { place = i; arc = record { to = (road i).to; letter = mode_at n.roads v }; at = time + (road i).ms } ∷ [] =
+      way_is i (Road (road i)) (road_at i lt) ∙ rw opens refl in
+      pushed 0 i (record { place = i; arc = record { to = (road i).to; letter = mode_at n.roads v }; at = time + (road i).ms }) before now next first (ap (way_at (plain_meaning n t) v time letters) here ∙ is) push
+
+  pub roads_closed : is_open letters (mode_at n.roads v) ≡ false → (i k : ℕ) → i + k ≤ roads → from i k ≡ []
+  roads_closed closed i zero within = refl
+  roads_closed closed i (suc k) within =
+      let is : way_at (plain_meaning n t) v time letters i ≡ [] = way_is i (Road (road i)) (road_at i (omega arith)) ∙ rw closed refl in
+      ap (λ (ws : List Way). ws ++ from (i + 1) k) is ∙ roads_closed closed (i + 1) k (omega arith)
+
+  pub link_pushed : (i : ℕ) (before now next : List Way) → i < links → now ≡ before ++ from roads i
+      → next ≡ now ++ record { place = roads + i; arc = record { to = (link i).to; letter = None }; at = time + (link i).ms } ∷ [] → next ≡ before ++ from roads (i + 1)
+  link_pushed i before now next lt first push =
+      pushed roads i (record { place = roads + i; arc = record { to = (link i).to; letter = None }; at = time + (link i).ms }) before now next first (way_is (roads + i) (Link (link i)) (link_at i lt)) push
+
+  -- ---- the arc that stands, or the rides
+
+  stand_at : (mode : ℕ) → mode_at n.roads v ≡ Some mode → plain_arc n t v (roads + links) ≡ Stand
+  stand_at mode has =
+      let past_roads = le-ltb (roads + links) roads (omega arith) in
+      let past_links = le-ltb (roads + links - roads) links (omega arith) in
+      let some : is_some (mode_at n.roads v) ≡ true = ap is_some has in
+      rw (past_roads, past_links, some) refl
+
+  -- where one stands no ride begins
+  no_stop : (mode : ℕ) → mode_at n.roads v ≡ Some mode → (o : Option ℕ) → stop_at n v ≡ o → length (rides_from t o) ≡ 0
+  no_stop mode has None e = refl
+  no_stop mode has (Some stop) e =
+      let at = (stop_found n v stop e).1 in
+      let none : mode_at n.roads v ≡ None = ap (mode_at n.roads) at ∙ no_mode n stop in
+      cc
+
+  one_stands : (mode : ℕ) → mode_at n.roads v ≡ Some mode → inner_arcs_at n t v ≡ 1
+  one_stands mode has =
+      let one : stands_at n v ≡ 1 = ap (λ (o : Option ℕ). cond (is_some o) 1 0) has in
+      omega (arith, one, no_stop mode has (stop_at n v) refl)
+
+  inner_is : (mode : ℕ) → mode_at n.roads v ≡ Some mode → from (roads + links) (inner_arcs_at n t v) ≡ open_way letters (roads + links) (record { to = v; letter = Some mode }) (Some time)
+  inner_is mode has =
+      ap (from (roads + links)) (one_stands mode has) ∙ append-nil (way_at (plain_meaning n t) v time letters (roads + links))
+      ∙ way_is (roads + links) Stand (stand_at mode has) ∙ ap (λ (o : Option ℕ). open_way letters (roads + links) (record { to = v; letter = o }) (Some time)) has
+
+  pub stand_ways : (mode : ℕ) → mode_at n.roads v ≡ Some mode → is_open letters (Some mode) ≡ true
+      → from (roads + links) (inner_arcs_at n t v) ≡ record { place = roads + links; arc = record { to = v; letter = Some mode }; at = time } ∷ []
+  stand_ways mode has opens = inner_is mode has ∙ rw opens refl
+
+  pub stand_closed : (mode : ℕ) → mode_at n.roads v ≡ Some mode → is_open letters (Some mode) ≡ false → from (roads + links) (inner_arcs_at n t v) ≡ []
+  stand_closed mode has closed = inner_is mode has ∙ rw closed refl
+
+  pub rides_ways : (stop : ℕ) → mode_at n.roads v ≡ None → stop_at n v ≡ Some stop
+      → from (roads + links) (inner_arcs_at n t v) ≡ boards_ways n t time letters (roads + links) (boards_at t stop)
+  rides_ways stop none found =
+      let stands : stands_at n v ≡ 0 = ap (λ (o : Option ℕ). cond (is_some o) 1 0) none in
+      let count : length (rides_of n t v) ≡ length (rides_at t stop) = ap (λ (o : Option ℕ). length (rides_from t o)) found in
+      let all : inner_arcs_at n t v ≡ length (rides_at t stop) = omega (arith, stands, count) in
+      ap (from (roads + links)) all ∙ stop_ways n t time letters v stop found none
+
+  -- all of them
+  pub all_ways : (before first second third : List Way) → first ≡ before ++ from 0 roads → second ≡ first ++ from roads links → third ≡ second ++ from (roads + links) (inner_arcs_at n t v)
+      → third ≡ before ++ ways_of (plain_meaning n t) v time letters
+  all_ways before first second third e f h =
+      let here : 0 + roads ≡ roads = omega arith in
+      let there : 0 + (roads + links) ≡ roads + links = omega arith in
+      let both : from 0 (roads + links) ≡ from 0 roads ++ from roads links =
+      ways_split (plain_meaning n t) v time letters 0 roads links ∙ ap (λ (i : ℕ). from 0 roads ++ from i links) here in
+      let all : ways_of (plain_meaning n t) v time letters ≡ from 0 (roads + links) ++ from (roads + links) (inner_arcs_at n t v) =
+      ways_split (plain_meaning n t) v time letters 0 (roads + links) (inner_arcs_at n t v) ∙ ap (λ (i : ℕ). from 0 (roads + links) ++ from i (inner_arcs_at n t v)) there in
+      h ∙ ap (λ (ws : List Way). ws ++ from (roads + links) (inner_arcs_at n t v)) (f ∙ ap (λ (ws : List Way). ws ++ from roads links) e ∙ append_assoc before (from 0 roads) (from roads links) ∙ ap (λ (ws : List Way). before ++ ws) (sym both))
+      ∙ append_assoc before (from 0 (roads + links)) (from (roads + links) (inner_arcs_at n t v)) ∙ ap (λ (ws : List Way). before ++ ws) (sym all)
+
+pub nothing_more : (before more : List Way) → more ≡ [] → before ≡ before ++ more
+nothing_more before more none = sym (append-nil before) ∙ ap (λ (ws : List Way). before ++ ws) (sym none)

@@ -1,0 +1,55 @@
+-- The arcs out of a stop that can be taken at a time, board by board.
+use Rattle.std.specs.Prelude.{ℕ, ◌+◌, ◌*◌, List, [], ◌∷◌, Option, Some, None, drop, if◌then◌else◌}
+use Rattle.std.specs.List.{flat_map}
+use Rattle.search_laws.specs.Ways.{is_open}
+use Rattle.search_laws.specs.declared.graph.Way.{Way}
+use Rattle.timetable_arcs.specs.declared.trips.Call.{Call}
+use Rattle.timetable_arcs.specs.declared.trips.Instance.{Instance}
+use Rattle.timetable_arcs.specs.declared.rides.Board.{Board}
+use Rattle.timetable_arcs.specs.Patterns.{TableLists, pattern_trip, next_run, arrives}
+use Rattle.timetable_arcs.specs.Rides.{alights}
+use Rattle.mode_network.specs.NetworkLists.{NetworkLists, stop_node}
+use Rattle.plain_graph.specs.PlainArcs.{pattern_call}
+
+-- the ride of a run to a call, as the arc at a place
+abbrev pub ride_way : NetworkLists → TableLists → ℕ → Instance → ℕ → ℕ → Way
+ride_way n t p run place alight = record {
+  place = place;
+  arc = record { to = stop_node n (pattern_call t p alight).stop; letter = Some (pattern_trip t p).letter };
+  at = arrives t run alight;
+}
+
+-- its rides to each of some calls, as the arcs at this place and the next ones
+abbrev pub ride_ways : NetworkLists → TableLists → ℕ → Instance → ℕ → List ℕ → List Way
+ride_ways n t p run place [] = []
+ride_ways n t p run place (alight ∷ alights) = ride_way n t p run place alight ∷ ride_ways n t p run (place + 1) alights
+
+-- the rides of a run from a board to each later call at which one may alight
+abbrev pub run_ways : NetworkLists → TableLists → ℕ → Board → Option Instance → List Way
+run_ways n t place board None = []
+run_ways n t place board (Some run) = ride_ways n t board.pattern run place (alights (board.call + 1) (drop (board.call + 1) (pattern_trip t board.pattern).calls))
+
+-- those of a board's next run, if the letter of its pattern is in the set
+abbrev pub board_ways : NetworkLists → TableLists → ℕ → ℕ → ℕ → Board → List Way
+board_ways n t time letters place board =
+    if is_open letters (Some (pattern_trip t board.pattern).letter) then run_ways n t place board (next_run t board.pattern board.call time) else []
+
+-- those of all boards, where the first ride of the stop is at the place first
+abbrev pub boards_ways : NetworkLists → TableLists → ℕ → ℕ → ℕ → List Board → List Way
+boards_ways n t time letters first boards = flat_map (λ (board : Board). board_ways n t time letters (first + board.before) board) boards
+
+-- ---- by the calls of one run
+
+-- the ride to a call of a run, as the arc at a place
+abbrev pub call_way : NetworkLists → ℕ → ℕ → ℕ → Call → Way
+call_way n base letter place call = record {
+  place = place;
+  arc = record { to = stop_node n call.stop; letter = Some letter };
+  at = base + 1000 * call.arr;
+}
+
+-- the rides to those of some calls at which one may alight
+abbrev pub call_ways : NetworkLists → ℕ → ℕ → ℕ → List Call → List Way
+call_ways n base letter place [] = []
+call_ways n base letter place (call ∷ calls) =
+    if call.alight then call_way n base letter place call ∷ call_ways n base letter (place + 1) calls else call_ways n base letter place calls

@@ -1,0 +1,67 @@
+-- The arcs that a graph says can be taken, and what they lead to.
+use Rattle.std.proofs.Common.{◌≡◌, ℕ, ◌<◌, ◌≤◌, ◌^◌, Bool, true, false, not, nat_eq, List, Some, None, refl, sym, ◌∙◌, ap, subst}
+use Rattle.std.specs.Prelude.{Option, All, Contains, IfSome, IsBitSet}
+use Rattle.std.specs.Int.Bits.{bit_and}
+use Rattle.std.proofs.lemmas.Bool.{false≢true, eqb-true}
+use Rattle.std.proofs.lemmas.List.Elements.{All-weaker}
+use Rattle.search_laws.specs.GraphLaws.{GraphMeaning, IsLawfulGraph}
+use Rattle.search_laws.specs.LabelLaws.{LabelsMeaning, AllAfter, Follows}
+use Rattle.search_laws.specs.Ways.{is_open, ways_of, IsWay}
+use Rattle.search_laws.specs.declared.graph.GraphArc.{GraphArc}
+use Rattle.search_laws.specs.declared.graph.Way.{Way}
+use Rattle.search_laws.proofs.WayLemmas.{ways_are, ways_there}
+use Rattle.product_search.specs.declared.frontier.Reached.{Reached}
+use Rattle.product_search.specs.declared.frontier.Settled.{Settled}
+use Rattle.product_search.specs.declared.frontier.Frontier.{Frontier}
+use Rattle.product_search.specs.Exploring.{IsReachedBy, IsByWays, WayIsReached, IsSuccessor, ArcIsReached, way_by}
+
+not_false : (b : Bool) → not b ≡ false → b ≡ true
+not_false true h = refl
+not_false false h = absurd (false≢true (sym h))
+
+module _ (g : GraphMeaning) (l : LabelsMeaning) (bound : Option ℕ) (s : Settled) (letters : ℕ) (ways : List Way) (are : ways ≡ ways_of g s.node s.at letters) where
+  each_is : s.node < g.nodes → All (IsWay g s.node s.at) ways
+  each_is node = subst (All (IsWay g s.node s.at)) (sym are) (ways_are g s.node s.at letters node)
+
+  pub ways_letters : IsLawfulGraph g → s.node < g.nodes → All (λ (way : Way). IfSome way.arc.letter (λ c. c < 14)) ways
+  ways_letters lawful node =
+      All-weaker (IsWay g s.node s.at) (λ (way : Way). IfSome way.arc.letter (λ c. c < 14))
+      (λ way is. subst (λ (a : GraphArc). IfSome a.letter (λ c. c < 14)) (sym is.is) (lawful.letter_in_range s.node way.place is.has)) ways (each_is node)
+
+  pub ways_times : IsLawfulGraph g → s.node < g.nodes → All (λ (way : Way). s.at ≤ way.at) ways
+  ways_times lawful node =
+      All-weaker (IsWay g s.node s.at) (λ (way : Way). s.at ≤ way.at) (λ way is. lawful.not_before s.node way.place s.at way.at is.has is.arrives) ways (each_is node)
+
+  -- what they lead to are successors
+  pub by_ways : s.node < g.nodes → (w r : ℕ) (x : Reached) → IsByWays l bound s ways w r x → IsSuccessor g l bound s w r x
+  by_ways node w r x (way, among, by) =
+      let is : IsWay g s.node s.at way = subst (IsWay g s.node s.at) among.2 (each_is node among.0 way among.1) in
+      let at : x.at ≡ way.at = ap (λ (y : Reached). y.at) by.leads.as_given in
+      record {
+        place = way.place;
+        has = is.has;
+        arrives = is.arrives ∙ ap Some (sym at);
+        within = rw at by.within;
+        node = by.leads.node ∙ ap (λ (a : GraphArc). a.to) is.is;
+        state = subst (λ (a : GraphArc). Follows l s.state a.letter r) is.is by.leads.state;
+        as_made = by.leads.as_given ∙ ap (λ (u : ℕ). way_by s way.place u) (sym at);
+      }
+
+  module _ (f : Frontier) (has : (j c : ℕ) → j < l.moves s.state → IsBitSet (l.move_at s.state j).letters c → IsBitSet letters c) where
+    -- a letter outside the set leads nowhere
+    none_after : (letter : Option ℕ) (P : ℕ → Type 0) → is_open letters letter ≡ false → AllAfter l s.state letter P
+    none_after None P h = absurd (false≢true (sym h))
+    none_after (Some c) P h = λ j lt by. absurd (has j c lt by (eqb-true (bit_and letters (2 ^ c)) 0 (not_false (nat_eq (bit_and letters (2 ^ c)) 0) h)))
+
+    -- what all arcs lead to is reached, if it is by those
+    pub arcs_reached : All (WayIsReached l bound f s.state) ways → (i : ℕ) → i < g.arcs s.node → ArcIsReached g l bound f s.node s.state s.at i
+    arcs_reached all i lt u e within = by_letter (is_open letters (g.arc_at s.node i).letter) refl
+      where
+        way : Way
+        way = record { place = i; arc = g.arc_at s.node i; at = u }
+
+        by_letter : (b : Bool) → is_open letters (g.arc_at s.node i).letter ≡ b → AllAfter l s.state (g.arc_at s.node i).letter (λ r. IsReachedBy f (g.arc_at s.node i).to r u)
+        by_letter true h =
+            let there : Contains ways way = subst (λ (xs : List Way). Contains xs way) (sym are) (ways_there g s.node s.at letters i u lt e h) in
+            subst (WayIsReached l bound f s.state) there.2 (all there.0 way there.1) within
+        by_letter false h = none_after (g.arc_at s.node i).letter (λ r. IsReachedBy f (g.arc_at s.node i).to r u) h
