@@ -1,14 +1,13 @@
 -- The two heaps of the queue.
-use Rattle.std.proofs.Common.{◌≡◌, ℕ, ◌+◌, ◌<◌, ◌≤◌, ◌^◌, Bool, true, false, List, [], ◌∷◌, length, zero, suc, inl, inr, ◌⊎◌, refl, sym, ◌∙◌, ap, subst, arith}
+use Rattle.std.proofs.Common.{◌≡◌, ℕ, ◌+◌, ◌<◌, ◌≤◌, ◌^◌, false, List, [], ◌∷◌, length, zero, suc, inl, inr, ◌⊎◌, refl, sym, ◌∙◌, ap, subst, arith}
 use Rattle.std.specs.Prelude.{Contains, IsPermutation}
 use Rattle.std.specs.declared.cmp.Reverse.{Reverse}
 use Rattle.std.specs.BinaryHeap.{heap_items, heap_len, IsHeap, KeepsHeap, PopsGreatest, IsUpperBound}
 use Rattle.std.specs.Ordering.{is_lt, nat_cmp, ordering_then}
-use Rattle.std.proofs.lemmas.Bool.{false≢true}
 use Rattle.std.proofs.lemmas.Bool.Decides.{nat_tests}
 use Rattle.std.proofs.lemmas.List.Sorted.{Contains-permutation, IsPermutation-sym}
 use Rattle.product_search.specs.declared.queue.Queue.{Queue}
-use Rattle.product_search.specs.Queued.{entry_of, queue_cmp, Queued, queue_len, IsQueue, TakesIn, GivesLeast, GivesNone}
+use Rattle.product_search.specs.Queued.{entry_of, queue_cmp, IsQueue, TakesIn, GivesLeast, GivesNone}
 
 -- ---- lists
 
@@ -60,9 +59,9 @@ module _ (old new : Queue) (t n : ℕ) (right : IsQueue old) where
       far = keeps right.far;
       late = λ u k has. elim (head_or_tail (entry_of t n) (heap_items old.far) (entry_of u k)
           (Contains-permutation (heap_items new.far) (entry_of t n ∷ heap_items old.far) (entry_of u k) (IsPermutation-sym (entry_of t n ∷ heap_items old.far) (heap_items new.far) put) has)) [
-        | inl same ↦ subst (λ s. 2 ^ 64 ≤ s) (entry_time t n u k same) big
-        | inr was ↦ right.late u k was
-      ];
+            | inl same ↦ subst (λ s. 2 ^ 64 ≤ s) (entry_time t n u k same) big
+            | inr was ↦ right.late u k was
+          ];
     };
     stays = λ u k was. elim was [
       | inr has ↦ inr (Contains-permutation (entry_of t n ∷ heap_items old.far) (heap_items new.far) (entry_of u k) put (contains_tail (entry_of t n) (heap_items old.far) (entry_of u k) has))
@@ -86,9 +85,9 @@ module _ (old new : Queue) (t n : ℕ) (right : IsQueue old) where
     stays = λ u k was other. elim was [
       | inl has ↦ elim (head_or_tail (entry_of t n) (heap_items new.near) (entry_of u k)
           (Contains-permutation (heap_items old.near) (entry_of t n ∷ heap_items new.near) (entry_of u k) popped has)) [
-        | inl same ↦ absurd (other same)
-        | inr there ↦ inl there
-      ]
+            | inl same ↦ absurd (other same)
+            | inr there ↦ inl there
+          ]
       | inr has ↦ inr (subst (λ h. Contains (heap_items h) (entry_of u k)) (sym far) has)
     ];
     fewer = (let same : heap_len new.far ≡ heap_len old.far = ap (λ h. heap_len h) far in omega arith);
@@ -111,9 +110,9 @@ module _ (old new : Queue) (t n : ℕ) (right : IsQueue old) where
       | inl has ↦ absurd (none_in (heap_items old.near) (entry_of u k) (sym (old.near.data.ok).0 ∙ empty) has)
       | inr has ↦ elim (head_or_tail (entry_of t n) (heap_items new.far) (entry_of u k)
           (Contains-permutation (heap_items old.far) (entry_of t n ∷ heap_items new.far) (entry_of u k) popped has)) [
-        | inl same ↦ absurd (other same)
-        | inr there ↦ inr there
-      ]
+            | inl same ↦ absurd (other same)
+            | inr there ↦ inr there
+          ]
     ];
     fewer = omega arith;
   }

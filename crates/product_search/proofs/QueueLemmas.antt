@@ -1,8 +1,8 @@
 -- The entries and the queue of a frontier, change by change.
-use Rattle.std.proofs.Common.{◌≡◌, ◌≢◌, ℕ, ◌+◌, ◌-◌, ◌<◌, ◌≤◌, Bool, true, false, not, ◌==◌, cond, List, [], ◌∷◌, ◌++◌, length, get_or, map, Some, None, zero, suc, inl, inr, ◌⊎◌, refl, sym, ◌∙◌, ap, subst, arith}
-use Rattle.std.specs.Prelude.{Option, Contains, IsPermutation, slice_get, slice_index, slice_set, if◌then◌else◌}
+use Rattle.std.proofs.Common.{◌≡◌, ◌≢◌, ℕ, ◌+◌, ◌-◌, ◌<◌, ◌≤◌, Bool, true, false, not, ◌==◌, cond, List, [], ◌∷◌, ◌++◌, length, get_or, map, Some, None, zero, suc, inl, inr, refl, sym, ◌∙◌, ap, subst, arith}
+use Rattle.std.specs.Prelude.{Option, slice_get, slice_index, slice_set, if◌then◌else◌}
 use Rattle.std.specs.List.{AllByRecursion, IsDistinct}
-use Rattle.std.specs.Map.{keys_of, lookup}
+use Rattle.std.specs.Map.{keys_of}
 use Rattle.std.specs.declared.cmp.Reverse.{Reverse}
 use Rattle.std.proofs.lemmas.Bool.{cases_lt, eqb-true, and_parts, not-true, false≢true, cases_eq}
 use Rattle.std.proofs.lemmas.Bool.Decides.{nat_tests}
@@ -13,8 +13,8 @@ use Rattle.product_search.specs.declared.frontier.Reached.{Reached}
 use Rattle.product_search.specs.declared.frontier.Entry.{Entry}
 use Rattle.product_search.specs.declared.frontier.Settled.{Settled}
 use Rattle.product_search.specs.declared.frontier.Frontier.{Frontier}
-use Rattle.product_search.specs.Queued.{entry_of, Queued, IsQueue, TakesIn, GivesLeast, GivesNone}
-use Rattle.product_search.specs.Waiting.{state_eq, seen, made, settled_now, keyed, keyed_entries, reached_in, reached_at, waits_at, IsAt, IsNowhere, IsApart, IsIndexed, IsClear, IsBehind, IsLast, Waits, IsQueueRight, is_same, offered, IsOffered, IsSetAt, NobodyWaits, SameReached, SettlesLeast}
+use Rattle.product_search.specs.Queued.{entry_of, Queued, TakesIn, GivesLeast, GivesNone}
+use Rattle.product_search.specs.Waiting.{state_eq, seen, made, settled_now, keyed, reached_in, reached_at, waits_at, IsAt, IsNowhere, IsApart, IsIndexed, IsClear, IsBehind, IsLast, Waits, IsQueueRight, is_same, offered, IsOffered, IsSetAt, NobodyWaits, SameReached, SettlesLeast}
 
 -- ---- equal keys
 
@@ -71,8 +71,8 @@ get_set_other (z ∷ xs) (suc i) (suc k) x other = get_set_other xs i k x (λ e.
 apart_tail : (e : Entry) (es : List Entry) → IsApart (e ∷ es) → IsApart es
 apart_tail e es apart v q j k at_j at_k =
     let same : suc j ≡ suc k = apart v q (suc j) (suc k)
-        (record { entry = at_j.entry; known = at_j.known; node = at_j.node; state = at_j.state })
-        (record { entry = at_k.entry; known = at_k.known; node = at_k.node; state = at_k.state }) in omega arith
+    (record { entry = at_j.entry; known = at_j.known; node = at_j.node; state = at_j.state })
+    (record { entry = at_k.entry; known = at_k.known; node = at_k.node; state = at_k.state }) in omega arith
 
 -- what is known of a product state is what its entry says
 pub found_in : (es : List Entry) → IsApart es → (k : ℕ) (e : Entry) → slice_get es k ≡ Some e → reached_in es e.node e.state ≡ Some (seen e)
@@ -87,8 +87,8 @@ found_in (d ∷ es) apart (suc k) e is = go (is_same e.node e.state d.node d.sta
   go true e2 later =
       let p = same_parts e.node e.state d.node d.state e2 in
       let same : zero ≡ suc k = apart e.node e.state zero (suc k)
-          (record { entry = d; known = refl; node = sym p.0; state = sym p.1 })
-          (record { entry = e; known = is; node = refl; state = refl }) in absurd (omega arith)
+      (record { entry = d; known = refl; node = sym p.0; state = sym p.1 })
+      (record { entry = e; known = is; node = refl; state = refl }) in absurd (omega arith)
 
 pub record IsEntryOf (es : List Entry) (v q : ℕ) (x : Reached) : Type 0 where
   pub number : ℕ
@@ -140,7 +140,7 @@ pub keys_differ : (es : List Entry) → IsApart es → IsDistinct state_eq (keys
 keys_differ [] apart = no_keys
 keys_differ (d ∷ es) apart = IsDistinct-cons state_eq (d.node, d.state) (keys_of (map keyed es))
     (differ d.node d.state es (λ k at. let same : zero ≡ suc k = apart d.node d.state zero (suc k) (record { entry = d; known = refl; node = refl; state = refl })
-        (record { entry = at.entry; known = at.known; node = at.node; state = at.state }) in omega arith))
+    (record { entry = at.entry; known = at.known; node = at.node; state = at.state }) in omega arith))
     (keys_differ es (apart_tail d es apart))
 
 -- ---- one entry is new or written anew
@@ -390,12 +390,15 @@ entry_parts t n u k e = (ap (λ (x : Reverse (ℕ × ℕ)). x.0.0) e, ap (λ (x 
 pub waits_by : (es : List Entry) (w r u : ℕ) → waits_at (reached_in es w r) u ≡ true → (k : ℕ) × (e : Entry) × Waits es k u e
 waits_by es w r u waiting =
     let known = known_waits (reached_in es w r) u waiting in
-    let e = entry_of_known es w r known.0 known.1 in
-    (e.number, e.entry, record {
-      known = e.known;
-      unsettled = ap (λ (y : Reached). y.settled) e.as_seen ∙ known.2;
-      at = ap (λ (y : Reached). y.at) e.as_seen ∙ known.3;
-    })
+    let e = entry_of_known es w r known.0 known.1 in (
+      e.number,
+      e.entry,
+      record {
+        known = e.known;
+        unsettled = ap (λ (y : Reached). y.settled) e.as_seen ∙ known.2;
+        at = ap (λ (y : Reached). y.at) e.as_seen ∙ known.3;
+      },
+    )
 
 module _ (old new : Frontier) (t n : ℕ) (right : IsQueueRight old) (popped : GivesLeast old.queue new.queue t n) where
   still : (k u : ℕ) (e : Entry) → Waits old.entries.items k u e → (entry_of t n ≡ entry_of u k → ⊥) → Queued new.queue u k
@@ -425,7 +428,7 @@ module _ (old new : Frontier) (t n : ℕ) (right : IsQueueRight old) (popped : G
     settled_waits : (k u : ℕ) (d : Entry) → Waits new.entries.items k u d → Queued new.queue u k
     settled_waits k u d waits = elim (cases_eq k n) [
       | inl same ↦ (let is = here_parts old.entries.items new.entries.items n e.node e.state e.next (record (seen e) { settled = true }) changes right.apart d
-            (subst (λ j. slice_get new.entries.items j ≡ Some d) same waits.known) in
+          (subst (λ j. slice_get new.entries.items j ≡ Some d) same waits.known) in
           absurd (false≢true (sym waits.unsettled ∙ ap (λ (y : Entry). y.settled) (sym is))))
       | inr other ↦ still k u d (record { known = changes.others k d other waits.known; unsettled = waits.unsettled; at = waits.at })
           (λ is. let p = entry_parts t n u k is in other (sym p.1))

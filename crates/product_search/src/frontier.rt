@@ -1,6 +1,6 @@
 //! What a search has reached, and the queue of those product states that it has not settled.
 
-ghost use Rattle.std.specs.Prelude.{◌≡◌, ◌≢◌, ℕ, ◌<◌, ◌^◌, ◌++◌, false, true, None, Some, IfSome, IfNone, IfOk, OnOk, IsTrue, IsFalse, IsPermutation, MatchOption, ◌∷◌, [], slice_get, slice_index, slice_set, ◌+◌, if◌then◌else◌, length, };
+ghost use Rattle.std.specs.Prelude.{◌≡◌, ◌≢◌, ℕ, ◌<◌, ◌^◌, ◌++◌, false, true, None, Some, IfSome, IfNone, IfOk, OnOk, IsTrue, IsFalse, IsPermutation, MatchOption, ◌∷◌, [], slice_get, slice_index, slice_set, ◌+◌, if◌then◌else◌, length};
 ghost use Rattle.product_search.specs.Waiting.{IsQueueRight, IsOffered, SettlesLeast, NobodyWaits, SameReached, reached_at, state_eq, offered, IsSetAt, IsAt, IsNowhere, IsIndexed, IsClear, IsBehind, seen, made, settled_now, Waits};
 
 use crate::queue::Queue;
@@ -139,7 +139,13 @@ impl Frontier {
     }
 
     /// Takes a way to a product state that is reached, if it is better.
-    fn improve(&mut self, node: u32, state: u32, number: u32, way: Reached) -> Result<(), AllocError>
+    fn improve(
+        &mut self,
+        node: u32,
+        state: u32,
+        number: u32,
+        way: Reached,
+    ) -> Result<(), AllocError>
         requires right { IsQueueRight self.old }
         requires there { IsAt self.old.entries.items node state number }
         ensures right { OnOk result (IsQueueRight self.new) }

@@ -24,6 +24,6 @@ mod workspace;
 
 pub use checking::check_labels;
 pub use label::{Best, Found, Hop, Label, Walk};
-pub use searching::{search, search_best, search_best_with};
+pub use searching::{search, search_best_with};
 pub use verdict::LabelVerdict;
 pub use workspace::Workspace;

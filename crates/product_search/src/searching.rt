@@ -1,9 +1,9 @@
 //! The search for the least arrival.
 
-ghost use Rattle.std.specs.Prelude.{◌≡◌, ◌<◌, ◌^◌, All, IfOk, None};
+ghost use Rattle.std.specs.Prelude.{◌≡◌, ◌<◌, ◌≤◌, ◌^◌, All, IfOk, IfSome, None};
 ghost use Rattle.product_search.specs.Reach.{IsWithin};
 ghost use Rattle.product_search.specs.Listed.{AreLeastLabels};
-ghost use Rattle.product_search.specs.Answer.{IsArrival, IsWalkFor, IsInTime};
+ghost use Rattle.product_search.specs.Answer.{IsArrival, IsWalkFor, IsInTime, last_time};
 ghost use Rattle.product_search.specs.Closed.{IsClosed};
 
 use crate::label::{Best, Found};
@@ -47,7 +47,16 @@ pub fn search<G: Graph, L: Labels>(
         f.arrival f.labels.items) }
     ensures times { IfOk result (IsInTime dep) }
 {
-    let explored = settle_all(alloc, Vec::new(alloc), graph, labels, starts, targets, dep, bound)?;
+    let explored = settle_all(
+        alloc,
+        Vec::new(alloc),
+        graph,
+        labels,
+        starts,
+        targets,
+        dep,
+        bound,
+    )?;
     match explored.end {
         None => Ok(Found {
             arrival: None,
@@ -62,38 +71,8 @@ pub fn search<G: Graph, L: Labels>(
     }
 }
 
-/// The same without the labels.
-pub fn search_best<G: Graph, L: Labels>(
-    alloc: Global,
-    graph: &G,
-    labels: &L,
-    starts: &[u32],
-    targets: &[u32],
-    dep: Time,
-    bound: Option<Time>,
-) -> Result<Best, AllocError>
-    requires starts { All (λ v. v < (G.meaning graph.now).nodes) starts.now }
-    requires dep { dep < 2 ^ 64 }
-    requires bound { IsWithin bound dep }
-    ensures arrival { IfOk result (λ f. IsArrival (G.meaning graph.now) (L.automaton labels.now) starts.now targets.now dep
-        bound f.arrival) }
-    ensures walk { IfOk result (λ f. IsWalkFor (G.meaning graph.now) (L.automaton labels.now) starts.now targets.now dep
-        f.arrival f.walk) }
-{
-    let explored = settle_all(alloc, Vec::new(alloc), graph, labels, starts, targets, dep, bound)?;
-    match explored.end {
-        None => Ok(Best {
-            arrival: None,
-            walk: None,
-        }),
-        Some(end) => Ok(Best {
-            arrival: Some(end.at),
-            walk: Some(retrace(alloc, &explored.frontier, end)?),
-        }),
-    }
-}
-
-/// The same with a table that is kept for the next search. Where a search fails, the next one makes a new table.
+/// The same without the labels, with a table that is kept for the next search. Where a search fails, the next one makes
+/// a new table.
 pub fn search_best_with<G: Graph, L: Labels>(
     alloc: Global,
     workspace: &mut Workspace,
@@ -111,8 +90,18 @@ pub fn search_best_with<G: Graph, L: Labels>(
         bound f.arrival) }
     ensures walk { IfOk result (λ f. IsWalkFor (G.meaning graph.now) (L.automaton labels.now) starts.now targets.now dep
         f.arrival f.walk) }
+    ensures time { IfOk result (λ f. IfSome f.arrival (λ t. t ≤ last_time dep)) }
 {
-    let explored = settle_all(alloc, workspace.take(alloc), graph, labels, starts, targets, dep, bound)?;
+    let explored = settle_all(
+        alloc,
+        workspace.take(alloc),
+        graph,
+        labels,
+        starts,
+        targets,
+        dep,
+        bound,
+    )?;
     match explored.end {
         None => {
             workspace.put(explored.frontier);

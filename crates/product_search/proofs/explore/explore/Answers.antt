@@ -1,4 +1,4 @@
-use Rattle.std.proofs.Common.{◌≡◌, ◌∙◌, ◌++◌, List, ap, subst}
+use Rattle.std.proofs.Common.{◌≡◌, ◌∙◌, ◌++◌, List, ap}
 use Rattle.search_laws.specs.Ways.{ways_of}
 use Rattle.search_laws.specs.declared.graph.Way.{Way}
 use Rattle.product_search.specs.Exploring.{IsByWays, IsSuccessor}

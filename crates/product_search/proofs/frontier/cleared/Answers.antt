@@ -1,4 +1,3 @@
-use Rattle.std.proofs.Common.{get_or}
 use Rattle.std.proofs.lemmas.Option.{slice_get-get_or}
 use Rattle.product_search.proofs.QueueLemmas.{behind_next, behind_all}
 use Rattle.product_search.proofs.frontier.cleared.Goals as goal

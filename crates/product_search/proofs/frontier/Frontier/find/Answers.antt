@@ -1,5 +1,5 @@
 use Rattle.std.proofs.Common.{arith}
-use Rattle.product_search.proofs.QueueLemmas.{sought_first, sought_found, sought_next, sought_smaller, sought_none, sought_within}
+use Rattle.product_search.proofs.QueueLemmas.{sought_first, sought_found, sought_next, sought_smaller, sought_within}
 use Rattle.product_search.proofs.frontier.Frontier.find.Goals as goal
 
 pub chain-init : goal.chain-init

@@ -1,5 +1,4 @@
-use Rattle.std.proofs.Common.{◌≡◌, refl, sym, ◌∙◌, ap, subst, Some, arith}
-use Rattle.product_search.specs.Waiting.{seen}
+use Rattle.std.proofs.Common.{sym, ◌∙◌, ap, Some, arith}
 use Rattle.product_search.proofs.QueueLemmas.{none_known, read_known, within}
 use Rattle.product_search.proofs.frontier.Frontier.get.Goals as goal
 

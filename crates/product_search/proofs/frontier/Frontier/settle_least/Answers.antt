@@ -1,4 +1,4 @@
-use Rattle.std.proofs.Common.{◌∙◌, refl, sym, ap}
+use Rattle.std.proofs.Common.{◌∙◌, refl}
 use Rattle.product_search.proofs.QueueLemmas.{right_stale, right_settled, settles, same_stale, right_same, nobody}
 use Rattle.product_search.proofs.frontier.Frontier.settle_least.Goals as goal
 

@@ -1,6 +1,5 @@
-use Rattle.std.proofs.Common.{◌<◌, ◌^◌, ◌∙◌, sym, refl, subst, arith}
-use Rattle.product_search.specs.declared.queue.Queue.{Queue}
-use Rattle.product_search.proofs.HeapLemmas.{gives_near, gives_far, gives_none}
+use Rattle.std.proofs.Common.{◌<◌, ◌^◌, ◌∙◌, refl, subst}
+use Rattle.product_search.proofs.HeapLemmas.{gives_near, gives_far}
 use Rattle.product_search.proofs.queue.Queue.pop.Goals as goal
 
 pub returns-in-Some-clause-some : goal.returns-in-Some-clause-some

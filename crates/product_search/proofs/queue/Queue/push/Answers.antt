@@ -1,5 +1,4 @@
 use Rattle.std.proofs.Common.{refl, arith}
-use Rattle.product_search.specs.declared.queue.Queue.{Queue}
 use Rattle.product_search.proofs.HeapLemmas.{takes_near, takes_far}
 use Rattle.product_search.proofs.queue.Queue.push.Goals as goal
 
