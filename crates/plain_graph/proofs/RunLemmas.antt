@@ -85,6 +85,6 @@ run_known n network t table of p call run pattern within is_in =
       alike = alike;
       few = omega (arith, short, alike.calls);
       stops = λ k lt.
-      let inside : k < length (pattern_trip t p).calls = omega (arith, lt, alike.calls) in
-      subst (λ (stop : ℕ). stop < length n.stop_names) (alike.each k no_call inside).stop (call_at_stop n network t table of p k pattern inside);
+          let inside : k < length (pattern_trip t p).calls = omega (arith, lt, alike.calls) in
+          subst (λ (stop : ℕ). stop < length n.stop_names) (alike.each k no_call inside).stop (call_at_stop n network t table of p k pattern inside);
     }

@@ -3,7 +3,6 @@ use Rattle.std.proofs.Common.{◌≡◌, ℕ, ◌++◌, ◌∷◌, [], ◌∙◌
 use Rattle.std.specs.Prelude.{option_to_list, option_map, slice_index_or}
 use Rattle.std.proofs.lemmas.List.{get_or_default}
 use Rattle.std.proofs.lemmas.Option.{slice_get-get_or, slice_get_within, get_or_from_slice_get}
-use Rattle.search_laws.specs.GraphLaws.{HasArc}
 use Rattle.search_laws.specs.Walks.{wait, arc, IsWalk, word_from}
 use Rattle.timetable_arcs.specs.declared.trips.Call.{Call}
 use Rattle.timetable_arcs.specs.declared.trips.Instance.{Instance}
@@ -25,10 +24,10 @@ use Rattle.mode_network.specs.Journeys.{Leads, IsStep}
 use Rattle.plain_graph.specs.declared.plain.PlainArc.{PlainArc}
 use Rattle.plain_graph.specs.declared.plain.PlainArc.TheVariants.{Road, Link, Stand, Ride}
 use Rattle.plain_graph.specs.PlainArcs.{plain_arc, plain_meaning, graph_arc, run_at, arrival, no_arc, pattern_call}
-use Rattle.plain_graph.specs.Simulation.{step_of, WalksAreJourneys, HasWalk, JourneysAreWalks}
+use Rattle.plain_graph.specs.Simulation.{step_of, WalksAreJourneys, HasWalk, JourneysAreWalks, ArcsAreSteps, HasArcBy, IsNoWait, StepsAreArcs}
 use Rattle.plain_graph.specs.OutArcs.{IsListed, IsRideFrom, IsOut, out_of, place_of}
 use Rattle.plain_graph.specs.Rides.{takes, alights_within}
-use Rattle.plain_graph.specs.Lawful.{node_of}
+use Rattle.plain_graph.specs.Lawful.{node_of, plain_lawful}
 use Rattle.mode_network.proofs.RuleLemmas.{some_is}
 
 abbrev arc_of : ℕ → ℕ → ℕ → Arc
@@ -110,44 +109,39 @@ module _ (n : NetworkLists) (network : IsNetwork n) (table : TableLists) (keeps 
       let step = step_at v t at (plain_arc n table v i) (out_of n network table keeps v i has.arc) arrives_at in
       (step.0 ∷ rest.0, (_, at, _, _, step.2, rest.1, refl))
 
-  -- a step that is no wait is an arc that arrives no later
-  record TakesArc (v t w u : ℕ) (letter : Option ℕ) : Type 0 where
-    i : ℕ
-    at : ℕ
-    has : HasArc (plain_meaning n table) v i
-    arrives_at : (plain_meaning n table).arrive v i t ≡ Some at
-    soon : at ≤ u
-    to : ((plain_meaning n table).arc_at v i).to ≡ w
-    same : ((plain_meaning n table).arc_at v i).letter ≡ letter
+  pub arcs_are_steps : ArcsAreSteps n table
+  arcs_are_steps v i t u has arrives =
+      let step = step_at v t u (plain_arc n table v i) (out_of n network table keeps v i has.arc) arrives in
+      (step.0, step.2)
 
   takes_arc : (v t at : ℕ) (a : PlainArc) (w u : ℕ) (letter : Option ℕ) → IsOut n table v a
-      → (graph_arc n table v a).to ≡ w → arrival table t a ≡ Some at → at ≤ u → (graph_arc n table v a).letter ≡ letter → TakesArc v t w u letter
+      → (graph_arc n table v a).to ≡ w → arrival table t a ≡ Some at → at ≤ u → (graph_arc n table v a).letter ≡ letter → HasArcBy n table v t w u letter
   takes_arc v t at a w u letter out to arrives_at soon same =
       let place = place_of n network table keeps v a out in
       record {
-        i = place.i;
+        place = place.i;
         at = at;
         has = record { node = node_of n network table keeps of v a out; arc = place.within };
-        arrives_at = ap (arrival table t) place.is ∙ arrives_at;
+        arrives = ap (arrival table t) place.is ∙ arrives_at;
         soon = soon;
         to = ap (λ (x : PlainArc). (graph_arc n table v x).to) place.is ∙ to;
         same = ap (λ (x : PlainArc). (graph_arc n table v x).letter) place.is ∙ same;
       }
 
   -- the arc, a wait until the step ends, and then on
-  go_on : (v t w1 t1 : ℕ) (letter : Option ℕ) (w u : ℕ) (rest letters : List ℕ) → TakesArc v t w1 t1 letter → HasWalk n table w1 t1 w u rest → letters ≡ option_to_list letter ++ rest
+  go_on : (v t w1 t1 : ℕ) (letter : Option ℕ) (w u : ℕ) (rest letters : List ℕ) → HasArcBy n table v t w1 t1 letter → HasWalk n table w1 t1 w u rest → letters ≡ option_to_list letter ++ rest
       → HasWalk n table v t w u letters
   go_on v t w1 t1 letter w u rest letters first later e =
       let g = plain_meaning n table in
-      let word : word_from g (g.arc_at v first.i).to later.walk ≡ rest = subst (λ x. word_from g x later.walk ≡ rest) (sym first.to) later.word in
+      let word : word_from g (g.arc_at v first.place).to later.walk ≡ rest = subst (λ x. word_from g x later.walk ≡ rest) (sym first.to) later.word in
       record {
-        walk = arc first.i ∷ wait t1 ∷ later.walk;
-        leads = (first.at, first.has, first.arrives_at, (first.soon, subst (λ x. IsWalk g x t1 later.walk w u) (sym first.to) later.leads));
+        walk = arc first.place ∷ wait t1 ∷ later.walk;
+        leads = (first.at, first.has, first.arrives, (first.soon, subst (λ x. IsWalk g x t1 later.walk w u) (sym first.to) later.leads));
         word = rw (first.same, word) (sym e);
       }
 
   -- the step of a ride: some run of its pattern is no later
-  ride_taken : (v t w u trip day board alight : ℕ) (letter : Option ℕ) → IsStep n v t (TakeRide trip day board alight) w u letter → TakesArc v t w u letter
+  ride_taken : (v t w u trip day board alight : ℕ) (letter : Option ℕ) → IsStep n v t (TakeRide trip day board alight) w u letter → HasArcBy n table v t w u letter
   ride_taken v t w u trip day board alight letter (held, on, off, rides, from, in_time, to, at, read) = on_run (run_at table t ride) refl
     where
       run : Instance
@@ -211,7 +205,7 @@ module _ (n : NetworkLists) (network : IsNetwork n) (table : TableLists) (keeps 
       departs_in_time : t ≤ departs table run board
       departs_in_time = rw (of.bases, on_is) in_time
 
-      on_run : (o : Option Instance) → run_at table t ride ≡ o → TakesArc v t w u letter
+      on_run : (o : Option Instance) → run_at table t ride ≡ o → HasArcBy n table v t w u letter
       on_run None none = let late = next_none table keeps sorted.0 board t run none sorted.1 in absurd (omega (arith, late, departs_in_time))
       on_run (Some next) found =
           let soon = next_first table keeps sorted.0 board t next run board_within found sorted.1 departs_in_time alight within in
@@ -222,19 +216,43 @@ module _ (n : NetworkLists) (network : IsNetwork n) (table : TableLists) (keeps 
   no_later : (a : ℕ) → a ≤ a
   no_later a = omega arith
 
+  -- a step that is no wait is an arc that arrives no later
+  arc_for : (v t w u : ℕ) (step : Step) (letter : Option ℕ) → IsNoWait step → IsStep n v t step w u letter → HasArcBy n table v t w u letter
+  arc_for v t w u (Wait until) letter moves is = absurd moves
+  arc_for v t w u (TakeRoad to) letter moves (ms, leads, same, now, read) =
+      takes_arc v t u (Road (arc_of v to ms)) w u letter (listed_of n.arcs v to ms leads) (sym same) (ap Some (sym now)) (no_later u) (sym read)
+  arc_for v t w u (TakeLink to) letter moves (ms, leads, same, now, read) =
+      takes_arc v t u (Link (arc_of v to ms)) w u letter (listed_of n.links v to ms leads) (sym same) (ap Some (sym now)) (no_later u) (sym read)
+  arc_for v t w u StandStill letter moves (mode, has, same, now, read) =
+      takes_arc v t u Stand w u letter (mode, has) (sym same) (ap Some (sym now)) (no_later u) (has ∙ sym read)
+  arc_for v t w u (TakeRide trip day board alight) letter moves ride = ride_taken v t w u trip day board alight letter ride
+
+  -- an arc that is taken earlier arrives no later
+  sooner : (v t s w u : ℕ) (letter : Option ℕ) → t ≤ s → HasArcBy n table v s w u letter → HasArcBy n table v t w u letter
+  sooner v t s w u letter h way = on_arrival ((plain_meaning n table).arrive v way.place t) refl
+    where
+      on_arrival : (o : Option ℕ) → (plain_meaning n table).arrive v way.place t ≡ o → HasArcBy n table v t w u letter
+      on_arrival None e =
+          let never = (plain_lawful n network table keeps of).stays_none v way.place t s way.has h e in
+          let then = way.arrives in
+          cc
+      on_arrival (Some at) e =
+          let rises = (plain_lawful n network table keeps of).rises v way.place t s at way.at way.has h e way.arrives in
+          record { place = way.place; at = at; has = way.has; arrives = e; soon = omega (arith, rises, way.soon); to = way.to; same = way.same }
+
+  pub steps_are_arcs : StepsAreArcs n table
+  steps_are_arcs v t s w u step letter h moves is = sooner v t s w u letter h (arc_for v s w u step letter moves is)
+
   pub journeys_are_walks : JourneysAreWalks n table
   journeys_are_walks v t [] w u letters (same, now, none) = record { walk = []; leads = (same, now); word = sym none }
   journeys_are_walks v t (Wait until ∷ steps) w u letters (v1, t1, letter, rest, (later, same, now, none), more, e) =
       let walk = subst (λ x. HasWalk n table x until w u rest) same (subst (λ x. HasWalk n table v1 x w u rest) now (journeys_are_walks v1 t1 steps w u rest more)) in
       record { walk = wait until ∷ walk.walk; leads = (later, walk.leads); word = walk.word ∙ sym (e ∙ ap (λ (x : Option ℕ). option_to_list x ++ rest) none) }
-  journeys_are_walks v t (TakeRoad to ∷ steps) w u letters (v1, t1, letter, rest, (ms, leads, same, now, read), more, e) =
-      go_on v t v1 t1 letter w u rest letters (takes_arc v t t1 (Road (arc_of v to ms)) v1 t1 letter (listed_of n.arcs v to ms leads) (sym same) (ap Some (sym now)) (no_later t1) (sym read))
-      (journeys_are_walks v1 t1 steps w u rest more) e
-  journeys_are_walks v t (TakeLink to ∷ steps) w u letters (v1, t1, letter, rest, (ms, leads, same, now, read), more, e) =
-      go_on v t v1 t1 letter w u rest letters (takes_arc v t t1 (Link (arc_of v to ms)) v1 t1 letter (listed_of n.links v to ms leads) (sym same) (ap Some (sym now)) (no_later t1) (sym read))
-      (journeys_are_walks v1 t1 steps w u rest more) e
-  journeys_are_walks v t (StandStill ∷ steps) w u letters (v1, t1, letter, rest, (mode, has, same, now, read), more, e) =
-      go_on v t v1 t1 letter w u rest letters (takes_arc v t t1 Stand v1 t1 letter (mode, has) (sym same) (ap Some (sym now)) (no_later t1) (has ∙ sym read))
-      (journeys_are_walks v1 t1 steps w u rest more) e
-  journeys_are_walks v t (TakeRide trip day board alight ∷ steps) w u letters (v1, t1, letter, rest, ride, more, e) =
-      go_on v t v1 t1 letter w u rest letters (ride_taken v t v1 t1 trip day board alight letter ride) (journeys_are_walks v1 t1 steps w u rest more) e
+  journeys_are_walks v t (TakeRoad to ∷ steps) w u letters (v1, t1, letter, rest, step, more, e) =
+      go_on v t v1 t1 letter w u rest letters (arc_for v t v1 t1 (TakeRoad to) letter tt step) (journeys_are_walks v1 t1 steps w u rest more) e
+  journeys_are_walks v t (TakeLink to ∷ steps) w u letters (v1, t1, letter, rest, step, more, e) =
+      go_on v t v1 t1 letter w u rest letters (arc_for v t v1 t1 (TakeLink to) letter tt step) (journeys_are_walks v1 t1 steps w u rest more) e
+  journeys_are_walks v t (StandStill ∷ steps) w u letters (v1, t1, letter, rest, step, more, e) =
+      go_on v t v1 t1 letter w u rest letters (arc_for v t v1 t1 StandStill letter tt step) (journeys_are_walks v1 t1 steps w u rest more) e
+  journeys_are_walks v t (TakeRide trip day board alight ∷ steps) w u letters (v1, t1, letter, rest, step, more, e) =
+      go_on v t v1 t1 letter w u rest letters (arc_for v t v1 t1 (TakeRide trip day board alight) letter tt step) (journeys_are_walks v1 t1 steps w u rest more) e

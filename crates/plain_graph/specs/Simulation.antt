@@ -1,12 +1,13 @@
 -- The walks of the graph of a network are its journeys.
-use Rattle.std.specs.Prelude.{◌≡◌, ℕ, List, Option, Some, option_map}
+use Rattle.std.specs.Prelude.{◌≡◌, ℕ, ◌≤◌, List, Option, Some, option_map}
+use Rattle.search_laws.specs.GraphLaws.{HasArc}
 use Rattle.search_laws.specs.Walks.{WalkStep, IsWalk, word_from}
 use Rattle.timetable_arcs.specs.declared.trips.Instance.{Instance}
 use Rattle.timetable_arcs.specs.Patterns.{TableLists}
 use Rattle.mode_network.specs.declared.steps.Step.{Step}
-use Rattle.mode_network.specs.declared.steps.Step.TheVariants.{Road as TakeRoad, Link as TakeLink, Stand as StandStill, Ride as TakeRide}
+use Rattle.mode_network.specs.declared.steps.Step.TheVariants.{Wait, Road as TakeRoad, Link as TakeLink, Stand as StandStill, Ride as TakeRide}
 use Rattle.mode_network.specs.NetworkLists.{NetworkLists}
-use Rattle.mode_network.specs.Journeys.{AreSteps}
+use Rattle.mode_network.specs.Journeys.{IsStep, AreSteps}
 use Rattle.plain_graph.specs.declared.plain.PlainArc.{PlainArc}
 use Rattle.plain_graph.specs.declared.plain.PlainArc.TheVariants.{Road, Link, Stand, Ride}
 use Rattle.plain_graph.specs.PlainArcs.{plain_meaning, run_at}
@@ -32,3 +33,29 @@ pub record HasWalk (n : NetworkLists) (table : TableLists) (v t w u : ℕ) (lett
 -- for each journey there is a walk with the same ends, times and letters
 abbrev pub JourneysAreWalks : NetworkLists → TableLists → Type 0
 JourneysAreWalks n table = (v t : ℕ) (steps : List Step) (w u : ℕ) (letters : List ℕ) → AreSteps n v t steps w u letters → HasWalk n table v t w u letters
+
+-- each arc that is taken at a time arrives when some step of the network with its ends and its letter, taken then, arrives
+abbrev pub ArcsAreSteps : NetworkLists → TableLists → Type 0
+ArcsAreSteps n table = (v i t u : ℕ) → HasArc (plain_meaning n table) v i → (plain_meaning n table).arrive v i t ≡ Some u
+    → (step : Step) × IsStep n v t step ((plain_meaning n table).arc_at v i).to u ((plain_meaning n table).arc_at v i).letter
+
+-- an arc from v to w with this letter that is taken at t arrives at u or earlier
+pub record HasArcBy (n : NetworkLists) (table : TableLists) (v t w u : ℕ) (letter : Option ℕ) : Type 0 where
+  pub place : ℕ
+  pub at : ℕ
+  pub has : HasArc (plain_meaning n table) v place
+  pub arrives : (plain_meaning n table).arrive v place t ≡ Some at
+  pub soon : at ≤ u
+  pub to : ((plain_meaning n table).arc_at v place).to ≡ w
+  pub same : ((plain_meaning n table).arc_at v place).letter ≡ letter
+
+abbrev pub IsNoWait : Step → Type 0
+IsNoWait (Wait until) = ⊥
+IsNoWait (TakeRoad to) = Unit {0}
+IsNoWait (TakeLink to) = Unit {0}
+IsNoWait StandStill = Unit {0}
+IsNoWait (TakeRide trip day board alight) = Unit {0}
+
+-- for each step but a wait that is taken at t or later, an arc with the same ends and letter that is taken at t arrives no later
+abbrev pub StepsAreArcs : NetworkLists → TableLists → Type 0
+StepsAreArcs n table = (v t s w u : ℕ) (step : Step) (letter : Option ℕ) → t ≤ s → IsNoWait step → IsStep n v s step w u letter → HasArcBy n table v t w u letter

@@ -51,16 +51,19 @@ impl<'a> Plain<'a> {
     ghost use Rattle.mode_network.specs.NetworkLists.{nodes_of, stop_node};
     ghost use Rattle.mode_network.specs.Timetables.{IsTimetableOf};
     ghost use Rattle.plain_graph.specs.PlainArcs.{plain_meaning, count_from, plain_arc, inner_arc, arcs_at, inner_arcs_at, rides_of, ride_of, run_at, pattern_call};
-    ghost use Rattle.plain_graph.specs.Simulation.{WalksAreJourneys, JourneysAreWalks};
+    ghost use Rattle.plain_graph.specs.Simulation.{WalksAreJourneys, JourneysAreWalks, ArcsAreSteps, StepsAreArcs};
 
     /// The graph of a network. Its walks are the network's journeys, and conversely, with the same ends, times
-    /// and letters.
+    /// and letters. An arc that is taken arrives when some step does that is taken then, and for each step but a wait
+    /// an arc that is taken then or earlier arrives no later.
     pub fn new(network: &'a Network) -> Plain<'a>
         ensures network { result.network.now ≡ network.now }
         ensures of { IsTimetableOf network.now result.timetable.now }
         ensures keeps { IsTable result.timetable.now }
         ensures walks { WalksAreJourneys network.now result.timetable.now }
         ensures journeys { JourneysAreWalks network.now result.timetable.now }
+        ensures arcs { ArcsAreSteps network.now result.timetable.now }
+        ensures steps { StepsAreArcs network.now result.timetable.now }
     {
         network.known();
         let timetable = network.timetable();
@@ -264,7 +267,13 @@ impl<'a> Plain<'a> {
     }
 
     /// Appends the road arcs out of `v`, if their mode is in the set.
-    fn push_roads(&self, v: u32, t: Time, letters: u32, ways: &mut Vec<Way>) -> Result<(), AllocError>
+    fn push_roads(
+        &self,
+        v: u32,
+        t: Time,
+        letters: u32,
+        ways: &mut Vec<Way>,
+    ) -> Result<(), AllocError>
         requires node { v < length (nodes_of self.now.network.now) }
         requires time { t < 2 ^ 127 }
         ensures { OnOk result (ways.new.items ≡ ways.old.items
@@ -277,10 +286,7 @@ impl<'a> Plain<'a> {
                 let arc = self.network.arcs()[(first + i) as usize];
                 ways.push(Way {
                     place: u64::from(i),
-                    arc: GraphArc {
-                        to: arc.to,
-                        letter: mode,
-                    },
+                    arc: with_letter(arc, mode),
                     at: t + Time::from(arc.ms),
                 })?;
             }
@@ -289,7 +295,14 @@ impl<'a> Plain<'a> {
     }
 
     /// Appends the links out of `v`, the first of which is the arc at this place.
-    fn push_links(&self, v: u32, first_place: u64, t: Time, letters: u32, ways: &mut Vec<Way>) -> Result<(), AllocError>
+    fn push_links(
+        &self,
+        v: u32,
+        first_place: u64,
+        t: Time,
+        letters: u32,
+        ways: &mut Vec<Way>,
+    ) -> Result<(), AllocError>
         requires node { v < length (nodes_of self.now.network.now) }
         requires place { first_place ≡ count_from self.now.network.now.arcs v }
         requires time { t < 2 ^ 127 }
@@ -301,10 +314,7 @@ impl<'a> Plain<'a> {
             let link = self.network.links()[(first + i) as usize];
             ways.push(Way {
                 place: first_place + u64::from(i),
-                arc: GraphArc {
-                    to: link.to,
-                    letter: None,
-                },
+                arc: with_letter(link, None),
                 at: t + Time::from(link.ms),
             })?;
         }
@@ -312,7 +322,14 @@ impl<'a> Plain<'a> {
     }
 
     /// Appends the arc that stands at `v`, or the rides that begin there, the first of which is the arc at this place.
-    fn push_inner(&self, v: u32, first: u64, t: Time, letters: u32, ways: &mut Vec<Way>) -> Result<(), AllocError>
+    fn push_inner(
+        &self,
+        v: u32,
+        first: u64,
+        t: Time,
+        letters: u32,
+        ways: &mut Vec<Way>,
+    ) -> Result<(), AllocError>
         requires node { v < length (nodes_of self.now.network.now) }
         requires place { first ≡ count_from self.now.network.now.arcs v + count_from self.now.network.now.links v }
         requires few { first < 2 ^ 34 }
@@ -339,6 +356,13 @@ impl<'a> Plain<'a> {
         }
         Ok(())
     }
+}
+
+/// A road arc or a link with its letter.
+fn with_letter(arc: Arc, letter: Option<u8>) -> GraphArc
+    ensures { result ≡ record { to = arc.to; letter = letter } }
+{
+    GraphArc { to: arc.to, letter }
 }
 
 /// How many rides begin at a stop.
@@ -369,14 +393,8 @@ impl Graph for Plain<'_> {
 
     fn arc_at(&self, v: u32, i: u64) -> GraphArc {
         match self.plain_arc(v, i) {
-            PlainArc::Road(arc) => GraphArc {
-                to: arc.to,
-                letter: self.network.mode(v),
-            },
-            PlainArc::Link(link) => GraphArc {
-                to: link.to,
-                letter: None,
-            },
+            PlainArc::Road(arc) => with_letter(arc, self.network.mode(v)),
+            PlainArc::Link(link) => with_letter(link, None),
             PlainArc::Stand => GraphArc {
                 to: v,
                 letter: self.network.mode(v),

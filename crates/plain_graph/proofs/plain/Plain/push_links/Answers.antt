@@ -11,4 +11,4 @@ loop-i-preserved c =
     rw place
     (link_pushed n c.args.self.now.timetable.now c.args.t c.args.letters c.args.v c.loop-i.i c.args.ways.now.items c.loop-i.ways.items c.push.new.self.items
     (rw range at test) (rw place at now)
-    (rw (place, c.from.ensures, c.from-in-loop-i.ensures, c.links.ensures, range) at c.in_ok-push.ensures.items))
+    (rw (c.with_letter.ensures, place, c.from.ensures, c.from-in-loop-i.ensures, c.links.ensures, range) at c.in_ok-push.ensures.items))

@@ -11,7 +11,7 @@ loop-i-preserved c =
     let test = c.loop-i-test.true in
     road_pushed n c.args.self.now.timetable.now c.args.t c.args.letters c.args.v c.loop-i.i c.args.ways.now.items c.loop-i.ways.items c.push.new.self.items
     (rw range at test) (ap (is_open c.args.letters) (sym c.mode-mode.ensures) ∙ sym c.if-is_open.ensures) c.loop-i.invariant
-    (rw (c.from.ensures, c.from-in-loop-i.ensures, c.mode-mode.ensures, c.arcs.ensures, range) at c.in_ok-push.ensures.items)
+    (rw (c.with_letter.ensures, c.from.ensures, c.from-in-loop-i.ensures, c.mode-mode.ensures, c.arcs.ensures, range) at c.in_ok-push.ensures.items)
 
 pub returns-else-is_open : goal.returns-else-is_open
 returns-else-is_open c =
