@@ -1,4 +1,4 @@
 pub mod Same
-mod RunLemmas
+pub mod RunLemmas
 mod BoardTies
 mod PlaceTies

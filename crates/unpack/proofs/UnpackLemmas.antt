@@ -1,15 +1,20 @@
 -- The steps of a walk are a journey.
-use Rattle.std.proofs.Common.{◌≡◌, ℕ, ◌∙◌, List, [], ◌∷◌, ◌++◌, Option, Some, None, refl, ap, sym, subst, arith}
-use Rattle.std.specs.Prelude.{All, option_to_list, option_map}
+use Rattle.std.proofs.Common.{◌≡◌, ℕ, ◌^◌, ◌<◌, ◌≤◌, ◌∙◌, cond, nat_lt, Bool, true, false, List, [], ◌∷◌, ◌++◌, Option, Some, None, refl, ap, sym, subst, arith}
+use Rattle.std.specs.Prelude.{All, option_to_list, option_map, slice_index_or}
+use Rattle.std.proofs.lemmas.Bool.{ltb-true, ltb-false}
+use Rattle.std.proofs.lemmas.Option.{get_or_from_slice_get}
 use Rattle.search_laws.specs.LabelLaws.{LabelsMeaning}
 use Rattle.search_laws.specs.Walks.{word_from}
 use Rattle.product_search.specs.Answer.{AreHops}
 use Rattle.product_search.proofs.HopLemmas.{arcs_of}
 use Rattle.std.proofs.lemmas.List.Elements.{All-cons, All-append}
 use Rattle.timetable_arcs.specs.declared.trips.Instance.{Instance}
-use Rattle.timetable_arcs.specs.Patterns.{TableLists}
+use Rattle.timetable_arcs.specs.Trips.{TripLists, departure_of}
+use Rattle.timetable_arcs.specs.Patterns.{TableLists, departs, no_trip, no_call}
 use Rattle.timetable_arcs.specs.Table.{IsTable}
-use Rattle.mode_network.specs.declared.steps.Step.TheVariants.{Ride as TakeRide}
+use Rattle.timetable_arcs.proofs.TableLemmas.{departs_small}
+use Rattle.mode_network.specs.declared.steps.Step.{Step}
+use Rattle.mode_network.specs.declared.steps.Step.TheVariants.{Wait, Road, Link, Stand, Ride as TakeRide}
 use Rattle.mode_network.specs.NetworkLists.{NetworkLists}
 use Rattle.mode_network.specs.Rules.{IsNetwork}
 use Rattle.mode_network.specs.Timetables.{IsTimetableOf}
@@ -19,40 +24,108 @@ use Rattle.plain_graph.specs.declared.plain.PlainArc.{PlainArc}
 use Rattle.plain_graph.specs.declared.plain.PlainArc.TheVariants.{Road as RoadArc, Link as LinkArc, Stand as StandArc, Ride as RideArc}
 use Rattle.plain_graph.specs.PlainArcs.{plain_meaning, plain_arc, graph_arc, run_at}
 use Rattle.plain_graph.specs.Simulation.{step_of}
-use Rattle.plain_graph.specs.OutArcs.{out_of}
+use Rattle.plain_graph.specs.OutArcs.{IsOut, out_of}
+use Rattle.plain_graph.specs.Rides.{alights_within, takes}
 use Rattle.plain_graph.proofs.Same.{step_at}
-use Rattle.unpack.specs.Unpacking.{ArePlainHops, HaveArcs, IsNoWait, steps_of, end_of, arrival_of, letters_of}
+use Rattle.unpack.specs.Unpacking.{ArePlainHops, HaveArcs, AreOnTime, DepartsAt, IsSoon, leaves_at, with_wait, steps_of, end_of, arrival_of, letters_of}
 
 module _ (n : NetworkLists) (network : IsNetwork n) (table : TableLists) (keeps : IsTable table) (of : IsTimetableOf n table) where
-  pub hops_are_steps : (v t : ℕ) (hops : List Hop) → ArePlainHops n table v t hops
-      → AreSteps n v t (steps_of n table v t hops) (end_of v hops) (arrival_of t hops) (letters_of n table v hops)
-  hops_are_steps v t [] hop = (refl, refl, refl)
-  hops_are_steps v t (hop ∷ hops) (has, arrives, to, rest) =
+  -- a step leaves at t or later, and can be taken then; where it is a ride, it departs then
+  record Leaves (v t : ℕ) (step : Step) (w u : ℕ) (letter : Option ℕ) : Type 0 where
+    later : t ≤ leaves_at table t step
+    is : IsStep n v (leaves_at table t step) step w u letter
+    departs : DepartsAt n (leaves_at table t step) step
+
+  leaves : (v t : ℕ) (step : Step) (w u : ℕ) (letter : Option ℕ) → IsStep n v t step w u letter → Leaves v t step w u letter
+  leaves v t (Wait until) w u letter is = record { later = omega arith; is = is; departs = tt }
+  leaves v t (Road to) w u letter is = record { later = omega arith; is = is; departs = tt }
+  leaves v t (Link to) w u letter is = record { later = omega arith; is = is; departs = tt }
+  leaves v t Stand w u letter is = record { later = omega arith; is = is; departs = tt }
+  leaves v t (TakeRide trip day board alight) w u letter (run, on, off, rides, from, in_time, to, at, read) =
+      let trip_is = get_or_from_slice_get n.trips trip run no_trip rides.run.is in
+      let call_is : slice_index_or (slice_index_or n.trips trip no_trip).calls board no_call ≡ on =
+      ap (λ (x : TripLists). slice_index_or x.calls board no_call) trip_is ∙ get_or_from_slice_get run.calls board on no_call rides.on_is in
+      let same : departs table (record { trip = trip; day = day }) board ≡ departure_of n.days.bases day on = rw (of.trips, of.bases, call_is) refl in
+      record {
+        later = omega (arith, same, in_time);
+        is = (run, on, off, rides, from, omega (arith, same), to, at, read);
+        departs = rw (of.trips, of.bases) refl;
+      }
+
+  -- steps that are on time, behind a step with a wait before it
+  behind : (v t : ℕ) (step : Step) (w u : ℕ) (letter : Option ℕ) (steps : List Step) (x y : ℕ) (rest : List ℕ) → Leaves v t step w u letter
+      → AreOnTime n w u steps x y rest → AreOnTime n v t (with_wait table t (Some step) ++ steps) x y (option_to_list letter ++ rest)
+  behind v t step w u letter steps x y rest at more = on_test (nat_lt t (leaves_at table t step)) refl
+    where
+      on_test : (b : Bool) → nat_lt t (leaves_at table t step) ≡ b
+          → AreOnTime n v t ((cond b (Wait (leaves_at table t step) ∷ step ∷ []) (step ∷ [])) ++ steps) x y (option_to_list letter ++ rest)
+      on_test true e = (v, leaves_at table t step, None, option_to_list letter ++ rest, (at.later, refl, refl, refl), tt, (w, u, letter, rest, at.is, at.departs, more, refl), refl)
+      on_test false e =
+          let late = ltb-false t (leaves_at table t step) e in
+          let now : leaves_at table t step ≡ t = omega (arith, late, at.later) in
+          (w, u, letter, rest, subst (λ at. IsStep n v at step w u letter) now at.is, subst (λ at. DepartsAt n at step) now at.departs, more, refl)
+
+  pub hops_on_time : (v t : ℕ) (hops : List Hop) → ArePlainHops n table v t hops
+      → AreOnTime n v t (steps_of n table v t hops) (end_of v hops) (arrival_of t hops) (letters_of n table v hops)
+  hops_on_time v t [] hop = (refl, refl, refl)
+  hops_on_time v t (hop ∷ hops) (has, arrives, to, rest) =
       let a = plain_arc n table v hop.arc in
       let step = step_at n network table keeps of v t hop.at a (out_of n network table keeps v hop.arc has.arc) arrives in
       let first = subst (λ x. IsStep n v t step.0 x hop.at (graph_arc n table v a).letter) (sym to) step.2 in
-      rw step.1 (hop.to, hop.at, (graph_arc n table v a).letter, letters_of n table hop.to hops, first, hops_are_steps hop.to hop.at hops rest, refl)
+      rw step.1 (behind v t step.0 hop.to hop.at (graph_arc n table v a).letter (steps_of n table hop.to hop.at hops) (end_of hop.to hops) (arrival_of hop.at hops)
+      (letters_of n table hop.to hops) (leaves v t step.0 hop.to hop.at (graph_arc n table v a).letter first) (hops_on_time hop.to hop.at hops rest))
+
+  -- what is on time is real
+  pub are_real : (v t : ℕ) (steps : List Step) (w u : ℕ) (letters : List ℕ) → AreOnTime n v t steps w u letters → AreSteps n v t steps w u letters
+  are_real v t [] w u letters are = are
+  are_real v t (step ∷ steps) w u letters (v1, t1, letter, rest, is, departs, more, e) = (v1, t1, letter, rest, is, are_real v1 t1 steps w u rest more, e)
 
   pub have_arcs : (v t : ℕ) (hops : List Hop) → ArePlainHops n table v t hops → HaveArcs n table v hops
   have_arcs v t [] hop = tt
   have_arcs v t (hop ∷ hops) (has, arrives, to, rest) = (has, have_arcs hop.to hop.at hops rest)
 
-  none : All IsNoWait []
-  none = λ k d h. absurd (omega arith)
+  nothing : All IsSoon []
+  nothing = λ k d h. absurd (omega arith)
 
-  no_wait : (t : ℕ) (a : PlainArc) → All IsNoWait (option_to_list (step_of table t a))
-  no_wait t (RoadArc a) = All-cons IsNoWait _ [] tt none
-  no_wait t (LinkArc a) = All-cons IsNoWait _ [] tt none
-  no_wait t StandArc = All-cons IsNoWait _ [] tt none
-  no_wait t (RideArc ride) = on_run (run_at table t ride)
+  one : (step : Step) → IsSoon step → All IsSoon (step ∷ [])
+  one step soon = All-cons IsSoon step [] soon nothing
+
+  -- a step and the wait before it
+  both_soon : (t : ℕ) (step : Step) → IsSoon step → leaves_at table t step < 2 ^ 41 → All IsSoon (with_wait table t (Some step))
+  both_soon t step soon leaves = on_test (nat_lt t (leaves_at table t step))
     where
-      on_run : (o : Option Instance) → All IsNoWait (option_to_list (option_map (λ (run : Instance). TakeRide run.trip run.day ride.board ride.alight) o))
-      on_run None = none
-      on_run (Some run) = All-cons IsNoWait (TakeRide run.trip run.day ride.board ride.alight) [] tt none
+      on_test : (b : Bool) → All IsSoon (cond b (Wait (leaves_at table t step) ∷ step ∷ []) (step ∷ []))
+      on_test true = All-cons IsSoon (Wait (leaves_at table t step)) (step ∷ []) leaves (one step soon)
+      on_test false = one step soon
 
-  pub no_waits : (v t : ℕ) (hops : List Hop) → All IsNoWait (steps_of n table v t hops)
-  no_waits v t [] = none
-  no_waits v t (hop ∷ hops) = All-append IsNoWait (option_to_list (step_of table t (plain_arc n table v hop.arc))) (steps_of n table hop.to hop.at hops) (no_wait t (plain_arc n table v hop.arc)) (no_waits hop.to hop.at hops)
+  -- a step that leaves at once
+  at_once : (t : ℕ) (step : Step) → IsSoon step → leaves_at table t step ≡ t → All IsSoon (with_wait table t (Some step))
+  at_once t step soon now = on_test (nat_lt t (leaves_at table t step)) refl
+    where
+      on_test : (b : Bool) → nat_lt t (leaves_at table t step) ≡ b → All IsSoon (cond b (Wait (leaves_at table t step) ∷ step ∷ []) (step ∷ []))
+      on_test true e = let later = ltb-true t (leaves_at table t step) e in absurd (omega (arith, later, now))
+      on_test false e = one step soon
+
+  arc_soon : (v t : ℕ) (a : PlainArc) → IsOut n table v a → All IsSoon (with_wait table t (step_of table t a))
+  arc_soon v t (RoadArc a) out = at_once t (Road a.to) tt refl
+  arc_soon v t (LinkArc a) out = at_once t (Link a.to) tt refl
+  arc_soon v t StandArc out = at_once t Stand tt refl
+  arc_soon v t (RideArc ride) out = on_run (run_at table t ride) refl
+    where
+      on_run : (o : Option Instance) → run_at table t ride ≡ o
+          → All IsSoon (with_wait table t (option_map (λ (run : Instance). TakeRide run.trip run.day ride.board ride.alight) o))
+      on_run None e = nothing
+      on_run (Some run) e =
+          let is = out.ride_at in
+          let (is_in, in_time) = takes table keeps out.stop ride is t run e in
+          let within = alights_within table keeps out.stop ride is run is_in in
+          both_soon t (TakeRide run.trip run.day ride.board ride.alight) tt (departs_small table keeps ride.pattern ride.board run is_in (omega (arith, within, is.later)))
+
+  pub steps_soon : (v t : ℕ) (hops : List Hop) → HaveArcs n table v hops → All IsSoon (steps_of n table v t hops)
+  steps_soon v t [] have = nothing
+  steps_soon v t (hop ∷ hops) (has, rest) =
+      All-append IsSoon (with_wait table t (step_of table t (plain_arc n table v hop.arc))) (steps_of n table hop.to hop.at hops)
+      (arc_soon v t (plain_arc n table v hop.arc) (out_of n network table keeps v hop.arc has.arc)) (steps_soon hop.to hop.at hops rest)
 
 -- the hops of an answer of a search over the graph of a network
 module _ (n : NetworkLists) (table : TableLists) (l : LabelsMeaning) where

@@ -1,10 +1,12 @@
 -- The journey of a walk through the graph of a network.
-use Rattle.std.specs.Prelude.{◌≡◌, ℕ, List, [], ◌∷◌, ◌++◌, Some, option_to_list}
+use Rattle.std.specs.Prelude.{◌≡◌, ℕ, ◌<◌, ◌^◌, nat_lt, List, [], ◌∷◌, ◌++◌, Option, Some, None, option_to_list, slice_index_or, if◌then◌else◌}
 use Rattle.search_laws.specs.GraphLaws.{HasArc}
-use Rattle.timetable_arcs.specs.Patterns.{TableLists}
+use Rattle.timetable_arcs.specs.Trips.{departure_of}
+use Rattle.timetable_arcs.specs.Patterns.{TableLists, departs, no_trip, no_call}
 use Rattle.mode_network.specs.declared.steps.Step.{Step}
 use Rattle.mode_network.specs.declared.steps.Step.TheVariants.{Wait, Road, Link, Stand, Ride}
 use Rattle.mode_network.specs.NetworkLists.{NetworkLists}
+use Rattle.mode_network.specs.Journeys.{IsStep, AreSteps}
 use Rattle.product_search.specs.declared.label.Hop.{Hop}
 use Rattle.plain_graph.specs.PlainArcs.{plain_meaning, plain_arc, graph_arc}
 use Rattle.plain_graph.specs.Simulation.{step_of}
@@ -16,10 +18,23 @@ ArePlainHops n table v t (hop ∷ hops) =
     HasArc (plain_meaning n table) v hop.arc × ((plain_meaning n table).arrive v hop.arc t ≡ Some hop.at)
     × (hop.to ≡ ((plain_meaning n table).arc_at v hop.arc).to) × ArePlainHops n table hop.to hop.at hops
 
--- the step of each hop, from v at t
+-- when a step leaves that is taken at t: a ride when its run departs, and any other step at once
+abbrev pub leaves_at : TableLists → ℕ → Step → ℕ
+leaves_at table t (Wait until) = t
+leaves_at table t (Road to) = t
+leaves_at table t (Link to) = t
+leaves_at table t Stand = t
+leaves_at table t (Ride trip day board alight) = departs table (record { trip = trip; day = day }) board
+
+-- a step, and before it a wait until it leaves where that is later than t
+abbrev pub with_wait : TableLists → ℕ → Option Step → List Step
+with_wait table t None = []
+with_wait table t (Some step) = if nat_lt t (leaves_at table t step) then Wait (leaves_at table t step) ∷ step ∷ [] else step ∷ []
+
+-- the steps of each hop, from v at t
 abbrev pub steps_of : NetworkLists → TableLists → ℕ → ℕ → List Hop → List Step
 steps_of n table v t [] = []
-steps_of n table v t (hop ∷ hops) = option_to_list (step_of table t (plain_arc n table v hop.arc)) ++ steps_of n table hop.to hop.at hops
+steps_of n table v t (hop ∷ hops) = with_wait table t (step_of table t (plain_arc n table v hop.arc)) ++ steps_of n table hop.to hop.at hops
 
 -- where and when the hops end, and their letters
 abbrev pub end_of : ℕ → List Hop → ℕ
@@ -39,10 +54,26 @@ abbrev pub HaveArcs : NetworkLists → TableLists → ℕ → List Hop → Type 
 HaveArcs n table v [] = Unit {0}
 HaveArcs n table v (hop ∷ hops) = HasArc (plain_meaning n table) v hop.arc × HaveArcs n table hop.to hops
 
--- a step that is no wait
-abbrev pub IsNoWait : Step → Type 0
-IsNoWait (Wait until) = ⊥
-IsNoWait (Road to) = Unit {0}
-IsNoWait (Link to) = Unit {0}
-IsNoWait Stand = Unit {0}
-IsNoWait (Ride trip day board alight) = Unit {0}
+-- the step is no ride, or one that departs at t
+abbrev pub DepartsAt : NetworkLists → ℕ → Step → Type 0
+DepartsAt n t (Wait until) = Unit {0}
+DepartsAt n t (Road to) = Unit {0}
+DepartsAt n t (Link to) = Unit {0}
+DepartsAt n t Stand = Unit {0}
+DepartsAt n t (Ride trip day board alight) =
+    t ≡ departure_of n.days.bases day (slice_index_or (slice_index_or n.trips trip no_trip).calls board no_call)
+
+-- the steps lead from v at t to w at u, these are their letters, and each ride is boarded when it departs
+abbrev pub AreOnTime : NetworkLists → ℕ → ℕ → List Step → ℕ → ℕ → List ℕ → Type 0
+AreOnTime n v t [] w u letters = AreSteps n v t [] w u letters
+AreOnTime n v t (step ∷ steps) w u letters =
+    (v1 : ℕ) × (t1 : ℕ) × (letter : Option ℕ) × (rest : List ℕ)
+    × IsStep n v t step v1 t1 letter × DepartsAt n t step × AreOnTime n v1 t1 steps w u rest × (letters ≡ option_to_list letter ++ rest)
+
+-- a wait ends when runs still run, which is below 2 ^ 41
+abbrev pub IsSoon : Step → Type 0
+IsSoon (Wait until) = until < 2 ^ 41
+IsSoon (Road to) = Unit {0}
+IsSoon (Link to) = Unit {0}
+IsSoon Stand = Unit {0}
+IsSoon (Ride trip day board alight) = Unit {0}

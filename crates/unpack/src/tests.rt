@@ -119,7 +119,7 @@ fn each_hop_is_a_step(rt: HostRuntime) -> Result<(), Fail> {
     let alloc = rt.alloc();
     let network = town(alloc)?;
     let plain = Plain::new(&network);
-    // from node 0: its road arc, the link to the stop, the bus to the other, the link back, and a stand
+    // from node 0: its road arc, the link to the stop, a wait and the bus to the other, the link back, and a stand
     let road = hop(&plain, 0, 1_000, 0)?;
     let link = hop(&plain, road.to, road.at, 0)?;
     let ride = hop(&plain, link.to, link.at, 0)?;
@@ -139,6 +139,7 @@ fn each_hop_is_a_step(rt: HostRuntime) -> Result<(), Fail> {
         [
             Step::Road { to: 1 },
             Step::Link { to: 2 },
+            Step::Wait { until: 633_600_000 },
             Step::Ride {
                 trip: 0,
                 day: 7,
