@@ -62,11 +62,20 @@ fn follows(bases: &[u64], trips: &[Trip], runs: &[Instance], run: Instance) -> b
     }
 }
 
-/// A pattern behind whose runs this one may stand, among those opened last.
-fn find_pattern(bases: &[u64], trips: &[Trip], patterns: &[Pattern], run: Instance) -> Option<usize>
+/// A pattern behind whose runs this one may stand: the one that is tried first, or one of those opened last.
+fn find_pattern(
+    bases: &[u64],
+    trips: &[Trip],
+    patterns: &[Pattern],
+    first: usize,
+    run: Instance,
+) -> Option<usize>
     ensures within { IfSome result (λ place. place < length patterns.now) }
     ensures follows { IfSome result (λ place. Follows (plain_table bases.now trips.now) (slice_index_or patterns.now place []) run) }
 {
+    if first < patterns.len() && follows(bases, trips, patterns[first].runs(), run) {
+        return Some(first);
+    }
     for place in patterns.len().saturating_sub(TRIED)..patterns.len() {
         if follows(bases, trips, patterns[place].runs(), run) {
             return Some(place);
@@ -75,21 +84,30 @@ fn find_pattern(bases: &[u64], trips: &[Trip], patterns: &[Pattern], run: Instan
     None
 }
 
-/// Puts a run into a pattern: one that has place behind its runs, or a new one.
+/// Puts a run into a pattern, and answers its place: one that has place behind its runs, of which one is tried first, or a
+/// new one.
 fn put(
     alloc: Global,
     bases: &[u64],
     trips: &[Trip],
     patterns: &mut Vec<Pattern>,
+    first: usize,
     run: Instance,
-) -> Result<(), AllocError>
+) -> Result<usize, AllocError>
     requires { All (IsPattern (plain_table bases.now trips.now)) patterns.old.items }
     ensures are { OnOk result (All (IsPattern (plain_table bases.now trips.now)) patterns.new.items) }
     ensures one_more { OnOk result ((weight : Instance → ℕ) → sum_all weight patterns.new.items ≡ sum_all weight patterns.old.items + weight run) }
 {
-    match find_pattern(bases, trips, patterns, run) {
-        Some(place) => patterns[place].push(run),
-        None => Ok(patterns.push(Pattern::of(alloc, run)?)?),
+    match find_pattern(bases, trips, patterns, first, run) {
+        Some(place) => {
+            patterns[place].push(run)?;
+            Ok(place)
+        }
+        None => {
+            let place = patterns.len();
+            patterns.push(Pattern::of(alloc, run)?)?;
+            Ok(place)
+        }
     }
 }
 
@@ -104,8 +122,14 @@ pub(crate) fn sort_into_patterns(
     ensures each_once { IfOk result (λ patterns. (weight : Instance → ℕ) → sum_all weight patterns.items ≡ sum_by weight runs.now) }
 {
     let mut patterns = Vec::new(alloc);
+    // for each trip the pattern of its run that was put last: its next run, a day later, is mostly behind that
+    let mut latest = vec![in alloc; 0usize; trips.len()]?;
     for run in runs {
-        put(alloc, bases, trips, &mut patterns, *run)?;
+        let first = latest.get(run.trip as usize).copied().unwrap_or(0);
+        let place = put(alloc, bases, trips, &mut patterns, first, *run)?;
+        if let Some(held) = latest.get_mut(run.trip as usize) {
+            *held = place;
+        }
     }
     Ok(patterns)
 }

@@ -1,25 +1,17 @@
-use Rattle.std.proofs.Common.{◌≡◌, ◌++◌, ◌∷◌, []}
-use Rattle.std.proofs.lemmas.Result.{on_ok_weaker}
 use Rattle.std.proofs.lemmas.List.Elements.{All-push}
 use Rattle.timetable_arcs.specs.Patterns.{plain_table}
 use Rattle.timetable_arcs.specs.Sorting.{IsPattern}
 use Rattle.timetable_arcs.proofs.PatternLemmas.{put_behind, put_first, sum_behind}
 use Rattle.timetable_arcs.proofs.patterns.put.Goals as goal
 
-pub returns-in-Some-clause-are : goal.returns-in-Some-clause-are
-returns-in-Some-clause-are c =
-    on_ok_weaker _
-    (λ (pushed : c.push.new.self ≡ c.index_mut.result.now ++ c.args.run ∷ []).
+pub returns-in_ok-push-in-Some-clause-are : goal.returns-in_ok-push-in-Some-clause-are
+returns-in_ok-push-in-Some-clause-are c =
     put_behind (plain_table c.args.bases.now c.args.trips.now) c.args.patterns.now.items c.in-Some.place c.index_mut.result.now c.push.new.self c.args.run
-    c.requires (rw (← c.deref.ensures.value) c.in-Some.ensures.within) c.index_mut.ensures.value (rw (← c.deref.ensures.value) c.in-Some.ensures.follows) pushed)
-    c.push.ensures
+    c.requires (rw (← c.deref.ensures.value) c.in-Some.ensures.within) c.index_mut.ensures.value (rw (← c.deref.ensures.value) c.in-Some.ensures.follows) c.in_ok-push-in-Some.ensures
 
-pub returns-in-Some-clause-one_more : goal.returns-in-Some-clause-one_more
-returns-in-Some-clause-one_more c =
-    on_ok_weaker _
-    (λ (pushed : c.push.new.self ≡ c.index_mut.result.now ++ c.args.run ∷ []).
-    sum_behind c.args.patterns.now.items c.in-Some.place c.index_mut.result.now c.push.new.self c.args.run (rw (← c.deref.ensures.value) c.in-Some.ensures.within) c.index_mut.ensures.value pushed)
-    c.push.ensures
+pub returns-in_ok-push-in-Some-clause-one_more : goal.returns-in_ok-push-in-Some-clause-one_more
+returns-in_ok-push-in-Some-clause-one_more c =
+    sum_behind c.args.patterns.now.items c.in-Some.place c.index_mut.result.now c.push.new.self c.args.run (rw (← c.deref.ensures.value) c.in-Some.ensures.within) c.index_mut.ensures.value c.in_ok-push-in-Some.ensures
 
 pub returns-in_ok-push-in-None-clause-are : goal.returns-in_ok-push-in-None-clause-are
 returns-in_ok-push-in-None-clause-are c =
