@@ -21,7 +21,7 @@ use Rattle.mode_network.specs.Copies.{IsCopy}
 use Rattle.journey.specs.Best.{Asked, Answers, HasNone}
 use Rattle.journey.specs.Ends.{HasTime}
 use Rattle.journey.specs.Blocks.{IsPrintable}
-use Rattle.unpack.specs.Unpacking.{IsNoWait, end_of, arrival_of, letters_of}
+use Rattle.unpack.specs.Unpacking.{IsSoon, end_of, arrival_of, letters_of}
 use Rattle.unpack.proofs.UnpackLemmas.{hops_end, hops_letters, plain_hops}
 use Rattle.journey.specs.CopyLists.{AreTheCopies}
 use Rattle.certificate.specs.Texts.{FitsResult}
@@ -51,12 +51,12 @@ module _ (n : NetworkLists) (network : IsNetwork n) (table : TableLists) (q : As
   pub none_answers : IsArrival (plain_meaning n table) (collapsed l) starts targets q.depart None None → HasNone n q
   none_answers none k t a = none t tt (arrives k t a)
 
-  has_time : (step : Step) → IsNoWait step → HasTime step
-  has_time (Wait until) none = absurd none
-  has_time (Road to) none = tt
-  has_time (Link to) none = tt
-  has_time Stand none = tt
-  has_time (Ride trip day board alight) none = tt
+  has_time : (step : Step) → IsSoon step → HasTime step
+  has_time (Wait until) soon = omega arith
+  has_time (Road to) soon = tt
+  has_time (Link to) soon = tt
+  has_time Stand soon = tt
+  has_time (Ride trip day board alight) soon = tt
 
   -- the journey of a walk that counts answers
   pub walk_answers : (a : ℕ) (w : Walk) (j : Route) → IsWalkTo (plain_meaning n table) (collapsed l) starts targets q.depart a w → j.start ≡ w.node → j.at ≡ w.at
@@ -83,10 +83,10 @@ module _ (n : NetworkLists) (network : IsNetwork n) (table : TableLists) (q : As
         denoted = (denotes (collapse (letters_of n table w.node w.hops.items))).0 ((collapses (letters_of n table w.node w.hops.items)).0 accepted);
       }
 
-  -- and it can be printed, where it has no waits
+  -- and it can be printed
   walk_printable : (w : Walk) (j : Route) (a : ℕ) → Answers n q j a → q.depart < 2 ^ 64 → w.at ≡ q.depart → j.at ≡ w.at
       → AreSteps n j.start j.at j.steps (end_of w.node w.hops.items) (arrival_of w.at w.hops.items) (letters_of n table w.node w.hops.items)
-      → All IsNoWait j.steps → IsPrintable n j
+      → All IsSoon j.steps → IsPrintable n j
   walk_printable w j a answers soon leaves at real waits = record {
     node = copy_in_range n network q.from j.start answers.starts_at_copy;
     times = record { at = (let same = at ∙ leaves in omega arith); waits = λ k d h. has_time (slice_index_or j.steps k d) (waits k d h) };
@@ -111,7 +111,7 @@ module _ (n : NetworkLists) (network : IsNetwork n) (table : TableLists) (q : As
       → q.depart < 2 ^ 64 → a ≤ last_time q.depart → TakesHops n table w j → IsFoundFor (Some a) (Some j)
   best_found a w j least is soon in_time takes =
       let answers = walk_answers a w j is takes.start takes.at takes.real in
-      let printable = walk_printable w j a answers soon is.leaves takes.at takes.real takes.waits in
+      let printable = walk_printable w j a answers soon is.leaves takes.at takes.real takes.soon in
       record {
         plan = (record { arrival = a; answers = answers; least = λ k t k_answers. least.least t (arrives k t k_answers) }, printable);
         holds = answers;
@@ -129,3 +129,18 @@ module _ (n : NetworkLists) (network : IsNetwork n) (table : TableLists) (q : As
   found_for (Some a) None j least is soon in_time unpacked = absurd is
   found_for (Some a) (Some w) None least is soon in_time unpacked = absurd unpacked
   found_for (Some a) (Some w) (Some j) least is soon in_time unpacked = best_found a w j least.0 is soon in_time unpacked
+
+  -- its journey alone
+  same_route : (arrival : Option ℕ) (walk : Option Walk) (j : Option Route) → IsWalkFor (plain_meaning n table) (collapsed l) starts targets q.depart arrival walk
+      → IsUnpacked n table walk j → route_of (both arrival j) ≡ j
+  same_route None None None is unpacked = refl
+  same_route None None (Some j) is unpacked = absurd unpacked
+  same_route None (Some w) j is unpacked = absurd is
+  same_route (Some a) None j is unpacked = absurd is
+  same_route (Some a) (Some w) None is unpacked = absurd unpacked
+  same_route (Some a) (Some w) (Some j) is unpacked = refl
+
+  pub plan_for : (arrival : Option ℕ) (walk : Option Walk) (j : Option Route) → IsArrival (plain_meaning n table) (collapsed l) starts targets q.depart None arrival
+      → IsWalkFor (plain_meaning n table) (collapsed l) starts targets q.depart arrival walk → q.depart < 2 ^ 64 → IfSome arrival (λ a. a ≤ last_time q.depart)
+      → IsUnpacked n table walk j → IsPlan n q j
+  plan_for arrival walk j least is soon in_time unpacked = subst (IsPlan n q) (same_route arrival walk j is unpacked) (found_for arrival walk j least is soon in_time unpacked).plan

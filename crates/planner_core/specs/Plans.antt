@@ -4,7 +4,7 @@ use Rattle.mode_expression.specs.Form.{form_of, IsUsable}
 use Rattle.search_laws.specs.LabelLaws.{LabelsMeaning}
 use Rattle.product_search.specs.declared.label.Label.{Label}
 use Rattle.product_search.specs.declared.label.Walk.{Walk}
-use Rattle.unpack.specs.Unpacking.{ArePlainHops, IsNoWait, end_of, arrival_of, letters_of}
+use Rattle.unpack.specs.Unpacking.{ArePlainHops, IsSoon, end_of, arrival_of, letters_of}
 use Rattle.product_search.specs.Listed.{AreLeastLabels}
 use Rattle.product_search.specs.Answer.{IsArrival}
 use Rattle.automaton.specs.Written.{written}
@@ -90,7 +90,7 @@ pub record TakesHops (n : NetworkLists) (table : TableLists) (walk : Walk) (j : 
   pub start : j.start ≡ walk.node
   pub at : j.at ≡ walk.at
   pub real : AreSteps n j.start j.at j.steps (end_of walk.node walk.hops.items) (arrival_of walk.at walk.hops.items) (letters_of n table walk.node walk.hops.items)
-  pub waits : All IsNoWait j.steps
+  pub soon : All IsSoon j.steps
 
 -- the journey of a walk, if there is one
 abbrev pub IsUnpacked : NetworkLists → TableLists → Option Walk → Option Route → Type 0

@@ -12,6 +12,7 @@ use crate::outcome::{FileRole, Outcome};
 use mode_network::Network;
 use plain_texts::split_line;
 use plan_base::{Shelf, Sink, write_all};
+use product_search::Workspace;
 use std::alloc::Global;
 
 /// Reads the queries file of this name, and writes the block of each query line.
@@ -41,10 +42,11 @@ fn write_blocks<O: Sink>(
     ensures ok { OnOk result (WroteBlocks (O.meaning out.old) (O.meaning out.new) network.now (query_lines text.now)) }
     ensures err { IfErr result (IsBlocksOutcome (O.meaning out.old) (O.meaning out.new) network.now (query_lines text.now)) }
 {
+    let mut workspace = Workspace::new(alloc);
     let mut rest = text;
     while let Some((line, after)) = split_line(rest) {
         if let Some(query) = as_query(without_return(line)) {
-            write_block(alloc, network, query, out)?;
+            write_block(alloc, &mut workspace, network, query, out)?;
         }
         rest = after;
     }
@@ -54,6 +56,7 @@ fn write_blocks<O: Sink>(
 /// Writes the block of a query line.
 fn write_block<O: Sink>(
     alloc: Global,
+    workspace: &mut Workspace,
     network: &Network,
     line: &[u8],
     out: &mut O,
@@ -62,7 +65,7 @@ fn write_block<O: Sink>(
     ensures ok { OnOk result (WroteBlock (O.meaning out.old) (O.meaning out.new) network.now line.now) }
     ensures err { IfErr result (IsBlockOutcome (O.meaning out.old) (O.meaning out.new) network.now line.now) }
 {
-    let Ok(block) = block_of(alloc, network, line) else {
+    let Ok(block) = block_of(alloc, workspace, network, line) else {
         return Err(Outcome::OutOfMemory);
     };
     match write_all(out, &block) {

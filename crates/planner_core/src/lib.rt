@@ -12,7 +12,8 @@ mod running;
 
 pub use command::Command;
 pub use outcome::{FileRole, Outcome};
-pub use plans::{Answer, plan};
+pub use plans::{Answer, find_best, plan};
+pub use product_search::Workspace;
 pub use running::{run, run_within};
 
 #[cfg(test)]

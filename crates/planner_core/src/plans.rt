@@ -9,7 +9,7 @@ use journey::{Query, copies};
 use mode_network::{Journey, Network};
 use plain_graph::Plain;
 use plan_base::Time;
-use product_search::{Found, Label, Walk, search};
+use product_search::{Best, Found, Label, Walk, Workspace, search, search_best_with};
 use std::alloc::{AllocError, Global};
 use unpack::from_plain;
 
@@ -38,6 +38,36 @@ pub fn plan(alloc: Global, network: &Network, query: &Query) -> Result<Answer, A
     let FoundPlan { best, labels } = find_plan(alloc, network, query)?;
     let journey = journey_of(best);
     Ok(Answer { journey, labels })
+}
+
+/// A best journey for a query, or none exactly where no journey answers it. The search uses the workspace.
+pub fn find_best(
+    alloc: Global,
+    workspace: &mut Workspace,
+    network: &Network,
+    query: &Query,
+) -> Result<Option<Journey>, AllocError>
+    requires { IsRead network.now query.now }
+    ensures journey { IfOk result (IsPlan network.now (asked_by query.now)) }
+{
+    let plain = Plain::new(network);
+    network.known();
+    let automaton = Collapsed::new(Positions::of(alloc, &query.expr)?);
+    let starts = copies(alloc, network, &query.from)?;
+    let targets = copies(alloc, network, &query.to)?;
+    let found = search_best_with(
+        alloc,
+        workspace,
+        &plain,
+        &automaton,
+        &starts,
+        &targets,
+        query.depart,
+        None,
+    )?;
+    let Best { arrival: _, walk } = found;
+    let route = unpacked(alloc, &plain, &walk)?;
+    Ok(route)
 }
 
 /// A journey that was found with its arrival.
