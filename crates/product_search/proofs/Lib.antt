@@ -15,3 +15,4 @@ mod StartLemmas
 mod BoundLemmas
 mod ClosureLemmas
 mod LetterLemmas
+mod MoveLemmas

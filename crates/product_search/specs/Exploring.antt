@@ -1,8 +1,7 @@
 -- What the arcs out of a settled product state add to what is reached.
-use Rattle.std.specs.Prelude.{◌≡◌, ℕ, ◌+◌, ◌<◌, ◌≤◌, true, false, ⊤, ◌⊎◌, List, Option, Some, None, IsTrue, IsBitSet, Contains}
+use Rattle.std.specs.Prelude.{◌≡◌, ℕ, ◌+◌, ◌<◌, ◌≤◌, true, false, ⊤, ◌⊎◌, List, Option, Some, None, IsTrue, Contains}
 use Rattle.search_laws.specs.GraphLaws.{GraphMeaning, HasArc}
 use Rattle.search_laws.specs.declared.graph.Way.{Way}
-use Rattle.search_laws.specs.declared.labels.Move.{Move}
 use Rattle.search_laws.specs.LabelLaws.{LabelsMeaning, Follows, AllAfter}
 use Rattle.product_search.specs.declared.frontier.Reached.{Reached}
 use Rattle.product_search.specs.declared.frontier.Settled.{Settled}
@@ -28,11 +27,10 @@ abbrev pub Offers : Frontier → Frontier → (ℕ → ℕ → Reached → Type 
 Offers old new P = (w r : ℕ) → (reached_at new w r ≡ reached_at old w r)
     ⊎ ((x : Reached) × (reached_at new w r ≡ Some x) × P w r x × (x.settled ≡ false) × CanHasten (reached_at old w r) x.at)
 
--- way leads to the node to by a move, if that is by the letter
-pub record IsByMove (step : Move) (letter to : ℕ) (way : Reached) (w r : ℕ) (x : Reached) : Type 0 where
-  pub by : IsBitSet step.letters letter
+-- the way to the node to and the state next, as it is given
+pub record IsGiven (to next : ℕ) (way : Reached) (w r : ℕ) (x : Reached) : Type 0 where
   pub node : w ≡ to
-  pub state : step.to ≡ r
+  pub state : r ≡ next
   pub as_given : x ≡ way
 
 -- way leads to the node to, in a state after the letter of an arc, or after none, from q

@@ -4,6 +4,7 @@ pub mod Answer
 pub mod Closed
 pub mod Queued
 pub mod Waiting
+pub mod MoveTables
 pub mod Exploring
 pub mod Searching
 pub mod Trail

@@ -5,10 +5,10 @@ ghost use Rattle.search_laws.specs.LabelLaws.{AllAfter};
 ghost use Rattle.product_search.specs.Listed.{IsAscending};
 ghost use Rattle.product_search.specs.Closed.{IsListedBy, IsInOrderAt, ArcIsListed, ArcsAreListed, ArcsAreListedAt, HoldsBelow, FailsFirstAt};
 
-use crate::explore::has_letter;
 use crate::label::Label;
 use crate::listing::is_before;
 use crate::lookup::is_listed;
+use crate::moves::has_letter;
 use search_laws::{Graph, GraphArc, Labels, Move, Time};
 
 /// The first label with an arc that leads to an unlisted product state, or to one that is listed too late.

@@ -4,10 +4,12 @@ ghost use Rattle.std.specs.Prelude.{◌≡◌, ℕ, ◌+◌, ◌<◌, ◌≤◌,
 ghost use Rattle.search_laws.specs.LabelLaws.{AllAfter};
 ghost use Rattle.product_search.specs.Reach.{IsWithin};
 ghost use Rattle.product_search.specs.Waiting.{IsQueueRight};
-ghost use Rattle.product_search.specs.Exploring.{IsReachedBy, IsSettledBy, Offers, IsByMove, LeadsTo, IsByWay, IsByWays, WayIsReached, IsSuccessor, ArcIsReached};
+ghost use Rattle.product_search.specs.Exploring.{IsReachedBy, IsSettledBy, Offers, LeadsTo, IsByWay, IsByWays, WayIsReached, IsSuccessor, ArcIsReached, IsGiven};
+ghost use Rattle.product_search.specs.MoveTables.{IsTableOf};
 
 use crate::frontier::{Frontier, Parent, Reached, Settled};
-use search_laws::{Graph, GraphArc, Labels, Move, Time, Way};
+use crate::moves::MoveTable;
+use search_laws::{Graph, GraphArc, Labels, Time, Way};
 use std::alloc::AllocError;
 
 /// Offers what each arc out of a settled product state leads to within the bound. What `ways` holds is lost.
@@ -16,9 +18,11 @@ pub(crate) fn explore<G: Graph, L: Labels>(
     ways: &mut Vec<Way>,
     graph: &G,
     labels: &L,
+    moves: &MoveTable,
     bound: Option<Time>,
     from: Settled,
 ) -> Result<(), AllocError>
+    requires table { IsTableOf (L.automaton labels.now) moves.now }
     requires node { from.node < (G.meaning graph.now).nodes }
     requires state { from.state < (L.automaton labels.now).states }
     requires time { from.at < 2 ^ 127 }
@@ -32,32 +36,21 @@ pub(crate) fn explore<G: Graph, L: Labels>(
         → ArcIsReached (G.meaning graph.now) (L.automaton labels.now) bound frontier.new from.node from.state from.at i) }
 {
     ways.clear();
-    graph.ways(from.node, from.at, letters_after(labels, from.state), ways)?;
-    explore_ways(frontier, labels, bound, from, ways)?;
+    graph.ways(from.node, from.at, moves.letters_of(from.state), ways)?;
+    explore_ways(frontier, labels, moves, bound, from, ways)?;
     Ok(())
-}
-
-/// The letters by which moves leave a state, as bits.
-fn letters_after<L: Labels>(labels: &L, state: u32) -> u32
-    requires { state < (L.automaton labels.now).states }
-    ensures { (j c : ℕ) → j < (L.automaton labels.now).moves state → IsBitSet ((L.automaton labels.now).move_at state j).letters c
-        → IsBitSet result c }
-{
-    let mut letters = 0;
-    for j in 0..labels.moves(state) {
-        letters |= labels.move_at(state, j).letters;
-    }
-    letters
 }
 
 /// Offers what each of some arcs leads to within the bound.
 fn explore_ways<L: Labels>(
     frontier: &mut Frontier,
     labels: &L,
+    moves: &MoveTable,
     bound: Option<Time>,
     from: Settled,
     ways: &[Way],
 ) -> Result<(), AllocError>
+    requires table { IsTableOf (L.automaton labels.now) moves.now }
     requires state { from.state < (L.automaton labels.now).states }
     requires arcs { from.arcs + 1 < 2 ^ 64 }
     requires letters { All (λ way. IfSome way.arc.letter (λ c. c < 14)) ways.now }
@@ -69,7 +62,7 @@ fn explore_ways<L: Labels>(
     ensures reached { OnOk result (All (WayIsReached (L.automaton labels.now) bound frontier.new from.state) ways.now) }
 {
     for way in ways {
-        explore_way(frontier, labels, bound, from, *way)?;
+        explore_way(frontier, labels, moves, bound, from, *way)?;
     }
     Ok(())
 }
@@ -78,10 +71,12 @@ fn explore_ways<L: Labels>(
 fn explore_way<L: Labels>(
     frontier: &mut Frontier,
     labels: &L,
+    moves: &MoveTable,
     bound: Option<Time>,
     from: Settled,
     way: Way,
 ) -> Result<(), AllocError>
+    requires table { IsTableOf (L.automaton labels.now) moves.now }
     requires state { from.state < (L.automaton labels.now).states }
     requires arcs { from.arcs + 1 < 2 ^ 64 }
     requires letter { IfSome way.arc.letter (λ c. c < 14) }
@@ -104,7 +99,7 @@ fn explore_way<L: Labels>(
             parent: Some(parent),
             settled: false,
         };
-        offer_states(frontier, labels, way.arc, from.state, reached)?;
+        offer_states(frontier, labels, moves, way.arc, from.state, reached)?;
     }
     Ok(())
 }
@@ -123,10 +118,12 @@ pub(crate) fn is_within(bound: Option<Time>, at: Time) -> bool
 fn offer_states<L: Labels>(
     frontier: &mut Frontier,
     labels: &L,
+    moves: &MoveTable,
     arc: GraphArc,
     state: u32,
     way: Reached,
 ) -> Result<(), AllocError>
+    requires table { IsTableOf (L.automaton labels.now) moves.now }
     requires state { state < (L.automaton labels.now).states }
     requires letter { IfSome arc.letter (λ c. c < 14) }
     requires waits { way.settled ≡ false }
@@ -143,7 +140,7 @@ fn offer_states<L: Labels>(
             frontier.offer(arc.to, state, way)?;
         }
         Some(letter) => {
-            offer_moves(frontier, labels, arc.to, state, letter, way)?;
+            offer_moves(frontier, labels, moves, arc.to, state, letter, way)?;
         }
     }
     Ok(())
@@ -153,11 +150,13 @@ fn offer_states<L: Labels>(
 fn offer_moves<L: Labels>(
     frontier: &mut Frontier,
     labels: &L,
+    moves: &MoveTable,
     to: u32,
     state: u32,
     letter: u8,
     way: Reached,
 ) -> Result<(), AllocError>
+    requires table { IsTableOf (L.automaton labels.now) moves.now }
     requires state { state < (L.automaton labels.now).states }
     requires letter { letter < 14 }
     requires waits { way.settled ≡ false }
@@ -169,38 +168,22 @@ fn offer_moves<L: Labels>(
     ensures reached { OnOk result (AllAfter (L.automaton labels.now) state (Some letter)
         (λ r. IsReachedBy frontier.new to r way.at)) }
 {
-    for j in 0..labels.moves(state) {
-        offer_move(frontier, labels.move_at(state, j), to, letter, way)?;
+    let targets = moves.targets_of(state, letter);
+    for next in targets {
+        offer_next(frontier, to, *next, way)?;
     }
     Ok(())
 }
 
-/// Offers a node in the state that a move leads to, if it is by the letter.
-fn offer_move(
-    frontier: &mut Frontier,
-    step: Move,
-    to: u32,
-    letter: u8,
-    way: Reached,
-) -> Result<(), AllocError>
-    requires letter { letter < 14 }
+/// Offers a node in a state.
+fn offer_next(frontier: &mut Frontier, to: u32, next: u32, way: Reached) -> Result<(), AllocError>
     requires waits { way.settled ≡ false }
     requires right { IsQueueRight frontier.old }
     requires settled { IsSettledBy frontier.old way.at }
     ensures right { OnOk result (IsQueueRight frontier.new) }
-    ensures offers { OnOk result (Offers frontier.old frontier.new (IsByMove step letter to way)) }
-    ensures reached { OnOk result (IsBitSet step.letters letter → IsReachedBy frontier.new to step.to way.at) }
+    ensures offers { OnOk result (Offers frontier.old frontier.new (IsGiven to next way)) }
+    ensures reached { OnOk result (IsReachedBy frontier.new to next way.at) }
 {
-    if has_letter(step, letter) {
-        frontier.offer(to, step.to, way)?;
-    }
+    frontier.offer(to, next, way)?;
     Ok(())
-}
-
-/// Whether a move is by the letter.
-pub(crate) fn has_letter(step: Move, letter: u8) -> bool
-    requires { letter < 14 }
-    ensures { IsTrue result ↔ IsBitSet step.letters letter }
-{
-    step.letters & (1 << letter) != 0
 }

@@ -10,6 +10,7 @@ mod frontier;
 mod label;
 mod listing;
 mod lookup;
+mod moves;
 mod order_check;
 mod queue;
 mod retrace;

@@ -9,6 +9,7 @@ ghost use Rattle.product_search.specs.Waiting.{IsClear};
 
 use crate::explore::explore;
 use crate::frontier::{Frontier, Settled};
+use crate::moves::MoveTable;
 use crate::start::offer_starts;
 use search_laws::{Graph, Labels, Time};
 use std::alloc::{AllocError, Global};
@@ -42,6 +43,7 @@ pub(crate) fn settle_all<G: Graph, L: Labels>(
     let ends = set_of(alloc, targets)?;
     let mut frontier = Frontier::new(alloc, first);
     offer_starts(&mut frontier, labels, starts, dep)?;
+    let moves = MoveTable::new(alloc, labels)?;
     let mut ways = Vec::new(alloc);
     while let Some(settled) = frontier.settle_least() {
         if is_end(labels, &ends, settled) {
@@ -50,7 +52,15 @@ pub(crate) fn settle_all<G: Graph, L: Labels>(
                 end: Some(settled),
             });
         }
-        explore(&mut frontier, &mut ways, graph, labels, bound, settled)?;
+        explore(
+            &mut frontier,
+            &mut ways,
+            graph,
+            labels,
+            &moves,
+            bound,
+            settled,
+        )?;
     }
     Ok(Explored {
         frontier,

@@ -1,5 +1,5 @@
 use Rattle.product_search.proofs.LetterLemmas.{letters_more}
-use Rattle.product_search.proofs.explore.letters_after.Goals as goal
+use Rattle.product_search.proofs.moves.letters_after.Goals as goal
 
 pub loop-j-preserved : goal.loop-j-preserved
 loop-j-preserved g c =
