@@ -393,6 +393,7 @@ fn the_blocks_of_rides(rt: HostRuntime) -> Result<(), Fail> {
 word bus bus
 from stop:A 20240304 08:00:00.000
 ride bus 20240304 stop:B 20240304 08:10:00.000 t1
+wait 20240304 08:11:00.000
 ride bus 20240304 stop:C 20240304 08:20:00.000 t2",
         ),
         (
@@ -413,6 +414,7 @@ ride bus 20240304 stop:C 20240304 08:25:00.000 t3",
             "arrive 20240304 00:50:00.000
 word bus
 from stop:A 20240304 00:30:00.000
+wait 20240304 00:40:00.000
 ride bus 20240303 stop:B 20240304 00:50:00.000 night",
         ),
         (
@@ -429,6 +431,7 @@ ride bus 20240304 stop:B 20240304 08:10:00.000 daily",
             "arrive 20240305 08:10:00.000
 word bus
 from stop:A 20240304 08:00:00.001
+wait 20240305 08:00:00.000
 ride bus 20240305 stop:B 20240305 08:10:00.000 daily",
         ),
         (
@@ -437,6 +440,7 @@ ride bus 20240305 stop:B 20240305 08:10:00.000 daily",
             "arrive 20240304 08:30:00.000
 word bus
 from stop:A 20240304 08:01:00.000
+wait 20240304 08:05:00.000
 ride bus 20240304 stop:C 20240304 08:30:00.000 u2",
         ),
         (
@@ -445,7 +449,9 @@ ride bus 20240304 stop:C 20240304 08:30:00.000 u2",
             "arrive 20240304 08:20:00.000
 word bus bus
 from stop:A 20240304 08:01:00.000
+wait 20240304 08:05:00.000
 ride bus 20240304 stop:B 20240304 08:11:00.000 u2
+wait 20240304 08:12:00.000
 ride bus 20240304 stop:C 20240304 08:20:00.000 u1",
         ),
         (
@@ -454,6 +460,7 @@ ride bus 20240304 stop:C 20240304 08:20:00.000 u1",
             "arrive 20240304 08:30:00.000
 word bus
 from stop:A 20240304 08:00:00.000
+wait 20240304 08:20:00.000
 ride bus 20240304 stop:C 20240304 08:30:00.000 ring",
         ),
         (TWICE, "sA sB 20240304 08:00:00 bus", "no journey"),
