@@ -8,3 +8,4 @@ pub mod TripLemmas
 pub mod RideLemmas
 pub mod TableLemmas
 pub mod ReadLemmas
+mod DayRunLemmas

@@ -4,7 +4,7 @@ use Rattle.plan_base.specs.declared.days.DaySet.{DaySet}
 use Rattle.plan_base.specs.DaySets.{contains_day}
 use Rattle.timetable_arcs.specs.declared.trips.Instance.{Instance}
 use Rattle.timetable_arcs.specs.Trips.{TripLists}
-use Rattle.timetable_arcs.specs.Patterns.{TableLists, trip_at, no_run, AreAlike, IsBehind}
+use Rattle.timetable_arcs.specs.Patterns.{TableLists, trip_at, no_run, no_trip, AreAlike, IsBehind}
 
 -- the runs of the trip at a place on its days below n
 abbrev pub runs_below : ℕ → DaySet → ℕ → List Instance
@@ -15,6 +15,11 @@ runs_below place days (suc n) = runs_below place days n ++ (if contains_day days
 abbrev pub runs_from : ℕ → ℕ → List TripLists → List Instance
 runs_from n place [] = []
 runs_from n place (trip ∷ trips) = runs_below place trip.days n ++ runs_from n (place + 1) trips
+
+-- the weight of the run of the trip at a place on a day, if it runs then
+abbrev pub weight_on : (Instance → ℕ) → List TripLists → ℕ → ℕ → ℕ
+weight_on weight trips day place =
+    if contains_day (slice_index_or trips place no_trip).days day then weight (record { trip = place; day = day }) else 0
 
 -- the sum of a weight of runs over all patterns
 abbrev pub sum_all : (Instance → ℕ) → List (List Instance) → ℕ

@@ -1,13 +1,16 @@
 //! Runs sorted into patterns, along which none overtakes another.
 
-ghost use Rattle.std.specs.Prelude.{◌≡◌, ◌++◌, ◌∷◌, [], List, ℕ, ◌+◌, ◌<◌, length, All, IfOk, OnOk, IfSome, slice_index_or, sum_by};
+ghost use Rattle.std.specs.Prelude.{◌≡◌, ◌++◌, ◌∷◌, [], List, ℕ, ◌+◌, ◌<◌, ◌^◌, length, All, IfOk, OnOk, IfSome, slice_index_or, sum_by};
 ghost use Rattle.std.specs.Bool.{OnTrue};
 ghost use Rattle.timetable_arcs.specs.declared.trips.Instance.{Instance};
-ghost use Rattle.timetable_arcs.specs.Patterns.{plain_table};
-ghost use Rattle.timetable_arcs.specs.Sorting.{IsPattern, Follows, sum_all};
+ghost use Rattle.plan_base.specs.DaySets.{contains_day};
+ghost use Rattle.timetable_arcs.specs.Patterns.{plain_table, trip_at};
+ghost use Rattle.timetable_arcs.specs.Sorting.{IsPattern, Follows, sum_all, runs_from, weight_on};
 
 use crate::runs::{have_alike_trips, is_behind};
+use crate::sorting::trips_in_order;
 use crate::trips::{Instance, Trip};
+use plan_base::DaySet;
 use std::alloc::{AllocError, Global};
 use std::marker::Model;
 
@@ -111,25 +114,78 @@ fn put(
     }
 }
 
-/// The runs of a list sorted into patterns.
+/// Whether the trip at a place runs on a day.
+fn runs_on(trips: &[Trip], trip: u32, day: u32) -> bool
+    ensures { result ≡ contains_day (trip_at (plain_table [] trips.now) trip).days day }
+{
+    match trips.get(trip as usize) {
+        Some(trip) => trip.days.contains(day),
+        None => DaySet(0).contains(day),
+    }
+}
+
+/// Puts the run of a trip on a day into a pattern, if the trip runs then. `latest` has for each trip the pattern of its run
+/// that was put last: its run of a day later is mostly behind that.
+fn put_on(
+    alloc: Global,
+    bases: &[u64],
+    trips: &[Trip],
+    trip: u32,
+    day: u32,
+    patterns: &mut Vec<Pattern>,
+    latest: &mut Vec<usize>,
+) -> Result<(), AllocError>
+    requires { All (IsPattern (plain_table bases.now trips.now)) patterns.old.items }
+    ensures are { OnOk result (All (IsPattern (plain_table bases.now trips.now)) patterns.new.items) }
+    ensures one { OnOk result ((weight : Instance → ℕ) → sum_all weight patterns.new.items ≡ sum_all weight patterns.old.items + weight_on weight trips.now day trip) }
+{
+    if runs_on(trips, trip, day) {
+        let run = Instance { trip, day };
+        let first = latest.get(trip as usize).copied().unwrap_or(0);
+        let place = put(alloc, bases, trips, patterns, first, run)?;
+        if let Some(held) = latest.get_mut(trip as usize) {
+            *held = place;
+        }
+    }
+    Ok(())
+}
+
+/// Puts the runs of a day into patterns, in the order of their trips.
+fn put_day(
+    alloc: Global,
+    bases: &[u64],
+    trips: &[Trip],
+    order: &[u32],
+    day: u32,
+    patterns: &mut Vec<Pattern>,
+    latest: &mut Vec<usize>,
+) -> Result<(), AllocError>
+    requires { All (IsPattern (plain_table bases.now trips.now)) patterns.old.items }
+    ensures are { OnOk result (All (IsPattern (plain_table bases.now trips.now)) patterns.new.items) }
+    ensures day { OnOk result ((weight : Instance → ℕ) → sum_all weight patterns.new.items ≡ sum_all weight patterns.old.items + sum_by (weight_on weight trips.now day) order.now) }
+{
+    for trip in order {
+        put_on(alloc, bases, trips, *trip, day, patterns, latest)?;
+    }
+    Ok(())
+}
+
+/// The runs of the trips on their days below a number, sorted into patterns.
 pub(crate) fn sort_into_patterns(
     alloc: Global,
     bases: &[u64],
     trips: &[Trip],
-    runs: &[Instance],
+    days: u32,
 ) -> Result<Vec<Pattern>, AllocError>
+    requires { length trips.now < 2 ^ 32 }
     ensures are { IfOk result (λ patterns. All (IsPattern (plain_table bases.now trips.now)) patterns.items) }
-    ensures each_once { IfOk result (λ patterns. (weight : Instance → ℕ) → sum_all weight patterns.items ≡ sum_by weight runs.now) }
+    ensures each_once { IfOk result (λ patterns. (weight : Instance → ℕ) → sum_all weight patterns.items ≡ sum_by weight (runs_from days 0 trips.now)) }
 {
-    let mut patterns = Vec::new(alloc);
-    // for each trip the pattern of its run that was put last: its next run, a day later, is mostly behind that
+    let order = trips_in_order(alloc, trips)?;
     let mut latest = vec![in alloc; 0usize; trips.len()]?;
-    for run in runs {
-        let first = latest.get(run.trip as usize).copied().unwrap_or(0);
-        let place = put(alloc, bases, trips, &mut patterns, first, *run)?;
-        if let Some(held) = latest.get_mut(run.trip as usize) {
-            *held = place;
-        }
+    let mut patterns = Vec::new(alloc);
+    for day in 0..days {
+        put_day(alloc, bases, trips, &order, day, &mut patterns, &mut latest)?;
     }
     Ok(patterns)
 }

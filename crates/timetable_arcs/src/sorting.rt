@@ -1,11 +1,9 @@
-//! All runs, in the order in which they are put into patterns.
+//! The order in which runs are put into patterns.
 
-ghost use Rattle.std.specs.Prelude.{◌≡◌, ◌++◌, ◌<◌, ◌^◌, length, IfOk, OnOk, IsPermutation};
-ghost use Rattle.timetable_arcs.specs.Sorting.{runs_below, runs_from};
+ghost use Rattle.std.specs.Prelude.{◌≡◌, ◌<◌, ◌^◌, length, IfOk, IsPermutation};
+ghost use Rattle.std.specs.List.{range_with_len};
 
-use crate::runs::departs;
-use crate::trips::{Call, Instance, Trip};
-use plan_base::DaySet;
+use crate::trips::{Call, Trip};
 use std::alloc::{AllocError, Global};
 use std::cmp::Ordering;
 
@@ -19,83 +17,41 @@ fn compare_calls(a: &[Call], b: &[Call]) -> Ordering {
     a.len().cmp(&b.len())
 }
 
-/// Compares trips by what the trips of a pattern have in common.
-fn compare_trips(trips: &[Trip], a: usize, b: usize) -> Ordering {
-    match (trips.get(a), trips.get(b)) {
+/// Compares trips by what the trips of a pattern have in common, and alike ones by when they first depart.
+fn compare_trips(trips: &[Trip], a: u32, b: u32) -> Ordering {
+    match (trips.get(a as usize), trips.get(b as usize)) {
         (Some(a), Some(b)) => a
             .letter
             .cmp(&b.letter)
-            .then(compare_calls(&a.calls, &b.calls)),
+            .then(compare_calls(&a.calls, &b.calls))
+            .then(first_departure(a).cmp(&first_departure(b))),
         _ => a.cmp(&b),
     }
 }
 
-/// The places of the trips, alike ones side by side.
-fn alike_together(alloc: Global, trips: &[Trip]) -> Result<Vec<usize>, AllocError> {
-    let mut places: Vec<usize> = (0..trips.len()).collect(alloc)?;
-    places.sort_by(|a, b| compare_trips(trips, *a, *b))?;
+/// When a trip departs from its first call, if it has one.
+fn first_departure(trip: &Trip) -> Option<u32> {
+    let first = trip.calls.first()?;
+    Some(first.dep)
+}
+
+/// The numbers below one.
+fn places_below(alloc: Global, count: u32) -> Result<Vec<u32>, AllocError>
+    ensures { IfOk result (λ places. places.items ≡ range_with_len 0 count) }
+{
+    let mut places = Vec::with_capacity(alloc, count as usize)?;
+    for place in 0..count {
+        places.push(place)?;
+    }
     Ok(places)
 }
 
-/// For each trip a number that alike trips share, and no others.
-fn groups(alloc: Global, trips: &[Trip]) -> Result<Vec<usize>, AllocError> {
-    let mut groups = vec![in alloc; 0usize; trips.len()]?;
-    let mut group = 0;
-    for place in &alike_together(alloc, trips)? {
-        if compare_trips(trips, group, *place).is_ne() {
-            group = *place;
-        }
-        if let Some(held) = groups.get_mut(*place) {
-            *held = group;
-        }
-    }
-    Ok(groups)
-}
-
-/// Adds the runs of a trip on its days below a number.
-fn push_runs(
-    runs: &mut Vec<Instance>,
-    trip: u32,
-    days: DaySet,
-    count: u32,
-) -> Result<(), AllocError>
-    ensures { OnOk result (runs.new.items ≡ runs.old.items ++ runs_below trip days count) }
-{
-    for day in 0..count {
-        if days.contains(day) {
-            runs.push(Instance { trip, day })?;
-        }
-    }
-    Ok(())
-}
-
-/// The runs of the trips on their days below a number.
-fn all_runs(alloc: Global, trips: &[Trip], count: u32) -> Result<Vec<Instance>, AllocError>
+/// The places of the trips: alike ones side by side, and of these before the others those that depart first.
+pub(crate) fn trips_in_order(alloc: Global, trips: &[Trip]) -> Result<Vec<u32>, AllocError>
     requires { length trips.now < 2 ^ 32 }
-    ensures { IfOk result (λ runs. runs.items ≡ runs_from count 0 trips.now) }
+    ensures { IfOk result (λ places. IsPermutation (range_with_len 0 (length trips.now)) places.items) }
 {
-    let mut runs = Vec::new(alloc);
-    for (place, trip) in trips.iter().enumerate() {
-        push_runs(&mut runs, place as u32, trip.days, count)?;
-    }
-    Ok(runs)
-}
-
-/// The runs of the trips on their days below a number: those of alike trips side by side, the earlier first.
-pub(crate) fn sorted_runs(
-    alloc: Global,
-    bases: &[u64],
-    trips: &[Trip],
-    count: u32,
-) -> Result<Vec<Instance>, AllocError>
-    requires { length trips.now < 2 ^ 32 }
-    ensures { IfOk result (λ runs. IsPermutation (runs_from count 0 trips.now) runs.items) }
-{
-    let mut runs = all_runs(alloc, trips, count)?;
-    let groups = groups(alloc, trips)?;
-    runs.sort_by_key(|run| {
-        let group = groups.get(run.trip as usize).copied();
-        (group, departs(bases, trips, *run, 0))
-    })?;
-    Ok(runs)
+    let mut places = places_below(alloc, trips.len() as u32)?;
+    places.sort_by(|a, b| compare_trips(trips, *a, *b))?;
+    Ok(places)
 }

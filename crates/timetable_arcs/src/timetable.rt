@@ -14,7 +14,6 @@ use crate::faults::TableFault;
 use crate::patterns::{Pattern, sort_into_patterns};
 use crate::rides::{Board, Ride};
 use crate::runs::{arrives, calls_of, departs, first_from, last_by};
-use crate::sorting::sorted_runs;
 use crate::trips::{Call, Instance, Trip};
 use crate::{boards, rules};
 use plan_base::{Caps, Time};
@@ -228,6 +227,5 @@ fn sorted_patterns(alloc: Global, bases: &[u64], trips: &[Trip]) -> Result<Vec<P
     ensures each_once { IfOk result (λ patterns. (weight : Instance → ℕ) → sum_all weight patterns.items ≡ sum_by weight (runs_from (min (length bases.now) 128) 0 trips.now)) }
 {
     let days = bases.len().min(128) as u32;
-    let runs = sorted_runs(alloc, bases, trips, days)?;
-    sort_into_patterns(alloc, bases, trips, &runs)
+    sort_into_patterns(alloc, bases, trips, days)
 }

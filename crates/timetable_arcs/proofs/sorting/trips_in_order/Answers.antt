@@ -1,0 +1,8 @@
+use Rattle.std.proofs.Common.{List, ℕ, subst}
+use Rattle.std.specs.Prelude.{IsPermutation}
+use Rattle.timetable_arcs.proofs.sorting.trips_in_order.Goals as goal
+
+pub returns : goal.returns
+returns c =
+    let places = c.in_ok-places.ensures in
+    subst (λ (xs : List ℕ). IsPermutation xs c.sort_by.new.self.items) places c.in_ok-sort_by.ensures.permutation
