@@ -1,13 +1,13 @@
 -- What the bytes of a certificate spell: the laws of the whole.
-use Rattle.std.proofs.Common.{◌≡◌, ℕ, List, [], ◌∷◌, ◌++◌, map, refl, ap, sym, ◌∙◌, subst, Bool, true, false, cond}
+use Rattle.std.proofs.Common.{◌≡◌, ℕ, List, [], ◌∷◌, ◌++◌, map, refl, ap, sym, ◌∙◌, subst, Bool, true, false, cond, inl, inr}
 use Rattle.std.specs.Prelude.{Option, Some, None, Result, Ok, Err, All, fold, codes, IfOk, IfErr}
 use Rattle.std.specs.List.{AllByRecursion, slice_split, onto_first}
 use Rattle.std.proofs.lemmas.List.Elements.{All-nil, All-cons, All-append, All-drop}
 use Rattle.plain_texts.specs.Lines.{IsLine, is_feed, pieces, spaced}
-use Rattle.plain_texts.specs.Course.{Course, whole, bad, trailing, lines_from, CannotStand, IsFirstBad}
+use Rattle.plain_texts.specs.Course.{Course, whole, bad, trailing, lines_from}
 use Rattle.plain_texts.proofs.Pieces.{pieces_lines, text_of_lines}
 use Rattle.plain_texts.proofs.Spaced.{spaced_is_line}
-use Rattle.plain_texts.proofs.Course.{course_takes, course_bad, course_trailing, course_again}
+use Rattle.plain_texts.proofs.Course.{has_pieces, course_takes, course_bad, course_trailing, course_again}
 use Rattle.mode_network.specs.declared.steps.Step.{Step}
 use Rattle.mode_network.specs.declared.steps.Step.TheVariants.{Wait, Road, Link, Stand, Ride}
 use Rattle.mode_network.specs.Journeys.{Route}
@@ -26,7 +26,7 @@ use Rattle.certificate.specs.Texts.{FitsCertificate, FitsResult, IsCertText, cer
 use Rattle.certificate.specs.Reading.{Gives, HasCause, cert_of, nothing, put, put_all}
 use Rattle.certificate.proofs.FitLemmas.{both_parts, of_both}
 use Rattle.certificate.proofs.KindLaws.{IsInWords, words_are_words}
-use Rattle.certificate.proofs.SectionLaws.{reads_lines, stops}
+use Rattle.certificate.proofs.SectionLaws.{reads_lines}
 use Rattle.certificate.proofs.Again.{made_again, runs_to_end}
 use Rattle.certificate.proofs.Found.{cert_is}
 
@@ -126,26 +126,19 @@ again bytes c h =
     ∙ ap (put_all nothing) (course_again spelled FitsLine due_behind is_last line_at reads_lines (cert_lines c) due.Head due.Nothing 1 refl (runs_to_end c) refl h.lines)
     ∙ ap Ok (made_again c)
 
--- No line may stand behind the end.
-cannot : (place : Due) (ps : List (List ℕ)) → is_last place ≡ true → CannotStand spelled FitsLine due_behind place ps
-cannot place [] last = tt
-cannot place (piece ∷ []) last = tt
-cannot place (piece ∷ next ∷ more) last = λ l fits spelled. stops place l last
-
--- The line that is named is the first that may not stand.
-first_bad : (bytes : List ℕ) (k : ℕ) → cert_of bytes ≡ Err (BadLine k) → IsFirstBad spelled FitsLine due_behind due.Head 1 (pieces bytes) k
+-- The line that is named is the first that may not stand, or that of the bytes behind the end.
+cause : (bytes : List ℕ) (k : ℕ) → cert_of bytes ≡ Err (BadLine k) → HasCause bytes (BadLine k)
 unfolding cert_of
-first_bad bytes k e = by_course (lines_from line_at is_last due.Head 1 (pieces bytes)) refl e
+cause bytes k e = by_course (lines_from line_at is_last due.Head 1 (pieces bytes)) refl e
   where
-    by_course : (course : Course Line) → lines_from line_at is_last due.Head 1 (pieces bytes) ≡ course → put_all nothing course ≡ Err (BadLine k) → IsFirstBad spelled FitsLine due_behind due.Head 1 (pieces bytes) k
+    by_course : (course : Course Line) → lines_from line_at is_last due.Head 1 (pieces bytes) ≡ course → put_all nothing course ≡ Err (BadLine k) → HasCause bytes (BadLine k)
     by_course (whole ls) is e = absurd (cc)
     by_course (bad n) is e =
         let same : n ≡ k = cc e in
-        subst (λ m. IsFirstBad spelled FitsLine due_behind due.Head 1 (pieces bytes) m) same (course_bad spelled FitsLine due_behind is_last line_at reads_lines (pieces bytes) due.Head 1 n is)
+        inl (course_bad spelled FitsLine due_behind is_last line_at reads_lines (pieces bytes) due.Head 1 k refl (has_pieces bytes) (is ∙ ap bad same))
     by_course (trailing n) is e =
         let same : n ≡ k = cc e in
-        let h = course_trailing spelled FitsLine due_behind is_last line_at reads_lines (pieces bytes) due.Head 1 n is in
-        record { lines = h.lines; place = h.place; rest = h.rest; runs = h.runs; fits = h.fits; are = h.are; number = sym same ∙ h.number; no_line = cannot h.place h.rest h.last }
+        inr (course_trailing spelled FitsLine due_behind is_last line_at reads_lines (pieces bytes) due.Head 1 k (is ∙ ap trailing same))
 
 -- The clauses of read, from what it gives.
 pub gives_found : (bytes : List ℕ) (r : Result Claim CertFault) → Gives r (cert_of bytes) → IfOk r (IsCertText bytes)
@@ -157,8 +150,5 @@ gives_only bytes r e c h = subst (λ x. Gives r x) (again bytes c h) e
 
 pub gives_cause : (bytes : List ℕ) (r : Result Claim CertFault) → Gives r (cert_of bytes) → IfErr r (HasCause bytes)
 gives_cause bytes (Ok c) e = tt
-gives_cause bytes (Err (BadLine k)) e = (first_bad bytes k e, λ c h. differ c (sym (again bytes c h) ∙ e))
-  where
-    differ : (c : Claim) → ◌≡◌ {A = Result Claim CertFault} (Ok c) (Err (BadLine k)) → ⊥
-    differ c e = cc
+gives_cause bytes (Err (BadLine k)) e = cause bytes k e
 gives_cause bytes (Err OutOfMemory) e = tt

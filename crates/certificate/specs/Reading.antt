@@ -1,7 +1,7 @@
 -- What the lines of a certificate text make, and what is wrong with bytes that are no certificate.
-use Rattle.std.specs.Prelude.{◌≡◌, ℕ, List, [], ◌∷◌, ◌++◌, Some, None, option_map, Result, Ok, Err, fold, false}
+use Rattle.std.specs.Prelude.{◌≡◌, ℕ, List, [], ◌∷◌, ◌++◌, Some, None, option_map, Result, Ok, Err, fold, false, ◌⊎◌}
 use Rattle.plain_texts.specs.Lines.{pieces}
-use Rattle.plain_texts.specs.Course.{Course, whole, bad, trailing, lines_from, IsFirstBad}
+use Rattle.plain_texts.specs.Course.{Course, whole, bad, trailing, lines_from, IsFirstBad, IsTrailing}
 use Rattle.mode_network.specs.declared.steps.Step.{Step}
 use Rattle.mode_network.specs.Journeys.{Route}
 use Rattle.journey.specs.declared.verdict.CertFault.{CertFault}
@@ -54,7 +54,8 @@ Gives (Ok c) defined = defined ≡ Ok c
 Gives (Err OutOfMemory) defined = Unit {0}
 Gives (Err (BadLine at)) defined = defined ≡ Err (BadLine at)
 
--- Why bytes are refused: this line is the first that may not stand where it does, and no certificate is spelled so. That memory ran out has no cause.
+-- Why bytes are refused: this line is the first that may not stand where it does, or bytes follow the end, where this line would be. That memory ran out has no cause.
 abbrev pub HasCause : List ℕ → CertFault → Type 0
-HasCause bytes (BadLine at) = IsFirstBad spelled FitsLine due_behind due.Head 1 (pieces bytes) at × ((c : Claim) → IsCertText bytes c → ⊥)
+HasCause bytes (BadLine at) =
+    IsFirstBad spelled FitsLine due_behind is_last due.Head 1 (pieces bytes) at ⊎ IsTrailing spelled FitsLine due_behind is_last due.Head 1 (pieces bytes) at
 HasCause bytes OutOfMemory = Unit {0}

@@ -5,7 +5,7 @@ use Rattle.std.specs.List.{AllByRecursion}
 use Rattle.std.proofs.lemmas.Bool.{false≢true}
 use Rattle.std.proofs.lemmas.Option.{none-some, same_Some}
 use Rattle.plain_texts.specs.Lines.{pieces, next_line_of}
-use Rattle.plain_texts.specs.Course.{Course, whole, bad, trailing, onto, ended, go_on, lines_from, run_on, CannotStand, IsFirstBad, IsWhole, IsTrailing}
+use Rattle.plain_texts.specs.Course.{Course, whole, bad, trailing, onto, ended, go_on, lines_from, run_on, CannotStand, BytesFollow, IsFirstBad, IsWhole, IsTrailing}
 use Rattle.plain_texts.proofs.Pieces.{pieces_some, pieces_none, pieces_cons, pieces_more}
 
 whole_is : {L : Type 0} (ls ks : List L) → ◌≡◌ {A = Course L} (whole ls) (whole ks) → ls ≡ ks
@@ -27,11 +27,20 @@ trailing≢bad : {L : Type 0} (m n : ℕ) → ◌≡◌ {A = Course L} (trailing
 trailing≢bad m n e = cc
 
 -- what stands behind the last line
+follow : (rest : List (List ℕ)) → 0 < length rest → (rest ≡ [] ∷ [] → ⊥) → BytesFollow rest
+follow [] some h = absurd (omega (arith, some))
+follow ([] ∷ []) some h = h refl
+follow ((b ∷ bs) ∷ []) some h = tt
+follow (piece ∷ next ∷ more) some h = tt
+
 ended_cases : {L : Type 0} (at : ℕ) (l : L) (rest : List (List ℕ)) → ((ended at l rest ≡ whole (l ∷ [])) × (rest ≡ [] ∷ [])) ⊎ ((ended at l rest ≡ trailing (at + 1)) × (rest ≡ [] ∷ [] → ⊥))
 ended_cases at l [] = inr (refl, λ e. absurd (cc))
 ended_cases at l ([] ∷ []) = inl (refl, refl)
 ended_cases at l ((b ∷ bs) ∷ []) = inr (refl, λ e. absurd (cc))
 ended_cases at l (piece ∷ next ∷ more) = inr (refl, λ e. absurd (cc))
+
+pub has_pieces : (text : List ℕ) → 0 < length (pieces text)
+has_pieces text = let h = pieces_cons text in rw h.2 (omega arith)
 
 pieces_nothing : (rest : List ℕ) → length rest ≡ 0 → pieces rest ≡ [] ∷ []
 unfolding pieces
@@ -119,50 +128,50 @@ module _ {L P : Type 0} (spell : L → List ℕ) (Fits : L → Type 0) (after : 
       at_line None read e others = absurd (bad≢whole at ls e)
       at_line (Some x) read e others = whole_line p piece (next ∷ more) at ls x read (is_last x.1) refl (lines_from line_at is_last x.1 (at + 1) (next ∷ more)) e (others x.1)
 
-  bad_here : (ps : List (List ℕ)) (p : P) (at k : ℕ) → CannotStand spell Fits after p ps → ◌≡◌ {A = Course L} (bad at) (bad k) → IsFirstBad spell Fits after p at ps k
-  bad_here ps p at k cannot e =
+  bad_here : (ps : List (List ℕ)) (p : P) (at k : ℕ) → is_last p ≡ false → CannotStand spell Fits after p ps → ◌≡◌ {A = Course L} (bad at) (bad k) → IsFirstBad spell Fits after is_last p at ps k
+  bad_here ps p at k going cannot e =
       let here = bad_is at k e in
-      record { lines = []; place = p; rest = ps; runs = refl; fits = tt; are = refl; number = omega (arith, here); no_line = cannot }
+      record { lines = []; place = p; rest = ps; runs = refl; not_last = going; fits = tt; are = refl; number = omega (arith, here); no_line = cannot }
 
-  bad_line : (p : P) (piece : List ℕ) (rest : List (List ℕ)) (at k : ℕ) (x : L × P) → line_at p piece ≡ Some x → (t : Bool) → (c : Course L) → cond t (ended at x.0 rest) (onto x.0 c) ≡ bad k → (c ≡ bad k → IsFirstBad spell Fits after x.1 (at + 1) rest k) → IsFirstBad spell Fits after p at (piece ∷ rest) k
-  bad_line p piece rest at k x read true c e others = by_end (ended_cases at x.0 rest)
+  bad_line : (p : P) (piece : List ℕ) (rest : List (List ℕ)) (at k : ℕ) (x : L × P) → line_at p piece ≡ Some x → (t : Bool) → is_last x.1 ≡ t → (c : Course L) → cond t (ended at x.0 rest) (onto x.0 c) ≡ bad k → (is_last x.1 ≡ false → c ≡ bad k → IsFirstBad spell Fits after is_last x.1 (at + 1) rest k) → IsFirstBad spell Fits after is_last p at (piece ∷ rest) k
+  bad_line p piece rest at k x read true last c e others = by_end (ended_cases at x.0 rest)
     where
-      by_end : ((ended at x.0 rest ≡ whole (x.0 ∷ [])) × (rest ≡ [] ∷ [])) ⊎ ((ended at x.0 rest ≡ trailing (at + 1)) × (rest ≡ [] ∷ [] → ⊥)) → IsFirstBad spell Fits after p at (piece ∷ rest) k
+      by_end : ((ended at x.0 rest ≡ whole (x.0 ∷ [])) × (rest ≡ [] ∷ [])) ⊎ ((ended at x.0 rest ≡ trailing (at + 1)) × (rest ≡ [] ∷ [] → ⊥)) → IsFirstBad spell Fits after is_last p at (piece ∷ rest) k
       by_end (inl h) = absurd (bad≢whole k (x.0 ∷ []) (sym e ∙ h.0))
       by_end (inr h) = absurd (trailing≢bad (at + 1) k (sym h.0 ∙ e))
-  bad_line p piece rest at k x read false (whole ks) e others = absurd (bad≢whole k (x.0 ∷ ks) (sym e))
-  bad_line p piece rest at k x read false (bad n) e others =
+  bad_line p piece rest at k x read false going (whole ks) e others = absurd (bad≢whole k (x.0 ∷ ks) (sym e))
+  bad_line p piece rest at k x read false going (bad n) e others =
       let taken = reads.takes p piece x.0 x.1 read in
-      let h = others e in
-      record { lines = x.0 ∷ h.lines; place = h.place; rest = h.rest; runs = ap (λ o. run_on after o h.lines) taken.2 ∙ h.runs; fits = (taken.1, h.fits); are = ap (λ w. w ∷ rest) taken.0 ∙ ap (λ r. spell x.0 ∷ r) h.are; number = omega (arith, h.number); no_line = h.no_line }
-  bad_line p piece rest at k x read false (trailing n) e others = absurd (trailing≢bad n k e)
+      let h = others going e in
+      record { lines = x.0 ∷ h.lines; place = h.place; rest = h.rest; runs = ap (λ o. run_on after o h.lines) taken.2 ∙ h.runs; not_last = h.not_last; fits = (taken.1, h.fits); are = ap (λ w. w ∷ rest) taken.0 ∙ ap (λ r. spell x.0 ∷ r) h.are; number = omega (arith, h.number); no_line = h.no_line }
+  bad_line p piece rest at k x read false going (trailing n) e others = absurd (trailing≢bad n k e)
 
   -- The number of a fault is that of the first line that may not stand.
-  pub course_bad : (ps : List (List ℕ)) (p : P) (at k : ℕ) → lines_from line_at is_last p at ps ≡ bad k → IsFirstBad spell Fits after p at ps k
-  course_bad [] p at k e = bad_here [] p at k tt e
-  course_bad (piece ∷ []) p at k e = bad_here (piece ∷ []) p at k tt e
-  course_bad (piece ∷ next ∷ more) p at k e = at_line (line_at p piece) refl e (λ q f. course_bad (next ∷ more) q (at + 1) k f)
+  pub course_bad : (ps : List (List ℕ)) (p : P) (at k : ℕ) → is_last p ≡ false → 0 < length ps → lines_from line_at is_last p at ps ≡ bad k → IsFirstBad spell Fits after is_last p at ps k
+  course_bad [] p at k going some e = absurd (omega (arith, some))
+  course_bad (piece ∷ []) p at k going some e = bad_here (piece ∷ []) p at k going tt e
+  course_bad (piece ∷ next ∷ more) p at k going some e = at_line (line_at p piece) refl e (λ q on f. course_bad (next ∷ more) q (at + 1) k on (omega arith) f)
     where
       cannot : line_at p piece ≡ None → (l : L) → Fits l → piece ≡ spell l → (o : Option P) → after p l ≡ o → o ≡ None
       cannot unread l fits spelled None is = refl
       cannot unread l fits spelled (Some q) is = absurd (none-some (l, q) (sym unread ∙ ap (line_at p) spelled ∙ reads.again p l q fits is))
 
-      at_line : (o : Option (L × P)) → line_at p piece ≡ o → go_on is_last at (next ∷ more) (λ q. lines_from line_at is_last q (at + 1) (next ∷ more)) o ≡ bad k → ((q : P) → lines_from line_at is_last q (at + 1) (next ∷ more) ≡ bad k → IsFirstBad spell Fits after q (at + 1) (next ∷ more) k) → IsFirstBad spell Fits after p at (piece ∷ next ∷ more) k
-      at_line None read e others = bad_here (piece ∷ next ∷ more) p at k (λ l fits spelled. cannot read l fits spelled (after p l) refl) e
-      at_line (Some x) read e others = bad_line p piece (next ∷ more) at k x read (is_last x.1) (lines_from line_at is_last x.1 (at + 1) (next ∷ more)) e (others x.1)
+      at_line : (o : Option (L × P)) → line_at p piece ≡ o → go_on is_last at (next ∷ more) (λ q. lines_from line_at is_last q (at + 1) (next ∷ more)) o ≡ bad k → ((q : P) → is_last q ≡ false → lines_from line_at is_last q (at + 1) (next ∷ more) ≡ bad k → IsFirstBad spell Fits after is_last q (at + 1) (next ∷ more) k) → IsFirstBad spell Fits after is_last p at (piece ∷ next ∷ more) k
+      at_line None read e others = bad_here (piece ∷ next ∷ more) p at k going (λ l fits spelled. cannot read l fits spelled (after p l) refl) e
+      at_line (Some x) read e others = bad_line p piece (next ∷ more) at k x read (is_last x.1) refl (lines_from line_at is_last x.1 (at + 1) (next ∷ more)) e (others x.1)
 
-  trailing_line : (p : P) (piece : List ℕ) (rest : List (List ℕ)) (at k : ℕ) (x : L × P) → line_at p piece ≡ Some x → (t : Bool) → is_last x.1 ≡ t → (c : Course L) → cond t (ended at x.0 rest) (onto x.0 c) ≡ trailing k → (c ≡ trailing k → IsTrailing spell Fits after is_last x.1 (at + 1) rest k) → IsTrailing spell Fits after is_last p at (piece ∷ rest) k
-  trailing_line p piece rest at k x read true last c e others = by_end (ended_cases at x.0 rest)
+  trailing_line : (p : P) (piece : List ℕ) (rest : List (List ℕ)) (at k : ℕ) (x : L × P) → 0 < length rest → line_at p piece ≡ Some x → (t : Bool) → is_last x.1 ≡ t → (c : Course L) → cond t (ended at x.0 rest) (onto x.0 c) ≡ trailing k → (c ≡ trailing k → IsTrailing spell Fits after is_last x.1 (at + 1) rest k) → IsTrailing spell Fits after is_last p at (piece ∷ rest) k
+  trailing_line p piece rest at k x some read true last c e others = by_end (ended_cases at x.0 rest)
     where
       by_end : ((ended at x.0 rest ≡ whole (x.0 ∷ [])) × (rest ≡ [] ∷ [])) ⊎ ((ended at x.0 rest ≡ trailing (at + 1)) × (rest ≡ [] ∷ [] → ⊥)) → IsTrailing spell Fits after is_last p at (piece ∷ rest) k
       by_end (inl h) = absurd (trailing≢whole k (x.0 ∷ []) (sym e ∙ h.0))
       by_end (inr h) =
           let taken = reads.takes p piece x.0 x.1 read in
           let here = trailing_is (at + 1) k (sym h.0 ∙ e) in
-          record { lines = x.0 ∷ []; place = x.1; rest = rest; runs = taken.2; last = last; fits = (taken.1, tt); are = ap (λ w. w ∷ rest) taken.0; number = sym here; more = h.1 }
-  trailing_line p piece rest at k x read false last (whole ks) e others = absurd (trailing≢whole k (x.0 ∷ ks) (sym e))
-  trailing_line p piece rest at k x read false last (bad n) e others = absurd (trailing≢bad k n (sym e))
-  trailing_line p piece rest at k x read false last (trailing n) e others =
+          record { lines = x.0 ∷ []; place = x.1; rest = rest; runs = taken.2; last = last; fits = (taken.1, tt); are = ap (λ w. w ∷ rest) taken.0; number = sym here; more = follow rest some h.1 }
+  trailing_line p piece rest at k x some read false last (whole ks) e others = absurd (trailing≢whole k (x.0 ∷ ks) (sym e))
+  trailing_line p piece rest at k x some read false last (bad n) e others = absurd (trailing≢bad k n (sym e))
+  trailing_line p piece rest at k x some read false last (trailing n) e others =
       let taken = reads.takes p piece x.0 x.1 read in
       let h = others e in
       record { lines = x.0 ∷ h.lines; place = h.place; rest = h.rest; runs = ap (λ o. run_on after o h.lines) taken.2 ∙ h.runs; last = h.last; fits = (taken.1, h.fits); are = ap (λ w. w ∷ rest) taken.0 ∙ ap (λ r. spell x.0 ∷ r) h.are; number = omega (arith, h.number); more = h.more }
@@ -175,7 +184,7 @@ module _ {L P : Type 0} (spell : L → List ℕ) (Fits : L → Type 0) (after : 
     where
       at_line : (o : Option (L × P)) → line_at p piece ≡ o → go_on is_last at (next ∷ more) (λ q. lines_from line_at is_last q (at + 1) (next ∷ more)) o ≡ trailing k → ((q : P) → lines_from line_at is_last q (at + 1) (next ∷ more) ≡ trailing k → IsTrailing spell Fits after is_last q (at + 1) (next ∷ more) k) → IsTrailing spell Fits after is_last p at (piece ∷ next ∷ more) k
       at_line None read e others = absurd (trailing≢bad k at (sym e))
-      at_line (Some x) read e others = trailing_line p piece (next ∷ more) at k x read (is_last x.1) refl (lines_from line_at is_last x.1 (at + 1) (next ∷ more)) e (others x.1)
+      at_line (Some x) read e others = trailing_line p piece (next ∷ more) at k x (omega arith) read (is_last x.1) refl (lines_from line_at is_last x.1 (at + 1) (next ∷ more)) e (others x.1)
 
   -- Lines that may stand are read, if nothing follows the last.
   pub course_again : (ls : List L) (p end : P) (at : ℕ) → is_last p ≡ false → run_on after (Some p) ls ≡ Some end → is_last end ≡ true → AllByRecursion Fits ls → lines_from line_at is_last p at (map spell ls ++ [] ∷ []) ≡ whole ls

@@ -7,7 +7,7 @@ use Rattle.std.proofs.lemmas.List.{append-nil}
 use Rattle.std.proofs.lemmas.List.Splits.{slice_split_none, slice_split_at, slice_split_first, join_with_byte-slice_split}
 use Rattle.std.proofs.lemmas.List.Sums.{split_at_first, fails_before_first, passes_at_first}
 use Rattle.std.proofs.lemmas.Option.{none-some, same_Some, cond_some, some_pair_parts}
-use Rattle.plain_texts.specs.Lines.{is_feed, pieces, lines_of_pieces, lines_of, IsLine, lines_text, next_line_of, around, split_line_of}
+use Rattle.plain_texts.specs.Lines.{is_feed, is_space, words_of, pieces, lines_of_pieces, lines_of, IsLine, lines_text, next_line_of, around, split_line_of}
 
 -- what next_line takes off
 record Cut (text line rest : List ℕ) : Type 0 where
@@ -141,3 +141,24 @@ next_line_exact v text (Some x) e = (next_line_is_line text (v x.0) (v x.1) (sym
 pub split_line_exact : {B : Type 0} (v : B → List ℕ) (text : List ℕ) (r : Option (B × B)) → option_map (λ x. (v x.0, v x.1)) r ≡ split_line_of text → MatchOption r (lines_of text ≡ []) (λ x. lines_of text ≡ v x.0 ∷ lines_of (v x.1))
 split_line_exact v text None e = lines_none text (sym e)
 split_line_exact v text (Some x) e = lines_some text (v x.0) (v x.1) (sym e)
+
+-- The first word of a line that has a space, and of one that has none.
+pub word_some : (line : List ℕ) (end : ℕ) → position is_space line ≡ Some end → words_of line ≡ take end line ∷ words_of (drop (end + 1) line)
+unfolding words_of
+word_some line end e = at_test (nat_lt (position_or_len is_space line) (length line)) refl e
+  where
+    at_test : (t : Bool) → nat_lt (position_or_len is_space line) (length line) ≡ t → cond t (Some (position_or_len is_space line)) None ≡ Some end → words_of line ≡ take end line ∷ words_of (drop (end + 1) line)
+    at_test false is e = absurd (none-some end e)
+    at_test true is e =
+        let here = same_Some _ end e in
+        slice_split_first is_space line 0 (grind (arith, nat_tests)) ∙ ap (λ k. take k line ∷ slice_split is_space (drop (k + 1) line)) here
+
+pub word_none : (line : List ℕ) → position is_space line ≡ None → words_of line ≡ line ∷ []
+unfolding words_of
+word_none line e = at_test (nat_lt (position_or_len is_space line) (length line)) refl e
+  where
+    at_test : (t : Bool) → nat_lt (position_or_len is_space line) (length line) ≡ t → cond t (Some (position_or_len is_space line)) None ≡ None → words_of line ≡ line ∷ []
+    at_test true is e = absurd (none-some _ (sym e))
+    at_test false is e =
+        let past : length line ≤ position_or_len is_space line = grind (arith, nat_tests) in
+        slice_split_none is_space line (λ k d h. fails_before_first is_space line k d (omega arith))

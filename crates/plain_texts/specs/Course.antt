@@ -1,6 +1,6 @@
 -- How a text is read line by line: each line is read at a place, and leads to the next place; at a last
 -- place the text must end. For every kind of lines and of places.
-use Rattle.std.specs.Prelude.{◌≡◌, ℕ, ◌+◌, List, [], ◌∷◌, ◌++◌, length, map, Bool, true, Option, Some, None, if◌then◌else◌, option_and_then}
+use Rattle.std.specs.Prelude.{◌≡◌, ℕ, ◌+◌, List, [], ◌∷◌, ◌++◌, length, map, Bool, true, false, Option, Some, None, if◌then◌else◌, option_and_then}
 use Rattle.std.specs.List.{AllByRecursion}
 
 -- what reading gives: all lines, the number of the first that may not stand where it does, or the number
@@ -42,18 +42,19 @@ run_on after p (l ∷ ls) = run_on after (option_and_then (λ place. after place
 -- What a course means, without any reading: `spell` is the one spelling of a line, `Fits l` says that it is
 -- a line, and `after p l` is the place behind the line l at the place p, if it may stand there.
 
--- no line that may stand at the place is spelled by the first piece and ended by a line feed
+-- Some piece is left, and no line that may stand at the place is spelled by the first and ended by a line feed.
 abbrev pub CannotStand : {L P : Type 0} → (L → List ℕ) → (L → Type 0) → (P → L → Option P) → P → List (List ℕ) → Type 0
-CannotStand spell Fits after p [] = Unit {0}
+CannotStand spell Fits after p [] = ⊥
 CannotStand spell Fits after p (piece ∷ []) = Unit {0}
 CannotStand {L} spell Fits after p (piece ∷ next ∷ more) = (l : L) → Fits l → piece ≡ spell l → after p l ≡ None
 
--- k is the number of the first line that may not stand where it does
-pub record IsFirstBad {L P : Type 0} (spell : L → List ℕ) (Fits : L → Type 0) (after : P → L → Option P) (p : P) (at : ℕ) (ps : List (List ℕ)) (k : ℕ) : Type 0 where
+-- k is the number of the first line that may not stand where it does; the lines before it don't end the text
+pub record IsFirstBad {L P : Type 0} (spell : L → List ℕ) (Fits : L → Type 0) (after : P → L → Option P) (is_last : P → Bool) (p : P) (at : ℕ) (ps : List (List ℕ)) (k : ℕ) : Type 0 where
   pub lines : List L
   pub place : P
   pub rest : List (List ℕ)
   pub runs : run_on after (Some p) lines ≡ Some place
+  pub not_last : is_last place ≡ false
   pub fits : AllByRecursion Fits lines
   pub are : ps ≡ map spell lines ++ rest
   pub number : k ≡ at + length lines
@@ -67,6 +68,13 @@ pub record IsWhole {L P : Type 0} (spell : L → List ℕ) (Fits : L → Type 0)
   pub fits : AllByRecursion Fits lines
   pub are : ps ≡ map spell lines ++ [] ∷ []
 
+-- bytes stand behind a line feed
+abbrev pub BytesFollow : List (List ℕ) → Type 0
+BytesFollow [] = ⊥
+BytesFollow ([] ∷ []) = ⊥
+BytesFollow ((b ∷ bs) ∷ []) = Unit {0}
+BytesFollow (piece ∷ next ∷ more) = Unit {0}
+
 -- k is the number of the line behind a last place, where bytes follow
 pub record IsTrailing {L P : Type 0} (spell : L → List ℕ) (Fits : L → Type 0) (after : P → L → Option P) (is_last : P → Bool) (p : P) (at : ℕ) (ps : List (List ℕ)) (k : ℕ) : Type 0 where
   pub lines : List L
@@ -77,4 +85,4 @@ pub record IsTrailing {L P : Type 0} (spell : L → List ℕ) (Fits : L → Type
   pub fits : AllByRecursion Fits lines
   pub are : ps ≡ map spell lines ++ rest
   pub number : k ≡ at + length lines
-  pub more : rest ≡ [] ∷ [] → ⊥
+  pub more : BytesFollow rest

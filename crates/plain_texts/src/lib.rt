@@ -16,8 +16,10 @@ pub use fixed::{push_fixed, read_fixed};
 pub use hexadecimals::{push_hexadecimal, read_hexadecimal};
 pub use lines::{next_line, push_line_feed, split_line};
 pub use names::{Name, is_name};
-pub use numbers::{push_decimal, push_signed, read_id, read_number, read_signed};
-pub use words::words_of;
+pub use numbers::{
+    push_decimal, push_signed, read_id, read_number, read_short_number, read_signed,
+};
+pub use words::{split_word, words_into, words_of};
 
 #[cfg(test)]
 mod tests;

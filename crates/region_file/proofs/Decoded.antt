@@ -10,7 +10,7 @@ use Rattle.plain_texts.specs.Lines.{IsLine, lines_text, pieces}
 use Rattle.plain_texts.specs.Course.{Course, whole, bad, trailing, lines_from}
 use Rattle.plain_texts.proofs.Pieces.{pieces_lines, text_of_lines}
 use Rattle.plain_texts.proofs.Spaced.{spaced_is_line}
-use Rattle.plain_texts.proofs.Course.{course_takes, course_bad, course_trailing, course_again}
+use Rattle.plain_texts.proofs.Course.{has_pieces, course_takes, course_bad, course_trailing, course_again}
 use Rattle.plan_base.specs.declared.limits.Caps.{Caps}
 use Rattle.mode_network.specs.declared.faults.NetFault.{NetFault}
 use Rattle.mode_network.specs.NetworkLists.{NetworkLists}
@@ -81,7 +81,7 @@ text_cause caps bytes text fault head e = by_course (lines_from line_at is_end s
     by_course (whole ls) is e = absurd (cc)
     by_course (bad k) is e =
         subst (λ f. HasCause caps bytes f) (same_Err {A = NetworkLists} (BadRecord k) fault e)
-        (text, record { is = head }, course_bad spelled FitsLine progress_after is_end line_at reads_lines (pieces text) start 2 k is)
+        (text, record { is = head }, course_bad spelled FitsLine progress_after is_end line_at reads_lines (pieces text) start 2 k refl (has_pieces text) is)
     by_course (trailing k) is e =
         subst (λ f. HasCause caps bytes f) (same_Err {A = NetworkLists} (Trailing k) fault e)
         (text, record { is = head }, course_trailing spelled FitsLine progress_after is_end line_at reads_lines (pieces text) start 2 k is)

@@ -103,7 +103,7 @@ pub record HasHead (bytes text : List ℕ) : Type 0 where
 -- out has no cause.
 abbrev pub HasCause : Caps → List ℕ → RegionFault → Type 0
 HasCause caps bytes BadHead = (text : List ℕ) → bytes ≡ head_line ++ text → ⊥
-HasCause caps bytes (BadRecord at) = (text : List ℕ) × HasHead bytes text × IsFirstBad spelled FitsLine progress_after start 2 (pieces text) at
+HasCause caps bytes (BadRecord at) = (text : List ℕ) × HasHead bytes text × IsFirstBad spelled FitsLine progress_after is_end start 2 (pieces text) at
 HasCause caps bytes (Trailing at) = (text : List ℕ) × HasHead bytes text × IsTrailing spelled FitsLine progress_after is_end start 2 (pieces text) at
 HasCause caps bytes (Network fault) = (n : NetworkLists) × IsRegion n × (bytes ≡ region_text n) × (first_fault caps n ≡ Some fault)
 HasCause caps bytes OutOfMemory = Unit {0}
