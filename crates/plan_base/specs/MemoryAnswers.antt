@@ -21,3 +21,14 @@ read_answer fail number held from room = if list_any (λ n. nat_eq n number) fai
 abbrev pub write_answer : List ℕ → ℕ → ℕ → ℕ → ℕ → Result ℕ SinkFailed
 write_answer fail number most left len =
     if list_any (λ n. nat_eq n number) fail || nat_eq left 0 then Err (record {}) else Ok (min (min len most) left)
+
+-- how often a shelf missed a name and failed, after an answer: a good read counts as neither
+abbrev pub counts_after : Result ℕ ShelfError → ℕ × ℕ → ℕ × ℕ
+counts_after (Ok n) counts = counts
+counts_after (Err Missing) counts = (count_after counts.0, counts.1)
+counts_after (Err Failed) counts = (counts.0, count_after counts.1)
+
+-- how often a sink failed, after an answer
+abbrev pub faults_after : Result ℕ SinkFailed → ℕ → ℕ
+faults_after (Ok n) faults = faults
+faults_after (Err failed) faults = count_after faults

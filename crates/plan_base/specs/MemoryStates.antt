@@ -17,6 +17,10 @@ shelf_fails shelf = shelf.fail.items
 abbrev pub shelf_reads : MemoryShelf → ℕ
 shelf_reads shelf = shelf.reads
 
+-- how often a name was missed, and how often reading failed
+abbrev pub shelf_counts : MemoryShelf → ℕ × ℕ
+shelf_counts shelf = (shelf.misses, shelf.faults)
+
 -- a shelf in memory tells its files
 abbrev pub shelf_meaning : MemoryShelf → ShelfMeaning
 shelf_meaning shelf = record { files = Some (shelf_files shelf); misses = shelf.misses; faults = shelf.faults }
@@ -44,6 +48,16 @@ sink_most sink = sink.most
 -- how many bytes there is room left for
 abbrev pub sink_left : MemorySink → ℕ
 sink_left sink = sink.room - length sink.written.items
+
+-- how often writing failed
+abbrev pub sink_faults : MemorySink → ℕ
+sink_faults sink = sink.faults
+
+-- what no write changes: the room as a whole, how many bytes are taken at a time, and which writes fail
+pub record KeepsSink (old new : MemorySink) : Type 0 where
+  pub room_is : new.room ≡ old.room
+  pub most_is : new.most ≡ old.most
+  pub fail_is : new.fail.items ≡ old.fail.items
 
 -- nothing has been written yet
 pub record IsEmptySink (room most : ℕ) (fail : List ℕ) (sink : MemorySink) : Type 0 where

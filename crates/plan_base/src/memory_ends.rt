@@ -5,7 +5,7 @@ ghost use Rattle.plan_base.specs.Counts.{Rose};
 ghost use Rattle.plan_base.specs.Shelves.{AreBytesAt, IsLater, Gave};
 ghost use Rattle.plan_base.specs.ShelfCauses.{HasCause};
 ghost use Rattle.plan_base.specs.Sinks.{Appended};
-ghost use Rattle.plan_base.specs.MemoryAnswers.{count_after, read_answer, write_answer};
+ghost use Rattle.plan_base.specs.MemoryAnswers.{count_after, counts_after, faults_after, read_answer, write_answer};
 ghost use Rattle.plan_base.specs.MemoryFiles.{files_of};
 
 use crate::reading::{Shelf, ShelfError};
@@ -24,13 +24,14 @@ pub struct MemoryShelf {
 }
 
 impl MemoryShelf {
-    ghost use Rattle.plan_base.specs.MemoryStates.{shelf_files, shelf_fails, shelf_reads};
+    ghost use Rattle.plan_base.specs.MemoryStates.{shelf_counts, shelf_files, shelf_fails, shelf_reads};
 
     /// A shelf of these files. The reads whose numbers, from 1, are in `fail` answer that reading failed.
     pub fn new(files: BTreeMap<String, Vec<u8>>, fail: Vec<u64>) -> MemoryShelf
         ensures files { shelf_files result ≡ files_of files }
         ensures fail { shelf_fails result ≡ fail.items }
         ensures reads { shelf_reads result ≡ 0 }
+        ensures counts { shelf_counts result ≡ (0, 0) }
     {
         MemoryShelf {
             files,
@@ -43,7 +44,7 @@ impl MemoryShelf {
 }
 
 impl Shelf for MemoryShelf {
-    ghost use Rattle.plan_base.specs.MemoryStates.{shelf_meaning, shelf_files, shelf_fails, shelf_reads};
+    ghost use Rattle.plan_base.specs.MemoryStates.{shelf_counts, shelf_meaning, shelf_files, shelf_fails, shelf_reads};
 
     ghost meaning = { shelf_meaning };
 
@@ -55,6 +56,8 @@ impl Shelf for MemoryShelf {
         ensures cause { IfErr result (HasCause (shelf_meaning self.old) (shelf_meaning self.new) name.now) }
         ensures exact { result ≡ read_answer (shelf_fails self.old) (shelf_reads self.new) (shelf_files self.old name.now) from (length into.old) }
         ensures reads { shelf_reads self.new ≡ count_after (shelf_reads self.old) }
+        ensures fails { shelf_fails self.new ≡ shelf_fails self.old }
+        ensures counts { shelf_counts self.new ≡ counts_after result (shelf_counts self.old) }
     {
         self.reads = self.reads.saturating_add(1);
         if self.fail.contains(&self.reads) {
@@ -130,7 +133,7 @@ impl MemorySink {
 }
 
 impl Sink for MemorySink {
-    ghost use Rattle.plan_base.specs.MemoryStates.{sink_meaning, sink_fails, sink_writes, sink_most, sink_left};
+    ghost use Rattle.plan_base.specs.MemoryStates.{KeepsSink, sink_meaning, sink_fails, sink_faults, sink_writes, sink_most, sink_left};
 
     ghost meaning = { sink_meaning };
 
@@ -144,6 +147,8 @@ impl Sink for MemorySink {
         ensures cause { OnErr result (Rose (sink_meaning self.old).faults (sink_meaning self.new).faults) }
         ensures exact { result ≡ write_answer (sink_fails self.old) (sink_writes self.new) (sink_most self.old) (sink_left self.old) (length piece.now) }
         ensures writes { sink_writes self.new ≡ count_after (sink_writes self.old) }
+        ensures kept { KeepsSink self.old self.new }
+        ensures faults { sink_faults self.new ≡ faults_after result (sink_faults self.old) }
     {
         self.writes = self.writes.saturating_add(1);
         let left = self.room.saturating_sub(self.written.len());

@@ -147,6 +147,25 @@ fn a_stream_takes_what_a_shelf_of_the_folder_gives(rt: HostRuntime) -> Result<()
 }
 
 #[test]
+fn a_file_that_is_replaced_is_read_on_as_it_was(rt: HostRuntime) -> Result<(), Fail> {
+    let mut old = StreamSink::new(fs::create(&rt, "old.txt")?);
+    let mut new = StreamSink::new(fs::create(&rt, "new.txt")?);
+    let written = write_all(&mut old, b"old bytes").is_ok() && write_all(&mut new, b"new").is_ok();
+    let mut shelf = FolderShelf::new(&rt);
+    let mut into = [b'.'; 4];
+    let first = shelf.read("old.txt", 0, &mut into);
+    fs::rename(&rt, "new.txt", "old.txt")?;
+    let next = shelf.read("old.txt", 4, &mut into);
+    let read_on = into;
+    let again = shelf.read("old.txt", 0, &mut into);
+    fs::remove_file(&rt, "old.txt")?;
+    assert!(rt; written && (first, next, again) == (Ok(4), Ok(4), Ok(3)));
+    assert_eq!(rt; read_on.as_slice(), b"byte".as_slice());
+    assert_eq!(rt; into.as_slice(), b"newe".as_slice());
+    Ok(())
+}
+
+#[test]
 fn a_stream_that_takes_nothing_has_failed(rt: HostRuntime) -> Result<(), Fail> {
     let mut room = [0u8; 4];
     let mut sink = StreamSink::new(room.as_mut_slice());
