@@ -20,16 +20,18 @@ use plan_base::Caps;
 use service_days::Days;
 use std::alloc::{AllocError, Global};
 
-/// The line that a text spells, if it may stand here, and the place behind it.
+/// The line that a text spells, if it may stand here, and the place behind it. The words of the text are left in
+/// `words`.
 #[tactic(auto, unfolding(crate::specs::Sections::line_at))]
-fn line_behind(
+fn line_behind<'a>(
     alloc: Global,
+    words: &mut Vec<&'a [u8]>,
     before: Progress,
-    text: &[u8],
+    text: &'a [u8],
 ) -> Result<Option<(Line, Progress)>, AllocError>
     ensures { IfOk result (λ read. read ≡ line_at before text.now) }
 {
-    let Some(line) = line_of(alloc, text)? else {
+    let Some(line) = line_of(alloc, words, text)? else {
         return Ok(None);
     };
     if before.may_precede(&line) {
@@ -50,12 +52,13 @@ fn read_lines(
 ) -> Result<Parts, RegionFault>
     ensures { Gives result (put_all parts (lines_from line_at is_end progress 3 (pieces rest.now))) }
 {
+    let mut words = Vec::new(alloc);
     let mut at = 3;
     loop {
         let Some((line, behind)) = next_line(rest) else {
             return Err(RegionFault::BadRecord { at });
         };
-        let Some((line, next)) = line_behind(alloc, progress, line)? else {
+        let Some((line, next)) = line_behind(alloc, &mut words, progress, line)? else {
             return Err(RegionFault::BadRecord { at });
         };
         put(alloc, &mut parts, line)?;
@@ -75,7 +78,8 @@ fn read_lines(
 fn first_line(alloc: Global, text: &[u8]) -> Result<Option<Days>, AllocError>
     ensures { IfOk result (λ read. option_map (λ days. (line.Days days, behind_days)) read ≡ line_at start text.now) }
 {
-    match line_behind(alloc, Progress::start(), text)? {
+    let mut words = Vec::new(alloc);
+    match line_behind(alloc, &mut words, Progress::start(), text)? {
         Some((line, _)) => match line {
             Line::Days(days) => Ok(Some(days)),
             _ => Ok(None),

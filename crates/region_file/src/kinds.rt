@@ -8,7 +8,7 @@ ghost use Rattle.service_days.specs.Zones.{days_made};
 use crate::letters::letter_of;
 use crate::lines::Line;
 use mode_network::Arc;
-use plain_texts::{Name, read_hexadecimal, read_id, read_number, read_signed, words_of};
+use plain_texts::{Name, read_hexadecimal, read_id, read_short_number, read_signed, words_into};
 use plan_base::{DaySet, Place};
 use service_days::{Days, RangeFault};
 use std::alloc::{AllocError, Global};
@@ -18,7 +18,7 @@ use timetable_arcs::Call;
 fn word_of(text: &[u8]) -> Option<u32>
     ensures { result ≡ spec.word_at text.now }
 {
-    let n = read_number(text, 1 << 32)?;
+    let n = read_short_number(text, 1 << 32)?;
     Some(n as u32)
 }
 
@@ -103,7 +103,7 @@ fn call_of(fields: &[&[u8]]) -> Option<Call>
             let stop = word_of(stop)?;
             let arr = word_of(arr)?;
             let dep = word_of(dep)?;
-            let flags = read_number(flags, 4)?;
+            let flags = read_short_number(flags, 4)?;
             let (board, alight) = (flags % 2 == 1, 2 <= flags);
             Some(Call {
                 stop,
@@ -255,12 +255,17 @@ fn kind_of(alloc: Global, kind: &[u8], fields: &[&[u8]]) -> Result<Option<Line>,
     }
 }
 
-/// The line that a text spells; `None` exactly where it spells none.
+/// The line that a text spells; `None` exactly where it spells none. The words of the text are left in `words`, so
+/// that one list serves many lines.
 #[tactic(auto, unfolding(crate::specs::Kinds::line_of))]
-pub fn line_of(alloc: Global, text: &[u8]) -> Result<Option<Line>, AllocError>
+pub fn line_of<'a>(
+    alloc: Global,
+    words: &mut Vec<&'a [u8]>,
+    text: &'a [u8],
+) -> Result<Option<Line>, AllocError>
     ensures { IfOk result (λ read. read ≡ spec.line_of text.now) }
 {
-    let words = words_of(alloc, text)?;
+    words_into(words, text)?;
     match words.as_slice() {
         [] => Ok(None),
         [kind, fields @ ..] => kind_of(alloc, kind, fields),
