@@ -22,7 +22,7 @@ use Rattle.std.proofs.lemmas.Option.{slice_get_within, get_or_from_slice_get}
 use Rattle.mode_network.specs.declared.nodes.NodeKey.{NodeKey}
 use Rattle.mode_network.specs.declared.nodes.NodeKey.TheVariants.{Road as RoadKey, Stop as StopKey, Switch as SwitchKey}
 use Rattle.mode_network.specs.NetworkLists.{NetworkLists, nodes_of, mode_of, mode_at}
-use Rattle.mode_network.specs.Rules.{rank_of, node_cmp, name_cmp, arc_cmp, first_unsorted, lists_fault, IsAscending, IsRoad, is_same_mode, AreParts, HaveDurations, IsNetwork, or_else, row_fault, unsorted_fault}
+use Rattle.mode_network.specs.Rules.{rank_of, node_cmp, name_cmp, arc_cmp, first_unsorted, lists_fault, IsAscending, IsRoad, is_same_mode, AreNamed, AreNames, AreParts, HaveDurations, IsNetwork, or_else, row_fault, unsorted_fault}
 
 less_of : (o : Ordering) → is_lt o ≡ true → o ≡ Less
 less_of Less e = refl
@@ -102,9 +102,9 @@ pub nodes_total : IsTotalOrder node_cmp
 nodes_total = then_total (on_total (λ (a : Node). (rank_of a.key).0) int_cmp_total) (on_total (λ (a : Node). (rank_of a.key).1) nat_cmp_total)
 
 -- parts without a fault are those of a network
-pub network_of : (caps : Caps) (n : NetworkLists) → AreParts n → HaveDurations n.arcs → HaveDurations n.links → lists_fault caps n ≡ None
+pub network_of : (caps : Caps) (n : NetworkLists) → AreParts n → HaveDurations n.arcs → HaveDurations n.links → AreNames n.stop_names → AreNamed n.trips → lists_fault caps n ≡ None
     → AreTrips (length n.days.bases) (length n.stops) n.trips → IsNetwork n
-network_of caps n parts arcs_fit links_fit none trips_fit =
+network_of caps n parts arcs_fit links_fit names named none trips_fit =
     let (count, order) = neither _ _ none in
     let (nodes, after_nodes) = few caps.nodes (length (nodes_of n)) _ _ count in
     let (stops, after_stops) = few caps.stops (length n.stops) _ _ after_nodes in
@@ -120,9 +120,11 @@ network_of caps n parts arcs_fit links_fit none trips_fit =
     record {
       parts = parts;
       few_nodes = le_trans nodes within.nodes_within;
+      few_stops = le_trans stops within.stops_within;
       few_arcs = le_trans arcs within.arcs_within;
       few_links = le_trans links within.links_within;
       roads_ascend = ascending_from node_cmp nodes_total _ 0 (in_order _ _ roads_order);
+      names_are = names;
       names_ascend = ascending_from name_cmp names_total _ 0 (in_order _ _ names_order);
       switches_ascend = ascending_from node_cmp nodes_total _ 0 (in_order _ _ switches_order);
       arcs_join = all_pass _ _ bad_arc;
@@ -132,6 +134,7 @@ network_of caps n parts arcs_fit links_fit none trips_fit =
       arcs_fit = arcs_fit;
       links_fit = links_fit;
       trips_fit = trips_fit;
+      trips_named = named;
     }
 
 pub both : (a b : Bool) → a && b ≡ true → (a ≡ true) × (b ≡ true)

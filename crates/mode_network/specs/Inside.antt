@@ -4,6 +4,8 @@ use Rattle.mode_network.specs.NetworkLists.{NetworkLists}
 use Rattle.mode_network.specs.Rules.{IsNetwork}
 use Rattle.mode_network.specs.Timetables.{IsTimetableOf}
 use Rattle.mode_network.specs.Indexes.{AreIndexes}
+use Rattle.mode_network.specs.Copies.{road_points}
+use Rattle.mode_network.specs.Points.{IsGridOf}
 
 abbrev pub lists_of : Inside → NetworkLists
 lists_of n = record {
@@ -21,3 +23,4 @@ pub record IsKept (n : Inside) : Type 0 where
   pub rules : IsNetwork (lists_of n)
   pub timetable : IsTimetableOf (lists_of n) n.timetable
   pub indexes : AreIndexes (lists_of n) n.arc_offsets.items n.link_offsets.items n.linked.items
+  pub grid : IsGridOf n.grid (road_points n.roads.items)

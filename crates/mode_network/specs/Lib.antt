@@ -6,3 +6,4 @@ pub mod Indexes
 pub mod Timetables
 pub mod Inside
 pub mod Copies
+pub mod Points

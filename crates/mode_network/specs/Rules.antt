@@ -5,11 +5,13 @@ use Rattle.std.specs.Ordering.{ordering_then, nat_cmp, int_cmp, is_lt}
 use Rattle.std.specs.declared.cmp.Ordering.{Ordering}
 use Rattle.std.specs.declared.cmp.Ordering.TheVariants.{Less}
 use Rattle.std.proofs.Props.{props}
+use Rattle.plain_texts.specs.Names.{is_name}
 use Rattle.plain_texts.specs.Numbers.{IsId}
 use Rattle.plan_base.specs.declared.limits.Caps.{Caps}
 use Rattle.plan_base.specs.declared.limits.Kind.{Kind}
 use Rattle.plan_base.specs.declared.limits.Kind.TheVariants.{Nodes, Arcs, Links, Stops}
 use Rattle.timetable_arcs.specs.TripRules.{table_fault, AreTrips}
+use Rattle.timetable_arcs.specs.Trips.{TripLists}
 use Rattle.timetable_arcs.specs.declared.faults.TableFault.{TableFault}
 use Rattle.mode_network.specs.declared.nodes.Node.{Node}
 use Rattle.mode_network.specs.declared.nodes.Arc.{Arc}
@@ -137,13 +139,22 @@ IsAscending cmp rows = AllPairs (λ a b. cmp a b ≡ Less) rows
 abbrev pub HaveDurations : List Arc → Type 0
 HaveDurations arcs = All (λ arc. arc.ms < 2 ^ 32) arcs
 
+-- names of stops, and those of trips, are names
+abbrev pub AreNames : List (List ℕ) → Type 0
+AreNames names = All (λ name. is_name name ≡ true) names
+
+abbrev pub AreNamed : List TripLists → Type 0
+AreNamed trips = All (λ (trip : TripLists). is_name trip.name ≡ true) trips
+
 -- the rules that each network keeps
 pub record IsNetwork (n : NetworkLists) : Type 0 where
   pub parts : AreParts n
   pub few_nodes : length (nodes_of n) ≤ 2 ^ 24
+  pub few_stops : length n.stops ≤ 2 ^ 20
   pub few_arcs : length n.arcs ≤ 2 ^ 26
   pub few_links : length n.links ≤ 2 ^ 23
   pub roads_ascend : IsAscending node_cmp n.roads
+  pub names_are : AreNames n.stop_names
   pub names_ascend : IsAscending name_cmp n.stop_names
   pub switches_ascend : IsAscending node_cmp n.switches
   pub arcs_join : All (λ arc. joins_modes n.roads arc ≡ true) n.arcs
@@ -153,6 +164,7 @@ pub record IsNetwork (n : NetworkLists) : Type 0 where
   pub arcs_fit : HaveDurations n.arcs
   pub links_fit : HaveDurations n.links
   pub trips_fit : AreTrips (length n.days.bases) (length n.stops) n.trips
+  pub trips_named : AreNamed n.trips
 
 -- a refusal has its cause in the parts; want of memory has none
 abbrev pub IsFaultOf : Caps → NetworkLists → NetFault → Type 0

@@ -10,6 +10,7 @@ pub mod network;
 pub mod nodes;
 mod order;
 pub mod parts;
+mod points;
 mod rules;
 pub mod steps;
 #[cfg(test)]

@@ -7,7 +7,7 @@ ghost use Rattle.mode_network.specs.Journeys.{IsDuration};
 ghost use Rattle.plain_texts.specs.Names.{is_name};
 ghost use Rattle.mode_network.specs.Timetables.{IsTimetableOf};
 ghost use Rattle.timetable_arcs.specs.Table.{IsTable};
-ghost use Rattle.mode_network.specs.Copies.{point_of, IsNearestRoad, IsNearCopy, IsRoadCopy, IsStopCopy, AreExactly, AreCopies, IsPlaceOf};
+ghost use Rattle.mode_network.specs.Copies.{IsNearestRoad, IsNearCopy, IsRoadCopy, IsStopCopy, AreExactly, AreCopies, IsPlaceOf};
 ghost use Rattle.mode_network.specs.Indexes.{range_from, IsRange, is_end_of};
 
 use crate::bases::bases;
@@ -16,8 +16,9 @@ use crate::faults::NetFault;
 use crate::indexes::{ends, offsets};
 use crate::nodes::{Arc, Node, NodeKey};
 use crate::parts::Parts;
+use crate::points::{id_of, road_grid};
 use crate::rules;
-use geo_length::with_point;
+use geo_length::Grid;
 use plain_texts::Name;
 use plan_base::{Caps, Place};
 use service_days::Days;
@@ -42,6 +43,7 @@ pub struct Network {
     arc_offsets: Vec<u32>,
     link_offsets: Vec<u32>,
     linked: Vec<bool>,
+    grid: Grid,
 }
 
 impl Model for Network {
@@ -74,6 +76,8 @@ impl Network {
         }
         rules::have_durations(&parts.arcs);
         rules::have_durations(&parts.links);
+        rules::have_names(&parts.stop_names);
+        rules::have_named_trips(&parts.trips);
         let nodes = rules::node_count(&parts) as u32;
         let Parts {
             days,
@@ -91,6 +95,7 @@ impl Network {
         let arc_offsets = offsets(alloc, nodes, &arcs)?;
         let link_offsets = offsets(alloc, nodes, &links)?;
         let linked = ends(alloc, nodes, &links)?;
+        let grid = road_grid(alloc, &roads)?;
         Ok(Network {
             days,
             roads,
@@ -103,6 +108,7 @@ impl Network {
             arc_offsets,
             link_offsets,
             linked,
+            grid,
         })
     }
 
@@ -263,7 +269,7 @@ impl Network {
     pub fn nearest_road(&self, place: Place) -> Option<(i64, u64)>
         ensures { IsNearestRoad self.now.roads place result }
     {
-        nearest_road(&self.roads, place)
+        self.grid.nearest(place, u64::MAX)
     }
 
     fn copies_near(&self, place: Place) -> Option<(u32, u32)>
@@ -315,33 +321,6 @@ fn ms_between(arcs: &[Arc], u: u32, v: u32) -> Option<u32>
         Ok(place) => Some(arcs[place].ms),
         Err(_) => None,
     }
-}
-
-/// The id of a road node or a switch.
-fn id_of(key: NodeKey) -> i64
-    ensures { result ≡ (rank_of key).0 }
-{
-    match key {
-        NodeKey::Road(_, id) | NodeKey::Switch(id) => id,
-        NodeKey::Stop(_) => 0,
-    }
-}
-
-fn point_of(node: &Node) -> (i64, Place)
-    ensures { result ≡ point_of node.now }
-{
-    (id_of(node.key), node.place)
-}
-
-/// The id of the nearest of these road nodes, and how far away it is.
-fn nearest_road(roads: &[Node], place: Place) -> Option<(i64, u64)>
-    ensures { IsNearestRoad roads.now place result }
-{
-    let mut nearest = None;
-    for node in roads {
-        nearest = with_point(&point_of(node), place, u64::MAX, nearest);
-    }
-    nearest
 }
 
 /// The places of the road nodes with this id: the first, and one past the last.

@@ -1,15 +1,18 @@
 //! The first rule that the parts of a network break.
 
-ghost use Rattle.std.specs.Prelude.{◌≡◌, ◌<◌, ◌^◌, length, not, option_map};
+ghost use Rattle.std.specs.Prelude.{◌≡◌, ◌<◌, ◌^◌, length, not, option_map, true};
 ghost use Rattle.std.specs.List.{position};
 ghost use Rattle.mode_network.specs.NetworkLists.{mode_at, nodes_of};
-ghost use Rattle.mode_network.specs.Rules.{joins_modes, joins_layers, row_fault, unsorted_fault, count_fault, lists_fault, arcs_fault, links_fault, HaveDurations};
+ghost use Rattle.mode_network.specs.Rules.{joins_modes, joins_layers, row_fault, unsorted_fault, count_fault, lists_fault, arcs_fault, links_fault, AreNamed, AreNames, HaveDurations};
+ghost use Rattle.plain_texts.specs.Names.{is_name};
 
 use crate::faults::NetFault;
 use crate::nodes::{Arc, Node, NodeKey};
 use crate::order::first_unsorted;
 use crate::parts::Parts;
+use plain_texts::Name;
 use plan_base::{Caps, Kind};
+use timetable_arcs::Trip;
 
 /// The mode of the road node of this number, if it is one.
 pub(crate) fn mode_at(roads: &[Node], v: u32) -> Option<u8>
@@ -142,5 +145,35 @@ pub(crate) fn have_durations(arcs: &[Arc])
 {
     for arc in arcs {
         has_duration(arc);
+    }
+}
+
+fn is_name(name: &Name)
+    ensures { is_name name.now ≡ true }
+{
+    let _ = name.as_bytes();
+}
+
+/// Each name is a name, since its type lets no other be one.
+pub(crate) fn have_names(names: &[Name])
+    ensures { AreNames names.now }
+{
+    for name in names {
+        is_name(name);
+    }
+}
+
+fn has_name(trip: &Trip)
+    ensures { is_name trip.now.name ≡ true }
+{
+    is_name(&trip.name);
+}
+
+/// Each trip has a name.
+pub(crate) fn have_named_trips(trips: &[Trip])
+    ensures { AreNamed trips.now }
+{
+    for trip in trips {
+        has_name(trip);
     }
 }

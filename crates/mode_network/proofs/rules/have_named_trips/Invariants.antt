@@ -1,0 +1,8 @@
+use Rattle.std.proofs.Common.{◌≡◌, true}
+use Rattle.std.specs.List.{AllWithin}
+use Rattle.plain_texts.specs.Names.{is_name}
+use Rattle.timetable_arcs.specs.Trips.{TripLists}
+use Rattle.mode_network.proofs.rules.have_named_trips.Given as goal
+
+abbrev pub invariant-loop-trip : goal.invariant-loop-trip
+invariant-loop-trip l = AllWithin (λ (trip : TripLists). is_name trip.name ≡ true) l.trips 0 l.trip-index
