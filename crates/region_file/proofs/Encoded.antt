@@ -1,14 +1,13 @@
 -- What is written of a network is its spelling.
-use Rattle.std.proofs.Common.{◌≡◌, ℕ, suc, List, [], ◌∷◌, ◌++◌, ◌+◌, ◌<◌, length, get_or, map, take, refl, ap, ap₂, sym, ◌∙◌, subst, true, codes, arith, append_assoc}
+use Rattle.std.proofs.Common.{◌≡◌, ℕ, suc, List, [], ◌∷◌, ◌++◌, ◌+◌, ◌<◌, length, get_or, map, take, refl, ap, ap₂, sym, ◌∙◌, codes, arith, append_assoc}
 use Rattle.std.specs.Prelude.{All, zip}
 use Rattle.std.specs.List.{flat_map}
 use Rattle.std.proofs.lemmas.Grind.{flat_map-append}
 use Rattle.std.proofs.lemmas.List.{flat_map_more, get_or_default, take_more}
-use Rattle.std.proofs.lemmas.List.Elements.{All-cons, All-head, All-nil, All-push, All-tail}
+use Rattle.std.proofs.lemmas.List.Elements.{All-head, All-tail}
 use Rattle.std.proofs.lemmas.List.Folds.{flat_map-map}
 use Rattle.std.proofs.lemmas.Slice.Zip.{get_or-zip, length-zip}
 use Rattle.plain_texts.specs.Lines.{lines_text, spaced}
-use Rattle.plain_texts.specs.Names.{is_name}
 use Rattle.plan_base.specs.declared.places.Place.{Place}
 use Rattle.timetable_arcs.specs.Trips.{TripLists}
 use Rattle.mode_network.specs.declared.nodes.Node.{Node}
@@ -19,7 +18,7 @@ use Rattle.mode_network.specs.Rules.{AreParts, IsRoad, IsStop, IsSwitch}
 use Rattle.region_file.specs.declared.lines.Line.{Line}
 use Rattle.region_file.specs.declared.lines.Line.TheVariants as line
 use Rattle.region_file.specs.Lines.{head_line, key_line, node_line, region_lines, region_text, spelled, stop_line, trip_lines}
-use Rattle.region_file.specs.Texts.{IsNamed, line_text, name_at, named_line, node_text, trip_text}
+use Rattle.region_file.specs.Texts.{line_text, name_at, named_line, node_text, trip_text}
 
 -- One element more of a list.
 module _ {X : Type 0} (xs : List X) (k : ℕ) (x : X) (within : k < length xs) (is : get_or xs k x ≡ x) where
@@ -29,9 +28,6 @@ module _ {X : Type 0} (xs : List X) (k : ℕ) (x : X) (within : k < length xs) (
   pub text_more : (f : X → List ℕ) (old before after : List ℕ) → before ≡ old ++ flat_map f (take k xs) → after ≡ before ++ f x → after ≡ old ++ flat_map f (take (k + 1) xs)
   text_more f old before after begun written =
       written ∙ ap (λ text. text ++ f x) begun ∙ flat_map_more f old (take k xs) x ∙ ap (λ ys. old ++ flat_map f ys) (sym taken)
-
-  pub all_more : (P : X → Type 0) → All P (take k xs) → P x → All P (take (k + 1) xs)
-  all_more P all here = subst (All P) (sym taken) (All-push P (take k xs) x all here)
 
 -- The text of some lines.
 
@@ -93,32 +89,7 @@ module _ (names : List (List ℕ)) where
           = get_or-zip names stops k e (omega (arith, long)) lt ∙ ap₂ (λ name node. (name, node)) (get_or_default names k e.0 [] (omega (arith, long))) (get_or_default stops k e.1 d lt) in
           ap line_text named ∙ ap (λ p. line_text (stop_line p)) (sym pair)
 
-  stop_is_named : (k : ℕ) (key : NodeKey) → IsStop k key → IsNamed names key → is_name (name_at names k) ≡ true
-  stop_is_named k (Road mode id) is named = absurd is
-  stop_is_named k (Stop stop) is named = ap (λ s. is_name (name_at names s)) (sym is) ∙ named
-  stop_is_named k (Switch id) is named = absurd is
-
-  stops_named : (stops : List Node) → ((k : ℕ) (d : Node) → k < length stops → IsStop k (get_or stops k d).key) → length names ≡ length stops → All (λ (node : Node). IsNamed names node.key) stops → All (λ name. is_name name ≡ true) names
-  stops_named [] are long h = λ k d lt. absurd (omega (arith, long, lt))
-  stops_named (stop ∷ stops) are long h = λ k d lt.
-      let within : k < length (stop ∷ stops) = omega (arith, long, lt) in
-      ap (λ name. is_name name) (get_or_default names k d [] lt) ∙ stop_is_named k (get_or (stop ∷ stops) k stop).key (are k stop within) (h k stop within)
-
-all_before : {X : Type 0} (P : X → Type 0) (xs ys : List X) → All P (xs ++ ys) → All P xs
-all_before P [] ys h = All-nil P
-all_before P (x ∷ xs) ys h = All-cons P x xs (All-head P x (xs ++ ys) h) (all_before P xs ys (All-tail P x (xs ++ ys) h))
-
-all_behind : {X : Type 0} (P : X → Type 0) (xs ys : List X) → All P (xs ++ ys) → All P ys
-all_behind P [] ys h = h
-all_behind P (x ∷ xs) ys h = all_behind P xs ys (All-tail P x (xs ++ ys) h)
-
 module _ (n : NetworkLists) (parts : AreParts n) where
-  -- The names of the stops are names, if those of the nodes are.
-  pub names_are : All (λ (node : Node). IsNamed n.stop_names node.key) (nodes_of n) → All (λ name. is_name name ≡ true) n.stop_names
-  names_are h =
-      stops_named n.stop_names n.stops parts.stops_are parts.one_name_each
-      (all_behind (λ (node : Node). IsNamed n.stop_names node.key) n.roads n.stops (all_before (λ (node : Node). IsNamed n.stop_names node.key) (n.roads ++ n.stops) n.switches h))
-
   nodes_are : flat_map (node_text n.stop_names) (nodes_of n) ≡ flat_map line_text (map node_line n.roads) ++ (flat_map line_text (map stop_line (zip n.stop_names n.stops)) ++ flat_map line_text (map node_line n.switches))
   nodes_are =
       flat_map-append (node_text n.stop_names) (n.roads ++ n.stops) n.switches

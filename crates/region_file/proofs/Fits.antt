@@ -104,25 +104,25 @@ module _ (n : NetworkLists) (network : IsNetwork n) where
         ms = network.links_fit k d lt;
       }
 
-  spelled_trips : AreKept n.days → All (λ (trip : TripLists). is_name trip.name ≡ true) n.trips → All (IsSpelled (length n.days.bases) (length n.stops)) n.trips
-  spelled_trips days named k d lt = record {
+  spelled_trips : AreKept n.days → All (IsSpelled (length n.days.bases) (length n.stops)) n.trips
+  spelled_trips days k d lt = record {
     keeps = trips_kept (length n.days.bases) (length n.stops) 0 n.trips network.trips_fit.faultless k d lt;
     few = omega (arith, network.trips_fit.few_calls, get_or-le-sum_by (λ (trip : TripLists). length trip.calls) n.trips k d lt);
-    named = named k d lt;
+    named = network.trips_named k d lt;
   }
 
-  -- A network whose stops and trips have names has a spelling.
-  pub is_region : AreKept n.days → All (λ name. is_name name ≡ true) n.stop_names → All (λ (trip : TripLists). is_name trip.name ≡ true) n.trips → IsRegion n
+  -- A network of days that are kept has a spelling.
+  pub is_region : AreKept n.days → IsRegion n
   unfolding region_lines
-  is_region days stops trips =
+  is_region days =
       let few_days : length n.days.bases ≤ 128 = omega (arith, days.are.bases_long, days.are.few) in
       let few_stops : length n.stops ≤ 2 ^ 24 = omega (arith, network.few_nodes, length-append (n.roads ++ n.stops) n.switches, length-append n.roads n.stops) in
       let closing : AllByRecursion FitsLine (line.End ∷ []) = (tt, tt) in
       let fits : AllByRecursion FitsLine (map node_line n.roads ++ (map stop_line (zip n.stop_names n.stops) ++ (map node_line n.switches ++ (map line.Arc n.arcs ++ (map line.Link n.links ++ (flat_map trip_lines n.trips ++ line.End ∷ []))))))
       = both_fit (map node_line n.roads) _ (each_fits node_line (λ node. IsRoad node.key) (λ node h. road_fits node.key node.place h) n.roads network.parts.roads_are)
-      (both_fit (map stop_line (zip n.stop_names n.stops)) _ (stops_fit n.stop_names n.stops stops)
+      (both_fit (map stop_line (zip n.stop_names n.stops)) _ (stops_fit n.stop_names n.stops network.names_are)
       (both_fit (map node_line n.switches) _ (each_fits node_line (λ node. IsSwitch node.key) (λ node h. switch_fits node.key node.place h) n.switches network.parts.switches_are)
       (both_fit (map line.Arc n.arcs) _ (each_fits line.Arc FitsArc (λ arc h. h) n.arcs arcs_fit)
       (both_fit (map line.Link n.links) _ (each_fits line.Link FitsArc (λ arc h. h) n.links links_fit)
-      (both_fit (flat_map trip_lines n.trips) _ (trips_fit (length n.days.bases) (length n.stops) n.trips few_days few_stops (spelled_trips days trips)) closing))))) in
+      (both_fit (flat_map trip_lines n.trips) _ (trips_fit (length n.days.bases) (length n.stops) n.trips few_days few_stops (spelled_trips days)) closing))))) in
       record { parts = network.parts; fits = (days_fit n days, fits) }

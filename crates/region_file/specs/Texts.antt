@@ -1,8 +1,7 @@
 -- What is written of the parts of a network.
-use Rattle.std.specs.Prelude.{◌≡◌, ℕ, List, [], ◌++◌, length, true, slice_index_or, ◌<◌}
+use Rattle.std.specs.Prelude.{ℕ, List, [], ◌++◌, length, slice_index_or, ◌<◌}
 use Rattle.std.specs.List.{flat_map}
 use Rattle.plain_texts.specs.Lines.{with_feed}
-use Rattle.plain_texts.specs.Names.{is_name}
 use Rattle.plan_base.specs.declared.places.Place.{Place}
 use Rattle.timetable_arcs.specs.declared.trips.Call.{Call}
 use Rattle.timetable_arcs.specs.Trips.{TripLists}
@@ -43,9 +42,3 @@ abbrev pub IsListed : List (List ℕ) → NodeKey → Type 0
 IsListed names (Road mode id) = Unit {0}
 IsListed names (Stop stop) = stop < length names
 IsListed names (Switch id) = Unit {0}
-
--- the name of a stop is a name
-abbrev pub IsNamed : List (List ℕ) → NodeKey → Type 0
-IsNamed names (Road mode id) = Unit {0}
-IsNamed names (Stop stop) = is_name (name_at names stop) ≡ true
-IsNamed names (Switch id) = Unit {0}

@@ -1,16 +1,13 @@
 //! From a network to bytes.
 
-ghost use Rattle.std.specs.Prelude.{◌≡◌, ◌++◌, None, Ok, All, true, IfOk, OnOk};
+ghost use Rattle.std.specs.Prelude.{◌≡◌, ◌++◌, None, Ok, IfOk, OnOk};
 ghost use Rattle.std.specs.List.{flat_map};
-ghost use Rattle.plain_texts.specs.Names.{is_name};
 ghost use Rattle.plan_base.specs.declared.limits.Caps.{Caps};
-ghost use Rattle.timetable_arcs.specs.Trips.{TripLists};
 ghost use Rattle.mode_network.specs.NetworkLists.{nodes_of};
 ghost use Rattle.mode_network.specs.Rules.{first_fault};
-ghost use Rattle.mode_network.specs.declared.nodes.Node.{Node};
 ghost use Rattle.region_file.specs.Lines.{region_text};
 ghost use Rattle.region_file.specs.Regions.{region_of};
-ghost use Rattle.region_file.specs.Texts.{IsListed, IsNamed, call_text, line_text, node_text, trip_text};
+ghost use Rattle.region_file.specs.Texts.{IsListed, call_text, line_text, node_text, trip_text};
 ghost use Rattle.region_file.specs.declared.lines.Line.TheVariants as line;
 
 use crate::lines::HEAD;
@@ -24,8 +21,7 @@ use timetable_arcs::{Call, Trip};
 /// The line of a node.
 fn push_node(out: &mut Vec<u8>, network: &Network, node: Node) -> Result<(), AllocError>
     requires { IsListed network.now.stop_names node.key }
-    ensures text { OnOk result (out.new.items ≡ out.old.items ++ node_text network.now.stop_names node) }
-    ensures named { OnOk result (IsNamed network.now.stop_names node.key) }
+    ensures { OnOk result (out.new.items ≡ out.old.items ++ node_text network.now.stop_names node) }
 {
     match node.key {
         NodeKey::Road(mode, id) => push_road(out, mode, id, node.place),
@@ -36,8 +32,7 @@ fn push_node(out: &mut Vec<u8>, network: &Network, node: Node) -> Result<(), All
 
 /// The lines of the nodes.
 fn push_nodes(out: &mut Vec<u8>, network: &Network) -> Result<(), AllocError>
-    ensures text { OnOk result (out.new.items ≡ out.old.items ++ flat_map (node_text network.now.stop_names) (nodes_of network.now)) }
-    ensures named { OnOk result (All (λ (node : Node). IsNamed network.now.stop_names node.key) (nodes_of network.now)) }
+    ensures { OnOk result (out.new.items ≡ out.old.items ++ flat_map (node_text network.now.stop_names) (nodes_of network.now)) }
 {
     network.known();
     for v in 0..network.nodes() {
@@ -78,8 +73,7 @@ fn push_calls(out: &mut Vec<u8>, calls: &[Call]) -> Result<(), AllocError>
 
 /// The line of a trip and those of its calls.
 fn push_trip(out: &mut Vec<u8>, trip: &Trip) -> Result<(), AllocError>
-    ensures text { OnOk result (out.new.items ≡ out.old.items ++ trip_text trip.now) }
-    ensures named { OnOk result (is_name trip.now.name ≡ true) }
+    ensures { OnOk result (out.new.items ≡ out.old.items ++ trip_text trip.now) }
 {
     push_trip_line(out, trip)?;
     push_calls(out, &trip.calls)
@@ -87,8 +81,7 @@ fn push_trip(out: &mut Vec<u8>, trip: &Trip) -> Result<(), AllocError>
 
 /// The lines of the trips, each with those of its calls.
 fn push_trips(out: &mut Vec<u8>, trips: &[Trip]) -> Result<(), AllocError>
-    ensures text { OnOk result (out.new.items ≡ out.old.items ++ flat_map trip_text trips.now) }
-    ensures named { OnOk result (All (λ (trip : TripLists). is_name trip.name ≡ true) trips.now) }
+    ensures { OnOk result (out.new.items ≡ out.old.items ++ flat_map trip_text trips.now) }
 {
     for trip in trips {
         push_trip(out, trip)?;

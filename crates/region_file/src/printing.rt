@@ -1,10 +1,9 @@
 //! The lines of a region text, each pushed behind what is written before it.
 
-ghost use Rattle.std.specs.Prelude.{◌≡◌, ◌++◌, ◌∷◌, length, true, decimal, OnOk};
+ghost use Rattle.std.specs.Prelude.{◌≡◌, ◌++◌, ◌∷◌, length, decimal, OnOk};
 ghost use Rattle.std.specs.Fmt.{signed_decimal};
 ghost use Rattle.plain_texts.specs.Hexadecimal.{hexadecimal};
 ghost use Rattle.plain_texts.specs.Lines.{spaced};
-ghost use Rattle.plain_texts.specs.Names.{is_name};
 ghost use Rattle.region_file.specs.Lines.{arc_words, flags_of, mode_name, place_words};
 ghost use Rattle.region_file.specs.Texts.{call_text, line_text};
 ghost use Rattle.region_file.specs.declared.lines.Line.TheVariants as line;
@@ -169,8 +168,7 @@ fn push_day_set(out: &mut Vec<u8>, days: DaySet) -> Result<(), AllocError>
 /// The line of a trip.
 #[tactic(auto, unfolding(plain_texts::specs::Lines::spaced))]
 pub fn push_trip_line(out: &mut Vec<u8>, trip: &Trip) -> Result<(), AllocError>
-    ensures text { OnOk result (out.new.items ≡ out.old.items ++ line_text (line.Trip trip.now.letter trip.now.days (length trip.now.calls) trip.now.name)) }
-    ensures named { OnOk result (is_name trip.now.name ≡ true) }
+    ensures { OnOk result (out.new.items ≡ out.old.items ++ line_text (line.Trip trip.now.letter trip.now.days (length trip.now.calls) trip.now.name)) }
 {
     out.extend_from_slice(b"trip")?;
     push_word(out, letter_name(trip.letter))?;

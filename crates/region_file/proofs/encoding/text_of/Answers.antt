@@ -1,15 +1,12 @@
-use Rattle.std.proofs.Common.{◌≡◌, ◌++◌, codes, rules, subst, true}
-use Rattle.std.specs.Prelude.{All}
+use Rattle.std.proofs.Common.{◌≡◌, ◌++◌, codes, rules, subst}
 use Rattle.std.specs.List.{flat_map}
-use Rattle.plain_texts.specs.Names.{is_name}
-use Rattle.timetable_arcs.specs.Trips.{TripLists}
 use Rattle.service_days.specs.Zones.{AreKept}
 use Rattle.mode_network.specs.NetworkLists.{nodes_of}
 use Rattle.region_file.specs.declared.lines.Line.TheVariants as line
 use Rattle.region_file.specs.Lines.{head_line}
 use Rattle.region_file.specs.Texts.{line_text, node_text, trip_text}
 use Rattle.region_file.proofs.Decoded.{region_again}
-use Rattle.region_file.proofs.Encoded.{names_are, written}
+use Rattle.region_file.proofs.Encoded.{written}
 use Rattle.region_file.proofs.Fits.{is_region}
 use Rattle.region_file.proofs.encoding.text_of.Goals as goal
 
@@ -28,8 +25,6 @@ returns-clause-spelled c =
 pub returns-clause-again : goal.returns-clause-again
 returns-clause-again c =
     let n = c.args.network.now in
-    let trips : c.trips.result.now ≡ n.trips = search rules in
     let kept : AreKept c.days.result.now = record { are = c.facts.ensures.days; made = c.facts.ensures.made } in
-    let region = is_region n c.known.ensures (subst AreKept c.days.ensures kept) (names_are n c.known.ensures.parts c.in_ok-push_nodes.ensures.named)
-    (subst (All (λ (trip : TripLists). is_name trip.name ≡ true)) trips c.in_ok-push_trips.ensures.named) in
+    let region = is_region n c.known.ensures (subst AreKept c.days.ensures kept) in
     λ caps faultless. region_again caps c.extend_from_slice-2.new.self.items n (record { region = region; spelled = returns-clause-spelled c; faultless = faultless })
