@@ -10,7 +10,7 @@ use Rattle.std.proofs.lemmas.List.{take-append-drop, drop_more}
 use Rattle.std.proofs.lemmas.List.Elements.{All-nil, All-cons, All-append, All-push, All-weaker}
 use Rattle.std.proofs.lemmas.List.Quantifiers.{position-Some}
 use Rattle.std.proofs.lemmas.List.Sums.{AllPass-from_list_all}
-use Rattle.std.proofs.lemmas.Option.{none-some, same_Some, option_and_then_some, slice_get_within}
+use Rattle.std.proofs.lemmas.Option.{none-some, same_Some, option_and_then_some, get_or_from_slice_get, slice_get_within}
 use Rattle.plan_base.specs.declared.places.Place.{Place}
 use Rattle.plain_texts.specs.Digits.{digit_of}
 use Rattle.plain_texts.specs.FixedDecimal.{fixed_step, fixed_at}
@@ -29,7 +29,7 @@ use Rattle.mode_network.specs.NetworkLists.{NetworkLists, stop_at}
 use Rattle.mode_network.specs.Rules.{IsNetwork}
 use Rattle.mode_network.specs.Copies.{AreCopies, IsCopy, IsStopCopy}
 use Rattle.journey.specs.Shapes.{Fields, Shape, at_byte, place_at, endpoint_of, fields_of, is_filled, shape_of_fields, shape_of, date_at, part_at, millis_at, time_at, departs_on}
-use Rattle.journey.specs.Queries.{IsQuery}
+use Rattle.journey.specs.Queries.{IsKnown, IsQuery}
 use Rattle.journey.proofs.ExpressionLines.{spelled_is_line}
 
 mapped : {A B : Type 0} (f : A → B) (o : Option A) (y : B) → option_map f o ≡ Some y → (x : A) × (o ≡ Some x) × (f x ≡ y)
@@ -211,47 +211,22 @@ shape_line line shape e plain = option_and_then_some shape_of_fields (fields_of 
     let all = subst IsPlain (sym to.2) plain in
     fields_line line fields are (endpoint_line fields.from from first all.from, endpoint_line fields.to to.0 to.1 all.to, all.date, all.time, all.expr)))
 
--- a query of stops that have names stands on one line
-pub query_is_line : (n : NetworkLists) (line : List ℕ) (from to : Endpoint) (depart : ℕ) (form : Form) → IsNamed from → IsNamed to
-    → IsQuery n line from to depart form → IsLine line
-query_is_line n line from to depart form from_named to_named query =
+-- an endpoint that the network has is named, since the name of each of its stops is a name
+known_is_named : (n : NetworkLists) → IsNetwork n → (endpoint : Endpoint) → IsKnown n endpoint → IsNamed endpoint
+known_is_named n network endpoint known name is =
+    let held = (subst (IsKnown n) is known).1 in
+    subst (λ x. is_name x ≡ true) (get_or_from_slice_get n.stop_names held.0 name [] held.1) (network.names_are held.0 [] (slice_get_within n.stop_names held.0 name held.1))
+
+-- a query stands on one line
+pub query_is_line : (n : NetworkLists) → IsNetwork n → (line : List ℕ) (from to : Endpoint) (depart : ℕ) (form : Form) → IsQuery n line from to depart form → IsLine line
+query_is_line n network line from to depart form query =
     let shape = query.shape in
     let departs = query.reaches.departs in
     let clock = departed n.days (date_at shape.date) (time_at shape.time) depart departs.departs in
     shape_line line shape departs.shape_is (record {
-      from = subst IsNamed query.from_is from_named;
-      to = subst IsNamed query.to_is to_named;
+      from = known_is_named n network shape.from query.reaches.from_known;
+      to = known_is_named n network shape.to query.reaches.to_known;
       date = date_line shape.date clock.0.0 clock.0.1;
       time = time_line shape.time clock.1.0 clock.1.1;
       expr = spelled_is_line shape.expr form query.expression.spells;
     })
-
--- the stop that a copy of a name is
-named_stop : (n : NetworkLists) → IsNetwork n → (name : List ℕ) (v : ℕ) → IsStopCopy n name v → (stop : ℕ) × (stop_at n v ≡ Some stop) × (slice_get n.stop_names stop ≡ Some name)
-named_stop n network name v (stop, held, at) =
-    let within = slice_get_within n.stop_names stop name held in
-    let each = network.parts.one_name_each in
-    let on : v - length n.roads ≡ stop = omega (arith, at) in
-    let past : nat_le (length n.roads) v ≡ true = grind (arith, nat_tests, at) in
-    let below : nat_lt stop (length n.stops) ≡ true = grind (arith, nat_tests, within, each) in
-    (stop, rw (on, past, below) refl, held)
-
--- a name whose copies these are is that of the stop at the first of them
-module _ (n : NetworkLists) (network : IsNetwork n) (endpoint : Endpoint) where
-  first_copy : (first end : ℕ) → AreCopies n endpoint (Some (first, end)) → IsCopy n endpoint first
-  first_copy first end are = (are.1 first).1 (le_refl first, are.0)
-
-  stop_of_copy : (first end : ℕ) → AreCopies n endpoint (Some (first, end)) → (name : List ℕ) → endpoint ≡ Stop name
-      → (stop : ℕ) × (stop_at n first ≡ Some stop) × (slice_get n.stop_names stop ≡ Some name)
-  stop_of_copy first end are name is = named_stop n network name first (subst (λ (e : Endpoint). IsCopy n e first) is (first_copy first end are))
-
-  pub some_stop : (first end : ℕ) → AreCopies n endpoint (Some (first, end)) → None ≡ stop_at n first → IsNamed endpoint
-  some_stop first end are none name is = let at = stop_of_copy first end are name is in absurd (none-some at.0 (none ∙ at.1))
-
-  pub named_at : (first end stop : ℕ) (held : List ℕ) → AreCopies n endpoint (Some (first, end)) → Some stop ≡ stop_at n first → slice_get n.stop_names stop ≡ Some held
-      → is_name held ≡ true → IsNamed endpoint
-  named_at first end stop held are at holds named name is =
-      let here = stop_of_copy first end are name is in
-      let same : stop ≡ here.0 = same_Some stop here.0 (at ∙ here.1) in
-      let this : held ≡ name = same_Some held name (sym holds ∙ ap (slice_get n.stop_names) same ∙ here.2) in
-      subst (λ x. is_name x ≡ true) this named

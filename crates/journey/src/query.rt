@@ -1,12 +1,10 @@
 //! Queries.
 
-ghost use Rattle.std.specs.Prelude.{◌≡◌, ◌<◌, ◌^◌, ℕ, Option, IfOk, IfErr, List, true};
+ghost use Rattle.std.specs.Prelude.{◌≡◌, ◌<◌, ◌^◌, IfOk, IfErr};
 ghost use Rattle.plain_texts.specs.Lines.{IsLine};
-ghost use Rattle.plain_texts.specs.Names.{is_name};
 ghost use Rattle.mode_expression.specs.Form.{form_of, IsUsable};
-ghost use Rattle.mode_network.specs.declared.endpoints.Endpoint.TheVariants.{Stop};
 ghost use Rattle.journey.specs.Shown.{shown};
-ghost use Rattle.journey.specs.Queries.{IsKnown, IsQuery, IsRefusal};
+ghost use Rattle.journey.specs.Queries.{IsQuery, IsRefusal};
 
 use crate::endpoints::lack_of;
 use crate::fault::QueryFault;
@@ -50,8 +48,7 @@ pub fn read_query(alloc: Global, network: &Network, line: &[u8]) -> Result<Query
         return Err(lack.at_destination());
     }
     let expr = parse(alloc, shape.expr)?;
-    is_named(network, &shape.from);
-    is_named(network, &shape.to);
+    network.known();
     let line = Bytes::from(Vec::from_slice(alloc, line)?);
     Ok(Query {
         line,
@@ -60,22 +57,4 @@ pub fn read_query(alloc: Global, network: &Network, line: &[u8]) -> Result<Query
         depart,
         expr,
     })
-}
-
-/// The name of a stop that the network has is a name, since that of each of its stops is.
-fn is_named(network: &Network, endpoint: &Endpoint)
-    requires { IsKnown network.now endpoint.now }
-    ensures { (name : List ℕ) → endpoint.now ≡ Stop name → is_name name ≡ true }
-{
-    network.known();
-    let Endpoint::Stop(_) = endpoint else {
-        return;
-    };
-    let Some((first, _)) = network.copies(endpoint) else {
-        return;
-    };
-    let Some(stop) = network.stop_at(first) else {
-        return;
-    };
-    let _name = network.stop_name(stop);
 }

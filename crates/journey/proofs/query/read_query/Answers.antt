@@ -34,7 +34,7 @@ returns-clause-plain c =
     let shape = shown c.in-Some.shape in
     let shape_is = sym c.in_ok-shape.ensures ∙ ap (option_map shown) c.in-Some.is in
     let departs = ap (λ days. departs_at days shape) (sym c.days.ensures) ∙ (sym c.departs_at.ensures.value ∙ c.in_ok-depart.was) in
-    query_is_line c.args.network.now c.args.line.now shape.from shape.to c.in_ok-depart.depart (form_of c.in_ok-expr.expr) c.is_named.ensures c.is_named-2.ensures (record {
+    query_is_line c.args.network.now c.known.ensures c.args.line.now shape.from shape.to c.in_ok-depart.depart (form_of c.in_ok-expr.expr) (record {
       shape = shape;
       reaches = record { departs = record { shape_is = shape_is; departs = departs }; from_known = c.in_default-lack_of.ensures; to_known = c.in_default-lack_of-2.ensures };
       from_is = refl;
