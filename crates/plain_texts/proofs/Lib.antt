@@ -4,6 +4,7 @@ pub mod Decimal
 pub mod Signed
 pub mod Hexadecimal
 pub mod FixedDecimal
+pub mod EscapeLaws
 pub mod Pieces
 pub mod Spaced
 pub mod Course

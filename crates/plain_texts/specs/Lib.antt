@@ -4,5 +4,6 @@ pub mod Numbers
 pub mod Hexadecimal
 pub mod FixedDecimal
 pub mod Names
+pub mod Escape
 pub mod Lines
 pub mod Course

@@ -5,6 +5,7 @@
 //! a reader answers a value where the text is its spelling, and nothing where no value is spelled so.
 #![tactic(auto)]
 
+mod escape;
 mod fixed;
 mod hexadecimals;
 mod lines;
@@ -12,6 +13,7 @@ mod names;
 mod numbers;
 mod words;
 
+pub use escape::{escape_facts, name_of_id};
 pub use fixed::{push_fixed, read_fixed};
 pub use hexadecimals::{push_hexadecimal, read_hexadecimal};
 pub use lines::{next_line, push_line_feed, split_line};

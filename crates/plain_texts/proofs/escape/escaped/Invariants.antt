@@ -1,0 +1,7 @@
+use Rattle.std.proofs.Common.{◌≡◌, take}
+use Rattle.std.specs.List.{flat_map}
+use Rattle.plain_texts.specs.Escape.{escaped_byte}
+use Rattle.plain_texts.proofs.escape.escaped.Given as goal
+
+abbrev pub invariant-loop-byte : goal.invariant-loop-byte
+invariant-loop-byte l = l.bytes.items ≡ flat_map escaped_byte (take l.byte-index l.id)
