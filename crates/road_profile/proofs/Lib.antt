@@ -1,5 +1,6 @@
 pub mod ClassLaws
 pub mod ClosedLaws
+pub mod EndLaws
 pub mod LeastRows
 pub mod Lists
 pub mod PlaceLaws

@@ -21,7 +21,8 @@ use Rattle.road_profile.specs.Passages.{passages_of}
 use Rattle.road_profile.specs.Arcs.{AreRoadArcs, IsTimed}
 use Rattle.road_profile.specs.Legs.{directed, legs_of, mode_legs, neighbours, pair_legs, piece_legs, place_at, placed_legs, row, step_legs, timed, way_legs}
 
-All-flat_map : {X Y : Type 0} (P : Y → Type 0) (f : X → List Y) → ((x : X) → All P (f x)) → (xs : List X) → All P (flat_map f xs)
+-- what holds of all that each element gives
+pub All-flat_map : {X Y : Type 0} (P : Y → Type 0) (f : X → List Y) → ((x : X) → All P (f x)) → (xs : List X) → All P (flat_map f xs)
 All-flat_map P f each [] = All-nil P
 All-flat_map P f each (x ∷ xs) = All-append P (f x) (flat_map f xs) (each x) (All-flat_map P f each xs)
 

@@ -1,11 +1,12 @@
 -- The road arcs of a map.
-use Rattle.std.specs.Prelude.{◌≡◌, ◌<◌, ◌≤◌, ◌↔◌, List, All, AllPairs, Contains}
+use Rattle.std.specs.Prelude.{◌≡◌, ◌<◌, ◌≤◌, ◌↔◌, List, All, AllPairs, Contains, true, is_some}
 use Rattle.std.specs.Ordering.{int_cmp, nat_cmp, ordering_then}
 use Rattle.std.specs.declared.cmp.Ordering.{Ordering}
 use Rattle.std.specs.declared.cmp.Ordering.TheVariants.{Less}
+use Rattle.opl_reader.specs.declared.objects.OsmNode.{OsmNode}
 use Rattle.opl_reader.specs.ObjectLists.{ObjectLists}
 use Rattle.road_profile.specs.declared.rows.RoadRow.{RoadRow}
-use Rattle.road_profile.specs.Legs.{legs_of}
+use Rattle.road_profile.specs.Legs.{legs_of, place_at}
 
 -- two rows have the same ends and the same mode
 pub record AreParallel (a b : RoadRow) : Type 0 where
@@ -17,6 +18,12 @@ pub record AreParallel (a b : RoadRow) : Type 0 where
 pub record IsTimed (row : RoadRow) : Type 0 where
   pub mode : row.mode < 3
   pub time : 1 ≤ row.ms
+
+-- the ends of a row are two nodes, and these nodes have places
+pub record JoinsPlaces (nodes : List OsmNode) (row : RoadRow) : Type 0 where
+  pub differ : row.from ≡ row.to → ⊥
+  pub from : is_some (place_at nodes row.from) ≡ true
+  pub to : is_some (place_at nodes row.to) ≡ true
 
 -- A leg is an arc where no leg that is parallel to it takes less time.
 pub record IsArcOf (legs : List RoadRow) (row : RoadRow) : Type 0 where

@@ -3,7 +3,7 @@
 #![tactic(auto)]
 
 ghost use Rattle.std.specs.Prelude.{All, IfOk};
-ghost use Rattle.road_profile.specs.Arcs.{AreRoadArcs, IsTimed};
+ghost use Rattle.road_profile.specs.Arcs.{AreRoadArcs, IsTimed, JoinsPlaces};
 
 mod classes;
 mod legs;
@@ -32,6 +32,7 @@ use std::alloc::{AllocError, Global};
 pub fn road_arcs(alloc: Global, objects: &Objects) -> Result<Vec<RoadRow>, AllocError>
     ensures arcs { IfOk result (λ rows. AreRoadArcs objects.now rows.items) }
     ensures timed { IfOk result (λ rows. All IsTimed rows.items) }
+    ensures ends { IfOk result (λ rows. All (JoinsPlaces objects.now.nodes) rows.items) }
 {
     let places = places_of(alloc, &objects.nodes)?;
     let legs = legs_of_ways(alloc, &places, &objects.ways)?;

@@ -7,6 +7,7 @@ use Rattle.road_profile.specs.Arcs.{AreArcsOf}
 use Rattle.road_profile.specs.Legs.{legs_of}
 use Rattle.road_profile.proofs.PlaceLaws.{legs_by_places}
 use Rattle.road_profile.proofs.TimedLaws.{answer_timed}
+use Rattle.road_profile.proofs.EndLaws.{answer_joined}
 use Rattle.road_profile.proofs.road_arcs.Goals as goal
 
 pub returns-clause-arcs : goal.returns-clause-arcs
@@ -17,3 +18,6 @@ returns-clause-arcs c =
 
 pub returns-clause-timed : goal.returns-clause-timed
 returns-clause-timed c = answer_timed c.args.objects.now c.arcs_of.result (returns-clause-arcs c)
+
+pub returns-clause-ends : goal.returns-clause-ends
+returns-clause-ends c = answer_joined c.args.objects.now c.arcs_of.result (returns-clause-arcs c)
