@@ -4,6 +4,7 @@ use Rattle.plan_base.specs.declared.limits.Caps.{Caps}
 use Rattle.gtfs_tables.specs.declared.calls.CallRow.{CallRow}
 use Rattle.gtfs_tables.specs.declared.dates.DateRow.{DateRow}
 use Rattle.gtfs_tables.specs.declared.faults.FeedFault.{FeedFault}
+use Rattle.gtfs_tables.specs.declared.frequencies.FrequencyRow.{FrequencyRow}
 use Rattle.gtfs_tables.specs.declared.files.FeedFiles.{FeedFiles}
 use Rattle.gtfs_tables.specs.declared.routes.RouteRow.{RouteRow}
 use Rattle.gtfs_tables.specs.declared.services.ServiceRow.{ServiceRow}
@@ -14,6 +15,7 @@ use Rattle.gtfs_tables.specs.Agencies.{agencies}
 use Rattle.gtfs_tables.specs.Calls as Calls
 use Rattle.gtfs_tables.specs.FeedLists.{FeedLists, bytes_of}
 use Rattle.gtfs_tables.specs.Feeds.{feed_of, missing_file, tables_of}
+use Rattle.gtfs_tables.specs.Frequencies as Frequencies
 use Rattle.gtfs_tables.specs.Holding.{AreRead}
 use Rattle.gtfs_tables.specs.Routes as Routes
 use Rattle.gtfs_tables.specs.ServiceDates as Dates
@@ -25,11 +27,14 @@ use Rattle.gtfs_tables.proofs.TableLemmas.{want_map}
 
 module _ (caps : Caps) (files : FeedFiles) where
   -- what follows each table
-  after_calls : List StopRow → List RouteRow → List ServiceRow → List DateRow → List TripRow → Result (List CallRow) FeedFault → Result FeedLists FeedFault
-  after_calls stops routes services dates trips r = r >>= (λ calls. Ok (record { stops = stops; routes = routes; services = services; dates = dates; trips = trips; calls = calls }))
+  after_calls : List StopRow → List RouteRow → List ServiceRow → List DateRow → List TripRow → List FrequencyRow → Result (List CallRow) FeedFault → Result FeedLists FeedFault
+  after_calls stops routes services dates trips frequencies r = r >>= (λ calls. Ok (record { stops = stops; routes = routes; services = services; dates = dates; trips = trips; frequencies = frequencies; calls = calls }))
+
+  after_frequencies : List StopRow → List RouteRow → List ServiceRow → List DateRow → List TripRow → Result (List FrequencyRow) FeedFault → Result FeedLists FeedFault
+  after_frequencies stops routes services dates trips r = r >>= (λ frequencies. after_calls stops routes services dates trips frequencies (records_of (Calls.calls caps (map (λ trip. trip.id) trips) (map (λ stop. stop.id) stops)) (bytes_of files.stop_times)))
 
   after_trips : List StopRow → List RouteRow → List ServiceRow → List DateRow → Result (List TripRow) FeedFault → Result FeedLists FeedFault
-  after_trips stops routes services dates r = r >>= (λ trips. after_calls stops routes services dates trips (records_of (Calls.calls caps (map (λ trip. trip.id) trips) (map (λ stop. stop.id) stops)) (bytes_of files.stop_times)))
+  after_trips stops routes services dates r = r >>= (λ trips. after_frequencies stops routes services dates trips (records_of (Frequencies.frequencies (map (λ trip. trip.id) trips)) (bytes_of files.frequencies)))
 
   after_dates : List StopRow → List RouteRow → List ServiceRow → Result (List DateRow) FeedFault → Result FeedLists FeedFault
   after_dates stops routes services r = r >>= (λ dates. after_trips stops routes services dates (records_of (Trips.trips caps (map (λ route. route.id) routes)) (bytes_of files.trips)))
@@ -52,7 +57,7 @@ module _ (caps : Caps) (files : FeedFiles) where
 
   module _ (present : missing_file files ≡ None) where
     to_agencies : feed_of caps files ≡ after_agencies (records_of agencies (bytes_of files.agency))
-    unfolding feed_of after_agencies after_stops after_routes after_services after_dates after_trips after_calls
+    unfolding feed_of after_agencies after_stops after_routes after_services after_dates after_trips after_frequencies after_calls
     to_agencies = ap (λ o. faultless o files >>= tables_of caps) present
 
     pub faulty_agencies : (fault : FeedFault) → IsFaultOf (records_of agencies (bytes_of files.agency)) fault → IsFaultOf (feed_of caps files) fault
@@ -104,19 +109,29 @@ module _ (caps : Caps) (files : FeedFiles) where
               unfolding after_trips
               faulty_trips fault h = want_map fault _ _ (λ e. to_trips ∙ ap (after_trips stops routes services dates) e) h
 
-              module _ (trips : List TripRow) (trips_read : AreRead (Trips.trips caps route_ids) (bytes_of files.trips) trips) (trip_ids stop_ids : List (List ℕ)) (trips_listed : trip_ids ≡ map (λ trip. trip.id) trips)
-                  (stops_listed : stop_ids ≡ map (λ stop. stop.id) stops) where
-                to_calls : feed_of caps files ≡ after_calls stops routes services dates trips (records_of (Calls.calls caps trip_ids stop_ids) (bytes_of files.stop_times))
+              module _ (trips : List TripRow) (trips_read : AreRead (Trips.trips caps route_ids) (bytes_of files.trips) trips) (trip_ids : List (List ℕ)) (trips_listed : trip_ids ≡ map (λ trip. trip.id) trips) where
+                to_frequencies : feed_of caps files ≡ after_frequencies stops routes services dates trips (records_of (Frequencies.frequencies trip_ids) (bytes_of files.frequencies))
                 unfolding after_trips
-                to_calls = to_trips ∙ ap (after_trips stops routes services dates) trips_read.are
-                    ∙ ap (λ ids. after_calls stops routes services dates trips (records_of (Calls.calls caps ids (map (λ stop. stop.id) stops)) (bytes_of files.stop_times))) (sym trips_listed)
-                    ∙ ap (λ ids. after_calls stops routes services dates trips (records_of (Calls.calls caps trip_ids ids) (bytes_of files.stop_times))) (sym stops_listed)
+                to_frequencies = to_trips ∙ ap (after_trips stops routes services dates) trips_read.are
+                    ∙ ap (λ ids. after_frequencies stops routes services dates trips (records_of (Frequencies.frequencies ids) (bytes_of files.frequencies))) (sym trips_listed)
 
-                pub faulty_calls : (fault : FeedFault) → IsFaultOf (records_of (Calls.calls caps trip_ids stop_ids) (bytes_of files.stop_times)) fault → IsFaultOf (feed_of caps files) fault
-                unfolding after_calls
-                faulty_calls fault h = want_map fault _ _ (λ e. to_calls ∙ ap (after_calls stops routes services dates trips) e) h
+                pub faulty_frequencies : (fault : FeedFault) → IsFaultOf (records_of (Frequencies.frequencies trip_ids) (bytes_of files.frequencies)) fault → IsFaultOf (feed_of caps files) fault
+                unfolding after_frequencies
+                faulty_frequencies fault h = want_map fault _ _ (λ e. to_frequencies ∙ ap (after_frequencies stops routes services dates trips) e) h
 
-                pub all_read : (calls : List CallRow) → AreRead (Calls.calls caps trip_ids stop_ids) (bytes_of files.stop_times) calls
-                    → feed_of caps files ≡ Ok (record { stops = stops; routes = routes; services = services; dates = dates; trips = trips; calls = calls })
-                unfolding after_calls
-                all_read calls read = to_calls ∙ ap (after_calls stops routes services dates trips) read.are
+                module _ (frequencies : List FrequencyRow) (frequencies_read : AreRead (Frequencies.frequencies trip_ids) (bytes_of files.frequencies) frequencies) (stop_ids : List (List ℕ))
+                    (stops_listed : stop_ids ≡ map (λ stop. stop.id) stops) where
+                  to_calls : feed_of caps files ≡ after_calls stops routes services dates trips frequencies (records_of (Calls.calls caps trip_ids stop_ids) (bytes_of files.stop_times))
+                  unfolding after_frequencies
+                  to_calls = to_frequencies ∙ ap (after_frequencies stops routes services dates trips) frequencies_read.are
+                      ∙ ap (λ ids. after_calls stops routes services dates trips frequencies (records_of (Calls.calls caps ids (map (λ stop. stop.id) stops)) (bytes_of files.stop_times))) (sym trips_listed)
+                      ∙ ap (λ ids. after_calls stops routes services dates trips frequencies (records_of (Calls.calls caps trip_ids ids) (bytes_of files.stop_times))) (sym stops_listed)
+
+                  pub faulty_calls : (fault : FeedFault) → IsFaultOf (records_of (Calls.calls caps trip_ids stop_ids) (bytes_of files.stop_times)) fault → IsFaultOf (feed_of caps files) fault
+                  unfolding after_calls
+                  faulty_calls fault h = want_map fault _ _ (λ e. to_calls ∙ ap (after_calls stops routes services dates trips frequencies) e) h
+
+                  pub all_read : (calls : List CallRow) → AreRead (Calls.calls caps trip_ids stop_ids) (bytes_of files.stop_times) calls
+                      → feed_of caps files ≡ Ok (record { stops = stops; routes = routes; services = services; dates = dates; trips = trips; frequencies = frequencies; calls = calls })
+                  unfolding after_calls
+                  all_read calls read = to_calls ∙ ap (after_calls stops routes services dates trips frequencies) read.are

@@ -1,13 +1,13 @@
 -- A feed that was read keeps the rules of feeds.
 use Rattle.std.proofs.Common.{◌≡◌, ℕ, ◌+◌, ◌-◌, ◌*◌, ◌<◌, ◌≤◌, take, drop, List, [], ◌∷◌, map, length, refl, sym, ap, ap₂, subst, Bool, true, false, cond, nat_eq, nat_le, ◌&&◌, ◌||◌, Option, None, Some, Ok, arith}
-use Rattle.std.specs.Prelude.{bytes_eq, option_map, IfSome}
+use Rattle.std.specs.Prelude.{bytes_eq, nat_lt, option_and_then, option_map, IfSome}
 use Rattle.std.specs.Cmp.{IsEquivalence}
 use Rattle.std.specs.List.{AllByRecursion, IsDistinct}
 use Rattle.std.specs.Option.{ok_or}
 use Rattle.std.proofs.lemmas.Bool.Decides.{nat_tests}
 use Rattle.std.proofs.lemmas.Cmp.{and_equiv, nat_eq_equiv, nat_list_eq_equiv, on_equiv}
 use Rattle.std.proofs.lemmas.List.Quantifiers.{position-Some}
-use Rattle.std.proofs.lemmas.Option.{none-some, same_Some}
+use Rattle.std.proofs.lemmas.Option.{cond_some, none-some, same_Some}
 use Rattle.std.proofs.lemmas.Result.{IfOk-at_ok}
 use Rattle.plain_texts.specs.FixedDecimal.{fixed_at}
 use Rattle.plan_base.specs.declared.limits.Caps.{Caps}
@@ -17,6 +17,8 @@ use Rattle.gtfs_tables.specs.declared.calls.Visit.{Visit}
 use Rattle.gtfs_tables.specs.declared.columns.Column.{Column}
 use Rattle.gtfs_tables.specs.declared.columns.Column.TheVariants as column
 use Rattle.gtfs_tables.specs.declared.dates.DateRow.{DateRow}
+use Rattle.gtfs_tables.specs.declared.frequencies.FrequencyRow.{FrequencyRow}
+use Rattle.gtfs_tables.specs.declared.frequencies.Span.{Span}
 use Rattle.gtfs_tables.specs.declared.routes.RouteRow.{RouteRow}
 use Rattle.gtfs_tables.specs.declared.services.ServiceRow.{ServiceRow}
 use Rattle.gtfs_tables.specs.declared.stops.StopRow.{StopRow}
@@ -24,11 +26,12 @@ use Rattle.gtfs_tables.specs.declared.trips.TripRow.{TripRow}
 use Rattle.gtfs_tables.specs.Calls.{StopTime, call_at, call_columns, call_between, call_of, calls, times_in, times_of, visit_in}
 use Rattle.gtfs_tables.specs.Columns.{field_in}
 use Rattle.gtfs_tables.specs.Forms.{added_at, date_at, digits_at, hours_and_part, id_at, is_id, is_usual_at, letter_of, optional_time_at, part_at, time_at, trimmed}
+use Rattle.gtfs_tables.specs.Frequencies.{Frequency, frequencies, frequency_columns, frequency_of, frequency_over, headway_at, positive, span_in}
 use Rattle.gtfs_tables.specs.Holding.{AreRead}
 use Rattle.gtfs_tables.specs.Routes.{route_columns, routes}
 use Rattle.gtfs_tables.specs.ServiceDates.{date_columns, dates}
 use Rattle.gtfs_tables.specs.Services.{rule_in, service_columns, services}
-use Rattle.gtfs_tables.specs.Sound.{IsCall, IsId, IsRoute, IsTrip, is_same_call}
+use Rattle.gtfs_tables.specs.Sound.{IsCall, IsFrequency, IsId, IsRoute, IsTrip, is_same_call}
 use Rattle.gtfs_tables.specs.Stops.{Station, place_in, stop_columns, stops}
 use Rattle.gtfs_tables.specs.Trips.{Journey, place_among, trip_columns, trip_of, trip_over, trips}
 use Rattle.gtfs_tables.proofs.CallLemmas.{same_place}
@@ -174,6 +177,44 @@ module _ (caps : Caps) (text : Option (List ℕ)) where
     pub trip_ids : IsDistinct bytes_eq (map (λ (trip : TripRow). trip.id) rows)
     trip_ids = distinct_keys (λ trip. trip.id) bytes_eq rows (no_two (trips caps route_ids) text rows read (same_ids (λ (journey : Journey). journey.id)) (λ trip other. bytes_eq trip.id other.id)
         (λ journey other trip another gave also. ap₂ bytes_eq (ap (λ (trip : TripRow). trip.id) (is_over journey trip gave).is) (ap (λ (trip : TripRow). trip.id) (is_over other another also).is)))
+
+  -- headways
+  module _ (trip_ids : List (List ℕ)) (rows : List FrequencyRow) (read : AreRead (frequencies trip_ids) text rows) where
+    record IsSpan (span : Span) : Type 0 where
+      start : span.start ≤ 604799
+      end : span.end ≤ 604799
+      headway : 1 ≤ span.headway
+
+    headway_is : (o : Option ℕ) (headway : ℕ) → option_and_then positive o ≡ Some headway → 1 ≤ headway
+    headway_is None headway e = absurd (none-some headway e)
+    headway_is (Some n) headway e = let is = cond_some (nat_lt 0 n) n headway e in grind (arith, nat_tests, is)
+
+    over : (frequency : Frequency) (row : FrequencyRow) → IsSpan frequency.span → frequency_of trip_ids frequency ≡ Some row → IsFrequency (length trip_ids) row
+    over frequency row span e = by_place (place_among trip_ids frequency.trip) refl e
+      where
+        by_place : (o : Option ℕ) → place_among trip_ids frequency.trip ≡ o → option_map (frequency_over frequency) o ≡ Some row → IsFrequency (length trip_ids) row
+        by_place None at e = absurd (none-some row e)
+        by_place (Some place) at e =
+            subst (IsFrequency (length trip_ids)) (same_Some (frequency_over frequency place) row e)
+            (record { trip = (position-Some (bytes_eq frequency.trip) trip_ids place [] at).0; start = span.start; end = span.end; headway = span.headway })
+
+    pub frequencies_keep : AllByRecursion (IsFrequency (length trip_ids)) rows
+    frequencies_keep = each_keeps (frequencies trip_ids) text rows read (λ frequency. IsSpan frequency.span) (IsFrequency (length trip_ids))
+        (λ header n row.
+        let at = frequency_columns header in
+        behind (ok_or (id_at (field_in row at.trip)) column.TripId) _ _ (λ trip _.
+        behind (span_in at row) _ _ (λ span is.
+        IfOk-at_ok IsSpan is
+        (behind (ok_or (time_at (trimmed (field_in row at.start))) column.StartTime) _ _ (λ start begins.
+        behind (ok_or (time_at (trimmed (field_in row at.end))) column.EndTime) _ _ (λ end ends.
+        behind (ok_or (headway_at (trimmed (field_in row at.headway))) column.HeadwaySecs) _ _ (λ headway steady.
+        behind (ok_or (is_usual_at 1 (trimmed (field_in row at.exact))) column.ExactTimes) _ _ (λ inexact _.
+        record {
+          start = time_within (trimmed (field_in row at.start)) start (has_value _ column.StartTime start begins);
+          end = time_within (trimmed (field_in row at.end)) end (has_value _ column.EndTime end ends);
+          headway = headway_is (digits_at (trimmed (field_in row at.headway))) headway (has_value _ column.HeadwaySecs headway steady);
+        }))))))))
+        (λ frequency row kept gave. over frequency row kept gave)
 
   -- calls
   module _ (trip_ids stop_ids : List (List ℕ)) (rows : List CallRow) (read : AreRead (calls caps trip_ids stop_ids) text rows) where

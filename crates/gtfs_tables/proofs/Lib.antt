@@ -3,6 +3,7 @@ mod ListLemmas
 mod CsvLemmas
 mod TableLemmas
 mod AgencyLemmas
+mod FrequencyLemmas
 mod CallLemmas
 mod StopLemmas
 mod SoundLemmas

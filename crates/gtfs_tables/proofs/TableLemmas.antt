@@ -2,17 +2,26 @@
 use Rattle.std.proofs.Common.{◌≡◌, ℕ, ◌+◌, ◌<◌, ◌≤◌, List, [], ◌∷◌, ◌++◌, map, length, filter_map, refl, sym, ap, subst, ◌∙◌, Bool, true, false, cond, ◌||◌, nat_lt, Option, None, Some, Ok, Err, arith}
 use Rattle.std.specs.Prelude.{option_map, option_to_list}
 use Rattle.std.specs.List.{list_any, cons_option}
+use Rattle.std.proofs.lemmas.Bool.{cond-true, cond-false}
 use Rattle.std.proofs.lemmas.Bool.Decides.{nat_tests}
 use Rattle.std.proofs.lemmas.List.{length-map, map-append}
 use Rattle.std.proofs.lemmas.List.Elements.{filter_map-append}
+use Rattle.plan_base.specs.declared.limits.Kind.{Kind}
 use Rattle.gtfs_tables.specs.declared.columns.Column.{Column}
 use Rattle.gtfs_tables.specs.declared.faults.FeedFault.{FeedFault}
 use Rattle.gtfs_tables.specs.declared.faults.FeedFault.TheVariants.{MissingFile, MissingColumn, BadField, RepeatedKey, DanglingKey, MixedZones, TooMany, OutOfMemory}
 use Rattle.gtfs_tables.specs.Answers.{◌>>=◌, or_else, faultless, IsFaultOf, IsWantOr}
 use Rattle.gtfs_tables.specs.Columns.{Row}
-use Rattle.gtfs_tables.specs.Tables.{Table, first_dangling, has_first_zone, row_fault, judged, row_of, rows_behind, given, header_in, rows_below, missing_column, records_of, rows_of}
+use Rattle.gtfs_tables.specs.Tables.{IsWithin, Table, limit_fault, first_dangling, has_first_zone, row_fault, judged, row_of, rows_behind, given, header_in, rows_below, missing_column, records_of, rows_of}
 use Rattle.gtfs_tables.specs.Holding.{Holds, HoldsListed, IsTaken, AreTaken, IsOnTheWay, AreRead}
 use Rattle.gtfs_tables.proofs.ListLemmas.{list_any-map}
+
+past_limit : (limit : Option (Kind × ℕ)) (kind : Kind) (most count : ℕ) → limit ≡ Some (kind, most) → most < count → limit_fault limit count ≡ Some (TooMany kind)
+past_limit limit kind most count is more = let test : nat_lt most count ≡ true = grind (arith, nat_tests) in ap (λ limit. limit_fault limit count) is ∙ cond-true (nat_lt most count) (Some (TooMany kind)) None test
+
+within_limit : (limit : Option (Kind × ℕ)) (count : ℕ) → IsWithin limit count → limit_fault limit count ≡ None
+within_limit None count few = refl
+within_limit (Some limit) count few = let test : nat_lt limit.1 count ≡ false = grind (arith, nat_tests) in cond-false (nat_lt limit.1 count) (Some (TooMany limit.0)) None test
 
 -- the faults of a row in turn
 module _ {F R : Type 0} (t : Table F R) (header : Row) (earlier : List F) (row : Row) (n : ℕ) (at : length earlier + 2 ≡ n) where
@@ -28,9 +37,9 @@ module _ {F R : Type 0} (t : Table F R) (header : Row) (earlier : List F) (row :
 
     by_key : (known : Bool) → list_any (t.has_key_of f) earlier ≡ known
         → row_of t header earlier row ≡ faultless (or_else (cond known (Some (RepeatedKey t.file n)) None) (or_else (option_map (DanglingKey t.file n) (first_dangling (t.refers f))) (or_else (cond (has_first_zone t earlier f) None (Some (MixedZones n)))
-        (cond (nat_lt t.limit (length (filter_map t.gives (earlier ++ f ∷ [])))) (Some (TooMany t.kind)) None)))) f
+        (limit_fault t.limit (length (filter_map t.gives (earlier ++ f ∷ []))))))) f
     by_key known e = subst (λ known. row_of t header earlier row ≡ faultless (or_else (cond known (Some (RepeatedKey t.file n)) None) (or_else (option_map (DanglingKey t.file n) (first_dangling (t.refers f))) (or_else (cond (has_first_zone t earlier f) None (Some (MixedZones n)))
-        (cond (nat_lt t.limit (length (filter_map t.gives (earlier ++ f ∷ [])))) (Some (TooMany t.kind)) None)))) f) e is_judged
+        (limit_fault t.limit (length (filter_map t.gives (earlier ++ f ∷ []))))))) f) e is_judged
 
     pub repeated : list_any (t.has_key_of f) earlier ≡ true → row_of t header earlier row ≡ Err (RepeatedKey t.file n)
     repeated known = by_key true known
@@ -38,25 +47,25 @@ module _ {F R : Type 0} (t : Table F R) (header : Row) (earlier : List F) (row :
     module _ (new : list_any (t.has_key_of f) earlier ≡ false) where
       pub dangling : (column : Column) → first_dangling (t.refers f) ≡ Some column → row_of t header earlier row ≡ Err (DanglingKey t.file n column)
       dangling column lost = by_key false new ∙ ap (λ o. faultless (or_else (option_map (DanglingKey t.file n) o) (or_else (cond (has_first_zone t earlier f) None (Some (MixedZones n)))
-          (cond (nat_lt t.limit (length (filter_map t.gives (earlier ++ f ∷ [])))) (Some (TooMany t.kind)) None))) f) lost
+          (limit_fault t.limit (length (filter_map t.gives (earlier ++ f ∷ [])))))) f) lost
 
       module _ (known : first_dangling (t.refers f) ≡ None) where
         by_zone : (same : Bool) → has_first_zone t earlier f ≡ same → row_of t header earlier row ≡ faultless (or_else (cond same None (Some (MixedZones n)))
-            (cond (nat_lt t.limit (length (filter_map t.gives (earlier ++ f ∷ [])))) (Some (TooMany t.kind)) None)) f
+            (limit_fault t.limit (length (filter_map t.gives (earlier ++ f ∷ []))))) f
         by_zone same e = by_key false new ∙ rw (known, e) refl
 
         pub mixed : has_first_zone t earlier f ≡ false → row_of t header earlier row ≡ Err (MixedZones n)
         mixed other = by_zone false other
 
         module _ (same : has_first_zone t earlier f ≡ true) where
-          by_limit : (more : Bool) → nat_lt t.limit (length (filter_map t.gives (earlier ++ f ∷ []))) ≡ more → row_of t header earlier row ≡ faultless (cond more (Some (TooMany t.kind)) None) f
-          by_limit more e = by_zone true same ∙ ap (λ more. faultless (cond more (Some (TooMany t.kind)) None) f) e
+          by_limit : (fault : Option FeedFault) → limit_fault t.limit (length (filter_map t.gives (earlier ++ f ∷ []))) ≡ fault → row_of t header earlier row ≡ faultless fault f
+          by_limit fault e = by_zone true same ∙ ap (λ fault. faultless fault f) e
 
-          pub too_many : t.limit < length (filter_map t.gives (earlier ++ f ∷ [])) → row_of t header earlier row ≡ Err (TooMany t.kind)
-          too_many more = by_limit true (grind (arith, nat_tests, more))
+          pub too_many : (kind : Kind) (most : ℕ) → t.limit ≡ Some (kind, most) → most < length (filter_map t.gives (earlier ++ f ∷ [])) → row_of t header earlier row ≡ Err (TooMany kind)
+          too_many kind most is more = by_limit (Some (TooMany kind)) (past_limit t.limit kind most _ is more)
 
-          pub faultless_row : length (filter_map t.gives (earlier ++ f ∷ [])) ≤ t.limit → row_of t header earlier row ≡ Ok f
-          faultless_row few = by_limit false (grind (arith, nat_tests, few))
+          pub faultless_row : IsWithin t.limit (length (filter_map t.gives (earlier ++ f ∷ []))) → row_of t header earlier row ≡ Ok f
+          faultless_row few = by_limit None (within_limit t.limit _ few)
 
 -- a table without time zones
 pub without_zones : {F R : Type 0} (t : Table F R) (earlier : List F) (f : F) → ((g : F) → t.has_zone_of f g ≡ true) → has_first_zone t earlier f ≡ true
@@ -80,13 +89,13 @@ module _ {F R K : Type 0} (t : Table F R) (key : F → K) (keys : List K) (rows 
 
   module _ (header row : Row) (n : ℕ) (at : n ≡ length keys) (f : F) (is : t.reads header (n + 2) row ≡ Ok f) (new : list_any (t.has_key_of f) earlier ≡ false)
       (known : first_dangling (t.refers f) ≡ None) (same : (g : F) → t.has_zone_of f g ≡ true) (more : List R) (pushed : more ≡ rows ++ option_to_list (t.gives f)) where
-    pub overflows : t.limit < length more → row_of t header earlier row ≡ Err (TooMany t.kind)
-    overflows past = too_many t header earlier row (n + 2) (row_number n at) f is new known (without_zones t earlier f same) (subst (λ rows. t.limit < length rows) (sym (one_more f more pushed)) past)
+    pub overflows : (kind : Kind) (most : ℕ) → t.limit ≡ Some (kind, most) → most < length more → row_of t header earlier row ≡ Err (TooMany kind)
+    overflows kind most limited past = too_many t header earlier row (n + 2) (row_number n at) f is new known (without_zones t earlier f same) kind most limited (subst (λ rows. most < length rows) (sym (one_more f more pushed)) past)
 
-    pub joins_with : (more_keys : List K) → more_keys ≡ keys ++ key f ∷ [] → length more ≤ t.limit → (Kept : List F → Type 0) → (Holds t key more_keys more (earlier ++ f ∷ []) → Kept (earlier ++ f ∷ [])) → IsTaken t header earlier row Kept
+    pub joins_with : (more_keys : List K) → more_keys ≡ keys ++ key f ∷ [] → IsWithin t.limit (length more) → (Kept : List F → Type 0) → (Holds t key more_keys more (earlier ++ f ∷ []) → Kept (earlier ++ f ∷ [])) → IsTaken t header earlier row Kept
     joins_with more_keys noted few Kept keeps = record {
       said = f;
-      is = faultless_row t header earlier row (n + 2) (row_number n at) f is new known (without_zones t earlier f same) (subst (λ rows. length rows ≤ t.limit) (sym (one_more f more pushed)) few);
+      is = faultless_row t header earlier row (n + 2) (row_number n at) f is new known (without_zones t earlier f same) (subst (λ rows. IsWithin t.limit (length rows)) (sym (one_more f more pushed)) few);
       kept = keeps (record {
         keys_are = noted ∙ ap (λ keys. keys ++ key f ∷ []) holds.keys_are ∙ sym (map-append key earlier (f ∷ []));
         rows_are = sym (one_more f more pushed);
@@ -94,7 +103,7 @@ module _ {F R K : Type 0} (t : Table F R) (key : F → K) (keys : List K) (rows 
       });
     }
 
-    pub joins : (more_keys : List K) → more_keys ≡ keys ++ key f ∷ [] → length more ≤ t.limit → IsTaken t header earlier row (Holds t key more_keys more)
+    pub joins : (more_keys : List K) → more_keys ≡ keys ++ key f ∷ [] → IsWithin t.limit (length more) → IsTaken t header earlier row (Holds t key more_keys more)
     joins more_keys noted few = joins_with more_keys noted few (Holds t key more_keys more) (λ holds. holds)
 
 -- the same fault, for another cause
@@ -136,7 +145,7 @@ module _ {F R : Type 0} (t : Table F R) where
     opened = ap (λ o. faultless o (header_in (rows_of text)) >>= (λ header. given t (rows_behind t header [] (rows_below (rows_of text))))) named
         ∙ ap (λ header. given t (rows_behind t header [] (rows_below (rows_of text)))) (sym heads) ∙ ap (λ rows. given t (rows_behind t header [] rows)) (sym below)
 
-    pub are_given : (all : List F) (records : List R) → rows_behind t header [] rows ≡ Ok all → records ≡ filter_map t.gives all → length records ≤ t.limit → AreRead t (Some text) records
+    pub are_given : (all : List F) (records : List R) → rows_behind t header [] rows ≡ Ok all → records ≡ filter_map t.gives all → IsWithin t.limit (length records) → AreRead t (Some text) records
     are_given all records said gave few = record { are = opened ∙ ap (given t) said ∙ ap Ok (sym gave); few = few }
 
     pub are_read : {K : Type 0} (key : F → K) (keys : List K) (records : List R) → AreTaken t header [] rows (Holds t key keys records) → AreRead t (Some text) records
@@ -148,9 +157,13 @@ module _ {F R : Type 0} (t : Table F R) where
   pub faulty_header : (text : List ℕ) (fault : FeedFault) → IsWantOr fault (missing_column t.file t.needed (header_in (rows_of text)) ≡ Some fault) → IsFaultOf (records_of t (Some text)) fault
   faulty_header text fault h = want_map fault _ _ (λ e. ap (λ o. faultless o (header_in (rows_of text)) >>= (λ header. given t (rows_behind t header [] (rows_below (rows_of text))))) e) h
 
+within_none : (limit : Option (Kind × ℕ)) (count : ℕ) → count ≡ 0 → IsWithin limit count
+within_none None count none = tt
+within_none (Some limit) count none = omega arith
+
 -- nothing is kept of no rows
 pub holds_nothing : {F R K : Type 0} (t : Table F R) (key : F → K) (keys : List K) (rows : List R) → keys ≡ [] → rows ≡ [] → Holds t key keys rows []
-holds_nothing t key keys rows no_keys no_rows = record { keys_are = no_keys; rows_are = no_rows; few = let none = ap length no_rows in omega arith }
+holds_nothing t key keys rows no_keys no_rows = record { keys_are = no_keys; rows_are = no_rows; few = within_none t.limit _ (ap length no_rows) }
 
 module _ {F R K L : Type 0} (t : Table F R) (key : F → K) (name : R → L) (keys : List K) (names : List L) (rows : List R) where
   pub also_listed : (header : Row) (earlier : List F) (row : Row) → names ≡ map name rows → IsTaken t header earlier row (Holds t key keys rows) → IsTaken t header earlier row (HoldsListed t key name keys names rows)

@@ -1,7 +1,6 @@
 -- agency.txt: all rows have one time zone.
 use Rattle.std.specs.Prelude.{◌≡◌, ℕ, length, Bool, true, Some, List, [], ◌∷◌, bytes_eq, false, Option, None, Result}
 use Rattle.std.specs.Option.{ok_or}
-use Rattle.plan_base.specs.declared.limits.Kind.TheVariants as kind
 use Rattle.gtfs_tables.specs.declared.columns.Column.{Column}
 use Rattle.gtfs_tables.specs.declared.columns.Column.TheVariants.{AgencyTimezone}
 use Rattle.gtfs_tables.specs.declared.files.FeedFile.TheVariants as file
@@ -23,8 +22,7 @@ agencies = record {
   refers = λ zone. [];
   has_zone_of = λ zone first. bytes_eq zone first;
   gives = λ zone. None;
-  kind = kind.Stops;
-  limit = 0;
+  limit = None;
 }
 
 -- the first time zone of some rows, and whether another is the same

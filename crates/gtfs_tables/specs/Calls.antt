@@ -99,8 +99,7 @@ calls caps trips stops = record {
   refers = λ time. references (place_among trips time.trip) (place_among stops time.stop);
   has_zone_of = λ time first. true;
   gives = call_of trips stops;
-  kind = kind.Calls;
-  limit = caps.calls;
+  limit = Some (kind.Calls, caps.calls);
 }
 
 -- a row's key, told by the place of its trip

@@ -6,6 +6,7 @@ use Rattle.gtfs_tables.specs.declared.routes.RouteRow.{RouteRow}
 use Rattle.gtfs_tables.specs.declared.services.ServiceRow.{ServiceRow}
 use Rattle.gtfs_tables.specs.declared.dates.DateRow.{DateRow}
 use Rattle.gtfs_tables.specs.declared.trips.TripRow.{TripRow}
+use Rattle.gtfs_tables.specs.declared.frequencies.FrequencyRow.{FrequencyRow}
 use Rattle.gtfs_tables.specs.declared.calls.CallRow.{CallRow}
 
 pub record FeedLists : Type 0 where
@@ -14,6 +15,7 @@ pub record FeedLists : Type 0 where
   pub services : List ServiceRow
   pub dates : List DateRow
   pub trips : List TripRow
+  pub frequencies : List FrequencyRow
   pub calls : List CallRow
 
 -- the bytes of a file, if it is there

@@ -15,6 +15,7 @@ use Rattle.gtfs_tables.specs.Routes.{routes}
 use Rattle.gtfs_tables.specs.Services.{services}
 use Rattle.gtfs_tables.specs.ServiceDates.{dates}
 use Rattle.gtfs_tables.specs.Trips.{trips}
+use Rattle.gtfs_tables.specs.Frequencies.{frequencies}
 use Rattle.gtfs_tables.specs.Calls.{calls}
 
 -- the files that must be there, and whether they are: one of the two calendar files suffices
@@ -40,8 +41,9 @@ tables_of caps files = do
   services ← records_of (services caps) (bytes_of files.calendar)
   dates ← records_of (dates caps) (bytes_of files.calendar_dates)
   trips ← records_of (trips caps (map (λ route. route.id) routes)) (bytes_of files.trips)
+  frequencies ← records_of (frequencies (map (λ trip. trip.id) trips)) (bytes_of files.frequencies)
   calls ← records_of (calls caps (map (λ trip. trip.id) trips) (map (λ stop. stop.id) stops)) (bytes_of files.stop_times)
-  Ok (record { stops = stops; routes = routes; services = services; dates = dates; trips = trips; calls = calls })
+  Ok (record { stops = stops; routes = routes; services = services; dates = dates; trips = trips; frequencies = frequencies; calls = calls })
 
 -- the lists of a feed, or its first fault
 unfoldable pub feed_of : Caps → FeedFiles → Result FeedLists FeedFault

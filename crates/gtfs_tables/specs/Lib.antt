@@ -1,5 +1,6 @@
 pub mod Answers
 pub mod Columns
+pub mod Files
 pub mod Forms
 pub mod Tables
 pub mod FeedLists
@@ -9,6 +10,7 @@ pub mod Routes
 pub mod Services
 pub mod ServiceDates
 pub mod Trips
+pub mod Frequencies
 pub mod Calls
 pub mod Feeds
 pub mod Sound

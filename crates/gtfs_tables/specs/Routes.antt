@@ -33,8 +33,7 @@ routes caps = record {
   refers = λ route. [];
   has_zone_of = λ route first. true;
   gives = Some;
-  kind = kind.Routes;
-  limit = caps.routes;
+  limit = Some (kind.Routes, caps.routes);
 }
 
 -- the routes of the earlier rows are kept

@@ -45,8 +45,7 @@ dates caps = record {
   refers = λ date. [];
   has_zone_of = λ date first. true;
   gives = Some;
-  kind = kind.Dates;
-  limit = caps.dates;
+  limit = Some (kind.Dates, caps.dates);
 }
 
 -- the dates of the earlier rows are kept

@@ -70,8 +70,7 @@ services caps = record {
   refers = λ service. [];
   has_zone_of = λ service first. true;
   gives = Some;
-  kind = kind.Services;
-  limit = caps.services;
+  limit = Some (kind.Services, caps.services);
 }
 
 -- the services of the earlier rows are kept

@@ -3,6 +3,7 @@ use Rattle.std.specs.Prelude.{◌≡◌, ◌<◌, ◌≤◌, ℕ, List, length, 
 use Rattle.std.specs.List.{AllByRecursion, IsDistinct}
 use Rattle.gtfs_tables.specs.declared.routes.RouteRow.{RouteRow}
 use Rattle.gtfs_tables.specs.declared.trips.TripRow.{TripRow}
+use Rattle.gtfs_tables.specs.declared.frequencies.FrequencyRow.{FrequencyRow}
 use Rattle.gtfs_tables.specs.declared.calls.CallRow.{CallRow}
 use Rattle.gtfs_tables.specs.FeedLists.{FeedLists}
 use Rattle.gtfs_tables.specs.Forms.{is_id}
@@ -23,6 +24,13 @@ pub record IsTrip (routes : ℕ) (trip : TripRow) : Type 0 where
   pub service : IsId trip.service
   pub route : trip.route < routes
 
+-- a headway of one of so many trips
+pub record IsFrequency (trips : ℕ) (frequency : FrequencyRow) : Type 0 where
+  pub trip : frequency.trip < trips
+  pub start : frequency.start ≤ 604799
+  pub end : frequency.end ≤ 604799
+  pub headway : 1 ≤ frequency.headway
+
 -- a call of one of so many trips at one of so many stops
 pub record IsCall (trips stops : ℕ) (call : CallRow) : Type 0 where
   pub trip : call.trip < trips
@@ -34,8 +42,8 @@ pub record IsCall (trips stops : ℕ) (call : CallRow) : Type 0 where
 abbrev pub is_same_call : CallRow → CallRow → Bool
 is_same_call call other = nat_eq call.trip other.trip && nat_eq call.sequence other.sequence
 
--- Ids are ids, and no two stops, routes, services or trips have one. Letters are those of transit, and times are
--- within a week. Numbers of routes, trips and stops are places in their lists. No two calls of one trip have one
+-- Ids are ids, and no two stops, routes, services or trips have one. Letters are those of transit, times are
+-- within a week, and headways take some time. Numbers of routes, trips and stops are places in their lists. No two calls of one trip have one
 -- sequence number.
 pub record IsFeed (feed : FeedLists) : Type 0 where
   pub stops : AllByRecursion (λ stop. IsId stop.id) feed.stops
@@ -47,5 +55,6 @@ pub record IsFeed (feed : FeedLists) : Type 0 where
   pub dates : AllByRecursion (λ date. IsId date.id) feed.dates
   pub trips : AllByRecursion (IsTrip (length feed.routes)) feed.trips
   pub trip_ids : IsDistinct bytes_eq (map (λ trip. trip.id) feed.trips)
+  pub frequencies : AllByRecursion (IsFrequency (length feed.trips)) feed.frequencies
   pub calls : AllByRecursion (IsCall (length feed.trips) (length feed.stops)) feed.calls
   pub sequences : IsDistinct is_same_call feed.calls

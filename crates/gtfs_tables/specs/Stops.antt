@@ -1,5 +1,5 @@
 -- stops.txt
-use Rattle.std.specs.Prelude.{ℕ, ℤ, List, [], ◌∷◌, Bool, true, bytes_eq, Option, None, option_map, Result, Ok, if◌then◌else◌}
+use Rattle.std.specs.Prelude.{ℕ, ℤ, List, [], ◌∷◌, Bool, true, bytes_eq, Option, None, option_map, Result, Ok, if◌then◌else◌, Some}
 use Rattle.std.specs.Option.{ok_or}
 use Rattle.geo_length.specs.Degrees.{degrees_of}
 use Rattle.plan_base.specs.PlaceOf as base
@@ -66,8 +66,7 @@ stops caps = record {
   refers = λ station. [];
   has_zone_of = λ station first. true;
   gives = stop_of;
-  kind = kind.Stops;
-  limit = caps.stops;
+  limit = Some (kind.Stops, caps.stops);
 }
 
 -- the stops of the earlier rows are kept

@@ -1,6 +1,6 @@
 -- A table of a feed is a file of comma-separated values whose first row, the header, names the columns. What is
 -- told here holds of every table; the tables differ in their columns, their keys and what they refer to.
-use Rattle.std.specs.Prelude.{ℕ, ◌+◌, List, [], ◌∷◌, ◌++◌, length, filter_map, Bool, true, nat_lt, Option, None, Some, option_map, Result, Ok, Err, if◌then◌else◌}
+use Rattle.std.specs.Prelude.{ℕ, ◌+◌, ◌≤◌, List, [], ◌∷◌, ◌++◌, length, filter_map, Bool, true, nat_lt, Option, None, Some, option_map, Result, Ok, Err, if◌then◌else◌}
 use Rattle.std.specs.List.{list_any}
 use Rattle.csv.specs.Reading.{default_config, records, strip_bom}
 use Rattle.plan_base.specs.declared.limits.Kind.{Kind}
@@ -24,10 +24,10 @@ pub record Table (F R : Type 0) : Type 0 where
   pub refers : F → List (Column × Bool)
   -- the rows have one time zone
   pub has_zone_of : F → F → Bool
-  -- the record of the row, where it gives one, and how many records of which kind there may be
+  -- the record of the row, where it gives one
   pub gives : F → Option R
-  pub kind : Kind
-  pub limit : ℕ
+  -- how many records of which kind there may be, where that is limited
+  pub limit : Option (Kind × ℕ)
 
 -- the first column whose id is no key of its table
 abbrev pub first_dangling : List (Column × Bool) → Option Column
@@ -38,13 +38,22 @@ abbrev pub has_first_zone : {F R : Type 0} → Table F R → List F → F → Bo
 has_first_zone t [] f = true
 has_first_zone t (first ∷ others) f = t.has_zone_of f first
 
+-- so many records are within a limit, where there is one; or what there are too many of
+abbrev pub IsWithin : Option (Kind × ℕ) → ℕ → Type 0
+IsWithin None count = Unit {0}
+IsWithin (Some limit) count = count ≤ limit.1
+
+abbrev pub limit_fault : Option (Kind × ℕ) → ℕ → Option FeedFault
+limit_fault None count = None
+limit_fault (Some limit) count = if nat_lt limit.1 count then Some (TooMany limit.0) else None
+
 -- the fault of the row of this number behind the earlier rows of its table
 abbrev pub row_fault : {F R : Type 0} → Table F R → ℕ → List F → F → Option FeedFault
 row_fault t n earlier f =
     or_else (if list_any (t.has_key_of f) earlier then Some (RepeatedKey t.file n) else None)
     (or_else (option_map (DanglingKey t.file n) (first_dangling (t.refers f)))
     (or_else (if has_first_zone t earlier f then None else Some (MixedZones n))
-    (if nat_lt t.limit (length (filter_map t.gives (earlier ++ f ∷ []))) then Some (TooMany t.kind) else None)))
+    (limit_fault t.limit (length (filter_map t.gives (earlier ++ f ∷ []))))))
 
 -- what the row of this number says, or its fault
 abbrev pub judged : {F R : Type 0} → Table F R → ℕ → List F → Result F Column → Result F FeedFault

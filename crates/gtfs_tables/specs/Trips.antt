@@ -1,5 +1,5 @@
 -- trips.txt
-use Rattle.std.specs.Prelude.{ℕ, List, [], ◌∷◌, true, bytes_eq, position, is_some, Option, option_map, Result, Ok}
+use Rattle.std.specs.Prelude.{ℕ, List, [], ◌∷◌, true, bytes_eq, position, is_some, Option, option_map, Result, Ok, Some}
 use Rattle.std.specs.Option.{ok_or}
 use Rattle.plan_base.specs.declared.limits.Caps.{Caps}
 use Rattle.plan_base.specs.declared.limits.Kind.TheVariants as kind
@@ -53,8 +53,7 @@ trips caps routes = record {
   refers = λ journey. (RouteId, is_some (place_among routes journey.route)) ∷ [];
   has_zone_of = λ journey first. true;
   gives = trip_of routes;
-  kind = kind.Trips;
-  limit = caps.trips;
+  limit = Some (kind.Trips, caps.trips);
 }
 
 -- the trips of the earlier rows are kept

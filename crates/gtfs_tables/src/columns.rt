@@ -69,40 +69,42 @@ pub enum Column {
     DropOffType,
 }
 
-/// The name of a column in a header.
-fn name_of(column: Column) -> &'static [u8]
-    ensures { result.now ≡ column_name column }
-{
-    match column {
-        Column::AgencyTimezone => b"agency_timezone",
-        Column::StopId => b"stop_id",
-        Column::LocationType => b"location_type",
-        Column::StopLat => b"stop_lat",
-        Column::StopLon => b"stop_lon",
-        Column::RouteId => b"route_id",
-        Column::RouteType => b"route_type",
-        Column::ServiceId => b"service_id",
-        Column::Monday => b"monday",
-        Column::Tuesday => b"tuesday",
-        Column::Wednesday => b"wednesday",
-        Column::Thursday => b"thursday",
-        Column::Friday => b"friday",
-        Column::Saturday => b"saturday",
-        Column::Sunday => b"sunday",
-        Column::StartDate => b"start_date",
-        Column::EndDate => b"end_date",
-        Column::Date => b"date",
-        Column::ExceptionType => b"exception_type",
-        Column::TripId => b"trip_id",
-        Column::StartTime => b"start_time",
-        Column::EndTime => b"end_time",
-        Column::HeadwaySecs => b"headway_secs",
-        Column::ExactTimes => b"exact_times",
-        Column::StopSequence => b"stop_sequence",
-        Column::ArrivalTime => b"arrival_time",
-        Column::DepartureTime => b"departure_time",
-        Column::PickupType => b"pickup_type",
-        Column::DropOffType => b"drop_off_type",
+impl Column {
+    /// The name of the column in a header, as `stop_id`.
+    pub fn name(self) -> &'static str
+        ensures { result.now ≡ column_name self }
+    {
+        match self {
+            Column::AgencyTimezone => "agency_timezone",
+            Column::StopId => "stop_id",
+            Column::LocationType => "location_type",
+            Column::StopLat => "stop_lat",
+            Column::StopLon => "stop_lon",
+            Column::RouteId => "route_id",
+            Column::RouteType => "route_type",
+            Column::ServiceId => "service_id",
+            Column::Monday => "monday",
+            Column::Tuesday => "tuesday",
+            Column::Wednesday => "wednesday",
+            Column::Thursday => "thursday",
+            Column::Friday => "friday",
+            Column::Saturday => "saturday",
+            Column::Sunday => "sunday",
+            Column::StartDate => "start_date",
+            Column::EndDate => "end_date",
+            Column::Date => "date",
+            Column::ExceptionType => "exception_type",
+            Column::TripId => "trip_id",
+            Column::StartTime => "start_time",
+            Column::EndTime => "end_time",
+            Column::HeadwaySecs => "headway_secs",
+            Column::ExactTimes => "exact_times",
+            Column::StopSequence => "stop_sequence",
+            Column::ArrivalTime => "arrival_time",
+            Column::DepartureTime => "departure_time",
+            Column::PickupType => "pickup_type",
+            Column::DropOffType => "drop_off_type",
+        }
     }
 }
 
@@ -120,7 +122,7 @@ fn has_name(header: &ByteRecord, place: usize, name: &[u8]) -> bool
 pub(crate) fn place_of(header: &ByteRecord, column: Column) -> Option<usize>
     ensures { result ≡ place_of (fields_of header.now) column }
 {
-    let name = name_of(column);
+    let name = column.name().as_bytes();
     for place in 0..header.len() {
         if has_name(header, place, name) {
             return Some(place);

@@ -7,48 +7,57 @@ use crate::columns::Column;
 use crate::files::FeedFile;
 use plan_base::Kind;
 use std::alloc::AllocError;
+use thiserror::Error;
 
 /// The first fault of a feed.
 ///
 /// A missing file comes first. The files are read in the order of [`FeedFile`]: in a file a missing column comes
 /// first, and then the rows go in turn. In a row the faults are tried in the order of these variants.
-#[derive(Clone, Copy, Debug, PartialEq, Eq)]
+#[derive(Clone, Copy, Debug, PartialEq, Eq, Error)]
 pub enum FeedFault {
     /// A required file is not there. Where neither calendar file is there, it is [`FeedFile::Calendar`].
+    #[error("{} is not there, and a feed must have it", .file.name())]
     MissingFile {
         file: FeedFile,
     },
     /// A file's header does not name a column that it must name: the first such column.
+    #[error("the header of {} must name the column {}", .file.name(), .column.name())]
     MissingColumn {
         file: FeedFile,
         column: Column,
     },
     /// A row's field is not of its form: the first such column. Rows count from 1 at the header.
+    #[error("{}, row {row}: the field of {} is not of its form", .file.name(), .column.name())]
     BadField {
         file: FeedFile,
         row: u64,
         column: Column,
     },
     /// A row has the key of an earlier row of its file.
+    #[error("{}, row {row}: an earlier row has the same key", .file.name())]
     RepeatedKey {
         file: FeedFile,
         row: u64,
     },
     /// A row has an id of another table that is no key there: the first such column.
+    #[error("{}, row {row}: the id of {} is not in its table", .file.name(), .column.name())]
     DanglingKey {
         file: FeedFile,
         row: u64,
         column: Column,
     },
     /// A row of agency.txt has another time zone than the first.
+    #[error("agency.txt, row {row}: the time zone is not that of the first row")]
     MixedZones {
         row: u64,
     },
     /// With a row there are more stops, routes, services, dates, trips or calls than the limits allow.
+    #[error("there are too many of these: {kind:?}")]
     TooMany {
         kind: Kind,
     },
     /// Memory ran out.
+    #[error("out of memory")]
     OutOfMemory,
 }
 

@@ -10,6 +10,7 @@ use crate::calls::{CallRow, read_calls};
 use crate::dates::{DateRow, read_dates};
 use crate::faults::FeedFault;
 use crate::files::{FeedFile, FeedFiles};
+use crate::frequencies::{FrequencyRow, read_frequencies};
 use crate::routes::{RouteRow, read_routes};
 use crate::services::{ServiceRow, read_services};
 use crate::stops::{StopRow, read_stops};
@@ -31,6 +32,8 @@ pub struct Feed {
     pub dates: Vec<DateRow>,
     /// The rows of trips.txt.
     pub trips: Vec<TripRow>,
+    /// The rows of frequencies.txt; none where the file is not there.
+    pub frequencies: Vec<FrequencyRow>,
     /// The rows of stop_times.txt that are calls.
     pub calls: Vec<CallRow>,
 }
@@ -40,7 +43,7 @@ impl Model for Feed {
 
     ghost Value = { FeedLists };
 
-    ghost view = { λ f. record { stops = f.stops.items; routes = f.routes.items; services = f.services.items; dates = f.dates.items; trips = f.trips.items; calls = f.calls.items } };
+    ghost view = { λ f. record { stops = f.stops.items; routes = f.routes.items; services = f.services.items; dates = f.dates.items; trips = f.trips.items; frequencies = f.frequencies.items; calls = f.calls.items } };
 }
 
 /// The first file that must be there and is not. One of the two calendar files suffices.
@@ -67,7 +70,7 @@ fn first_absent(files: &FeedFiles<'_>) -> Option<FeedFile>
 /// Reads the files of a feed: the rows of its tables, or the first fault.
 ///
 /// The limits are those of stops, routes, services, dates, trips and calls. Nothing is read where a required file
-/// is absent, and the first fault ends the reading. frequencies.txt is not looked at.
+/// is absent, and the first fault ends the reading.
 pub fn read_feed(alloc: Global, files: &FeedFiles<'_>, caps: &Caps) -> Result<Feed, FeedFault>
     ensures feed { IfOk result (λ feed. feed_of caps.now files.now ≡ Ok feed) }
     ensures sound { IfOk result IsFeed }
@@ -82,6 +85,7 @@ pub fn read_feed(alloc: Global, files: &FeedFiles<'_>, caps: &Caps) -> Result<Fe
     let services = read_services(alloc, caps, files.calendar)?;
     let dates = read_dates(alloc, caps, files.calendar_dates)?;
     let trips = read_trips(alloc, caps, &routes.ids, files.trips)?;
+    let frequencies = read_frequencies(alloc, &trips.ids, files.frequencies)?;
     let calls = read_calls(alloc, caps, &trips.ids, &stops.ids, files.stop_times)?;
     Ok(Feed {
         stops: stops.rows,
@@ -89,6 +93,7 @@ pub fn read_feed(alloc: Global, files: &FeedFiles<'_>, caps: &Caps) -> Result<Fe
         services,
         dates,
         trips: trips.rows,
+        frequencies,
         calls,
     })
 }

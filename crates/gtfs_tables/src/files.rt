@@ -1,5 +1,7 @@
 //! The files of a feed.
 
+ghost use Rattle.std.specs.Prelude.{◌≡◌};
+
 /// The bytes of a feed's files; `None` where a file is not there.
 #[derive(Clone, Copy, Debug)]
 pub struct FeedFiles<'a> {
@@ -15,7 +17,7 @@ pub struct FeedFiles<'a> {
     pub calendar_dates: Option<&'a [u8]>,
     /// trips.txt
     pub trips: Option<&'a [u8]>,
-    /// frequencies.txt, which is not looked at
+    /// frequencies.txt
     pub frequencies: Option<&'a [u8]>,
     /// stop_times.txt
     pub stop_times: Option<&'a [u8]>,
@@ -40,4 +42,24 @@ pub enum FeedFile {
     Frequencies,
     /// stop_times.txt
     StopTimes,
+}
+
+impl FeedFile {
+    ghost use Rattle.gtfs_tables.specs.Files.{file_name};
+
+    /// The name of the file in a feed's folder, as `stops.txt`.
+    pub fn name(self) -> &'static str
+        ensures { result.now ≡ file_name self }
+    {
+        match self {
+            FeedFile::Agency => "agency.txt",
+            FeedFile::Stops => "stops.txt",
+            FeedFile::Routes => "routes.txt",
+            FeedFile::Calendar => "calendar.txt",
+            FeedFile::CalendarDates => "calendar_dates.txt",
+            FeedFile::Trips => "trips.txt",
+            FeedFile::Frequencies => "frequencies.txt",
+            FeedFile::StopTimes => "stop_times.txt",
+        }
+    }
 }

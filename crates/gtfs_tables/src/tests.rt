@@ -224,3 +224,65 @@ fn an_id_gives_its_bytes_back(rt: HostRuntime) -> Result<(), Fail> {
     assert!(rt; Id::new(id.into_bytes()).as_bytes() == b"S1".as_slice());
     Ok(())
 }
+
+const FREQUENCIES: &[u8] = b"trip_id,start_time,end_time,headway_secs,exact_times\n\
+t1,08:00:00, 8:30:00,600,1\nt1,10:00:00,11:00:00,0900,\n";
+
+const NO_HEADWAY: &[u8] = b"trip_id,start_time,end_time,headway_secs\nt1,08:00:00,08:30:00,0\n";
+
+const UNKNOWN_TRIP: &[u8] =
+    b"trip_id,start_time,end_time,headway_secs\nt1,08:00:00,08:30:00,600\nt9,08:00:00,08:30:00,600\n";
+
+fn has_headways(rt: &impl Abort, rows: &[FrequencyRow]) {
+    assert_eq!(rt; rows.len(), 2);
+    assert_eq!(rt;
+        (rows[0].row, rows[0].trip, rows[0].start, rows[0].end),
+        (2, 0, 28800, 30600)
+    );
+    assert!(rt; rows[0].headway == 600 && rows[0].exact);
+    assert_eq!(rt;
+        (rows[1].row, rows[1].start, rows[1].end, rows[1].headway),
+        (3, 36000, 39600, 900)
+    );
+    assert!(rt; !rows[1].exact);
+}
+
+#[test]
+fn headways_of_trips(rt: HostRuntime) -> Result<(), Fail> {
+    let files = FeedFiles {
+        frequencies: Some(FREQUENCIES),
+        ..FILES
+    };
+    let feed = read_feed(rt.alloc(), &files, &Caps::FULL)?;
+    has_headways(&rt, &feed.frequencies);
+    Ok(())
+}
+
+#[test]
+fn faults_of_headways(rt: HostRuntime) {
+    let cases = [
+        (
+            NO_HEADWAY,
+            FeedFault::BadField {
+                file: FeedFile::Frequencies,
+                row: 2,
+                column: Column::HeadwaySecs,
+            },
+        ),
+        (
+            UNKNOWN_TRIP,
+            FeedFault::DanglingKey {
+                file: FeedFile::Frequencies,
+                row: 3,
+                column: Column::TripId,
+            },
+        ),
+    ];
+    for (text, fault) in cases {
+        let files = FeedFiles {
+            frequencies: Some(text),
+            ..FILES
+        };
+        assert_eq!(rt; fault_of(rt.alloc(), &files, &Caps::FULL), Some(fault));
+    }
+}

@@ -173,7 +173,7 @@ fn read_hours(text: &[u8]) -> Option<u32>
 
 /// The seconds of a time, up to 167:59:59.
 #[tactic(auto, unfolding(crate::specs::Forms::time_at))]
-fn read_time(text: &[u8]) -> Option<u32>
+pub(crate) fn read_time(text: &[u8]) -> Option<u32>
     ensures { result ≡ spec.time_at text.now }
 {
     if text.len() < 7 || text.len() > 9 {

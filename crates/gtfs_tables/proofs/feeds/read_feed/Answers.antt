@@ -7,9 +7,9 @@ use Rattle.gtfs_tables.specs.declared.faults.FeedFault.TheVariants.{MissingFile}
 use Rattle.gtfs_tables.specs.declared.routes.RouteRow.{RouteRow}
 use Rattle.gtfs_tables.specs.declared.stops.StopRow.{StopRow}
 use Rattle.gtfs_tables.specs.declared.trips.TripRow.{TripRow}
-use Rattle.gtfs_tables.specs.Sound.{IsCall, IsTrip}
-use Rattle.gtfs_tables.proofs.FeedLemmas.{absent_file, all_read, faulty_agencies, faulty_calls, faulty_dates, faulty_routes, faulty_services, faulty_stops, faulty_trips}
-use Rattle.gtfs_tables.proofs.FeedSound.{calls_keep, dates_keep, route_ids, routes_keep, sequences, service_ids, services_keep, stop_ids, stops_keep, trip_ids, trips_keep}
+use Rattle.gtfs_tables.specs.Sound.{IsCall, IsFrequency, IsTrip}
+use Rattle.gtfs_tables.proofs.FeedLemmas.{absent_file, all_read, faulty_agencies, faulty_calls, faulty_dates, faulty_frequencies, faulty_routes, faulty_services, faulty_stops, faulty_trips}
+use Rattle.gtfs_tables.proofs.FeedSound.{calls_keep, dates_keep, frequencies_keep, route_ids, routes_keep, sequences, service_ids, services_keep, stop_ids, stops_keep, trip_ids, trips_keep}
 use Rattle.gtfs_tables.proofs.feeds.read_feed.Goals as goal
 
 pub returns-in-Some-clause-fault : goal.returns-in-Some-clause-fault
@@ -52,18 +52,25 @@ returns-in_err-trips-clause-fault c =
     rw (p.1, p.2) (faulty_trips c.args.caps.now c.args.files.now present [] c.in_ok-check_agencies.ensures.agencies _ c.in_ok-stops.ensures.stops _ c.in_ok-routes.ensures.routes _ c.in_ok-services.ensures.services _ c.in_ok-dates.ensures.dates
     c.in_ok-routes.routes.ids c.in_ok-routes.ensures.ids c.in_err-trips.field-0.0 c.in_err-trips.ensures.fault)
 
+pub returns-in_err-frequencies-clause-fault : goal.returns-in_err-frequencies-clause-fault
+returns-in_err-frequencies-clause-fault c =
+    let p = err_from_is_err_and c.from_residual-in_err-frequencies.result c.from_residual-in_err-frequencies.ensures.1 in
+    let present = ap (option_map MissingFile) (sym c.first_absent.ensures ∙ c.in_default.is) in
+    rw (p.1, p.2) (faulty_frequencies c.args.caps.now c.args.files.now present [] c.in_ok-check_agencies.ensures.agencies _ c.in_ok-stops.ensures.stops _ c.in_ok-routes.ensures.routes _ c.in_ok-services.ensures.services _ c.in_ok-dates.ensures.dates
+    c.in_ok-routes.routes.ids c.in_ok-routes.ensures.ids _ c.in_ok-trips.ensures.trips c.in_ok-trips.trips.ids c.in_ok-trips.ensures.ids c.in_err-frequencies.field-0.0 c.in_err-frequencies.ensures.fault)
+
 pub returns-in_err-calls-clause-fault : goal.returns-in_err-calls-clause-fault
 returns-in_err-calls-clause-fault c =
     let p = err_from_is_err_and c.from_residual-in_err-calls.result c.from_residual-in_err-calls.ensures.1 in
     let present = ap (option_map MissingFile) (sym c.first_absent.ensures ∙ c.in_default.is) in
     rw (p.1, p.2) (faulty_calls c.args.caps.now c.args.files.now present [] c.in_ok-check_agencies.ensures.agencies _ c.in_ok-stops.ensures.stops _ c.in_ok-routes.ensures.routes _ c.in_ok-services.ensures.services _ c.in_ok-dates.ensures.dates
-    c.in_ok-routes.routes.ids c.in_ok-routes.ensures.ids _ c.in_ok-trips.ensures.trips c.in_ok-trips.trips.ids c.in_ok-stops.stops.ids c.in_ok-trips.ensures.ids c.in_ok-stops.ensures.ids c.in_err-calls.field-0.0 c.in_err-calls.ensures.fault)
+    c.in_ok-routes.routes.ids c.in_ok-routes.ensures.ids _ c.in_ok-trips.ensures.trips c.in_ok-trips.trips.ids c.in_ok-trips.ensures.ids _ c.in_ok-frequencies.ensures.frequencies c.in_ok-stops.stops.ids c.in_ok-stops.ensures.ids c.in_err-calls.field-0.0 c.in_err-calls.ensures.fault)
 
 pub returns-clause-feed : goal.returns-clause-feed
 returns-clause-feed c =
     let present = ap (option_map MissingFile) (sym c.first_absent.ensures ∙ c.in_default.is) in
     all_read c.args.caps.now c.args.files.now present [] c.in_ok-check_agencies.ensures.agencies _ c.in_ok-stops.ensures.stops _ c.in_ok-routes.ensures.routes _ c.in_ok-services.ensures.services _ c.in_ok-dates.ensures.dates
-    c.in_ok-routes.routes.ids c.in_ok-routes.ensures.ids _ c.in_ok-trips.ensures.trips c.in_ok-trips.trips.ids c.in_ok-stops.stops.ids c.in_ok-trips.ensures.ids c.in_ok-stops.ensures.ids _ c.in_ok-calls.ensures.calls
+    c.in_ok-routes.routes.ids c.in_ok-routes.ensures.ids _ c.in_ok-trips.ensures.trips c.in_ok-trips.trips.ids c.in_ok-trips.ensures.ids _ c.in_ok-frequencies.ensures.frequencies c.in_ok-stops.stops.ids c.in_ok-stops.ensures.ids _ c.in_ok-calls.ensures.calls
 
 pub returns-clause-sound : goal.returns-clause-sound
 returns-clause-sound c =
@@ -86,6 +93,7 @@ returns-clause-sound c =
       dates = dates_keep caps _ _ c.in_ok-dates.ensures.dates;
       trips = subst (λ (n : ℕ). AllByRecursion (IsTrip n) c.in_ok-trips.trips.rows.items) count_routes (trips_keep caps _ _ _ trips.trips);
       trip_ids = trip_ids caps _ _ _ trips.trips;
+      frequencies = subst (λ (n : ℕ). AllByRecursion (IsFrequency n) c.in_ok-frequencies.frequencies.items) count_trips (frequencies_keep caps _ _ _ c.in_ok-frequencies.ensures.frequencies);
       calls = subst (λ (n : ℕ). AllByRecursion (IsCall n (length c.in_ok-stops.stops.rows.items)) c.in_ok-calls.calls.items) count_trips
           (subst (λ (n : ℕ). AllByRecursion (IsCall (length c.in_ok-trips.trips.ids) n) c.in_ok-calls.calls.items) count_stops (calls_keep caps _ _ _ _ calls));
       sequences = sequences caps _ _ _ _ calls;

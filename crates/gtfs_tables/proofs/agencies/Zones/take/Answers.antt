@@ -25,8 +25,7 @@ returns c header at earlier kept =
     let same = same_zone earlier zone ∙ ap (λ first. is_first first zone) (sym kept.first) ∙ sym c.in_ok-agree.ensures.same ∙ c.if-not-branch.false in
     record {
       said = zone;
-      is = faultless_row agencies header earlier (fields_of c.args.row.now) c.in-Some.number (omega (arith, c.in-Some.ensures)) zone said (without_key earlier zone) refl same
-          (subst (λ (none : List (List ℕ)). length none ≤ 0) (sym (without_record (earlier ++ zone ∷ []))) (omega arith));
+      is = faultless_row agencies header earlier (fields_of c.args.row.now) c.in-Some.number (omega (arith, c.in-Some.ensures)) zone said (without_key earlier zone) refl same tt;
       kept = record {
         counted = omega (arith, c.in-Some.ensures, length-append earlier (zone ∷ []));
         first = c.in_ok-agree.ensures.first c.if-not-branch.false ∙ ap (λ first. Some (unwrap_or first zone)) kept.first ∙ first_stays earlier zone;

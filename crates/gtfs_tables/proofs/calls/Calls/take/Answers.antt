@@ -59,7 +59,7 @@ returns-then-len-caps c header at earlier kept =
     let referred = ap₂ (λ (trip stop : Option ℕ). first_dangling (references trip stop)) trip stop in
     let pushed = c.in_ok-push.ensures.rows ∙ ap (λ (rows : Vec CallRow Global). rows.items ++ option_to_list (call_at (n + 2) c.in-Some.trip c.in-Some-place.stop time.visit)) c.in_ok-note.ensures.rows
     ∙ ap₂ (λ (trip stop : Option ℕ). c.args.self.now.rows.items ++ option_to_list (call_between time trip stop)) (sym trip) (sym stop) in
-    overflows _ _ _ _ earlier kept.holds header (fields_of c.args.row.now) n c.len.ensures.len time said new referred (λ _. refl) c.push.new.self.rows.items pushed
+    overflows _ _ _ _ earlier kept.holds header (fields_of c.args.row.now) n c.len.ensures.len time said new referred (λ _. refl) c.push.new.self.rows.items pushed _ _ refl
     (subst (λ (count : ℕ). c.args.caps.now.calls < count) (c.len-2.ensures ∙ c.push.new.self.rows.ok.0) c.if-len-caps.true)
 
 pub returns : goal.returns

@@ -26,7 +26,7 @@ returns-then-len-caps c header at earlier kept =
     let date : DateRow = record { row = n + 2; id = c.in-Ok.line.id.now; date = c.in-Ok.line.date; added = c.in-Ok.line.added } in
     let said = ap (λ columns. date_in columns (n + 2) (fields_of c.args.row.now)) (sym at) ∙ c.in-Ok.ensures (n + 2) in
     let new = known_key _ _ _ _ earlier kept is_same_pair (pair_of date) ∙ was_new _ _ c.in_ok-insert.ensures.new c.if-not-branch.false in
-    overflows _ _ _ _ earlier kept header (fields_of c.args.row.now) n c.len.ensures.value date said new refl (λ _. refl) c.push.new.self.rows.items c.in_ok-push.ensures.rows
+    overflows _ _ _ _ earlier kept header (fields_of c.args.row.now) n c.len.ensures.value date said new refl (λ _. refl) c.push.new.self.rows.items c.in_ok-push.ensures.rows _ _ refl
     (subst (λ (count : ℕ). c.args.caps.now.dates < count) (c.len-2.ensures ∙ c.push.new.self.rows.ok.0) c.if-len-caps.true)
 
 pub returns : goal.returns

@@ -27,7 +27,7 @@ returns-then-len-caps c header at earlier kept =
     let route : RouteRow = record { row = n + 2; id = c.in-Ok.line.id.now; letter = c.in-Ok.line.letter } in
     let said = ap (λ columns. route_in columns (n + 2) (fields_of c.args.row.now)) (sym at) ∙ c.in-Ok.ensures (n + 2) in
     let new = known_key _ _ _ _ earlier kept bytes_eq route.id ∙ was_new _ _ c.in_ok-insert.ensures.new c.if-not-branch.false in
-    overflows _ _ _ _ earlier kept header (fields_of c.args.row.now) n c.len.ensures.value route said new refl (λ _. refl) c.push.new.self.rows.items c.in_ok-push.ensures.rows
+    overflows _ _ _ _ earlier kept header (fields_of c.args.row.now) n c.len.ensures.value route said new refl (λ _. refl) c.push.new.self.rows.items c.in_ok-push.ensures.rows _ _ refl
     (subst (λ (count : ℕ). c.args.caps.now.routes < count) (c.len-2.ensures ∙ c.push.new.self.rows.ok.0) c.if-len-caps.true)
 
 pub returns : goal.returns

@@ -28,7 +28,7 @@ returns-then-len-caps c header at earlier kept =
     let station : Station = record { row = n + 2; id = c.in-Ok.line.id.now; place = c.in-Ok.line.place } in
     let said = ap (λ columns. station_in columns (n + 2) (fields_of c.args.row.now)) (sym at) ∙ c.in-Ok.ensures (n + 2) in
     let new = known_key _ _ _ _ earlier kept.holds bytes_eq station.id ∙ was_new _ _ c.in_ok-insert.ensures.new c.if-not-branch.false in
-    overflows _ _ _ _ earlier kept.holds header (fields_of c.args.row.now) n c.len.ensures.value station said new refl (λ _. refl) c.push.new.self.rows.items c.in_ok-push.ensures.rows
+    overflows _ _ _ _ earlier kept.holds header (fields_of c.args.row.now) n c.len.ensures.value station said new refl (λ _. refl) c.push.new.self.rows.items c.in_ok-push.ensures.rows _ _ refl
     (subst (λ (count : ℕ). c.args.caps.now.stops < count) (c.len-2.ensures ∙ c.push.new.self.rows.ok.0) c.if-len-caps.true)
 
 pub returns : goal.returns

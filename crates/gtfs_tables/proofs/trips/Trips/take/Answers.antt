@@ -41,7 +41,7 @@ returns-then-len-caps c header at earlier kept =
     let new = known_key _ _ _ _ earlier kept.holds bytes_eq journey.id ∙ was_new _ _ c.in_ok-insert.ensures.new c.if-not-branch.false in
     let known = ap (λ (place : Option ℕ). first_dangling ((RouteId, is_some place) ∷ [])) (sym c.in-Some.ensures.value) in
     let pushed = c.in_ok-push.ensures.rows ∙ ap (λ (place : Option ℕ). c.args.self.now.rows.items ++ option_to_list (option_map (trip_over journey) place)) c.in-Some.ensures.value in
-    overflows _ _ _ _ earlier kept.holds header (fields_of c.args.row.now) n c.len.ensures.value journey said new known (λ _. refl) c.push.new.self.rows.items pushed
+    overflows _ _ _ _ earlier kept.holds header (fields_of c.args.row.now) n c.len.ensures.value journey said new known (λ _. refl) c.push.new.self.rows.items pushed _ _ refl
     (subst (λ (count : ℕ). c.args.caps.now.trips < count) (c.len-2.ensures ∙ c.push.new.self.rows.ok.0) c.if-len-caps.true)
 
 pub returns : goal.returns
