@@ -1,5 +1,5 @@
 -- How rows join the earlier ones.
-use Rattle.std.proofs.Common.{◌≡◌, ℕ, ◌+◌, ◌<◌, ◌≤◌, List, [], ◌∷◌, ◌++◌, map, length, filter_map, refl, sym, ap, subst, ◌∙◌, Bool, true, false, cond, ◌||◌, nat_lt, Option, None, Some, Ok, Err, arith}
+use Rattle.std.proofs.Common.{◌≡◌, ℕ, ◌+◌, ◌<◌, List, [], ◌∷◌, ◌++◌, map, length, filter_map, refl, sym, ap, subst, ◌∙◌, Bool, true, false, cond, ◌||◌, nat_lt, Option, None, Some, Ok, Err, arith}
 use Rattle.std.specs.Prelude.{option_map, option_to_list}
 use Rattle.std.specs.List.{list_any, cons_option}
 use Rattle.std.proofs.lemmas.Bool.{cond-true, cond-false}

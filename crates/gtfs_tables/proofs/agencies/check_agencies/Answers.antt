@@ -1,4 +1,4 @@
-use Rattle.std.proofs.Common.{[], sym, arith}
+use Rattle.std.proofs.Common.{[], sym}
 use Rattle.std.proofs.lemmas.Result.{MatchResult-weaker}
 use Rattle.csv.specs.Records.{fields_of}
 use Rattle.gtfs_tables.specs.Agencies.{KeepsZones, agencies}

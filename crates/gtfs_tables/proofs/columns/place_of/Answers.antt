@@ -10,12 +10,12 @@ unfolding place_of
 returns-then-has_name c =
     let fields = fields_of c.args.header.now in
     let here = sym c.has_name.ensures ∙ c.if-has_name.true in
-    sym (ap (λ name. position (bytes_eq name) fields) (sym c.name_of-name.ensures)
-    ∙ first_place (bytes_eq c.name_of-name.result.now) fields c.loop-place.place [] (omega arith) c.loop-place.invariant here)
+    sym (ap (λ name. position (bytes_eq name) fields) (sym (c.as_bytes-name.ensures.value ∙ c.name.ensures))
+    ∙ first_place (bytes_eq c.as_bytes-name.result.now) fields c.loop-place.place [] (omega arith) c.loop-place.invariant here)
 
 pub returns : goal.returns
 unfolding place_of
 returns c =
     let fields = fields_of c.args.header.now in
-    sym (ap (λ name. position (bytes_eq name) fields) (sym c.name_of-name.ensures)
-    ∙ no_place (bytes_eq c.name_of-name.result.now) fields c.loop-place.place [] (omega arith) c.loop-place.invariant)
+    sym (ap (λ name. position (bytes_eq name) fields) (sym (c.as_bytes-name.ensures.value ∙ c.name.ensures))
+    ∙ no_place (bytes_eq c.as_bytes-name.result.now) fields c.loop-place.place [] (omega arith) c.loop-place.invariant)

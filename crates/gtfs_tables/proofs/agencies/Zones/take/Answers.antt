@@ -1,4 +1,4 @@
-use Rattle.std.proofs.Common.{ℕ, ◌≤◌, List, [], ◌∷◌, ◌++◌, length, length-append, refl, sym, ap, subst, ◌∙◌, Some, arith}
+use Rattle.std.proofs.Common.{[], ◌∷◌, length-append, refl, sym, ap, ◌∙◌, Some, arith}
 use Rattle.std.specs.Prelude.{unwrap_or}
 use Rattle.std.specs.Option.{ok_or}
 use Rattle.csv.specs.Records.{fields_of}
@@ -6,7 +6,7 @@ use Rattle.gtfs_tables.specs.declared.columns.Column.TheVariants.{AgencyTimezone
 use Rattle.gtfs_tables.specs.Agencies.{agencies, is_first}
 use Rattle.gtfs_tables.specs.Columns.{field_in}
 use Rattle.gtfs_tables.specs.Forms.{id_at}
-use Rattle.gtfs_tables.proofs.AgencyLemmas.{first_stays, same_zone, without_key, without_record}
+use Rattle.gtfs_tables.proofs.AgencyLemmas.{first_stays, same_zone, without_key}
 use Rattle.gtfs_tables.proofs.TableLemmas.{faultless_row, mixed}
 use Rattle.gtfs_tables.proofs.agencies.Zones.take.Goals as goal
 
