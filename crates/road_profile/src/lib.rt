@@ -15,11 +15,11 @@ mod tags;
 
 use legs::legs_of_ways;
 use opl_reader::Objects;
-use places::places_of;
 
 #[cfg(test)]
 mod tests;
 
+pub use places::{Places, place_of, places_of};
 pub use rows::RoadRow;
 use rows::arcs_of;
 use std::alloc::{AllocError, Global};

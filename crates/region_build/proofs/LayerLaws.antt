@@ -1,0 +1,34 @@
+-- The nearest of some points is found one after the other.
+use Rattle.std.proofs.Common.{ℕ, ℤ, zero, suc, ◌≤◌, List, [], ◌∷◌, Option, None, arith, ◌<◌}
+use Rattle.std.specs.Prelude.{fold}
+use Rattle.std.proofs.lemmas.List.Elements.{All-nil}
+use Rattle.plan_base.specs.declared.places.Place.{Place}
+use Rattle.geo_length.specs.Nearest.{Point, IsNearest, TakesIn, length_to, nearer_of}
+use Rattle.geo_length.proofs.NearestLaws.{takes_append, takes_none, takes_point}
+use Rattle.mode_network.specs.declared.nodes.Node.{Node}
+use Rattle.region_build.specs.Layers.{near_of, nearest_of}
+use Rattle.region_build.specs.Links.{FindsNearest, layer}
+
+takes_all : (place : Place) (points : List Point) (best : Option (ℤ × ℕ)) → TakesIn points place 500000 best (fold (λ (best : Option (ℤ × ℕ)) (point : Point). nearer_of 500000 best point.0 (length_to place point)) best points)
+takes_all place [] best = takes_none place 500000 best
+takes_all place (point ∷ points) best =
+    takes_append place 500000 (point ∷ []) points best (nearer_of 500000 best point.0 (length_to place point)) _ (takes_point place 500000 best point)
+    (takes_all place points (nearer_of 500000 best point.0 (length_to place point)))
+
+pub nearest_of_is : (points : List Point) (place : Place) → IsNearest points place 500000 (nearest_of points place)
+unfolding nearest_of
+nearest_of_is points place = (takes_all place points None).joined [] (All-nil (λ point. 500000 < length_to place point))
+
+-- what is nearest in the lists of a map's layers is nearest in the layers
+pub finds_nearest : (roads : List Node) (foot bike car : List Point)
+    → ((place : Place) (within : ℕ) (best : Option (ℤ × ℕ)) → IsNearest foot place within best → IsNearest (layer 0 roads) place within best)
+    → ((place : Place) (within : ℕ) (best : Option (ℤ × ℕ)) → IsNearest bike place within best → IsNearest (layer 1 roads) place within best)
+    → ((place : Place) (within : ℕ) (best : Option (ℤ × ℕ)) → IsNearest car place within best → IsNearest (layer 2 roads) place within best)
+    → FindsNearest roads (near_of foot bike car)
+finds_nearest roads foot bike car on_foot by_bike by_car = record { nearest = each }
+  where
+    each : (mode : ℕ) (place : Place) → mode ≤ 2 → IsNearest (layer mode roads) place 500000 (near_of foot bike car mode place)
+    each zero place most = on_foot place 500000 _ (nearest_of_is foot place)
+    each (suc zero) place most = by_bike place 500000 _ (nearest_of_is bike place)
+    each (suc (suc zero)) place most = by_car place 500000 _ (nearest_of_is car place)
+    each (suc (suc (suc n))) place most = absurd (omega arith)

@@ -1,0 +1,3 @@
+mod IdLaws
+mod LayerLaws
+mod NumberLaws

@@ -1,0 +1,8 @@
+use Rattle.std.proofs.Common.{◌≡◌, take}
+use Rattle.std.specs.HashMap.{get}
+use Rattle.std.specs.Ordering.{int_eq}
+use Rattle.region_build.specs.Roads.{road_nodes}
+use Rattle.region_build.proofs.roads.road_nodes.Given as goal
+
+abbrev pub invariant-loop-id : goal.invariant-loop-id
+invariant-loop-id l = l.nodes.items ≡ road_nodes (get int_eq l.places.by_id) (take l.id-index l.id-items)

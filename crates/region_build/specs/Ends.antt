@@ -1,0 +1,37 @@
+-- The ends of a map's road arcs: OSM nodes, each in the layer of a mode.
+use Rattle.std.specs.Prelude.{◌≡◌, ℕ, ℤ, List, [], ◌∷◌, ◌++◌, Bool, ◌&&◌, nat_eq, Option, if◌then◌else◌, position}
+use Rattle.std.specs.List.{flat_map, list_any}
+use Rattle.std.specs.List.Sorted.{IsPermutation, IsSorted}
+use Rattle.std.specs.Ordering.{int_cmp, int_eq, nat_cmp, ordering_then}
+use Rattle.std.specs.declared.cmp.Ordering.{Ordering}
+use Rattle.road_profile.specs.declared.rows.RoadRow.{RoadRow}
+
+-- the id of a node, and the mode
+abbrev pub End : Type 0
+End = ℤ × ℕ
+
+abbrev pub ends_at : RoadRow → List End
+ends_at row = (row.from, row.mode) ∷ (row.to, row.mode) ∷ []
+
+-- by ids, and then by modes
+abbrev pub end_cmp : End → End → Ordering
+end_cmp a b = ordering_then (int_cmp a.0 b.0) (nat_cmp a.1 b.1)
+
+abbrev pub is_end : End → End → Bool
+is_end a b = int_eq a.0 b.0 && nat_eq a.1 b.1
+
+-- those seen, and each other end once, in the order of first sight
+abbrev pub once_behind : List End → List End → List End
+once_behind seen [] = seen
+once_behind seen (end ∷ ends) = once_behind (if list_any (is_end end) seen then seen else seen ++ end ∷ []) ends
+
+-- the ends of all arcs in their order, each once
+pub record AreEnds (rows : List RoadRow) (ends : List End) : Type 0 where
+  pub sorted : List End
+  pub same : IsPermutation (flat_map ends_at rows) sorted
+  pub ascend : IsSorted end_cmp sorted
+  pub once : ends ≡ once_behind [] sorted
+
+-- the number of a road node is the place of its end
+unfoldable pub number_of : List End → End → Option ℕ
+number_of ends end = position (is_end end) ends

@@ -1,0 +1,33 @@
+-- The road nodes and the road arcs of a region.
+use Rattle.std.specs.Prelude.{ℕ, ℤ, List, Option, option_to_list, option_and_then, option_map}
+use Rattle.std.specs.List.{flat_map}
+use Rattle.std.specs.List.Sorted.{IsPermutation, IsSorted}
+use Rattle.plan_base.specs.declared.places.Place.{Place}
+use Rattle.mode_network.specs.declared.nodes.Arc.{Arc}
+use Rattle.mode_network.specs.declared.nodes.Node.{Node}
+use Rattle.mode_network.specs.declared.nodes.NodeKey.TheVariants.{Road}
+use Rattle.mode_network.specs.Rules.{arc_cmp}
+use Rattle.road_profile.specs.declared.rows.RoadRow.{RoadRow}
+use Rattle.region_build.specs.Ends.{End, number_of}
+
+-- an end with the place of its node
+unfoldable pub road_node : (ℤ → Option Place) → End → Option Node
+road_node places end = option_map (λ place. record { key = Road end.1 end.0; place = place }) (places end.0)
+
+abbrev pub road_nodes : (ℤ → Option Place) → List End → List Node
+road_nodes places ends = flat_map (λ end. option_to_list (road_node places end)) ends
+
+-- a road arc between the numbers of its ends
+abbrev pub arc_between : Option ℕ → Option ℕ → ℕ → Option Arc
+arc_between from to ms = option_and_then (λ from. option_map (λ to. record { from = from; to = to; ms = ms }) to) from
+
+unfoldable pub arc_of : List End → RoadRow → Option Arc
+arc_of ends row = arc_between (number_of ends (row.from, row.mode)) (number_of ends (row.to, row.mode)) row.ms
+
+abbrev pub arcs_of : List End → List RoadRow → List Arc
+arcs_of ends rows = flat_map (λ row. option_to_list (arc_of ends row)) rows
+
+-- these arcs in the order of the nodes that they lead from and to
+pub record AreInOrder (given arcs : List Arc) : Type 0 where
+  pub same : IsPermutation given arcs
+  pub ascend : IsSorted arc_cmp arcs
