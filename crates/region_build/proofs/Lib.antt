@@ -1,3 +1,6 @@
+mod CopyLaws
+mod GroupLaws
 mod IdLaws
 mod LayerLaws
 mod NumberLaws
+mod SourceLaws

@@ -5,3 +5,7 @@ pub mod Numbers
 pub mod Switches
 pub mod Links
 pub mod Layers
+pub mod Services
+pub mod Groups
+pub mod Sources
+pub mod Copies

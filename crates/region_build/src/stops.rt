@@ -93,7 +93,7 @@ pub(crate) fn stop_nodes(alloc: Global, entries: &[StopEntry]) -> Result<Vec<Nod
 /// The numbers of stops, by their places in the feed's list.
 #[derive(Drop)]
 pub(crate) struct StopNumbers {
-    by_stop: HashMap<u32, u32>,
+    pub(crate) by_stop: HashMap<u32, u32>,
 }
 
 // Notes the number of a stop, unless it has one.

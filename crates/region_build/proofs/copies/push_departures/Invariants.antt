@@ -1,0 +1,9 @@
+use Rattle.std.proofs.Common.{◌≡◌, ◌++◌}
+use Rattle.region_build.specs.Copies.{departing}
+use Rattle.region_build.proofs.copies.push_departures.Given as goal
+
+abbrev pub decreases-loop-most : goal.decreases-loop-most
+decreases-loop-most l = l.most
+
+abbrev pub invariant-loop-most : goal.invariant-loop-most
+invariant-loop-most l = l.times.items ++ departing l.most l.leave l.end l.headway ≡ l.initial.times.items ++ departing l.initial.most l.initial.leave l.end l.headway

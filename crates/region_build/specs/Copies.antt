@@ -1,0 +1,93 @@
+-- The trips of a region: the trips of a feed, each as often as its headways have it leave.
+use Rattle.std.specs.Prelude.{ℕ, zero, suc, ◌+◌, ◌-◌, List, [], ◌∷◌, length, map, Bool, true, false, not, ◌&&◌, nat_le, nat_lt, Option, None, Some, unwrap_or, if◌then◌else◌}
+use Rattle.std.specs.List.{flat_map, list_all}
+use Rattle.plain_texts.specs.Escape.{escaped}
+use Rattle.gtfs_tables.specs.declared.calls.CallRow.{CallRow}
+use Rattle.gtfs_tables.specs.declared.frequencies.FrequencyRow.{FrequencyRow}
+use Rattle.timetable_arcs.specs.Trips.{TripLists}
+use Rattle.timetable_arcs.specs.declared.trips.Call.{Call}
+use Rattle.region_build.specs.Sources.{SourceLists}
+
+-- when a trip leaves its first stop
+abbrev pub first_departure : List CallRow → ℕ
+first_departure [] = 0
+first_departure (call ∷ calls) = call.dep
+
+-- the times from t on at a steady headway that are before the end, at most so many
+abbrev pub departing : ℕ → ℕ → ℕ → ℕ → List ℕ
+departing zero t end headway = []
+departing (suc most) t end headway = if nat_lt t end then t ∷ departing most (t + headway) end headway else []
+
+-- when it leaves by a row of frequencies.txt: a headway takes a second or more
+unfoldable pub departures_by : FrequencyRow → List ℕ
+departures_by row = departing (row.end - row.start) row.start row.end row.headway
+
+-- A trip without headways leaves once, and one that has a headway without exact times does not run.
+unfoldable pub departures_of : SourceLists → List FrequencyRow → List ℕ
+departures_of source [] = first_departure source.calls ∷ []
+departures_of source (row ∷ rows) = if list_all (λ row. row.exact) (row ∷ rows) then flat_map departures_by (row ∷ rows) else []
+
+-- a time of the trip, where it leaves then instead; a first arrival that would fall below 0 is 0
+abbrev pub moved : ℕ → ℕ → ℕ → ℕ
+moved first leave time = time + leave - first
+
+-- a copy's times are below 168 hours
+abbrev pub is_early : ℕ → ℕ → CallRow → Bool
+is_early first leave call = nat_le (moved first leave call.arr) 604799 && nat_le (moved first leave call.dep) 604799
+
+unfoldable pub call_at : (ℕ → Option ℕ) → ℕ → ℕ → CallRow → Call
+call_at number first leave call = record {
+  stop = unwrap_or (number call.stop) 0;
+  arr = moved first leave call.arr;
+  dep = moved first leave call.dep;
+  board = call.board;
+  alight = call.alight;
+}
+
+-- the trip that leaves then; `number` gives the numbers of the stops
+unfoldable pub copy_at : (ℕ → Option ℕ) → SourceLists → ℕ → TripLists
+copy_at number source leave = record {
+  letter = source.letter;
+  days = source.days;
+  name = escaped source.id;
+  calls = map (call_at number (first_departure source.calls) leave) source.calls;
+}
+
+-- A copy with a later time is left out.
+unfoldable pub early_copy : (ℕ → Option ℕ) → SourceLists → ℕ → List TripLists
+early_copy number source leave =
+    if list_all (is_early (first_departure source.calls) leave) source.calls then copy_at number source leave ∷ [] else []
+
+-- a trip runs that has two calls or more, and some day
+abbrev pub runs : SourceLists → Bool
+runs source = nat_le 2 (length source.calls) && nat_lt 0 source.days.0
+
+unfoldable pub copies_of : (ℕ → Option ℕ) → SourceLists → List TripLists
+copies_of number source = if runs source then flat_map (early_copy number source) (departures_of source source.frequencies) else []
+
+-- the trips of a region
+unfoldable pub expanded : (ℕ → Option ℕ) → List SourceLists → List TripLists
+expanded number sources = flat_map (copies_of number) sources
+
+-- A trip's times go back where a call arrives before the one before it departs, or departs before it arrives. Those of
+-- its copies go back exactly where its own do: they are moved together, and one that would fall below 0 goes back.
+abbrev pub goes_on : ℕ → List CallRow → Bool
+goes_on t [] = true
+goes_on t (call ∷ calls) = nat_le t call.arr && nat_le call.arr call.dep && goes_on call.dep calls
+
+-- the row in trips.txt of the first trip that runs and whose times go back
+abbrev pub has_copies : List TripLists → Bool
+has_copies [] = false
+has_copies (copy ∷ copies) = true
+
+abbrev pub back_of : Bool → SourceLists → Option ℕ
+back_of copies source = if copies && not (goes_on 0 source.calls) then Some source.row else None
+
+-- this row, or else the other
+abbrev pub or_row : Option ℕ → Option ℕ → Option ℕ
+or_row (Some row) other = Some row
+or_row None other = other
+
+abbrev pub first_back : (ℕ → Option ℕ) → List SourceLists → Option ℕ
+first_back number [] = None
+first_back number (source ∷ sources) = or_row (back_of (has_copies (copies_of number source)) source) (first_back number sources)

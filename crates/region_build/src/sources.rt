@@ -1,0 +1,144 @@
+//! What the tables of a feed say of a trip.
+
+ghost use Rattle.std.specs.Prelude.{◌≡◌, ◌+◌, ◌<◌, ◌≤◌, ◌^◌, ℕ, length, filter, map, IfOk};
+ghost use Rattle.gtfs_tables.specs.Sound.{IsFeed};
+ghost use Rattle.region_build.specs.Groups.{Ascend, is_of, own_count, trip_of_call, trip_of_frequency};
+ghost use Rattle.region_build.specs.Sources as spec;
+
+use crate::services::days_of;
+use gtfs_tables::{CallRow, Feed, FrequencyRow, RouteRow, TripRow};
+use plan_base::DaySet;
+use service_days::Days;
+use std::alloc::{AllocError, Global};
+
+/// What the tables of a feed say of a trip.
+#[derive(Clone, Copy)]
+pub(crate) struct Source<'a> {
+    /// The trip's row in trips.txt.
+    pub(crate) row: u64,
+    /// trip_id
+    pub(crate) id: &'a [u8],
+    /// The letter of its route.
+    pub(crate) letter: u8,
+    /// The days of its service.
+    pub(crate) days: DaySet,
+    /// Its calls in the order of their sequence numbers.
+    pub(crate) calls: &'a [CallRow],
+    /// Its rows in frequencies.txt, in the order of that file.
+    pub(crate) frequencies: &'a [FrequencyRow],
+}
+
+/// The calls of a feed in the order of their trips and sequence numbers.
+pub(crate) fn calls_in_order(alloc: Global, calls: &[CallRow]) -> Result<Vec<CallRow>, AllocError>
+    ensures are { IfOk result (λ sorted. spec.AreCallsInOrder calls.now sorted.items) }
+    ensures ascend { IfOk result (λ sorted. Ascend trip_of_call 0 sorted.items) }
+{
+    let mut sorted = Vec::from_slice(alloc, calls)?;
+    sorted.sort_by_key(|call| (call.trip, call.sequence))?;
+    Ok(sorted)
+}
+
+/// The headways of a feed in the order of their trips and rows.
+pub(crate) fn frequencies_in_order(
+    alloc: Global,
+    frequencies: &[FrequencyRow],
+) -> Result<Vec<FrequencyRow>, AllocError>
+    ensures are { IfOk result (λ sorted. spec.AreFrequenciesInOrder frequencies.now sorted.items) }
+    ensures ascend { IfOk result (λ sorted. Ascend trip_of_frequency 0 sorted.items) }
+{
+    let mut sorted = Vec::from_slice(alloc, frequencies)?;
+    sorted.sort_by_key(|frequency| (frequency.trip, frequency.row))?;
+    Ok(sorted)
+}
+
+fn count_calls(calls: &[CallRow], trip: u32) -> usize
+    ensures { result ≡ own_count trip_of_call trip calls.now }
+{
+    calls.iter().take_while(|call| call.trip == trip).count()
+}
+
+fn count_frequencies(frequencies: &[FrequencyRow], trip: u32) -> usize
+    ensures { result ≡ own_count trip_of_frequency trip frequencies.now }
+{
+    frequencies
+        .iter()
+        .take_while(|frequency| frequency.trip == trip)
+        .count()
+}
+
+fn letter_of(routes: &[RouteRow], route: u32) -> u8
+    ensures { result ≡ spec.letter_of routes.now route }
+{
+    match routes.get(route as usize) {
+        Some(row) => row.letter,
+        None => 0,
+    }
+}
+
+fn split_calls(calls: &[CallRow], trip: u32) -> (&[CallRow], &[CallRow])
+    requires { Ascend trip_of_call trip calls.now }
+    ensures own { result.0.now ≡ filter (is_of trip_of_call trip) calls.now }
+    ensures ascend { Ascend trip_of_call (trip + 1) result.1.now }
+    ensures later { (k : ℕ) → trip + 1 ≤ k → filter (is_of trip_of_call k) result.1.now ≡ filter (is_of trip_of_call k) calls.now }
+{
+    calls.split_at(count_calls(calls, trip))
+}
+
+fn split_frequencies(frequencies: &[FrequencyRow], trip: u32) -> (&[FrequencyRow], &[FrequencyRow])
+    requires { Ascend trip_of_frequency trip frequencies.now }
+    ensures own { result.0.now ≡ filter (is_of trip_of_frequency trip) frequencies.now }
+    ensures ascend { Ascend trip_of_frequency (trip + 1) result.1.now }
+    ensures later { (k : ℕ) → trip + 1 ≤ k → filter (is_of trip_of_frequency k) result.1.now ≡ filter (is_of trip_of_frequency k) frequencies.now }
+{
+    frequencies.split_at(count_frequencies(frequencies, trip))
+}
+
+fn source_of<'a>(
+    alloc: Global,
+    feed: &'a Feed,
+    days: &Days,
+    trip: &'a TripRow,
+    calls: &'a [CallRow],
+    frequencies: &'a [FrequencyRow],
+) -> Result<Source<'a>, AllocError>
+    ensures { IfOk result (λ source. spec.IsSource feed.now days.now calls.now frequencies.now trip.now (spec.lists_of source)) }
+{
+    let days = days_of(alloc, feed, days, trip.service.as_bytes())?;
+    Ok(Source {
+        row: trip.row,
+        id: trip.id.as_bytes(),
+        letter: letter_of(&feed.routes, trip.route),
+        days,
+        calls,
+        frequencies,
+    })
+}
+
+/// What the tables say of each trip, where calls and headways are in the order of their trips.
+pub(crate) fn sources_of<'a>(
+    alloc: Global,
+    feed: &'a Feed,
+    days: &Days,
+    calls: &'a [CallRow],
+    frequencies: &'a [FrequencyRow],
+) -> Result<Vec<Source<'a>>, AllocError>
+    requires few { length feed.now.trips < 2 ^ 32 }
+    requires calls { Ascend trip_of_call 0 calls.now }
+    requires frequencies { Ascend trip_of_frequency 0 frequencies.now }
+    ensures { IfOk result (λ sources. spec.AreSourcesFrom feed.now days.now calls.now frequencies.now 0 feed.now.trips (map spec.lists_of sources.items)) }
+{
+    let mut sources = Vec::new(alloc);
+    let mut place = 0;
+    let (mut calls_left, mut frequencies_left) = (calls, frequencies);
+    let mut rest = feed.trips.as_slice();
+    while let [trip, after @ ..] = rest {
+        let (own_calls, later_calls) = split_calls(calls_left, place);
+        let (own, later_frequencies) = split_frequencies(frequencies_left, place);
+        sources.push(source_of(alloc, feed, days, trip, own_calls, own)?)?;
+        place += 1;
+        calls_left = later_calls;
+        frequencies_left = later_frequencies;
+        rest = after;
+    }
+    Ok(sources)
+}
