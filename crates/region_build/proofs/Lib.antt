@@ -1,6 +1,9 @@
+mod BuildLaws
 mod CopyLaws
 mod GroupLaws
 mod IdLaws
 mod LayerLaws
 mod NumberLaws
+mod PartLaws
 mod SourceLaws
+mod TripLaws

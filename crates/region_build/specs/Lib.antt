@@ -9,3 +9,6 @@ pub mod Services
 pub mod Groups
 pub mod Sources
 pub mod Copies
+pub mod Compiled
+pub mod Answers
+pub mod Trips

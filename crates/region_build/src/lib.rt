@@ -1,8 +1,10 @@
 //! The region of a map and a timetable feed.
 #![tactic(auto)]
 
+mod building;
 mod copies;
 mod ends;
+mod faults;
 mod layers;
 mod links;
 mod roads;
@@ -10,3 +12,6 @@ mod services;
 mod sources;
 mod stops;
 mod switches;
+
+pub use building::build;
+pub use faults::BuildFault;

@@ -90,6 +90,17 @@ pub(crate) fn stop_nodes(alloc: Global, entries: &[StopEntry]) -> Result<Vec<Nod
     Ok(nodes)
 }
 
+/// The names of these stops.
+pub(crate) fn names_of(alloc: Global, entries: Vec<StopEntry>) -> Result<Vec<Name>, AllocError>
+    ensures { IfOk result (λ names. names.items ≡ map (λ entry. entry.name) entries.items) }
+{
+    let mut names = Vec::new(alloc);
+    for entry in entries {
+        names.push(entry.name)?;
+    }
+    Ok(names)
+}
+
 /// The numbers of stops, by their places in the feed's list.
 #[derive(Drop)]
 pub(crate) struct StopNumbers {

@@ -82,7 +82,7 @@ unfolding legs_of
 legs_of-joined objects = All-flat_map (JoinsPlaces objects.nodes) (way_legs (place_at objects.nodes)) (way_legs-joined objects.nodes) objects.ways
 
 -- each arc is a leg
-arcs_joined : (objects : ObjectLists) (rows : List RoadRow) → AreRoadArcs objects rows → All (JoinsPlaces objects.nodes) rows
+pub arcs_joined : (objects : ObjectLists) (rows : List RoadRow) → AreRoadArcs objects rows → All (JoinsPlaces objects.nodes) rows
 arcs_joined objects rows arcs =
     All-weaker (Contains rows) (JoinsPlaces objects.nodes) (λ row there. All-contains (JoinsPlaces objects.nodes) (legs_of objects) row (legs_of-joined objects) ((arcs.arcs row).0 there).leg) rows (All-contains_itself rows)
 

@@ -26,7 +26,7 @@ pub All-flat_map : {X Y : Type 0} (P : Y → Type 0) (f : X → List Y) → ((x 
 All-flat_map P f each [] = All-nil P
 All-flat_map P f each (x ∷ xs) = All-append P (f x) (flat_map f xs) (each x) (All-flat_map P f each xs)
 
-duration_of-ge : (mm speed n : ℕ) → duration_of mm speed ≡ Some n → 1 ≤ n
+pub duration_of-ge : (mm speed n : ℕ) → duration_of mm speed ≡ Some n → 1 ≤ n
 unfolding duration_of
 duration_of-ge mm speed n e =
     let ms : ℕ = max 1 (div_ceil (mm * 1000) speed) in

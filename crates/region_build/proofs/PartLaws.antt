@@ -1,0 +1,173 @@
+-- What a map and a feed give keeps what a network's parts must: keys and durations.
+use Rattle.std.proofs.Common.{◌≡◌, ℕ, ℤ, zero, suc, ◌+◌, ◌<◌, ◌≤◌, List, [], ◌∷◌, ◌++◌, length, map, get_or, Bool, true, false, Option, None, Some, if◌then◌else◌, refl, sym, ap, subst, ◌∙◌, arith, option_map, add-zero, zero-add}
+use Rattle.std.specs.Prelude.{All, is_some, option_to_list}
+use Rattle.std.specs.List.{AllByRecursion, flat_map, list_any}
+use Rattle.std.specs.Ordering.{int_eq}
+use Rattle.std.proofs.lemmas.Bool.Decides.{Decides-int_eq}
+use Rattle.std.proofs.lemmas.List.{length-map}
+use Rattle.std.proofs.lemmas.List.Elements.{All-append, All-cons, All-from_recursion, All-head, All-map, All-nil, All-tail}
+use Rattle.std.proofs.lemmas.List.Sorted.{All-permutation}
+use Rattle.plain_texts.specs.Numbers.{IsId}
+use Rattle.plan_base.specs.declared.places.Place.{Place}
+use Rattle.geo_length.specs.Durations.{duration_of}
+use Rattle.opl_reader.specs.ObjectLists.{AreObjects, IsOsmId, ObjectLists}
+use Rattle.opl_reader.specs.declared.objects.OsmNode.{OsmNode}
+use Rattle.road_profile.specs.Arcs.{IsTimed, JoinsPlaces}
+use Rattle.road_profile.specs.Legs.{place_at}
+use Rattle.road_profile.specs.declared.rows.RoadRow.{RoadRow}
+use Rattle.road_profile.proofs.EndLaws.{arcs_joined}
+use Rattle.road_profile.proofs.TimedLaws.{All-flat_map, arcs_timed, duration_of-ge}
+use Rattle.gtfs_tables.specs.FeedLists.{FeedLists}
+use Rattle.mode_network.specs.NetworkLists.{NetworkLists}
+use Rattle.mode_network.specs.Rules.{AreParts, IsRoad, IsStop, IsSwitch}
+use Rattle.mode_network.specs.declared.nodes.Arc.{Arc}
+use Rattle.mode_network.specs.declared.nodes.Node.{Node}
+use Rattle.mode_network.specs.declared.nodes.NodeKey.TheVariants.{Road}
+use Rattle.region_build.specs.Compiled.{AreLists, AreRoads}
+use Rattle.region_build.specs.Ends.{End, ends_at, is_end, number_of, once_behind}
+use Rattle.region_build.specs.Links.{AreLinks, join_links, linked, linked_to, links_at, stop_links, switch_links, stop_joins, switch_joins}
+use Rattle.region_build.specs.Roads.{arc_between, arc_of, arcs_of, road_node}
+use Rattle.region_build.specs.StopNames.{stop_nodes}
+use Rattle.region_build.specs.Switches.{AreSwitches, is_switch, switch_at, switch_node}
+use Rattle.region_build.specs.declared.links.Join.{Join}
+use Rattle.region_build.specs.declared.stops.StopEntry.{StopEntry}
+
+-- what holds of all that each element gives, where the elements are such
+flat_map-if : {X Y : Type 0} (P : Y → Type 0) (Q : X → Type 0) (f : X → List Y) → ((x : X) → Q x → All P (f x)) → (xs : List X) → All Q xs → All P (flat_map f xs)
+flat_map-if P Q f each [] all = All-nil P
+flat_map-if P Q f each (x ∷ xs) all = All-append P (f x) (flat_map f xs) (each x (All-head Q x xs all)) (flat_map-if P Q f each xs (All-tail Q x xs all))
+
+-- the ends of arcs
+record IsGoodEnd (end : End) : Type 0 where
+  mode : end.1 < 3
+  id : IsId end.0
+
+placed_id : (nodes : List OsmNode) (id : ℤ) → AllByRecursion (λ (node : OsmNode). IsOsmId node.id) nodes → is_some (place_at nodes id) ≡ true → IsId id
+placed_id [] id ids e = absurd cc
+placed_id (node ∷ nodes) id ids e = by_test (int_eq node.id id) refl (placed_id nodes id ids.1) e
+  where
+    by_test : (same : Bool) → int_eq node.id id ≡ same → (is_some (place_at nodes id) ≡ true → IsId id) → is_some (if same then Some node.place else place_at nodes id) ≡ true → IsId id
+    by_test true same others e = subst IsId ((Decides-int_eq node.id id).0 same) ids.0
+    by_test false same others e = others e
+
+once_keeps : (P : End → Type 0) (seen ends : List End) → All P seen → All P ends → All P (once_behind seen ends)
+once_keeps P seen [] here there = here
+once_keeps P seen (end ∷ ends) here there = once_keeps P (if list_any (is_end end) seen then seen else seen ++ end ∷ []) ends (by_test (list_any (is_end end) seen)) (All-tail P end ends there)
+  where
+    by_test : (known : Bool) → All P (if known then seen else seen ++ end ∷ [])
+    by_test true = here
+    by_test false = All-append P seen (end ∷ []) here (All-cons P end [] (All-head P end ends there) (All-nil P))
+
+-- a row joins places, is of a mode, and takes some time
+record IsGoodRow (nodes : List OsmNode) (row : RoadRow) : Type 0 where
+  joins : JoinsPlaces nodes row
+  timed : IsTimed row
+
+both : (nodes : List OsmNode) (rows : List RoadRow) → All (JoinsPlaces nodes) rows → All IsTimed rows → All (IsGoodRow nodes) rows
+both nodes [] joins timed = All-nil (IsGoodRow nodes)
+both nodes (row ∷ rows) joins timed =
+    All-cons (IsGoodRow nodes) row rows (record { joins = All-head (JoinsPlaces nodes) row rows joins; timed = All-head IsTimed row rows timed })
+    (both nodes rows (All-tail (JoinsPlaces nodes) row rows joins) (All-tail IsTimed row rows timed))
+
+module _ (objects : ObjectLists) (sound : AreObjects objects) (ends : List End) (nodes : List Node) (arcs : List Arc) (are : AreRoads objects ends nodes arcs) where
+  good_rows : All (IsGoodRow objects.nodes) are.rows
+  good_rows = both objects.nodes are.rows (arcs_joined objects are.rows are.rows_are) (arcs_timed objects are.rows are.rows_are)
+
+  good_ends : All IsGoodEnd ends
+  good_ends =
+      let given = flat_map-if IsGoodEnd (IsGoodRow objects.nodes) ends_at (λ row good.
+      All-cons IsGoodEnd (row.from, row.mode) ((row.to, row.mode) ∷ []) (record { mode = good.timed.mode; id = placed_id objects.nodes row.from sound.node_ids good.joins.from })
+      (All-cons IsGoodEnd (row.to, row.mode) [] (record { mode = good.timed.mode; id = placed_id objects.nodes row.to sound.node_ids good.joins.to }) (All-nil IsGoodEnd))) are.rows good_rows in
+      let sorted = All-permutation IsGoodEnd (flat_map ends_at are.rows) are.ends_are.sorted are.ends_are.same given in
+      subst (All IsGoodEnd) (sym are.ends_are.once) (once_keeps IsGoodEnd [] are.ends_are.sorted (All-nil IsGoodEnd) sorted)
+
+  pub roads_keep : All (λ (node : Node). IsRoad node.key) nodes
+  unfolding road_node
+  roads_keep =
+      subst (All (λ (node : Node). IsRoad node.key)) (sym are.nodes_are)
+      (flat_map-if (λ (node : Node). IsRoad node.key) IsGoodEnd (λ end. option_to_list (road_node (place_at objects.nodes) end)) (λ end good. at_place end good (place_at objects.nodes end.0)) ends good_ends)
+    where
+      at_place : (end : End) → IsGoodEnd end → (place : Option Place) → All (λ (node : Node). IsRoad node.key) (option_to_list (option_map (λ place. record { key = Road end.1 end.0; place = place }) place))
+      at_place end good None = All-nil (λ (node : Node). IsRoad node.key)
+      at_place end good (Some place) = All-cons (λ (node : Node). IsRoad node.key) (record { key = Road end.1 end.0; place = place }) [] (good.mode, good.id) (All-nil (λ (node : Node). IsRoad node.key))
+
+  pub arcs_last : All (λ (arc : Arc). 0 < arc.ms) arcs
+  unfolding arc_of
+  arcs_last =
+      All-permutation (λ (arc : Arc). 0 < arc.ms) (arcs_of ends are.rows) arcs are.arcs_are.same
+      (flat_map-if (λ (arc : Arc). 0 < arc.ms) (IsGoodRow objects.nodes) (λ row. option_to_list (arc_of ends row)) (λ row good. between row.ms good.timed.time (number_of ends (row.from, row.mode)) (number_of ends (row.to, row.mode))) are.rows good_rows)
+    where
+      between : (ms : ℕ) → 1 ≤ ms → (from to : Option ℕ) → All (λ (arc : Arc). 0 < arc.ms) (option_to_list (arc_between from to ms))
+      between ms some None to = All-nil (λ (arc : Arc). 0 < arc.ms)
+      between ms some (Some from) None = All-nil (λ (arc : Arc). 0 < arc.ms)
+      between ms some (Some from) (Some to) = All-cons (λ (arc : Arc). 0 < arc.ms) (record { from = from; to = to; ms = ms }) [] (omega arith) (All-nil (λ (arc : Arc). 0 < arc.ms))
+
+-- each link takes some time
+abbrev Lasts : Arc → Type 0
+Lasts arc = 0 < arc.ms
+
+one_if : (there : Bool) (link : Arc) → 0 < link.ms → All Lasts (if there then link ∷ [] else [])
+one_if true link some = All-cons Lasts link [] some (All-nil Lasts)
+one_if false link some = All-nil Lasts
+
+linked_last : (join : Join) (place : ℕ) (road : Option ℕ) (mm : ℕ) (ms : Option ℕ) → duration_of mm 1400 ≡ ms → All Lasts (linked join place road ms)
+linked_last join place None mm ms e = All-nil Lasts
+linked_last join place (Some road) mm None e = All-nil Lasts
+linked_last join place (Some road) mm (Some ms) e =
+    let some : 0 < ms = let least = duration_of-ge mm 1400 ms e in omega arith in
+    All-append Lasts _ _ (one_if join.enters (record { from = road; to = place; ms = ms }) some) (one_if join.leaves (record { from = place; to = road; ms = ms }) some)
+
+linked_to_last : (ends : List End) (join : Join) (place : ℕ) (nearest : Option (ℤ × ℕ)) → All Lasts (linked_to ends join place nearest)
+linked_to_last ends join place None = All-nil Lasts
+linked_to_last ends join place (Some nearest) = linked_last join place (number_of ends (nearest.0, join.mode)) nearest.1 (duration_of nearest.1 1400) refl
+
+links_at_last : (near : ℕ → Place → Option (ℤ × ℕ)) (ends : List End) (number : ℕ) (place : Place) (joins : List Join) → All Lasts (links_at near ends number place joins)
+unfolding links_at join_links
+links_at_last near ends number place joins = All-flat_map Lasts (join_links near ends number place) (λ join. linked_to_last ends join number (near join.mode place)) joins
+
+stop_links_last : (near : ℕ → Place → Option (ℤ × ℕ)) (ends : List End) (number : ℕ) (entries : List StopEntry) → All Lasts (stop_links near ends number entries)
+stop_links_last near ends number [] = All-nil Lasts
+stop_links_last near ends number (entry ∷ entries) = All-append Lasts _ _ (links_at_last near ends number entry.place stop_joins) (stop_links_last near ends (number + 1) entries)
+
+switch_links_last : (near : ℕ → Place → Option (ℤ × ℕ)) (ends : List End) (number : ℕ) (switches : List OsmNode) → All Lasts (switch_links near ends number switches)
+switch_links_last near ends number [] = All-nil Lasts
+switch_links_last near ends number (switch ∷ switches) = All-append Lasts _ _ (links_at_last near ends number switch.place (switch_joins switch.amenity)) (switch_links_last near ends (number + 1) switches)
+
+links_last : (roads : List Node) (ends : List End) (entries : List StopEntry) (switches : List OsmNode) (links : List Arc) → AreLinks roads ends entries switches links → All Lasts links
+links_last roads ends entries switches links are =
+    All-permutation Lasts _ links are.are.same
+    (All-append Lasts _ _ (stop_links_last are.near ends (length roads) entries) (switch_links_last are.near ends (length roads + length entries) switches))
+
+-- the keys of stops and switches
+stop_nodes_keep : (j : ℕ) (entries : List StopEntry) (k : ℕ) (d : Node) → k < length (stop_nodes j entries) → IsStop (j + k) (get_or (stop_nodes j entries) k d).key
+stop_nodes_keep j [] k d below = absurd (omega arith)
+stop_nodes_keep j (entry ∷ entries) zero d below = sym (add-zero j)
+stop_nodes_keep j (entry ∷ entries) (suc k) d below =
+    let rest = stop_nodes_keep (j + 1) entries k d (omega arith) in
+    let same : j + 1 + k ≡ j + suc k = omega arith in
+    subst (λ n. IsStop n (get_or (stop_nodes (j + 1) entries) k d).key) same rest
+
+stop_nodes_long : (j : ℕ) (entries : List StopEntry) → length (stop_nodes j entries) ≡ length entries
+stop_nodes_long j [] = refl
+stop_nodes_long j (entry ∷ entries) = ap suc (stop_nodes_long (j + 1) entries)
+
+switches_keep : (nodes switches : List OsmNode) → AllByRecursion (λ (node : OsmNode). IsOsmId node.id) nodes → AreSwitches nodes switches → All (λ (node : Node). IsSwitch node.key) (map switch_node switches)
+switches_keep nodes switches ids are =
+    let given = flat_map-if (λ (node : OsmNode). IsId node.id) (λ (node : OsmNode). IsOsmId node.id) (λ node. option_to_list (switch_at node)) (λ node id. one_if_switch node id (is_switch node.amenity)) nodes (All-from_recursion (λ (node : OsmNode). IsOsmId node.id) nodes ids) in
+    All-map (λ (node : Node). IsSwitch node.key) switch_node switches (All-permutation (λ (node : OsmNode). IsId node.id) _ switches are.same given)
+  where
+    one_if_switch : (node : OsmNode) → IsOsmId node.id → (there : Bool) → All (λ (node : OsmNode). IsId node.id) (option_to_list (if there then Some node else None))
+    one_if_switch node id true = All-cons (λ (node : OsmNode). IsId node.id) node [] id (All-nil (λ (node : OsmNode). IsId node.id))
+    one_if_switch node id false = All-nil (λ (node : OsmNode). IsId node.id)
+
+-- the parts that a network is built of
+pub lists_are_parts : {feed : FeedLists} (objects : ObjectLists) (entries : List StopEntry) (n : NetworkLists) → AreObjects objects
+    → AreLists objects feed entries n.roads n.stops n.switches n.arcs n.links → n.stop_names ≡ map (λ (entry : StopEntry). entry.name) entries → AreParts n
+lists_are_parts objects entries n sound lists names = record {
+  roads_are = roads_keep objects sound lists.ends n.roads n.arcs lists.roads_are;
+  stops_are = λ k d below. subst (λ (stops : List Node). k < length stops → IsStop k (get_or stops k d).key) (sym lists.stops_are) (λ there. rw (zero-add k) at (stop_nodes_keep 0 entries k d there)) below;
+  switches_are = subst (All (λ (node : Node). IsSwitch node.key)) (sym lists.switches_are) (switches_keep objects.nodes lists.places sound.node_ids lists.places_are);
+  one_name_each = ap length names ∙ length-map entries (λ (entry : StopEntry). entry.name) ∙ sym (ap length lists.stops_are ∙ stop_nodes_long 0 entries);
+  arcs_last = arcs_last objects sound lists.ends n.roads n.arcs lists.roads_are;
+  links_last = links_last n.roads lists.ends entries lists.places n.links lists.links_are;
+}

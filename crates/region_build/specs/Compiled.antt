@@ -1,0 +1,68 @@
+-- The region of a map and a feed.
+use Rattle.std.specs.Prelude.{◌≡◌, List, map, length, Option, None, Some, nat_lt, if◌then◌else◌}
+use Rattle.plan_base.specs.declared.limits.Caps.{Caps}
+use Rattle.plan_base.specs.declared.limits.Kind.{Kind}
+use Rattle.plan_base.specs.declared.limits.Kind.TheVariants as kind
+use Rattle.service_days.specs.DaysMeaning.{DaysMeaning}
+use Rattle.opl_reader.specs.declared.objects.OsmNode.{OsmNode}
+use Rattle.opl_reader.specs.ObjectLists.{ObjectLists}
+use Rattle.road_profile.specs.Arcs.{AreRoadArcs}
+use Rattle.road_profile.specs.Legs.{place_at}
+use Rattle.road_profile.specs.declared.rows.RoadRow.{RoadRow}
+use Rattle.gtfs_tables.specs.FeedLists.{FeedLists}
+use Rattle.timetable_arcs.specs.TripRules.{calls_of}
+use Rattle.mode_network.specs.NetworkLists.{NetworkLists, nodes_of}
+use Rattle.mode_network.specs.declared.nodes.Arc.{Arc}
+use Rattle.mode_network.specs.declared.nodes.Node.{Node}
+use Rattle.region_build.specs.Copies.{expanded}
+use Rattle.region_build.specs.Ends.{AreEnds, End}
+use Rattle.region_build.specs.Links.{AreLinks}
+use Rattle.region_build.specs.Roads.{AreInOrder, arcs_of, road_nodes}
+use Rattle.region_build.specs.Sources.{AreSources, SourceLists}
+use Rattle.region_build.specs.StopNames.{AreEntries, stop_nodes, stop_number}
+use Rattle.region_build.specs.Switches.{AreSwitches, switch_node}
+use Rattle.region_build.specs.declared.stops.StopEntry.{StopEntry}
+
+-- the ends of a map's road arcs, their nodes in the order of ids and modes, and the road arcs between them
+pub record AreRoads (objects : ObjectLists) (ends : List End) (nodes : List Node) (arcs : List Arc) : Type 0 where
+  pub rows : List RoadRow
+  pub rows_are : AreRoadArcs objects rows
+  pub ends_are : AreEnds rows ends
+  pub nodes_are : nodes ≡ road_nodes (place_at objects.nodes) ends
+  pub arcs_are : AreInOrder (arcs_of ends rows) arcs
+
+-- The nodes, the road arcs and the links that a map and a feed give: the stops stand in the order of their names, and
+-- the switches in that of their ids.
+pub record AreLists (objects : ObjectLists) (feed : FeedLists) (entries : List StopEntry) (roads stops switches : List Node) (arcs links : List Arc) : Type 0 where
+  pub ends : List End
+  pub roads_are : AreRoads objects ends roads arcs
+  pub entries_are : AreEntries feed.stops entries
+  pub stops_are : stops ≡ stop_nodes 0 entries
+  pub places : List OsmNode
+  pub places_are : AreSwitches objects.nodes places
+  pub switches_are : switches ≡ map switch_node places
+  pub links_are : AreLinks roads ends entries places links
+
+-- What a map and a feed give over some days: these lists, the names of the stops, and the trips of the feed, each as
+-- often as it leaves.
+pub record IsDraft (objects : ObjectLists) (feed : FeedLists) (days : DaysMeaning) (entries : List StopEntry) (sources : List SourceLists) (n : NetworkLists) : Type 0 where
+  pub days_are : n.days ≡ days
+  pub lists : AreLists objects feed entries n.roads n.stops n.switches n.arcs n.links
+  pub names : n.stop_names ≡ map (λ entry. entry.name) entries
+  pub said : AreSources feed days sources
+  pub trips : n.trips ≡ expanded (stop_number entries) sources
+
+-- what there is too much of, tried in this order
+abbrev pub lists_kind : Caps → NetworkLists → Option Kind
+lists_kind caps n =
+    if nat_lt caps.nodes (length (nodes_of n)) then Some kind.Nodes
+    else (if nat_lt caps.stops (length n.stops) then Some kind.Stops
+    else (if nat_lt caps.arcs (length n.arcs) then Some kind.Arcs
+    else (if nat_lt caps.links (length n.links) then Some kind.Links
+    else None)))
+
+abbrev pub trips_kind : Caps → NetworkLists → Option Kind
+trips_kind caps n =
+    if nat_lt caps.trips (length n.trips) then Some kind.Trips
+    else (if nat_lt caps.calls (calls_of n.trips) then Some kind.Calls
+    else None)

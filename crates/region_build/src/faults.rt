@@ -1,0 +1,34 @@
+//! Why a map and a feed give no region.
+
+ghost use Rattle.std.specs.Prelude.{◌≡◌};
+ghost use Rattle.region_build.specs.declared.faults.BuildFault.TheVariants.{OutOfMemory};
+
+use mode_network::NetFault;
+use plan_base::Kind;
+use std::alloc::AllocError;
+use thiserror::Error;
+
+/// The first fault of what a map and a feed give.
+#[derive(Clone, Copy, Debug, PartialEq, Eq, Error)]
+pub enum BuildFault {
+    /// There is more of this kind than the limits allow: of nodes, stops, arcs, links, trips and calls the first such.
+    #[error("the region has too many of these: {kind:?}")]
+    TooMany { kind: Kind },
+    /// The times of the trip in this row of trips.txt go back.
+    #[error("trips.txt, row {row}: the times of this trip's calls go back")]
+    TimeGoesBack { row: u64 },
+    /// A rule of networks is broken.
+    #[error("the region breaks a rule of networks: {0:?}")]
+    Network(NetFault),
+    /// Memory ran out.
+    #[error("out of memory")]
+    OutOfMemory,
+}
+
+impl From<AllocError> for BuildFault {
+    ghost from_gives = { λ error fault. fault ≡ OutOfMemory };
+
+    fn from(_error: AllocError) -> BuildFault {
+        BuildFault::OutOfMemory
+    }
+}
