@@ -15,3 +15,6 @@ mod switches;
 
 pub use building::build;
 pub use faults::BuildFault;
+
+#[cfg(test)]
+mod tests;
