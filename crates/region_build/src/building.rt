@@ -9,7 +9,7 @@ ghost use Rattle.region_build.specs.Compiled.{AreLists, AreRoads, lists_kind, tr
 ghost use Rattle.region_build.specs.Answers.{IsCompiled, IsFaultOf, IsOr, fault_by, past_trips};
 ghost use Rattle.region_build.specs.Trips.{AreExpanded};
 
-use crate::copies::{Expansion, expanded};
+use crate::copies::{Expansion, LeftOut, expanded};
 use crate::ends::Ends;
 use crate::faults::BuildFault;
 use crate::links::links_of;
@@ -202,6 +202,13 @@ fn past_trips(caps: &Caps, parts: &Parts) -> BuildFault
     }
 }
 
+/// A region that was built, and what was left out of it.
+#[derive(Drop)]
+pub struct Region {
+    pub network: Network,
+    pub left_out: LeftOut,
+}
+
 /// The region of a map and a timetable feed over some days.
 ///
 /// Its road nodes are the ends of road arcs, in the order of their OSM ids and modes; its stops are those of the feed, in
@@ -217,10 +224,10 @@ pub fn build(
     feed: &Feed,
     days: Days,
     caps: &Caps,
-) -> Result<Network, BuildFault>
+) -> Result<Region, BuildFault>
     requires objects { AreObjects objects.now }
     requires feed { IsFeed feed.now }
-    ensures compiled { IfOk result (IsCompiled caps.now objects.now feed.now days) }
+    ensures compiled { IfOk result (λ region. IsCompiled caps.now objects.now feed.now days region.network) }
     ensures fault { IfErr result (IsFaultOf caps.now objects.now feed.now days) }
 {
     let lists = lists_of(alloc, objects, feed)?;
@@ -244,9 +251,17 @@ pub fn build(
         links,
         trips: Vec::new(alloc),
     };
-    let Some(Expansion { trips, back }) = expansion else {
+    let Some(
+        Expansion {
+            trips,
+            back,
+            left_out,
+        },
+    ) = expansion
+    else {
         return Err(past_trips(caps, &parts));
     };
     parts.trips = trips;
-    network_of(alloc, caps, parts, back)
+    let network = network_of(alloc, caps, parts, back)?;
+    Ok(Region { network, left_out })
 }

@@ -223,11 +223,67 @@ fn back_of(copies: bool, source: &Source<'_>) -> Option<u64>
     }
 }
 
-/// Trips, and the row in trips.txt of the first of them whose times go back.
+/// How many trips of a feed, and copies of them, do not run in a region, and why. No contract speaks of these counts: they
+/// are for notes.
+#[derive(Clone, Copy, Debug, PartialEq, Eq)]
+pub struct LeftOut {
+    /// Trips with fewer than two calls.
+    pub short: u64,
+    /// Trips with two calls or more whose service runs on no day of the region.
+    pub idle: u64,
+    /// Trips that would run, but have a headway without exact times.
+    pub inexact: u64,
+    /// Copies with a time past 167:59:59.
+    pub late: u64,
+}
+
+const NOTHING: LeftOut = LeftOut {
+    short: 0,
+    idle: 0,
+    inexact: 0,
+    late: 0,
+};
+
+impl LeftOut {
+    /// The counts with a trip more, of which so many departures gave so many copies.
+    fn with(self, source: &Source<'_>, departures: usize, copies: usize) -> LeftOut {
+        let LeftOut {
+            short,
+            idle,
+            inexact,
+            late,
+        } = self;
+        if source.calls.len() < 2 {
+            return LeftOut {
+                short: short.saturating_add(1),
+                ..self
+            };
+        }
+        if source.days.0 == 0 {
+            return LeftOut {
+                idle: idle.saturating_add(1),
+                ..self
+            };
+        }
+        if !are_exact(source.frequencies) {
+            return LeftOut {
+                inexact: inexact.saturating_add(1),
+                ..self
+            };
+        }
+        LeftOut {
+            late: late.saturating_add(departures.saturating_sub(copies) as u64),
+            ..self
+        }
+    }
+}
+
+/// Trips, the row in trips.txt of the first of them whose times go back, and what was left out.
 #[derive(Drop)]
 pub(crate) struct Expansion {
     pub(crate) trips: Vec<Trip>,
     pub(crate) back: Option<u64>,
+    pub(crate) left_out: LeftOut,
 }
 
 /// The trips of a region; `None` where there are more of them than this.
@@ -243,7 +299,7 @@ pub(crate) fn expanded(
         (λ all. (all.trips.items ≡ spec.expanded (get nat_eq numbers.now.by_stop) (map lists_of sources.now)) × (all.back ≡ spec.first_back (get nat_eq numbers.now.by_stop) (map lists_of sources.now)))) }
 {
     let (mut trips, mut times) = (Vec::new(alloc), Vec::new(alloc));
-    let mut back = None;
+    let (mut back, mut left_out) = (None, NOTHING);
     let mut rest = sources;
     while let [source, after @ ..] = rest {
         let before = trips.len();
@@ -252,7 +308,12 @@ pub(crate) fn expanded(
             return Ok(None);
         }
         back = back.or(back_of(trips.len() > before, source));
+        left_out = left_out.with(source, times.len(), trips.len().saturating_sub(before));
         rest = after;
     }
-    Ok(Some(Expansion { trips, back }))
+    Ok(Some(Expansion {
+        trips,
+        back,
+        left_out,
+    }))
 }

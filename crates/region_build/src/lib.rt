@@ -13,7 +13,8 @@ mod sources;
 mod stops;
 mod switches;
 
-pub use building::build;
+pub use building::{Region, build};
+pub use copies::LeftOut;
 pub use faults::BuildFault;
 
 #[cfg(test)]

@@ -72,7 +72,7 @@ fn region_of(
     let map = map_of(alloc)?;
     let feed = feed_of(alloc, frequencies, dates)?;
     let days = Days::new(alloc, 20240304, 1)?;
-    Ok(build(alloc, &map, &feed, days, &Caps::FULL)?)
+    Ok(build(alloc, &map, &feed, days, &Caps::FULL)?.network)
 }
 
 fn tell_trip(alloc: Global, text: &mut String, trip: &Trip) -> Result<(), Fail> {
