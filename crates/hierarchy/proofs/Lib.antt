@@ -1,0 +1,4 @@
+pub mod OffsetLemmas
+pub mod HeightLemmas
+pub mod EndLemmas
+pub mod LookupLemmas

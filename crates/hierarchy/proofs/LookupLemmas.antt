@@ -1,0 +1,129 @@
+-- What a binary search finds among entries and witnesses.
+use Rattle.std.proofs.Common.{◌≡◌, ℕ, ◌<◌, ◌≤◌, ◌⊎◌, inl, inr, ◌∙◌, List, length, get_or, refl, ap, sym, subst, arith, Ordering, Less, Equal, Greater}
+use Rattle.std.specs.Prelude.{Option, Contains}
+use Rattle.std.specs.List.Sorted.{IsNonDecreasingBy, IsPartitionPoint}
+use Rattle.std.specs.Ordering.{ordering_then, ordering_index, nat_cmp, MatchOrdering}
+use Rattle.std.specs.Cmp.{IsTotalOrder, ranks as nat_ranks}
+use Rattle.std.proofs.lemmas.Bool.{cases_lt}
+use Rattle.std.proofs.lemmas.Cmp.{then_total, on_total, nat_cmp_total, tied_itself}
+use Rattle.std.proofs.lemmas.List.{get_or_default}
+use Rattle.mode_network.proofs.FindLemmas.{answers_rise, not_there, same_ends}
+use Rattle.hierarchy.specs.declared.entry.Entry.{Entry}
+use Rattle.hierarchy.specs.Lists.{WitnessLists, first_of, last_of}
+use Rattle.hierarchy.specs.Rules.{IsAscending, entry_cmp, witness_cmp}
+use Rattle.hierarchy.specs.Soundness.{HasEntry}
+use Rattle.hierarchy.specs.Lookups.{IsEntryFor, HasNoEntry, IsWitnessFor, HasNoWitness, from_of}
+
+-- ---- entries
+
+pub entry_total : IsTotalOrder entry_cmp
+entry_total = then_total (on_total (λ (e : Entry). e.from) nat_cmp_total) (on_total (λ (e : Entry). e.to) nat_cmp_total)
+
+-- a search for the ends of an entry
+abbrev pub ends_cmp : ℕ → ℕ → Entry → Ordering
+ends_cmp u v e = ordering_then (nat_cmp e.from u) (nat_cmp e.to v)
+
+abbrev entry_of : ℕ → ℕ → ℕ → Option ℕ → Entry
+entry_of u v weight via = record { from = u; to = v; weight = weight; via = via }
+
+equal_ends : (u v : ℕ) → ordering_then (nat_cmp u u) (nat_cmp v v) ≡ Equal
+equal_ends u v = rw (tied_itself nat_cmp_total u) (tied_itself nat_cmp_total v)
+
+pub entry_found : (entries : List Entry) (u v place : ℕ) (e : Entry) → place < length entries → e ≡ get_or entries place e
+    → ((d : Entry) → ends_cmp u v (get_or entries place d) ≡ Equal) → IsEntryFor entries u v e
+entry_found entries u v place e lt is same =
+    let ends = same_ends e.from u e.to v (subst (λ (x : Entry). ends_cmp u v x ≡ Equal) (sym is) (same e)) in
+    record { listed = (place, lt, sym is); from = ends.0; to = ends.1 }
+
+pub entry_missing : (entries : List Entry) → IsAscending entry_cmp entries → (u v place : ℕ)
+    → (IsNonDecreasingBy (λ e. ordering_index (ends_cmp u v e)) entries → IsPartitionPoint (λ e. ends_cmp u v e ≡ Less) (λ e. ends_cmp u v e ≡ Greater) entries place)
+    → HasNoEntry entries u v
+entry_missing entries ascend u v place ended weight (via, (k, lt, is)) =
+    let e = entry_of u v weight via in
+    not_there entry_cmp entry_total entries ascend e place (ended (answers_rise entry_cmp entry_total entries ascend e)) k e lt
+    (subst (λ (x : Entry). ends_cmp u v x ≡ Equal) (sym is) (equal_ends u v))
+
+-- an entry that stands before another begins at no later node
+pub from_rises : (entries : List Entry) → IsAscending entry_cmp entries → IsNonDecreasingBy from_of entries
+from_rises entries ascend i j d le lt = elim (cases_lt i j) [
+  | inl before ↦ first_less (get_or entries i d).from (get_or entries j d).from (nat_cmp (get_or entries i d).to (get_or entries j d).to) (ascend i j d before lt)
+  | inr after ↦ (let same : i ≡ j = omega arith in subst (λ k. (get_or entries i d).from ≤ (get_or entries k d).from) same (omega arith))
+] where
+  first_less : (a b : ℕ) (o : Ordering) → ordering_then (nat_cmp a b) o ≡ Less → a ≤ b
+  first_less a b o e = by_order (nat_cmp a b) (nat_ranks a b) e
+    where
+      by_order : (r : Ordering) → MatchOrdering r (a < b) (a ≡ b) (b < a) → ordering_then r o ≡ Less → a ≤ b
+      by_order Less h e = omega arith
+      by_order Equal h e = omega arith
+      by_order Greater h e = cc
+
+-- what is listed with the ends of an entry is that entry
+pub entry_once : (entries : List Entry) → IsAscending entry_cmp entries → (a b : Entry) → Contains entries a → Contains entries b → a.from ≡ b.from → a.to ≡ b.to → a ≡ b
+entry_once entries ascend a b (i, hi, at_i) (j, hj, at_j) from to = by_place (cases_lt i j) (cases_lt j i)
+  where
+    tied : entry_cmp a b ≡ Equal
+    tied = rw (from, to) (equal_ends b.from b.to)
+
+    tied_back : entry_cmp b a ≡ Equal
+    tied_back = rw (from, to) (equal_ends b.from b.to)
+
+    by_place : (i < j) ⊎ (j ≤ i) → (j < i) ⊎ (i ≤ j) → a ≡ b
+    by_place (inl lt) back =
+        let less : entry_cmp a b ≡ Less = subst (λ (x : Entry). entry_cmp x b ≡ Less) at_i (subst (λ (y : Entry). entry_cmp (get_or entries i a) y ≡ Less) (get_or_default entries j a b hj ∙ at_j) (ascend i j a lt hj)) in
+        let clash : Less ≡ Equal = sym less ∙ tied in cc
+    by_place (inr le) (inl lt) =
+        let less : entry_cmp b a ≡ Less = subst (λ (x : Entry). entry_cmp x a ≡ Less) at_j (subst (λ (y : Entry). entry_cmp (get_or entries j b) y ≡ Less) (get_or_default entries i b a hi ∙ at_i) (ascend j i b lt hi)) in
+        let clash : Less ≡ Equal = sym less ∙ tied_back in cc
+    by_place (inr le) (inr ge) =
+        let same : i ≡ j = omega arith in
+        sym at_i ∙ ap (λ k. get_or entries k a) same ∙ get_or_default entries j a b hj ∙ at_j
+
+-- so a pair of nodes has one weight
+pub weight_once : (entries : List Entry) → IsAscending entry_cmp entries → (u v a b : ℕ) → HasEntry entries u v a → HasEntry entries u v b → a ≡ b
+weight_once entries ascend u v a b (p, first) (q, second) =
+    ap (λ (e : Entry). e.weight) (entry_once entries ascend (entry_of u v a p) (entry_of u v b q) first second refl refl)
+
+-- ---- witnesses
+
+pub witness_total : IsTotalOrder witness_cmp
+witness_total =
+    then_total (then_total (on_total (λ (w : WitnessLists). w.below) nat_cmp_total) (on_total (λ (w : WitnessLists). first_of w.nodes) nat_cmp_total))
+    (on_total (λ (w : WitnessLists). last_of w.nodes) nat_cmp_total)
+
+abbrev pub walk_cmp : ℕ → ℕ → ℕ → WitnessLists → Ordering
+walk_cmp below first last w = ordering_then (ordering_then (nat_cmp w.below below) (nat_cmp (first_of w.nodes) first)) (nat_cmp (last_of w.nodes) last)
+
+same_three : (a u b v c w : ℕ) → ordering_then (ordering_then (nat_cmp a u) (nat_cmp b v)) (nat_cmp c w) ≡ Equal → (a ≡ u) × (b ≡ v) × (c ≡ w)
+same_three a u b v c w e = by_first (ordering_then (nat_cmp a u) (nat_cmp b v)) refl e
+  where
+    by_last : (o : Ordering) → MatchOrdering o (c < w) (c ≡ w) (w < c) → o ≡ Equal → c ≡ w
+    by_last Less h e = cc
+    by_last Equal h e = h
+    by_last Greater h e = cc
+
+    by_first : (o : Ordering) → ordering_then (nat_cmp a u) (nat_cmp b v) ≡ o → ordering_then o (nat_cmp c w) ≡ Equal → (a ≡ u) × (b ≡ v) × (c ≡ w)
+    by_first Less h e = cc
+    by_first Equal h e = let ends = same_ends a u b v h in (ends.0, ends.1, by_last (nat_cmp c w) (nat_ranks c w) e)
+    by_first Greater h e = cc
+
+pub witness_found : (witnesses : List WitnessLists) (below first last place : ℕ) (w : WitnessLists) → place < length witnesses → w ≡ get_or witnesses place w
+    → ((d : WitnessLists) → walk_cmp below first last (get_or witnesses place d) ≡ Equal) → IsWitnessFor witnesses below first last w
+witness_found witnesses below first last place w lt is same =
+    let three = same_three w.below below (first_of w.nodes) first (last_of w.nodes) last (subst (λ (x : WitnessLists). walk_cmp below first last x ≡ Equal) (sym is) (same w)) in
+    record { listed = (place, lt, sym is); below_is = three.0; first_is = three.1; last_is = three.2 }
+
+-- a search for a walk is one for any walk with these ends
+pub witness_missing : (witnesses : List WitnessLists) → IsAscending witness_cmp witnesses → (below first last place : ℕ)
+    → (IsNonDecreasingBy (λ w. ordering_index (walk_cmp below first last w)) witnesses
+    → IsPartitionPoint (λ w. walk_cmp below first last w ≡ Less) (λ w. walk_cmp below first last w ≡ Greater) witnesses place)
+    → HasNoWitness witnesses below first last
+witness_missing witnesses ascend below first last place ended w is =
+    let listed = is.listed in
+    not_there witness_cmp witness_total witnesses ascend w place (as_walk (λ b f l. IsNonDecreasingBy (λ y. ordering_index (walk_cmp b f l y)) witnesses
+    → IsPartitionPoint (λ y. walk_cmp b f l y ≡ Less) (λ y. walk_cmp b f l y ≡ Greater) witnesses place) ended (answers_rise witness_cmp witness_total witnesses ascend w)) listed.0 w listed.1
+    (subst (λ (x : WitnessLists). witness_cmp x w ≡ Equal) (sym listed.2) (tied_itself witness_total w))
+  where
+    as_walk : (P : ℕ → ℕ → ℕ → Type 0) → P below first last → P w.below (first_of w.nodes) (last_of w.nodes)
+    as_walk P holds =
+        subst (λ b. P b (first_of w.nodes) (last_of w.nodes)) (sym is.below_is)
+        (subst (λ f. P below f (last_of w.nodes)) (sym is.first_is) (subst (λ l. P below first l) (sym is.last_is) holds))

@@ -1,0 +1,40 @@
+use Rattle.std.proofs.Common.{◌≡◌, ℕ, ◌+◌, ◌<◌, ◌∙◌, length, sym, ap, subst, arith, rules}
+use Rattle.std.specs.Prelude.{All}
+use Rattle.std.proofs.lemmas.List.Elements.{All-weaker}
+use Rattle.hierarchy.specs.declared.entry.Entry.{Entry}
+use Rattle.hierarchy.specs.Lists.{HierarchyLists}
+use Rattle.hierarchy.specs.Lookups.{AreFrom, count_below, range_of, from_of}
+use Rattle.hierarchy.specs.Indexes.{AreEndsBelow}
+use Rattle.hierarchy.proofs.LookupLemmas.{from_rises}
+use Rattle.hierarchy.proofs.OffsetLemmas.{are_from, none_from, count_all, read_count}
+use Rattle.hierarchy.proofs.hierarchy.Hierarchy.entries_from.Goals as goal
+
+below : (entries : _) (nodes : ℕ) → All (AreEndsBelow nodes) entries → All (λ (e : Entry). e.from < nodes) entries
+below entries nodes all = All-weaker (AreEndsBelow nodes) (λ (e : Entry). e.from < nodes) (λ e h. h.0) entries all
+
+pub returns-then-u-self-clause-are : goal.returns-then-u-self-clause-are
+returns-then-u-self-clause-are c =
+    let entries = c.self.inside.entries.items in
+    let low = read_count from_of c.self.inside.nodes entries c.self.inside.from_offsets.items c.self.invariant.from c.args.u c.index.result.now (omega (arith, c.if-u-self.true)) c.index.ensures in
+    let high = read_count from_of c.self.inside.nodes entries c.self.inside.from_offsets.items c.self.invariant.from (c.args.u + 1) c.index-then-u-self.result.now (omega (arith, c.if-u-self.true)) c.index-then-u-self.ensures in
+    subst (λ (h : HierarchyLists). AreFrom h.entries c.args.u c.index.result.now c.index-then-u-self.result.now) c.self.view_is
+    (rw (low, high) (are_from entries (from_rises entries c.self.invariant.rules.entries_ascend) c.args.u))
+
+pub returns-else-u-self-clause-range : goal.returns-else-u-self-clause-range
+returns-else-u-self-clause-range c =
+    let entries = c.self.inside.entries.items in
+    let long : c.len-count.result ≡ length entries = search rules in
+    let lower = below entries c.self.inside.nodes c.self.invariant.below.entries in
+    let low : count_below from_of entries c.args.u ≡ length entries =
+    count_all from_of entries c.args.u (All-weaker (λ (e : Entry). e.from < c.self.inside.nodes) (λ (e : Entry). e.from < c.args.u) (λ e h. omega (arith, c.if-u-self.false)) entries lower) in
+    let high : count_below from_of entries (c.args.u + 1) ≡ length entries =
+    count_all from_of entries (c.args.u + 1) (All-weaker (λ (e : Entry). e.from < c.self.inside.nodes) (λ (e : Entry). e.from < c.args.u + 1) (λ e h. omega (arith, c.if-u-self.false)) entries lower) in
+    let same = ap (λ n. (n, c.len-count.result)) (long ∙ sym low) ∙ ap (λ n. (count_below from_of entries c.args.u, n)) (long ∙ sym high) in
+    subst (λ (h : HierarchyLists). (c.len-count.result, c.len-count.result) ≡ range_of from_of h.entries c.args.u) c.self.view_is same
+
+pub returns-else-u-self-clause-are : goal.returns-else-u-self-clause-are
+returns-else-u-self-clause-are c =
+    let entries = c.self.inside.entries.items in
+    let long : c.len-count.result ≡ length entries = search rules in
+    subst (λ (h : HierarchyLists). AreFrom h.entries c.args.u c.len-count.result c.len-count.result) c.self.view_is
+    (rw long (none_from entries c.args.u c.self.inside.nodes c.if-u-self.false (below entries c.self.inside.nodes c.self.invariant.below.entries)))

@@ -1,0 +1,171 @@
+//! A hierarchy: its lists, and what finds things in them.
+
+ghost use Rattle.std.specs.Prelude.{◌≡◌, IfOk, MatchOption};
+ghost use Rattle.hierarchy.specs.Lists.{height_in, is_above, is_contracted};
+ghost use Rattle.hierarchy.specs.Rules.{IsHierarchy};
+ghost use Rattle.hierarchy.specs.Lookups.{IsEntryFor, HasNoEntry, IsWitnessFor, HasNoWitness, AreFrom, AreInto, range_of, from_of};
+
+use crate::entry::{Entry, Witness};
+use crate::heights::{heights, past_entries, past_order};
+use crate::lookup::{entry_between, witness_between};
+use crate::offsets::{ends, offsets, places};
+use std::alloc::{AllocError, Global};
+use std::marker::Model;
+
+/// An order of contracted nodes, entries and witnesses. A contract sees these lists.
+#[derive(Drop)]
+pub struct Hierarchy {
+    order: Vec<u32>,
+    entries: Vec<Entry>,
+    witnesses: Vec<Witness>,
+    nodes: u32,
+    heights: Vec<u64>,
+    from_offsets: Vec<u64>,
+    into_offsets: Vec<u64>,
+    into: Vec<u64>,
+}
+
+impl Model for Hierarchy {
+    ghost use Rattle.hierarchy.specs.Lists.{HierarchyLists};
+
+    ghost Value = { HierarchyLists };
+
+    ghost use Rattle.hierarchy.specs.Inside.{lists_of, IsKept};
+
+    ghost view = { lists_of };
+
+    ghost invariant = { IsKept };
+}
+
+impl Hierarchy {
+    /// The hierarchy with these lists. Entries ascend strictly by (from, to), and witnesses by (below, first node,
+    /// last node); each witness has at least two nodes, and every node is below 2^24.
+    pub fn new(
+        alloc: Global,
+        order: Vec<u32>,
+        entries: Vec<Entry>,
+        witnesses: Vec<Witness>,
+    ) -> Result<Hierarchy, AllocError>
+        requires { IsHierarchy (record { order = order.items; entries = entries.items; witnesses = witnesses.items }) }
+        ensures { IfOk result (λ h. h ≡ record { order = order.items; entries = entries.items; witnesses = witnesses.items }) }
+    {
+        let nodes = past_entries(&entries, past_order(&order));
+        let heights = heights(alloc, nodes, &order)?;
+        let from_offsets = offsets(alloc, nodes, &entries)?;
+        let ends = ends(alloc, &entries)?;
+        let into_offsets = offsets(alloc, nodes, &ends)?;
+        let into = places(alloc, &ends)?;
+        Ok(Hierarchy {
+            order,
+            entries,
+            witnesses,
+            nodes,
+            heights,
+            from_offsets,
+            into_offsets,
+            into,
+        })
+    }
+
+    /// Each hierarchy keeps the rules of [`new`](Self::new).
+    pub fn known(&self)
+        ensures { IsHierarchy self.now }
+    {
+        let _ = &self.order;
+    }
+
+    /// The contracted nodes, lowest first.
+    pub fn order(&self) -> &[u32]
+        ensures { result.now ≡ self.now.order }
+    {
+        &self.order
+    }
+
+    /// The entries, ascending by (from, to).
+    pub fn entries(&self) -> &[Entry]
+        ensures { result.now ≡ self.now.entries }
+    {
+        &self.entries
+    }
+
+    /// The witnesses, ascending by (below, first node, last node).
+    pub fn witnesses(&self) -> &[Witness]
+        ensures { result.now ≡ self.now.witnesses }
+    {
+        &self.witnesses
+    }
+
+    /// The first place of `v` in the order, or the order's length where it is not in it.
+    pub fn height(&self, v: u32) -> u64
+        ensures { result ≡ height_in self.now.order v }
+    {
+        if v < self.nodes {
+            self.heights[v as usize]
+        } else {
+            self.order.len() as u64
+        }
+    }
+
+    /// Whether `v` is above `u`: `u` is in the order, and `v` is later in it or core. A node that is listed twice has
+    /// its first place.
+    pub fn above(&self, v: u32, u: u32) -> bool
+        ensures { result ≡ is_above self.now.order v u }
+    {
+        self.height(u) < self.height(v)
+    }
+
+    /// Whether `v` is in the order; else it is core.
+    pub fn contracted(&self, v: u32) -> bool
+        ensures { result ≡ is_contracted self.now.order v }
+    {
+        self.height(v) < self.order().len() as u64
+    }
+
+    /// The entry from `u` to `v`; None exactly where there is none.
+    pub fn entry(&self, u: u32, v: u32) -> Option<&Entry>
+        ensures { MatchOption result (HasNoEntry self.now.entries u v) (λ e. IsEntryFor self.now.entries u v e.now) }
+    {
+        self.known();
+        entry_between(self.entries(), u, v)
+    }
+
+    /// The first place in [`entries`](Self::entries) of those from `u`, and one past the last. Where nothing is from
+    /// `u`, both are the number of the entries from lower nodes.
+    pub fn entries_from(&self, u: u32) -> (u64, u64)
+        ensures range { result ≡ range_of from_of self.now.entries u }
+        ensures are { AreFrom self.now.entries u result.0 result.1 }
+    {
+        if u < self.nodes {
+            (
+                self.from_offsets[u as usize],
+                self.from_offsets[u as usize + 1],
+            )
+        } else {
+            let count = self.entries.len() as u64;
+            (count, count)
+        }
+    }
+
+    /// The places in [`entries`](Self::entries) of those that end at `x`, ascending.
+    pub fn entries_into(&self, x: u32) -> &[u64]
+        ensures { AreInto self.now.entries x result.now }
+    {
+        if x < self.nodes {
+            let first = self.into_offsets[x as usize] as usize;
+            let end = self.into_offsets[x as usize + 1] as usize;
+            &self.into[first..end]
+        } else {
+            &[]
+        }
+    }
+
+    /// The witness that is listed for `below` from `first` to `last`; None exactly where there is none.
+    pub fn witness_for(&self, below: u32, first: u32, last: u32) -> Option<&Witness>
+        ensures { MatchOption result
+            (HasNoWitness self.now.witnesses below first last)
+            (λ w. IsWitnessFor self.now.witnesses below first last w.now) }
+    {
+        self.known();
+        witness_between(self.witnesses(), below, first, last)
+    }
+}

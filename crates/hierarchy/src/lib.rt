@@ -1,0 +1,14 @@
+//! Contraction hierarchies over the road layers of a network: their order, entries and witnesses, and when they
+//! are sound.
+#![tactic(auto)]
+
+pub mod entry;
+mod heights;
+pub mod hierarchy;
+mod lookup;
+pub mod offsets;
+pub mod verdict;
+
+pub use entry::{Entry, Witness};
+pub use hierarchy::Hierarchy;
+pub use verdict::Verdict;
