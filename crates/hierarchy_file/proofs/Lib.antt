@@ -1,0 +1,5 @@
+pub mod LoopLemmas
+pub mod FieldLaws
+pub mod ManyLaws
+pub mod RecordLaws
+pub mod WholeLaws

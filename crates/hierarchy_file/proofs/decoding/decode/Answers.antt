@@ -1,0 +1,9 @@
+use Rattle.std.proofs.Common.{arith}
+use Rattle.hierarchy_file.proofs.WholeLaws.{gives_found, gives_only}
+use Rattle.hierarchy_file.proofs.decoding.decode.Goals as goal
+
+pub returns-clause-found : goal.returns-clause-found
+returns-clause-found c = gives_found c.args.bytes.now c.read.result (λ i. omega (arith, c.type_inv.bytes i)) c.read.ensures
+
+pub returns-clause-only : goal.returns-clause-only
+returns-clause-only c = gives_only c.args.bytes.now c.read.result c.read.ensures

@@ -1,0 +1,12 @@
+use Rattle.std.proofs.Common.{◌≡◌, ◌++◌, ◌<◌, ◌^◌, length, take}
+use Rattle.std.specs.Prelude.{All}
+use Rattle.std.specs.List.{flat_map}
+use Rattle.hierarchy.specs.Lists.{WitnessLists}
+use Rattle.hierarchy_file.specs.Spelling.{witness_text}
+use Rattle.hierarchy_file.proofs.encoding.push_witnesses.Given as goal
+
+abbrev pub invariant-loop-witness : goal.invariant-loop-witness
+invariant-loop-witness l = record {
+  text : l.out.items ≡ l.fn.out.items ++ flat_map witness_text (take l.witness-index l.witnesses);
+  fit : All (λ (witness : WitnessLists). length witness.nodes < 2 ^ 64) (take l.witness-index l.witnesses);
+}

@@ -1,0 +1,102 @@
+//! From bytes to a hierarchy.
+
+ghost use Rattle.std.specs.Prelude.{◌≡◌, Ok, IfOk};
+ghost use Rattle.hierarchy.specs.Lists.{HierarchyLists};
+ghost use Rattle.hierarchy_file.specs.Spelling.{hierarchy_text, HasSpelling};
+ghost use Rattle.hierarchy_file.specs.Reading.{Gives, GivesHierarchy, records_of, hierarchy_of};
+
+use crate::fault::{HFileFault, Halt};
+use crate::head::{Counts, head_at};
+use crate::records::{entries_of, nodes_of, witnesses_of};
+use hierarchy::{Entry, Hierarchy, Witness};
+use std::alloc::Global;
+use std::marker::Model;
+
+/// The lists of a hierarchy. A contract sees them as lists.
+#[derive(Drop)]
+pub struct Lists {
+    order: Vec<u32>,
+    entries: Vec<Entry>,
+    witnesses: Vec<Witness>,
+}
+
+impl Model for Lists {
+    ghost use Rattle.hierarchy.specs.Lists.{HierarchyLists};
+
+    ghost Value = { HierarchyLists };
+
+    ghost view = { λ l. record { order = l.order.items; entries = l.entries.items; witnesses = l.witnesses.items } };
+}
+
+/// All records, and the bytes behind them.
+#[tactic(auto, unfolding(crate::specs::Reading::records_of))]
+fn records_of(alloc: Global, counts: Counts, bytes: &[u8]) -> Result<(Lists, &[u8]), Halt>
+    ensures { Gives (λ x. (x.0, x.1.now)) result (records_of counts bytes.now) }
+{
+    let (order, rest) = nodes_of(alloc, counts.order, bytes)?;
+    let (entries, rest) = entries_of(alloc, counts.entries, rest)?;
+    let (witnesses, rest) = witnesses_of(alloc, counts.witnesses, rest)?;
+    Ok((
+        Lists {
+            order,
+            entries,
+            witnesses,
+        },
+        rest,
+    ))
+}
+
+/// The lists that the bytes spell.
+#[tactic(auto, unfolding(crate::specs::Reading::hierarchy_of))]
+fn lists_of(alloc: Global, bytes: &[u8]) -> Result<Lists, HFileFault>
+    ensures { GivesHierarchy result (hierarchy_of bytes.now) }
+{
+    let Some((counts, rest)) = head_at(bytes) else {
+        return Err(HFileFault::BadHead);
+    };
+    match records_of(alloc, counts, rest) {
+        Err(Halt::Memory) => Err(HFileFault::OutOfMemory),
+        Err(Halt::Left(left)) => Err(HFileFault::BadRecord {
+            at: (bytes.len() as u64).saturating_sub(left),
+        }),
+        Ok((lists, rest)) => {
+            if rest.is_empty() {
+                Ok(lists)
+            } else {
+                Err(HFileFault::Trailing {
+                    at: (bytes.len() as u64).saturating_sub(rest.len() as u64),
+                })
+            }
+        }
+    }
+}
+
+fn read(alloc: Global, bytes: &[u8]) -> Result<Hierarchy, HFileFault>
+    ensures { GivesHierarchy result (hierarchy_of bytes.now) }
+{
+    let Lists {
+        order,
+        entries,
+        witnesses,
+    } = lists_of(alloc, bytes)?;
+    Ok(Hierarchy::new(alloc, order, entries, witnesses)?)
+}
+
+/// The hierarchy that the bytes spell.
+///
+/// They begin with the magic `MPHIER01` and the counts of order nodes, entries and witnesses. Each order node, each
+/// entry and each witness is a record; a witness has the count of its nodes before them. All numbers are big-endian:
+/// counts and weights have eight bytes, and nodes four, where 2^32 - 1 stands for no middle node. Each hierarchy has
+/// exactly one spelling, and other bytes are refused: first where the head is not there, then at the first record that
+/// is cut short or breaks a rule of [`Hierarchy::new`], and at last where bytes follow the records. No more room is
+/// taken than the records need that are there.
+pub fn decode(alloc: Global, bytes: &[u8]) -> Result<Hierarchy, HFileFault>
+    // What is read keeps the rules of a hierarchy, and is spelled so.
+    ensures found { IfOk result (λ h. HasSpelling h × (bytes.now ≡ hierarchy_text h)) }
+    // The hierarchy that is spelled so is read, unless memory runs out.
+    ensures only { (h : HierarchyLists) → HasSpelling h → bytes.now ≡ hierarchy_text h → GivesHierarchy result (Ok h) }
+    // Which fault it is.
+    ensures exact { GivesHierarchy result (hierarchy_of bytes.now) }
+{
+    read(alloc, bytes)
+}

@@ -1,0 +1,90 @@
+//! From a hierarchy to bytes.
+
+ghost use Rattle.std.specs.Prelude.{◌≡◌, ◌++◌, ◌<◌, ◌^◌, Ok, All, IfOk, OnOk, length};
+ghost use Rattle.std.specs.List.{flat_map};
+ghost use Rattle.hierarchy_file.specs.Spelling.{node_text, entry_text, witness_text, middle_number, hierarchy_text};
+ghost use Rattle.hierarchy_file.specs.Reading.{hierarchy_of};
+
+use crate::head::{Counts, push_head};
+use crate::numbers::{push_u32, push_u64};
+use crate::records::NO_MIDDLE;
+use hierarchy::{Entry, Hierarchy, Witness};
+use std::alloc::{AllocError, Global};
+
+fn push_nodes(out: &mut Vec<u8>, nodes: &[u32]) -> Result<(), AllocError>
+    ensures { OnOk result (out.new.items ≡ out.old.items ++ flat_map node_text nodes.now) }
+{
+    for node in nodes {
+        push_u32(out, *node)?;
+    }
+    Ok(())
+}
+
+fn middle_number(via: Option<u32>) -> u32
+    ensures { result ≡ middle_number via }
+{
+    match via {
+        Some(middle) => middle,
+        None => NO_MIDDLE,
+    }
+}
+
+fn push_entry(out: &mut Vec<u8>, entry: Entry) -> Result<(), AllocError>
+    ensures text { OnOk result (out.new.items ≡ out.old.items ++ entry_text entry) }
+    ensures fit { OnOk result (entry.weight < 2 ^ 64) }
+{
+    push_u32(out, entry.from)?;
+    push_u32(out, entry.to)?;
+    push_u64(out, entry.weight)?;
+    push_u32(out, middle_number(entry.via))?;
+    Ok(())
+}
+
+fn push_entries(out: &mut Vec<u8>, entries: &[Entry]) -> Result<(), AllocError>
+    ensures text { OnOk result (out.new.items ≡ out.old.items ++ flat_map entry_text entries.now) }
+    ensures fit { OnOk result (All (λ entry. entry.weight < 2 ^ 64) entries.now) }
+{
+    for entry in entries {
+        push_entry(out, *entry)?;
+    }
+    Ok(())
+}
+
+fn push_witness(out: &mut Vec<u8>, witness: &Witness) -> Result<(), AllocError>
+    ensures text { OnOk result (out.new.items ≡ out.old.items ++ witness_text witness.now) }
+    ensures fit { OnOk result (length witness.now.nodes < 2 ^ 64) }
+{
+    push_u32(out, witness.below)?;
+    push_u64(out, witness.nodes.len() as u64)?;
+    push_nodes(out, &witness.nodes)?;
+    Ok(())
+}
+
+fn push_witnesses(out: &mut Vec<u8>, witnesses: &[Witness]) -> Result<(), AllocError>
+    ensures text { OnOk result (out.new.items ≡ out.old.items ++ flat_map witness_text witnesses.now) }
+    ensures fit { OnOk result (All (λ witness. length witness.nodes < 2 ^ 64) witnesses.now) }
+{
+    for witness in witnesses {
+        push_witness(out, witness)?;
+    }
+    Ok(())
+}
+
+/// The one spelling of a hierarchy, which [`decode`](crate::decode) reads again.
+pub fn encode(alloc: Global, h: &Hierarchy) -> Result<Vec<u8>, AllocError>
+    ensures text { IfOk result (λ bytes. bytes.items ≡ hierarchy_text h.now) }
+    ensures again { IfOk result (λ bytes. hierarchy_of bytes.items ≡ Ok h.now) }
+{
+    h.known();
+    let mut out = Vec::new(alloc);
+    let counts = Counts {
+        order: h.order().len() as u64,
+        entries: h.entries().len() as u64,
+        witnesses: h.witnesses().len() as u64,
+    };
+    push_head(&mut out, counts)?;
+    push_nodes(&mut out, h.order())?;
+    push_entries(&mut out, h.entries())?;
+    push_witnesses(&mut out, h.witnesses())?;
+    Ok(out)
+}

@@ -1,0 +1,13 @@
+//! Hierarchies as bytes: an order, entries and witnesses in records, with exactly one spelling.
+#![tactic(auto)]
+
+mod decoding;
+mod encoding;
+pub mod fault;
+pub mod head;
+mod numbers;
+mod records;
+
+pub use decoding::decode;
+pub use encoding::encode;
+pub use fault::HFileFault;

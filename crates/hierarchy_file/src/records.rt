@@ -1,0 +1,188 @@
+//! The records of a hierarchy, read one after the other.
+
+ghost use Rattle.std.specs.Prelude.{◌≡◌, ℕ, option_map, IfOk};
+ghost use Rattle.hierarchy_file.specs.Spelling.{key_of_entry, key_of_witness, pair_cmp, three_cmp};
+ghost use Rattle.hierarchy_file.specs.Reading.{Gives, node_at, next_node, middle_of, entry_at, witness_at, many, is_after};
+
+use crate::fault::Halt;
+use crate::numbers::{u32_at, u64_at};
+use hierarchy::{Entry, Witness};
+use std::alloc::{AllocError, Global};
+
+/// Nodes have lower numbers than this.
+const NODES: u32 = 1 << 24;
+
+/// What stands for no middle node.
+pub(crate) const NO_MIDDLE: u32 = 0xffff_ffff;
+
+/// The node number at the front of the bytes.
+#[tactic(auto, unfolding(crate::specs::Reading::node_at))]
+fn node_at(bytes: &[u8]) -> Option<(u32, &[u8])>
+    ensures { option_map (λ x. (x.0, x.1.now)) result ≡ node_at bytes.now }
+{
+    let (node, rest) = u32_at(bytes)?;
+    if node < NODES {
+        Some((node, rest))
+    } else {
+        None
+    }
+}
+
+/// The middle node of an entry, if the number may stand there: that of a node, or the one that stands for none.
+#[tactic(auto, unfolding(crate::specs::Reading::middle_of))]
+fn middle_of(number: u32) -> Option<Option<u32>>
+    ensures { result ≡ middle_of number }
+{
+    if number == NO_MIDDLE {
+        Some(None)
+    } else if number < NODES {
+        Some(Some(number))
+    } else {
+        None
+    }
+}
+
+/// Whether an entry with these ends may stand after the one with those before it, if any.
+fn pair_is_after(before: Option<(u32, u32)>, ends: (u32, u32)) -> bool
+    ensures { result ≡ is_after pair_cmp before ends }
+{
+    match before {
+        Some(before) => before.cmp(&ends).is_lt(),
+        None => true,
+    }
+}
+
+/// Whether a witness for this node with these ends may stand after the one before it, if any.
+fn three_is_after(before: Option<(u32, u32, u32)>, key: (u32, u32, u32)) -> bool
+    ensures { result ≡ is_after three_cmp before key }
+{
+    match before {
+        Some(before) => before.cmp(&key).is_lt(),
+        None => true,
+    }
+}
+
+/// The entry at the front of the bytes.
+#[tactic(auto, unfolding(crate::specs::Reading::entry_at))]
+fn entry_at(before: Option<(u32, u32)>, bytes: &[u8]) -> Option<(Entry, &[u8])>
+    ensures { option_map (λ x. (x.0, x.1.now)) result ≡ entry_at before bytes.now }
+{
+    let (from, rest) = node_at(bytes)?;
+    let (to, rest) = node_at(rest)?;
+    let (weight, rest) = u64_at(rest)?;
+    let (middle, rest) = u32_at(rest)?;
+    let via = middle_of(middle)?;
+    if pair_is_after(before, (from, to)) {
+        Some((
+            Entry {
+                from,
+                to,
+                weight,
+                via,
+            },
+            rest,
+        ))
+    } else {
+        None
+    }
+}
+
+/// So many nodes.
+pub(crate) fn nodes_of(alloc: Global, count: u64, bytes: &[u8]) -> Result<(Vec<u32>, &[u8]), Halt>
+    ensures { Gives (λ x. (x.0.items, x.1.now)) result (many next_node (λ (v : ℕ). v) count None bytes.now) }
+{
+    let mut nodes = Vec::new(alloc);
+    let mut rest = bytes;
+    for _ in 0..count {
+        let Some((node, after)) = node_at(rest) else {
+            return Err(Halt::Left(rest.len() as u64));
+        };
+        nodes.push(node)?;
+        rest = after;
+    }
+    Ok((nodes, rest))
+}
+
+/// So many entries, in order.
+pub(crate) fn entries_of(
+    alloc: Global,
+    count: u64,
+    bytes: &[u8],
+) -> Result<(Vec<Entry>, &[u8]), Halt>
+    ensures { Gives (λ x. (x.0.items, x.1.now)) result (many entry_at key_of_entry count None bytes.now) }
+{
+    let mut entries = Vec::new(alloc);
+    let mut before = None;
+    let mut rest = bytes;
+    for _ in 0..count {
+        let Some((entry, after)) = entry_at(before, rest) else {
+            return Err(Halt::Left(rest.len() as u64));
+        };
+        entries.push(entry)?;
+        before = Some((entry.from, entry.to));
+        rest = after;
+    }
+    Ok((entries, rest))
+}
+
+/// What witnesses are ordered by: the node that one is listed for, and its first and its last node.
+fn key_of(witness: &Witness) -> (u32, u32, u32)
+    ensures { result ≡ key_of_witness witness.now }
+{
+    match witness.nodes.as_slice() {
+        [] => (witness.below, 0, 0),
+        [only] => (witness.below, *only, *only),
+        [first, .., last] => (witness.below, *first, *last),
+    }
+}
+
+/// The witness at the front of the bytes.
+#[tactic(auto, unfolding(crate::specs::Reading::witness_at))]
+fn witness_at(
+    alloc: Global,
+    before: Option<(u32, u32, u32)>,
+    bytes: &[u8],
+) -> Result<Option<(Witness, &[u8])>, AllocError>
+    ensures { IfOk result (λ read. option_map (λ x. (x.0, x.1.now)) read ≡ witness_at before bytes.now) }
+{
+    let Some((below, rest)) = node_at(bytes) else {
+        return Ok(None);
+    };
+    let Some((count, rest)) = u64_at(rest) else {
+        return Ok(None);
+    };
+    match nodes_of(alloc, count, rest) {
+        Err(Halt::Memory) => Err(AllocError),
+        Err(Halt::Left(_)) => Ok(None),
+        Ok((nodes, rest)) => {
+            let witness = Witness { below, nodes };
+            if 1 < count && three_is_after(before, key_of(&witness)) {
+                Ok(Some((witness, rest)))
+            } else {
+                Ok(None)
+            }
+        }
+    }
+}
+
+/// So many witnesses, in order.
+pub(crate) fn witnesses_of(
+    alloc: Global,
+    count: u64,
+    bytes: &[u8],
+) -> Result<(Vec<Witness>, &[u8]), Halt>
+    ensures { Gives (λ x. (x.0.items, x.1.now)) result (many witness_at key_of_witness count None bytes.now) }
+{
+    let mut witnesses = Vec::new(alloc);
+    let mut before = None;
+    let mut rest = bytes;
+    for _ in 0..count {
+        let Some((witness, after)) = witness_at(alloc, before, rest)? else {
+            return Err(Halt::Left(rest.len() as u64));
+        };
+        before = Some(key_of(&witness));
+        witnesses.push(witness)?;
+        rest = after;
+    }
+    Ok((witnesses, rest))
+}
