@@ -1,0 +1,5 @@
+pub mod PlaceLemmas
+pub mod OrderLemmas
+pub mod EntryLemmas
+pub mod WalkLemmas
+pub mod BridgeLemmas

@@ -1,0 +1,6 @@
+use Rattle.std.specs.List.{HoldsAt}
+use Rattle.hierarchy.specs.Soundness.{HoldsBelow, PairIsBridged}
+use Rattle.hierarchy_check.proofs.bridges.unbridged_from.Given as goal
+
+abbrev pub invariant-loop-by : goal.invariant-loop-by
+invariant-loop-by l = HoldsBelow l.by (HoldsAt (PairIsBridged l.h l.x l.entry) l.entries)

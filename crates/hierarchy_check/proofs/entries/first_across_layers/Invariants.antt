@@ -1,0 +1,6 @@
+use Rattle.std.specs.List.{HoldsAt}
+use Rattle.hierarchy.specs.Soundness.{HoldsBelow, FitsLayer}
+use Rattle.hierarchy_check.proofs.entries.first_across_layers.Given as goal
+
+abbrev pub invariant-loop-at : goal.invariant-loop-at
+invariant-loop-at l = HoldsBelow l.at (HoldsAt (FitsLayer l.network) l.entries)

@@ -1,0 +1,6 @@
+use Rattle.std.specs.List.{HoldsAt}
+use Rattle.hierarchy.specs.Soundness.{HoldsBelow, IsCovered}
+use Rattle.hierarchy_check.proofs.entries.first_uncovered.Given as goal
+
+abbrev pub invariant-loop-at : goal.invariant-loop-at
+invariant-loop-at l = HoldsBelow l.at (HoldsAt (IsCovered l.h) l.arcs)

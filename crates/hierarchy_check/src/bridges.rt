@@ -1,0 +1,96 @@
+//! Clause 4: whatever two entries lead by way of a contracted node, another way is no heavier.
+
+ghost use Rattle.std.specs.Prelude.{◌≡◌, ◌<◌, ◌^◌, ◌↔◌, All, IsTrue, MatchOption};
+ghost use Rattle.hierarchy.specs.Soundness.{IsBridged, ArePairAt, PairIsBridged, PairsAreBridged, NodeIsBridged};
+ghost use Rattle.hierarchy.specs.FirstBroken.{FailsFirst};
+ghost use Rattle.hierarchy_check.specs.Light.{IsLight, FirstUnbridgedAt, FirstUnbridged};
+
+use crate::entries::has_lighter;
+use crate::witnesses::has_witness;
+use hierarchy::{Entry, Hierarchy};
+
+/// The place in the order of the first node with two entries that are not bridged, and the places of these.
+pub(crate) fn first_unbridged(h: &Hierarchy) -> Option<(u64, u64, u64)>
+    requires { IsLight h.now.entries }
+    ensures { MatchOption result
+        (All (NodeIsBridged h.now) h.now.order)
+        (λ found. FirstUnbridged h.now found.0 found.1 found.2) }
+{
+    let order = h.order();
+    for place in 0..order.len() {
+        if let Some((at, by)) = unbridged_at(h, order[place]) {
+            return Some((place as u64, at, by));
+        }
+    }
+    None
+}
+
+/// The first entry to a node that is not bridged with one from it, and the first of these.
+fn unbridged_at(h: &Hierarchy, x: u32) -> Option<(u64, u64)>
+    requires { IsLight h.now.entries }
+    ensures { MatchOption result
+        (NodeIsBridged h.now x)
+        (λ found. FirstUnbridgedAt h.now x found.0 found.1) }
+{
+    let entries = h.entries();
+    for at in h.entries_into(x) {
+        if let Some(by) = unbridged_after(h, x, entries[*at as usize]) {
+            return Some((*at, by));
+        }
+    }
+    None
+}
+
+/// The first entry from a node that is not bridged with this one to it.
+fn unbridged_after(h: &Hierarchy, x: u32, entry: Entry) -> Option<u64>
+    requires light { IsLight h.now.entries }
+    requires weight { entry.weight < 2 ^ 56 }
+    ensures { MatchOption result
+        (PairsAreBridged h.now x entry)
+        (FailsFirst (PairIsBridged h.now x entry) h.now.entries) }
+{
+    if h.above(entry.from, x) {
+        unbridged_from(h, x, entry)
+    } else {
+        None
+    }
+}
+
+fn unbridged_from(h: &Hierarchy, x: u32, entry: Entry) -> Option<u64>
+    requires light { IsLight h.now.entries }
+    requires weight { entry.weight < 2 ^ 56 }
+    ensures { MatchOption result
+        (PairsAreBridged h.now x entry)
+        (FailsFirst (PairIsBridged h.now x entry) h.now.entries) }
+{
+    let entries = h.entries();
+    let (first, end) = h.entries_from(x);
+    for by in first..end {
+        if !pair_is_bridged(h, x, entry, entries[by as usize]) {
+            return Some(by);
+        }
+    }
+    None
+}
+
+/// Whether two entries are bridged, if they lead by way of a node from one that is above it to another.
+fn pair_is_bridged(h: &Hierarchy, x: u32, a: Entry, b: Entry) -> bool
+    requires first { a.weight < 2 ^ 56 }
+    requires second { b.weight < 2 ^ 56 }
+    ensures { IsTrue result ↔ PairIsBridged h.now x a b }
+{
+    !are_pair_at(h, x, a, b) || is_bridged(h, x, a.from, b.to, a.weight + b.weight)
+}
+
+fn are_pair_at(h: &Hierarchy, x: u32, a: Entry, b: Entry) -> bool
+    ensures { IsTrue result ↔ ArePairAt h.now x a b }
+{
+    a.to == x && b.from == x && a.from != b.to && h.above(a.from, x) && h.above(b.to, x)
+}
+
+/// Whether an entry or a witness for `x` leads from `u` to `v` and weighs at most the limit.
+fn is_bridged(h: &Hierarchy, x: u32, u: u32, v: u32, limit: u64) -> bool
+    ensures { IsTrue result ↔ IsBridged h.now x u v limit }
+{
+    has_lighter(h, u, v, limit) || has_witness(h, x, u, v, limit)
+}

@@ -1,0 +1,10 @@
+//! Whether a hierarchy is sound for a network, whoever made it.
+#![tactic(auto)]
+
+mod bridges;
+mod checking;
+mod entries;
+mod order;
+mod witnesses;
+
+pub use checking::check;
