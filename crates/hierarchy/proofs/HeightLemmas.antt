@@ -1,15 +1,10 @@
 -- Heights in an order, and the table of them.
-use Rattle.std.proofs.Common.{◌≡◌, ℕ, ◌+◌, ◌<◌, ◌≤◌, ◌∙◌, suc, nat_eq, Bool, true, false, cond, List, [], ◌∷◌, length, take, drop, get_or, set, refl, ap, arith, sym, subst}
+use Rattle.std.proofs.Common.{◌≡◌, ℕ, ◌+◌, ◌<◌, ◌≤◌, ◌∙◌, suc, zero, nat_eq, Bool, true, false, cond, List, [], ◌∷◌, length, take, drop, get_or, set, refl, ap, arith, sym, subst}
 use Rattle.std.specs.Prelude.{All}
-use Rattle.std.proofs.lemmas.Bool.{eqb-true, eqb-false, ne_eqb}
+use Rattle.std.proofs.lemmas.Bool.{eqb-true, eqb-false, eq-eqb, ne_eqb, cases_eq}
 use Rattle.std.proofs.lemmas.List.{drop_more, drop_all, get_or-set_same, get_or-set_other}
-use Rattle.std.proofs.lemmas.List.Elements.{All-head, All-tail, All-more, All-weaker}
+use Rattle.std.proofs.lemmas.List.Elements.{All-head, All-tail}
 use Rattle.hierarchy.specs.Lists.{height_in}
-
--- one element more of a list, of which something holds; what held of the others holds on
-pub all_more : {X : Type 0} (P Q : X → Type 0) → ((x : X) → P x → Q x) → (xs : List X) (i : ℕ) (x : X) → i < length xs → x ≡ get_or xs i x → Q x
-    → All P (take i xs) → All Q (take (i + 1) xs)
-all_more P Q weaker xs i x lt is holds before = All-more Q xs i x lt (All-weaker P Q weaker (take i xs) before) (subst Q is holds)
 
 -- no node is higher than the order is long
 pub height_most : (order : List ℕ) (v : ℕ) → height_in order v ≤ length order
@@ -25,6 +20,23 @@ height_past [] v nodes below past = refl
 height_past (x ∷ order) v nodes below past =
     let differ : nat_eq x v ≡ false = ne_eqb x v (λ e. omega (arith, All-head (λ y. y < nodes) x order below)) in
     rw differ (ap suc (height_past order v nodes (All-tail (λ y. y < nodes) x order below) past))
+
+-- a node stands first at its height
+pub height_least : (order : List ℕ) (v j d : ℕ) → j < length order → get_or order j d ≡ v → height_in order v ≤ j
+height_least [] v j d lt is = absurd (omega arith)
+height_least (x ∷ order) v zero d lt is = rw (eq-eqb x v is) (omega arith)
+height_least (x ∷ order) v (suc j) d lt is = by_test (nat_eq x v) (height_least order v j d (omega arith) is) where
+  by_test : (b : Bool) → height_in order v ≤ j → cond b 0 (suc (height_in order v)) ≤ suc j
+  by_test true le = omega arith
+  by_test false le = omega arith
+
+pub height_is : (order : List ℕ) (v d : ℕ) → height_in order v < length order → get_or order (height_in order v) d ≡ v
+height_is [] v d lt = absurd (omega arith)
+height_is (x ∷ order) v d lt = by_test (nat_eq x v) refl lt (height_is order v d) where
+  by_test : (b : Bool) → nat_eq x v ≡ b → cond b 0 (suc (height_in order v)) < suc (length order) → (height_in order v < length order → get_or order (height_in order v) d ≡ v)
+      → get_or (x ∷ order) (cond b 0 (suc (height_in order v))) d ≡ v
+  by_test true e h next = eqb-true x v e
+  by_test false e h next = next (omega arith)
 
 -- ---- the table, filled from the order's end
 

@@ -2,3 +2,6 @@ pub mod OffsetLemmas
 pub mod HeightLemmas
 pub mod EndLemmas
 pub mod LookupLemmas
+pub mod HopLemmas
+pub mod Shapes
+pub mod SoundLemmas

@@ -12,3 +12,6 @@ pub mod verdict;
 pub use entry::{Entry, Witness};
 pub use hierarchy::Hierarchy;
 pub use verdict::Verdict;
+
+#[cfg(test)]
+mod tests;

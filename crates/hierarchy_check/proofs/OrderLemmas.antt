@@ -10,6 +10,7 @@ use Rattle.mode_network.specs.NetworkLists.{NetworkLists, mode_at}
 use Rattle.mode_network.specs.Indexes.{is_end_of}
 use Rattle.hierarchy.specs.Lists.{height_in}
 use Rattle.hierarchy.specs.Soundness.{IsFree, IsNewAt, MayStandAt}
+use Rattle.hierarchy.proofs.HeightLemmas.{height_least, height_is}
 
 -- ---- links
 
@@ -30,23 +31,6 @@ free_iff n x mode road b is = (λ h. free (sym is ∙ not-true b h), λ h. not_f
   unlinked h = list_any_none (touches x) n.links (λ k d lt. or_from _ _ (ne_eqb _ _ (h.none_from k d lt)) (ne_eqb _ _ (h.none_to k d lt)))
 
 -- ---- heights
-
--- a node stands first at its height
-pub height_least : (order : List ℕ) (v j d : ℕ) → j < length order → get_or order j d ≡ v → height_in order v ≤ j
-height_least [] v j d lt is = absurd (omega arith)
-height_least (x ∷ order) v zero d lt is = rw (eq-eqb x v is) (omega arith)
-height_least (x ∷ order) v (suc j) d lt is = by_test (nat_eq x v) (height_least order v j d (omega arith) is) where
-  by_test : (b : Bool) → height_in order v ≤ j → cond b 0 (suc (height_in order v)) ≤ suc j
-  by_test true le = omega arith
-  by_test false le = omega arith
-
-pub height_is : (order : List ℕ) (v d : ℕ) → height_in order v < length order → get_or order (height_in order v) d ≡ v
-height_is [] v d lt = absurd (omega arith)
-height_is (x ∷ order) v d lt = by_test (nat_eq x v) refl lt (height_is order v d) where
-  by_test : (b : Bool) → nat_eq x v ≡ b → cond b 0 (suc (height_in order v)) < suc (length order) → (height_in order v < length order → get_or order (height_in order v) d ≡ v)
-      → get_or (x ∷ order) (cond b 0 (suc (height_in order v))) d ≡ v
-  by_test true e h next = eqb-true x v e
-  by_test false e h next = next (omega arith)
 
 new_iff : (order : List ℕ) (k x : ℕ) → k < length order → get_or order k x ≡ x → (nat_eq (height_in order x) k ≡ true) ↔ IsNewAt order k
 new_iff order k x lt is = (λ h j d before same. first (eqb-true _ _ h) j d before same, λ new. eq-eqb _ _ (at_place new)) where
