@@ -1,0 +1,25 @@
+-- The phase graph keeps every constrained distance, in both directions.
+use Rattle.std.specs.Prelude.{◌≡◌, ℕ, ◌≤◌, Bool, true, false, List, Contains}
+use Rattle.search_laws.specs.Collapse.{collapse}
+use Rattle.mode_network.specs.NetworkLists.{NetworkLists}
+use Rattle.mode_network.specs.Rules.{IsNetwork}
+use Rattle.mode_network.specs.declared.steps.Step.{Step}
+use Rattle.mode_network.specs.Journeys.{AreSteps}
+use Rattle.hierarchy.specs.Lists.{HierarchyLists, IsContracted}
+use Rattle.hierarchy.specs.Soundness.{IsSound}
+use Rattle.phase_graph.specs.Moves.{PhaseMove, AreMoves}
+
+-- moves lead from v at t to w by the limit, where they end before the descent or at a contracted node, and their word collapses to the same
+pub record HasPhaseWalk (n : NetworkLists) (h : HierarchyLists) (targets : List ℕ) (v t w limit : ℕ) (word : List ℕ) : Type 0 where
+  pub moves : List PhaseMove
+  pub down : Bool
+  pub at : ℕ
+  pub letters : List ℕ
+  pub walk : AreMoves n h targets v false t moves w down at letters
+  pub at_target : down ≡ true → IsContracted h.order w
+  pub no_later : at ≤ limit
+  pub same_word : collapse letters ≡ collapse word
+
+abbrev pub JourneysHavePhaseWalks : Type 0
+JourneysHavePhaseWalks = (n : NetworkLists) (h : HierarchyLists) (targets : List ℕ) → IsNetwork n → IsSound n h
+    → (steps : List Step) (v t w u : ℕ) (letters : List ℕ) → AreSteps n v t steps w u letters → Contains targets w → HasPhaseWalk n h targets v t w u letters
