@@ -5,3 +5,4 @@ pub mod LookupLemmas
 pub mod HopLemmas
 pub mod Shapes
 pub mod SoundLemmas
+pub mod RoadLemmas

@@ -56,7 +56,7 @@ module _ (height : ℕ → ℕ) (Leads : ℕ → ℕ → ℕ → Type 0) where
         -- whether x is a dip at k
         is_dip : (at left right : ℕ) → ((at ≡ k) × (k < left) × (k < right)) ⊎ ((at ≡ k → k < left → k < right → ⊥))
         is_dip at left right = elim (cases_order at k) [
-          | inr apart ↦ inr (λ e l r. elim apart [ | inl lt ↦ omega arith | inr gt ↦ omega arith ])
+          | inr apart ↦ inr (λ e l r. elim apart [ inl lt ↦ omega arith | inr gt ↦ omega arith ])
           | inl same ↦ elim (cases_lt k left) [
             | inr le ↦ inr (λ e l r. omega arith)
             | inl lt ↦ elim (cases_lt k right) [
@@ -81,10 +81,13 @@ module _ (height : ℕ → ℕ) (Leads : ℕ → ℕ → ℕ → Type 0) where
           hops = x ∷ more.hops;
           walk = (first, more.walk);
           no_heavier = omega (arith, more.no_heavier);
-          no_dips = (more.keeps u (λ low left right. elim (cases_lt (height x.to) k) [
+          no_dips = (
+            more.keeps u (λ low left right. elim (cases_lt (height x.to) k) [
               | inl below ↦ here below left right
               | inr above ↦ (let at : height x.to ≡ k = omega arith in no_dip at (omega arith) (omega arith))
-            ]), more.no_dips);
+            ]),
+            more.no_dips,
+          );
           keeps = λ w h. h;
         }
 

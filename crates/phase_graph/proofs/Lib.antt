@@ -1,3 +1,4 @@
 pub mod WordLemmas
 pub mod MoveLemmas
 pub mod JourneyLemmas
+pub mod RoadLemmas

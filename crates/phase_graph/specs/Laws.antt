@@ -23,3 +23,14 @@ pub record HasPhaseWalk (n : NetworkLists) (h : HierarchyLists) (targets : List 
 abbrev pub JourneysHavePhaseWalks : Type 0
 JourneysHavePhaseWalks = (n : NetworkLists) (h : HierarchyLists) (targets : List ℕ) → IsNetwork n → IsSound n h
     → (steps : List Step) (v t w u : ℕ) (letters : List ℕ) → AreSteps n v t steps w u letters → Contains targets w → HasPhaseWalk n h targets v t w u letters
+
+-- steps lead from v at t to w at u, and their word collapses to the same
+pub record HasJourney (n : NetworkLists) (v t w u : ℕ) (word : List ℕ) : Type 0 where
+  pub steps : List Step
+  pub told : List ℕ
+  pub real : AreSteps n v t steps w u told
+  pub same_word : collapse told ≡ collapse word
+
+abbrev pub PhaseWalksHaveJourneys : Type 0
+PhaseWalksHaveJourneys = (n : NetworkLists) (h : HierarchyLists) (targets : List ℕ) → IsNetwork n → IsSound n h
+    → (moves : List PhaseMove) (v : ℕ) (down : Bool) (t w : ℕ) (end : Bool) (u : ℕ) (letters : List ℕ) → AreMoves n h targets v down t moves w end u letters → HasJourney n v t w u letters

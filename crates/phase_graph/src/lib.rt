@@ -2,10 +2,16 @@
 //! and down, and the laws that tie this to journeys.
 #![tactic(auto)]
 
-ghost use Rattle.phase_graph.specs.Laws.{JourneysHavePhaseWalks};
+ghost use Rattle.phase_graph.specs.Laws.{JourneysHavePhaseWalks, PhaseWalksHaveJourneys};
 
 /// For each journey to a target, whatever sound hierarchy is taken, there is a walk through the phase graph with the
 /// same ends and departure, whose word collapses to the same and which arrives no later.
 pub fn journeys_have_phase_walks()
     ensures { JourneysHavePhaseWalks }
+{}
+
+/// For each walk through the phase graph there is a journey with the same ends, departure and arrival, whose word
+/// collapses to the same.
+pub fn phase_walks_have_journeys()
+    ensures { PhaseWalksHaveJourneys }
 {}
