@@ -2,3 +2,4 @@ pub mod WordLemmas
 pub mod MoveLemmas
 pub mod JourneyLemmas
 pub mod RoadLemmas
+pub mod ArcLemmas

@@ -2,6 +2,7 @@
 //! and down, and the laws that tie this to journeys.
 #![tactic(auto)]
 
+ghost use Rattle.phase_graph.specs.Arcs.{PhaseGraphsHaveMoves, PhaseGraphsHaveNoOthers};
 ghost use Rattle.phase_graph.specs.Laws.{JourneysHavePhaseWalks, PhaseWalksHaveJourneys};
 
 /// For each journey to a target, whatever sound hierarchy is taken, there is a walk through the phase graph with the
@@ -14,4 +15,15 @@ pub fn journeys_have_phase_walks()
 /// collapses to the same.
 pub fn phase_walks_have_journeys()
     ensures { PhaseWalksHaveJourneys }
+{}
+
+/// Where each move but a rest has an arc that arrives no later, and each arc that arrives is a move, walks of moves are
+/// walks of the graph.
+pub fn phase_graphs_have_moves()
+    ensures { PhaseGraphsHaveMoves }
+{}
+
+/// And there the graph has no other walks.
+pub fn phase_graphs_have_no_others()
+    ensures { PhaseGraphsHaveNoOthers }
 {}

@@ -1,0 +1,89 @@
+-- The phase graph as a graph of numbered nodes and arcs.
+use Rattle.std.specs.Prelude.{◌≡◌, ℕ, ◌+◌, ◌*◌, ◌≤◌, Bool, true, false, List, Option, Some, Contains}
+use Rattle.search_laws.specs.GraphLaws.{GraphMeaning, HasArc}
+use Rattle.search_laws.specs.Walks.{WalkStep, IsWalk, word_from}
+use Rattle.mode_network.specs.NetworkLists.{NetworkLists}
+use Rattle.hierarchy.specs.Lists.{HierarchyLists, IsContracted}
+use Rattle.phase_graph.specs.Moves.{PhaseMove, rest, rise, fall, cross, stand, IsMove, AreMoves}
+
+-- each node has two numbers: before the descent, and in it
+abbrev pub phase_node : ℕ → Bool → ℕ
+phase_node v false = 2 * v
+phase_node v true = 2 * v + 1
+
+abbrev pub IsRest : PhaseMove → Type 0
+IsRest (rest until) = Unit {0}
+IsRest (rise hop) = ⊥
+IsRest (fall hop) = ⊥
+IsRest (cross step) = ⊥
+IsRest stand = ⊥
+
+-- the arc at a place of p leads to q with this letter, and arrives at a, which is no later than u, if it is taken at t
+pub record IsPhaseArc (g : GraphMeaning) (p t q u : ℕ) (letter : Option ℕ) (i a : ℕ) : Type 0 where
+  pub has : HasArc g p i
+  pub to : (g.arc_at p i).to ≡ q
+  pub tells : (g.arc_at p i).letter ≡ letter
+  pub arrives : g.arrive p i t ≡ Some a
+  pub in_time : a ≤ u
+
+-- the arc at a place of v, taken at t, is a move that arrives at u
+pub record IsArcOfMove (n : NetworkLists) (h : HierarchyLists) (targets : List ℕ) (g : GraphMeaning) (v : ℕ) (down : Bool) (t i u : ℕ) : Type 0 where
+  pub move : PhaseMove
+  pub to : ℕ
+  pub down2 : Bool
+  pub is : IsMove n h targets v down t move to down2 u (g.arc_at (phase_node v down) i).letter
+  pub leads : (g.arc_at (phase_node v down) i).to ≡ phase_node to down2
+
+-- each move but a rest has an arc that arrives no later, and each arc that arrives is a move
+pub record IsPhaseGraph (n : NetworkLists) (h : HierarchyLists) (targets : List ℕ) (g : GraphMeaning) : Type 0 where
+  pub arc_of : (v : ℕ) (down : Bool) (t : ℕ) (move : PhaseMove) (w : ℕ) (down2 : Bool) (u : ℕ) (letter : Option ℕ)
+      → IsMove n h targets v down t move w down2 u letter → (IsRest move → ⊥) → (i : ℕ) × (a : ℕ) × IsPhaseArc g (phase_node v down) t (phase_node w down2) u letter i a
+  pub move_of : (v : ℕ) (down : Bool) (t i u : ℕ) → HasArc g (phase_node v down) i → g.arrive (phase_node v down) i t ≡ Some u → IsArcOfMove n h targets g v down t i u
+
+-- waits and arcs lead from p at t to q at u, and their word is this
+pub record HasWalk (g : GraphMeaning) (p t q u : ℕ) (word : List ℕ) : Type 0 where
+  pub steps : List WalkStep
+  pub walk : IsWalk g p t steps q u
+  pub word_is : word_from g p steps ≡ word
+
+-- moves lead from v at t to the node of this number at u, and their letters are this word
+pub record HasMoves (n : NetworkLists) (h : HierarchyLists) (targets : List ℕ) (v : ℕ) (down : Bool) (t q u : ℕ) (word : List ℕ) : Type 0 where
+  pub moves : List PhaseMove
+  pub to : ℕ
+  pub end : Bool
+  pub walk : AreMoves n h targets v down t moves to end u word
+  pub is : q ≡ phase_node to end
+
+-- such a graph has all walks of moves, and no others
+abbrev pub PhaseGraphsHaveMoves : Type 0
+PhaseGraphsHaveMoves = (n : NetworkLists) (h : HierarchyLists) (targets : List ℕ) (g : GraphMeaning) → IsPhaseGraph n h targets g
+    → (moves : List PhaseMove) (v : ℕ) (down : Bool) (t w : ℕ) (end : Bool) (u : ℕ) (word : List ℕ) → AreMoves n h targets v down t moves w end u word
+    → HasWalk g (phase_node v down) t (phase_node w end) u word
+
+abbrev pub PhaseGraphsHaveNoOthers : Type 0
+PhaseGraphsHaveNoOthers = (n : NetworkLists) (h : HierarchyLists) (targets : List ℕ) (g : GraphMeaning) → IsPhaseGraph n h targets g
+    → (steps : List WalkStep) (v : ℕ) (down : Bool) (t q u : ℕ) → IsWalk g (phase_node v down) t steps q u
+    → HasMoves n h targets v down t q u (word_from g (phase_node v down) steps)
+
+-- the numbers that a search starts at: those of the origins, before the descent
+abbrev pub AreStarts : List ℕ → List ℕ → Type 0
+AreStarts origins starts = (v : ℕ) → Contains origins v → Contains starts (phase_node v false)
+
+pub record IsStartOf (origins : List ℕ) (p : ℕ) : Type 0 where
+  pub origin : ℕ
+  pub listed : Contains origins origin
+  pub is : p ≡ phase_node origin false
+
+-- the numbers that it ends at: those of the targets, before the descent, and in it where they are contracted
+pub record IsEndOf (h : HierarchyLists) (targets : List ℕ) (p : ℕ) : Type 0 where
+  pub target : ℕ
+  pub down : Bool
+  pub listed : Contains targets target
+  pub contracted : down ≡ true → IsContracted h.order target
+  pub is : p ≡ phase_node target down
+
+pub record AreEnds (h : HierarchyLists) (origins targets starts ends : List ℕ) : Type 0 where
+  pub starts_there : AreStarts origins starts
+  pub only_starts : (p : ℕ) → Contains starts p → IsStartOf origins p
+  pub ends_there : (p : ℕ) → IsEndOf h targets p → Contains ends p
+  pub only_ends : (p : ℕ) → Contains ends p → IsEndOf h targets p
