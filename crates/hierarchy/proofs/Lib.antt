@@ -6,3 +6,5 @@ pub mod HopLemmas
 pub mod Shapes
 pub mod SoundLemmas
 pub mod RoadLemmas
+pub mod DistanceLemmas
+pub mod ContractionLemmas

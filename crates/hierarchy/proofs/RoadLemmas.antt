@@ -1,5 +1,5 @@
 -- The road arcs under an entry.
-use Rattle.std.proofs.Common.{◌≡◌, ℕ, zero, suc, ◌+◌, ◌<◌, ◌≤◌, List, [], ◌∷◌, ◌++◌, ◌∙◌, Some, None, length, refl, sym, ap, subst, arith}
+use Rattle.std.proofs.Common.{◌≡◌, ℕ, zero, suc, ◌<◌, ◌≤◌, List, [], ◌∷◌, ◌++◌, Some, None, length, refl, arith}
 use Rattle.std.specs.Prelude.{Option, Contains}
 use Rattle.std.proofs.lemmas.List.Elements.{All-contains}
 use Rattle.mode_network.specs.NetworkLists.{NetworkLists}
@@ -7,7 +7,7 @@ use Rattle.mode_network.specs.Journeys.{Leads}
 use Rattle.hierarchy.specs.declared.entry.Entry.{Entry}
 use Rattle.hierarchy.specs.Hops.{Hop, AreHops, total}
 use Rattle.hierarchy.specs.Lists.{HierarchyLists, height_in}
-use Rattle.hierarchy.specs.Soundness.{HasEntry, IsSound, IsMade, IsMadeBy, HasMiddle}
+use Rattle.hierarchy.specs.Soundness.{HasEntry, IsSound, IsMade, IsMadeBy}
 use Rattle.hierarchy.proofs.HopLemmas.{hops_then, total-append}
 use Rattle.hierarchy.proofs.HeightLemmas.{height_most}
 

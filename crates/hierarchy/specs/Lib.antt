@@ -6,3 +6,4 @@ pub mod Lookups
 pub mod Indexes
 pub mod Inside
 pub mod FirstBroken
+pub mod Contraction

@@ -8,3 +8,6 @@ mod order;
 mod witnesses;
 
 pub use checking::check;
+
+#[cfg(test)]
+mod tests;
