@@ -9,28 +9,40 @@ use service_days::Days;
 use std::alloc::Global;
 use std::test::*;
 
-fn arc(from: u32, to: u32, ms: u32) -> Arc {
-    Arc { from, to, ms }
-}
-
-/// A foot node.
-fn foot(place: Place, id: i64) -> Node {
-    Node {
-        key: NodeKey::Road(0, id),
-        place,
-    }
-}
-
 /// Three foot nodes in a row.
 fn path(alloc: Global) -> Result<Network, Fail> {
     let place = Place::new(480_000_000, 110_000_000).ok_or("no place")?;
     let parts = Parts {
         days: Days::new(alloc, 20240304, 1)?,
-        roads: vec![in alloc; foot(place, 101), foot(place, 102), foot(place, 103)]?,
+        roads: vec![in alloc;
+            Node {
+                key: NodeKey::Road(0, 101),
+                place
+            },
+            Node {
+                key: NodeKey::Road(0, 102),
+                place
+            },
+            Node {
+                key: NodeKey::Road(0, 103),
+                place
+            },
+        ]?,
         stop_names: Vec::new(alloc),
         stops: Vec::new(alloc),
         switches: Vec::new(alloc),
-        arcs: vec![in alloc; arc(0, 1, 79_515), arc(1, 2, 53_203)]?,
+        arcs: vec![in alloc;
+            Arc {
+                from: 0,
+                to: 1,
+                ms: 79_515
+            },
+            Arc {
+                from: 1,
+                to: 2,
+                ms: 53_203
+            },
+        ]?,
         links: Vec::new(alloc),
         trips: Vec::new(alloc),
     };
@@ -45,15 +57,48 @@ fn ring(alloc: Global, last: u32) -> Result<Network, Fail>
     let parts = Parts {
         days: Days::new(alloc, 20240304, 1)?,
         roads: vec![in alloc;
-            foot(place, 1),
-            foot(place, 2),
-            foot(place, 3),
-            foot(place, 4),
+            Node {
+                key: NodeKey::Road(0, 1),
+                place
+            },
+            Node {
+                key: NodeKey::Road(0, 2),
+                place
+            },
+            Node {
+                key: NodeKey::Road(0, 3),
+                place
+            },
+            Node {
+                key: NodeKey::Road(0, 4),
+                place
+            },
         ]?,
         stop_names: Vec::new(alloc),
         stops: Vec::new(alloc),
         switches: Vec::new(alloc),
-        arcs: vec![in alloc; arc(0, 1, 10), arc(0, 3, 5), arc(1, 2, 10), arc(3, 2, last)]?,
+        arcs: vec![in alloc;
+            Arc {
+                from: 0,
+                to: 1,
+                ms: 10
+            },
+            Arc {
+                from: 0,
+                to: 3,
+                ms: 5
+            },
+            Arc {
+                from: 1,
+                to: 2,
+                ms: 10
+            },
+            Arc {
+                from: 3,
+                to: 2,
+                ms: last
+            },
+        ]?,
         links: Vec::new(alloc),
         trips: Vec::new(alloc),
     };
