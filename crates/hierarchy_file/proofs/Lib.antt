@@ -3,3 +3,4 @@ pub mod FieldLaws
 pub mod ManyLaws
 pub mod RecordLaws
 pub mod WholeLaws
+pub mod CauseLaws

@@ -7,17 +7,17 @@ use Rattle.std.specs.Ordering.{is_lt}
 use Rattle.std.proofs.lemmas.List.Concat.{flat_map-cons}
 use Rattle.std.proofs.lemmas.List.Elements.{All-cons, All-nil, All-head, All-weaker}
 use Rattle.hierarchy_file.specs.Reading.{many, behind, onto, is_after}
+use Rattle.hierarchy_file.specs.Causes.{Follow, StopsAt}
 use Rattle.hierarchy_file.proofs.FieldLaws.{IsBytes, Takes, Takes-then}
-
--- each row may follow the key of the one before it
-abbrev pub Follow : {X K : Type 0} → (Option K → K → Type 0) → (X → K) → Option K → List X → Type 0
-Follow Next key before [] = Unit {0}
-Follow Next key before (x ∷ xs) = Next before (key x) × Follow Next key (Some (key x)) xs
 
 -- a record and those behind it, where they were read
 onto_ok : {X : Type 0} (x : X) (r : Result (List X × List ℕ) ℕ) (y : List X × List ℕ) → onto x r ≡ Ok y → (z : List X × List ℕ) × (r ≡ Ok z) × (y ≡ (x ∷ z.0, z.1))
 onto_ok x (Ok z) y e = (z, refl, (let same : ◌≡◌ {A = List _ × List ℕ} (x ∷ z.0, z.1) y = cc in sym same))
 onto_ok x (Err left) y e = absurd cc
+
+onto_err : {X : Type 0} (x : X) (r : Result (List X × List ℕ) ℕ) (left : ℕ) → onto x r ≡ Err left → r ≡ Err left
+onto_err x (Ok z) left e = absurd cc
+onto_err x (Err l) left e = e
 
 behind_ok : {X : Type 0} (others : X → List ℕ → Result (List X × List ℕ) ℕ) (left : ℕ) (o : Option (X × List ℕ)) (y : List X × List ℕ) → behind others left o ≡ Ok y
     → (x : X × List ℕ) × (o ≡ Some x) × (onto x.0 (others x.0 x.1) ≡ Ok y)
@@ -53,6 +53,43 @@ module _ {X K : Type 0} (read : Option K → List ℕ → Option (X × List ℕ)
       ap (many read key (suc (length xs)) before) regrouped
       ∙ ap (behind (λ y left. many read key (length xs) (Some (key y)) left) (length (text x ++ (flat_map text xs ++ rest)))) (again before x (flat_map text xs ++ rest) fits.0 follow.0)
       ∙ ap (onto x) (many_again xs (Some (key x)) rest fits.1 follow.1)
+
+  -- where reading stops, no record stands that may
+  pub many_stops : (n : ℕ) (before : Option K) (bytes : List ℕ) (left : ℕ) → IsBytes bytes → many read key n before bytes ≡ Err left → StopsAt text Fits Next key before n bytes left
+  unfolding many
+  many_stops zero before bytes left fits e = absurd cc
+  many_stops (suc n) before bytes left fits e = by_first (read before bytes) refl e (λ x rest fit stop. many_stops n (Some (key x)) rest left fit stop)
+    where
+      by_first : (o : Option (X × List ℕ)) → read before bytes ≡ o → behind (λ x rest. many read key n (Some (key x)) rest) (length bytes) o ≡ Err left
+          → ((x : X) (rest : List ℕ) → IsBytes rest → many read key n (Some (key x)) rest ≡ Err left → StopsAt text Fits Next key (Some (key x)) n rest left) → StopsAt text Fits Next key before (suc n) bytes left
+      by_first None unread e more = record {
+        rows = [];
+        rest = bytes;
+        fewer = omega arith;
+        fit = tt;
+        follow = tt;
+        are = refl;
+        left_is = (let same : length bytes ≡ left = err_is (length bytes) left e in sym same);
+        none = λ x rest fit next is. none_some x rest (sym unread ∙ ap (read before) is ∙ again before x rest fit next);
+      } where
+        none_some : (x : X) (rest : List ℕ) → ◌≡◌ {A = Option (X × List ℕ)} None (Some (x, rest)) → ⊥
+        none_some x rest e = cc
+
+        err_is : (a b : ℕ) → ◌≡◌ {A = Result (List X × List ℕ) ℕ} (Err a) (Err b) → a ≡ b
+        err_is a b e = cc
+      by_first (Some x) is e more =
+          let one = takes before bytes x fits is in
+          let rest = more x.0 x.1 one.0.rest_fits (onto_err x.0 (many read key n (Some (key x.0)) x.1) left e) in
+          record {
+            rows = x.0 ∷ rest.rows;
+            rest = rest.rest;
+            fewer = (let lt = rest.fewer in omega arith);
+            fit = (one.1, rest.fit);
+            follow = (one.2, rest.follow);
+            are = one.0.parts ∙ ap (λ t. text x.0 ++ t) rest.are ∙ sym (append_assoc (text x.0) (flat_map text rest.rows) rest.rest) ∙ ap (λ t. t ++ rest.rest) (sym (flat_map-cons text x.0 rest.rows));
+            left_is = rest.left_is;
+            none = rest.none;
+          }
 
 -- ---- rows in order
 

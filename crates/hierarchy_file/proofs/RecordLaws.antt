@@ -1,5 +1,5 @@
 -- The two laws of each record: what is read is spelled so, and what is spelled so is read.
-use Rattle.std.proofs.Common.{◌≡◌, ℕ, ◌^◌, ◌<◌, ◌&&◌, true, cond, ltb, List, [], ◌∷◌, ◌++◌, length, Some, None, Result, Ok, Err, sym, ap, subst, ◌∙◌, append_assoc, arith}
+use Rattle.std.proofs.Common.{◌≡◌, ℕ, ◌^◌, ◌<◌, ◌&&◌, cond, ltb, List, [], ◌∷◌, ◌++◌, length, Some, None, Result, Ok, Err, sym, ap, subst, ◌∙◌, append_assoc, arith}
 use Rattle.std.specs.Prelude.{Option, All}
 use Rattle.std.specs.List.{flat_map}
 use Rattle.std.specs.Int.{w32, w64, to_be_bytes}
@@ -8,19 +8,14 @@ use Rattle.std.proofs.lemmas.List.Elements.{All-from_recursion, recursion_from_A
 use Rattle.std.proofs.lemmas.Option.{none-some, same_Some, cond_some, option_and_then_some}
 use Rattle.hierarchy.specs.declared.entry.Entry.{Entry}
 use Rattle.hierarchy.specs.Lists.{WitnessLists}
-use Rattle.hierarchy.specs.Rules.{IsNode, FitsEntry, FitsWitness}
-use Rattle.hierarchy_file.specs.Spelling.{node_text, entry_text, witness_text, middle_number, key_of_entry, key_of_witness, pair_cmp, three_cmp}
+use Rattle.hierarchy.specs.Rules.{IsNode}
+use Rattle.hierarchy_file.specs.Causes.{Follow, AnyNext, itself, NextPair, NextThree}
+use Rattle.hierarchy_file.specs.Spelling.{FitsRow, FitsWalk, node_text, entry_text, witness_text, middle_number, key_of_entry, key_of_witness, pair_cmp, three_cmp}
 use Rattle.hierarchy_file.specs.Reading.{number_at, node_at, next_node, middle_of, entry_at, witness_at, many, all_read, is_after}
 use Rattle.hierarchy_file.proofs.FieldLaws.{IsBytes, Takes, Takes-then, and_then, wide32, wide64, number_takes, number_again, node_takes, node_again, middle_takes, middle_again, middle_fits}
-use Rattle.hierarchy_file.proofs.ManyLaws.{Follow, many_takes, many_again}
+use Rattle.hierarchy_file.proofs.ManyLaws.{many_takes, many_again}
 
 -- ---- nodes
-
-abbrev pub AnyNext : Option ℕ → ℕ → Type 0
-AnyNext before v = Unit {0}
-
-abbrev pub itself : ℕ → ℕ
-itself v = v
 
 pub next_node_takes : (before : Option ℕ) (bytes : List ℕ) (x : ℕ × List ℕ) → IsBytes bytes → next_node before bytes ≡ Some x → Takes bytes (node_text x.0) x.1 × IsNode x.0 × AnyNext before (itself x.0)
 next_node_takes before bytes x fits e = let taken = node_takes bytes x fits e in (taken.0, taken.1, tt)
@@ -43,14 +38,6 @@ nodes_again nodes rest fits =
     many_again next_node itself node_text IsNode AnyNext next_node_takes next_node_again nodes None rest (recursion_from_All IsNode nodes fits) (any_follow None nodes)
 
 -- ---- entries
-
--- an entry whose numbers fit their fields
-pub record FitsRow (e : Entry) : Type 0 where
-  pub fits : FitsEntry e
-  pub weight : e.weight < 2 ^ 64
-
-abbrev pub NextPair : Option (ℕ × ℕ) → ℕ × ℕ → Type 0
-NextPair before key = is_after pair_cmp before key ≡ true
 
 pub entry_takes : (before : Option (ℕ × ℕ)) (bytes : List ℕ) (x : Entry × List ℕ) → IsBytes bytes → entry_at before bytes ≡ Some x
     → Takes bytes (entry_text x.0) x.1 × FitsRow x.0 × NextPair before (key_of_entry x.0)
@@ -94,13 +81,6 @@ entry_again before e rest fits next =
     (ap (λ b. cond b (Some (e, rest)) None) next)))))
 
 -- ---- witnesses
-
-pub record FitsWalk (w : WitnessLists) : Type 0 where
-  pub fits : FitsWitness w
-  pub short : length w.nodes < 2 ^ 64
-
-abbrev pub NextThree : Option (ℕ × ℕ × ℕ) → ℕ × ℕ × ℕ → Type 0
-NextThree before key = is_after three_cmp before key ≡ true
 
 all_read_ok : {X : Type 0} (r : Result (List X × List ℕ) ℕ) (y : List X × List ℕ) → all_read r ≡ Some y → r ≡ Ok y
 all_read_ok (Ok x) y e = (let same : x ≡ y = same_Some x y e in ap Ok same)

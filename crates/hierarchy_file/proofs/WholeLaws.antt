@@ -17,18 +17,14 @@ use Rattle.hierarchy.specs.Rules.{IsNode, FitsEntry, FitsWitness, IsAscending, e
 use Rattle.hierarchy_file.specs.declared.head.Counts.{Counts}
 use Rattle.hierarchy_file.specs.declared.fault.HFileFault.{HFileFault}
 use Rattle.hierarchy_file.specs.declared.fault.HFileFault.TheVariants.{Trailing}
-use Rattle.hierarchy_file.specs.Spelling.{magic, counts_text, counts_of, node_text, entry_text, witness_text, records_text, hierarchy_text, HasSpelling, key_of_entry, key_of_witness, pair_cmp, three_cmp}
+use Rattle.hierarchy_file.specs.Spelling.{magic, counts_text, counts_of, node_text, entry_text, witness_text, records_text, hierarchy_text, HasSpelling, FitCounts, FitsRow, FitsWalk, key_of_entry, key_of_witness, pair_cmp, three_cmp}
 use Rattle.hierarchy_file.specs.Reading.{number_at, next_node, entry_at, witness_at, many, behind_magic, counts_at, head_at, with_witnesses, with_entries, with_order, records_of, ended, of_head, hierarchy_of, GivesHierarchy}
 use Rattle.hierarchy_file.proofs.FieldLaws.{IsBytes, IsBytes-drop, Takes, Takes-then, and_then, wide64, number_takes, number_again}
 use Rattle.hierarchy_file.proofs.ManyLaws.{many_takes, many_again, ascending_from, follow_from}
-use Rattle.hierarchy_file.proofs.RecordLaws.{itself, nodes_take, nodes_again, FitsRow, NextPair, entry_takes, entry_again, FitsWalk, NextThree, witness_takes, witness_again}
+use Rattle.hierarchy_file.specs.Causes.{itself, NextPair, NextThree}
+use Rattle.hierarchy_file.proofs.RecordLaws.{nodes_take, nodes_again, entry_takes, entry_again, witness_takes, witness_again}
 
 -- ---- the head
-
-pub record FitCounts (c : Counts) : Type 0 where
-  pub order : c.order < 2 ^ 64
-  pub entries : c.entries < 2 ^ 64
-  pub witnesses : c.witnesses < 2 ^ 64
 
 counts_take : (bytes : List ℕ) (x : Counts × List ℕ) → IsBytes bytes → counts_at bytes ≡ Some x → Takes bytes (counts_text x.0) x.1 × FitCounts x.0
 unfolding counts_at
@@ -76,7 +72,7 @@ magic_again : (rest : List ℕ) → behind_magic (magic ++ rest) ≡ Some rest
 unfolding behind_magic
 magic_again rest = refl
 
-head_takes : (bytes : List ℕ) (x : Counts × List ℕ) → IsBytes bytes → head_at bytes ≡ Some x → Takes bytes (magic ++ counts_text x.0) x.1 × FitCounts x.0
+pub head_takes : (bytes : List ℕ) (x : Counts × List ℕ) → IsBytes bytes → head_at bytes ≡ Some x → Takes bytes (magic ++ counts_text x.0) x.1 × FitCounts x.0
 unfolding head_at
 head_takes bytes x fits e =
     option_and_then_some _ (behind_magic bytes) x e (λ rest is_rest e.
@@ -84,7 +80,7 @@ head_takes bytes x fits e =
     let second = counts_take rest x first.rest_fits e in
     (Takes-then bytes magic rest (counts_text x.0) x.1 first second.0, second.1))
 
-head_again : (c : Counts) (rest : List ℕ) → FitCounts c → head_at (magic ++ (counts_text c ++ rest)) ≡ Some (c, rest)
+pub head_again : (c : Counts) (rest : List ℕ) → FitCounts c → head_at (magic ++ (counts_text c ++ rest)) ≡ Some (c, rest)
 unfolding head_at
 head_again c rest fits = and_then (behind_magic (magic ++ (counts_text c ++ rest))) _ (counts_text c ++ rest) (Some (c, rest)) (magic_again (counts_text c ++ rest)) (counts_again c rest fits)
 
@@ -130,7 +126,7 @@ pub record AreRecords (c : Counts) (h : HierarchyLists) : Type 0 where
   pub witnesses : All FitsWalk h.witnesses
   pub witnesses_ascend : IsAscending witness_cmp h.witnesses
 
-abbrev AllRead : Type 0
+abbrev pub AllRead : Type 0
 AllRead = HierarchyLists × List ℕ
 
 order_ok : (c : Counts) (r : Result (List ℕ × List ℕ) ℕ) (y : AllRead) → with_order c r ≡ Ok y
@@ -148,7 +144,7 @@ witnesses_ok : (order : List ℕ) (entries : List Entry) (r : Result (List Witne
 witnesses_ok order entries (Ok x) y e = (x, refl, (let same : ◌≡◌ {A = AllRead} (record { order = order; entries = entries; witnesses = x.0 }, x.1) y = cc in sym same))
 witnesses_ok order entries (Err left) y e = absurd cc
 
-records_take : (c : Counts) (bytes : List ℕ) (y : AllRead) → IsBytes bytes → records_of c bytes ≡ Ok y → Takes bytes (records_text y.0) y.1 × AreRecords c y.0
+pub records_take : (c : Counts) (bytes : List ℕ) (y : AllRead) → IsBytes bytes → records_of c bytes ≡ Ok y → Takes bytes (records_text y.0) y.1 × AreRecords c y.0
 unfolding records_of
 records_take c bytes y fits e =
     let order = order_ok c (many next_node itself c.order None bytes) y e in
@@ -179,7 +175,7 @@ records_again c h rest are =
 
 -- ---- the whole
 
-spelling_from : (c : Counts) (h : HierarchyLists) → FitCounts c → AreRecords c h → HasSpelling h
+pub spelling_from : (c : Counts) (h : HierarchyLists) → FitCounts c → AreRecords c h → HasSpelling h
 spelling_from c h fits are =
     let whole = subst FitCounts (sym are.counts) fits in
     record {

@@ -6,7 +6,7 @@ use Rattle.std.specs.Ordering.{ordering_then, nat_cmp}
 use Rattle.std.specs.declared.cmp.Ordering.{Ordering}
 use Rattle.hierarchy.specs.declared.entry.Entry.{Entry}
 use Rattle.hierarchy.specs.Lists.{HierarchyLists, WitnessLists, first_of, last_of}
-use Rattle.hierarchy.specs.Rules.{IsHierarchy}
+use Rattle.hierarchy.specs.Rules.{FitsEntry, FitsWitness, IsHierarchy}
 use Rattle.hierarchy_file.specs.declared.head.Counts.{Counts}
 
 abbrev pub magic : List ℕ
@@ -37,6 +37,20 @@ records_text h = flat_map node_text h.order ++ flat_map entry_text h.entries ++ 
 
 unfoldable pub hierarchy_text : HierarchyLists → List ℕ
 hierarchy_text h = magic ++ counts_text (counts_of h) ++ records_text h
+
+-- what has a spelling
+pub record FitCounts (c : Counts) : Type 0 where
+  pub order : c.order < 2 ^ 64
+  pub entries : c.entries < 2 ^ 64
+  pub witnesses : c.witnesses < 2 ^ 64
+
+pub record FitsRow (e : Entry) : Type 0 where
+  pub fits : FitsEntry e
+  pub weight : e.weight < 2 ^ 64
+
+pub record FitsWalk (w : WitnessLists) : Type 0 where
+  pub fits : FitsWitness w
+  pub short : length w.nodes < 2 ^ 64
 
 -- a hierarchy whose numbers fit their fields
 pub record HasSpelling (h : HierarchyLists) : Type 0 where

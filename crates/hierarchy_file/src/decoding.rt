@@ -1,7 +1,8 @@
 //! From bytes to a hierarchy.
 
-ghost use Rattle.std.specs.Prelude.{◌≡◌, Ok, IfOk};
+ghost use Rattle.std.specs.Prelude.{◌≡◌, Ok, IfOk, IfErr};
 ghost use Rattle.hierarchy.specs.Lists.{HierarchyLists};
+ghost use Rattle.hierarchy_file.specs.Causes.{HasCause};
 ghost use Rattle.hierarchy_file.specs.Spelling.{hierarchy_text, HasSpelling};
 ghost use Rattle.hierarchy_file.specs.Reading.{Gives, GivesHierarchy, records_of, hierarchy_of};
 
@@ -95,7 +96,9 @@ pub fn decode(alloc: Global, bytes: &[u8]) -> Result<Hierarchy, HFileFault>
     ensures found { IfOk result (λ h. HasSpelling h × (bytes.now ≡ hierarchy_text h)) }
     // The hierarchy that is spelled so is read, unless memory runs out.
     ensures only { (h : HierarchyLists) → HasSpelling h → bytes.now ≡ hierarchy_text h → GivesHierarchy result (Ok h) }
-    // Which fault it is.
+    // Each refusal has its cause.
+    ensures cause { IfErr result (HasCause bytes.now) }
+    // Which one comes first.
     ensures exact { GivesHierarchy result (hierarchy_of bytes.now) }
 {
     read(alloc, bytes)

@@ -1,4 +1,5 @@
 use Rattle.std.proofs.Common.{arith}
+use Rattle.hierarchy_file.proofs.CauseLaws.{gives_cause}
 use Rattle.hierarchy_file.proofs.WholeLaws.{gives_found, gives_only}
 use Rattle.hierarchy_file.proofs.decoding.decode.Goals as goal
 
@@ -7,3 +8,6 @@ returns-clause-found c = gives_found c.args.bytes.now c.read.result (λ i. omega
 
 pub returns-clause-only : goal.returns-clause-only
 returns-clause-only c = gives_only c.args.bytes.now c.read.result c.read.ensures
+
+pub returns-clause-cause : goal.returns-clause-cause
+returns-clause-cause c = gives_cause c.args.bytes.now c.read.result (λ i. omega (arith, c.type_inv.bytes i)) c.read.ensures
