@@ -3,3 +3,4 @@ pub mod OrderLemmas
 pub mod EntryLemmas
 pub mod WalkLemmas
 pub mod BridgeLemmas
+pub mod VerdictLemmas

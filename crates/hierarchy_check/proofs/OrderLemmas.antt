@@ -1,5 +1,5 @@
 -- Which node may stand at a place of the order.
-use Rattle.std.proofs.Common.{◌≡◌, ℕ, zero, suc, ◌<◌, ◌≤◌, ◌==◌, ◌||◌, Bool, true, false, not, nat_eq, cond, List, [], ◌∷◌, length, get_or, Some, inl, inr, sym, ◌∙◌, subst, arith, refl}
+use Rattle.std.proofs.Common.{◌≡◌, ℕ, ◌<◌, ◌==◌, ◌||◌, Bool, true, false, not, nat_eq, List, length, get_or, Some, inl, inr, sym, ◌∙◌, subst, arith}
 use Rattle.std.specs.Prelude.{IsTrue, ◌↔◌, slice_get}
 use Rattle.std.proofs.lemmas.Bool.{false≢true, both_ways, not-true, not_from_false, eqb-true, eq-eqb, ne_eqb, or_from, or_left, or_right, cases_lt}
 use Rattle.std.proofs.lemmas.List.{get_or_default}

@@ -1,6 +1,7 @@
 //! The verdict on a hierarchy.
 
 ghost use Rattle.std.specs.Prelude.{◌≡◌};
+ghost use Rattle.hierarchy.specs.Soundness.{IsSound};
 ghost use Rattle.hierarchy.specs.FirstBroken.{IsVerdict};
 
 use crate::bridges::first_unbridged;
@@ -13,6 +14,14 @@ use mode_network::Network;
 /// those of [`Verdict`]. It takes no memory, and time in proportion to the pairs of entries around contracted nodes and
 /// the length of their witnesses, times a logarithm.
 pub fn check(network: &Network, h: &Hierarchy) -> Verdict
+    ensures verdict { IsVerdict network.now h.now result }
+    ensures sound { IsSound network.now h.now → result ≡ Verdict.Sound }
+{
+    first_broken(network, h)
+}
+
+/// The clauses, tried in turn.
+fn first_broken(network: &Network, h: &Hierarchy) -> Verdict
     ensures { IsVerdict network.now h.now result }
 {
     if let Some(at) = first_misplaced(network, h) {

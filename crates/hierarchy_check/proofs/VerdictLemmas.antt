@@ -1,0 +1,19 @@
+-- A sound hierarchy has no clause that fails.
+use Rattle.std.proofs.Common.{◌≡◌, ℕ, inl, inr, refl}
+use Rattle.mode_network.specs.NetworkLists.{NetworkLists}
+use Rattle.hierarchy.specs.declared.verdict.Verdict.{Verdict}
+use Rattle.hierarchy.specs.declared.verdict.Verdict.TheVariants.{Sound, Broken}
+use Rattle.hierarchy.specs.Lists.{HierarchyLists}
+use Rattle.hierarchy.specs.Soundness.{IsSound}
+use Rattle.hierarchy.specs.FirstBroken.{IsFirstBroken, IsVerdict}
+
+not_both : (n : NetworkLists) (h : HierarchyLists) (clause at by : ℕ) → IsSound n h → IsFirstBroken n h clause at by → ⊥
+not_both n h clause at by sound (inl (is, none, fails)) = fails.fails (sound.in_order at fails.place)
+not_both n h clause at by sound (inr (inl (is, none, order, fails))) = fails.fails (λ d. sound.in_layers at d fails.place)
+not_both n h clause at by sound (inr (inr (inl (is, none, order, layers, fails)))) = fails.fails (λ d. sound.arcs_covered at d fails.place)
+not_both n h clause at by sound (inr (inr (inr (inl (is, none, order, layers, covered, fails))))) = fails.fails (λ d. sound.made at d fails.place)
+not_both n h clause at by sound (inr (inr (inr (inr (is, order, layers, covered, made, fails))))) = fails.node_fails.fails (λ d. sound.bridged fails.place d fails.node_fails.place)
+
+pub sound_verdict : (n : NetworkLists) (h : HierarchyLists) (verdict : Verdict) → IsVerdict n h verdict → IsSound n h → verdict ≡ Sound
+sound_verdict n h Sound is sound = refl
+sound_verdict n h (Broken clause at by) is sound = absurd (not_both n h clause at by sound is)
