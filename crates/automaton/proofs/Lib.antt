@@ -8,3 +8,4 @@ pub mod StateLemmas
 pub mod PositionLemmas
 pub mod OfLemmas
 pub mod CollapsedLemmas
+pub mod SameLemmas

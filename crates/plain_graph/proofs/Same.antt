@@ -47,6 +47,17 @@ listed_of arcs v w ms (place, within, is) = record {
   begins = refl;
 }
 
+-- no arc is a wait
+no_wait : (table : TableLists) (t : ℕ) (a : PlainArc) (step : Step) → step_of table t a ≡ Some step → IsNoWait step
+no_wait table t (Road a) step is = subst IsNoWait (some_is is) tt
+no_wait table t (Link a) step is = subst IsNoWait (some_is is) tt
+no_wait table t Stand step is = subst IsNoWait (some_is is) tt
+no_wait table t (Ride ride) step is = by_run (run_at table t ride) is
+  where
+    by_run : (o : Option Instance) → option_map (λ (run : Instance). TakeRide run.trip run.day ride.board ride.alight) o ≡ Some step → IsNoWait step
+    by_run None none = cc
+    by_run (Some run) some = subst IsNoWait (some_is some) tt
+
 module _ (n : NetworkLists) (network : IsNetwork n) (table : TableLists) (keeps : IsTable table) (of : IsTimetableOf n table) where
   -- a run of a pattern may be ridden where the pattern may
   run_rides : (stop : ℕ) (ride : RideCalls) → IsRideAt table stop ride → (run : Instance) → IsIn table ride.pattern run
@@ -112,7 +123,7 @@ module _ (n : NetworkLists) (network : IsNetwork n) (table : TableLists) (keeps 
   pub arcs_are_steps : ArcsAreSteps n table
   arcs_are_steps v i t u has arrives =
       let step = step_at v t u (plain_arc n table v i) (out_of n network table keeps v i has.arc) arrives in
-      (step.0, step.2)
+      (step.0, no_wait table t (plain_arc n table v i) step.0 step.1, step.2)
 
   takes_arc : (v t at : ℕ) (a : PlainArc) (w u : ℕ) (letter : Option ℕ) → IsOut n table v a
       → (graph_arc n table v a).to ≡ w → arrival table t a ≡ Some at → at ≤ u → (graph_arc n table v a).letter ≡ letter → HasArcBy n table v t w u letter

@@ -34,10 +34,17 @@ pub record HasWalk (n : NetworkLists) (table : TableLists) (v t w u : ℕ) (lett
 abbrev pub JourneysAreWalks : NetworkLists → TableLists → Type 0
 JourneysAreWalks n table = (v t : ℕ) (steps : List Step) (w u : ℕ) (letters : List ℕ) → AreSteps n v t steps w u letters → HasWalk n table v t w u letters
 
--- each arc that is taken at a time arrives when some step of the network with its ends and its letter, taken then, arrives
+abbrev pub IsNoWait : Step → Type 0
+IsNoWait (Wait until) = ⊥
+IsNoWait (TakeRoad to) = Unit {0}
+IsNoWait (TakeLink to) = Unit {0}
+IsNoWait StandStill = Unit {0}
+IsNoWait (TakeRide trip day board alight) = Unit {0}
+
+-- each arc that is taken at a time arrives when some step of the network but a wait, with its ends and its letter, taken then, arrives
 abbrev pub ArcsAreSteps : NetworkLists → TableLists → Type 0
 ArcsAreSteps n table = (v i t u : ℕ) → HasArc (plain_meaning n table) v i → (plain_meaning n table).arrive v i t ≡ Some u
-    → (step : Step) × IsStep n v t step ((plain_meaning n table).arc_at v i).to u ((plain_meaning n table).arc_at v i).letter
+    → (step : Step) × IsNoWait step × IsStep n v t step ((plain_meaning n table).arc_at v i).to u ((plain_meaning n table).arc_at v i).letter
 
 -- an arc from v to w with this letter that is taken at t arrives at u or earlier
 pub record HasArcBy (n : NetworkLists) (table : TableLists) (v t w u : ℕ) (letter : Option ℕ) : Type 0 where
@@ -48,13 +55,6 @@ pub record HasArcBy (n : NetworkLists) (table : TableLists) (v t w u : ℕ) (let
   pub soon : at ≤ u
   pub to : ((plain_meaning n table).arc_at v place).to ≡ w
   pub same : ((plain_meaning n table).arc_at v place).letter ≡ letter
-
-abbrev pub IsNoWait : Step → Type 0
-IsNoWait (Wait until) = ⊥
-IsNoWait (TakeRoad to) = Unit {0}
-IsNoWait (TakeLink to) = Unit {0}
-IsNoWait StandStill = Unit {0}
-IsNoWait (TakeRide trip day board alight) = Unit {0}
 
 -- for each step but a wait that is taken at t or later, an arc with the same ends and letter that is taken at t arrives no later
 abbrev pub StepsAreArcs : NetworkLists → TableLists → Type 0
