@@ -1,5 +1,5 @@
 -- The copies of an endpoint are nodes, and stand in a row.
-use Rattle.std.proofs.Common.{◌≡◌, ℕ, ℤ, zero, suc, ◌∷◌, ◌+◌, ◌-◌, ◌<◌, ◌∙◌, List, [], ◌++◌, length, length-append, Option, Some, None, refl, ap, arith}
+use Rattle.std.proofs.Common.{◌≡◌, ℕ, ℤ, zero, suc, ◌∷◌, ◌+◌, ◌-◌, ◌<◌, ◌∙◌, List, [], ◌++◌, length, length-append, Option, Some, None, ◌⊎◌, inl, inr, refl, ap, sym, subst, arith}
 use Rattle.std.specs.Prelude.{All, AllPairs, Contains, slice_index_or, slice_get, option_map, ◌↔◌}
 use Rattle.std.specs.List.{range_with_len}
 use Rattle.std.proofs.Math.Nat.{lt_of_lt_of_le}
@@ -74,3 +74,50 @@ range_ascends a n i j d lt within =
 
 pub none_ascend : AllPairs (λ (v w : ℕ). v < w) []
 none_ascend i j d lt within = absurd (omega arith)
+
+-- ---- an endpoint has one list of copies
+
+HasAll : List ℕ → List ℕ → Type 0
+HasAll xs ys = (v : ℕ) → Contains xs v → Contains ys v
+
+Ascends : List ℕ → Type 0
+Ascends list = AllPairs (λ v w. v < w) list
+
+head_or_tail : (x : ℕ) (xs : List ℕ) (v : ℕ) → Contains (x ∷ xs) v → (x ≡ v) ⊎ Contains xs v
+head_or_tail x xs v (zero, lt, is) = inl is
+head_or_tail x xs v (suc k, lt, is) = inr (k, (omega arith), is)
+
+below_tail : (x : ℕ) (xs : List ℕ) → AllPairs (λ v w. v < w) (x ∷ xs) → (v : ℕ) → Contains xs v → x < v
+below_tail x xs up v (k, lt, is) = subst (λ w. x < w) is (up zero (suc k) v (omega arith) (omega arith))
+
+same_numbers : (xs ys : List ℕ) → Ascends xs → Ascends ys → HasAll xs ys → HasAll ys xs → xs ≡ ys
+unfolding HasAll Ascends
+same_numbers [] [] up above there back = refl
+same_numbers [] (y ∷ ys) up above there back = let h = back y (0, (omega arith), refl) in absurd (omega (arith, h.1))
+same_numbers (x ∷ xs) [] up above there back = let h = there x (0, (omega arith), refl) in absurd (omega (arith, h.1))
+same_numbers (x ∷ xs) (y ∷ ys) up above there back = joined head (same_numbers xs ys (tail x xs up) (tail y ys above) (tails x y xs ys head up there) (tails y x ys xs (sym head) above back))
+  where
+    tail : (z : ℕ) (zs : List ℕ) → AllPairs (λ v w. v < w) (z ∷ zs) → AllPairs (λ v w. v < w) zs
+    tail z zs up i j d lt within = up (suc i) (suc j) d (omega arith) (omega arith)
+
+    head : x ≡ y
+    head = elim (head_or_tail y ys x (there x (0, (omega arith), refl))) [
+      | inl e ↦ sym e
+      | inr later ↦ elim (head_or_tail x xs y (back y (0, (omega arith), refl))) [
+        | inl e ↦ e
+        | inr also ↦ (let a = below_tail y ys above x later in let b = below_tail x xs up y also in absurd (omega arith))
+      ]
+    ]
+
+    tails : (a b : ℕ) (xs ys : List ℕ) → a ≡ b → AllPairs (λ v w. v < w) (a ∷ xs) → ((v : ℕ) → Contains (a ∷ xs) v → Contains (b ∷ ys) v) → (v : ℕ) → Contains xs v → Contains ys v
+    tails a b xs ys same up there v (k, lt, is) = elim (head_or_tail b ys v (there v (suc k, (omega arith), is))) [
+      | inr later ↦ later
+      | inl e ↦ (let below = below_tail a xs up v (k, lt, is) in absurd (omega arith))
+    ]
+
+    joined : x ≡ y → xs ≡ ys → x ∷ xs ≡ y ∷ ys
+    joined e f = ap (λ z. z ∷ xs) e ∙ ap (λ zs. y ∷ zs) f
+
+pub one_list_of_copies : (n : NetworkLists) (endpoint : Endpoint) (xs ys : List ℕ) → AreTheCopies n endpoint xs → AreTheCopies n endpoint ys → xs ≡ ys
+unfolding HasAll Ascends
+one_list_of_copies n endpoint xs ys a b = same_numbers xs ys a.ascending b.ascending (λ v has. (b.are v).1 ((a.are v).0 has)) (λ v has. (a.are v).1 ((b.are v).0 has))

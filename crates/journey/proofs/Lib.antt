@@ -8,3 +8,4 @@ pub mod PrintLemmas
 pub mod CopyLemmas
 pub mod ExpressionLines
 pub mod LineLemmas
+pub mod ReadingLemmas

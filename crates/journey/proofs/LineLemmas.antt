@@ -1,9 +1,8 @@
 -- A query line holds no line feed.
-use Rattle.std.proofs.Common.{◌≡◌, ℕ, ℤ, ◌+◌, ◌-◌, ◌^◌, Bool, true, false, ◌&&◌, ◌==◌, Option, Some, None, Ok, List, [], ◌∷◌, length, get_or, take, drop, cond, refl, sym, ap, ◌∙◌, subst, arith}
-use Rattle.std.specs.Prelude.{position, option_map, nat_lt, nat_le, nat_eq, pos, neg_ℤ, slice_get}
+use Rattle.std.proofs.Common.{◌≡◌, ℕ, ℤ, ◌+◌, ◌^◌, Bool, true, false, ◌&&◌, ◌==◌, Option, Some, None, Ok, List, [], ◌∷◌, length, get_or, take, drop, cond, refl, sym, ap, subst, arith}
+use Rattle.std.specs.Prelude.{position, option_map, nat_lt, nat_le, nat_eq, pos, neg_ℤ}
 use Rattle.std.specs.Char.{is_ascii_digit}
 use Rattle.std.specs.List.{list_all}
-use Rattle.std.proofs.Math.Nat.{le_refl}
 use Rattle.std.proofs.lemmas.Bool.{and_parts}
 use Rattle.std.proofs.lemmas.Bool.Decides.{nat_tests}
 use Rattle.std.proofs.lemmas.List.{take-append-drop, drop_more}
@@ -25,9 +24,8 @@ use Rattle.service_days.specs.DaysMeaning.{DaysMeaning}
 use Rattle.mode_expression.specs.Form.{Form}
 use Rattle.mode_network.specs.declared.endpoints.Endpoint.{Endpoint}
 use Rattle.mode_network.specs.declared.endpoints.Endpoint.TheVariants.{Road, Stop, Near}
-use Rattle.mode_network.specs.NetworkLists.{NetworkLists, stop_at}
+use Rattle.mode_network.specs.NetworkLists.{NetworkLists}
 use Rattle.mode_network.specs.Rules.{IsNetwork}
-use Rattle.mode_network.specs.Copies.{AreCopies, IsCopy, IsStopCopy}
 use Rattle.journey.specs.Shapes.{Fields, Shape, at_byte, place_at, endpoint_of, fields_of, is_filled, shape_of_fields, shape_of, date_at, part_at, millis_at, time_at, departs_on}
 use Rattle.journey.specs.Queries.{IsKnown, IsQuery}
 use Rattle.journey.proofs.ExpressionLines.{spelled_is_line}

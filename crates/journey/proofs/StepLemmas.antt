@@ -142,3 +142,16 @@ module _ (n : NetworkLists) where
 pub on_time : (k at u : ℕ) → at < 10 ^ 30 + k * 2 ^ 32 → (u ≤ at + 2 ^ 32) ⊎ (u < 10 ^ 30) → u < 10 ^ 30 + (k + 1) * 2 ^ 32
 on_time k at u before (inl near) = omega arith
 on_time k at u before (inr waited) = omega arith
+
+-- steps end at one place, at one time and with one list of letters
+pub steps_once : (n : NetworkLists) → IsNetwork n → (v t : ℕ) (steps : List Step) (w u : ℕ) (letters : List ℕ) (w2 u2 : ℕ) (letters2 : List ℕ)
+    → AreSteps n v t steps w u letters → AreSteps n v t steps w2 u2 letters2 → (w ≡ w2) × (u ≡ u2) × (letters ≡ letters2)
+steps_once n network v t [] w u letters w2 u2 letters2 (a, b, c) (a2, b2, c2) = (a ∙ sym a2, b ∙ sym b2, c ∙ sym c2)
+steps_once n network v t (step ∷ steps) w u letters w2 u2 letters2 (v1, t1, letter, rest, here, more, e) (v2, t2, letter2, rest2, here2, more2, e2) =
+    let (at, now, same) = step_once n network v t step v1 t1 letter v2 t2 letter2 here here2 in
+    let later : AreSteps n v2 t2 steps w u rest = subst (λ x. AreSteps n x t2 steps w u rest) at (subst (λ y. AreSteps n v1 y steps w u rest) now more) in
+    let ends = steps_once n network v2 t2 steps w u rest w2 u2 rest2 later more2 in (
+      ends.0,
+      ends.1,
+      e ∙ (ap (λ o. option_to_list o ++ rest) same ∙ (ap (λ ls. option_to_list letter2 ++ ls) ends.2 ∙ sym e2)),
+    )

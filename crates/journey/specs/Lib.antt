@@ -11,3 +11,4 @@ pub mod Texts
 pub mod Telling
 pub mod Blocks
 pub mod Best
+pub mod Reading
