@@ -5,8 +5,9 @@ mod Again
 mod Found
 mod TextLemmas
 mod FitLemmas
-mod ReadLaws
+pub mod ReadLaws
 pub mod StateLemmas
 pub mod WalkedLemmas
 pub mod VerdictLemmas
 pub mod VerifyLemmas
+pub mod UniqueLemmas

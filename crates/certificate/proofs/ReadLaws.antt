@@ -17,7 +17,6 @@ use Rattle.journey.specs.declared.verdict.CertFault.TheVariants.{BadLine, OutOfM
 use Rattle.product_search.specs.declared.label.Label.{Label}
 use Rattle.certificate.specs.declared.lines.Line.{Line}
 use Rattle.certificate.specs.declared.lines.Line.TheVariants as line
-use Rattle.certificate.specs.declared.due.Due.{Due}
 use Rattle.certificate.specs.declared.due.Due.TheVariants as due
 use Rattle.certificate.specs.Certificates.{Claim}
 use Rattle.certificate.specs.Lines.{FitsLine, FitsStep, HasLabelTime, spelled}
@@ -118,7 +117,7 @@ all_lines c query h =
     (spaced_is_line _ (words_are_words line.Head tt tt), (query_line c.line query, (spaced_is_line _ (words_are_words (line.Graph c.phases) tt tt), each_is_line (result_lines c.result ++ label_lines c.labels) in_words h.1.1.1)))
 
 -- What is spelled so is read.
-again : (bytes : List ℕ) (c : Claim) → IsCertText bytes c → cert_of bytes ≡ Ok c
+pub again : (bytes : List ℕ) (c : Claim) → IsCertText bytes c → cert_of bytes ≡ Ok c
 unfolding cert_of cert_text
 again bytes c h =
     ap (λ x. put_all nothing (lines_from line_at is_last due.Head 1 (pieces x))) h.spelled

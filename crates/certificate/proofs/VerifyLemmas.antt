@@ -2,7 +2,7 @@
 use Rattle.std.proofs.Common.{◌≡◌, ℕ, zero, suc, ◌^◌, ◌<◌, ◌≤◌, inl, inr, List, length, get_or, Bool, true, false, Option, Some, None, refl, sym, subst, arith}
 use Rattle.std.specs.Prelude.{All, AllPairs, ◌↔◌}
 use Rattle.std.proofs.lemmas.Bool.{cases_lt}
-use Rattle.search_laws.specs.LabelLaws.{LabelsMeaning, Accepts}
+use Rattle.search_laws.specs.LabelLaws.{LabelsMeaning, IsLawfulLabels, Accepts}
 use Rattle.search_laws.specs.Walks.{ArrivesAt}
 use Rattle.search_laws.specs.Collapse.{collapse}
 use Rattle.product_search.specs.declared.label.Label.{Label}
@@ -80,7 +80,7 @@ result_holds n q None verdict = tt
 result_holds n q (Some claimed) verdict = verdict
 
 module _ (n : NetworkLists) (c : Claim) (q : Query) (asks : IsQuery n c.line q.from q.to q.depart (form_of q.expr)) (plain : c.phases ≡ false)
-    (table : TableLists) (of : IsTimetableOf n table) (keeps : IsTable table) (l : LabelsMeaning) (positions : IsPositionAutomaton (written (form_of q.expr)) l)
+    (table : TableLists) (of : IsTimetableOf n table) (keeps : IsTable table) (l : LabelsMeaning) (positions : IsPositionAutomaton (written (form_of q.expr)) l) (lawful : IsLawfulLabels l)
     (starts targets : List ℕ) (origin : AreTheCopies n q.from starts) (destination : AreTheCopies n q.to targets) where
   abbrev setting : Setting n c.line
   setting = record {
@@ -95,6 +95,7 @@ module _ (n : NetworkLists) (c : Claim) (q : Query) (asks : IsQuery n c.line q.f
     keeps = keeps;
     automaton = l;
     positions = positions;
+    lawful = lawful;
   }
 
   pub labels_judged : (verdict : LabelVerdict) → IsResultVerdict n (asked_by q) c.result Valid

@@ -12,7 +12,6 @@ use Rattle.certificate.specs.declared.due.Due.TheVariants as due
 use Rattle.certificate.specs.Certificates.{Claim}
 use Rattle.certificate.specs.Lines.{FitsLine, spelled}
 use Rattle.certificate.specs.Sections.{due_behind, is_last, line_at}
-use Rattle.certificate.specs.Texts.{IsCertText}
 
 -- no line yet
 abbrev pub nothing : Claim

@@ -1,6 +1,6 @@
 -- When a certificate is valid, and what it then proves.
 use Rattle.std.specs.Prelude.{◌≡◌, ℕ, ◌<◌, ◌^◌, false, List, Option, Some, None, IfSome, All, option_map}
-use Rattle.search_laws.specs.LabelLaws.{LabelsMeaning}
+use Rattle.search_laws.specs.LabelLaws.{LabelsMeaning, IsLawfulLabels}
 use Rattle.product_search.specs.Closed.{IsClosed}
 use Rattle.automaton.specs.Written.{written}
 use Rattle.automaton.specs.States.{IsPositionAutomaton}
@@ -30,6 +30,7 @@ pub record Setting (n : NetworkLists) (line : List ℕ) : Type 0 where
   pub keeps : IsTable table
   pub automaton : LabelsMeaning
   pub positions : IsPositionAutomaton (written asked.form) automaton
+  pub lawful : IsLawfulLabels automaton
 
 -- the journey that is claimed, if one is, answers the query and has the arrival that is claimed
 abbrev pub ResultHolds : NetworkLists → Asked → Option (ℕ × Route) → Type 0

@@ -10,6 +10,7 @@ use Rattle.product_search.specs.Closed.{IsVerdict}
 use Rattle.automaton.specs.Collapsed.{collapsed}
 use Rattle.plain_graph.specs.PlainArcs.{plain_meaning}
 use Rattle.mode_network.specs.NetworkLists.{NetworkLists}
+use Rattle.mode_network.specs.Rules.{IsNetwork}
 use Rattle.mode_network.specs.Journeys.{Route, IsJourney}
 use Rattle.mode_network.specs.Copies.{IsCopy}
 use Rattle.journey.specs.declared.fault.QueryFault.{QueryFault}
@@ -129,3 +130,9 @@ pub record LabelsFail (n : NetworkLists) (c : Claim) (clause at : ℕ) : Type 0 
 abbrev pub IsCertVerdict : NetworkLists → Claim → CertVerdict → Type 0
 IsCertVerdict n c Valid = IsValid n c
 IsCertVerdict n c (Invalid clause at) = LineFails n c clause at ⊎ PhasesFail n c clause at ⊎ ResultFails n c clause at ⊎ LabelsFail n c clause at
+
+-- ---- laws
+
+-- a certificate has one verdict: it is valid, or one clause is the first that fails, at one place
+abbrev pub VerdictIsUnique : Type 0
+VerdictIsUnique = (n : NetworkLists) → IsNetwork n → (c : Claim) (one other : CertVerdict) → IsCertVerdict n c one → IsCertVerdict n c other → one ≡ other

@@ -4,6 +4,7 @@
 pub mod certificate;
 pub mod due;
 mod kinds;
+mod laws;
 pub mod lines;
 mod printing;
 mod reading;
@@ -16,6 +17,7 @@ mod walked;
 
 pub use certificate::Certificate;
 pub use journey::{CertFault, CertVerdict};
+pub use laws::verdict_is_unique;
 pub use printing::print;
 pub use reading::read;
 pub use verifying::verify;

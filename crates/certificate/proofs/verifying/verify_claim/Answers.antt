@@ -23,7 +23,7 @@ returns-clause-verdict c =
     let verdict = rw (c.new-plain.ensures.network, c.deref-3.ensures.value, c.deref-4.ensures.value, c.claimed_arrival-arrival.ensures) at c.check_labels-verdict.ensures.verdict in
     let positions = subst (λ (p : Positions). IsPositionAutomaton (written (form_of q.expr)) (position_meaning p)) (sym c.new-automaton.ensures.same) c.in_ok-of.ensures.states in
     rw c.as_verdict.ensures (labels_judged c.args.network.now (claim_on q c.args.claimed.now c.args.labels.now) q c.requires.asks refl
-    c.new-plain.result.timetable.now c.new-plain.ensures.of c.new-plain.ensures.keeps (position_meaning c.new-automaton.result.inner) positions
+    c.new-plain.result.timetable.now c.new-plain.ensures.of c.new-plain.ensures.keeps (position_meaning c.new-automaton.result.inner) positions c.new-automaton.result.inner.lawful
     c.in_ok-starts.starts.items c.in_ok-targets.targets.items c.in_ok-starts.ensures.are c.in_ok-targets.ensures.are
     c.check_labels-verdict.result c.in_default.ensures verdict)
 
