@@ -3,3 +3,4 @@ pub mod AnyTable
 pub mod BlockLemmas
 pub mod WriteLemmas
 pub mod OutcomeLemmas
+pub mod CompleteLemmas

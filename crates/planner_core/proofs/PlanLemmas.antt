@@ -4,13 +4,14 @@ use Rattle.std.specs.Prelude.{All, IfSome, ◌↔◌, slice_index_or}
 use Rattle.search_laws.specs.LabelLaws.{LabelsMeaning, Accepts}
 use Rattle.search_laws.specs.Walks.{wait, ArrivesAt, IsLeast}
 use Rattle.search_laws.specs.Collapse.{collapse}
+use Rattle.product_search.specs.declared.label.Label.{Label}
 use Rattle.product_search.specs.declared.label.Walk.{Walk}
 use Rattle.product_search.specs.Answer.{IsArrival, IsWalkTo, IsWalkFor, last_time}
 use Rattle.product_search.proofs.HopLemmas.{reads_of_hops}
 use Rattle.automaton.specs.Collapsed.{collapsed, AcceptsCollapsed}
 use Rattle.plain_graph.specs.PlainArcs.{plain_meaning}
 use Rattle.plain_graph.specs.Simulation.{JourneysAreWalks}
-use Rattle.mode_expression.specs.Form.{IsWordOf}
+use Rattle.mode_expression.specs.Form.{form_of, IsWordOf}
 use Rattle.mode_network.specs.declared.steps.Step.{Step}
 use Rattle.mode_network.specs.declared.steps.Step.TheVariants.{Wait, Road, Link, Stand, Ride}
 use Rattle.timetable_arcs.specs.Patterns.{TableLists}
@@ -18,6 +19,8 @@ use Rattle.mode_network.specs.NetworkLists.{NetworkLists}
 use Rattle.mode_network.specs.Rules.{IsNetwork}
 use Rattle.mode_network.specs.Journeys.{Route, AreSteps}
 use Rattle.mode_network.specs.Copies.{IsCopy}
+use Rattle.journey.specs.declared.query.Query.{Query}
+use Rattle.journey.specs.Queries.{IsQuery}
 use Rattle.journey.specs.Best.{Asked, Answers, HasNone}
 use Rattle.journey.specs.Ends.{HasTime}
 use Rattle.journey.specs.Blocks.{IsPrintable}
@@ -25,8 +28,10 @@ use Rattle.unpack.specs.Unpacking.{IsSoon, end_of, arrival_of, letters_of}
 use Rattle.unpack.proofs.UnpackLemmas.{hops_end, hops_letters, plain_hops}
 use Rattle.journey.specs.CopyLists.{AreTheCopies}
 use Rattle.certificate.specs.Texts.{FitsResult}
-use Rattle.certificate.specs.Valid.{ResultHolds, claimed_arrival}
-use Rattle.planner_core.specs.Plans.{IsPlan, IsPlainWalk, IsUnpacked, TakesHops, both, route_of}
+use Rattle.certificate.specs.Valid.{ResultHolds, claimed_arrival, IsBestResult, Proves}
+use Rattle.certificate.specs.Verdicts.{asked_by, claim_on}
+use Rattle.certificate.proofs.UniqueLemmas.{journey_once}
+use Rattle.planner_core.specs.Plans.{IsCertifiable, IsPlan, IsPlainWalk, IsUnpacked, TakesHops, both, route_of}
 use Rattle.journey.proofs.CopyLemmas.{copy_in_range}
 
 module _ (n : NetworkLists) (network : IsNetwork n) (table : TableLists) (q : Asked) (l : LabelsMeaning) (starts targets : List ℕ)
@@ -144,3 +149,14 @@ module _ (n : NetworkLists) (network : IsNetwork n) (table : TableLists) (q : As
       → IsWalkFor (plain_meaning n table) (collapsed l) starts targets q.depart arrival walk → q.depart < 2 ^ 64 → IfSome arrival (λ a. a ≤ last_time q.depart)
       → IsUnpacked n table walk j → IsPlan n q j
   plan_for arrival walk j least is soon in_time unpacked = subst (IsPlan n q) (same_route arrival walk j is unpacked) (found_for arrival walk j least is soon in_time unpacked).plan
+
+-- what was found for a query proves what its certificate claims
+pub plan_proves : (n : NetworkLists) → IsNetwork n → (q : Query) → IsQuery n q.line q.from q.to q.depart (form_of q.expr) → (found : Option (ℕ × Route)) (labels : List Label)
+    → IsPlan n (asked_by q) (route_of found) → IsCertifiable n q found labels → Proves n (claim_on q found labels)
+plan_proves n network q asks found labels plan cert = record { asked = asked_by q; asks = asks; best = best_of found plan (subst (λ (a : Asked). ResultHolds n a found) cert.asked cert.valid.holds) }
+  where
+    best_of : (found : Option (ℕ × Route)) → IsPlan n (asked_by q) (route_of found) → ResultHolds n (asked_by q) found → IsBestResult n (asked_by q) found
+    best_of None none holds = none
+    best_of (Some claimed) (best, printable) holds =
+        let a = best.answers in
+        (best, (journey_once n network (asked_by q) claimed.0 claimed.1 a.end best.arrival a.word holds.end claimed.0 holds.word a.real holds.real).1)

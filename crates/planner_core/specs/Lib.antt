@@ -4,3 +4,4 @@ pub mod Written
 pub mod Outputs
 pub mod Outcomes
 pub mod Working
+pub mod Complete

@@ -7,6 +7,7 @@ use Rattle.plan_base.specs.declared.limits.Caps.{Caps}
 use Rattle.plan_base.specs.declared.limits.Kind.{Kind}
 use Rattle.plan_base.specs.CapsByKind.{cap_of, full_cap_of}
 use Rattle.mode_network.specs.NetworkLists.{NetworkLists}
+use Rattle.mode_network.specs.Rules.{IsNetwork}
 use Rattle.region_file.specs.declared.fault.RegionFault.{RegionFault}
 use Rattle.region_file.specs.Regions.{region_of}
 use Rattle.journey.specs.declared.verdict.CertFault.TheVariants.{BadLine}
@@ -66,11 +67,12 @@ abbrev pub Names : Request → FileRole → List ℕ → Type 0
 Names r Region name = name ≡ r.region
 Names r file name = (second_file r.command ≡ Some file) × (name ≡ r.word)
 
--- the region file was read, and spells this network within the limits
+-- the region file was read, and spells this network within the limits, which keeps the rules of networks
 pub record HasRegion (caps : Caps) (shelf : ShelfMeaning) (name : List ℕ) (n : NetworkLists) : Type 0 where
   pub bytes : List ℕ
   pub file : HasRead shelf name most_bytes bytes
   pub spells : region_of caps bytes ≡ Ok n
+  pub rules : IsNetwork n
 
 -- what a command works on beside the region: the query line that the word is, or the bytes of the file that it names
 abbrev pub IsGiven : Command → ShelfMeaning → List ℕ → List ℕ → Type 0
@@ -171,3 +173,17 @@ IsOutcomeFor caps old new r before after OutOfMemory = IsUnwritten before after 
 abbrev pub IsOutcome : Caps → List (List ℕ) → ShelfMeaning → ShelfMeaning → SinkMeaning → SinkMeaning → Outcome → Type 0
 IsOutcome caps words old new before after Usage = IsRefusedFor words × IsUnwritten before after
 IsOutcome caps words old new before after outcome = (r : Request) × AreWords words r × IsOutcomeFor caps old new r before after outcome
+
+-- ---- exit statuses
+
+abbrev pub status_of : Outcome → ℕ
+status_of Done = 0
+status_of Usage = 2
+status_of (Missing file) = 3
+status_of (ReadFault file) = 4
+status_of (TooLong file) = 5
+status_of WriteFault = 6
+status_of (BadRegion fault) = 7
+status_of (Invalid clause at) = 11
+status_of (BadCertificate line) = 12
+status_of OutOfMemory = 13

@@ -9,19 +9,20 @@ use Rattle.journey.specs.Blocks.{IsBlockText}
 use Rattle.journey.specs.Best.{IsBlock, IsRefusedBlock}
 use Rattle.certificate.specs.Certificates.{Claim}
 use Rattle.certificate.specs.Texts.{IsCertText}
-use Rattle.certificate.specs.Valid.{IsValid}
+use Rattle.certificate.specs.Valid.{IsValid, Proves}
 use Rattle.planner_core.specs.declared.command.Command.{Command}
 use Rattle.planner_core.specs.declared.command.Command.TheVariants.{Answer, Certify, Verify}
 use Rattle.planner_core.specs.Plans.{AreTheLabels}
 use Rattle.planner_core.specs.Written.{query_lines, AreBlocks, BeginsBlocks}
 
--- the text of a valid certificate for the line, whose labels are those of the search
+-- the text of a valid certificate for the line, whose labels are those of the search; it proves what it claims
 pub record IsCertificateFor (n : NetworkLists) (line out : List ℕ) : Type 0 where
   pub claim : Claim
   pub text : IsCertText out claim
   pub line_is : claim.line ≡ line
   pub valid : IsValid n claim
   pub labelled : AreTheLabels n valid.setting.asked claim.labels
+  pub proves : Proves n claim
 
 -- the block of a line that is refused, or a certificate
 abbrev pub IsCertified : NetworkLists → List ℕ → List ℕ → Type 0

@@ -77,6 +77,7 @@ fn certificate_text(alloc: Global, network: &Network, query: Query) -> Result<Ve
     requires line { IsLine query.line }
     ensures { IfOk result (λ text. IsCertificateFor network.now query.line text.items) }
 {
+    network.known();
     let FoundPlan { best, labels } = find_plan(alloc, network, &query)?;
     let certificate = Certificate {
         line: query.line,

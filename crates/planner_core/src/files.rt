@@ -47,7 +47,10 @@ pub(crate) fn read_region<F: Shelf>(
 {
     let bytes = read_file(alloc, shelf, name, FileRole::Region)?;
     match decode(alloc, &bytes, caps) {
-        Ok(network) => Ok(network),
+        Ok(network) => {
+            network.known();
+            Ok(network)
+        }
         Err(RegionFault::OutOfMemory) => Err(Outcome::OutOfMemory),
         Err(fault) => Err(Outcome::BadRegion { fault }),
     }

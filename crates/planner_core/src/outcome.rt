@@ -1,5 +1,7 @@
 //! How a run ends.
 
+ghost use Rattle.std.specs.Prelude.{◌≡◌};
+
 use region_file::RegionFault;
 use std::alloc::{AllocError, Global};
 
@@ -49,8 +51,12 @@ pub enum Outcome {
 }
 
 impl Outcome {
+    ghost use Rattle.planner_core.specs.Outcomes.{status_of};
+
     /// The exit status of the program.
-    pub fn status(self) -> u8 {
+    pub fn status(self) -> u8
+        ensures { result ≡ status_of self }
+    {
         match self {
             Outcome::Done => 0,
             Outcome::Usage => 2,

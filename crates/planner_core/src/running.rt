@@ -4,6 +4,7 @@ ghost use Rattle.std.specs.Prelude.{IfErr, OnOk, map, string_bytes};
 ghost use Rattle.plan_base.specs.declared.limits.Caps.{Caps};
 ghost use Rattle.planner_core.specs.declared.outcome.Outcome.TheVariants.{Done};
 ghost use Rattle.planner_core.specs.Outcomes.{IsOutcomeFor, IsOutcome, AreFull};
+ghost use Rattle.planner_core.specs.Complete.{IsComplete};
 
 use crate::answering::answer;
 use crate::certifying::{certify, verify};
@@ -34,15 +35,15 @@ fn carry_out<F: Shelf, O: Sink>(
     }
 }
 
-/// Does what a command with these words asks for, within these limits.
-pub fn run_within<F: Shelf, O: Sink>(
+/// Does what a command with these words asks for.
+fn obey<F: Shelf, O: Sink>(
     alloc: Global,
     words: &[String],
     shelf: &mut F,
     out: &mut O,
     caps: &Caps,
 ) -> Outcome
-    ensures outcome { IsOutcome caps.now (map string_bytes words.now) (F.meaning shelf.old) (F.meaning shelf.new) (O.meaning out.old) (O.meaning out.new) result }
+    ensures { IsOutcome caps.now (map string_bytes words.now) (F.meaning shelf.old) (F.meaning shelf.new) (O.meaning out.old) (O.meaning out.new) result }
 {
     let Some((command, region, word)) = request_in(words) else {
         return Outcome::Usage;
@@ -53,6 +54,20 @@ pub fn run_within<F: Shelf, O: Sink>(
     }
 }
 
+/// Does what a command with these words asks for, within these limits.
+pub fn run_within<F: Shelf, O: Sink>(
+    alloc: Global,
+    words: &[String],
+    shelf: &mut F,
+    out: &mut O,
+    caps: &Caps,
+) -> Outcome
+    ensures outcome { IsOutcome caps.now (map string_bytes words.now) (F.meaning shelf.old) (F.meaning shelf.new) (O.meaning out.old) (O.meaning out.new) result }
+    ensures complete { IsComplete caps.now (map string_bytes words.now) (F.meaning shelf.old) (F.meaning shelf.new) (O.meaning out.old) (O.meaning out.new) result }
+{
+    obey(alloc, words, shelf, out, caps)
+}
+
 /// Does what a command with these words asks for. The first word is the program's name, and each command reads the region
 /// file that the third names.
 ///
@@ -60,8 +75,9 @@ pub fn run_within<F: Shelf, O: Sink>(
 /// certificate for it, or its block where it is refused. `verify` with a certificate file writes `valid` and the block of
 /// the certificate's line and result, which is the right block of that line.
 ///
-/// The outcome says how the run ended, and one line on `notes` says it to people. A fault of `notes` changes
-/// nothing.
+/// The outcome says how the run ended. Where the shelf tells that all files are there, they are without fault, and no count
+/// of faults rose, all of the work is done, unless memory ran out. One line on `notes` says the outcome to people. A fault
+/// of `notes` changes nothing.
 pub fn run<F: Shelf, O: Sink, E: Sink>(
     alloc: Global,
     words: &[String],
@@ -70,6 +86,7 @@ pub fn run<F: Shelf, O: Sink, E: Sink>(
     notes: &mut E,
 ) -> Outcome
     ensures outcome { (caps : Caps) × AreFull caps × IsOutcome caps (map string_bytes words.now) (F.meaning shelf.old) (F.meaning shelf.new) (O.meaning out.old) (O.meaning out.new) result }
+    ensures complete { (caps : Caps) × AreFull caps × IsComplete caps (map string_bytes words.now) (F.meaning shelf.old) (F.meaning shelf.new) (O.meaning out.old) (O.meaning out.new) result }
 {
     let outcome = run_within(alloc, words, shelf, out, &Caps::FULL);
     if let Ok(line) = outcome.note(alloc) {

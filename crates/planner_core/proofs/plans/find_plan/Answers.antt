@@ -82,6 +82,7 @@ returns c =
             keeps = c.new-plain.ensures.keeps;
             automaton = position_meaning automaton;
             positions = positions;
+            lawful = automaton.lawful;
           };
           plain = refl;
           holds = found.holds;

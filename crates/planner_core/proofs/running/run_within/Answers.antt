@@ -1,5 +1,5 @@
-use Rattle.std.proofs.Common.{refl}
+use Rattle.planner_core.proofs.CompleteLemmas.{complete}
 use Rattle.planner_core.proofs.running.run_within.Goals as goal
 
-pub returns-in_default : goal.returns-in_default
-returns-in_default g c = record { outcome = (c.in_default.ensures.none refl, refl) }
+pub returns-clause-complete : goal.returns-clause-complete
+returns-clause-complete g c = complete _ _ _ _ _ _ c.obey.result c.obey.ensures
