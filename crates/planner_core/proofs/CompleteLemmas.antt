@@ -14,12 +14,18 @@ use Rattle.certificate.specs.Valid.{IsValid}
 use Rattle.certificate.specs.Verdicts.{IsCertVerdict}
 use Rattle.certificate.proofs.ReadLaws.{again}
 use Rattle.certificate.proofs.UniqueLemmas.{verdict_is_unique}
+use Rattle.hierarchy.specs.Lists.{HierarchyLists}
+use Rattle.hierarchy.specs.Soundness.{IsSound}
+use Rattle.hierarchy.specs.FirstBroken.{IsFirstBroken}
+use Rattle.hierarchy.specs.declared.verdict.Verdict.TheVariants.{Broken}
+use Rattle.hierarchy_check.proofs.VerdictLemmas.{sound_verdict}
+use Rattle.hierarchy_file.specs.Reading.{hierarchy_of}
 use Rattle.planner_core.specs.declared.command.Command.{Command}
-use Rattle.planner_core.specs.declared.command.Command.TheVariants.{Answer, Certify, Verify}
+use Rattle.planner_core.specs.declared.command.Command.TheVariants.{Answer, Certify, Verify, Check}
 use Rattle.planner_core.specs.declared.outcome.FileRole.{FileRole}
-use Rattle.planner_core.specs.declared.outcome.FileRole.TheVariants.{Region, Queries, Certificate}
+use Rattle.planner_core.specs.declared.outcome.FileRole.TheVariants.{Region, Queries, Certificate, Hierarchy}
 use Rattle.planner_core.specs.declared.outcome.Outcome.{Outcome}
-use Rattle.planner_core.specs.declared.outcome.Outcome.TheVariants.{Done, Usage, Missing, ReadFault, TooLong, WriteFault, BadRegion, Invalid, BadCertificate, OutOfMemory}
+use Rattle.planner_core.specs.declared.outcome.Outcome.TheVariants.{Done, Usage, Missing, ReadFault, TooLong, WriteFault, BadRegion, Invalid, BadCertificate, BadHierarchy, Unsound, OutOfMemory}
 use Rattle.planner_core.specs.Outcomes.{Request, AreWords, command_name, second_file, Names, IsGiven, HasRegion, HasFiles, IsOutcomeFor, IsOutcome, most_bytes}
 use Rattle.planner_core.specs.Complete.{IsHeld, IsThere, IsFaultless, CanBeDone, IsDoneOrMemory, IsComplete}
 
@@ -35,6 +41,13 @@ name_is Certify Verify e = absurd (let h = ap (λ (name : List ℕ). length name
 name_is Verify Answer e = absurd (let h = ap (λ (name : List ℕ). slice_index name 0) e in omega arith)
 name_is Verify Certify e = absurd (let h = ap (λ (name : List ℕ). length name) e in omega arith)
 name_is Verify Verify e = refl
+name_is Check Check e = refl
+name_is Check Answer e = absurd (let h = ap (λ (name : List ℕ). length name) e in omega arith)
+name_is Check Certify e = absurd (let h = ap (λ (name : List ℕ). length name) e in omega arith)
+name_is Check Verify e = absurd (let h = ap (λ (name : List ℕ). length name) e in omega arith)
+name_is Answer Check e = absurd (let h = ap (λ (name : List ℕ). length name) e in omega arith)
+name_is Certify Check e = absurd (let h = ap (λ (name : List ℕ). length name) e in omega arith)
+name_is Verify Check e = absurd (let h = ap (λ (name : List ℕ). length name) e in omega arith)
 
 one_request : (words : List (List ℕ)) (r s : Request) → AreWords words r → AreWords words s → r ≡ s
 one_request words r s a b =
@@ -74,12 +87,21 @@ module _ (caps : Caps) (shelf : ShelfMeaning) (r : Request) (can : CanBeDone cap
       by_command Answer second there = there
       by_command Certify second there = absurd (cc)
       by_command Verify second there = there
+      by_command Check second there = there
   held_by_role Certificate name (second, is) = (can.given, subst (λ (n : List ℕ). IsHeld shelf n can.given) (sym is) (by_command r.command second can.there))
     where
       by_command : (c : Command) → second_file c ≡ Some Certificate → IsThere c shelf r.word can.given → IsHeld shelf r.word can.given
       by_command Answer second there = there
       by_command Certify second there = absurd (cc)
       by_command Verify second there = there
+      by_command Check second there = there
+  held_by_role Hierarchy name (second, is) = (can.given, subst (λ (n : List ℕ). IsHeld shelf n can.given) (sym is) (by_command r.command second can.there))
+    where
+      by_command : (c : Command) → second_file c ≡ Some Hierarchy → IsThere c shelf r.word can.given → IsHeld shelf r.word can.given
+      by_command Answer second there = there
+      by_command Certify second there = absurd (cc)
+      by_command Verify second there = there
+      by_command Check second there = there
 
   -- the certificate that is verified is valid
   certificate_is_valid : (verifies : r.command ≡ Verify) (n : NetworkLists) (given : List ℕ) → HasFiles caps shelf r n given
@@ -92,6 +114,18 @@ module _ (caps : Caps) (shelf : ShelfMeaning) (r : Request) (can : CanBeDone cap
       let valid : IsFaultless Verify can.network can.given = subst (λ (c : Command). IsFaultless c can.network can.given) verifies can.faultless in
       subst (λ (g : List ℕ). (claim : Claim) × IsCertText g claim × IsValid n claim) (sym bytes)
       (subst (λ (m : NetworkLists). (claim : Claim) × IsCertText can.given claim × IsValid m claim) (sym network) valid)
+
+  -- the hierarchy that is checked is sound
+  hierarchy_is_sound : (checks : r.command ≡ Check) (n : NetworkLists) (given : List ℕ) → HasFiles caps shelf r n given
+      → (h : HierarchyLists) × (hierarchy_of given ≡ Ok h) × IsSound n h
+  hierarchy_is_sound checks n given files =
+      let there : IsHeld shelf r.word can.given = subst (λ (c : Command). IsThere c shelf r.word can.given) checks can.there in
+      let read : HasRead shelf r.word most_bytes given = subst (λ (c : Command). IsGiven c shelf r.word given) checks files.is_given in
+      let bytes = same_bytes shelf r.word can.given given there read in
+      let network = same_network n files.region in
+      let sound : IsFaultless Check can.network can.given = subst (λ (c : Command). IsFaultless c can.network can.given) checks can.faultless in
+      subst (λ (g : List ℕ). (h : HierarchyLists) × (hierarchy_of g ≡ Ok h) × IsSound n h) (sym bytes)
+      (subst (λ (m : NetworkLists). (h : HierarchyLists) × (hierarchy_of can.given ≡ Ok h) × IsSound m h) (sym network) sound)
 
   same_claim : (bytes : List ℕ) (a b : Claim) → IsCertText bytes a → IsCertText bytes b → a ≡ b
   same_claim bytes a b p q = let x = again bytes a p in let y = again bytes b q in cc
@@ -128,6 +162,19 @@ module _ (caps : Caps) (shelf : ShelfMeaning) (r : Request) (can : CanBeDone cap
         let good = again at.given valid.0 valid.1 in
         let bad = at.first in
         absurd (cc)
+    by_outcome (BadHierarchy fault) (at, same) =
+        let sound = hierarchy_is_sound at.checks at.network at.given at.files in
+        let good = sound.1 in
+        let bad = at.first in
+        absurd (cc)
+    by_outcome (Unsound clause place by) (at, same) =
+        let sound = hierarchy_is_sound at.checks at.network at.given at.files in
+        let good = sound.1 in
+        let spells = at.spells in
+        let hierarchy : at.hierarchy ≡ sound.0 = cc in
+        let broken = subst (λ (h : HierarchyLists). IsFirstBroken at.network h clause place by) hierarchy at.broken in
+        let same = sound_verdict at.network sound.0 (Broken clause place by) broken sound.2 in
+        absurd (cc)
 
 pub complete : (caps : Caps) (words : List (List ℕ)) (old new : ShelfMeaning) (before after : SinkMeaning) (outcome : Outcome)
     → IsOutcome caps words old new before after outcome → IsComplete caps words old new before after outcome
@@ -147,4 +194,6 @@ complete caps words old new before after outcome is r are can reads writes = by_
     by_outcome' (BadRegion fault) says = work (BadRegion fault) says
     by_outcome' (Invalid clause at) says = work (Invalid clause at) says
     by_outcome' (BadCertificate line) says = work (BadCertificate line) says
+    by_outcome' (BadHierarchy fault) says = work (BadHierarchy fault) says
+    by_outcome' (Unsound clause at by) says = work (Unsound clause at by) says
     by_outcome' OutOfMemory says = work OutOfMemory says

@@ -8,11 +8,11 @@ use Rattle.plan_base.specs.Sinks.{SinkMeaning}
 use Rattle.plan_base.specs.declared.limits.Caps.{Caps}
 use Rattle.mode_network.specs.NetworkLists.{NetworkLists}
 use Rattle.planner_core.specs.declared.command.Command.{Command}
-use Rattle.planner_core.specs.declared.command.Command.TheVariants.{Answer, Certify, Verify}
+use Rattle.planner_core.specs.declared.command.Command.TheVariants.{Answer, Certify, Verify, Check}
 use Rattle.planner_core.specs.declared.outcome.FileRole.{FileRole}
-use Rattle.planner_core.specs.declared.outcome.FileRole.TheVariants.{Region, Queries, Certificate}
+use Rattle.planner_core.specs.declared.outcome.FileRole.TheVariants.{Region, Queries, Certificate, Hierarchy}
 use Rattle.planner_core.specs.declared.outcome.Outcome.{Outcome}
-use Rattle.planner_core.specs.declared.outcome.Outcome.TheVariants.{Done, Usage, Missing, ReadFault, TooLong, WriteFault, BadRegion, Invalid, BadCertificate, OutOfMemory}
+use Rattle.planner_core.specs.declared.outcome.Outcome.TheVariants.{Done, Usage, Missing, ReadFault, TooLong, WriteFault, BadRegion, Invalid, BadCertificate, BadHierarchy, Unsound, OutOfMemory}
 use Rattle.planner_core.specs.Outputs.{IsFront}
 use Rattle.planner_core.specs.Outcomes.{Request, Names, Accepted, HasRegion, HasFiles, IsGiven, AtMissing, AtReadFault, AtTooLong, IsOutcomeFor, second_file, most_bytes}
 use Rattle.planner_core.specs.Working.{IsFileOutcome, IsRegionOutcome, IsBlockOutcome, IsBlocksOutcome, IsTextOutcome, IsWorkOutcome}
@@ -48,6 +48,8 @@ block_fails n old mid new text rest line after query writing le e is (TooLong fi
 block_fails n old mid new text rest line after query writing le e is (BadRegion fault) none = none
 block_fails n old mid new text rest line after query writing le e is (Invalid clause at) none = none
 block_fails n old mid new text rest line after query writing le e is (BadCertificate line') none = none
+block_fails n old mid new text rest line after query writing le e is (BadHierarchy fault) none = none
+block_fails n old mid new text rest line after query writing le e is (Unsound clause at by) none = none
 
 -- ---- a command over a network
 
@@ -65,6 +67,8 @@ module _ (command : Command) (n : NetworkLists) (old new : ShelfMeaning) (word :
   file_fails file second (BadRegion fault) none same = absurd none
   file_fails file second (Invalid clause at) none same = absurd none
   file_fails file second (BadCertificate line) none same = absurd none
+  file_fails file second (BadHierarchy fault) none same = absurd none
+  file_fails file second (Unsound clause at by) none same = absurd none
 
 -- the blocks of the queries were written, or not all of them
 module _ (n : NetworkLists) (old new : ShelfMeaning) (name text : List ℕ) (before after : SinkMeaning) (read : HasRead old name most_bytes text) where
@@ -82,6 +86,8 @@ module _ (n : NetworkLists) (old new : ShelfMeaning) (name text : List ℕ) (bef
   blocks_fail (BadRegion fault) none = absurd none
   blocks_fail (Invalid clause at) none = absurd none
   blocks_fail (BadCertificate line) none = absurd none
+  blocks_fail (BadHierarchy fault) none = absurd none
+  blocks_fail (Unsound clause at by) none = absurd none
 
 -- the text was not written whole
 module _ (command : Command) (n : NetworkLists) (old new : ShelfMeaning) (word given text : List ℕ) (before after : SinkMeaning) (is_given : IsGiven command old word given)
@@ -97,6 +103,8 @@ module _ (command : Command) (n : NetworkLists) (old new : ShelfMeaning) (word g
   text_fails (BadRegion fault) none = absurd none
   text_fails (Invalid clause at) none = absurd none
   text_fails (BadCertificate line) none = absurd none
+  text_fails (BadHierarchy fault) none = absurd none
+  text_fails (Unsound clause at by) none = absurd none
 
 -- ---- the run
 
@@ -104,6 +112,7 @@ not_region : (command : Command) → second_file command ≡ Some Region → ⊥
 not_region Answer e = cc
 not_region Certify e = cc
 not_region Verify e = cc
+not_region Check e = cc
 
 -- the region was not read
 module _ (caps : Caps) (old new : ShelfMeaning) (r : Request) (before after : SinkMeaning) (same : after.bytes ≡ before.bytes) where
@@ -118,6 +127,8 @@ module _ (caps : Caps) (old new : ShelfMeaning) (r : Request) (before after : Si
   region_fails WriteFault none = absurd none
   region_fails (Invalid clause at) none = absurd none
   region_fails (BadCertificate line) none = absurd none
+  region_fails (BadHierarchy fault) none = absurd none
+  region_fails (Unsound clause at by) none = absurd none
 
 -- what a command says once the region is read
 module _ (caps : Caps) (old mid new : ShelfMeaning) (r : Request) (before after : SinkMeaning) (n : NetworkLists) (region : HasRegion caps old r.region n) (later : IsLater old mid) where
@@ -125,6 +136,7 @@ module _ (caps : Caps) (old mid new : ShelfMeaning) (r : Request) (before after 
   given_before Answer given read = read_before old mid later r.word given read
   given_before Certify given same = same
   given_before Verify given read = read_before old mid later r.word given read
+  given_before Check given read = read_before old mid later r.word given read
 
   files : (given : List ℕ) → IsGiven r.command mid r.word given → HasFiles caps old r n given
   files given is = record { region = region; is_given = given_before r.command given is }
@@ -133,11 +145,13 @@ module _ (caps : Caps) (old mid new : ShelfMeaning) (r : Request) (before after 
   named Region e = absurd (not_region r.command e)
   named Queries e = (e, refl)
   named Certificate e = (e, refl)
+  named Hierarchy e = (e, refl)
 
   accepted : (file : FileRole) → Accepted caps old r file
   accepted Region = tt
   accepted Queries = (n, region)
   accepted Certificate = (n, region)
+  accepted Hierarchy = (n, region)
 
   pub on_region : (outcome : Outcome) → IsWorkOutcome r.command n mid new r.word before after outcome → IsOutcomeFor caps old new r before after outcome
   on_region Done has = record { network = n; given = has.given; files = files has.given has.is_given; out = has.out; is = has.is; appended = has.appended }
@@ -168,6 +182,10 @@ module _ (caps : Caps) (old mid new : ShelfMeaning) (r : Request) (before after 
       (record { verifies = verifies; network = n; given = given; files = files given is; claim = claim; spells = spells; fails = fails }, same)
   on_region (BadCertificate line) (verifies, (given, is, first), same) =
       (record { verifies = verifies; network = n; given = given; files = files given is; first = first }, same)
+  on_region (BadHierarchy fault) (checks, (given, is, first), same) =
+      (record { checks = checks; network = n; given = given; files = files given is; first = first }, same)
+  on_region (Unsound clause at by) (checks, (given, is, (h, spells, broken)), same) =
+      (record { checks = checks; network = n; given = given; files = files given is; hierarchy = h; spells = spells; broken = broken }, same)
   on_region OutOfMemory (inl same) = inl same
   on_region OutOfMemory (inr has) =
       inr (record { network = n; given = has.given; files = files has.given has.is_given; out = has.out; front = has.is; appended = has.appended })

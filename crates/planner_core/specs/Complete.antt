@@ -9,8 +9,11 @@ use Rattle.region_file.specs.Regions.{region_of}
 use Rattle.certificate.specs.Certificates.{Claim}
 use Rattle.certificate.specs.Texts.{IsCertText}
 use Rattle.certificate.specs.Valid.{IsValid}
+use Rattle.hierarchy.specs.Lists.{HierarchyLists}
+use Rattle.hierarchy.specs.Soundness.{IsSound}
+use Rattle.hierarchy_file.specs.Reading.{hierarchy_of}
 use Rattle.planner_core.specs.declared.command.Command.{Command}
-use Rattle.planner_core.specs.declared.command.Command.TheVariants.{Certify, Verify}
+use Rattle.planner_core.specs.declared.command.Command.TheVariants.{Certify, Verify, Check}
 use Rattle.planner_core.specs.declared.outcome.Outcome.{Outcome}
 use Rattle.planner_core.specs.declared.outcome.Outcome.TheVariants.{Done, OutOfMemory}
 use Rattle.planner_core.specs.Outcomes.{Request, AreWords, most_bytes}
@@ -27,9 +30,10 @@ abbrev pub IsThere : Command → ShelfMeaning → List ℕ → List ℕ → Type
 IsThere Certify shelf word given = given ≡ word
 IsThere _ shelf word given = IsHeld shelf word given
 
--- and it is without fault: a certificate is valid
+-- and it is without fault: a certificate is valid, and a hierarchy is sound
 abbrev pub IsFaultless : Command → NetworkLists → List ℕ → Type 0
 IsFaultless Verify n given = (claim : Claim) × IsCertText given claim × IsValid n claim
+IsFaultless Check n given = (h : HierarchyLists) × (hierarchy_of given ≡ Ok h) × IsSound n h
 IsFaultless _ n given = Unit {0}
 
 -- the region is held and spells a network within the limits, and all else is there and without fault

@@ -16,12 +16,16 @@ use Rattle.certificate.specs.Certificates.{Claim}
 use Rattle.certificate.specs.Texts.{IsCertText}
 use Rattle.certificate.specs.Reading.{cert_of}
 use Rattle.certificate.specs.Verdicts.{IsCertVerdict}
+use Rattle.hierarchy.specs.Lists.{HierarchyLists}
+use Rattle.hierarchy.specs.FirstBroken.{IsFirstBroken}
+use Rattle.hierarchy_file.specs.declared.fault.HFileFault.{HFileFault}
+use Rattle.hierarchy_file.specs.Reading.{hierarchy_of}
 use Rattle.planner_core.specs.declared.command.Command.{Command}
-use Rattle.planner_core.specs.declared.command.Command.TheVariants.{Answer, Certify, Verify}
+use Rattle.planner_core.specs.declared.command.Command.TheVariants.{Answer, Certify, Verify, Check}
 use Rattle.planner_core.specs.declared.outcome.FileRole.{FileRole}
-use Rattle.planner_core.specs.declared.outcome.FileRole.TheVariants.{Region, Queries, Certificate}
+use Rattle.planner_core.specs.declared.outcome.FileRole.TheVariants.{Region, Queries, Certificate, Hierarchy}
 use Rattle.planner_core.specs.declared.outcome.Outcome.{Outcome}
-use Rattle.planner_core.specs.declared.outcome.Outcome.TheVariants.{Done, Usage, Missing, ReadFault, TooLong, WriteFault, BadRegion, Invalid, BadCertificate, OutOfMemory}
+use Rattle.planner_core.specs.declared.outcome.Outcome.TheVariants.{Done, Usage, Missing, ReadFault, TooLong, WriteFault, BadRegion, Invalid, BadCertificate, BadHierarchy, Unsound, OutOfMemory}
 use Rattle.planner_core.specs.Outputs.{IsOutput, IsFront}
 
 -- a file has at most so many bytes
@@ -34,8 +38,9 @@ abbrev pub command_name : Command → List ℕ
 command_name Answer = codes "answer"
 command_name Certify = codes "certify"
 command_name Verify = codes "verify"
+command_name Check = codes "check"
 
--- what words ask for: a command, a region file, and one word more: a queries file, a query line, or a certificate file
+-- what words ask for: a command, a region file, and one word more: a queries file, a query line, a certificate file, or a hierarchy file
 pub record Request : Type 0 where
   pub command : Command
   pub region : List ℕ
@@ -61,6 +66,7 @@ abbrev pub second_file : Command → Option FileRole
 second_file Answer = Some Queries
 second_file Certify = None
 second_file Verify = Some Certificate
+second_file Check = Some Hierarchy
 
 -- the request names this file in this role
 abbrev pub Names : Request → FileRole → List ℕ → Type 0
@@ -156,6 +162,24 @@ pub record AtInvalid (caps : Caps) (shelf : ShelfMeaning) (r : Request) (clause 
   pub spells : IsCertText given claim
   pub fails : IsCertVerdict network claim (verdict.Invalid clause at)
 
+-- the hierarchy's bytes are read, and this is their first fault
+pub record AtBadHierarchy (caps : Caps) (shelf : ShelfMeaning) (r : Request) (fault : HFileFault) : Type 0 where
+  pub checks : r.command ≡ Check
+  pub network : NetworkLists
+  pub given : List ℕ
+  pub files : HasFiles caps shelf r network given
+  pub first : hierarchy_of given ≡ Err fault
+
+-- the hierarchy is read, and this is the first clause of a sound one that fails, at its least place
+pub record AtUnsound (caps : Caps) (shelf : ShelfMeaning) (r : Request) (clause at by : ℕ) : Type 0 where
+  pub checks : r.command ≡ Check
+  pub network : NetworkLists
+  pub given : List ℕ
+  pub files : HasFiles caps shelf r network given
+  pub hierarchy : HierarchyLists
+  pub spells : hierarchy_of given ≡ Ok hierarchy
+  pub broken : IsFirstBroken network hierarchy clause at by
+
 -- what an outcome says of a run for this request
 abbrev pub IsOutcomeFor : Caps → ShelfMeaning → ShelfMeaning → Request → SinkMeaning → SinkMeaning → Outcome → Type 0
 IsOutcomeFor caps old new r before after Done = AtDone caps old r before after
@@ -167,6 +191,8 @@ IsOutcomeFor caps old new r before after WriteFault = Rose before.faults after.f
 IsOutcomeFor caps old new r before after (BadRegion fault) = AtBadRegion caps old r.region fault × IsUnwritten before after
 IsOutcomeFor caps old new r before after (Invalid clause at) = AtInvalid caps old r clause at × IsUnwritten before after
 IsOutcomeFor caps old new r before after (BadCertificate line) = AtBadCertificate caps old r line × IsUnwritten before after
+IsOutcomeFor caps old new r before after (BadHierarchy fault) = AtBadHierarchy caps old r fault × IsUnwritten before after
+IsOutcomeFor caps old new r before after (Unsound clause at by) = AtUnsound caps old r clause at by × IsUnwritten before after
 IsOutcomeFor caps old new r before after OutOfMemory = IsUnwritten before after ⊎ AtFront caps old r before after
 
 -- what a run with these words says by its outcome: it is refused exactly where the words are no command's
@@ -184,6 +210,8 @@ status_of (ReadFault file) = 4
 status_of (TooLong file) = 5
 status_of WriteFault = 6
 status_of (BadRegion fault) = 7
+status_of (BadHierarchy fault) = 9
+status_of (Unsound clause at by) = 10
 status_of (Invalid clause at) = 11
 status_of (BadCertificate line) = 12
 status_of OutOfMemory = 13

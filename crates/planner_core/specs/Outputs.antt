@@ -1,5 +1,5 @@
 -- What each command writes.
-use Rattle.std.specs.Prelude.{◌≡◌, ℕ, ◌⊎◌, List, ◌++◌, take, Option, Some, None, codes}
+use Rattle.std.specs.Prelude.{◌≡◌, ℕ, ◌⊎◌, List, ◌++◌, take, Option, Some, None, codes, Ok}
 use Rattle.plain_texts.specs.Lines.{with_feed}
 use Rattle.mode_network.specs.NetworkLists.{NetworkLists}
 use Rattle.mode_network.specs.Journeys.{Route}
@@ -10,8 +10,11 @@ use Rattle.journey.specs.Best.{IsBlock, IsRefusedBlock}
 use Rattle.certificate.specs.Certificates.{Claim}
 use Rattle.certificate.specs.Texts.{IsCertText}
 use Rattle.certificate.specs.Valid.{IsValid, Proves}
+use Rattle.hierarchy.specs.Lists.{HierarchyLists}
+use Rattle.hierarchy.specs.Soundness.{IsSound}
+use Rattle.hierarchy_file.specs.Reading.{hierarchy_of}
 use Rattle.planner_core.specs.declared.command.Command.{Command}
-use Rattle.planner_core.specs.declared.command.Command.TheVariants.{Answer, Certify, Verify}
+use Rattle.planner_core.specs.declared.command.Command.TheVariants.{Answer, Certify, Verify, Check}
 use Rattle.planner_core.specs.Plans.{AreTheLabels}
 use Rattle.planner_core.specs.Written.{query_lines, AreBlocks, BeginsBlocks}
 
@@ -47,12 +50,21 @@ pub record IsVerified (n : NetworkLists) (bytes out : List ℕ) : Type 0 where
   pub told : TellsValid n claim.line (body_of claim.result) out
   pub right : IsBlock n claim.line told.block
 
+-- The bytes spell a hierarchy that is sound for the network; written is `sound`.
+pub record IsChecked (n : NetworkLists) (bytes out : List ℕ) : Type 0 where
+  pub hierarchy : HierarchyLists
+  pub spells : hierarchy_of bytes ≡ Ok hierarchy
+  pub sound : IsSound n hierarchy
+  pub out_is : out ≡ with_feed (codes "sound")
+
 -- What a command writes over a network and what it is given: `answer` a right block for each query line of a file, in order; `certify` a
--- certificate for a query line; `verify` what the certificate of a file shows.
+-- certificate for a query line; `verify` what the certificate of a file shows; `check` that the hierarchy of a file is
+-- sound.
 abbrev pub IsOutput : Command → NetworkLists → List ℕ → List ℕ → Type 0
 IsOutput Answer n given out = AreBlocks n (query_lines given) out
 IsOutput Certify n given out = IsCertified n given out
 IsOutput Verify n given out = IsVerified n given out
+IsOutput Check n given out = IsChecked n given out
 
 -- a front of what a command writes; of `answer` right blocks of the first query lines, and a front of a right block of the next
 abbrev pub IsFront : Command → NetworkLists → List ℕ → List ℕ → Type 0

@@ -1,5 +1,5 @@
 -- What a command says by its outcome once the region is read.
-use Rattle.std.specs.Prelude.{◌≡◌, ℕ, ◌<◌, ◌⊎◌, List, length, Some, None, Err, IsSomeAnd}
+use Rattle.std.specs.Prelude.{◌≡◌, ℕ, ◌<◌, ◌⊎◌, List, length, Some, None, Err, IsSomeAnd, Ok}
 use Rattle.plan_base.specs.Counts.{Rose}
 use Rattle.plan_base.specs.Shelves.{ShelfMeaning, Told}
 use Rattle.plan_base.specs.Sinks.{SinkMeaning, Appended, AppendedPart}
@@ -11,12 +11,15 @@ use Rattle.certificate.specs.Certificates.{Claim}
 use Rattle.certificate.specs.Texts.{IsCertText}
 use Rattle.certificate.specs.Reading.{cert_of}
 use Rattle.certificate.specs.Verdicts.{IsCertVerdict}
+use Rattle.hierarchy.specs.Lists.{HierarchyLists}
+use Rattle.hierarchy.specs.FirstBroken.{IsFirstBroken}
+use Rattle.hierarchy_file.specs.Reading.{hierarchy_of}
 use Rattle.planner_core.specs.declared.command.Command.{Command}
-use Rattle.planner_core.specs.declared.command.Command.TheVariants.{Verify}
+use Rattle.planner_core.specs.declared.command.Command.TheVariants.{Verify, Check}
 use Rattle.planner_core.specs.declared.outcome.FileRole.{FileRole}
 use Rattle.planner_core.specs.declared.outcome.FileRole.TheVariants.{Region}
 use Rattle.planner_core.specs.declared.outcome.Outcome.{Outcome}
-use Rattle.planner_core.specs.declared.outcome.Outcome.TheVariants.{Done, Missing, ReadFault, TooLong, WriteFault, BadRegion, Invalid, BadCertificate, OutOfMemory}
+use Rattle.planner_core.specs.declared.outcome.Outcome.TheVariants.{Done, Missing, ReadFault, TooLong, WriteFault, BadRegion, Invalid, BadCertificate, BadHierarchy, Unsound, OutOfMemory}
 use Rattle.planner_core.specs.Outputs.{IsOutput, IsFront}
 use Rattle.planner_core.specs.Outcomes.{most_bytes, second_file, IsGiven, IsUnwritten, AtBadRegion}
 use Rattle.planner_core.specs.Written.{WroteFront, WrotePart}
@@ -58,6 +61,13 @@ IsUnverified n bytes (Invalid clause at) = (claim : Claim) × IsCertText bytes c
 IsUnverified n bytes OutOfMemory = Unit {0}
 IsUnverified n bytes _ = ⊥
 
+-- why bytes are no sound hierarchy
+abbrev pub IsUnsound : NetworkLists → List ℕ → Outcome → Type 0
+IsUnsound n bytes (BadHierarchy fault) = hierarchy_of bytes ≡ Err fault
+IsUnsound n bytes (Unsound clause at by) = (h : HierarchyLists) × (hierarchy_of bytes ≡ Ok h) × IsFirstBroken n h clause at by
+IsUnsound n bytes OutOfMemory = Unit {0}
+IsUnsound n bytes _ = ⊥
+
 -- ---- a command over a network
 
 -- what was written, over what the command was given: P says of it
@@ -87,5 +97,9 @@ IsWorkOutcome command n old new word before after (Invalid clause at) =
     (command ≡ Verify) × ((given : List ℕ) × IsGiven command old word given × IsUnverified n given (Invalid clause at)) × IsUnwritten before after
 IsWorkOutcome command n old new word before after (BadCertificate line) =
     (command ≡ Verify) × ((given : List ℕ) × IsGiven command old word given × IsUnverified n given (BadCertificate line)) × IsUnwritten before after
+IsWorkOutcome command n old new word before after (BadHierarchy fault) =
+    (command ≡ Check) × ((given : List ℕ) × IsGiven command old word given × IsUnsound n given (BadHierarchy fault)) × IsUnwritten before after
+IsWorkOutcome command n old new word before after (Unsound clause at by) =
+    (command ≡ Check) × ((given : List ℕ) × IsGiven command old word given × IsUnsound n given (Unsound clause at by)) × IsUnwritten before after
 IsWorkOutcome command n old new word before after OutOfMemory = IsUnwritten before after ⊎ HasFront command n old word before after
 IsWorkOutcome command n old new word before after _ = ⊥

@@ -144,7 +144,7 @@ fn body_of(claimed: Option<(Time, Journey)>) -> BlockBody
 }
 
 /// Writes a text.
-fn write_text<O: Sink>(out: &mut O, text: &[u8]) -> Result<(), Outcome>
+pub(crate) fn write_text<O: Sink>(out: &mut O, text: &[u8]) -> Result<(), Outcome>
     ensures ok { OnOk result (Appended (O.meaning out.old) (O.meaning out.new) text.now) }
     ensures err { IfErr result (IsTextOutcome (O.meaning out.old) (O.meaning out.new) text.now) }
 {

@@ -13,6 +13,8 @@ pub enum Command {
     Certify,
     /// The check of a certificate file.
     Verify,
+    /// The check of a hierarchy file.
+    Check,
 }
 
 impl Command {
@@ -25,6 +27,7 @@ impl Command {
             "answer" => Some(Command::Answer),
             "certify" => Some(Command::Certify),
             "verify" => Some(Command::Verify),
+            "check" => Some(Command::Check),
             _ => None,
         }
     }

@@ -4,6 +4,7 @@
 mod answering;
 mod blocks;
 mod certifying;
+mod checking;
 pub mod command;
 mod files;
 pub mod outcome;

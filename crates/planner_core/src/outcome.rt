@@ -2,6 +2,7 @@
 
 ghost use Rattle.std.specs.Prelude.{◌≡◌};
 
+use hierarchy_file::HFileFault;
 use region_file::RegionFault;
 use std::alloc::{AllocError, Global};
 
@@ -11,6 +12,7 @@ pub enum FileRole {
     Region,
     Queries,
     Certificate,
+    Hierarchy,
 }
 
 impl FileRole {
@@ -20,6 +22,7 @@ impl FileRole {
             FileRole::Region => "region",
             FileRole::Queries => "queries",
             FileRole::Certificate => "certificate",
+            FileRole::Hierarchy => "hierarchy",
         }
     }
 }
@@ -46,6 +49,10 @@ pub enum Outcome {
     /// The certificate file is no text of a certificate: this line, counted from 1, is the first that may not stand
     /// where it does.
     BadCertificate { line: u64 },
+    /// The hierarchy file spells no hierarchy; this is its first fault.
+    BadHierarchy { fault: HFileFault },
+    /// The hierarchy is not sound for the region: this clause is the first that fails, at these places.
+    Unsound { clause: u8, at: u64, by: u64 },
     /// Memory ran out.
     OutOfMemory,
 }
@@ -65,6 +72,8 @@ impl Outcome {
             Outcome::TooLong { .. } => 5,
             Outcome::WriteFault => 6,
             Outcome::BadRegion { .. } => 7,
+            Outcome::BadHierarchy { .. } => 9,
+            Outcome::Unsound { .. } => 10,
             Outcome::Invalid { .. } => 11,
             Outcome::BadCertificate { .. } => 12,
             Outcome::OutOfMemory => 13,
@@ -76,7 +85,7 @@ impl Outcome {
         match self {
             Outcome::Done => format!(in alloc; "modeplan: all is written\n"),
             Outcome::Usage => format!(in alloc;
-                "usage: modeplan answer REGION QUERIES | certify REGION QUERY | verify REGION CERTIFICATE\n"
+                "usage: modeplan answer REGION QUERIES | certify REGION QUERY | verify REGION CERTIFICATE | check REGION HIERARCHY\n"
             ),
             Outcome::Missing { file } => {
                 format!(in alloc; "modeplan: there is no {} file of this name\n", file.name())
@@ -125,10 +134,54 @@ impl Outcome {
             Outcome::BadCertificate { line } => {
                 format!(in alloc; "modeplan: line {line} of the certificate may not stand there\n")
             }
-            Outcome::BadRegion {
+            Outcome::BadHierarchy {
+                fault: HFileFault::BadHead,
+            } => {
+                format!(in alloc;
+                    "modeplan: the hierarchy file does not begin with `MPHIER01` and three counts\n"
+                )
+            }
+            Outcome::BadHierarchy {
+                fault: HFileFault::BadRecord { at },
+            } => {
+                format!(in alloc;
+                    "modeplan: the record at byte {at} of the hierarchy file is cut short, or not above the one before it, or names a node that no network has\n"
+                )
+            }
+            Outcome::BadHierarchy {
+                fault: HFileFault::Trailing { at },
+            } => {
+                format!(in alloc;
+                    "modeplan: bytes follow the last record of the hierarchy file, from byte {at} on\n"
+                )
+            }
+            Outcome::Unsound { clause, at, by } => {
+                let rule = sound_rule(clause);
+                format!(in alloc;
+                    "modeplan: the hierarchy is not sound for the region: clause {clause} fails at {at}, {by}: {rule}\n"
+                )
+            }
+            Outcome::BadHierarchy {
+                fault: HFileFault::OutOfMemory,
+            }
+            | Outcome::BadRegion {
                 fault: RegionFault::OutOfMemory,
             }
             | Outcome::OutOfMemory => { format!(in alloc; "modeplan: memory ran out\n") }
         }
+    }
+}
+
+/// What a clause of a sound hierarchy asks for, to people.
+fn sound_rule(clause: u8) -> &'static str {
+    match clause {
+        1 => "a node of the order must be a road node without links, and stand once",
+        2 => "a road arc must have an entry with its ends that is no heavier",
+        3 =>
+            "an entry must be a road arc with its weight, or the sum of two entries by way of a lower node",
+        4 =>
+            "the entries to and from a contracted node must have an entry or a listed witness that is no heavier",
+        _ =>
+            "the ends of an entry must be different road nodes of one layer, and its weight below 2^56",
     }
 }

@@ -8,6 +8,7 @@ ghost use Rattle.planner_core.specs.Complete.{IsComplete};
 
 use crate::answering::answer;
 use crate::certifying::{certify, verify};
+use crate::checking::check;
 use crate::command::{Command, request_in};
 use crate::files::read_region;
 use crate::outcome::Outcome;
@@ -32,6 +33,7 @@ fn carry_out<F: Shelf, O: Sink>(
         Command::Answer => answer(alloc, &network, word, shelf, out),
         Command::Certify => certify(alloc, &network, word.as_bytes(), out),
         Command::Verify => verify(alloc, &network, word, shelf, out),
+        Command::Check => check(alloc, &network, word, shelf, out),
     }
 }
 
@@ -73,7 +75,8 @@ pub fn run_within<F: Shelf, O: Sink>(
 ///
 /// `answer` with a queries file writes the right block of each query line, in order. `certify` with a query line writes a
 /// certificate for it, or its block where it is refused. `verify` with a certificate file writes `valid` and the block of
-/// the certificate's line and result, which is the right block of that line.
+/// the certificate's line and result, which is the right block of that line. `check` with a hierarchy file writes `sound`
+/// where the hierarchy is sound for the region.
 ///
 /// The outcome says how the run ended. Where the shelf tells that all files are there, they are without fault, and no count
 /// of faults rose, all of the work is done, unless memory ran out. One line on `notes` says the outcome to people. A fault

@@ -1,6 +1,6 @@
 use Rattle.std.proofs.Common.{refl}
 use Rattle.std.proofs.lemmas.Result.{err_from_is_err_and}
-use Rattle.planner_core.specs.declared.command.Command.TheVariants.{Answer, Certify, Verify}
+use Rattle.planner_core.specs.declared.command.Command.TheVariants.{Answer, Certify, Verify, Check}
 use Rattle.planner_core.proofs.OutcomeLemmas.{region_fails, carried, carried_alone}
 use Rattle.planner_core.proofs.running.carry_out.Goals as goal
 
@@ -36,14 +36,26 @@ returns-in-Certify-clause-err g c =
     (record { command = c.args.command; region = c.args.region.now; word = c.args.word.now }) (g.O.Sink.meaning c.args.out.now) (g.O.Sink.meaning c.certify.new.out)
     c.in_ok-network.network c.in_ok-network.ensures.ok c.read_region.ensures.later Certify c.in-Certify.is c.certify.result (rw c.as_bytes.ensures.value at c.certify.ensures.ok) (rw c.as_bytes.ensures.value at c.certify.ensures.err)).1
 
-pub returns-clause-ok : goal.returns-clause-ok
-returns-clause-ok g c =
+pub returns-in-Verify-clause-ok : goal.returns-in-Verify-clause-ok
+returns-in-Verify-clause-ok g c =
     (carried c.args.caps.now (g.F.Shelf.meaning c.args.shelf.now) (g.F.Shelf.meaning c.read_region.new.shelf) (g.F.Shelf.meaning c.verify.new.shelf)
     (record { command = c.args.command; region = c.args.region.now; word = c.args.word.now }) (g.O.Sink.meaning c.args.out.now) (g.O.Sink.meaning c.verify.new.out)
     c.in_ok-network.network c.in_ok-network.ensures.ok c.read_region.ensures.later Verify c.in-Verify.is c.verify.result c.verify.ensures.ok c.verify.ensures.err).0
 
-pub returns-clause-err : goal.returns-clause-err
-returns-clause-err g c =
+pub returns-in-Verify-clause-err : goal.returns-in-Verify-clause-err
+returns-in-Verify-clause-err g c =
     (carried c.args.caps.now (g.F.Shelf.meaning c.args.shelf.now) (g.F.Shelf.meaning c.read_region.new.shelf) (g.F.Shelf.meaning c.verify.new.shelf)
     (record { command = c.args.command; region = c.args.region.now; word = c.args.word.now }) (g.O.Sink.meaning c.args.out.now) (g.O.Sink.meaning c.verify.new.out)
     c.in_ok-network.network c.in_ok-network.ensures.ok c.read_region.ensures.later Verify c.in-Verify.is c.verify.result c.verify.ensures.ok c.verify.ensures.err).1
+
+pub returns-clause-ok : goal.returns-clause-ok
+returns-clause-ok g c =
+    (carried c.args.caps.now (g.F.Shelf.meaning c.args.shelf.now) (g.F.Shelf.meaning c.read_region.new.shelf) (g.F.Shelf.meaning c.check.new.shelf)
+    (record { command = c.args.command; region = c.args.region.now; word = c.args.word.now }) (g.O.Sink.meaning c.args.out.now) (g.O.Sink.meaning c.check.new.out)
+    c.in_ok-network.network c.in_ok-network.ensures.ok c.read_region.ensures.later Check c.in-Check.is c.check.result c.check.ensures.ok c.check.ensures.err).0
+
+pub returns-clause-err : goal.returns-clause-err
+returns-clause-err g c =
+    (carried c.args.caps.now (g.F.Shelf.meaning c.args.shelf.now) (g.F.Shelf.meaning c.read_region.new.shelf) (g.F.Shelf.meaning c.check.new.shelf)
+    (record { command = c.args.command; region = c.args.region.now; word = c.args.word.now }) (g.O.Sink.meaning c.args.out.now) (g.O.Sink.meaning c.check.new.out)
+    c.in_ok-network.network c.in_ok-network.ensures.ok c.read_region.ensures.later Check c.in-Check.is c.check.result c.check.ensures.ok c.check.ensures.err).1
