@@ -1,0 +1,53 @@
+//! Calls the libraries on the cases of the file `cases`, and prints of each what it answers.
+//!
+//! A case is a line: the name of a call and its words. The texts that it names stand before it; [`script`] says how.
+#![tactic(auto)]
+
+mod automata;
+mod certificates;
+mod maps;
+mod networks;
+mod queries;
+mod runs;
+mod script;
+mod words;
+
+use script::Script;
+use std::alloc::{AllocError, Global};
+use std::{fs, io};
+
+fn main(rt: HostRuntime) -> io::Result<()> {
+    let cases = fs::read(&rt, "cases")?;
+    let mut script = Script::new(rt.alloc());
+    for line in cases.split(|byte| *byte == b'\n') {
+        if !script.takes(rt.alloc(), line)? {
+            let case = String::from_utf8_lossy(rt.alloc(), line)?;
+            let told = told(rt.alloc(), &script, line)?;
+            println!(rt; "{case}")?;
+            println!(rt; "{told}")?;
+        }
+    }
+    Ok(())
+}
+
+/// What the call of a case answers.
+fn told(alloc: Global, script: &Script, line: &[u8]) -> Result<String, AllocError> {
+    let (call, words) = words::cut(line);
+    match call {
+        b"accepts" => automata::accepts(alloc, words),
+        b"states" => automata::states(alloc, words),
+        b"map" => maps::map(alloc, script, words),
+        b"cuts" => maps::cuts(alloc, script, words),
+        b"region" => networks::region(alloc, script, words),
+        b"network" => networks::network(alloc, script, words),
+        b"times" => networks::times(alloc, script, words),
+        b"query" => queries::query(alloc, script, words),
+        b"journey" => certificates::journey(alloc, script, words),
+        b"certificate" => certificates::certificate(alloc, script, words),
+        b"verdict" => certificates::verdict(alloc, script, words),
+        b"run" => runs::run(alloc, script, words),
+        b"fill" => runs::fill(alloc, script, words),
+        b"sweep" => runs::sweep(alloc, script, words),
+        _ => String::from_str(alloc, "no such call"),
+    }
+}

@@ -1,0 +1,151 @@
+//! The texts of the cases.
+//!
+//! `text NAME` begins one. Each line behind it that begins with `|` is a line of it, which a line feed ends; in it `\r`
+//! stands for a carriage return, `\t` for a tab, `\\` for a backslash and `\xHH` for a byte, and a backslash at the end
+//! takes the line feed away. `front NAME COUNT` stands for the first lines of an earlier text, and `rest NAME COUNT` for
+//! the lines behind those. Empty lines and lines that begin with `#` say nothing.
+
+use crate::words;
+use std::alloc::{AllocError, Global};
+
+/// The texts so far, in order.
+#[derive(Drop)]
+pub struct Script {
+    texts: Vec<Text>,
+}
+
+#[derive(Drop)]
+struct Text {
+    name: Vec<u8>,
+    bytes: Vec<u8>,
+}
+
+impl Script {
+    pub fn new(alloc: Global) -> Script {
+        Script {
+            texts: Vec::new(alloc),
+        }
+    }
+
+    /// The text of this name; an empty one where there is none.
+    pub fn text(&self, name: &[u8]) -> &[u8] {
+        for text in &self.texts {
+            if text.name.as_slice() == name {
+                return &text.bytes;
+            }
+        }
+        b""
+    }
+
+    /// Whether there is a text of this name.
+    pub fn has(&self, name: &[u8]) -> bool {
+        self.texts.iter().any(|text| text.name.as_slice() == name)
+    }
+
+    /// Takes a line that says something of texts, or nothing; whether it was one.
+    pub fn takes(&mut self, alloc: Global, line: &[u8]) -> Result<bool, AllocError> {
+        if line.is_empty() || line.starts_with(b"#") {
+            return Ok(true);
+        }
+        if let Some(content) = line.strip_prefix(b"|") {
+            let bytes = unescaped(alloc, content)?;
+            self.push(&bytes)?;
+            return Ok(true);
+        }
+        self.takes_word(alloc, line)
+    }
+
+    fn takes_word(&mut self, alloc: Global, line: &[u8]) -> Result<bool, AllocError> {
+        let (call, rest) = words::cut(line);
+        match call {
+            b"text" => {
+                let name = Vec::from_slice(alloc, rest)?;
+                let bytes = Vec::new(alloc);
+                self.texts.push(Text { name, bytes })?;
+                Ok(true)
+            }
+            b"front" => {
+                let (name, count) = words::cut(rest);
+                let bytes = Vec::from_slice(
+                    alloc,
+                    lines_at(self.text(name), words::number(count)).0,
+                )?;
+                self.push(&bytes)?;
+                Ok(true)
+            }
+            b"rest" => {
+                let (name, count) = words::cut(rest);
+                let bytes = Vec::from_slice(
+                    alloc,
+                    lines_at(self.text(name), words::number(count)).1,
+                )?;
+                self.push(&bytes)?;
+                Ok(true)
+            }
+            _ => Ok(false),
+        }
+    }
+
+    /// Puts bytes at the end of the last text.
+    fn push(&mut self, bytes: &[u8]) -> Result<(), AllocError> {
+        if let Some(last) = self.texts.last_mut() {
+            last.bytes.extend_from_slice(bytes)?;
+        }
+        Ok(())
+    }
+}
+
+/// The first lines of a text, with their line feeds, and what is behind them.
+fn lines_at(text: &[u8], count: u64) -> (&[u8], &[u8]) {
+    let mut rest = text;
+    for _ in 0..count {
+        rest = behind_line(rest);
+    }
+    text.split_at(text.len().saturating_sub(rest.len()))
+}
+
+/// What is behind the first line of a text.
+fn behind_line(text: &[u8]) -> &[u8] {
+    let end = match text.iter().position(|byte| *byte == b'\n') {
+        Some(end) => end + 1,
+        None => text.len(),
+    };
+    &text[end..]
+}
+
+/// What was read last of a line.
+#[derive(Clone, Copy)]
+enum Read {
+    Byte,
+    Backslash,
+    Hex,
+    HighDigit(u8),
+}
+
+/// The line that is written so.
+fn unescaped(alloc: Global, line: &[u8]) -> Result<Vec<u8>, AllocError> {
+    let mut bytes = Vec::new(alloc);
+    let mut read = Read::Byte;
+    for byte in line {
+        read = take_byte(&mut bytes, read, *byte)?;
+    }
+    match read {
+        Read::Backslash => {}
+        _ => bytes.push(b'\n')?,
+    }
+    Ok(bytes)
+}
+
+fn take_byte(bytes: &mut Vec<u8>, read: Read, byte: u8) -> Result<Read, AllocError> {
+    match (read, byte) {
+        (Read::Byte, b'\\') => return Ok(Read::Backslash),
+        (Read::Backslash, b'x') => return Ok(Read::Hex),
+        (Read::Hex, _) => return Ok(Read::HighDigit(words::digit(byte))),
+        (Read::Byte, _) => bytes.push(byte)?,
+        (Read::Backslash, b'r') => bytes.push(b'\r')?,
+        (Read::Backslash, b't') => bytes.push(b'\t')?,
+        (Read::Backslash, _) => bytes.push(byte)?,
+        (Read::HighDigit(high), _) => bytes.push((high << 4) | words::digit(byte))?,
+    }
+    Ok(Read::Byte)
+}
