@@ -4,6 +4,7 @@ Texts are decoded as UTF-8 with surrogate escapes, so that a name of any bytes c
 """
 
 import re
+from collections.abc import Callable
 from dataclasses import dataclass, field
 from typing import BinaryIO
 
@@ -15,7 +16,7 @@ NODE = re.compile(r"(?:foot|bike|car|switch):-?[0-9]{1,18}|stop:[^ ]+")
 CLOCK = re.compile(r"([0-9]{8}) ([0-9]{2,}):([0-5][0-9]):([0-5][0-9])\.([0-9]{3})")
 
 
-@dataclass(frozen=True)
+@dataclass(frozen=True, slots=True)
 class Clock:
     """A clock text: a date YYYYMMDD and milliseconds since the base of that day."""
 
@@ -31,7 +32,7 @@ class Clock:
         return f"{seconds // 3600:02}:{seconds // 60 % 60:02}:{seconds % 60:02}"
 
 
-@dataclass(frozen=True)
+@dataclass(frozen=True, slots=True)
 class Step:
     """A step line. `node` and `clock` are None where the line has none; `letter`, `date` and `name` are a ride's."""
 
@@ -102,14 +103,17 @@ class Lines:
         return rest
 
 
-def read_blocks(file: BinaryIO, name: str) -> list[Block]:
-    """All blocks of the file. A first line `valid` and a last line `settled S` are passed over."""
-    lines = Lines(file, name)
+def read_blocks(file: BinaryIO, name: str, wanted: Callable[[int], bool]) -> list[Block]:
+    """The blocks of the file whose numbers are wanted. A first line `valid` and a last line `settled S` are passed over."""
+    lines, number = Lines(file, name), 0
     blocks: list[Block] = []
     if lines.text == "valid":
         lines.advance()
     while not lines.ended and lines.after("settled") is None:
-        blocks.append(_block(lines, len(blocks) + 1))
+        number += 1
+        block = _block(lines, number)
+        if wanted(number):
+            blocks.append(block)
     if not lines.ended:
         lines.advance()
     if not lines.ended:
@@ -118,8 +122,6 @@ def read_blocks(file: BinaryIO, name: str) -> list[Block]:
 
 
 def _block(lines: Lines, number: int) -> Block:
-    if lines.text == "query":  # an empty query line cannot occur, but its text would be this
-        raise lines.fault("the query line is empty")
     block = Block(number, lines.expect("query"))
     lines.advance()
     if lines.text == "no journey":

@@ -146,12 +146,15 @@ class Page:
                 if node.startswith(("stop:", "switch:")):
                     named.setdefault(node, name_of(node))
         end = legs[-1].path[-1] if legs else journey.start
+        places = [self._frame.xy(self._found.place(node))[0] for leg in legs for node in leg.path]
+        middle = (min(places, default=0) + max(places, default=0)) / 2
         for k, (node, name) in enumerate(named.items()):
             shape = "<circle class='stop' r='5'/>" if node.startswith("stop:") else \
                 "<rect class='switch' x='-5' y='-5' width='10' height='10'/>"
             if node in (journey.start, end):
                 shape = ""
-            side = "x='9' y='4'" if k % 2 == 0 else "x='-9' y='4' text-anchor='end'"
+            left = self._frame.xy(self._found.place(node))[0] <= middle  # a name stands towards the middle of the map
+            side = f"x='{9 if left else -9}' y='{(4, 17)[k % 2]}'" + ("" if left else " text-anchor='end'")
             yield self._mark(node, f"{shape}<text {side}>{_text(name)}</text>", name)
         for leg in legs:
             if leg.kind == WAIT:
