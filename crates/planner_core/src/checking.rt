@@ -8,6 +8,7 @@ ghost use Rattle.planner_core.specs.declared.command.Command.TheVariants as comm
 ghost use Rattle.planner_core.specs.declared.outcome.Outcome.TheVariants.{Done};
 ghost use Rattle.planner_core.specs.Working.{IsUnsound, IsWorkOutcome};
 
+use crate::broken::tell_broken;
 use crate::certifying::write_text;
 use crate::files::read_file;
 use crate::outcome::{FileRole, Outcome};
@@ -17,25 +18,31 @@ use mode_network::Network;
 use plan_base::{Shelf, Sink};
 use std::alloc::Global;
 
-/// Reads the hierarchy file of this name, and writes that it is sound.
-pub(crate) fn check<F: Shelf, O: Sink>(
+/// Reads the hierarchy file of this name, and writes that it is sound; or says on `notes` what it breaks.
+pub(crate) fn check<F: Shelf, O: Sink, E: Sink>(
     alloc: Global,
     network: &Network,
     name: &str,
     shelf: &mut F,
     out: &mut O,
+    notes: &mut E,
 ) -> Result<(), Outcome>
     ensures ok { OnOk result (IsWorkOutcome command.Check network.now (F.meaning shelf.old) (F.meaning shelf.new) name.now (O.meaning out.old) (O.meaning out.new) Done) }
     ensures err { IfErr result (IsWorkOutcome command.Check network.now (F.meaning shelf.old) (F.meaning shelf.new) name.now (O.meaning out.old) (O.meaning out.new)) }
 {
     let bytes = read_file(alloc, shelf, name, FileRole::Hierarchy)?;
-    judge(alloc, network, &bytes)?;
+    judge(alloc, network, &bytes, notes)?;
     write_text(out, b"sound\n")?;
     Ok(())
 }
 
 /// Whether the bytes spell a hierarchy that is sound for the network; or why they do not.
-fn judge(alloc: Global, network: &Network, bytes: &[u8]) -> Result<(), Outcome>
+fn judge<E: Sink>(
+    alloc: Global,
+    network: &Network,
+    bytes: &[u8],
+    notes: &mut E,
+) -> Result<(), Outcome>
     ensures ok { OnOk result ((h : HierarchyLists) × (hierarchy_of bytes.now ≡ Ok h) × IsSound network.now h) }
     ensures err { IfErr result (IsUnsound network.now bytes.now) }
 {
@@ -46,6 +53,9 @@ fn judge(alloc: Global, network: &Network, bytes: &[u8]) -> Result<(), Outcome>
     };
     match hierarchy_check::check(network, &h) {
         Verdict::Sound => Ok(()),
-        Verdict::Broken { clause, at, by } => Err(Outcome::Unsound { clause, at, by }),
+        Verdict::Broken { clause, at, by } => {
+            tell_broken(alloc, network, &h, clause, at, by, notes);
+            Err(Outcome::Unsound { clause, at, by })
+        }
     }
 }

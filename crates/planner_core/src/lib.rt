@@ -3,6 +3,7 @@
 
 mod answering;
 mod blocks;
+mod broken;
 mod certifying;
 mod checking;
 pub mod command;

@@ -16,13 +16,14 @@ use plan_base::{Caps, Shelf, Sink, write_all};
 use std::alloc::Global;
 
 /// Reads the region, and does what the command says with it and the other word.
-fn carry_out<F: Shelf, O: Sink>(
+fn carry_out<F: Shelf, O: Sink, E: Sink>(
     alloc: Global,
     command: Command,
     region: &str,
     word: &str,
     shelf: &mut F,
     out: &mut O,
+    notes: &mut E,
     caps: &Caps,
 ) -> Result<(), Outcome>
     ensures ok { OnOk result (IsOutcomeFor caps.now (F.meaning shelf.old) (F.meaning shelf.new) (record { command = command; region = region.now; word = word.now }) (O.meaning out.old) (O.meaning out.new) Done) }
@@ -33,16 +34,17 @@ fn carry_out<F: Shelf, O: Sink>(
         Command::Answer => answer(alloc, &network, word, shelf, out),
         Command::Certify => certify(alloc, &network, word.as_bytes(), out),
         Command::Verify => verify(alloc, &network, word, shelf, out),
-        Command::Check => check(alloc, &network, word, shelf, out),
+        Command::Check => check(alloc, &network, word, shelf, out, notes),
     }
 }
 
 /// Does what a command with these words asks for.
-fn obey<F: Shelf, O: Sink>(
+fn obey<F: Shelf, O: Sink, E: Sink>(
     alloc: Global,
     words: &[String],
     shelf: &mut F,
     out: &mut O,
+    notes: &mut E,
     caps: &Caps,
 ) -> Outcome
     ensures { IsOutcome caps.now (map string_bytes words.now) (F.meaning shelf.old) (F.meaning shelf.new) (O.meaning out.old) (O.meaning out.new) result }
@@ -50,24 +52,25 @@ fn obey<F: Shelf, O: Sink>(
     let Some((command, region, word)) = request_in(words) else {
         return Outcome::Usage;
     };
-    match carry_out(alloc, command, region, word, shelf, out, caps) {
+    match carry_out(alloc, command, region, word, shelf, out, notes, caps) {
         Ok(()) => Outcome::Done,
         Err(outcome) => outcome,
     }
 }
 
 /// Does what a command with these words asks for, within these limits.
-pub fn run_within<F: Shelf, O: Sink>(
+pub fn run_within<F: Shelf, O: Sink, E: Sink>(
     alloc: Global,
     words: &[String],
     shelf: &mut F,
     out: &mut O,
+    notes: &mut E,
     caps: &Caps,
 ) -> Outcome
     ensures outcome { IsOutcome caps.now (map string_bytes words.now) (F.meaning shelf.old) (F.meaning shelf.new) (O.meaning out.old) (O.meaning out.new) result }
     ensures complete { IsComplete caps.now (map string_bytes words.now) (F.meaning shelf.old) (F.meaning shelf.new) (O.meaning out.old) (O.meaning out.new) result }
 {
-    obey(alloc, words, shelf, out, caps)
+    obey(alloc, words, shelf, out, notes, caps)
 }
 
 /// Does what a command with these words asks for. The first word is the program's name, and each command reads the region
@@ -91,7 +94,7 @@ pub fn run<F: Shelf, O: Sink, E: Sink>(
     ensures outcome { (caps : Caps) × AreFull caps × IsOutcome caps (map string_bytes words.now) (F.meaning shelf.old) (F.meaning shelf.new) (O.meaning out.old) (O.meaning out.new) result }
     ensures complete { (caps : Caps) × AreFull caps × IsComplete caps (map string_bytes words.now) (F.meaning shelf.old) (F.meaning shelf.new) (O.meaning out.old) (O.meaning out.new) result }
 {
-    let outcome = run_within(alloc, words, shelf, out, &Caps::FULL);
+    let outcome = run_within(alloc, words, shelf, out, notes, &Caps::FULL);
     if let Ok(line) = outcome.note(alloc) {
         let _ = write_all(notes, line.as_bytes());
     }

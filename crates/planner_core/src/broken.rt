@@ -1,0 +1,130 @@
+//! What a hierarchy that is not sound breaks, told to people by the keys of the nodes.
+
+use hierarchy::{Entry, Hierarchy};
+use mode_expression::Letter;
+use mode_network::{Network, NodeKey};
+use plan_base::{Sink, write_all};
+use std::alloc::{AllocError, Global};
+
+/// Says which node of the order, road arc or entries a clause fails at, each counted from 0, and what the clause asks for.
+/// A fault of `notes` changes nothing.
+pub(crate) fn tell_broken<E: Sink>(
+    alloc: Global,
+    network: &Network,
+    h: &Hierarchy,
+    clause: u8,
+    at: u64,
+    by: u64,
+    notes: &mut E,
+) {
+    if let Ok(line) = broken(alloc, network, h, clause, at, by) {
+        let _ = write_all(notes, line.as_bytes());
+    }
+}
+
+/// The line that says what a clause fails at, and what it asks for.
+fn broken(
+    alloc: Global,
+    network: &Network,
+    h: &Hierarchy,
+    clause: u8,
+    at: u64,
+    by: u64,
+) -> Result<String, AllocError> {
+    let what = broken_at(alloc, network, h, clause, at, by)?;
+    let rule = sound_rule(clause);
+    format!(in alloc;
+        "modeplan: the hierarchy is not sound for the region: {what}; by clause {clause}, {rule}\n"
+    )
+}
+
+/// The node of the order, the road arc or the entries that a clause fails at.
+fn broken_at(
+    alloc: Global,
+    network: &Network,
+    h: &Hierarchy,
+    clause: u8,
+    at: u64,
+    by: u64,
+) -> Result<String, AllocError> {
+    match clause {
+        1 => {
+            let node = match h.order().get(at as usize) {
+                Some(v) => key(alloc, network, *v)?,
+                None => String::new(alloc),
+            };
+            format!(in alloc; "number {at} of its order is {node}")
+        }
+        2 => {
+            let arc = match network.arcs().get(at as usize) {
+                Some(arc) => leg(alloc, network, arc.from, arc.to, arc.ms as u64)?,
+                None => String::new(alloc),
+            };
+            format!(in alloc; "arc {at} of the region leads {arc}")
+        }
+        4 => {
+            let first = entry(alloc, network, h.entries().get(at as usize))?;
+            let second = entry(alloc, network, h.entries().get(by as usize))?;
+            format!(in alloc; "entry {at} leads {first}, and entry {by} {second}")
+        }
+        _ => {
+            let entry = entry(alloc, network, h.entries().get(at as usize))?;
+            format!(in alloc; "entry {at} leads {entry}")
+        }
+    }
+}
+
+/// The ends of an entry, and its weight.
+fn entry(alloc: Global, network: &Network, e: Option<&Entry>) -> Result<String, AllocError> {
+    match e {
+        Some(e) => leg(alloc, network, e.from, e.to, e.weight),
+        None => Ok(String::new(alloc)),
+    }
+}
+
+/// From where to where, in how many milliseconds.
+fn leg(
+    alloc: Global,
+    network: &Network,
+    from: u32,
+    to: u32,
+    ms: u64,
+) -> Result<String, AllocError> {
+    let from = key(alloc, network, from)?;
+    let to = key(alloc, network, to)?;
+    format!(in alloc; "from {from} to {to} in {ms} ms")
+}
+
+/// A node as blocks name it, such as `foot:17`; or its number, where the region has no such node.
+fn key(alloc: Global, network: &Network, v: u32) -> Result<String, AllocError> {
+    network.known();
+    if v < network.nodes() {
+        match network.node(v).key {
+            NodeKey::Road(mode, id) => {
+                let name = Letter::from_number(mode).map_or("road", |l| l.name());
+                format!(in alloc; "{name}:{id}")
+            }
+            NodeKey::Stop(stop) => {
+                let name = String::from_utf8_lossy(alloc, network.stop_name(stop))?;
+                format!(in alloc; "stop:{name}")
+            }
+            NodeKey::Switch(id) => format!(in alloc; "switch:{id}"),
+        }
+    } else {
+        format!(in alloc; "{v} (no node of the region)")
+    }
+}
+
+/// What a clause of a sound hierarchy asks for, to people.
+fn sound_rule(clause: u8) -> &'static str {
+    match clause {
+        1 => "a node of the order must be a road node without links, and stand once",
+        2 => "a road arc must have an entry with its ends that is no heavier",
+        3 =>
+            "an entry must be a road arc with its weight, or the sum of two entries by way of a lower node",
+        4 =>
+            "the entries to and from a contracted node must have an entry or a listed witness that is no heavier",
+        _ =>
+            "the ends of an entry must be different road nodes of one layer, and its weight below 2^56",
+    }
+}
