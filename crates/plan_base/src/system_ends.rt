@@ -53,10 +53,10 @@ impl<R: Files + AllocGlobal> Shelf for FolderShelf<'_, R> {
     }
 }
 
-// A file that is being read, and the place up to which it was read.
+// A file that is being read, and the place up to which it was read. Where there was no room for its path, no read goes on in it.
 #[derive(Drop)]
 struct Opened<F: Drop> {
-    path: String,
+    path: Option<String>,
     at: u64,
     file: F,
 }
@@ -72,7 +72,7 @@ fn read_at<R: Files + AllocGlobal>(
     ensures { IfOk result (λ n. n ≤ length into.old) }
 {
     let mut opened = match open.take() {
-        Some(opened) if opened.at == from && opened.path.as_str() == path => opened,
+        Some(opened) if opened.at == from && opened.path.as_deref() == Some(path) => opened,
         _ => open_at(rt, path, from)?,
     };
     let n = opened.file.read(into)?;
@@ -89,7 +89,7 @@ fn open_at<R: Files + AllocGlobal>(rt: &R, path: &str, from: u64) -> io::Result<
     if from > 0 {
         file.seek(SeekFrom::Start(from))?;
     }
-    let path = String::from_str(rt.alloc(), path)?;
+    let path = String::from_str(rt.alloc(), path).ok();
     Ok(Opened {
         path,
         at: from,
