@@ -11,6 +11,7 @@ use Rattle.std.proofs.lemmas.Option.{cond_some, none-some, same_Some}
 use Rattle.std.proofs.lemmas.Result.{IfOk-at_ok}
 use Rattle.plain_texts.specs.FixedDecimal.{fixed_at}
 use Rattle.plan_base.specs.declared.limits.Caps.{Caps}
+use Rattle.service_days.specs.Dates.{date_at}
 use Rattle.gtfs_tables.specs.declared.calls.CallRow.{CallRow}
 use Rattle.gtfs_tables.specs.declared.calls.Times.{Times}
 use Rattle.gtfs_tables.specs.declared.calls.Visit.{Visit}
@@ -25,7 +26,7 @@ use Rattle.gtfs_tables.specs.declared.stops.StopRow.{StopRow}
 use Rattle.gtfs_tables.specs.declared.trips.TripRow.{TripRow}
 use Rattle.gtfs_tables.specs.Calls.{StopTime, call_at, call_columns, call_between, call_of, calls, times_in, times_of, visit_in}
 use Rattle.gtfs_tables.specs.Columns.{field_in}
-use Rattle.gtfs_tables.specs.Forms.{added_at, date_at, digits_at, hours_and_part, id_at, is_id, is_usual_at, letter_of, optional_time_at, part_at, time_at, trimmed}
+use Rattle.gtfs_tables.specs.Forms.{added_at, digits_at, hours_and_part, id_at, is_id, is_usual_at, letter_of, optional_time_at, part_at, time_at, trimmed}
 use Rattle.gtfs_tables.specs.Frequencies.{Frequency, frequencies, frequency_columns, frequency_of, frequency_over, headway_at, positive, span_in}
 use Rattle.gtfs_tables.specs.Holding.{AreRead}
 use Rattle.gtfs_tables.specs.Routes.{route_columns, routes}

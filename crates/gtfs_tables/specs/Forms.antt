@@ -3,7 +3,6 @@ use Rattle.std.specs.Prelude.{ℕ, ◌+◌, ◌-◌, ◌*◌, ◌^◌, List, [],
 use Rattle.std.specs.List.{take_while}
 use Rattle.std.specs.Str.{is_utf8}
 use Rattle.plain_texts.specs.FixedDecimal.{fixed_at}
-use Rattle.service_days.specs.Dates.{is_civil}
 
 -- an id, or the name of a time zone: at least one byte and fewer than 2 ^ 30, in UTF-8
 unfoldable pub is_id : List ℕ → Bool
@@ -55,13 +54,6 @@ choice_at most (a ∷ b ∷ more) = None
 -- whether the choice is 0, for which nothing may stand
 abbrev pub is_usual_at : ℕ → List ℕ → Option Bool
 is_usual_at most text = option_map (λ choice. nat_eq choice 0) (choice_at most text)
-
-abbrev pub civil_date : ℕ → Option ℕ
-civil_date date = if is_civil date then Some date else None
-
--- 8 digits that name a civil date of the years 1 to 9999
-unfoldable pub date_at : List ℕ → Option ℕ
-date_at text = if nat_eq (length text) 8 then option_and_then civil_date (fixed_at text) else None
 
 -- the letter of a route's type, from tram (3) to other (13)
 abbrev pub letter_of : ℕ → ℕ

@@ -11,7 +11,8 @@ use Rattle.gtfs_tables.specs.declared.dates.DateRow.{DateRow}
 use Rattle.gtfs_tables.specs.declared.dates.Dates.{Dates}
 use Rattle.gtfs_tables.specs.Answers.{◌>>=◌}
 use Rattle.gtfs_tables.specs.Columns.{Row, place_of, field_in}
-use Rattle.gtfs_tables.specs.Forms.{id_at, trimmed, date_at, added_at}
+use Rattle.service_days.specs.Dates.{date_at}
+use Rattle.gtfs_tables.specs.Forms.{id_at, trimmed, added_at}
 use Rattle.gtfs_tables.specs.Holding.{Holds}
 use Rattle.gtfs_tables.specs.Tables.{Table}
 

@@ -12,7 +12,8 @@ use Rattle.gtfs_tables.specs.declared.services.ServiceRow.{ServiceRow}
 use Rattle.gtfs_tables.specs.declared.services.Services.{Services}
 use Rattle.gtfs_tables.specs.Answers.{◌>>=◌}
 use Rattle.gtfs_tables.specs.Columns.{Row, place_of, field_in}
-use Rattle.gtfs_tables.specs.Forms.{id_at, trimmed, flag_at, date_at}
+use Rattle.service_days.specs.Dates.{date_at}
+use Rattle.gtfs_tables.specs.Forms.{id_at, trimmed, flag_at}
 use Rattle.gtfs_tables.specs.Holding.{Holds}
 use Rattle.gtfs_tables.specs.Tables.{Table}
 

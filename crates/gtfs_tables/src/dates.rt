@@ -14,10 +14,11 @@ use crate::faults::FeedFault;
 use crate::files::FeedFile;
 use crate::ids::Id;
 use crate::records::{Rows, open};
-use crate::texts::{read_added, read_date, read_id, trimmed};
+use crate::texts::{read_added, read_id, trimmed};
 use csv::ByteRecord;
 use indexmap::IndexSet;
 use plan_base::{Caps, Kind};
+use service_days::read_date;
 use std::alloc::{AllocError, Global};
 use std::marker::Model;
 

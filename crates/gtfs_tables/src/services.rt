@@ -14,10 +14,10 @@ use crate::faults::FeedFault;
 use crate::files::FeedFile;
 use crate::ids::{Id, Ids};
 use crate::records::{Rows, open};
-use crate::texts::{read_date, read_flag, read_id, trimmed};
+use crate::texts::{read_flag, read_id, trimmed};
 use csv::ByteRecord;
 use plan_base::{Caps, Kind};
-use service_days::ServiceRule;
+use service_days::{ServiceRule, read_date};
 use std::alloc::{AllocError, Global};
 
 /// A row of calendar.txt.

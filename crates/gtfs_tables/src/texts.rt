@@ -6,7 +6,6 @@ ghost use Rattle.plain_texts.specs.FixedDecimal.{fixed_at};
 ghost use Rattle.gtfs_tables.specs.Forms as spec;
 
 use plain_texts::read_fixed;
-use service_days::is_date;
 
 /// Whether a field is an id, or the name of a time zone: at least one byte and fewer than 2^30, in UTF-8.
 #[tactic(auto, unfolding(crate::specs::Forms::is_id))]
@@ -116,18 +115,6 @@ pub(crate) fn read_is_usual(text: &[u8], most: u8) -> Option<bool>
 {
     let choice = read_choice(text, most)?;
     Some(choice == 0)
-}
-
-/// A civil date of the years 1 to 9999 in 8 digits, YYYYMMDD.
-#[tactic(auto, unfolding(crate::specs::Forms::date_at))]
-pub(crate) fn read_date(text: &[u8]) -> Option<u32>
-    ensures { result ≡ spec.date_at text.now }
-{
-    if text.len() != 8 {
-        return None;
-    }
-    let date = read_fixed(text)?;
-    if is_date(date) { Some(date) } else { None }
 }
 
 /// The letter of a route's type.

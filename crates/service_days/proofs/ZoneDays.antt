@@ -1,5 +1,5 @@
 -- Days in a zone.
-use Rattle.std.proofs.Common.{◌≡◌, refl, sym, ap, ap₂, subst, ◌∙◌, ℕ, zero, suc, ◌+◌, ◌/◌, ◌<◌, ◌≤◌, Bool, true, false, ◌&&◌, List, length, map, get_or, take, arith, ltb, ℤ, pos, ◌+ℤ◌, ◌-ℤ◌, ◌*ℤ◌, ◌≤ℤ◌, int_le, unsigned_abs, Option, Some, None, Ok, Err, cond}
+use Rattle.std.proofs.Common.{◌≡◌, refl, sym, ap, ap₂, subst, ◌∙◌, ℕ, zero, suc, ◌+◌, ◌/◌, ◌<◌, ◌≤◌, Bool, true, false, ◌&&◌, List, length, map, get_or, take, arith, ltb, ℤ, pos, ◌+ℤ◌, ◌-ℤ◌, ◌*ℤ◌, ◌≤ℤ◌, int_le, unsigned_abs, Option, Some, None, Result, Ok, Err, IfSome, cond}
 use Rattle.std.specs.List.{range_with_len}
 use Rattle.std.proofs.lemmas.Bool.{ltb-true, ltb-false}
 use Rattle.std.proofs.lemmas.Float.{T_from_true}
@@ -11,7 +11,7 @@ use Rattle.service_days.specs.Days.{AreDays, date_on, is_first_date, is_day_coun
 use Rattle.service_days.specs.Days.{IsRefusal}
 use Rattle.service_days.specs.declared.range.RangeFault.{RangeFault}
 use Rattle.service_days.specs.declared.range.RangeFault.TheVariants.{BadDate, BadCount, BadZone, OutOfMemory}
-use Rattle.service_days.specs.Zones.{AreKept, RefusesLengths, days_in, days_in_read, is_rule_text, read_zone, zone_days, Zone, have_day_lengths, is_day_length, noon_in, noon_on, zone_base, zone_of, dates_and_next, days_with_bases}
+use Rattle.service_days.specs.Zones.{AreKept, RefusesLengths, days_in, days_in_read, is_rule_text, read_zone, zone_days, days_made, Zone, have_day_lengths, is_day_length, noon_in, noon_on, zone_base, zone_of, dates_and_next, days_with_bases}
 use Rattle.service_days.specs.DaysMeaning.{DaysMeaning}
 use Rattle.std.proofs.lemmas.Option.{same_Some}
 use Rattle.jiff_core.specs.declared.civil.datetime.DateTime.{DateTime}
@@ -191,20 +191,50 @@ first_dates first count = take-map-range_with_len (date_on first) 0 (count + 8) 
 pub length-dates_and_next : (first count : ℕ) → length (dates_and_next first count) ≡ count + 8
 length-dates_and_next first count = length-map-range_with_len (date_on first) 0 (count + 8)
 
-cond_some_is : (text : Bool) (read : Option Zone) (zone : Zone) → Some zone ≡ cond text read None → read ≡ Some zone
+pub cond_some_is : (text : Bool) (read : Option Zone) (zone : Zone) → Some zone ≡ cond text read None → read ≡ Some zone
 cond_some_is true read zone e = sym e
 cond_some_is false read zone e = absurd (none_some zone (sym e))
   where
     none_some : (zone : Zone) → ◌≡◌ {A = Option Zone} None (Some zone) → ⊥
     none_some zone e = cc
 
-pub count_from_noons : (parsed : TimeZone) (rule : List ℕ) (first count : ℕ) → is_day_count count ≡ true → Some (zone_of parsed) ≡ cond (is_rule_text rule) (read_zone rule) None
-    → CountFromNoons rule (days_with_bases (zone_of parsed) rule first count (dates_and_next first count))
-count_from_noons parsed rule first count few parsed_is zone read day within at start is_at is_start =
+-- days in a zone that a rule spells count from its noons
+pub count_from_noons : (spelled : Zone) (rule : List ℕ) (first count : ℕ) → read_zone rule ≡ Some spelled
+    → CountFromNoons rule (days_with_bases spelled rule first count (dates_and_next first count))
+count_from_noons spelled rule first count spelled_is zone read day within at start is_at is_start =
     let dates = dates_and_next first count in
-    let same : zone_of parsed ≡ zone_of zone = same_Some (zone_of parsed) (zone_of zone) (sym (cond_some_is (is_rule_text rule) (read_zone rule) (zone_of parsed) parsed_is) ∙ zone_again rule zone read) in
+    let same : spelled ≡ zone_of zone = same_Some spelled (zone_of zone) (sym spelled_is ∙ zone_again rule zone read) in
     let date = λ (k : ℕ) (h : k < count + 7). at_day (date_on first) (count + 7) k h ∙ sym (at_day (date_on first) (count + 8) k (omega (arith, h))) in
     let noon = λ (k : ℕ) (h : k < count + 7) (when : DateTime) (is : IsNoonOf (get_or (map (date_on first) (range_with_len 0 (count + 7))) k 0) when).
     noon_is_instant zone (get_or (map (date_on first) (range_with_len 0 (count + 7))) k 0) when is ∙ ap₂ noon_in (sym same) (date k h) in
-    at_day (zone_base (zone_of parsed) dates) (count + 7) day within
+    at_day (zone_base spelled dates) (count + 7) day within
     ∙ ap₂ (λ (a : ℤ) (b : ℤ). unsigned_abs (a -ℤ b) / 1000000) (sym (noon day within at is_at)) (sym (noon 0 (omega arith) start is_start))
+
+ok_parts : (test : Bool) (made : Result DaysMeaning RangeFault) (fault : RangeFault) (days : DaysMeaning) → cond test made (Err fault) ≡ Ok days → (test ≡ true) × (made ≡ Ok days)
+ok_parts true made fault days e = (refl, e)
+ok_parts false made fault days e = cc
+
+read_from_noons : (read : Option Zone) (rule : List ℕ) (first count : ℕ) (days : DaysMeaning) → read_zone rule ≡ read → days_in_read read rule first count ≡ Ok days → CountFromNoons rule days
+read_from_noons None rule first count days spelled made = cc
+read_from_noons (Some zone) rule first count days spelled made =
+    let ok = ok_parts (have_day_lengths zone (dates_and_next first count) (count + 7)) _ _ days made in
+    subst (CountFromNoons rule) (same_Ok _ days ok.1) (count_from_noons zone rule first count spelled)
+  where
+    same_Ok : (a b : DaysMeaning) → ◌≡◌ {A = Result DaysMeaning RangeFault} (Ok a) (Ok b) → a ≡ b
+    same_Ok a b e = cc
+
+-- days that a rule gives count from its noons
+zone_from_noons : (first count : ℕ) (rule : List ℕ) (days : DaysMeaning) → zone_days first count rule ≡ Ok days → CountFromNoons rule days
+zone_from_noons first count rule days made =
+    let date = ok_parts (is_first_date first) _ _ days made in
+    let few = ok_parts (is_day_count count) _ _ days date.1 in
+    let text = ok_parts (is_rule_text rule) _ _ days few.1 in
+    read_from_noons (read_zone rule) rule first count days refl text.1
+
+-- days that have a rule count from its noons
+pub made_from_noons : (days : DaysMeaning) → days_made days.first days.count days.zone ≡ Ok days → IfSome days.zone (λ rule. CountFromNoons rule days)
+made_from_noons days made = by_zone days.zone made
+  where
+    by_zone : (zone : Option (List ℕ)) → days_made days.first days.count zone ≡ Ok days → IfSome zone (λ rule. CountFromNoons rule days)
+    by_zone None made = tt
+    by_zone (Some rule) made = zone_from_noons days.first days.count rule days made

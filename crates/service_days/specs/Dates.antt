@@ -1,5 +1,6 @@
 -- Civil dates as numbers YYYYMMDD.
-use Rattle.std.specs.Prelude.{ℕ, zero, suc, ◌+◌, ◌-◌, ◌*◌, ◌/◌, ◌%◌, Bool, ◌&&◌, nat_le, nat_lt, if◌then◌else◌, ℤ, pos}
+use Rattle.std.specs.Prelude.{ℕ, zero, suc, ◌+◌, ◌-◌, ◌*◌, ◌/◌, ◌%◌, Bool, ◌&&◌, nat_eq, nat_le, nat_lt, if◌then◌else◌, ℤ, pos, List, length, Option, Some, None, option_and_then}
+use Rattle.plain_texts.specs.FixedDecimal.{fixed_at}
 use Rattle.jiff_core.specs.Calendar.{days_in_month, days_from_civil}
 
 -- the year, the month and the day of the month
@@ -22,6 +23,13 @@ is_civil date =
     nat_le 1 (year_of date) && nat_le (year_of date) 9999
     && (nat_le 1 (month_of date) && nat_le (month_of date) 12)
     && (nat_le 1 (day_of_month date) && nat_le (day_of_month date) (month_length date))
+
+abbrev pub civil_date : ℕ → Option ℕ
+civil_date date = if is_civil date then Some date else None
+
+-- the date that a text of eight digits names
+unfoldable pub date_at : List ℕ → Option ℕ
+date_at text = if nat_eq (length text) 8 then option_and_then civil_date (fixed_at text) else None
 
 -- the day number of a date: days since 1 January 1970
 abbrev pub epoch_day_of : ℕ → ℤ

@@ -1,11 +1,12 @@
 //! Civil dates, as numbers YYYYMMDD and as those of `jiff`.
 
-ghost use Rattle.std.specs.Prelude.{◌≡◌, ◌+◌, ◌<◌, ◌≤◌, true, pos, ◌+ℤ◌, ◌≤ℤ◌, ◌<ℤ◌};
+ghost use Rattle.std.specs.Prelude.{◌≡◌, ◌+◌, ◌<◌, ◌≤◌, true, pos, ◌+ℤ◌, ◌≤ℤ◌, ◌<ℤ◌, IfSome};
 ghost use Rattle.jiff_core.specs.Date.{IsYmd};
-ghost use Rattle.service_days.specs.Dates.{year_of, month_of, day_of_month, is_civil, date_after, date_before};
+ghost use Rattle.service_days.specs.Dates.{year_of, month_of, day_of_month, is_civil, date_after, date_at, date_before};
 ghost use Rattle.service_days.specs.Numbers.{number_of_date};
 
 use jiff_core::civil::{self, Date};
+use plain_texts::read_fixed;
 
 /// Whether the number YYYYMMDD is a civil date of the years 1 to 9999.
 pub fn is_date(date: u32) -> bool
@@ -18,6 +19,19 @@ pub fn is_date(date: u32) -> bool
         return false;
     }
     1 <= day && day <= civil::days_in_month(year as i16, month as u8) as u32
+}
+
+/// The civil date of the years 1 to 9999 that a text of eight digits names, as a number YYYYMMDD.
+#[tactic(auto, unfolding(crate::specs::Dates::date_at))]
+pub fn read_date(text: &[u8]) -> Option<u32>
+    ensures value { result ≡ date_at text.now }
+    ensures civil { IfSome result (λ date. is_civil date ≡ true) }
+{
+    if text.len() != 8 {
+        return None;
+    }
+    let date = read_fixed(text)?;
+    if is_date(date) { Some(date) } else { None }
 }
 
 // The date that a number stands for.

@@ -11,7 +11,7 @@ mod services;
 mod tests;
 mod zones;
 
-pub use civil::is_date;
+pub use civil::{is_date, read_date};
 pub use range::RangeFault;
 pub use region_days::Days;
 pub use services::ServiceRule;

@@ -113,11 +113,13 @@ impl Days {
     }
 
     /// What is true of all days. They are those that [`Days::new`] or [`Days::in_zone`] makes of their first
-    /// date, their count and their zone rule.
+    /// date, their count and their zone rule; and where they have a rule, their bases count from the noons that
+    /// `jiff` states for it.
     pub fn facts(&self)
         ensures days { AreDays self.now }
         ensures order { AreInOrder self.now }
         ensures made { days_made self.now.first self.now.count self.now.zone ≡ Ok self.now }
+        ensures noons { IfSome self.now.zone (λ rule. CountFromNoons rule self.now) }
     {
         let _ = &self.first;
     }

@@ -37,6 +37,10 @@ fn dates_of_the_calendar(rt: HostRuntime) {
     for (date, there) in cases {
         assert_eq!(rt; is_date(date), there, "{date}");
     }
+    assert_eq!(rt; read_date(b"20240229"), Some(20240229));
+    assert_eq!(rt; read_date(b"20230229"), None);
+    assert_eq!(rt; read_date(b"2024229"), None);
+    assert_eq!(rt; read_date(b"2024-2-9"), None);
 }
 
 #[test]

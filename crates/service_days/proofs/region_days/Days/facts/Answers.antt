@@ -1,9 +1,11 @@
 use Rattle.std.proofs.Common.{◌≡◌, subst}
-use Rattle.std.specs.Prelude.{Ok}
+use Rattle.std.specs.Prelude.{Ok, IfSome}
 use Rattle.service_days.specs.DaysMeaning.{DaysMeaning}
 use Rattle.service_days.specs.Days.{AreDays, AreInOrder}
+use Rattle.service_days.specs.Noons.{CountFromNoons}
 use Rattle.service_days.specs.Zones.{days_made}
 use Rattle.service_days.proofs.InOrder.{are_in_order}
+use Rattle.service_days.proofs.ZoneDays.{made_from_noons}
 use Rattle.service_days.proofs.region_days.Days.facts.Goals as goal
 
 pub returns-clause-days : goal.returns-clause-days
@@ -14,3 +16,6 @@ returns-clause-order c = subst AreInOrder c.self.view_is (are_in_order _ c.self.
 
 pub returns-clause-made : goal.returns-clause-made
 returns-clause-made c = subst (λ (days : DaysMeaning). days_made days.first days.count days.zone ≡ Ok days) c.self.view_is c.self.invariant.made
+
+pub returns-clause-noons : goal.returns-clause-noons
+returns-clause-noons c = subst (λ (days : DaysMeaning). IfSome days.zone (λ rule. CountFromNoons rule days)) c.self.view_is (made_from_noons _ c.self.invariant.made)

@@ -5,7 +5,7 @@ use Rattle.service_days.specs.Days.{IsRefusal}
 use Rattle.service_days.specs.Noons.{CountFromNoons}
 use Rattle.service_days.specs.Zones.{AreKept, RefusesLengths, dates_and_next, days_with_bases, have_day_lengths, zone_base, zone_days, zone_of}
 use Rattle.service_days.proofs.PlainDays.{few_days}
-use Rattle.service_days.proofs.ZoneDays.{count_from_noons, dates_civil, days_in_ok, days_in_refused, first_dates, length-dates_and_next, same_days, zone_are_kept, zone_days_is}
+use Rattle.service_days.proofs.ZoneDays.{cond_some_is, count_from_noons, dates_civil, days_in_ok, days_in_refused, first_dates, length-dates_and_next, same_days, zone_are_kept, zone_days_is}
 use Rattle.service_days.proofs.region_days.Days.in_zone.Goals as goal
 
 pub returns-in-None-clause-err : goal.returns-in-None-clause-err
@@ -64,4 +64,4 @@ returns-clause-ok c = given c ∙ ap Ok (sym (is_made c).days)
 pub returns-clause-noons : goal.returns-clause-noons
 returns-clause-noons c =
     let made = is_made c in
-    subst (CountFromNoons c.args.rule.now) (sym made.days) (count_from_noons c.in-Some.zone c.args.rule.now c.args.first c.args.count c.in_ok-check_range.ensures.count c.in-Some.ensures)
+    subst (CountFromNoons c.args.rule.now) (sym made.days) (count_from_noons (zone_of c.in-Some.zone) c.args.rule.now c.args.first c.args.count (cond_some_is _ _ _ c.in-Some.ensures))
