@@ -17,18 +17,3 @@ cap_of caps Refs = caps.refs
 cap_of caps Routes = caps.routes
 cap_of caps Services = caps.services
 cap_of caps Dates = caps.dates
-
--- the greatest limit of things of this kind
-abbrev pub full_cap_of : Kind → ℕ
-full_cap_of Nodes = 16777216
-full_cap_of Arcs = 67108864
-full_cap_of Links = 8388608
-full_cap_of Stops = 1048576
-full_cap_of Trips = 1048576
-full_cap_of Calls = 33554432
-full_cap_of OsmNodes = 33554432
-full_cap_of Ways = 8388608
-full_cap_of Refs = 67108864
-full_cap_of Routes = 1048576
-full_cap_of Services = 1048576
-full_cap_of Dates = 16777216

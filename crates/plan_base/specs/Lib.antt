@@ -1,6 +1,8 @@
 pub mod CapsByKind
 pub mod Counts
 pub mod DaySets
+pub mod FullCaps
+pub mod LetterNames
 pub mod Limits
 pub mod MemoryAnswers
 pub mod MemoryFiles

@@ -1,16 +1,18 @@
 use Rattle.std.specs.Prelude.{ℕ, ◌≤◌}
+use Rattle.plan_base.specs.declared.limits.Kind.TheVariants.{Nodes, Arcs, Links, Stops, Trips, Calls, OsmNodes, Ways, Refs, Routes, Services, Dates}
+use Rattle.plan_base.specs.FullCaps.{full_cap_of}
 
 -- no limit is above the greatest one of its kind
 pub record AreWithin (nodes arcs links stops trips calls osm_nodes ways refs routes services dates : ℕ) : Type 0 where
-  pub nodes_within : nodes ≤ 16777216
-  pub arcs_within : arcs ≤ 67108864
-  pub links_within : links ≤ 8388608
-  pub stops_within : stops ≤ 1048576
-  pub trips_within : trips ≤ 1048576
-  pub calls_within : calls ≤ 33554432
-  pub osm_nodes_within : osm_nodes ≤ 33554432
-  pub ways_within : ways ≤ 8388608
-  pub refs_within : refs ≤ 67108864
-  pub routes_within : routes ≤ 1048576
-  pub services_within : services ≤ 1048576
-  pub dates_within : dates ≤ 16777216
+  pub nodes_within : nodes ≤ full_cap_of Nodes
+  pub arcs_within : arcs ≤ full_cap_of Arcs
+  pub links_within : links ≤ full_cap_of Links
+  pub stops_within : stops ≤ full_cap_of Stops
+  pub trips_within : trips ≤ full_cap_of Trips
+  pub calls_within : calls ≤ full_cap_of Calls
+  pub osm_nodes_within : osm_nodes ≤ full_cap_of OsmNodes
+  pub ways_within : ways ≤ full_cap_of Ways
+  pub refs_within : refs ≤ full_cap_of Refs
+  pub routes_within : routes ≤ full_cap_of Routes
+  pub services_within : services ≤ full_cap_of Services
+  pub dates_within : dates ≤ full_cap_of Dates

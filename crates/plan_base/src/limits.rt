@@ -37,7 +37,8 @@ pub struct Caps {
 impl Caps {
     ghost use Rattle.std.specs.Prelude.{◌≡◌, ◌≤◌, ◌≢◌};
     ghost use Rattle.plan_base.specs.declared.limits.Kind.{Kind};
-    ghost use Rattle.plan_base.specs.CapsByKind.{cap_of, full_cap_of};
+    ghost use Rattle.plan_base.specs.CapsByKind.{cap_of};
+    ghost use Rattle.plan_base.specs.FullCaps.{full_cap_of};
 
     /// The greatest limits, which the programs use.
     pub const FULL: Caps = Caps {
@@ -54,6 +55,26 @@ impl Caps {
         services: 1_048_576,
         dates: 16_777_216,
     };
+
+    /// The limit of things of this kind.
+    pub fn most(&self, kind: Kind) -> u64
+        ensures { result ≡ cap_of self.now kind }
+    {
+        match kind {
+            Kind::Nodes => self.nodes,
+            Kind::Arcs => self.arcs,
+            Kind::Links => self.links,
+            Kind::Stops => self.stops,
+            Kind::Trips => self.trips,
+            Kind::Calls => self.calls,
+            Kind::OsmNodes => self.osm_nodes,
+            Kind::Ways => self.ways,
+            Kind::Refs => self.refs,
+            Kind::Routes => self.routes,
+            Kind::Services => self.services,
+            Kind::Dates => self.dates,
+        }
+    }
 
     /// These limits with another one for things of this kind.
     pub fn with_most(self, kind: Kind, most: u64) -> Caps
@@ -95,4 +116,34 @@ pub enum Kind {
     Routes,
     Services,
     Dates,
+}
+
+impl Kind {
+    ghost use Rattle.std.specs.Prelude.{◌≡◌};
+    ghost use Rattle.plan_base.specs.FullCaps.{full_cap_of};
+
+    /// The greatest limit of things of this kind.
+    pub fn most(self) -> u64
+        ensures { result ≡ full_cap_of self }
+    {
+        Caps::FULL.most(self)
+    }
+
+    /// What things of this kind are called, where there are many.
+    pub fn name(self) -> &'static str {
+        match self {
+            Kind::Nodes => "nodes",
+            Kind::Arcs => "road arcs",
+            Kind::Links => "links",
+            Kind::Stops => "stops",
+            Kind::Trips => "trips",
+            Kind::Calls => "calls of trips",
+            Kind::OsmNodes => "OSM nodes with a place",
+            Kind::Ways => "OSM ways",
+            Kind::Refs => "nodes of OSM ways",
+            Kind::Routes => "routes",
+            Kind::Services => "services",
+            Kind::Dates => "added and removed dates",
+        }
+    }
 }

@@ -5,7 +5,8 @@ use Rattle.plan_base.specs.Shelves.{ShelfMeaning, Told, HasRead}
 use Rattle.plan_base.specs.Sinks.{SinkMeaning, Appended}
 use Rattle.plan_base.specs.declared.limits.Caps.{Caps}
 use Rattle.plan_base.specs.declared.limits.Kind.{Kind}
-use Rattle.plan_base.specs.CapsByKind.{cap_of, full_cap_of}
+use Rattle.plan_base.specs.CapsByKind.{cap_of}
+use Rattle.plan_base.specs.FullCaps.{full_cap_of}
 use Rattle.mode_network.specs.NetworkLists.{NetworkLists}
 use Rattle.mode_network.specs.Rules.{IsNetwork}
 use Rattle.region_file.specs.declared.fault.RegionFault.{RegionFault}
