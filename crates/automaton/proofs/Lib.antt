@@ -9,3 +9,4 @@ pub mod PositionLemmas
 pub mod OfLemmas
 pub mod CollapsedLemmas
 pub mod SameLemmas
+pub mod AcceptLemmas

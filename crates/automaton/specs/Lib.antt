@@ -7,3 +7,4 @@ pub mod Meanings
 pub mod Collapsed
 pub mod CollapsedLaws
 pub mod OneStateLaws
+pub mod Languages

@@ -2,7 +2,7 @@
 use Rattle.std.specs.Prelude.{◌≡◌, ℕ, zero, suc, ◌+◌, ◌-◌, Bool, true, false, ◌&&◌, ◌||◌, ◌==◌, ◌⊎◌, List, [], ◌∷◌, ◌++◌, Option, Some, None, IsBitSet}
 use Rattle.mode_expression.specs.Form.{Form, letters, empty, both, never, either, repeated, IsJoined, IsPower}
 
--- `empty` is the empty word, `never` no word, `optional` a part or nothing, and `plus` a part one or more times.
+-- `nothing` is the empty word, `nowhere` no word, `optional` a part or nothing, and `plus` a part one or more times.
 pub data Written : Type 0 where
   nothing : Written
   nowhere : Written

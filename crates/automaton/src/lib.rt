@@ -4,6 +4,7 @@
 
 mod builder;
 mod collapsed;
+mod laws;
 mod one_state;
 mod position_set;
 mod positions;
@@ -12,5 +13,6 @@ mod state;
 mod tests;
 
 pub use collapsed::Collapsed;
+pub use laws::positions_accept;
 pub use one_state::{OneState, one_state_accepts};
 pub use positions::Positions;

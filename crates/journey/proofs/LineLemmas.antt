@@ -20,13 +20,14 @@ use Rattle.plain_texts.proofs.Digits.{fold_takes, digit_takes}
 use Rattle.plain_texts.proofs.Signed.{signed_takes}
 use Rattle.plain_texts.proofs.Spaced.{word_is_line, signed_is_word, name_is_word}
 use Rattle.geo_length.specs.Degrees.{are_digits, is_point, whole_of, part_of, units_at, units_of, size_of, degrees_of}
+use Rattle.service_days.specs.Dates.{date_at}
 use Rattle.service_days.specs.DaysMeaning.{DaysMeaning}
 use Rattle.mode_expression.specs.Form.{Form}
 use Rattle.mode_network.specs.declared.endpoints.Endpoint.{Endpoint}
 use Rattle.mode_network.specs.declared.endpoints.Endpoint.TheVariants.{Road, Stop, Near}
 use Rattle.mode_network.specs.NetworkLists.{NetworkLists}
 use Rattle.mode_network.specs.Rules.{IsNetwork}
-use Rattle.journey.specs.Shapes.{Fields, Shape, at_byte, place_at, endpoint_of, fields_of, is_filled, shape_of_fields, shape_of, date_at, part_at, millis_at, time_at, departs_on}
+use Rattle.journey.specs.Shapes.{Fields, Shape, at_byte, place_at, endpoint_of, fields_of, is_filled, shape_of_fields, shape_of, part_at, millis_at, time_at, departs_on}
 use Rattle.journey.specs.Queries.{IsKnown, IsQuery}
 use Rattle.journey.proofs.ExpressionLines.{spelled_is_line}
 
@@ -149,6 +150,7 @@ endpoint_line (mark ∷ name) endpoint e named = by_mark (mark == 110) ((mark ==
 
 -- the departure
 date_line : (text : List ℕ) (date : ℕ) → date_at text ≡ Some date → IsLine text
+unfolding date_at
 date_line text date e = option_and_then_some _ (fixed_at text) date (guarded (nat_eq (length text) 8) _ date e).1 (λ n is _. fixed_line text n is)
 
 part_plain : (below tens ones : ℕ) (rest : List ℕ) (n : ℕ) → part_at below tens ones ≡ Some n → IsLine rest → IsLine (tens ∷ ones ∷ rest)

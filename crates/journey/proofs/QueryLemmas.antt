@@ -3,6 +3,7 @@ use Rattle.std.proofs.Common.{◌≡◌, ℕ, ℤ, zero, suc, ◌<◌, ◌≤◌
 use Rattle.std.specs.Prelude.{IsTrue, ◌↔◌, All, slice_index_or}
 use Rattle.std.specs.Option.{ok_or}
 use Rattle.std.proofs.Math.Nat.{le_refl}
+use Rattle.service_days.specs.Dates.{date_at}
 use Rattle.service_days.specs.DaysMeaning.{DaysMeaning}
 use Rattle.mode_network.specs.NetworkLists.{NetworkLists}
 use Rattle.mode_network.specs.declared.nodes.Node.{Node}
@@ -22,7 +23,7 @@ use Rattle.journey.specs.declared.endpoints.Lack.{Lack}
 use Rattle.journey.specs.declared.endpoints.Lack.TheVariants.{Unknown, Far}
 use Rattle.journey.specs.declared.fault.QueryFault.{QueryFault}
 use Rattle.journey.specs.declared.fault.QueryFault.TheVariants.{BadClock, OutOfRange}
-use Rattle.journey.specs.Shapes.{Shape, shape_of, date_at, time_at, departure_on, departs_on, departs_at}
+use Rattle.journey.specs.Shapes.{Shape, shape_of, time_at, departure_on, departs_on, departs_at}
 use Rattle.journey.specs.Faults.{fault_of, origin_fault, destination_fault}
 use Rattle.journey.specs.Queries.{IsRefusal, ReachesExpression, IsKnown, IsUnknown, IsFar, IsLack}
 

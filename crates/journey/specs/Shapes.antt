@@ -10,7 +10,7 @@ use Rattle.plain_texts.specs.Numbers.{id_at}
 use Rattle.plain_texts.specs.FixedDecimal.{fixed_at}
 use Rattle.service_days.specs.DaysMeaning.{DaysMeaning}
 use Rattle.service_days.specs.Days.{base_of, day_with_date}
-use Rattle.service_days.specs.Dates.{is_civil}
+use Rattle.service_days.specs.Dates.{date_at}
 use Rattle.mode_network.specs.declared.endpoints.Endpoint.{Endpoint}
 use Rattle.mode_network.specs.declared.endpoints.Endpoint.TheVariants.{Road, Stop, Near}
 
@@ -68,10 +68,6 @@ shape_of_fields f =
 
 abbrev pub shape_of : List ℕ → Option Shape
 shape_of line = option_and_then shape_of_fields (fields_of line)
-
--- a civil date of the years 1 to 9999, as eight digits
-abbrev pub date_at : List ℕ → Option ℕ
-date_at text = if nat_eq (length text) 8 then option_and_then (λ date. if is_civil date then Some date else None) (fixed_at text) else None
 
 -- a number of two digits below a limit
 abbrev pub part_at : ℕ → ℕ → ℕ → Option ℕ

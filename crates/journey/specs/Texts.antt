@@ -8,7 +8,7 @@ use Rattle.service_days.specs.Clock.{clock_text_of}
 use Rattle.service_days.specs.Days.{date_of, numbers_of}
 use Rattle.timetable_arcs.specs.Trips.{TripLists}
 use Rattle.timetable_arcs.specs.Patterns.{no_trip}
-use Rattle.mode_expression.specs.Letters.{letter_names}
+use Rattle.plan_base.specs.LetterNames.{letter_names}
 use Rattle.mode_network.specs.declared.nodes.Node.{Node}
 use Rattle.mode_network.specs.declared.nodes.NodeKey.{NodeKey}
 use Rattle.mode_network.specs.declared.nodes.NodeKey.TheVariants.{Road as RoadKey, Stop as StopKey, Switch as SwitchKey}

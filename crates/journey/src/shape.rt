@@ -1,7 +1,7 @@
 //! The fields of a query line.
 
 ghost use Rattle.std.specs.Prelude.{◌≡◌, ◌==◌, option_map, position, IfOk, IfSome, ◌<◌, ◌^◌};
-ghost use Rattle.journey.specs.Shapes.{at_byte, at_space, place_at, endpoint_of, shape_of, date_at, part_at, millis_at, time_at, departure_on, fields_of};
+ghost use Rattle.journey.specs.Shapes.{at_byte, at_space, place_at, endpoint_of, shape_of, part_at, millis_at, time_at, departure_on, fields_of};
 ghost use Rattle.journey.specs.Shown.{shown};
 ghost use Rattle.journey.specs.Shapes.{departs_at};
 
@@ -10,7 +10,7 @@ use geo_length::read_degrees;
 use mode_network::{Bytes, Endpoint};
 use plain_texts::{read_fixed, read_id};
 use plan_base::{Place, Time};
-use service_days::{Days, is_date};
+use service_days::{Days, read_date};
 use std::alloc::{AllocError, Global};
 
 fn place_of_byte(byte: u8, text: &[u8]) -> Option<usize>
@@ -57,17 +57,6 @@ fn endpoint(alloc: Global, field: &[u8]) -> Result<Option<Endpoint>, AllocError>
         [b'@', place @ ..] => Ok(read_place(place).map(Endpoint::Near)),
         _ => Ok(None),
     }
-}
-
-/// A civil date of eight digits, as a number YYYYMMDD.
-fn read_date(text: &[u8]) -> Option<u32>
-    ensures { result ≡ date_at text.now }
-{
-    if text.len() != 8 {
-        return None;
-    }
-    let date = read_fixed(text)?;
-    if is_date(date) { Some(date) } else { None }
 }
 
 /// A number of two digits below a limit.

@@ -6,7 +6,8 @@ use Rattle.std.proofs.lemmas.Bool.Decides.{nat_tests}
 use Rattle.std.specs.Str.{bytes_eq}
 use Rattle.mode_expression.specs.declared.letter.Letter.{Letter}
 use Rattle.mode_expression.specs.declared.letter.Letter.TheVariants.{Foot, Bike, Car, Tram, Metro, Rail, Bus, Ferry, Cable, Lift, Funicular, Trolley, Monorail, Other}
-use Rattle.mode_expression.specs.Letters.{letter_named, letter_names, number_of, letter_numbered}
+use Rattle.plan_base.specs.LetterNames.{letter_names}
+use Rattle.mode_expression.specs.Letters.{letter_named, number_of, letter_numbered}
 
 -- the letter that has a number has that number
 pub number_of_numbered : (n : ℕ) (letter : Letter) → letter_numbered n ≡ Some letter → number_of letter ≡ n

@@ -9,9 +9,10 @@ use Rattle.mode_expression.specs.declared.fault.ExprFault.{ExprFault}
 use Rattle.mode_expression.specs.declared.fault.ExprFault.TheVariants.{TooLong, TooDeep, Syntax, TooLarge, OutOfMemory}
 use Rattle.mode_expression.specs.Form.{Form, in_turn, one_of, IsWellFormed}
 use Rattle.mode_expression.specs.Grammar.{Suffix, star, plus, question, exactly, between, Choice, only, or, Row, last, next, Item, plain, counted, Atom, name, group, suffix_tokens, choice_tokens, row_tokens, item_tokens, atom_tokens, sequence, alternative, counted_form, choice_forms, row_forms, item_form, atom_form}
-use Rattle.mode_expression.specs.Letters.{letter_names, letter_named, letters_named}
+use Rattle.plan_base.specs.LetterNames.{letter_names}
+use Rattle.mode_expression.specs.Letters.{letter_named, letters_named}
 use Rattle.mode_expression.specs.Tokens.{Lexeme, is_lower, is_digit, placed, lexemes, token_of, name_token, symbol_token, decimal}
-use Rattle.mode_expression.specs.Reading.{token, Spells, IsReadAs, reading_of, IsFault, IsShallow, ReadsAs}
+use Rattle.mode_expression.specs.Reading.{token, Spells, IsReadAs, reading_of, IsFault, IsShallow, ReadsAs, ExpressionsAreUsable}
 use Rattle.mode_expression.proofs.ReadingLemmas.{reading_is_right}
 
 pub spells_of_reading : (text : List ℕ) (form : Form) → reading_of text ≡ Ok form → Spells text form
@@ -140,11 +141,13 @@ tokens_known [] = tt
 tokens_known (l ∷ ls) = (token_known l.bytes, tokens_known ls)
 
 -- the expression of a text is well formed
-pub formed_of_reading : (text : List ℕ) (form : Form) → reading_of text ≡ Ok form → IsWellFormed form
-formed_of_reading text form e =
-    let sentence = spells_of_reading text form e in
+pub formed_of_spelled : (text : List ℕ) (form : Form) → Spells text form → IsWellFormed form
+formed_of_spelled text form sentence =
     let known : AllKnown (choice_tokens sentence.tree) = subst AllKnown (sym sentence.derives) (tokens_known (lexemes 0 text)) in
     subst IsWellFormed sentence.means (alternative_formed (choice_forms sentence.tree) (choice_formed sentence.tree known))
+
+pub expressions_are_usable : ExpressionsAreUsable
+expressions_are_usable text form is = record { formed = formed_of_spelled text form is.spells; small = is.small }
 
 pub fault_of_reading : (text : List ℕ) (fault : ExprFault) → length text ≤ 4096 → IsShallow text → ReadsAs text fault
     → (fault ≡ OutOfMemory) ⊎ IsFault text fault

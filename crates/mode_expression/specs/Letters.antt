@@ -1,14 +1,9 @@
 -- The letters of words: fourteen means of transport, by number.
 use Rattle.std.specs.Prelude.{ℕ, List, [], ◌∷◌, Option, Some, ◌^◌, codes, position, option_map, slice_get, if◌then◌else◌}
 use Rattle.std.specs.Str.{bytes_eq}
+use Rattle.plan_base.specs.LetterNames.{letter_names}
 use Rattle.mode_expression.specs.declared.letter.Letter.{Letter}
 use Rattle.mode_expression.specs.declared.letter.Letter.TheVariants.{Foot, Bike, Car, Tram, Metro, Rail, Bus, Ferry, Cable, Lift, Funicular, Trolley, Monorail, Other}
-
--- the names of the letters 0 to 13
-abbrev pub letter_names : List (List ℕ)
-letter_names =
-    codes "foot" ∷ codes "bike" ∷ codes "car" ∷ codes "tram" ∷ codes "metro" ∷ codes "rail" ∷ codes "bus" ∷ codes "ferry"
-    ∷ codes "cable" ∷ codes "lift" ∷ codes "funicular" ∷ codes "trolley" ∷ codes "monorail" ∷ codes "other" ∷ []
 
 abbrev pub number_of : Letter → ℕ
 number_of Foot = 0

@@ -3,7 +3,7 @@ use Rattle.std.specs.Prelude.{◌≡◌, ℕ, ◌+◌, ◌≤◌, ◌<◌, ◌^�
 use Rattle.mode_expression.specs.declared.fault.ExprFault.{ExprFault}
 use Rattle.mode_expression.specs.declared.fault.ExprFault.TheVariants.{TooLong, TooDeep, Syntax, TooLarge, OutOfMemory}
 use Rattle.mode_expression.specs.declared.token.Token.{Token}
-use Rattle.mode_expression.specs.Form.{Form, places}
+use Rattle.mode_expression.specs.Form.{Form, IsUsable, places}
 use Rattle.mode_expression.specs.Grammar.{IsSentence, BeginsSentence}
 use Rattle.mode_expression.specs.Tokens.{Placed, tokens_of}
 use Rattle.mode_expression.specs.Machine.{start, read_from}
@@ -79,6 +79,10 @@ OutcomeIsUnique = (text : List ℕ) (one other : Result Form ExprFault) → IsOu
 -- and each gives one
 abbrev pub OutcomeExists : Type 0
 OutcomeExists = (text : List ℕ) → (outcome : Result Form ExprFault) × IsOutcome text outcome
+
+-- a text spells only what an automaton can be made of
+abbrev pub ExpressionsAreUsable : Type 0
+ExpressionsAreUsable = (text : List ℕ) (form : Form) → IsExpression text form → IsUsable form
 
 -- the fault is the one that reading the text gives, or memory was refused
 abbrev pub ReadsAs : List ℕ → ExprFault → Type 0

@@ -1,5 +1,6 @@
 ghost use Rattle.std.specs.Prelude.{◌≡◌, ◌<◌, ◌↔◌, Some, IsTrue, slice_get, option_map};
-ghost use Rattle.mode_expression.specs.Letters.{letter_named, letter_names, letter_numbered};
+ghost use Rattle.plan_base.specs.LetterNames.{letter_names};
+ghost use Rattle.mode_expression.specs.Letters.{letter_named, letter_numbered};
 ghost use Rattle.mode_expression.specs.Letters.{number_of};
 
 /// A means of transport, by the number under which words and sets of letters hold it.

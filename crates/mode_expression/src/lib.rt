@@ -15,7 +15,7 @@ mod token;
 pub use expr::Expr;
 pub use fault::ExprFault;
 pub use letter::Letter;
-pub use parsing::{outcome_is_unique, parse};
+pub use parsing::{expressions_are_usable, outcome_is_unique, parse};
 
 #[cfg(test)]
 mod tests;

@@ -1,7 +1,7 @@
 ghost use Rattle.std.specs.Prelude.{◌≡◌, ◌⊎◌, IfOk, IfErr, Ok};
 ghost use Rattle.mode_expression.specs.Form.{form_of, IsUsable};
 ghost use Rattle.mode_expression.specs.Reading.{IsExpression, IsFault, reading_of, ReadsAs};
-ghost use Rattle.mode_expression.specs.Reading.{OutcomeIsUnique, OutcomeExists};
+ghost use Rattle.mode_expression.specs.Reading.{ExpressionsAreUsable, OutcomeIsUnique, OutcomeExists};
 
 use crate::expr::Expr;
 use crate::fault::ExprFault;
@@ -71,4 +71,10 @@ pub fn parse(alloc: Global, text: &[u8]) -> Result<Expr, ExprFault>
 pub fn outcome_is_unique()
     ensures unique { OutcomeIsUnique }
     ensures exists { OutcomeExists }
+{}
+
+/// What a text spells is usable: its letters are among the fourteen, its repetitions are those that a suffix may say,
+/// and it has at most 200 places of letters.
+pub fn expressions_are_usable()
+    ensures { ExpressionsAreUsable }
 {}

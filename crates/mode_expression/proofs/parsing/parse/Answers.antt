@@ -1,7 +1,7 @@
 use Rattle.std.proofs.Common.{inr, arith}
 use Rattle.std.proofs.lemmas.Result.{err_from_is_err_and}
 use Rattle.mode_expression.specs.Form.{form_of}
-use Rattle.mode_expression.proofs.ParseLemmas.{spells_of_reading, formed_of_reading, fault_of_reading}
+use Rattle.mode_expression.proofs.ParseLemmas.{spells_of_reading, expressions_are_usable, fault_of_reading}
 use Rattle.mode_expression.proofs.parsing.parse.Goals as goal
 
 pub returns-in_err-expr-clause-fault : goal.returns-in_err-expr-clause-fault
@@ -30,7 +30,4 @@ returns-clause-expression c =
     }
 
 pub returns-clause-usable : goal.returns-clause-usable
-returns-clause-usable c = record {
-  formed = formed_of_reading c.args.text.now (form_of c.in_ok-expr.expr) c.in_ok-expr.ensures.read;
-  small = omega (arith, c.places-places.ensures);
-}
+returns-clause-usable c = expressions_are_usable c.args.text.now (form_of c.in_ok-expr.expr) (returns-clause-expression c)
