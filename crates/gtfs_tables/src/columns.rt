@@ -106,6 +106,42 @@ impl Column {
             Column::DropOffType => "drop_off_type",
         }
     }
+
+    /// What a field of this column must be, in words.
+    pub fn form(self) -> &'static str {
+        match self {
+            Column::AgencyTimezone
+            | Column::StopId
+            | Column::RouteId
+            | Column::ServiceId
+            | Column::TripId => "one or more bytes of UTF-8",
+            Column::LocationType => "empty, or a digit from 0 to 4",
+            Column::StopLat => "degrees from -90 to 90, as 52.5163",
+            Column::StopLon => "degrees from -180 to 180, as 13.3777",
+            Column::RouteType | Column::StopSequence => "a number of 1 to 9 digits",
+            Column::StartDate | Column::EndDate | Column::Date => "a date, as 20240304",
+            Column::ExceptionType => "1 or 2",
+            Column::StartTime | Column::EndTime => "a time up to 167:59:59, as 08:05:00",
+            Column::ArrivalTime | Column::DepartureTime => {
+                "empty, or a time up to 167:59:59, as 08:05:00"
+            }
+            Column::HeadwaySecs => "a number of 1 to 9 digits, and not zero",
+            Column::ExactTimes => "empty, 0 or 1",
+            Column::PickupType | Column::DropOffType => "empty, or a digit from 0 to 3",
+            _ => "0 or 1",
+        }
+    }
+
+    /// The file whose rows have this column as their key, where it is an id of a row.
+    pub fn table(self) -> &'static str {
+        match self {
+            Column::StopId => "stops.txt, and one of a stop",
+            Column::RouteId => "routes.txt",
+            Column::TripId => "trips.txt",
+            Column::ServiceId => "calendar.txt or calendar_dates.txt",
+            _ => "its table",
+        }
+    }
 }
 
 fn has_name(header: &ByteRecord, place: usize, name: &[u8]) -> bool

@@ -27,32 +27,32 @@ pub enum FeedFault {
         column: Column,
     },
     /// A row's field is not of its form: the first such column. Rows count from 1 at the header.
-    #[error("{}, row {row}: the field of {} is not of its form", .file.name(), .column.name())]
+    #[error("{}, row {row}: {} must be {}", .file.name(), .column.name(), .column.form())]
     BadField {
         file: FeedFile,
         row: u64,
         column: Column,
     },
     /// A row has the key of an earlier row of its file.
-    #[error("{}, row {row}: an earlier row has the same key", .file.name())]
+    #[error("{}, row {row}: an earlier row has the same key, and no two rows may", .file.name())]
     RepeatedKey {
         file: FeedFile,
         row: u64,
     },
     /// A row has an id of another table that is no key there: the first such column.
-    #[error("{}, row {row}: the id of {} is not in its table", .file.name(), .column.name())]
+    #[error("{}, row {row}: {} must be an id of {}", .file.name(), .column.name(), .column.table())]
     DanglingKey {
         file: FeedFile,
         row: u64,
         column: Column,
     },
     /// A row of agency.txt has another time zone than the first.
-    #[error("agency.txt, row {row}: the time zone is not that of the first row")]
+    #[error("agency.txt, row {row}: agency_timezone must be that of the first row")]
     MixedZones {
         row: u64,
     },
     /// With a row there are more stops, routes, services, dates, trips or calls than the limits allow.
-    #[error("there are too many of these: {kind:?}")]
+    #[error("too many {}: there may be {} at most", .kind.name(), .kind.most())]
     TooMany {
         kind: Kind,
     },
