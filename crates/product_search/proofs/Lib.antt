@@ -12,7 +12,7 @@ mod TrailLemmas
 mod ListLemmas
 mod CheckLemmas
 mod StartLemmas
-mod BoundLemmas
+pub mod BoundLemmas
 mod ClosureLemmas
 mod LetterLemmas
 mod MoveLemmas
