@@ -9,3 +9,6 @@ pub mod CopyLemmas
 pub mod ExpressionLines
 pub mod LineLemmas
 pub mod ReadingLemmas
+pub mod TextParts
+pub mod NodeTexts
+pub mod AlikeLemmas

@@ -32,7 +32,7 @@ day_below days day k lt has = by_place (nat_lt day k) refl
         absurd (omega (arith, none, one))
 
 -- a trip of the network breaks no rule
-kept_trip : (n : NetworkLists) → IsNetwork n → (place : ℕ) (trip : TripLists) → slice_get n.trips place ≡ Some trip → IsKeptTrip (length n.days.bases) (length n.stops) trip
+pub kept_trip : (n : NetworkLists) → IsNetwork n → (place : ℕ) (trip : TripLists) → slice_get n.trips place ≡ Some trip → IsKeptTrip (length n.days.bases) (length n.stops) trip
 kept_trip n network place trip is =
     subst (IsKeptTrip (length n.days.bases) (length n.stops)) (get_or_from_slice_get n.trips place trip trip is)
     (trips_kept (length n.days.bases) (length n.stops) 0 n.trips network.trips_fit.faultless place trip (slice_get_within n.trips place trip is))

@@ -1,14 +1,18 @@
 -- Which journeys answer a query, and which answer is the best.
-use Rattle.std.specs.Prelude.{◌≡◌, ℕ, ◌≤◌, ◌⊎◌, List, codes}
+use Rattle.std.specs.Prelude.{◌≡◌, ℕ, ◌≤◌, List}
 use Rattle.plain_texts.specs.Lines.{with_feed}
-use Rattle.mode_expression.specs.Form.{Form, IsWordOf}
+use Rattle.mode_expression.specs.Form.{Form, form_of, IsWordOf}
 use Rattle.mode_network.specs.declared.endpoints.Endpoint.{Endpoint}
 use Rattle.mode_network.specs.NetworkLists.{NetworkLists}
 use Rattle.mode_network.specs.Journeys.{Route, IsJourney}
 use Rattle.mode_network.specs.Copies.{IsCopy}
+use Rattle.journey.specs.declared.answer.BlockBody.{BlockBody}
+use Rattle.journey.specs.declared.answer.BlockBody.TheVariants.{Journey, Nothing, Refused}
 use Rattle.journey.specs.declared.fault.QueryFault.{QueryFault}
+use Rattle.journey.specs.declared.query.Query.{Query}
 use Rattle.journey.specs.Queries.{IsQuery, IsRefused}
-use Rattle.journey.specs.Texts.{IsJourneyText, refusal_text, block_text}
+use Rattle.journey.specs.Blocks.{IsBlockText}
+use Rattle.journey.specs.Texts.{refusal_text, block_text}
 
 -- what is asked: journeys from a copy of one endpoint to a copy of another, at a time or later, with a word of a form
 pub record Asked : Type 0 where
@@ -16,6 +20,10 @@ pub record Asked : Type 0 where
   pub to : Endpoint
   pub depart : ℕ
   pub form : Form
+
+-- what a query asks
+abbrev pub asked_by : Query → Asked
+asked_by q = record { from = q.from; to = q.to; depart = q.depart; form = form_of q.expr }
 
 -- the journey is real, goes from a copy of the origin at the departure or later to a copy of the destination, arrives then, and the expression denotes its word
 pub record Answers (n : NetworkLists) (q : Asked) (j : Route) (arrival : ℕ) : Type 0 where
@@ -47,23 +55,14 @@ pub record IsRefusedBlock (n : NetworkLists) (line block : List ℕ) : Type 0 wh
   pub refused : IsRefused n line fault
   pub block_is : block ≡ block_text line (with_feed (refusal_text fault))
 
--- the block of a line with a best journey
-pub record IsBestBlock (n : NetworkLists) (line block : List ℕ) : Type 0 where
-  pub asked : Asked
-  pub asks : Asks n line asked
-  pub journey : Route
-  pub best : IsBest n asked journey
-  pub text : List ℕ
-  pub told : IsJourneyText n journey text
-  pub block_is : block ≡ block_text line text
-
--- the block of a line that no journey answers
-pub record IsEmptyBlock (n : NetworkLists) (line block : List ℕ) : Type 0 where
-  pub asked : Asked
-  pub asks : Asks n line asked
-  pub none : HasNone n asked
-  pub block_is : block ≡ block_text line (with_feed (codes "no journey"))
+-- what is right to say of a line: a best journey, that there is none, or the fault with which the line is refused
+abbrev pub IsRightBody : NetworkLists → List ℕ → BlockBody → Type 0
+IsRightBody n line (Journey j) = (asked : Asked) × Asks n line asked × IsBest n asked j
+IsRightBody n line Nothing = (asked : Asked) × Asks n line asked × HasNone n asked
+IsRightBody n line (Refused fault) = IsRefused n line fault
 
 -- the right block of a query line
-abbrev pub IsBlock : NetworkLists → List ℕ → List ℕ → Type 0
-IsBlock n line block = IsRefusedBlock n line block ⊎ IsBestBlock n line block ⊎ IsEmptyBlock n line block
+pub record IsBlock (n : NetworkLists) (line block : List ℕ) : Type 0 where
+  pub body : BlockBody
+  pub right : IsRightBody n line body
+  pub tells : IsBlockText n line body block

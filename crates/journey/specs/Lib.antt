@@ -12,3 +12,4 @@ pub mod Telling
 pub mod Blocks
 pub mod Best
 pub mod Reading
+pub mod Alike
