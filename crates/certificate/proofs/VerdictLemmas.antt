@@ -11,7 +11,8 @@ use Rattle.journey.specs.declared.query.Query.{Query}
 use Rattle.journey.specs.declared.verdict.CertVerdict.TheVariants.{Valid, Invalid}
 use Rattle.journey.specs.CopyLists.{AreTheCopies}
 use Rattle.certificate.specs.declared.walked.Walked.{Walked}
-use Rattle.certificate.specs.Verdicts.{asked_by, AreDenoted, StartsWell, FailsFirst, IsFirstFailing, IsJourneyVerdict}
+use Rattle.journey.specs.Best.{asked_by}
+use Rattle.certificate.specs.Verdicts.{AreDenoted, StartsWell, FailsFirst, IsFirstFailing, IsJourneyVerdict}
 use Rattle.certificate.specs.StateSets.{AreAfter}
 use Rattle.certificate.specs.Walked.{IsWalkedTo}
 

@@ -9,17 +9,22 @@ use Rattle.product_search.specs.declared.label.Label.{Label}
 use Rattle.product_search.specs.declared.verdict.LabelVerdict.{LabelVerdict}
 use Rattle.product_search.specs.declared.verdict.LabelVerdict.TheVariants.{Closed, Open}
 use Rattle.product_search.specs.Closed.{IsVerdict, NoneArrivesBefore}
+use Rattle.product_search.proofs.BoundLemmas.{bound}
 use Rattle.automaton.specs.declared.positions.Positions.{Positions}
 use Rattle.automaton.specs.Meanings.{position_meaning}
 use Rattle.automaton.specs.Written.{written}
 use Rattle.automaton.specs.States.{IsPositionAutomaton}
 use Rattle.automaton.specs.Collapsed.{collapsed, AcceptsCollapsed}
+use Rattle.automaton.proofs.AcceptLemmas.{collapsed_accept}
 use Rattle.plain_graph.specs.PlainArcs.{plain_meaning}
 use Rattle.plain_graph.specs.Simulation.{JourneysAreWalks}
+use Rattle.plain_graph.specs.Lawful.{plain_lawful}
+use Rattle.plain_graph.proofs.Same.{journeys_are_walks}
 use Rattle.timetable_arcs.specs.Patterns.{TableLists}
 use Rattle.timetable_arcs.specs.Table.{IsTable}
 use Rattle.mode_expression.specs.declared.expr.Expr.{Expr}
 use Rattle.mode_expression.specs.Form.{form_of, IsWordOf, Denotes}
+use Rattle.mode_expression.proofs.ParseLemmas.{expressions_are_usable}
 use Rattle.mode_network.specs.NetworkLists.{NetworkLists, nodes_of}
 use Rattle.mode_network.specs.Rules.{IsNetwork}
 use Rattle.mode_network.specs.Timetables.{IsTimetableOf}
@@ -28,10 +33,10 @@ use Rattle.journey.specs.declared.query.Query.{Query}
 use Rattle.journey.specs.declared.verdict.CertVerdict.TheVariants.{Valid, Invalid}
 use Rattle.journey.specs.Queries.{IsQuery}
 use Rattle.journey.specs.CopyLists.{AreTheCopies}
-use Rattle.journey.specs.Best.{Asked, Answers}
+use Rattle.journey.specs.Best.{Asked, Answers, asked_by}
 use Rattle.certificate.specs.Certificates.{Claim}
-use Rattle.certificate.specs.Valid.{Setting, ResultHolds, claimed_arrival, IsBestResult}
-use Rattle.certificate.specs.Verdicts.{asked_by, claim_on, AreDenoted, IsResultVerdict, IsCertVerdict, as_verdict}
+use Rattle.certificate.specs.Valid.{Setting, ResultHolds, claimed_arrival, IsBestResult, ValidProves}
+use Rattle.certificate.specs.Verdicts.{claim_on, AreDenoted, IsResultVerdict, IsCertVerdict, as_verdict}
 
 -- ---- how many copies there are
 
@@ -70,10 +75,6 @@ phases_fail n c q asks phases = inr (inl (record { clause_is = refl; place = ref
 pub claim_is : (c : Claim) (q : Query) (line : List ℕ) (phases : Bool) (result : Option (ℕ × Route)) (labels : List Label)
     → (let parts : Claim = record { line = line; phases = phases; result = result; labels = labels } in parts ≡ c) → q.line ≡ line → phases ≡ false → claim_on q result labels ≡ c
 claim_is c q line phases result labels view same plain = cc
-
-pub closed_of : (verdict : LabelVerdict) → as_verdict verdict ≡ Valid → verdict ≡ Closed
-closed_of Closed e = refl
-closed_of (Open clause at) e = cc
 
 result_holds : (n : NetworkLists) (q : Asked) (result : Option (ℕ × Route)) → IsResultVerdict n q result Valid → ResultHolds n q result
 result_holds n q None verdict = tt
@@ -122,8 +123,22 @@ module _ (n : NetworkLists) (table : TableLists) (q : Asked) (l : LabelsMeaning)
         word = subst (Accepts l) (sym walk.word) ((denotes a.real.letters).1 (subst (IsWordOf q.form) a.real.word_is a.denoted));
       }
 
-  pub best_result : (result : Option (ℕ × Route)) → IsResultVerdict n q result Valid
+  pub best_result : (result : Option (ℕ × Route)) → ResultHolds n q result
       → NoneArrivesBefore (plain_meaning n table) l starts targets q.depart (claimed_arrival result) → IsBestResult n q result
   best_result None holds bound = λ k t a. bound k.at t a.not_before (arrives k t a)
   best_result (Some claimed) holds bound =
       (record { arrival = claimed.0; answers = holds; least = λ k t a. bound k.at t a.not_before (arrives k t a) }, refl)
+
+pub valid_proves : ValidProves
+valid_proves n network c valid =
+    let s = valid.setting in
+    let asked = s.asked in
+    let usable = expressions_are_usable s.asks.shape.expr asked.form s.asks.expression in
+    let denotes = collapsed_accept asked.form usable s.automaton s.lawful s.positions in
+    let none = bound (plain_meaning n s.table) (plain_lawful n network s.table s.keeps s.of) (collapsed s.automaton) s.starts s.targets asked.depart
+    (claimed_arrival c.result) c.labels valid.closed in
+    record {
+      asked = asked;
+      asks = s.asks;
+      best = best_result n s.table asked (collapsed s.automaton) s.starts s.targets denotes (journeys_are_walks n network s.table s.keeps s.of) s.origin s.destination c.result valid.holds none;
+    }

@@ -9,6 +9,7 @@ use Rattle.plain_graph.specs.PlainArcs.{plain_meaning}
 use Rattle.timetable_arcs.specs.Patterns.{TableLists}
 use Rattle.timetable_arcs.specs.Table.{IsTable}
 use Rattle.mode_network.specs.NetworkLists.{NetworkLists}
+use Rattle.mode_network.specs.Rules.{IsNetwork}
 use Rattle.mode_network.specs.Timetables.{IsTimetableOf}
 use Rattle.mode_network.specs.Journeys.{Route}
 use Rattle.journey.specs.CopyLists.{AreTheCopies}
@@ -67,3 +68,7 @@ pub record Proves (n : NetworkLists) (c : Claim) : Type 0 where
   pub asked : Asked
   pub asks : Asks n c.line asked
   pub best : IsBestResult n asked c.result
+
+-- a certificate that is valid proves what it claims
+abbrev pub ValidProves : Type 0
+ValidProves = (n : NetworkLists) → IsNetwork n → (c : Claim) → IsValid n c → Proves n c

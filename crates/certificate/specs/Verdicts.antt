@@ -1,6 +1,6 @@
 -- The first clause of a certificate that fails, at the first place where it does.
 use Rattle.std.specs.Prelude.{◌≡◌, ℕ, ◌≤◌, ◌↔◌, ◌⊎◌, true, false, List, Option, Some, None}
-use Rattle.mode_expression.specs.Form.{Form, form_of, IsWordOf}
+use Rattle.mode_expression.specs.Form.{Form, IsWordOf}
 use Rattle.search_laws.specs.LabelLaws.{LabelsMeaning, Accepts}
 use Rattle.search_laws.specs.Collapse.{collapse}
 use Rattle.product_search.specs.declared.label.Label.{Label}
@@ -23,10 +23,6 @@ use Rattle.journey.specs.Real.{IsFirstBad}
 use Rattle.journey.specs.Best.{Asked, Asks, Answers}
 use Rattle.certificate.specs.Certificates.{Claim}
 use Rattle.certificate.specs.Valid.{Setting, ResultHolds, claimed_arrival, IsValid}
-
--- what a query asks
-abbrev pub asked_by : Query → Asked
-asked_by q = record { from = q.from; to = q.to; depart = q.depart; form = form_of q.expr }
 
 -- what is claimed of a query, by labels of the network's own nodes
 abbrev pub claim_on : Query → Option (ℕ × Route) → List Label → Claim

@@ -17,7 +17,7 @@ mod walked;
 
 pub use certificate::Certificate;
 pub use journey::{CertFault, CertVerdict};
-pub use laws::verdict_is_unique;
+pub use laws::{valid_proves, verdict_is_unique};
 pub use printing::print;
 pub use reading::read;
 pub use verifying::verify;

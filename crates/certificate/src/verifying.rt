@@ -3,13 +3,13 @@
 ghost use Rattle.std.specs.Prelude.{◌≡◌, ◌≤◌, ◌↔◌, ℕ, List, Some, [], Contains, IfOk, IfSome, IsTrue};
 ghost use Rattle.search_laws.specs.LabelLaws.{Accepts};
 ghost use Rattle.mode_expression.specs.Form.{form_of, IsUsable};
-ghost use Rattle.journey.specs.Best.{Asks};
+ghost use Rattle.journey.specs.Best.{Asks, asked_by};
 ghost use Rattle.journey.specs.CopyLists.{AreTheCopies};
 ghost use Rattle.journey.specs.declared.verdict.CertVerdict.TheVariants.{Valid, Invalid};
 ghost use Rattle.journey.specs.Ends.{HasTimes};
 ghost use Rattle.journey.specs.Faults.{number_of};
 ghost use Rattle.certificate.specs.Valid.{HaveTimes, Proves, claimed_arrival};
-ghost use Rattle.certificate.specs.Verdicts.{asked_by, claim_on, AreDenoted, IsCertVerdict, IsJourneyVerdict, IsResultVerdict, IsFirstFailing, as_verdict};
+ghost use Rattle.certificate.specs.Verdicts.{claim_on, AreDenoted, IsCertVerdict, IsJourneyVerdict, IsResultVerdict, IsFirstFailing, as_verdict};
 ghost use Rattle.certificate.specs.StateSets.{AreAfter};
 
 use crate::certificate::Certificate;

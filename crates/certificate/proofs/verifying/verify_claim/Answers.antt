@@ -5,8 +5,9 @@ use Rattle.automaton.specs.Written.{written}
 use Rattle.automaton.specs.States.{IsPositionAutomaton}
 use Rattle.automaton.specs.Collapsed.{collapsed}
 use Rattle.mode_expression.specs.Form.{form_of}
-use Rattle.certificate.specs.Verdicts.{asked_by, claim_on}
-use Rattle.certificate.proofs.VerifyLemmas.{few_copies, automaton_denotes, labels_judged, closed_of, best_result}
+use Rattle.journey.specs.Best.{asked_by}
+use Rattle.certificate.specs.Verdicts.{IsCertVerdict, claim_on}
+use Rattle.certificate.proofs.VerifyLemmas.{few_copies, automaton_denotes, labels_judged, valid_proves}
 use Rattle.certificate.proofs.verifying.verify_claim.Goals as goal
 
 pub result_verdict-requires-clause-denotes : goal.result_verdict-requires-clause-denotes
@@ -30,13 +31,5 @@ returns-clause-verdict c =
 pub returns-clause-proves : goal.returns-clause-proves
 returns-clause-proves c = λ valid.
     let q = c.args.query.now in
-    let closed = closed_of c.check_labels-verdict.result (sym c.as_verdict.ensures ∙ valid) in
-    let bound = rw (c.new-plain.ensures.network, c.deref-3.ensures.value, c.deref-4.ensures.value, c.claimed_arrival-arrival.ensures) at (c.check_labels-verdict.ensures.bound closed) in
-    let denotes = automaton_denotes q.expr c.new-automaton.result.inner _ c.new-automaton.ensures.same c.new-automaton.ensures.accepts c.in_ok-of.ensures.accepts in
-    record {
-      asked = asked_by q;
-      asks = c.requires.asks;
-      best = best_result c.args.network.now c.new-plain.result.timetable.now (asked_by q) (collapsed (position_meaning c.new-automaton.result.inner))
-          c.in_ok-starts.starts.items c.in_ok-targets.targets.items denotes c.new-plain.ensures.journeys c.in_ok-starts.ensures.are c.in_ok-targets.ensures.are
-          c.args.claimed.now c.in_default.ensures bound;
-    }
+    let claim = claim_on q c.args.claimed.now c.args.labels.now in
+    valid_proves c.args.network.now c.known.ensures claim (subst (IsCertVerdict c.args.network.now claim) valid (returns-clause-verdict c))
