@@ -220,5 +220,8 @@ fn limits_up_to_the_greatest(rt: HostRuntime) -> Result<(), Fail> {
     assert_eq!(rt; small.stops, 3);
     assert_eq!(rt; small.nodes, Caps::FULL.nodes);
     assert_eq!(rt; small.dates, 16_777_216);
+    assert_eq!(rt; small.most(Kind::Stops), 3);
+    assert_eq!(rt; Kind::Stops.most(), 1_048_576);
+    assert_eq!(rt; Kind::Arcs.name(), "road arcs");
     Ok(())
 }
