@@ -3,11 +3,11 @@ use Rattle.std.proofs.Common.{◌≡◌, ℕ, ◌+◌, List, [], ◌∷◌, ◌+
 use Rattle.std.specs.Prelude.{IfOk, option_map}
 use Rattle.std.specs.Cmp.{IsEquivalence}
 use Rattle.std.specs.List.{list_any, cons_option, AllByRecursion, IsDistinct}
-use Rattle.std.specs.Option.{ok_or}
+use Rattle.std.specs.Option.{ok_or, option_or}
 use Rattle.std.proofs.lemmas.Result.{IfOk-at_ok}
 use Rattle.std.proofs.lemmas.Map.Keys.{IsDistinct-push}
 use Rattle.gtfs_tables.specs.declared.columns.Column.{Column}
-use Rattle.gtfs_tables.specs.Answers.{◌>>=◌, or_else, faultless}
+use Rattle.gtfs_tables.specs.Answers.{◌>>=◌, faultless}
 use Rattle.gtfs_tables.specs.Columns.{Row}
 use Rattle.gtfs_tables.specs.Holding.{AreRead}
 use Rattle.gtfs_tables.specs.Tables.{Table, first_dangling, row_fault, judged, row_of, rows_behind, header_in, rows_below, missing_column, rows_of}
@@ -39,7 +39,7 @@ no_fault : {A E : Type 0} (o : Option E) (a b : A) → faultless o a ≡ Ok b �
 no_fault None a b e = (refl, same_Ok a b e)
 no_fault (Some fault) a b e = absurd cc
 
-neither : {E : Type 0} (o p : Option E) → or_else o p ≡ None → (o ≡ None) × (p ≡ None)
+neither : {E : Type 0} (o p : Option E) → option_or o p ≡ None → (o ≡ None) × (p ≡ None)
 neither None p e = (refl, e)
 neither (Some fault) p e = absurd cc
 

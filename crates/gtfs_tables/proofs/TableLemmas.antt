@@ -1,5 +1,6 @@
 -- How rows join the earlier ones.
 use Rattle.std.proofs.Common.{◌≡◌, ℕ, ◌+◌, ◌<◌, List, [], ◌∷◌, ◌++◌, map, length, filter_map, refl, sym, ap, subst, ◌∙◌, Bool, true, false, cond, ◌||◌, nat_lt, Option, None, Some, Ok, Err, arith}
+use Rattle.std.specs.Option.{option_or}
 use Rattle.std.specs.Prelude.{option_map, option_to_list}
 use Rattle.std.specs.List.{list_any, cons_option}
 use Rattle.std.proofs.lemmas.Bool.{cond-true, cond-false}
@@ -10,7 +11,7 @@ use Rattle.plan_base.specs.declared.limits.Kind.{Kind}
 use Rattle.gtfs_tables.specs.declared.columns.Column.{Column}
 use Rattle.gtfs_tables.specs.declared.faults.FeedFault.{FeedFault}
 use Rattle.gtfs_tables.specs.declared.faults.FeedFault.TheVariants.{MissingFile, MissingColumn, BadField, RepeatedKey, DanglingKey, MixedZones, TooMany, OutOfMemory}
-use Rattle.gtfs_tables.specs.Answers.{◌>>=◌, or_else, faultless, IsFaultOf, IsWantOr}
+use Rattle.gtfs_tables.specs.Answers.{◌>>=◌, faultless, IsFaultOf, IsWantOr}
 use Rattle.gtfs_tables.specs.Columns.{Row}
 use Rattle.gtfs_tables.specs.Tables.{IsWithin, Table, limit_fault, first_dangling, has_first_zone, row_fault, judged, row_of, rows_behind, given, header_in, rows_below, missing_column, records_of, rows_of}
 use Rattle.gtfs_tables.specs.Holding.{Holds, HoldsListed, IsTaken, AreTaken, IsOnTheWay, AreRead}
@@ -36,9 +37,9 @@ module _ {F R : Type 0} (t : Table F R) (header : Row) (earlier : List F) (row :
     is_judged = row_is ∙ ap (judged t n earlier) is
 
     by_key : (known : Bool) → list_any (t.has_key_of f) earlier ≡ known
-        → row_of t header earlier row ≡ faultless (or_else (cond known (Some (RepeatedKey t.file n)) None) (or_else (option_map (DanglingKey t.file n) (first_dangling (t.refers f))) (or_else (cond (has_first_zone t earlier f) None (Some (MixedZones n)))
+        → row_of t header earlier row ≡ faultless (option_or (cond known (Some (RepeatedKey t.file n)) None) (option_or (option_map (DanglingKey t.file n) (first_dangling (t.refers f))) (option_or (cond (has_first_zone t earlier f) None (Some (MixedZones n)))
         (limit_fault t.limit (length (filter_map t.gives (earlier ++ f ∷ []))))))) f
-    by_key known e = subst (λ known. row_of t header earlier row ≡ faultless (or_else (cond known (Some (RepeatedKey t.file n)) None) (or_else (option_map (DanglingKey t.file n) (first_dangling (t.refers f))) (or_else (cond (has_first_zone t earlier f) None (Some (MixedZones n)))
+    by_key known e = subst (λ known. row_of t header earlier row ≡ faultless (option_or (cond known (Some (RepeatedKey t.file n)) None) (option_or (option_map (DanglingKey t.file n) (first_dangling (t.refers f))) (option_or (cond (has_first_zone t earlier f) None (Some (MixedZones n)))
         (limit_fault t.limit (length (filter_map t.gives (earlier ++ f ∷ []))))))) f) e is_judged
 
     pub repeated : list_any (t.has_key_of f) earlier ≡ true → row_of t header earlier row ≡ Err (RepeatedKey t.file n)
@@ -46,11 +47,11 @@ module _ {F R : Type 0} (t : Table F R) (header : Row) (earlier : List F) (row :
 
     module _ (new : list_any (t.has_key_of f) earlier ≡ false) where
       pub dangling : (column : Column) → first_dangling (t.refers f) ≡ Some column → row_of t header earlier row ≡ Err (DanglingKey t.file n column)
-      dangling column lost = by_key false new ∙ ap (λ o. faultless (or_else (option_map (DanglingKey t.file n) o) (or_else (cond (has_first_zone t earlier f) None (Some (MixedZones n)))
+      dangling column lost = by_key false new ∙ ap (λ o. faultless (option_or (option_map (DanglingKey t.file n) o) (option_or (cond (has_first_zone t earlier f) None (Some (MixedZones n)))
           (limit_fault t.limit (length (filter_map t.gives (earlier ++ f ∷ [])))))) f) lost
 
       module _ (known : first_dangling (t.refers f) ≡ None) where
-        by_zone : (same : Bool) → has_first_zone t earlier f ≡ same → row_of t header earlier row ≡ faultless (or_else (cond same None (Some (MixedZones n)))
+        by_zone : (same : Bool) → has_first_zone t earlier f ≡ same → row_of t header earlier row ≡ faultless (option_or (cond same None (Some (MixedZones n)))
             (limit_fault t.limit (length (filter_map t.gives (earlier ++ f ∷ []))))) f
         by_zone same e = by_key false new ∙ rw (known, e) refl
 

@@ -9,11 +9,6 @@ abbrev pub ◌>>=◌ : {A B E : Type 0} → Result A E → (A → Result B E) �
 Ok a >>= f = f a
 Err e >>= f = Err e
 
--- this fault, or else the other
-abbrev pub or_else : {E : Type 0} → Option E → Option E → Option E
-or_else (Some fault) other = Some fault
-or_else None other = other
-
 -- the value, where there is no fault
 abbrev pub faultless : {A E : Type 0} → Option E → A → Result A E
 faultless None a = Ok a

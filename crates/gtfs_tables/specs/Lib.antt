@@ -1,3 +1,4 @@
+-- What a feed means: Feeds, with a page for each table, and Sound. RowsLeft and Holding tell what is kept while rows are read.
 pub mod Answers
 pub mod Columns
 pub mod Files

@@ -1,6 +1,7 @@
 -- A table of a feed is a file of comma-separated values whose first row, the header, names the columns. What is
 -- told here holds of every table; the tables differ in their columns, their keys and what they refer to.
 use Rattle.std.specs.Prelude.{ℕ, ◌+◌, ◌≤◌, List, [], ◌∷◌, ◌++◌, length, filter_map, Bool, true, nat_lt, Option, None, Some, option_map, Result, Ok, Err, if◌then◌else◌}
+use Rattle.std.specs.Option.{option_or}
 use Rattle.std.specs.List.{list_any}
 use Rattle.csv.specs.Reading.{default_config, records, strip_bom}
 use Rattle.plan_base.specs.declared.limits.Kind.{Kind}
@@ -8,7 +9,7 @@ use Rattle.gtfs_tables.specs.declared.columns.Column.{Column}
 use Rattle.gtfs_tables.specs.declared.files.FeedFile.{FeedFile}
 use Rattle.gtfs_tables.specs.declared.faults.FeedFault.{FeedFault}
 use Rattle.gtfs_tables.specs.declared.faults.FeedFault.TheVariants.{MissingColumn, BadField, RepeatedKey, DanglingKey, MixedZones, TooMany}
-use Rattle.gtfs_tables.specs.Answers.{◌>>=◌, or_else, faultless}
+use Rattle.gtfs_tables.specs.Answers.{◌>>=◌, faultless}
 use Rattle.gtfs_tables.specs.Columns.{Row, first_missing}
 
 -- the rules of a table whose rows say an F each, and give a record R or nothing
@@ -50,9 +51,9 @@ limit_fault (Some limit) count = if nat_lt limit.1 count then Some (TooMany limi
 -- the fault of the row of this number behind the earlier rows of its table
 abbrev pub row_fault : {F R : Type 0} → Table F R → ℕ → List F → F → Option FeedFault
 row_fault t n earlier f =
-    or_else (if list_any (t.has_key_of f) earlier then Some (RepeatedKey t.file n) else None)
-    (or_else (option_map (DanglingKey t.file n) (first_dangling (t.refers f)))
-    (or_else (if has_first_zone t earlier f then None else Some (MixedZones n))
+    option_or (if list_any (t.has_key_of f) earlier then Some (RepeatedKey t.file n) else None)
+    (option_or (option_map (DanglingKey t.file n) (first_dangling (t.refers f)))
+    (option_or (if has_first_zone t earlier f then None else Some (MixedZones n))
     (limit_fault t.limit (length (filter_map t.gives (earlier ++ f ∷ []))))))
 
 -- what the row of this number says, or its fault

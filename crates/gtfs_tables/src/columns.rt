@@ -135,7 +135,7 @@ impl Column {
     /// The file whose rows have this column as their key, where it is an id of a row.
     pub fn table(self) -> &'static str {
         match self {
-            Column::StopId => "stops.txt, and one of a stop",
+            Column::StopId => "stops.txt whose location_type is empty or 0",
             Column::RouteId => "routes.txt",
             Column::TripId => "trips.txt",
             Column::ServiceId => "calendar.txt or calendar_dates.txt",

@@ -286,3 +286,16 @@ fn faults_of_headways(rt: HostRuntime) {
         assert_eq!(rt; fault_of(rt.alloc(), &files, &Caps::FULL), Some(fault));
     }
 }
+
+#[test]
+fn faults_tell_what_would_be_right(rt: HostRuntime) -> Result<(), Fail> {
+    let fault = FeedFault::BadField {
+        file: FeedFile::Stops,
+        row: 3,
+        column: Column::StopLat,
+    };
+    let text = format!(in rt.alloc(); "{fault}")?;
+    let wanted = b"stops.txt, row 3: stop_lat must be degrees from -90 to 90, as 52.5163";
+    assert!(rt; text.as_bytes() == wanted.as_slice());
+    Ok(())
+}

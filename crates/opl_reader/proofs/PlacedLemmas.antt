@@ -1,5 +1,6 @@
 -- Which nodes have a place, and that no two visible nodes have one id.
 use Rattle.std.proofs.Common.{◌≡◌, List, [], ◌∷◌, ◌++◌, map, refl, sym, ap, subst, ◌∙◌, Bool, true, false, cond, ◌||◌, append_assoc, ℤ, Option, Some, None, is_some, filter_map, option_map}
+use Rattle.std.specs.Option.{option_or}
 use Rattle.std.specs.Prelude.{unwrap_or}
 use Rattle.std.specs.List.{list_any, cons_option, AllByRecursion, IsDistinct}
 use Rattle.std.specs.Map.{lookup}
@@ -16,7 +17,7 @@ use Rattle.opl_reader.specs.declared.lines.Line.{Line}
 use Rattle.opl_reader.specs.declared.lines.Line.TheVariants.{Passed, Bad, Node, Way}
 use Rattle.opl_reader.specs.declared.lines.NodeLine.{NodeLine}
 use Rattle.opl_reader.specs.ObjectLists.{is_placed}
-use Rattle.opl_reader.specs.Objects.{nodes_on, ways_on, placed, placed_on, has_node, fault_behind, first_fault, or_else, cut_way, objects_on}
+use Rattle.opl_reader.specs.Objects.{nodes_on, ways_on, placed, placed_on, has_node, fault_behind, first_fault, cut_way, objects_on}
 use Rattle.opl_reader.specs.Gathered.{is_seen_placed, objects_from}
 use Rattle.opl_reader.proofs.SeenLemmas.{seen, gathered_on, nodes_more}
 
@@ -54,7 +55,7 @@ has_node_is : (nodes : List NodeLine) (id : ℤ) → list_any (int_eq id) (map n
 has_node_is [] id = refl
 has_node_is (node ∷ nodes) id = ap (λ t. int_eq id node.id || t) (has_node_is nodes id)
 
-none_either : (o p : Option OplFault) → or_else o p ≡ None → (o ≡ None) × (p ≡ None)
+none_either : (o p : Option OplFault) → option_or o p ≡ None → (o ≡ None) × (p ≡ None)
 none_either None p e = (refl, e)
 none_either (Some fault) p e = absurd cc
 

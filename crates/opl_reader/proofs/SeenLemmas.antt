@@ -1,5 +1,6 @@
 -- What is gathered, told by the lines.
 use Rattle.std.proofs.Common.{◌≡◌, ◌+◌, List, [], ◌∷◌, ◌++◌, length, map, refl, sym, ap, ap₂, ◌∙◌, Bool, ◌||◌, true, false, cond, append_assoc, ℤ, Option, Some, None, Ok, Err, is_some, filter_map, option_to_list, sum_by, add-zero, arith}
+use Rattle.std.specs.Option.{option_or}
 use Rattle.std.specs.Prelude.{nat_lt}
 use Rattle.std.specs.List.{list_any, cons_option}
 use Rattle.std.specs.Map.{lookup}
@@ -16,7 +17,7 @@ use Rattle.opl_reader.specs.declared.lines.Line.{Line}
 use Rattle.opl_reader.specs.declared.lines.Line.TheVariants.{Passed, Bad, Node, Way}
 use Rattle.opl_reader.specs.declared.lines.NodeLine.{NodeLine}
 use Rattle.opl_reader.specs.declared.lines.WayLine.{WayLine}
-use Rattle.opl_reader.specs.Objects.{node_on, way_on, nodes_on, ways_on, placed, placed_on, references_on, has_node, has_way, fault_behind, first_fault, faultless, or_else}
+use Rattle.opl_reader.specs.Objects.{node_on, way_on, nodes_on, ways_on, placed, placed_on, references_on, has_node, has_way, fault_behind, first_fault, faultless}
 use Rattle.opl_reader.specs.Gathered.{GatheredLists, with_line}
 use Rattle.opl_reader.specs.Readers.{on_ok}
 use Rattle.opl_reader.proofs.LineLemmas.{with_lines}
@@ -139,6 +140,6 @@ with_all caps before (line ∷ lines) =
     ap (λ r. on_ok r (λ h. with_lines caps h lines)) (step caps before line) ∙ by_fault (fault_behind caps before line) (with_all caps (before ++ line ∷ []) lines)
   where
     by_fault : (o : Option OplFault) → with_lines caps (gathered_on (before ++ line ∷ [])) lines ≡ faultless (first_fault caps (before ++ line ∷ []) lines) (gathered_on ((before ++ line ∷ []) ++ lines))
-        → on_ok (faultless o (gathered_on (before ++ line ∷ []))) (λ h. with_lines caps h lines) ≡ faultless (or_else o (first_fault caps (before ++ line ∷ []) lines)) (gathered_on (before ++ line ∷ lines))
+        → on_ok (faultless o (gathered_on (before ++ line ∷ []))) (λ h. with_lines caps h lines) ≡ faultless (option_or o (first_fault caps (before ++ line ∷ []) lines)) (gathered_on (before ++ line ∷ lines))
     by_fault None rest = rest ∙ ap (λ all. faultless (first_fault caps (before ++ line ∷ []) lines) (gathered_on all)) (append_assoc before (line ∷ []) lines)
     by_fault (Some fault) rest = refl

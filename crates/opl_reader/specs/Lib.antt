@@ -1,3 +1,5 @@
+-- What a map means: Lines and Objects, with the pages that they cite. Gathered, Readers and Readings tell what is kept while
+-- lines are read.
 pub mod Optional
 pub mod Cuts
 pub mod Ids

@@ -1,5 +1,6 @@
 -- What the lines of a map's text give together: the first fault, or the objects.
 use Rattle.std.specs.Prelude.{ℕ, ◌+◌, List, [], ◌∷◌, ◌++◌, length, map, filter, filter_map, sum_by, ℤ, Bool, not, nat_le, nat_lt, Option, None, Some, option_map, Result, Ok, Err, if◌then◌else◌}
+use Rattle.std.specs.Option.{option_or}
 use Rattle.std.specs.List.{list_any, slice_split}
 use Rattle.std.specs.Ordering.{int_eq}
 use Rattle.plan_base.specs.declared.limits.Caps.{Caps}
@@ -78,15 +79,10 @@ fault_behind caps before (Way way) =
     if has_way (ways_on before) way.id then Some (RepeatedObject (length before + 1))
     else way_limit caps (before ++ Way way ∷ [])
 
--- this fault, or else the other
-abbrev pub or_else : Option OplFault → Option OplFault → Option OplFault
-or_else (Some fault) other = Some fault
-or_else None other = other
-
 -- the fault of the first line that has one, where the lines stand behind others that have none
 abbrev pub first_fault : Caps → List Line → List Line → Option OplFault
 first_fault caps before [] = None
-first_fault caps before (line ∷ lines) = or_else (fault_behind caps before line) (first_fault caps (before ++ line ∷ []) lines)
+first_fault caps before (line ∷ lines) = option_or (fault_behind caps before line) (first_fault caps (before ++ line ∷ []) lines)
 
 -- A way is cut where it names a node without a place. Pieces of two or more nodes remain.
 abbrev pub pieces_by : (ℤ → Bool) → List ℤ → List (List ℤ)

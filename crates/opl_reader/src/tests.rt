@@ -1,5 +1,5 @@
 use super::*;
-use plan_base::Caps;
+use plan_base::{Caps, Kind};
 use std::process::Abort;
 use std::test::Fail;
 
@@ -84,4 +84,12 @@ fn a_fault_is_answered_again(rt: HostRuntime) {
     assert_eq!(rt; opl.feed(b"\n").err(), Some(fault));
     assert_eq!(rt; opl.feed(b"").err(), Some(fault));
     assert_eq!(rt; opl.finish().err(), Some(fault));
+}
+
+#[test]
+fn faults_tell_what_there_may_be(rt: HostRuntime) -> Result<(), Fail> {
+    let fault = OplFault::TooMany { kind: Kind::Ways };
+    let text = format!(in rt.alloc(); "{fault}")?;
+    assert!(rt; text.as_bytes() == b"too many OSM ways: there may be 8388608 at most".as_slice());
+    Ok(())
 }
