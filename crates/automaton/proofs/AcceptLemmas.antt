@@ -1,11 +1,8 @@
 -- Each position automaton of an expression accepts the words that the expression denotes, whatever the order of its moves.
-use Rattle.std.proofs.Common.{◌≡◌, ℕ, ◌<◌, ◌≤◌, ◌↔◌, IsTrue, List, [], ◌∷◌, sym, subst, arith}
+use Rattle.std.proofs.Common.{ℕ, ◌<◌, ◌≤◌, IsTrue, List, [], ◌∷◌, sym, subst, arith}
 use Rattle.search_laws.specs.Collapse.{collapse}
 use Rattle.search_laws.specs.LabelLaws.{LabelsMeaning, IsLawfulLabels, HasMove, Reads, Accepts}
-use Rattle.mode_expression.specs.Form.{Form, IsUsable, IsWordOf}
 use Rattle.automaton.specs.Written.{written, size}
-use Rattle.automaton.specs.States.{IsPositionAutomaton}
-use Rattle.automaton.specs.Collapsed.{collapsed}
 use Rattle.automaton.specs.Languages.{PositionsAccept, CollapsedPositionsAccept}
 use Rattle.automaton.proofs.WrittenLemmas.{denoted_of_written, written_of_denoted, size_written, letters_below}
 use Rattle.automaton.proofs.PositionLemmas.{automaton_of, is_position_automaton, accepts_written, is_lawful}

@@ -1,4 +1,5 @@
--- The collapsed automaton and the automaton of one state keep the laws of automata, and of road letters.
+-- The collapsed automaton keeps the laws of automata, and of road letters. These are proofs, which a ghost field and ghost
+-- members of its type cite; nothing is defined here that a contract means.
 use Rattle.std.proofs.Common.{◌≡◌, ◌≢◌, ℕ, zero, suc, ◌+◌, ◌-◌, ◌*◌, ◌/◌, ◌%◌, ◌^◌, ◌<◌, ◌≤◌, min, Bool, true, false, ◌==◌, nat_lt, ◌⊎◌, bit_and, IsBitSet, if◌then◌else◌, refl, sym, ap, ◌∙◌, subst, inl, inr, lit<, arith}
 use Rattle.std.specs.Int.{bit_at}
 use Rattle.std.proofs.lemmas.Bool.Decides.{nat_tests}

@@ -1,4 +1,5 @@
--- The automaton of one state keeps the laws of automata, and of road letters.
+-- The automaton of one state keeps the laws of automata, and of road letters. These are proofs, which ghost members of its
+-- type cite; nothing is defined here that a contract means.
 use Rattle.std.proofs.Common.{lit<, lit≤, arith}
 use Rattle.search_laws.specs.LabelLaws.{IsLawfulLabels, IsRoadLabels}
 use Rattle.automaton.specs.Collapsed.{one_state}

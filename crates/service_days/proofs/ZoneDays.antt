@@ -15,7 +15,6 @@ use Rattle.service_days.specs.Zones.{AreKept, RefusesLengths, days_in, days_in_r
 use Rattle.service_days.specs.DaysMeaning.{DaysMeaning}
 use Rattle.std.proofs.lemmas.Option.{same_Some}
 use Rattle.jiff_core.specs.declared.civil.datetime.DateTime.{DateTime}
-use Rattle.jiff_tz.specs.declared.posix.TimeZone.{TimeZone}
 use Rattle.service_days.specs.Noons.{CountFromNoons, IsNoonOf}
 use Rattle.service_days.proofs.Noons.{noon_is_instant, zone_again}
 use Rattle.service_days.proofs.DateSteps.{pos-unsigned_abs}
