@@ -1,6 +1,6 @@
 -- A block tells the nodes, times and letters of its journey.
-use Rattle.std.proofs.Common.{◌≡◌, ℕ, zero, suc, ◌+◌, ◌-◌, ◌*◌, ◌^◌, ◌<◌, ◌≤◌, ◌∙◌, ◌==◌, ◌≢◌, Bool, false, List, [], ◌∷◌, ◌++◌, length, Option, Some, None, refl, ap, ap₂, sym, subst, arith, codes, append_assoc, ◌&&◌, nat_le, nat_lt, true}
-use Rattle.std.specs.Prelude.{All, option_to_list, slice_get, slice_index_or, flat_map}
+use Rattle.std.proofs.Common.{◌≡◌, ℕ, suc, ◌+◌, ◌-◌, ◌*◌, ◌^◌, ◌<◌, ◌≤◌, ◌∙◌, ◌==◌, ◌≢◌, false, List, [], ◌∷◌, ◌++◌, length, Option, Some, refl, ap, sym, subst, arith, codes, append_assoc, ◌&&◌, nat_le, nat_lt, true}
+use Rattle.std.specs.Prelude.{All, option_to_list, slice_get, slice_index_or}
 use Rattle.std.specs.List.{list_all}
 use Rattle.std.proofs.lemmas.Bool.{leb-true}
 use Rattle.std.proofs.lemmas.Bool.Decides.{nat_tests}
@@ -14,24 +14,18 @@ use Rattle.service_days.specs.Clock.{clock_text_of}
 use Rattle.service_days.specs.Days.{date_of}
 use Rattle.plain_texts.specs.FixedDecimal.{fixed_decimal}
 use Rattle.search_laws.specs.Collapse.{collapse}
-use Rattle.timetable_arcs.specs.declared.trips.Call.{Call}
 use Rattle.timetable_arcs.specs.Trips.{TripLists}
 use Rattle.timetable_arcs.specs.Patterns.{no_trip}
 use Rattle.timetable_arcs.specs.TripRules.{is_early}
-use Rattle.timetable_arcs.proofs.TripLemmas.{IsKeptTrip, both_true}
+use Rattle.timetable_arcs.proofs.TripLemmas.{both_true}
 use Rattle.mode_network.specs.declared.steps.Step.{Step}
 use Rattle.mode_network.specs.declared.steps.Step.TheVariants.{Wait, Road, Link, Stand, Ride}
-use Rattle.mode_network.specs.NetworkLists.{NetworkLists, nodes_of, mode_at}
-use Rattle.mode_network.specs.Rules.{IsNetwork}
+use Rattle.mode_network.specs.NetworkLists.{NetworkLists, nodes_of}
 use Rattle.mode_network.specs.Copies.{IsCopy}
 use Rattle.mode_network.specs.Journeys.{Route, IsStep, AreSteps, IsJourney}
-use Rattle.mode_network.proofs.RuleLemmas.{some_is}
-use Rattle.journey.specs.declared.answer.BlockBody.TheVariants.{Journey}
 use Rattle.journey.specs.Rides.{KeepsRules}
 use Rattle.journey.specs.Ends.{HasTime}
 use Rattle.journey.specs.Texts.{AreTold, IsJourneyText, step_text, ride_text, place_text, node_text, word_text, letter_text, block_text}
-use Rattle.journey.specs.Blocks.{IsBlockText}
-use Rattle.journey.specs.Best.{IsBest, IsRightBody}
 use Rattle.journey.specs.Alike.{End, AreEnds, AreAlike, IsHeld, BlockFixesItsJourney, EachPrintedIsBest}
 use Rattle.journey.proofs.RideLemmas.{kept_trip}
 use Rattle.journey.proofs.StepLemmas.{step_once, step_in_range, step_in_time, on_time}

@@ -1,6 +1,6 @@
 -- The text of a node tells its number: keys are unique, and no two keys have one text.
-use Rattle.std.proofs.Common.{◌≡◌, ℕ, ℤ, ◌+◌, ◌-◌, ◌^◌, ◌<◌, ◌≤◌, ◌∙◌, ◌⊎◌, inl, inr, List, [], ◌∷◌, ◌++◌, length, length-append, Option, Some, None, refl, ap, ap₂, sym, subst, arith, codes, get_or, position, bytes_eq}
-use Rattle.std.specs.Prelude.{AllPairs, slice_get, unwrap_or, option_map}
+use Rattle.std.proofs.Common.{◌≡◌, ℕ, ◌+◌, ◌-◌, ◌<◌, ◌∙◌, inl, inr, List, [], ◌∷◌, ◌++◌, length, length-append, Option, Some, None, refl, ap, ap₂, sym, subst, arith, codes, get_or, position, bytes_eq}
+use Rattle.std.specs.Prelude.{slice_get, unwrap_or, option_map}
 use Rattle.std.specs.Fmt.{signed_decimal}
 use Rattle.std.specs.Ordering.{ordering_then, ordering_reverse, nat_cmp, int_cmp}
 use Rattle.std.specs.Cmp.{IsTotalOrder}
@@ -19,7 +19,7 @@ use Rattle.mode_network.specs.declared.nodes.NodeKey.{NodeKey}
 use Rattle.mode_network.specs.declared.nodes.NodeKey.TheVariants.{Road, Stop, Switch}
 use Rattle.mode_network.specs.NetworkLists.{NetworkLists, nodes_of}
 use Rattle.mode_network.specs.Rules.{IsNetwork, IsRoad, IsStop, IsSwitch, IsAscending, rank_of, node_cmp, name_cmp}
-use Rattle.mode_network.proofs.RuleLemmas.{nodes_total, names_total, some_is}
+use Rattle.mode_network.proofs.RuleLemmas.{nodes_total, names_total}
 use Rattle.journey.specs.Texts.{key_text, node_text, letter_text}
 use Rattle.journey.proofs.TextParts.{Lacks, cut_once, letter_tells, letter_is_word, letter_once, id_once, lacks_by_test}
 
