@@ -1,11 +1,9 @@
-use Rattle.std.proofs.Common.{refl, sym, ◌∙◌, subst}
+use Rattle.std.proofs.Common.{refl, sym, subst}
 use Rattle.automaton.specs.declared.positions.Positions.{Positions}
 use Rattle.automaton.specs.Meanings.{position_meaning}
 use Rattle.automaton.specs.Written.{written}
 use Rattle.automaton.specs.States.{IsPositionAutomaton}
-use Rattle.automaton.specs.Collapsed.{collapsed}
 use Rattle.mode_expression.specs.Form.{form_of}
-use Rattle.journey.specs.Best.{asked_by}
 use Rattle.certificate.specs.Verdicts.{IsCertVerdict, claim_on}
 use Rattle.certificate.proofs.VerifyLemmas.{few_copies, automaton_denotes, labels_judged, valid_proves}
 use Rattle.certificate.proofs.verifying.verify_claim.Goals as goal
