@@ -1,11 +1,7 @@
--- The block of what is right to say is the right block.
+-- What a certificate proves is right to say, and can be printed.
 use Rattle.std.proofs.Common.{ℕ, ◌∙◌, inl, inr, List, Option, Some, None, ap}
 use Rattle.mode_network.specs.NetworkLists.{NetworkLists}
-use Rattle.journey.specs.declared.answer.BlockBody.{BlockBody}
-use Rattle.journey.specs.declared.answer.BlockBody.TheVariants.{Journey, Nothing, Refused}
-use Rattle.journey.specs.Texts.{block_text}
-use Rattle.journey.specs.Blocks.{IsBlockText}
-use Rattle.journey.specs.Best.{Asked, Asks, IsBlock}
+use Rattle.journey.specs.Best.{Asked, Asks, IsRightBody}
 use Rattle.mode_network.specs.Journeys.{Route}
 use Rattle.mode_network.specs.Rules.{IsNetwork}
 use Rattle.journey.specs.Blocks.{IsPrintableBody}
@@ -13,16 +9,7 @@ use Rattle.journey.proofs.CopyLemmas.{copy_in_range}
 use Rattle.certificate.specs.Certificates.{Claim}
 use Rattle.certificate.specs.Texts.{IsCertText, FitsResult}
 use Rattle.certificate.specs.Valid.{IsValid, Proves, ResultHolds, IsBestResult}
-use Rattle.planner_core.specs.Bodies.{IsRightBody}
 use Rattle.planner_core.specs.Outputs.{IsVerified, TellsValid, body_of}
-
-pub right_block : (n : NetworkLists) (line : List ℕ) (body : BlockBody) (block : List ℕ) → IsRightBody n line body → IsBlockText n line body block → IsBlock n line block
-right_block n line (Journey j) block (asked, asks, best) text =
-    inr (inl (record { asked = asked; asks = asks; journey = j; best = best; text = text.text; told = text.is_body; block_is = text.block_is }))
-right_block n line Nothing block (asked, asks, none) text =
-    inr (inr (record { asked = asked; asks = asks; none = none; block_is = text.block_is ∙ ap (block_text line) text.is_body }))
-right_block n line (Refused fault) block refused text =
-    inl (record { fault = fault; refused = refused; block_is = text.block_is ∙ ap (block_text line) text.is_body })
 
 -- what a certificate proves is right to say
 proved_body : (n : NetworkLists) (line : List ℕ) (asked : Asked) → Asks n line asked → (result : Option (ℕ × Route)) → IsBestResult n asked result → IsRightBody n line (body_of result)
@@ -47,5 +34,5 @@ verified_text n bytes c out text valid proves told = record {
   text = text;
   valid = valid;
   told = told;
-  right = right_block n c.line (body_of c.result) told.block (proved_body n c.line proves.asked proves.asks c.result proves.best) told.tells;
+  right = record { body = body_of c.result; right = proved_body n c.line proves.asked proves.asks c.result proves.best; tells = told.tells };
 }

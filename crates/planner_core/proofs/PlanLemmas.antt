@@ -21,7 +21,7 @@ use Rattle.mode_network.specs.Journeys.{Route, AreSteps}
 use Rattle.mode_network.specs.Copies.{IsCopy}
 use Rattle.journey.specs.declared.query.Query.{Query}
 use Rattle.journey.specs.Queries.{IsQuery}
-use Rattle.journey.specs.Best.{Asked, Answers, HasNone}
+use Rattle.journey.specs.Best.{Asked, Answers, HasNone, asked_by}
 use Rattle.journey.specs.Ends.{HasTime}
 use Rattle.journey.specs.Blocks.{IsPrintable}
 use Rattle.unpack.specs.Unpacking.{IsSoon, end_of, arrival_of, letters_of}
@@ -29,7 +29,7 @@ use Rattle.unpack.proofs.UnpackLemmas.{hops_end, hops_letters, plain_hops}
 use Rattle.journey.specs.CopyLists.{AreTheCopies}
 use Rattle.certificate.specs.Texts.{FitsResult}
 use Rattle.certificate.specs.Valid.{ResultHolds, claimed_arrival, IsBestResult, Proves}
-use Rattle.certificate.specs.Verdicts.{asked_by, claim_on}
+use Rattle.certificate.specs.Verdicts.{claim_on}
 use Rattle.certificate.proofs.UniqueLemmas.{journey_once}
 use Rattle.planner_core.specs.Plans.{IsCertifiable, IsPlan, IsPlainWalk, IsUnpacked, TakesHops, both, route_of}
 use Rattle.journey.proofs.CopyLemmas.{copy_in_range}

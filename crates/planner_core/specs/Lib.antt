@@ -1,5 +1,4 @@
 pub mod Plans
-pub mod Bodies
 pub mod Written
 pub mod Outputs
 pub mod Outcomes

@@ -19,13 +19,13 @@ use Rattle.mode_network.specs.Journeys.{Route, AreSteps}
 use Rattle.journey.specs.declared.query.Query.{Query}
 use Rattle.journey.specs.Queries.{IsQuery}
 use Rattle.journey.specs.CopyLists.{AreTheCopies}
-use Rattle.journey.specs.Best.{Asked, IsBest, HasNone}
+use Rattle.journey.specs.Best.{Asked, IsBest, HasNone, asked_by}
 use Rattle.journey.specs.Blocks.{IsPrintable}
 use Rattle.journey.specs.Real.{EndsAt}
 use Rattle.certificate.specs.Lines.{HasLabelTime, IsTime}
 use Rattle.certificate.specs.Texts.{FitsResult}
 use Rattle.certificate.specs.Valid.{IsValid}
-use Rattle.certificate.specs.Verdicts.{asked_by, claim_on}
+use Rattle.certificate.specs.Verdicts.{claim_on}
 
 -- the query was read from its line on this network
 pub record IsRead (n : NetworkLists) (q : Query) : Type 0 where

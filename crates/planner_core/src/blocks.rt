@@ -1,9 +1,8 @@
 //! The block of a query line.
 
 ghost use Rattle.std.specs.Prelude.{IfOk};
-ghost use Rattle.journey.specs.Best.{IsBlock};
+ghost use Rattle.journey.specs.Best.{IsBlock, IsRightBody};
 ghost use Rattle.journey.specs.Blocks.{IsBlockText, IsPrintableBody};
-ghost use Rattle.planner_core.specs.Bodies.{IsRightBody};
 
 use crate::plans::find_best;
 use journey::{BlockBody, QueryFault, block, read_query};

@@ -2,7 +2,7 @@
 
 ghost use Rattle.std.specs.Prelude.{◌≡◌, IfOk, is_some};
 ghost use Rattle.planner_core.specs.Plans.{IsRead, IsPlan, AreTheLabels, AreInTime, IsCertifiable, IsPlainWalk, IsUnpacked, both, route_of};
-ghost use Rattle.certificate.specs.Verdicts.{asked_by};
+ghost use Rattle.journey.specs.Best.{asked_by};
 
 use automaton::{Collapsed, Positions};
 use journey::{Query, copies};

@@ -1,6 +1,6 @@
 use Rattle.std.proofs.Common.{Option, subst}
 use Rattle.mode_network.specs.Journeys.{Route}
-use Rattle.certificate.specs.Verdicts.{asked_by}
+use Rattle.journey.specs.Best.{asked_by}
 use Rattle.planner_core.specs.Plans.{IsPlan}
 use Rattle.planner_core.proofs.blocks.body.Goals as goal
 

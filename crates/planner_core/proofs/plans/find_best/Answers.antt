@@ -5,7 +5,7 @@ use Rattle.automaton.specs.Collapsed.{AcceptsCollapsed}
 use Rattle.automaton.specs.Meanings.{position_meaning}
 use Rattle.automaton.specs.declared.positions.Positions.{Positions}
 use Rattle.mode_expression.specs.Form.{Denotes}
-use Rattle.certificate.specs.Verdicts.{asked_by}
+use Rattle.journey.specs.Best.{asked_by}
 use Rattle.planner_core.proofs.PlanLemmas.{walk_is_plain, plan_for}
 use Rattle.planner_core.proofs.plans.find_best.Goals as goal
 

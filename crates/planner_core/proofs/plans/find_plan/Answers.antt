@@ -9,7 +9,7 @@ use Rattle.automaton.specs.Written.{written}
 use Rattle.automaton.specs.States.{IsPositionAutomaton}
 use Rattle.mode_expression.specs.Form.{Denotes, form_of}
 use Rattle.mode_network.specs.Journeys.{Route}
-use Rattle.certificate.specs.Verdicts.{asked_by}
+use Rattle.journey.specs.Best.{asked_by}
 use Rattle.plain_graph.specs.PlainArcs.{plain_meaning}
 use Rattle.plain_graph.proofs.Same.{walks_are_journeys, journeys_are_walks}
 use Rattle.planner_core.specs.Plans.{IsPlan, IsCertifiable, route_of}
