@@ -68,6 +68,7 @@ fn explore_ways<L: Labels>(
 }
 
 /// Offers what one arc leads to, if it arrives within the bound.
+#[inline(always)]
 fn explore_way<L: Labels>(
     frontier: &mut Frontier,
     labels: &L,
@@ -115,6 +116,7 @@ pub(crate) fn is_within(bound: Option<Time>, at: Time) -> bool
 }
 
 /// Offers the node that an arc leads to, in each state after its letter.
+#[inline(always)]
 fn offer_states<L: Labels>(
     frontier: &mut Frontier,
     labels: &L,
@@ -147,6 +149,7 @@ fn offer_states<L: Labels>(
 }
 
 /// Offers a node in each state that a move by the letter leads to.
+#[inline(always)]
 fn offer_moves<L: Labels>(
     frontier: &mut Frontier,
     labels: &L,
@@ -176,6 +179,7 @@ fn offer_moves<L: Labels>(
 }
 
 /// Offers a node in a state.
+#[inline(always)]
 fn offer_next(frontier: &mut Frontier, to: u32, next: u32, way: Reached) -> Result<(), AllocError>
     requires waits { way.settled ≡ false }
     requires right { IsQueueRight frontier.old }

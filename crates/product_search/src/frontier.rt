@@ -32,12 +32,12 @@ pub(crate) struct Reached {
 pub(crate) struct Entry {
     pub node: u32,
     pub state: u32,
+    /// The number of the entry before this one that is of the same node, and 1; or 0.
+    pub next: u32,
+    pub settled: bool,
     pub at: Time,
     pub arcs: u64,
     pub parent: Option<Parent>,
-    pub settled: bool,
-    /// The number of the entry before this one that is of the same node, and 1; or 0.
-    pub next: u32,
 }
 
 /// A product state that was taken from the queue.
@@ -75,6 +75,7 @@ impl Frontier {
     }
 
     /// The number of a product state that is reached.
+    #[inline(always)]
     fn find(&self, node: u32, state: u32) -> Option<u32>
         requires { IsIndexed self.now }
         ensures { MatchOption result (IsNowhere self.now.entries.items node state) (IsAt self.now.entries.items node state) }
@@ -91,6 +92,7 @@ impl Frontier {
     }
 
     /// The number of the last entry of a node, and 1; or 0.
+    #[inline(always)]
     fn head(&self, node: u32) -> u32
         ensures { result ≡ slice_index self.now.first.items node }
     {
@@ -110,6 +112,7 @@ impl Frontier {
     }
 
     /// Takes a way to a product state, if it is the first or better than the one that is known.
+    #[inline(always)]
     pub fn offer(&mut self, node: u32, state: u32, way: Reached) -> Result<(), AllocError>
         requires right { IsQueueRight self.old }
         requires waits { way.settled ≡ false }
@@ -123,6 +126,7 @@ impl Frontier {
     }
 
     /// Takes the first way to a product state.
+    #[inline(always)]
     fn add(&mut self, node: u32, state: u32, way: Reached) -> Result<(), AllocError>
         requires right { IsQueueRight self.old }
         requires nowhere { IsNowhere self.old.entries.items node state }
@@ -139,6 +143,7 @@ impl Frontier {
     }
 
     /// Takes a way to a product state that is reached, if it is better.
+    #[inline(always)]
     fn improve(
         &mut self,
         node: u32,
