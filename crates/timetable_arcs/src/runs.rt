@@ -1,6 +1,6 @@
 //! When runs are where, and which may share a pattern.
 
-ghost use Rattle.std.specs.Prelude.{◌≡◌, [], nat_le, find, slice_index};
+ghost use Rattle.std.specs.Prelude.{◌≡◌, ◌+◌, ◌*◌, ◌^◌, ◌<◌, ◌≤◌, [], nat_le, find, slice_index};
 ghost use Rattle.std.specs.List.Sorted.{IsNonDecreasingBy};
 ghost use Rattle.std.specs.Bool.{OnTrue};
 ghost use Rattle.timetable_arcs.specs.Patterns.{plain_table, trip_at, call_of, arrives, departs, last_arrived, IsAlike, AreAlike, IsBehind};
@@ -36,7 +36,8 @@ fn call_of(trips: &[Trip], run: Instance, call: usize) -> Call
 
 /// The base of the day on which a run runs.
 fn base_of(bases: &[u64], run: Instance) -> Time
-    ensures { result ≡ slice_index bases.now run.day }
+    ensures value { result ≡ slice_index bases.now run.day }
+    ensures small { result < 2 ^ 64 }
 {
     match bases.get(run.day as usize) {
         Some(base) => Time::from(*base),
@@ -90,16 +91,32 @@ pub(crate) fn have_alike_trips(trips: &[Trip], a: Instance, b: Instance) -> bool
     }
 }
 
+/// Whether a call of one run is behind a call of another: it departs later, and arrives no earlier. The bases are those of
+/// the days of the runs.
+#[inline(always)]
+fn is_call_behind(first_base: Time, first: Call, second_base: Time, second: Call) -> bool
+    requires first { first_base < 2 ^ 64 }
+    requires second { second_base < 2 ^ 64 }
+    ensures departs { OnTrue result (first_base + 1000 * first.dep < second_base + 1000 * second.dep) }
+    ensures arrives { OnTrue result (first_base + 1000 * first.arr ≤ second_base + 1000 * second.arr) }
+{
+    first_base + 1000 * Time::from(first.dep) < second_base + 1000 * Time::from(second.dep)
+        && first_base + 1000 * Time::from(first.arr) <= second_base + 1000 * Time::from(second.arr)
+}
+
 /// Whether one run is behind another: at every call it departs later, and arrives no earlier.
 pub(crate) fn is_behind(bases: &[u64], trips: &[Trip], first: Instance, second: Instance) -> bool
     ensures { OnTrue result (IsBehind (plain_table bases.now trips.now) first second) }
 {
-    for call in 0..calls_of(trips, first).len() {
-        let departs_later = departs(bases, trips, first, call)
-            < departs(bases, trips, second, call);
-        let arrives_no_earlier = arrives(bases, trips, first, call)
-            <= arrives(bases, trips, second, call);
-        if !departs_later || !arrives_no_earlier {
+    let first_base = base_of(bases, first);
+    let second_base = base_of(bases, second);
+    let first_calls = calls_of(trips, first);
+    let second_calls = calls_of(trips, second);
+    if first_calls.len() > second_calls.len() {
+        return false;
+    }
+    for (k, call) in first_calls.iter().enumerate() {
+        if !is_call_behind(first_base, *call, second_base, second_calls[k]) {
             return false;
         }
     }

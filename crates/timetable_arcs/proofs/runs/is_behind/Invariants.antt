@@ -2,8 +2,8 @@ use Rattle.std.proofs.Common.{◌<◌, ◌≤◌, ℕ}
 use Rattle.timetable_arcs.specs.Patterns.{plain_table, arrives, departs}
 use Rattle.timetable_arcs.proofs.runs.is_behind.Given as goal
 
-abbrev pub invariant-loop-call : goal.invariant-loop-call
-invariant-loop-call l = record {
-  departs_later : (k : ℕ) → k < l.call → departs (plain_table l.bases l.trips) l.first k < departs (plain_table l.bases l.trips) l.second k;
-  arrives_no_earlier : (k : ℕ) → k < l.call → arrives (plain_table l.bases l.trips) l.first k ≤ arrives (plain_table l.bases l.trips) l.second k;
+abbrev pub invariant-loop-k : goal.invariant-loop-k
+invariant-loop-k l = record {
+  departs_later : (j : ℕ) → j < l.k → departs (plain_table l.bases l.trips) l.fn.first j < departs (plain_table l.bases l.trips) l.fn.second j;
+  arrives_no_earlier : (j : ℕ) → j < l.k → arrives (plain_table l.bases l.trips) l.fn.first j ≤ arrives (plain_table l.bases l.trips) l.fn.second j;
 }
