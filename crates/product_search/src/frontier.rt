@@ -4,6 +4,7 @@ ghost use Rattle.std.specs.Prelude.{◌≡◌, ◌≢◌, ℕ, ◌<◌, ◌^◌,
 ghost use Rattle.product_search.specs.Waiting.{IsQueueRight, IsOffered, SettlesLeast, NobodyWaits, SameReached, reached_at, state_eq, offered, IsSetAt, IsAt, IsNowhere, IsIndexed, IsClear, IsBehind, seen, made, settled_now, Waits};
 
 use crate::queue::Queue;
+use crate::workspace::Workspace;
 use search_laws::Time;
 use std::alloc::{AllocError, Global};
 
@@ -61,14 +62,14 @@ pub(crate) struct Frontier {
 }
 
 impl Frontier {
-    /// A frontier that uses a table in which no node has an entry.
-    pub fn new(alloc: Global, first: Vec<u32>) -> Frontier
-        requires { IsClear first.items }
+    /// A frontier with nothing reached, which uses the list and the table of a workspace.
+    pub fn new(alloc: Global, workspace: Workspace) -> Frontier
         ensures right { IsQueueRight result }
         ensures empty { (v q : ℕ) → reached_at result v q ≡ None }
     {
+        let Workspace { entries, first } = workspace;
         Frontier {
-            entries: Vec::new(alloc),
+            entries,
             first,
             queue: Queue::new(alloc),
         }

@@ -49,7 +49,7 @@ pub fn search<G: Graph, L: Labels>(
 {
     let explored = settle_all(
         alloc,
-        Vec::new(alloc),
+        Workspace::new(alloc),
         graph,
         labels,
         starts,

@@ -5,12 +5,12 @@ ghost use Rattle.std.specs.BTreeSet as sorted;
 ghost use Rattle.std.specs.Ordering.{nat_cmp};
 ghost use Rattle.product_search.specs.Reach.{IsWithin};
 ghost use Rattle.product_search.specs.Searching.{IsExplored};
-ghost use Rattle.product_search.specs.Waiting.{IsClear};
 
 use crate::explore::explore;
 use crate::frontier::{Frontier, Settled};
 use crate::moves::MoveTable;
 use crate::start::offer_starts;
+use crate::workspace::Workspace;
 use search_laws::{Graph, Labels, Time};
 use std::alloc::{AllocError, Global};
 use std::collections::BTreeSet;
@@ -25,7 +25,7 @@ pub(crate) struct Explored {
 /// Settles product states from the starts on, up to the first end.
 pub(crate) fn settle_all<G: Graph, L: Labels>(
     alloc: Global,
-    first: Vec<u32>,
+    workspace: Workspace,
     graph: &G,
     labels: &L,
     starts: &[u32],
@@ -33,7 +33,6 @@ pub(crate) fn settle_all<G: Graph, L: Labels>(
     dep: Time,
     bound: Option<Time>,
 ) -> Result<Explored, AllocError>
-    requires clear { IsClear first.items }
     requires starts { All (λ v. v < (G.meaning graph.now).nodes) starts.now }
     requires dep { dep < 2 ^ 64 }
     requires bound { IsWithin bound dep }
@@ -41,7 +40,7 @@ pub(crate) fn settle_all<G: Graph, L: Labels>(
         e.frontier e.end) }
 {
     let ends = set_of(alloc, targets)?;
-    let mut frontier = Frontier::new(alloc, first);
+    let mut frontier = Frontier::new(alloc, workspace);
     offer_starts(&mut frontier, labels, starts, dep)?;
     let moves = MoveTable::new(alloc, labels)?;
     let mut ways = Vec::new(alloc);

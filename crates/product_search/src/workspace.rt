@@ -1,43 +1,45 @@
 //! What searches keep for the next one.
 
+ghost use Rattle.std.specs.Prelude.{◌≡◌, []};
 ghost use Rattle.product_search.specs.Waiting.{IsClear, IsQueueRight};
 
-use crate::frontier::{Frontier, cleared};
+use crate::frontier::{Entry, Frontier, cleared};
 use std::alloc::Global;
 use std::mem;
 
-/// A table by node that searches use again. It has room for the nodes that were reached so far.
+/// A list and a table by node that searches use again. They are empty, and have room for what was reached so far.
 #[derive(Drop)]
 pub struct Workspace {
-    first: Vec<u32>,
+    pub(crate) entries: Vec<Entry>,
+    pub(crate) first: Vec<u32>,
+    ghost empty: { entries.items ≡ [] },
     ghost clear: { IsClear first.items },
 }
 
 impl Workspace {
     pub fn new(alloc: Global) -> Workspace {
         Workspace {
+            entries: Vec::new(alloc),
             first: Vec::new(alloc),
         }
     }
 
-    /// Gives the table out. Until it is put back the next search makes a new one.
-    pub(crate) fn take(&mut self, alloc: Global) -> Vec<u32>
-        ensures { IsClear result.items }
-    {
-        let old = mem::replace(self, Workspace::new(alloc));
-        old.first
+    /// Gives out what it has. Until that is put back the next search makes it anew.
+    pub(crate) fn take(&mut self, alloc: Global) -> Workspace {
+        mem::replace(self, Workspace::new(alloc))
     }
 
-    /// Puts back the table of a search.
+    /// Puts back the list and the table of a search.
     pub(crate) fn put(&mut self, frontier: Frontier)
         requires { IsQueueRight frontier }
     {
         let Frontier {
-            entries,
+            mut entries,
             first,
             queue: _queue,
         } = frontier;
         let first = cleared(&entries, first);
-        *self = Workspace { first };
+        entries.clear();
+        *self = Workspace { entries, first };
     }
 }
