@@ -9,3 +9,4 @@ pub mod RideLemmas
 pub mod TableLemmas
 pub mod ReadLemmas
 mod DayRunLemmas
+mod HeadLemmas

@@ -1,10 +1,10 @@
 -- All runs of trips, and how they are sorted into patterns.
-use Rattle.std.specs.Prelude.{ℕ, zero, suc, ◌+◌, ◌-◌, ◌<◌, List, [], ◌∷◌, ◌++◌, length, All, AllPairs, sum_by, slice_index_or, if◌then◌else◌}
+use Rattle.std.specs.Prelude.{◌≡◌, Some, slice_get, ℕ, zero, suc, ◌+◌, ◌-◌, ◌<◌, List, [], ◌∷◌, ◌++◌, length, All, AllPairs, sum_by, slice_index_or, if◌then◌else◌}
 use Rattle.plan_base.specs.declared.days.DaySet.{DaySet}
 use Rattle.plan_base.specs.DaySets.{contains_day}
 use Rattle.timetable_arcs.specs.declared.trips.Instance.{Instance}
 use Rattle.timetable_arcs.specs.Trips.{TripLists}
-use Rattle.timetable_arcs.specs.Patterns.{TableLists, trip_at, no_run, no_trip, AreAlike, IsBehind}
+use Rattle.timetable_arcs.specs.Patterns.{TableLists, plain_table, trip_at, no_run, no_trip, AreAlike, IsBehind}
 
 -- the runs of the trip at a place on its days below n
 abbrev pub runs_below : ℕ → DaySet → ℕ → List Instance
@@ -30,6 +30,16 @@ pub record IsPattern (t : TableLists) (runs : List Instance) : Type 0 where
   pub some : 0 < length runs
   pub alike : All (λ run. AreAlike (trip_at t (slice_index_or runs 0 no_run).trip) (trip_at t run.trip)) runs
   pub in_turn : AllPairs (IsBehind t) runs
+
+-- each of these numbers is of a trip that is alike the one at its place
+abbrev pub AreHeads : List TripLists → List ℕ → Type 0
+AreHeads trips heads = (place head : ℕ) → slice_get heads place ≡ Some head → AreAlike (trip_at (plain_table [] trips) head) (trip_at (plain_table [] trips) place)
+
+-- there is one number at both places
+pub record HaveSameHead (heads : List ℕ) (a b : ℕ) : Type 0 where
+  pub head : ℕ
+  pub one : slice_get heads a ≡ Some head
+  pub other : slice_get heads b ≡ Some head
 
 -- a run may stand behind those of a pattern: its trip is alike, and it is behind the last one
 pub record Follows (t : TableLists) (runs : List Instance) (run : Instance) : Type 0 where

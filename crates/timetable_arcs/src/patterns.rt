@@ -5,10 +5,10 @@ ghost use Rattle.std.specs.Bool.{OnTrue};
 ghost use Rattle.timetable_arcs.specs.declared.trips.Instance.{Instance};
 ghost use Rattle.plan_base.specs.DaySets.{contains_day};
 ghost use Rattle.timetable_arcs.specs.Patterns.{plain_table, trip_at};
-ghost use Rattle.timetable_arcs.specs.Sorting.{IsPattern, Follows, sum_all, runs_from, weight_on};
+ghost use Rattle.timetable_arcs.specs.Sorting.{AreHeads, IsPattern, Follows, sum_all, runs_from, weight_on};
 
-use crate::runs::{have_alike_trips, is_behind};
-use crate::sorting::trips_in_order;
+use crate::runs::is_behind;
+use crate::sorting::{have_same_head, heads_of, trips_in_order};
 use crate::trips::{Instance, Trip};
 use plan_base::DaySet;
 use std::alloc::{AllocError, Global};
@@ -54,12 +54,20 @@ impl Pattern {
 }
 
 /// Whether a run may stand behind the runs of a pattern.
-fn follows(bases: &[u64], trips: &[Trip], runs: &[Instance], run: Instance) -> bool
+#[tactic(auto, using(crate::proofs::HeadLemmas::heads_alike))]
+fn follows(
+    bases: &[u64],
+    trips: &[Trip],
+    heads: &[u32],
+    runs: &[Instance],
+    run: Instance,
+) -> bool
+    requires { AreHeads trips.now heads.now }
     ensures { OnTrue result (Follows (plain_table bases.now trips.now) runs.now run) }
 {
     match (runs.first(), runs.last()) {
         (Some(first), Some(last)) => {
-            have_alike_trips(trips, *first, run) && is_behind(bases, trips, *last, run)
+            have_same_head(heads, first.trip, run.trip) && is_behind(bases, trips, *last, run)
         }
         _ => false,
     }
@@ -69,18 +77,20 @@ fn follows(bases: &[u64], trips: &[Trip], runs: &[Instance], run: Instance) -> b
 fn find_pattern(
     bases: &[u64],
     trips: &[Trip],
+    heads: &[u32],
     patterns: &[Pattern],
     first: usize,
     run: Instance,
 ) -> Option<usize>
+    requires { AreHeads trips.now heads.now }
     ensures within { IfSome result (λ place. place < length patterns.now) }
     ensures follows { IfSome result (λ place. Follows (plain_table bases.now trips.now) (slice_index_or patterns.now place []) run) }
 {
-    if first < patterns.len() && follows(bases, trips, patterns[first].runs(), run) {
+    if first < patterns.len() && follows(bases, trips, heads, patterns[first].runs(), run) {
         return Some(first);
     }
     for place in patterns.len().saturating_sub(TRIED)..patterns.len() {
-        if follows(bases, trips, patterns[place].runs(), run) {
+        if follows(bases, trips, heads, patterns[place].runs(), run) {
             return Some(place);
         }
     }
@@ -93,15 +103,17 @@ fn put(
     alloc: Global,
     bases: &[u64],
     trips: &[Trip],
+    heads: &[u32],
     patterns: &mut Vec<Pattern>,
     first: usize,
     run: Instance,
 ) -> Result<usize, AllocError>
-    requires { All (IsPattern (plain_table bases.now trips.now)) patterns.old.items }
+    requires heads { AreHeads trips.now heads.now }
+    requires are { All (IsPattern (plain_table bases.now trips.now)) patterns.old.items }
     ensures are { OnOk result (All (IsPattern (plain_table bases.now trips.now)) patterns.new.items) }
     ensures one_more { OnOk result ((weight : Instance → ℕ) → sum_all weight patterns.new.items ≡ sum_all weight patterns.old.items + weight run) }
 {
-    match find_pattern(bases, trips, patterns, first, run) {
+    match find_pattern(bases, trips, heads, patterns, first, run) {
         Some(place) => {
             patterns[place].push(run)?;
             Ok(place)
@@ -130,19 +142,21 @@ fn put_on(
     alloc: Global,
     bases: &[u64],
     trips: &[Trip],
+    heads: &[u32],
     trip: u32,
     day: u32,
     patterns: &mut Vec<Pattern>,
     latest: &mut Vec<usize>,
 ) -> Result<(), AllocError>
-    requires { All (IsPattern (plain_table bases.now trips.now)) patterns.old.items }
+    requires heads { AreHeads trips.now heads.now }
+    requires are { All (IsPattern (plain_table bases.now trips.now)) patterns.old.items }
     ensures are { OnOk result (All (IsPattern (plain_table bases.now trips.now)) patterns.new.items) }
     ensures one { OnOk result ((weight : Instance → ℕ) → sum_all weight patterns.new.items ≡ sum_all weight patterns.old.items + weight_on weight trips.now day trip) }
 {
     if runs_on(trips, trip, day) {
         let run = Instance { trip, day };
         let first = latest.get(trip as usize).copied().unwrap_or(0);
-        let place = put(alloc, bases, trips, patterns, first, run)?;
+        let place = put(alloc, bases, trips, heads, patterns, first, run)?;
         if let Some(held) = latest.get_mut(trip as usize) {
             *held = place;
         }
@@ -155,17 +169,19 @@ fn put_day(
     alloc: Global,
     bases: &[u64],
     trips: &[Trip],
+    heads: &[u32],
     order: &[u32],
     day: u32,
     patterns: &mut Vec<Pattern>,
     latest: &mut Vec<usize>,
 ) -> Result<(), AllocError>
-    requires { All (IsPattern (plain_table bases.now trips.now)) patterns.old.items }
+    requires heads { AreHeads trips.now heads.now }
+    requires are { All (IsPattern (plain_table bases.now trips.now)) patterns.old.items }
     ensures are { OnOk result (All (IsPattern (plain_table bases.now trips.now)) patterns.new.items) }
     ensures day { OnOk result ((weight : Instance → ℕ) → sum_all weight patterns.new.items ≡ sum_all weight patterns.old.items + sum_by (weight_on weight trips.now day) order.now) }
 {
     for trip in order {
-        put_on(alloc, bases, trips, *trip, day, patterns, latest)?;
+        put_on(alloc, bases, trips, heads, *trip, day, patterns, latest)?;
     }
     Ok(())
 }
@@ -182,10 +198,11 @@ pub(crate) fn sort_into_patterns(
     ensures each_once { IfOk result (λ patterns. (weight : Instance → ℕ) → sum_all weight patterns.items ≡ sum_by weight (runs_from days 0 trips.now)) }
 {
     let order = trips_in_order(alloc, trips)?;
+    let heads = heads_of(alloc, trips, &order)?;
     let mut latest = vec![in alloc; 0usize; trips.len()]?;
     let mut patterns = Vec::new(alloc);
     for day in 0..days {
-        put_day(alloc, bases, trips, &order, day, &mut patterns, &mut latest)?;
+        put_day(alloc, bases, trips, &heads, &order, day, &mut patterns, &mut latest)?;
     }
     Ok(patterns)
 }

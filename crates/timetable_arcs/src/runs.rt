@@ -81,11 +81,11 @@ fn are_alike(a: &Trip, b: &Trip) -> bool
     true
 }
 
-/// Whether the trips of runs have the same letter and alike calls.
-pub(crate) fn have_alike_trips(trips: &[Trip], a: Instance, b: Instance) -> bool
-    ensures { OnTrue result (AreAlike (trip_at (plain_table [] trips.now) a.trip) (trip_at (plain_table [] trips.now) b.trip)) }
+/// Whether the trips at two places have the same letter and alike calls.
+pub(crate) fn have_alike_calls(trips: &[Trip], a: u32, b: u32) -> bool
+    ensures { OnTrue result (AreAlike (trip_at (plain_table [] trips.now) a) (trip_at (plain_table [] trips.now) b)) }
 {
-    match (trips.get(a.trip as usize), trips.get(b.trip as usize)) {
+    match (trips.get(a as usize), trips.get(b as usize)) {
         (Some(a), Some(b)) => are_alike(a, b),
         _ => false,
     }

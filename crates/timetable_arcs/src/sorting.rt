@@ -1,8 +1,12 @@
 //! The order in which runs are put into patterns.
 
-ghost use Rattle.std.specs.Prelude.{◌≡◌, ◌<◌, ◌^◌, length, IfOk, IsPermutation};
+ghost use Rattle.std.specs.Prelude.{◌≡◌, ◌<◌, ◌^◌, [], length, IfOk, IsPermutation, slice_set};
+ghost use Rattle.std.specs.Bool.{OnTrue};
+ghost use Rattle.timetable_arcs.specs.Patterns.{plain_table, trip_at, AreAlike};
+ghost use Rattle.timetable_arcs.specs.Sorting.{AreHeads, HaveSameHead};
 ghost use Rattle.std.specs.List.{range_with_len};
 
+use crate::runs::have_alike_calls;
 use crate::trips::{Call, Trip};
 use std::alloc::{AllocError, Global};
 use std::cmp::Ordering;
@@ -54,4 +58,47 @@ pub(crate) fn trips_in_order(alloc: Global, trips: &[Trip]) -> Result<Vec<u32>, 
     let mut places = places_below(alloc, trips.len() as u32)?;
     places.sort_by(|a, b| compare_trips(trips, *a, *b))?;
     Ok(places)
+}
+
+/// For each trip one that is alike, its head: of those that are alike and stand side by side in the order, the first.
+pub(crate) fn heads_of(alloc: Global, trips: &[Trip], order: &[u32]) -> Result<Vec<u32>, AllocError>
+    requires { length trips.now < 2 ^ 32 }
+    ensures { IfOk result (λ heads. AreHeads trips.now heads.items) }
+{
+    let mut heads = places_below(alloc, trips.len() as u32)?;
+    let mut head = 0;
+    for trip in order {
+        head = head_after(trips, head, *trip);
+        set_head(&mut heads, *trip, head);
+    }
+    Ok(heads)
+}
+
+/// The head of a trip that stands behind one with this head.
+fn head_after(trips: &[Trip], head: u32, trip: u32) -> u32
+    ensures { AreAlike (trip_at (plain_table [] trips.now) result) (trip_at (plain_table [] trips.now) trip) }
+{
+    if have_alike_calls(trips, head, trip) {
+        head
+    } else {
+        trip
+    }
+}
+
+fn set_head(heads: &mut Vec<u32>, trip: u32, head: u32)
+    ensures { heads.new.items ≡ slice_set heads.old.items trip head }
+{
+    if let Some(held) = heads.get_mut(trip as usize) {
+        *held = head;
+    }
+}
+
+/// Whether two trips have the same head.
+pub(crate) fn have_same_head(heads: &[u32], a: u32, b: u32) -> bool
+    ensures { OnTrue result (HaveSameHead heads.now a b) }
+{
+    match (heads.get(a as usize), heads.get(b as usize)) {
+        (Some(a), Some(b)) => a == b,
+        _ => false,
+    }
 }

@@ -1,0 +1,50 @@
+-- Trips that have the same head are alike.
+use Rattle.std.proofs.Common.{◌≡◌, ℕ, ◌+◌, ◌<◌, List, [], ◌∷◌, Some, zero, suc, inl, inr, refl, sym, ◌∙◌, ap, subst, arith}
+use Rattle.std.specs.List.{range_with_len}
+use Rattle.std.specs.Prelude.{◌⊎◌, slice_get, slice_set}
+use Rattle.timetable_arcs.specs.Trips.{TripLists}
+use Rattle.timetable_arcs.specs.Patterns.{plain_table, trip_at, AreAlike}
+use Rattle.timetable_arcs.specs.Sorting.{AreHeads, HaveSameHead}
+use Rattle.timetable_arcs.proofs.PatternLemmas.{alike_itself}
+
+-- trips that one trip is alike are alike
+pub alike_both : (c a b : TripLists) → AreAlike c a → AreAlike c b → AreAlike a b
+alike_both c a b ca cb = record {
+  letter = sym ca.letter ∙ cb.letter;
+  calls = sym ca.calls ∙ cb.calls;
+  each = λ k d lt. (let of_a = ca.each k d (subst (λ n. k < n) (sym ca.calls) lt) in let of_b = cb.each k d (subst (λ n. k < n) (sym ca.calls) lt) in
+      record { stop = sym of_a.stop ∙ of_b.stop; board = sym of_a.board ∙ of_b.board; alight = sym of_a.alight ∙ of_b.alight });
+}
+
+pub heads_alike : (trips : List TripLists) (heads : List ℕ) → AreHeads trips heads → (a b : ℕ) → HaveSameHead heads a b
+    → AreAlike (trip_at (plain_table [] trips) a) (trip_at (plain_table [] trips) b)
+heads_alike trips heads are a b same =
+    alike_both (trip_at (plain_table [] trips) same.head) _ _ (are a same.head same.one) (are b same.head same.other)
+
+set_get : (xs : List ℕ) (i x k y : ℕ) → slice_get (slice_set xs i x) k ≡ Some y → ((k ≡ i) × (x ≡ y)) ⊎ (slice_get xs k ≡ Some y)
+set_get [] i x k y is = inr is
+set_get (z ∷ xs) zero x zero y is = let same : x ≡ y = cc in inl (refl, same)
+set_get (z ∷ xs) zero x (suc k) y is = inr is
+set_get (z ∷ xs) (suc i) x zero y is = inr is
+set_get (z ∷ xs) (suc i) x (suc k) y is = elim (set_get xs i x k y is) [
+  | inl p ↦ inl (ap suc p.0, p.1)
+  | inr h ↦ inr h
+]
+
+pub heads_set : (trips : List TripLists) (heads : List ℕ) → AreHeads trips heads → (trip head : ℕ)
+    → AreAlike (trip_at (plain_table [] trips) head) (trip_at (plain_table [] trips) trip) → AreHeads trips (slice_set heads trip head)
+heads_set trips heads are trip head alike place h is = elim (set_get heads trip head place h is) [
+  | inl p ↦ subst (λ x. AreAlike (trip_at (plain_table [] trips) x) (trip_at (plain_table [] trips) place)) p.1
+      (subst (λ x. AreAlike (trip_at (plain_table [] trips) head) (trip_at (plain_table [] trips) x)) (sym p.0) alike)
+  | inr old ↦ are place h old
+]
+
+range_get : (from n k h : ℕ) → slice_get (range_with_len from n) k ≡ Some h → h ≡ from + k
+range_get from zero k h is = cc
+range_get from (suc n) zero h is = let same : from ≡ h = cc in omega (arith, same)
+range_get from (suc n) (suc k) h is = let later = range_get (from + 1) n k h is in omega (arith, later)
+
+pub heads_themselves : (trips : List TripLists) (n : ℕ) → AreHeads trips (range_with_len 0 n)
+heads_themselves trips n place head is =
+    let same : head ≡ place = (let e = range_get 0 n place head is in omega (arith, e)) in
+    subst (λ x. AreAlike (trip_at (plain_table [] trips) x) (trip_at (plain_table [] trips) place)) (sym same) (alike_itself (plain_table [] trips) place)
