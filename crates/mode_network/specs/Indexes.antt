@@ -1,8 +1,9 @@
 -- What a network keeps beside its lists, so that they are found fast.
-use Rattle.std.specs.Prelude.{◌≡◌, ℕ, ◌+◌, ◌<◌, ◌≤◌, ◌==◌, ◌||◌, nat_lt, Bool, List, length, slice_index, count_by, slice_index_or}
+use Rattle.std.specs.Prelude.{◌≡◌, ℕ, ◌+◌, ◌<◌, ◌≤◌, ◌==◌, ◌||◌, nat_lt, Bool, List, map, Option, length, slice_index, count_by, slice_index_or}
 use Rattle.std.specs.List.{list_any}
 use Rattle.mode_network.specs.declared.nodes.Arc.{Arc}
-use Rattle.mode_network.specs.NetworkLists.{NetworkLists, nodes_of}
+use Rattle.mode_network.specs.declared.nodes.Node.{Node}
+use Rattle.mode_network.specs.NetworkLists.{NetworkLists, nodes_of, mode_of}
 
 -- how many arcs begin below the node v
 abbrev pub count_below : List Arc → ℕ → ℕ
@@ -19,6 +20,10 @@ IsRange range xs = (range.0 ≤ range.1) × (range.1 ≤ length xs)
 -- some arc begins or ends at v
 abbrev pub is_end_of : List Arc → ℕ → Bool
 is_end_of arcs v = list_any (λ arc. (arc.from == v) || (arc.to == v)) arcs
+
+-- the mode of each of these road nodes
+abbrev pub modes_of : List Node → List (Option ℕ)
+modes_of roads = map (λ (node : Node). mode_of node.key) roads
 
 pub record AreOffsets (nodes : ℕ) (arcs : List Arc) (offsets : List ℕ) : Type 0 where
   pub one_more : length offsets ≡ nodes + 1

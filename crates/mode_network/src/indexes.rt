@@ -4,9 +4,10 @@ ghost use Rattle.std.specs.Prelude.{◌≡◌, ◌+◌, ◌<◌, ◌≤◌, ◌^
 ghost use Rattle.std.specs.List.{AllWithin};
 ghost use Rattle.mode_network.specs.declared.nodes.Arc.{Arc};
 ghost use Rattle.mode_network.specs.Rules.{IsAscending, arc_cmp};
-ghost use Rattle.mode_network.specs.Indexes.{AreOffsets, AreEnds};
+ghost use Rattle.mode_network.specs.Indexes.{AreOffsets, AreEnds, modes_of};
+ghost use Rattle.mode_network.specs.NetworkLists.{mode_of};
 
-use crate::nodes::Arc;
+use crate::nodes::{Arc, Node, NodeKey};
 use std::alloc::{AllocError, Global};
 
 /// The first place, from this one on, whose arc leaves `v` or a later node.
@@ -37,6 +38,23 @@ pub(crate) fn offsets(alloc: Global, nodes: u32, arcs: &[Arc]) -> Result<Vec<u32
         offsets.push(place as u32)?;
     }
     Ok(offsets)
+}
+
+/// The mode of a road node; of any other none.
+pub(crate) fn mode_of(key: NodeKey) -> Option<u8>
+    ensures { result ≡ mode_of key }
+{
+    match key {
+        NodeKey::Road(mode, _) => Some(mode),
+        NodeKey::Stop(_) | NodeKey::Switch(_) => None,
+    }
+}
+
+/// The mode of each road node.
+pub(crate) fn modes(alloc: Global, roads: &[Node]) -> Result<Vec<Option<u8>>, AllocError>
+    ensures { IfOk result (λ modes. modes.items ≡ modes_of roads.now) }
+{
+    roads.iter().map(|node| mode_of(node.key)).collect(alloc)
 }
 
 /// For each node number: whether some arc begins or ends there.

@@ -13,7 +13,7 @@ ghost use Rattle.mode_network.specs.Indexes.{range_from, IsRange, is_end_of};
 use crate::bases::bases;
 use crate::endpoints::Endpoint;
 use crate::faults::NetFault;
-use crate::indexes::{ends, offsets};
+use crate::indexes::{ends, modes, offsets};
 use crate::nodes::{Arc, Node, NodeKey};
 use crate::parts::Parts;
 use crate::points::{id_of, road_grid};
@@ -40,6 +40,7 @@ pub struct Network {
     arcs: Vec<Arc>,
     links: Vec<Arc>,
     timetable: Timetable,
+    modes: Vec<Option<u8>>,
     arc_offsets: Vec<u32>,
     link_offsets: Vec<u32>,
     linked: Vec<bool>,
@@ -92,6 +93,7 @@ impl Network {
         let bases = bases(alloc, &days)?;
         let timetable = Timetable::build(alloc, bases, stops.len() as u32, trips, caps)?;
         timetable.known();
+        let modes = modes(alloc, &roads)?;
         let arc_offsets = offsets(alloc, nodes, &arcs)?;
         let link_offsets = offsets(alloc, nodes, &links)?;
         let linked = ends(alloc, nodes, &links)?;
@@ -105,6 +107,7 @@ impl Network {
             arcs,
             links,
             timetable,
+            modes,
             arc_offsets,
             link_offsets,
             linked,
@@ -146,7 +149,7 @@ impl Network {
     pub fn mode(&self, v: u32) -> Option<u8>
         ensures { result ≡ mode_at self.now.roads v }
     {
-        rules::mode_at(&self.roads, v)
+        *self.modes.get(v as usize)?
     }
 
     /// The name of this stop.

@@ -7,7 +7,8 @@ ghost use Rattle.mode_network.specs.Rules.{joins_modes, joins_layers, row_fault,
 ghost use Rattle.plain_texts.specs.Names.{is_name};
 
 use crate::faults::NetFault;
-use crate::nodes::{Arc, Node, NodeKey};
+use crate::indexes::mode_of;
+use crate::nodes::{Arc, Node};
 use crate::order::first_unsorted;
 use crate::parts::Parts;
 use plain_texts::Name;
@@ -18,10 +19,7 @@ use timetable_arcs::Trip;
 pub(crate) fn mode_at(roads: &[Node], v: u32) -> Option<u8>
     ensures { result ≡ mode_at roads.now v }
 {
-    match roads.get(v as usize)?.key {
-        NodeKey::Road(mode, _) => Some(mode),
-        NodeKey::Stop(_) | NodeKey::Switch(_) => None,
-    }
+    mode_of(roads.get(v as usize)?.key)
 }
 
 fn joins_modes(roads: &[Node], arc: &Arc) -> bool

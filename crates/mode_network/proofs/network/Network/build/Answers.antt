@@ -36,7 +36,7 @@ pub offsets-requires-clause-ascend : goal.offsets-requires-clause-ascend
 offsets-requires-clause-ascend c =
     let table = timetable_of c.parts.inside c.in_ok-timetable.timetable (c.in_ok-timetable.ensures.bases ∙ c.in_ok-bases.ensures.all) (c.in_ok-timetable.ensures.stops ∙ (c.len.ensures ∙ c.parts.inside.stops.ok.0)) c.in_ok-timetable.ensures.trips in
     let network = kept c.args.caps.now c.parts.inside c.args.parts c.parts.view_is c.requires (rw (← c.deref.ensures.value) c.have_durations.ensures) (rw (← c.deref-2.ensures.value) c.have_durations-2.ensures) (rw (← c.deref-3.ensures.value) c.have_names.ensures) (rw (← c.deref-4.ensures.value) c.have_named_trips.ensures) (sym c.lists_fault.ensures ∙ c.in_default.is) _ table c.known.ensures in
-    rw c.deref-5.ensures.value network.arcs_ascend
+    rw c.deref-6.ensures.value network.arcs_ascend
 
 pub offsets-requires-2-clause-few_nodes : goal.offsets-requires-2-clause-few_nodes
 offsets-requires-2-clause-few_nodes c =
@@ -49,20 +49,20 @@ pub offsets-requires-2-clause-few_arcs : goal.offsets-requires-2-clause-few_arcs
 offsets-requires-2-clause-few_arcs c =
     let table = timetable_of c.parts.inside c.in_ok-timetable.timetable (c.in_ok-timetable.ensures.bases ∙ c.in_ok-bases.ensures.all) (c.in_ok-timetable.ensures.stops ∙ (c.len.ensures ∙ c.parts.inside.stops.ok.0)) c.in_ok-timetable.ensures.trips in
     let network = kept c.args.caps.now c.parts.inside c.args.parts c.parts.view_is c.requires (rw (← c.deref.ensures.value) c.have_durations.ensures) (rw (← c.deref-2.ensures.value) c.have_durations-2.ensures) (rw (← c.deref-3.ensures.value) c.have_names.ensures) (rw (← c.deref-4.ensures.value) c.have_named_trips.ensures) (sym c.lists_fault.ensures ∙ c.in_default.is) _ table c.known.ensures in
-    let few = network.few_links in rw c.deref-6.ensures.value (omega (arith, few))
+    let few = network.few_links in rw c.deref-7.ensures.value (omega (arith, few))
 
 pub offsets-requires-2-clause-ascend : goal.offsets-requires-2-clause-ascend
 offsets-requires-2-clause-ascend c =
     let table = timetable_of c.parts.inside c.in_ok-timetable.timetable (c.in_ok-timetable.ensures.bases ∙ c.in_ok-bases.ensures.all) (c.in_ok-timetable.ensures.stops ∙ (c.len.ensures ∙ c.parts.inside.stops.ok.0)) c.in_ok-timetable.ensures.trips in
     let network = kept c.args.caps.now c.parts.inside c.args.parts c.parts.view_is c.requires (rw (← c.deref.ensures.value) c.have_durations.ensures) (rw (← c.deref-2.ensures.value) c.have_durations-2.ensures) (rw (← c.deref-3.ensures.value) c.have_names.ensures) (rw (← c.deref-4.ensures.value) c.have_named_trips.ensures) (sym c.lists_fault.ensures ∙ c.in_default.is) _ table c.known.ensures in
-    rw c.deref-6.ensures.value network.links_ascend
+    rw c.deref-7.ensures.value network.links_ascend
 
 pub ends-requires : goal.ends-requires
 ends-requires c =
     let table = timetable_of c.parts.inside c.in_ok-timetable.timetable (c.in_ok-timetable.ensures.bases ∙ c.in_ok-bases.ensures.all) (c.in_ok-timetable.ensures.stops ∙ (c.len.ensures ∙ c.parts.inside.stops.ok.0)) c.in_ok-timetable.ensures.trips in
     let network = kept c.args.caps.now c.parts.inside c.args.parts c.parts.view_is c.requires (rw (← c.deref.ensures.value) c.have_durations.ensures) (rw (← c.deref-2.ensures.value) c.have_durations-2.ensures) (rw (← c.deref-3.ensures.value) c.have_names.ensures) (rw (← c.deref-4.ensures.value) c.have_named_trips.ensures) (sym c.lists_fault.ensures ∙ c.in_default.is) _ table c.known.ensures in
     let count = c.node_count-nodes.ensures ∙ ap (λ n. length (nodes_of n)) (sym c.parts.view_is) in
-    rw (count, c.deref-7.ensures.value) (record { in_range = links_in_range (shown c.parts.inside) network })
+    rw (count, c.deref-8.ensures.value) (record { in_range = links_in_range (shown c.parts.inside) network })
 
 pub invariant_of-result : goal.invariant_of-result
 invariant_of-result c =
@@ -72,10 +72,11 @@ invariant_of-result c =
     record {
       rules = subst (λ trips. IsNetwork (record (shown c.parts.inside) { trips = trips })) (sym c.in_ok-timetable.ensures.trips) network;
       timetable = subst (λ trips. IsTimetableOf (record (shown c.parts.inside) { trips = trips }) c.in_ok-timetable.timetable) (sym c.in_ok-timetable.ensures.trips) table;
+      modes = rw (← c.deref-5.ensures.value) c.in_ok-modes.ensures;
       indexes = record {
-        arcs = rw (← count, ← c.deref-5.ensures.value) c.in_ok-arc_offsets.ensures;
-        links = rw (← count, ← c.deref-6.ensures.value) c.in_ok-link_offsets.ensures;
-        ends = rw (← count, ← c.deref-7.ensures.value) c.in_ok-linked.ensures;
+        arcs = rw (← count, ← c.deref-6.ensures.value) c.in_ok-arc_offsets.ensures;
+        links = rw (← count, ← c.deref-7.ensures.value) c.in_ok-link_offsets.ensures;
+        ends = rw (← count, ← c.deref-8.ensures.value) c.in_ok-linked.ensures;
       };
-      grid = rw (← c.deref-8.ensures.value) c.in_ok-grid.ensures;
+      grid = rw (← c.deref-9.ensures.value) c.in_ok-grid.ensures;
     }
