@@ -1,6 +1,7 @@
 pub mod OffsetLemmas
 pub mod HeightLemmas
 pub mod EndLemmas
+pub mod RiseLemmas
 pub mod LookupLemmas
 pub mod HopLemmas
 pub mod Shapes

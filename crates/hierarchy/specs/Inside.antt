@@ -4,6 +4,7 @@ use Rattle.hierarchy.specs.Lists.{HierarchyLists}
 use Rattle.hierarchy.specs.Rules.{IsHierarchy}
 use Rattle.hierarchy.specs.Lookups.{from_of}
 use Rattle.hierarchy.specs.Indexes.{AreBelow, AreHeights, AreOffsets, AreIntoTables}
+use Rattle.hierarchy.specs.Rises.{AreRiseTables}
 
 abbrev pub lists_of : Inside → HierarchyLists
 lists_of h = record { order = h.order.items; entries = h.entries.items; witnesses = h.witnesses.items }
@@ -14,3 +15,4 @@ pub record IsKept (h : Inside) : Type 0 where
   pub heights : AreHeights h.nodes h.order.items h.heights.items
   pub from : AreOffsets from_of h.nodes h.entries.items h.from_offsets.items
   pub into : AreIntoTables h.nodes h.entries.items h.into_offsets.items h.into.items
+  pub rises : AreRiseTables (lists_of h) h.nodes h.rise_offsets.items h.rises.items

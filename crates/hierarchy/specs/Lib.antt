@@ -4,6 +4,7 @@ pub mod Soundness
 pub mod Rules
 pub mod Lookups
 pub mod Indexes
+pub mod Rises
 pub mod Inside
 pub mod FirstBroken
 pub mod Contraction

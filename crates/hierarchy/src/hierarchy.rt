@@ -3,12 +3,14 @@
 ghost use Rattle.std.specs.Prelude.{◌≡◌, IfOk, MatchOption};
 ghost use Rattle.hierarchy.specs.Lists.{height_in, is_above, is_contracted};
 ghost use Rattle.hierarchy.specs.Rules.{IsHierarchy};
+ghost use Rattle.hierarchy.specs.Rises.{AreRisesFrom};
 ghost use Rattle.hierarchy.specs.Lookups.{IsEntryFor, HasNoEntry, IsWitnessFor, HasNoWitness, AreFrom, AreInto, range_of, from_of};
 
 use crate::entry::{Entry, Witness};
 use crate::heights::{heights, past_entries, past_order};
 use crate::lookup::{entry_between, witness_between};
 use crate::offsets::{ends, offsets, places};
+use crate::rises::{Rise, rises};
 use std::alloc::{AllocError, Global};
 use std::marker::Model;
 
@@ -23,6 +25,8 @@ pub struct Hierarchy {
     from_offsets: Vec<u64>,
     into_offsets: Vec<u64>,
     into: Vec<u64>,
+    rise_offsets: Vec<u64>,
+    rises: Vec<Rise>,
 }
 
 impl Model for Hierarchy {
@@ -55,6 +59,8 @@ impl Hierarchy {
         let ends = ends(alloc, &entries)?;
         let into_offsets = offsets(alloc, nodes, &ends)?;
         let into = places(alloc, &ends)?;
+        let rises = rises(alloc, &heights, &order, nodes, &entries)?;
+        let rise_offsets = offsets(alloc, nodes, &rises)?;
         Ok(Hierarchy {
             order,
             entries,
@@ -64,6 +70,8 @@ impl Hierarchy {
             from_offsets,
             into_offsets,
             into,
+            rise_offsets,
+            rises,
         })
     }
 
@@ -154,6 +162,19 @@ impl Hierarchy {
             let first = self.into_offsets[x as usize] as usize;
             let end = self.into_offsets[x as usize + 1] as usize;
             &self.into[first..end]
+        } else {
+            &[]
+        }
+    }
+
+    /// The entries from `u` that lead to a node above it, or from one core node to another.
+    pub fn rises_from(&self, u: u32) -> &[Rise]
+        ensures { AreRisesFrom self.now u result.now }
+    {
+        if u < self.nodes {
+            let first = self.rise_offsets[u as usize] as usize;
+            let end = self.rise_offsets[u as usize + 1] as usize;
+            &self.rises[first..end]
         } else {
             &[]
         }

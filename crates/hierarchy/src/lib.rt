@@ -8,11 +8,13 @@ pub mod hierarchy;
 pub mod laws;
 mod lookup;
 pub mod offsets;
+pub mod rises;
 pub mod verdict;
 
 pub use entry::{Entry, Witness};
 pub use hierarchy::Hierarchy;
 pub use laws::{contractions_keep_soundness, cores_keep_distances, entries_are_roads};
+pub use rises::Rise;
 pub use verdict::Verdict;
 
 #[cfg(test)]

@@ -1,0 +1,155 @@
+-- The rises among entries, one entry after the other, and those that begin at one node.
+use Rattle.std.proofs.Common.{◌≡◌, ℕ, ◌+◌, ◌-◌, ◌<◌, ◌≤◌, ◌∙◌, nat_eq, Bool, true, false, List, [], ◌∷◌, ◌++◌, length, drop, get_or, refl, ap, arith, sym, subst}
+use Rattle.std.specs.Prelude.{All, Contains, slice_range}
+use Rattle.std.specs.List.Sorted.{IsNonDecreasingBy}
+use Rattle.std.proofs.lemmas.Bool.{eqb-true, eqb-false}
+use Rattle.std.proofs.lemmas.List.{length_push, get_or_push, get_or_append_left, get_or_default, get_or-take, get_or-drop, length-take-le, length-drop}
+use Rattle.hierarchy.specs.declared.entry.Entry.{Entry}
+use Rattle.hierarchy.specs.declared.rises.Rise.{Rise}
+use Rattle.hierarchy.specs.Lists.{HierarchyLists}
+use Rattle.hierarchy.specs.Lookups.{count_below, from_of}
+use Rattle.hierarchy.specs.Indexes.{AreEndsBelow, AreOffsets}
+use Rattle.hierarchy.specs.Rises.{AreRisesUpTo, AreRiseTables, AreRisesFrom, IsRiseRange, IsRiseOf, is_rise, rise_from}
+use Rattle.hierarchy.proofs.OffsetLemmas.{count_rises, count_most, key_in_range, in_range_of_key}
+
+module _ (order : List ℕ) (entries : List Entry) where
+  pub rises_none : AreRisesUpTo order entries 0 []
+  rises_none = record {
+    before = λ k d lt. absurd (omega arith);
+    each = λ k d lt. absurd (omega arith);
+    all = λ k d lt. absurd (omega arith);
+    rising = λ i j d le lt. absurd (omega arith);
+  }
+
+  module _ (n : ℕ) (e : Entry) (rises : List Rise) (within : n < length entries) (is : e ≡ get_or entries n e) (far : AreRisesUpTo order entries n rises) where
+    here : (d : Entry) → get_or entries n d ≡ e
+    here d = sym (is ∙ get_or_default entries n e d within)
+
+    -- an entry more that is no rise
+    pub rises_pass : is_rise order e ≡ false → AreRisesUpTo order entries (n + 1) rises
+    rises_pass level = record {
+      before = λ k d lt. let low = far.before k d lt in omega arith;
+      each = far.each;
+      all = λ k d lt up. by_place k d lt up (nat_eq k n) refl;
+      rising = far.rising;
+    } where
+      by_place : (k : ℕ) (d : Entry) → k < n + 1 → is_rise order (get_or entries k d) ≡ true → (b : Bool) → nat_eq k n ≡ b
+          → Contains rises (record { from = (get_or entries k d).from; place = k })
+      by_place k d lt up true at =
+          let same : k ≡ n = eqb-true k n at in
+          let also = subst (λ i. is_rise order (get_or entries i d) ≡ true) same up in
+          let both = ap (is_rise order) (here d) in
+          absurd (cc)
+      by_place k d lt up false apart = far.all k d (omega (arith, eqb-false k n apart)) up
+
+    last : Rise
+    last = record { from = e.from; place = n }
+
+    -- an entry more that is one
+    pub rises_more : is_rise order e ≡ true → IsNonDecreasingBy from_of entries → AreRisesUpTo order entries (n + 1) (rises ++ record { from = e.from; place = n } ∷ [])
+    unfolding last
+    rises_more rises_up ascend = record {
+      before = λ k d lt. in_turn (λ (r : Rise). r.place < n + 1) (λ i c h. let low = far.before i c h in omega arith) (omega arith) k d lt;
+      each = λ k d lt. in_turn (IsRiseOf order entries) far.each is_rise_here k d lt;
+      all = λ k d lt up. by_place k d lt up (nat_eq k n) refl;
+      rising = λ i j d le lt. in_order i j d le lt (nat_eq j (length rises)) refl;
+    } where
+      is_rise_here : IsRiseOf order entries last
+      is_rise_here = record {
+        within = within;
+        begins = λ d. ap from_of (here d);
+        leads = λ d. ap (is_rise order) (here d) ∙ rises_up;
+      }
+
+      in_turn : (P : Rise → Type 0) → All P rises → P last → (k : ℕ) (d : Rise) → k < length (rises ++ last ∷ []) → P (get_or (rises ++ last ∷ []) k d)
+      in_turn P before there k d lt = by_end (nat_eq k (length rises)) refl
+        where
+          by_end : (b : Bool) → nat_eq k (length rises) ≡ b → P (get_or (rises ++ last ∷ []) k d)
+          by_end true at = subst P (sym (ap (λ i. get_or (rises ++ last ∷ []) i d) (eqb-true _ _ at) ∙ get_or_push rises last d (length rises) refl)) there
+          by_end false apart =
+              let earlier : k < length rises = omega (arith, eqb-false _ _ apart, length_push rises last) in
+              subst P (sym (get_or_append_left rises (last ∷ []) d k earlier)) (before k d earlier)
+
+      by_place : (k : ℕ) (d : Entry) → k < n + 1 → is_rise order (get_or entries k d) ≡ true → (b : Bool) → nat_eq k n ≡ b
+          → Contains (rises ++ last ∷ []) (record { from = (get_or entries k d).from; place = k })
+      by_place k d lt up true at =
+          let same : k ≡ n = eqb-true k n at in
+          let row : Rise = record { from = (get_or entries k d).from; place = k } in
+          let e_is : last ≡ row = sym (ap (λ i. record { from = (get_or entries i d).from; place = i }) same ∙ ap (λ (x : Entry). record { from = x.from; place = n }) (here d)) in
+          (length rises, (omega (arith, length_push rises last)), get_or_push rises last row (length rises) refl ∙ e_is)
+      by_place k d lt up false apart =
+          let row : Rise = record { from = (get_or entries k d).from; place = k } in
+          let found = far.all k d (omega (arith, eqb-false k n apart)) up in
+          (found.0, (omega (arith, found.1, length_push rises last)), get_or_append_left rises (last ∷ []) row found.0 found.1 ∙ found.2)
+
+      in_order : (i j : ℕ) (d : Rise) → i ≤ j → j < length (rises ++ last ∷ []) → (b : Bool) → nat_eq j (length rises) ≡ b
+          → (get_or (rises ++ last ∷ []) i d).from ≤ (get_or (rises ++ last ∷ []) j d).from
+      in_order i j d le lt true at =
+          let end : get_or (rises ++ last ∷ []) j d ≡ last = ap (λ k. get_or (rises ++ last ∷ []) k d) (eqb-true _ _ at) ∙ get_or_push rises last d (length rises) refl in
+          rw end (in_turn (λ (r : Rise). r.from ≤ e.from) (λ k c h. lower k c h) (omega arith) i d (omega arith))
+        where
+          lower : (k : ℕ) (c : Rise) → k < length rises → (get_or rises k c).from ≤ e.from
+          lower k c h =
+              let of = far.each k c h in
+              let low = far.before k c h in
+              let up = ascend (get_or rises k c).place n e (omega arith) within in
+              let first = of.begins e in
+              let second = ap from_of (here e) in
+              omega (arith, up, first, second)
+      in_order i j d le lt false apart =
+          let earlier : j < length rises = omega (arith, eqb-false _ _ apart, length_push rises last) in
+          rw (get_or_append_left rises (last ∷ []) d i (omega arith), get_or_append_left rises (last ∷ []) d j earlier) (far.rising i j d le earlier)
+
+-- ---- those that begin at one node
+
+module _ (h : HierarchyLists) (rises : List Rise) (are : AreRisesUpTo h.order h.entries (length h.entries) rises) (u low high : ℕ)
+    (low_is : low ≡ count_below rise_from rises u) (high_is : high ≡ count_below rise_from rises (u + 1)) where
+  high_most : high ≤ length rises
+  high_most = omega (arith, count_most rise_from rises (u + 1))
+
+  grows : low ≤ high
+  grows = omega (arith, count_rises rise_from rises u (u + 1) (omega arith))
+
+  short : length (slice_range rises low high) ≡ high - low
+  short = length-take-le (high - low) (drop low rises) (omega (arith, length-drop low rises, high_most))
+
+  read : (k : ℕ) (d : Rise) → k < high - low → get_or (slice_range rises low high) k d ≡ get_or rises (low + k) d
+  read k d lt = get_or-take (high - low) (drop low rises) k d lt ∙ get_or-drop low rises k d
+
+  pub rises_from : IsRiseRange h u rises low high
+  rises_from = record {
+    in_order = grows;
+    within = high_most;
+    are = record {
+      each = λ k d lt. let inside : k < high - low = omega (arith, short) in subst (IsRiseOf h.order h.entries) (sym (read k d inside)) (are.each (low + k) d (omega (arith, high_most)));
+      from_u = λ k d lt. let inside : k < high - low = omega (arith, short) in
+          ap rise_from (read k d inside) ∙ key_in_range rise_from rises are.rising u (low + k) d (omega (arith, low_is)) (omega (arith, high_is));
+      all = λ k d lt from up. listed k d lt from up;
+    };
+  }
+    where
+      listed : (k : ℕ) (d : Entry) → k < length h.entries → (get_or h.entries k d).from ≡ u → is_rise h.order (get_or h.entries k d) ≡ true
+          → Contains (slice_range rises low high) (record { from = u; place = k })
+      listed k d lt from up =
+          let row : Rise = record { from = u; place = k } in
+          let there = subst (λ v. Contains rises (record { from = v; place = k })) from (are.all k d lt up) in
+          let inside = in_range_of_key rise_from rises are.rising u there.0 row there.1 (ap rise_from there.2) in
+          let before : there.0 - low < high - low = omega (arith, low_is, high_is, inside.0, inside.1) in
+          let back : low + (there.0 - low) ≡ there.0 = omega (arith, low_is, inside.0) in
+          (there.0 - low, (omega (arith, short)), read (there.0 - low) row before ∙ ap (λ i. get_or rises i row) back ∙ there.2)
+
+-- the rises in order, with the counts of rises, are such tables
+pub are_rise_tables : (h : HierarchyLists) (nodes : ℕ) (offsets : List ℕ) (rises : List Rise) → AreRisesUpTo h.order h.entries (length h.entries) rises
+    → AreOffsets rise_from nodes rises offsets → AreRiseTables h nodes offsets rises
+are_rise_tables h nodes offsets rises are counts = record {
+  one_more = counts.one_more;
+  ranges = λ u d lt. rises_from h rises are u (get_or offsets u d) (get_or offsets (u + 1) d) (counts.counts u d (omega arith)) (counts.counts (u + 1) d (omega arith));
+}
+
+-- past all nodes nothing begins
+pub no_rises : (h : HierarchyLists) (u nodes : ℕ) → nodes ≤ u → All (AreEndsBelow nodes) h.entries → AreRisesFrom h u []
+no_rises h u nodes past below = record {
+  each = λ k d lt. absurd (omega arith);
+  from_u = λ k d lt. absurd (omega arith);
+  all = λ k d lt from up. let low = below k d lt in absurd (let l = low.0 in omega (arith, l, from));
+}
