@@ -2,14 +2,15 @@
 use Rattle.std.proofs.Common.{◌≡◌, ℕ, suc, zero, cond, take, ◌-◌, ◌<◌, ◌≤◌, List, [], ◌∷◌, length, Option, Some, None, true, false, Bool, nat_lt, nat_le, refl, ap, sym, subst, ◌∙◌, ◌⊎◌, inl, inr, arith}
 use Rattle.std.specs.Prelude.{slice_get, slice_index_or, Contains, find}
 use Rattle.std.specs.List.{position_or_len}
-use Rattle.std.specs.List.Sorted.{IsPartitionPoint}
+use Rattle.std.specs.List.Sorted.{IsPartitionPoint, IsNonDecreasingBy}
 use Rattle.std.proofs.Math.Nat.{le_refl}
-use Rattle.std.proofs.lemmas.Bool.{ltb-true, ltb-false, leb-true, le-leb}
+use Rattle.std.proofs.lemmas.Bool.{ltb-true, ltb-false, lt-ltb, le-ltb, leb-true, le-leb}
 use Rattle.std.proofs.lemmas.Option.{slice_get_within, get_or_from_slice_get, slice_get_cases, same_Some, none-some}
 use Rattle.std.proofs.lemmas.List.{get_or_default, get_or_past}
 use Rattle.std.proofs.lemmas.List.Folds.{find_at}
 use Rattle.std.proofs.lemmas.List.Sums.{fails_before_first, passes_at_first, position_or_len_is}
 use Rattle.timetable_arcs.specs.declared.trips.Instance.{Instance}
+use Rattle.timetable_arcs.specs.Sorting.{IsFirstFrom}
 use Rattle.timetable_arcs.specs.Patterns.{TableLists, trip_at, runs_of, pattern_trip, arrives, departs, last_arrived, IsIn, IsBehind, ArePatterns}
 
 -- where a search finds an element: the test passes there, and fails before
@@ -111,6 +112,13 @@ module _ {X : Type 0} (n : X → ℕ) (time : ℕ) where
           (λ k lt. not_leb _ _ (ltb-true _ _ (point.0 k d (omega arith) lt)))
           (λ lt. le-leb _ _ (ltb-false _ _ (point.1 place d (le_refl _) lt))) in
           sym (find_at (λ (y : X). nat_le time (n y)) xs ∙ ap (slice_get xs) place_is)
+
+-- what stands at a place that fits
+pub found_at_hint : {X : Type 0} (n : X → ℕ) (time : ℕ) (xs : List X) (place : ℕ) → IsNonDecreasingBy n xs → IsFirstFrom n time xs place
+    → slice_get xs place ≡ find (λ y. nat_le time (n y)) xs
+found_at_hint n time xs place rise first = found_from n time xs place first.within
+    ((λ k d from lt. lt-ltb _ _ (let here = first.before d (omega arith) in let le = rise k (place - 1) d (omega arith) (let within = first.within in omega arith) in omega arith)),
+    (λ k d from lt. le-ltb _ _ (let here = first.at d (omega arith) in let le = rise place k d from lt in omega arith)))
 
 module _ (t : TableLists) (call time : ℕ) where
   abbrev pub passes : Instance → Bool

@@ -1,5 +1,5 @@
 -- All runs of trips, and how they are sorted into patterns.
-use Rattle.std.specs.Prelude.{◌≡◌, Some, slice_get, ℕ, zero, suc, ◌+◌, ◌-◌, ◌<◌, List, [], ◌∷◌, ◌++◌, length, All, AllPairs, sum_by, slice_index_or, if◌then◌else◌}
+use Rattle.std.specs.Prelude.{◌≡◌, Some, slice_get, ℕ, zero, suc, ◌+◌, ◌-◌, ◌<◌, ◌≤◌, List, [], ◌∷◌, ◌++◌, length, All, AllPairs, sum_by, slice_index_or, if◌then◌else◌}
 use Rattle.plan_base.specs.declared.days.DaySet.{DaySet}
 use Rattle.plan_base.specs.DaySets.{contains_day}
 use Rattle.timetable_arcs.specs.declared.trips.Instance.{Instance}
@@ -40,6 +40,12 @@ pub record HaveSameHead (heads : List ℕ) (a b : ℕ) : Type 0 where
   pub head : ℕ
   pub one : slice_get heads a ≡ Some head
   pub other : slice_get heads b ≡ Some head
+
+-- n of the element before a place is below t, and that of the one at the place is not
+pub record IsFirstFrom {X : Type 0} (n : X → ℕ) (t : ℕ) (xs : List X) (place : ℕ) : Type 0 where
+  pub within : place ≤ length xs
+  pub before : (d : X) → 0 < place → n (slice_index_or xs (place - 1) d) < t
+  pub at : (d : X) → place < length xs → t ≤ n (slice_index_or xs place d)
 
 -- a run may stand behind those of a pattern: its trip is alike, and it is behind the last one
 pub record Follows (t : TableLists) (runs : List Instance) (run : Instance) : Type 0 where

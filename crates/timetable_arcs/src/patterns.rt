@@ -7,7 +7,7 @@ ghost use Rattle.plan_base.specs.DaySets.{contains_day};
 ghost use Rattle.timetable_arcs.specs.Patterns.{plain_table, trip_at};
 ghost use Rattle.timetable_arcs.specs.Sorting.{AreHeads, IsPattern, Follows, sum_all, runs_from, weight_on};
 
-use crate::runs::is_behind;
+use crate::runs::{departs, is_behind, narrowed};
 use crate::sorting::{have_same_head, heads_of, trips_in_order};
 use crate::trips::{Instance, Trip};
 use plan_base::DaySet;
@@ -21,6 +21,8 @@ const TRIED: usize = 16;
 #[derive(Drop)]
 pub(crate) struct Pattern {
     runs: Vec<Instance>,
+    /// When they depart from their first calls, to guess places by.
+    starts: Vec<u64>,
 }
 
 impl Model for Pattern {
@@ -31,12 +33,19 @@ impl Model for Pattern {
 
 impl Pattern {
     /// The pattern of one run.
-    fn of(alloc: Global, run: Instance) -> Result<Pattern, AllocError>
+    fn of(alloc: Global, run: Instance, start: u64) -> Result<Pattern, AllocError>
         ensures { IfOk result (λ pattern. pattern ≡ run ∷ []) }
     {
         let mut runs = Vec::new(alloc);
+        let mut starts = Vec::new(alloc);
         runs.push(run)?;
-        Ok(Pattern { runs })
+        starts.push(start)?;
+        Ok(Pattern { runs, starts })
+    }
+
+    /// The place of the first run that departs from its first call at this time or later.
+    pub(crate) fn place_from(&self, start: u64) -> usize {
+        self.starts.partition_point(|held| *held < start)
     }
 
     pub(crate) fn runs(&self) -> &[Instance]
@@ -45,9 +54,10 @@ impl Pattern {
         &self.runs
     }
 
-    fn push(&mut self, run: Instance) -> Result<(), AllocError>
+    fn push(&mut self, run: Instance, start: u64) -> Result<(), AllocError>
         ensures { OnOk result (self.new ≡ self.old ++ run ∷ []) }
     {
+        self.starts.push(start)?;
         self.runs.push(run)?;
         Ok(())
     }
@@ -113,14 +123,15 @@ fn put(
     ensures are { OnOk result (All (IsPattern (plain_table bases.now trips.now)) patterns.new.items) }
     ensures one_more { OnOk result ((weight : Instance → ℕ) → sum_all weight patterns.new.items ≡ sum_all weight patterns.old.items + weight run) }
 {
+    let start = narrowed(departs(bases, trips, run, 0));
     match find_pattern(bases, trips, heads, patterns, first, run) {
         Some(place) => {
-            patterns[place].push(run)?;
+            patterns[place].push(run, start)?;
             Ok(place)
         }
         None => {
             let place = patterns.len();
-            patterns.push(Pattern::of(alloc, run)?)?;
+            patterns.push(Pattern::of(alloc, run, start)?)?;
             Ok(place)
         }
     }

@@ -3,6 +3,7 @@
 ghost use Rattle.std.specs.Prelude.{◌≡◌, ◌+◌, ◌*◌, ◌^◌, ◌<◌, ◌≤◌, [], nat_le, find, slice_index};
 ghost use Rattle.std.specs.List.Sorted.{IsNonDecreasingBy};
 ghost use Rattle.std.specs.Bool.{OnTrue};
+ghost use Rattle.timetable_arcs.specs.Sorting.{IsFirstFrom};
 ghost use Rattle.timetable_arcs.specs.Patterns.{plain_table, trip_at, call_of, arrives, departs, last_arrived, IsAlike, AreAlike, IsBehind};
 
 use crate::trips::{Call, Instance, Trip};
@@ -57,6 +58,25 @@ pub(crate) fn departs(bases: &[u64], trips: &[Trip], run: Instance, call: usize)
     ensures { result ≡ departs (plain_table bases.now trips.now) run call }
 {
     base_of(bases, run) + 1000 * Time::from(call_of(trips, run, call).dep)
+}
+
+/// A time in 64 bits, or the greatest such.
+pub(crate) fn narrowed(time: Time) -> u64 {
+    if time <= 0xffff_ffff_ffff_ffff {
+        time as u64
+    } else {
+        0xffff_ffff_ffff_ffff
+    }
+}
+
+/// When a run departs from its first call that departs from this one at a time, if it takes as long as these calls do.
+pub(crate) fn start_for(calls: &[Call], call: usize, time: Time) -> u64 {
+    match (calls.first(), calls.get(call)) {
+        (Some(first), Some(held)) => {
+            narrowed(time.saturating_sub(1000 * Time::from(held.dep.saturating_sub(first.dep))))
+        }
+        _ => 0,
+    }
 }
 
 /// Whether calls are at the same stop, with the same leave to board and to alight.
@@ -123,8 +143,50 @@ pub(crate) fn is_behind(bases: &[u64], trips: &[Trip], first: Instance, second: 
     true
 }
 
-/// The first of these runs that departs from a call at this time or later.
+/// Whether the runs before a place depart from a call before this time, and that at the place at this time or later. So it
+/// is where those next to the place do, as they stand in order.
+fn is_first_from(
+    bases: &[u64],
+    trips: &[Trip],
+    runs: &[Instance],
+    call: usize,
+    time: Time,
+    place: usize,
+) -> bool
+    ensures { OnTrue result (IsFirstFrom (λ run. departs (plain_table bases.now trips.now) run call) time runs.now place) }
+{
+    if place > runs.len() {
+        return false;
+    }
+    if place > 0 && departs(bases, trips, runs[place - 1], call) >= time {
+        return false;
+    }
+    if place < runs.len() && departs(bases, trips, runs[place], call) < time {
+        return false;
+    }
+    true
+}
+
+/// The first of these runs that departs from a call at this time or later. It is looked for at the hinted place first.
 pub(crate) fn first_from(
+    bases: &[u64],
+    trips: &[Trip],
+    runs: &[Instance],
+    call: usize,
+    time: Time,
+    hint: usize,
+) -> Option<Instance>
+    requires { IsNonDecreasingBy (λ run. departs (plain_table bases.now trips.now) run call) runs.now }
+    ensures { result ≡ find (λ run. nat_le time (departs (plain_table bases.now trips.now) run call)) runs.now }
+{
+    if is_first_from(bases, trips, runs, call, time, hint) {
+        return runs.get(hint).copied();
+    }
+    first_by_halves(bases, trips, runs, call, time)
+}
+
+/// The first of these runs that departs from a call at this time or later.
+fn first_by_halves(
     bases: &[u64],
     trips: &[Trip],
     runs: &[Instance],

@@ -13,7 +13,7 @@ use crate::boards::{Places, StopBoards};
 use crate::faults::TableFault;
 use crate::patterns::{Pattern, sort_into_patterns};
 use crate::rides::{Board, Ride};
-use crate::runs::{arrives, calls_of, departs, first_from, last_by};
+use crate::runs::{arrives, calls_of, departs, first_from, last_by, start_for};
 use crate::trips::{Call, Instance, Trip};
 use crate::{boards, rules};
 use plan_base::{Caps, Time};
@@ -131,8 +131,17 @@ impl Timetable {
         ensures is { result ≡ next_run self.now p call t }
         ensures first { IsNextRun self.now p call t result }
     {
+        let hint = self.hint(p, call, t);
         let runs = self.patterns[p as usize].runs();
-        first_from(&self.bases, &self.trips, runs, call as usize, t)
+        first_from(&self.bases, &self.trips, runs, call as usize, t, hint)
+    }
+
+    /// Where the next run stands, if all runs of the pattern take as long as the first.
+    fn hint(&self, p: u32, call: u32, t: Time) -> usize
+        requires { p < length self.now.patterns }
+    {
+        let start = start_for(self.pattern_calls(p), call as usize, t);
+        self.patterns[p as usize].place_from(start)
     }
 
     /// The run of a pattern with the greatest departure at this call among those that arrive there at `t` or earlier;
