@@ -1,3 +1,5 @@
+ghost use Rattle.std.specs.Prelude.{◌≡◌};
+
 use crate::{Plain, PlainArc};
 use mode_network::{Arc, Network, Node, NodeKey, Parts};
 use plain_texts::Name;
@@ -7,10 +9,6 @@ use service_days::Days;
 use std::alloc::Global;
 use std::test::Fail;
 use timetable_arcs::{Call, Ride, Trip};
-
-fn arc(from: u32, to: u32, ms: u32) -> Arc {
-    Arc { from, to, ms }
-}
 
 /// A bus of the first date: at the first stop at eight, and at the second one ten minutes later.
 fn bus(alloc: Global) -> Result<Trip, Fail> {
@@ -44,80 +42,42 @@ fn town(alloc: Global) -> Result<Network, Fail> {
     let parts = Parts {
         days: Days::new(alloc, 20240304, 1)?,
         roads: vec![in alloc;
-            Node {
-                key: NodeKey::Road(2, -7),
-                place
-            },
-            Node {
-                key: NodeKey::Road(0, 101),
-                place
-            },
-            Node {
-                key: NodeKey::Road(1, 101),
-                place
-            },
-            Node {
-                key: NodeKey::Road(0, 102),
-                place
-            },
+            node(NodeKey::Road(2, -7), place),
+            node(NodeKey::Road(0, 101), place),
+            node(NodeKey::Road(1, 101), place),
+            node(NodeKey::Road(0, 102), place),
         ]?,
         stop_names: vec![in alloc;
             Name::from_slice(alloc, b"A")?.ok_or("no name")?,
             Name::from_slice(alloc, b"B")?.ok_or("no name")?,
         ]?,
         stops: vec![in alloc;
-            Node {
-                key: NodeKey::Stop(0),
-                place
-            },
-            Node {
-                key: NodeKey::Stop(1),
-                place
-            },
+            node(NodeKey::Stop(0), place),
+            node(NodeKey::Stop(1), place),
         ]?,
-        switches: vec![in alloc;
-            Node {
-                key: NodeKey::Switch(9),
-                place
-            },
-        ]?,
-        arcs: vec![in alloc;
-            Arc {
-                from: 1,
-                to: 3,
-                ms: 79515
-            },
-            Arc {
-                from: 3,
-                to: 1,
-                ms: 79515
-            },
-        ]?,
+        switches: vec![in alloc; node(NodeKey::Switch(9), place)]?,
+        arcs: vec![in alloc; arc(1, 3, 79515), arc(3, 1, 79515)]?,
         links: vec![in alloc;
-            Arc {
-                from: 1,
-                to: 4,
-                ms: 60000
-            },
-            Arc {
-                from: 2,
-                to: 6,
-                ms: 30000
-            },
-            Arc {
-                from: 4,
-                to: 1,
-                ms: 60000
-            },
-            Arc {
-                from: 6,
-                to: 1,
-                ms: 30000
-            },
+            arc(1, 4, 60000),
+            arc(2, 6, 30000),
+            arc(4, 1, 60000),
+            arc(6, 1, 30000),
         ]?,
         trips: vec![in alloc; bus(alloc)?]?,
     };
     Ok(Network::build(alloc, parts, &Caps::FULL)?)
+}
+
+fn node(key: NodeKey, place: Place) -> Node
+    ensures { result ≡ record { key = key; place = place } }
+{
+    Node { key, place }
+}
+
+fn arc(from: u32, to: u32, ms: u32) -> Arc
+    ensures { result ≡ record { from = from; to = to; ms = ms } }
+{
+    Arc { from, to, ms }
 }
 
 #[test]

@@ -116,9 +116,10 @@ module _ {X : Type 0} (n : X → ℕ) (time : ℕ) where
 -- what stands at a place that fits
 pub found_at_hint : {X : Type 0} (n : X → ℕ) (time : ℕ) (xs : List X) (place : ℕ) → IsNonDecreasingBy n xs → IsFirstFrom n time xs place
     → slice_get xs place ≡ find (λ y. nat_le time (n y)) xs
-found_at_hint n time xs place rise first = found_from n time xs place first.within
-    ((λ k d from lt. lt-ltb _ _ (let here = first.before d (omega arith) in let le = rise k (place - 1) d (omega arith) (let within = first.within in omega arith) in omega arith)),
-    (λ k d from lt. le-ltb _ _ (let here = first.at d (omega arith) in let le = rise place k d from lt in omega arith)))
+found_at_hint n time xs place rise first = found_from n time xs place first.within (
+  (λ k d from lt. lt-ltb _ _ (let here = first.before d (omega arith) in let le = rise k (place - 1) d (omega arith) (let within = first.within in omega arith) in omega arith)),
+  (λ k d from lt. le-ltb _ _ (let here = first.at d (omega arith) in let le = rise place k d from lt in omega arith)),
+)
 
 module _ (t : TableLists) (call time : ℕ) where
   abbrev pub passes : Instance → Bool

@@ -65,13 +65,7 @@ impl Pattern {
 
 /// Whether a run may stand behind the runs of a pattern.
 #[tactic(auto, using(crate::proofs::HeadLemmas::heads_alike))]
-fn follows(
-    bases: &[u64],
-    trips: &[Trip],
-    heads: &[u32],
-    runs: &[Instance],
-    run: Instance,
-) -> bool
+fn follows(bases: &[u64], trips: &[Trip], heads: &[u32], runs: &[Instance], run: Instance) -> bool
     requires { AreHeads trips.now heads.now }
     ensures { OnTrue result (Follows (plain_table bases.now trips.now) runs.now run) }
 {
@@ -213,7 +207,16 @@ pub(crate) fn sort_into_patterns(
     let mut latest = vec![in alloc; 0usize; trips.len()]?;
     let mut patterns = Vec::new(alloc);
     for day in 0..days {
-        put_day(alloc, bases, trips, &heads, &order, day, &mut patterns, &mut latest)?;
+        put_day(
+            alloc,
+            bases,
+            trips,
+            &heads,
+            &order,
+            day,
+            &mut patterns,
+            &mut latest,
+        )?;
     }
     Ok(patterns)
 }

@@ -88,7 +88,10 @@ fn runs_in_turn_share_a_pattern(rt: HostRuntime) -> Result<(), Fail> {
     assert_eq!(rt; table.pattern_calls(0).len(), 3);
     let found = |run: Option<Instance>| run.map(|run| (run.trip, run.day));
     assert_eq!(rt; found(table.next(0, 0, moment(7, AT_8_00))), Some((1, 7)));
-    assert_eq!(rt; found(table.next(0, 0, moment(7, AT_8_00) + 1)), Some((0, 7)));
+    assert_eq!(rt;
+        found(table.next(0, 0, moment(7, AT_8_00) + 1)),
+        Some((0, 7))
+    );
     assert_eq!(rt; found(table.next(0, 0, moment(7, AT_8_10))), Some((1, 8)));
     assert_eq!(rt; found(table.next(0, 0, moment(8, AT_8_10))), None);
     assert_eq!(rt; found(table.last(0, 2, moment(8, AT_8_00))), Some((0, 7)));
