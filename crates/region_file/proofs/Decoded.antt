@@ -1,5 +1,5 @@
 -- What the bytes of a region spell: the laws of the whole.
-use Rattle.std.proofs.Common.{◌≡◌, ℕ, List, [], ◌∷◌, ◌++◌, length, map, take, drop, refl, ap, sym, ◌∙◌, subst}
+use Rattle.std.proofs.Common.{◌≡◌, ℕ, List, [], ◌∷◌, ◌++◌, length, map, take, drop, refl, ap, sym, ◌∙◌, subst, inl, inr}
 use Rattle.std.specs.Prelude.{Option, Some, None, Result, Ok, Err, fold, IfOk, IfErr}
 use Rattle.std.specs.Str.{bytes_eq}
 use Rattle.std.specs.List.{AllByRecursion}
@@ -20,7 +20,10 @@ use Rattle.region_file.specs.declared.fault.RegionFault.TheVariants.{BadHead, Ba
 use Rattle.region_file.specs.declared.lines.Line.{Line}
 use Rattle.region_file.specs.Lines.{FitsLine, IsRegion, head_line, region_lines, region_text, spelled}
 use Rattle.region_file.specs.Sections.{is_end, line_at, progress_after, start}
-use Rattle.region_file.specs.Regions.{Gives, HasCause, IsDecoded, behind_head, from_text, lists_of, network_of, nothing, or_fault, put, put_all, region_of}
+use Rattle.region_file.specs.Regions.{AreSpelling, Gives, HasCause, IsDecoded, behind_head, lists_by, lists_of, network_of, nothing, or_fault, put, put_all, region_of}
+use Rattle.region_file.specs.Bytes.{region_bytes}
+use Rattle.region_file.proofs.FrontLaws.{IsBytes}
+use Rattle.region_file.proofs.RecordsDecoded.{lists_in_again, not_text, records_cause, records_found}
 use Rattle.region_file.proofs.KindLaws.{words_are_words}
 use Rattle.region_file.proofs.SectionLaws.{reads_lines}
 use Rattle.region_file.proofs.Found.{all_lines}
@@ -81,10 +84,10 @@ text_cause caps bytes text fault head e = by_course (lines_from line_at is_end s
     by_course (whole ls) is e = absurd (cc)
     by_course (bad k) is e =
         subst (λ f. HasCause caps bytes f) (same_Err {A = NetworkLists} (BadRecord k) fault e)
-        (text, record { is = head }, course_bad spelled FitsLine progress_after is_end line_at reads_lines (pieces text) start 2 k refl (has_pieces text) is)
+        (inl (text, record { is = head }, course_bad spelled FitsLine progress_after is_end line_at reads_lines (pieces text) start 2 k refl (has_pieces text) is))
     by_course (trailing k) is e =
         subst (λ f. HasCause caps bytes f) (same_Err {A = NetworkLists} (Trailing k) fault e)
-        (text, record { is = head }, course_trailing spelled FitsLine progress_after is_end line_at reads_lines (pieces text) start 2 k is)
+        (inl (text, record { is = head }, course_trailing spelled FitsLine progress_after is_end line_at reads_lines (pieces text) start 2 k is))
 
 spelled_so : (bytes text : List ℕ) (n : NetworkLists) → bytes ≡ head_line ++ text → lists_of text ≡ Ok n → IsRegion n × (bytes ≡ region_text n)
 unfolding region_text
@@ -92,66 +95,81 @@ spelled_so bytes text n head e =
     let found = lists_found text n e in
     (found.0, head ∙ ap (λ x. head_line ++ x) found.1)
 
--- A refusal has its cause.
-pub region_cause : (caps : Caps) (bytes : List ℕ) (fault : RegionFault) → region_of caps bytes ≡ Err fault → HasCause caps bytes fault
-unfolding region_of
-region_cause caps bytes fault e = by_head (behind_head bytes) refl e
+-- What is read in either format is spelled so.
+pub either_found : (bytes : List ℕ) → IsBytes bytes → (n : NetworkLists) → lists_by bytes (behind_head bytes) ≡ Ok n → IsRegion n × AreSpelling bytes n
+either_found bytes fits n e = by_head (behind_head bytes) refl e
   where
-    by_rules : (text : List ℕ) (n : NetworkLists) → bytes ≡ head_line ++ text → lists_of text ≡ Ok n → (o : Option NetFault) → first_fault caps n ≡ o → or_fault n o ≡ Err fault → HasCause caps bytes fault
-    by_rules text n head is None rules e = absurd (cc)
-    by_rules text n head is (Some broken) rules e =
-        let found = spelled_so bytes text n head is in
+    by_head : (o : Option (List ℕ)) → behind_head bytes ≡ o → lists_by bytes o ≡ Ok n → IsRegion n × AreSpelling bytes n
+    by_head None is e = (let found = records_found bytes fits n e in (found.0, inr found.1))
+    by_head (Some text) is e = (let found = spelled_so bytes text n (head_found bytes text is) e in (found.0, inl found.1))
+
+either_cause : (caps : Caps) (bytes : List ℕ) → IsBytes bytes → (fault : RegionFault) → lists_by bytes (behind_head bytes) ≡ Err fault → HasCause caps bytes fault
+either_cause caps bytes fits fault e = by_head (behind_head bytes) refl e
+  where
+    by_head : (o : Option (List ℕ)) → behind_head bytes ≡ o → lists_by bytes o ≡ Err fault → HasCause caps bytes fault
+    by_head None is e = records_cause bytes fits caps fault (λ text h. none-some text (sym is ∙ ap behind_head h.is ∙ head_again text)) e
+    by_head (Some text) is e = text_cause caps bytes text fault (head_found bytes text is) e
+
+-- A refusal has its cause.
+pub region_cause : (caps : Caps) (bytes : List ℕ) → IsBytes bytes → (fault : RegionFault) → region_of caps bytes ≡ Err fault → HasCause caps bytes fault
+unfolding region_of
+region_cause caps bytes fits fault e = by_lists (lists_by bytes (behind_head bytes)) refl e
+  where
+    by_rules : (n : NetworkLists) → lists_by bytes (behind_head bytes) ≡ Ok n → (o : Option NetFault) → first_fault caps n ≡ o → or_fault n o ≡ Err fault → HasCause caps bytes fault
+    by_rules n is None rules e = absurd (cc)
+    by_rules n is (Some broken) rules e =
+        let found = either_found bytes fits n is in
         subst (λ f. HasCause caps bytes f) (same_Err {A = NetworkLists} (Network broken) fault e) (n, found.0, found.1, rules)
 
-    by_lists : (text : List ℕ) → bytes ≡ head_line ++ text → (r : Result NetworkLists RegionFault) → lists_of text ≡ r → network_of caps r ≡ Err fault → HasCause caps bytes fault
-    by_lists text head (Ok n) is e = by_rules text n head is (first_fault caps n) refl e
-    by_lists text head (Err f) is e = text_cause caps bytes text fault head (is ∙ e)
-
-    by_head : (o : Option (List ℕ)) → behind_head bytes ≡ o → from_text caps o ≡ Err fault → HasCause caps bytes fault
-    by_head None is e =
-        subst (λ f. HasCause caps bytes f) (same_Err {A = NetworkLists} BadHead fault e) (λ text head. none-some text (sym is ∙ ap behind_head head ∙ head_again text))
-    by_head (Some text) is e = by_lists text (head_found bytes text is) (lists_of text) refl e
+    by_lists : (r : Result NetworkLists RegionFault) → lists_by bytes (behind_head bytes) ≡ r → network_of caps r ≡ Err fault → HasCause caps bytes fault
+    by_lists (Ok n) is e = by_rules n is (first_fault caps n) refl e
+    by_lists (Err f) is e = either_cause caps bytes fits fault (is ∙ e)
 
 -- What is answered as a network is one, and spelled so.
-pub region_found : (caps : Caps) (bytes : List ℕ) (n : NetworkLists) → region_of caps bytes ≡ Ok n → IsDecoded caps bytes n
+pub region_found : (caps : Caps) (bytes : List ℕ) → IsBytes bytes → (n : NetworkLists) → region_of caps bytes ≡ Ok n → IsDecoded caps bytes n
 unfolding region_of
-region_found caps bytes n e = by_head (behind_head bytes) refl e
+region_found caps bytes fits n e = by_lists (lists_by bytes (behind_head bytes)) refl e
   where
-    by_rules : (text : List ℕ) (m : NetworkLists) → bytes ≡ head_line ++ text → lists_of text ≡ Ok m → (o : Option NetFault) → first_fault caps m ≡ o → or_fault m o ≡ Ok n → IsDecoded caps bytes n
-    by_rules text m head is None rules e =
-        let found = spelled_so bytes text m head is in
+    by_rules : (m : NetworkLists) → lists_by bytes (behind_head bytes) ≡ Ok m → (o : Option NetFault) → first_fault caps m ≡ o → or_fault m o ≡ Ok n → IsDecoded caps bytes n
+    by_rules m is None rules e =
+        let found = either_found bytes fits m is in
         subst (λ x. IsDecoded caps bytes x) (same_Ok {E = RegionFault} m n e) (record { region = found.0; spelled = found.1; faultless = rules })
-    by_rules text m head is (Some broken) rules e = absurd (cc)
+    by_rules m is (Some broken) rules e = absurd (cc)
 
-    by_lists : (text : List ℕ) → bytes ≡ head_line ++ text → (r : Result NetworkLists RegionFault) → lists_of text ≡ r → network_of caps r ≡ Ok n → IsDecoded caps bytes n
-    by_lists text head (Ok m) is e = by_rules text m head is (first_fault caps m) refl e
-    by_lists text head (Err f) is e = absurd (cc)
+    by_lists : (r : Result NetworkLists RegionFault) → lists_by bytes (behind_head bytes) ≡ r → network_of caps r ≡ Ok n → IsDecoded caps bytes n
+    by_lists (Ok m) is e = by_rules m is (first_fault caps m) refl e
+    by_lists (Err f) is e = absurd (cc)
 
-    by_head : (o : Option (List ℕ)) → behind_head bytes ≡ o → from_text caps o ≡ Ok n → IsDecoded caps bytes n
-    by_head None is e = absurd (cc)
-    by_head (Some text) is e = by_lists text (head_found bytes text is) (lists_of text) refl e
+-- A network that is spelled in either format and keeps the rules is answered.
+either_again : (bytes : List ℕ) (n : NetworkLists) → IsRegion n → AreSpelling bytes n → lists_by bytes (behind_head bytes) ≡ Ok n
+unfolding region_text
+either_again bytes n region (inl text) =
+    ap (λ x. lists_by x (behind_head x)) text
+    ∙ ap (lists_by (region_text n)) (head_again (lines_text (map spelled (region_lines n))))
+    ∙ lists_again n region
+either_again bytes n region (inr h) =
+    ap (λ x. lists_by x (behind_head x)) h.spelled
+    ∙ ap (lists_by (region_bytes n)) (not_text n)
+    ∙ lists_in_again n region h.counts
 
--- A network that is spelled and keeps the rules is answered.
 pub region_again : (caps : Caps) (bytes : List ℕ) (n : NetworkLists) → IsDecoded caps bytes n → region_of caps bytes ≡ Ok n
-unfolding region_of region_text
+unfolding region_of
 region_again caps bytes n h =
-    ap (λ x. from_text caps (behind_head x)) h.spelled
-    ∙ ap (from_text caps) (head_again (lines_text (map spelled (region_lines n))))
-    ∙ ap (network_of caps) (lists_again n h.region)
+    ap (network_of caps) (either_again bytes n h.region h.spelled)
     ∙ ap (or_fault n) h.faultless
 
 -- The clauses of decode, from what it gives.
-pub gives_found : (caps : Caps) (bytes : List ℕ) (r : Result NetworkLists RegionFault) → Gives r (region_of caps bytes) → IfOk r (IsDecoded caps bytes)
-gives_found caps bytes (Ok n) e = region_found caps bytes n e
-gives_found caps bytes (Err fault) e = tt
+pub gives_found : (caps : Caps) (bytes : List ℕ) → IsBytes bytes → (r : Result NetworkLists RegionFault) → Gives r (region_of caps bytes) → IfOk r (IsDecoded caps bytes)
+gives_found caps bytes fits (Ok n) e = region_found caps bytes fits n e
+gives_found caps bytes fits (Err fault) e = tt
 
 pub gives_only : (caps : Caps) (bytes : List ℕ) (r : Result NetworkLists RegionFault) → Gives r (region_of caps bytes) → (n : NetworkLists) → IsDecoded caps bytes n → Gives r (Ok n)
 gives_only caps bytes r e n h = subst (λ x. Gives r x) (region_again caps bytes n h) e
 
-pub gives_cause : (caps : Caps) (bytes : List ℕ) (r : Result NetworkLists RegionFault) → Gives r (region_of caps bytes) → IfErr r (HasCause caps bytes)
-gives_cause caps bytes (Ok n) e = tt
-gives_cause caps bytes (Err BadHead) e = region_cause caps bytes BadHead e
-gives_cause caps bytes (Err (BadRecord at)) e = region_cause caps bytes (BadRecord at) e
-gives_cause caps bytes (Err (Network broken)) e = region_cause caps bytes (Network broken) e
-gives_cause caps bytes (Err (Trailing at)) e = region_cause caps bytes (Trailing at) e
-gives_cause caps bytes (Err OutOfMemory) e = tt
+pub gives_cause : (caps : Caps) (bytes : List ℕ) → IsBytes bytes → (r : Result NetworkLists RegionFault) → Gives r (region_of caps bytes) → IfErr r (HasCause caps bytes)
+gives_cause caps bytes fits (Ok n) e = tt
+gives_cause caps bytes fits (Err BadHead) e = region_cause caps bytes fits BadHead e
+gives_cause caps bytes fits (Err (BadRecord at)) e = region_cause caps bytes fits (BadRecord at) e
+gives_cause caps bytes fits (Err (Network broken)) e = region_cause caps bytes fits (Network broken) e
+gives_cause caps bytes fits (Err (Trailing at)) e = region_cause caps bytes fits (Trailing at) e
+gives_cause caps bytes fits (Err OutOfMemory) e = tt

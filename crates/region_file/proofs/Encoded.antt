@@ -3,7 +3,8 @@ use Rattle.std.proofs.Common.{◌≡◌, ℕ, suc, List, [], ◌∷◌, ◌++◌
 use Rattle.std.specs.Prelude.{All, zip}
 use Rattle.std.specs.List.{flat_map}
 use Rattle.std.proofs.lemmas.Grind.{flat_map-append}
-use Rattle.std.proofs.lemmas.List.{flat_map_more, get_or_default, take_more}
+use Rattle.std.proofs.lemmas.List.Concat.{flat_map-cons}
+use Rattle.std.proofs.lemmas.List.{append-nil, flat_map_more, get_or_default, take_more}
 use Rattle.std.proofs.lemmas.List.Elements.{All-head, All-tail}
 use Rattle.std.proofs.lemmas.List.Folds.{flat_map-map}
 use Rattle.std.proofs.lemmas.Slice.Zip.{get_or-zip, length-zip}
@@ -17,8 +18,9 @@ use Rattle.mode_network.specs.NetworkLists.{NetworkLists, nodes_of}
 use Rattle.mode_network.specs.Rules.{AreParts, IsRoad, IsStop, IsSwitch}
 use Rattle.region_file.specs.declared.lines.Line.{Line}
 use Rattle.region_file.specs.declared.lines.Line.TheVariants as line
+use Rattle.region_file.specs.Bytes.{arc_bytes, counts_of, head_bytes, record_bytes, region_bytes}
 use Rattle.region_file.specs.Lines.{head_line, key_line, node_line, region_lines, region_text, spelled, stop_line, trip_lines}
-use Rattle.region_file.specs.Texts.{line_text, name_at, named_line, node_text, trip_text}
+use Rattle.region_file.specs.Texts.{line_text, name_at, named_line, node_record, node_text, trip_records, trip_text}
 
 -- One element more of a list.
 module _ {X : Type 0} (xs : List X) (k : ℕ) (x : X) (within : k < length xs) (is : get_or xs k x ≡ x) where
@@ -35,19 +37,31 @@ lines_are : (ls : List Line) → lines_text (map spelled ls) ≡ flat_map line_t
 lines_are [] = refl
 lines_are (l ∷ ls) = ap (λ text. line_text l ++ text) (lines_are ls)
 
-trips_are : (trips : List TripLists) → flat_map line_text (flat_map trip_lines trips) ≡ flat_map trip_text trips
-trips_are [] = refl
-trips_are (trip ∷ trips) =
-    flat_map-append line_text (trip_lines trip) (flat_map trip_lines trips)
-    ∙ ap₂ (λ calls more. (line_text (line.Trip trip.letter trip.days (length trip.calls) trip.name) ++ calls) ++ more) (flat_map-map line_text line.Call trip.calls) (trips_are trips)
+-- The texts of lines, whatever the text of a line is.
+module _ (text : Line → List ℕ) where
+  abbrev pub node_by : List (List ℕ) → Node → List ℕ
+  node_by names node = text (named_line names node.key node.place)
 
--- the texts of the sections, one behind the other
-section_texts : (roads stops switches arcs links trips end : List Line) → flat_map line_text (roads ++ (stops ++ (switches ++ (arcs ++ (links ++ (trips ++ end)))))) ≡ flat_map line_text roads ++ (flat_map line_text stops ++ (flat_map line_text switches ++ (flat_map line_text arcs ++ (flat_map line_text links ++ (flat_map line_text trips ++ flat_map line_text end)))))
-section_texts roads stops switches arcs links trips end = simp flat_map-append
+  abbrev pub trip_by : TripLists → List ℕ
+  trip_by trip = text (line.Trip trip.letter trip.days (length trip.calls) trip.name) ++ flat_map (λ call. text (line.Call call)) trip.calls
+
+  trips_are : (trips : List TripLists) → flat_map text (flat_map trip_lines trips) ≡ flat_map trip_by trips
+  trips_are [] = refl
+  trips_are (trip ∷ trips) =
+      flat_map-append text (trip_lines trip) (flat_map trip_lines trips)
+      ∙ ap₂ (λ calls more. (text (line.Trip trip.letter trip.days (length trip.calls) trip.name) ++ calls) ++ more) (flat_map-map text line.Call trip.calls) (trips_are trips)
+
+  -- the texts of the sections, one behind the other
+  section_texts : (roads stops switches arcs links trips end : List Line) → flat_map text (roads ++ (stops ++ (switches ++ (arcs ++ (links ++ (trips ++ end)))))) ≡ flat_map text roads ++ (flat_map text stops ++ (flat_map text switches ++ (flat_map text arcs ++ (flat_map text links ++ (flat_map text trips ++ flat_map text end)))))
+  section_texts roads stops switches arcs links trips end = simp flat_map-append
 
 regrouped : (head days nodes roads stops switches arcs arc_lines links link_lines trips trip_lines end : List ℕ) → nodes ≡ roads ++ (stops ++ switches) → arcs ≡ arc_lines → links ≡ link_lines → trips ≡ trip_lines
     → (((((head ++ days) ++ nodes) ++ arcs) ++ links) ++ trips) ++ end ≡ head ++ (days ++ (roads ++ (stops ++ (switches ++ (arc_lines ++ (link_lines ++ (trip_lines ++ end)))))))
 regrouped head days nodes roads stops switches arcs arc_lines links link_lines trips trip_lines end nodes_are arcs_are links_are trips_are = rw (nodes_are, arcs_are, links_are, trips_are) (simp append_assoc)
+
+regrouped_records : (head nodes roads stops switches arcs arc_lines links link_lines trips trip_lines : List ℕ) → nodes ≡ roads ++ (stops ++ switches) → arcs ≡ arc_lines → links ≡ link_lines → trips ≡ trip_lines
+    → (((head ++ nodes) ++ arcs) ++ links) ++ trips ≡ head ++ (roads ++ (stops ++ (switches ++ (arc_lines ++ (link_lines ++ trip_lines)))))
+regrouped_records head nodes roads stops switches arcs arc_lines links link_lines trips trip_lines nodes_are arcs_are links_are trips_are = rw (nodes_are, arcs_are, links_are, trips_are) (simp append_assoc)
 
 same_texts : {X Y : Type 0} (f : X → List ℕ) (g : Y → List ℕ) (xs : List X) (ys : List Y) → length xs ≡ length ys → ((k : ℕ) (d : X) (e : Y) → k < length xs → f (get_or xs k d) ≡ g (get_or ys k e)) → flat_map f xs ≡ flat_map g ys
 same_texts f g [] [] long h = refl
@@ -55,7 +69,7 @@ same_texts f g [] (y ∷ ys) long h = absurd (omega arith)
 same_texts f g (x ∷ xs) [] long h = absurd (omega arith)
 same_texts f g (x ∷ xs) (y ∷ ys) long h = ap₂ (λ text more. text ++ more) (h 0 x y (omega arith)) (same_texts f g xs ys (omega arith) (λ k d e lt. h (suc k) d e (omega arith)))
 
-module _ (names : List (List ℕ)) where
+module _ (text : Line → List ℕ) (names : List (List ℕ)) where
   road_named : (key : NodeKey) (place : Place) → IsRoad key → named_line names key place ≡ key_line key place
   road_named (Road mode id) place h = refl
   road_named (Stop stop) place h = absurd h
@@ -72,35 +86,36 @@ module _ (names : List (List ℕ)) where
   stop_named k (Switch id) place h = absurd h
 
   -- nodes whose lines need no name
-  unnamed : (nodes : List Node) → All (λ (node : Node). named_line names node.key node.place ≡ node_line node) nodes → flat_map (node_text names) nodes ≡ flat_map line_text (map node_line nodes)
+  unnamed : (nodes : List Node) → All (λ (node : Node). named_line names node.key node.place ≡ node_line node) nodes → flat_map (node_by text names) nodes ≡ flat_map text (map node_line nodes)
   unnamed [] h = refl
-  unnamed (node ∷ nodes) h = ap₂ (λ l more. line_text l ++ more) (All-head (λ (x : Node). named_line names x.key x.place ≡ node_line x) node nodes h) (unnamed nodes (All-tail (λ (x : Node). named_line names x.key x.place ≡ node_line x) node nodes h))
+  unnamed (node ∷ nodes) h = ap₂ (λ l more. text l ++ more) (All-head (λ (x : Node). named_line names x.key x.place ≡ node_line x) node nodes h) (unnamed nodes (All-tail (λ (x : Node). named_line names x.key x.place ≡ node_line x) node nodes h))
 
-  stops_are : (stops : List Node) → ((k : ℕ) (d : Node) → k < length stops → IsStop k (get_or stops k d).key) → length names ≡ length stops → flat_map (node_text names) stops ≡ flat_map line_text (map stop_line (zip names stops))
+  stops_are : (stops : List Node) → ((k : ℕ) (d : Node) → k < length stops → IsStop k (get_or stops k d).key) → length names ≡ length stops → flat_map (node_by text names) stops ≡ flat_map text (map stop_line (zip names stops))
   stops_are stops are long =
-      same_texts (node_text names) (λ stop. line_text (stop_line stop)) stops (zip names stops) (omega (arith, long, length-zip names stops)) each
-      ∙ sym (flat_map-map line_text stop_line (zip names stops))
+      same_texts (node_by text names) (λ stop. text (stop_line stop)) stops (zip names stops) (omega (arith, long, length-zip names stops)) each
+      ∙ sym (flat_map-map text stop_line (zip names stops))
     where
-      each : (k : ℕ) (d : Node) (e : List ℕ × Node) → k < length stops → node_text names (get_or stops k d) ≡ line_text (stop_line (get_or (zip names stops) k e))
+      each : (k : ℕ) (d : Node) (e : List ℕ × Node) → k < length stops → node_by text names (get_or stops k d) ≡ text (stop_line (get_or (zip names stops) k e))
       each k d e lt =
           let stop = get_or stops k d in
           let named : named_line names stop.key stop.place ≡ line.Stop (name_at names k) stop.place = stop_named k stop.key stop.place (are k d lt) in
           let pair : get_or (zip names stops) k e ≡ (name_at names k, stop)
           = get_or-zip names stops k e (omega (arith, long)) lt ∙ ap₂ (λ name node. (name, node)) (get_or_default names k e.0 [] (omega (arith, long))) (get_or_default stops k e.1 d lt) in
-          ap line_text named ∙ ap (λ p. line_text (stop_line p)) (sym pair)
+          ap text named ∙ ap (λ p. text (stop_line p)) (sym pair)
+
+module _ (text : Line → List ℕ) (n : NetworkLists) (parts : AreParts n) where
+  nodes_are : flat_map (node_by text n.stop_names) (nodes_of n) ≡ flat_map text (map node_line n.roads) ++ (flat_map text (map stop_line (zip n.stop_names n.stops)) ++ flat_map text (map node_line n.switches))
+  nodes_are =
+      flat_map-append (node_by text n.stop_names) (n.roads ++ n.stops) n.switches
+      ∙ ap (λ t. t ++ flat_map (node_by text n.stop_names) n.switches) (flat_map-append (node_by text n.stop_names) n.roads n.stops)
+      ∙ append_assoc (flat_map (node_by text n.stop_names) n.roads) (flat_map (node_by text n.stop_names) n.stops) (flat_map (node_by text n.stop_names) n.switches)
+      ∙ ap₂ (λ roads more. roads ++ more)
+      (unnamed text n.stop_names n.roads (λ k d lt. road_named text n.stop_names (get_or n.roads k d).key (get_or n.roads k d).place (parts.roads_are k d lt)))
+      (ap₂ (λ stops switches. stops ++ switches)
+      (stops_are text n.stop_names n.stops parts.stops_are parts.one_name_each)
+      (unnamed text n.stop_names n.switches (λ k d lt. switch_named text n.stop_names (get_or n.switches k d).key (get_or n.switches k d).place (parts.switches_are k d lt))))
 
 module _ (n : NetworkLists) (parts : AreParts n) where
-  nodes_are : flat_map (node_text n.stop_names) (nodes_of n) ≡ flat_map line_text (map node_line n.roads) ++ (flat_map line_text (map stop_line (zip n.stop_names n.stops)) ++ flat_map line_text (map node_line n.switches))
-  nodes_are =
-      flat_map-append (node_text n.stop_names) (n.roads ++ n.stops) n.switches
-      ∙ ap (λ text. text ++ flat_map (node_text n.stop_names) n.switches) (flat_map-append (node_text n.stop_names) n.roads n.stops)
-      ∙ append_assoc (flat_map (node_text n.stop_names) n.roads) (flat_map (node_text n.stop_names) n.stops) (flat_map (node_text n.stop_names) n.switches)
-      ∙ ap₂ (λ roads more. roads ++ more)
-      (unnamed n.stop_names n.roads (λ k d lt. road_named n.stop_names (get_or n.roads k d).key (get_or n.roads k d).place (parts.roads_are k d lt)))
-      (ap₂ (λ stops switches. stops ++ switches)
-      (stops_are n.stop_names n.stops parts.stops_are parts.one_name_each)
-      (unnamed n.stop_names n.switches (λ k d lt. switch_named n.stop_names (get_or n.switches k d).key (get_or n.switches k d).place (parts.switches_are k d lt))))
-
   -- The text of the lists, one behind the other.
   pub written : (((((head_line ++ line_text (line.Days n.days)) ++ flat_map (node_text n.stop_names) (nodes_of n)) ++ flat_map (λ arc. line_text (line.Arc arc)) n.arcs) ++ flat_map (λ link. line_text (line.Link link)) n.links) ++ flat_map trip_text n.trips) ++ codes "end\n" ≡ region_text n
   unfolding region_text region_lines spaced
@@ -108,7 +123,25 @@ module _ (n : NetworkLists) (parts : AreParts n) where
       let roads = flat_map line_text (map node_line n.roads) in
       let stops = flat_map line_text (map stop_line (zip n.stop_names n.stops)) in
       let switches = flat_map line_text (map node_line n.switches) in
-      regrouped head_line (line_text (line.Days n.days)) _ roads stops switches _ _ _ _ _ _ (codes "end\n") nodes_are (sym (flat_map-map line_text line.Arc n.arcs)) (sym (flat_map-map line_text line.Link n.links)) (sym (trips_are n.trips))
+      regrouped head_line (line_text (line.Days n.days)) _ roads stops switches _ _ _ _ _ _ (codes "end\n") (nodes_are line_text n parts) (sym (flat_map-map line_text line.Arc n.arcs)) (sym (flat_map-map line_text line.Link n.links)) (sym (trips_are line_text n.trips))
       ∙ ap (λ text. head_line ++ (line_text (line.Days n.days) ++ text))
-      (sym (section_texts (map node_line n.roads) (map stop_line (zip n.stop_names n.stops)) (map node_line n.switches) (map line.Arc n.arcs) (map line.Link n.links) (flat_map trip_lines n.trips) (line.End ∷ [])))
+      (sym (section_texts line_text (map node_line n.roads) (map stop_line (zip n.stop_names n.stops)) (map node_line n.switches) (map line.Arc n.arcs) (map line.Link n.links) (flat_map trip_lines n.trips) (line.End ∷ [])))
       ∙ ap (λ text. head_line ++ text) (sym (lines_are (region_lines n)))
+
+  -- The records of the lists, one behind the other.
+  pub written_records : (head : List ℕ) → (((head ++ flat_map (node_record n.stop_names) (nodes_of n)) ++ flat_map arc_bytes n.arcs) ++ flat_map arc_bytes n.links) ++ flat_map trip_records n.trips ≡ head ++ flat_map record_bytes (region_lines n)
+  unfolding region_lines
+  written_records head =
+      let roads = flat_map record_bytes (map node_line n.roads) in
+      let stops = flat_map record_bytes (map stop_line (zip n.stop_names n.stops)) in
+      let switches = flat_map record_bytes (map node_line n.switches) in
+      let lines = map node_line n.roads ++ (map stop_line (zip n.stop_names n.stops) ++ (map node_line n.switches ++ (map line.Arc n.arcs ++ (map line.Link n.links ++ (flat_map trip_lines n.trips ++ line.End ∷ []))))) in
+      let none : flat_map record_bytes (line.End ∷ []) ≡ [] = flat_map-cons record_bytes line.End [] in
+      regrouped_records head _ roads stops switches _ _ _ _ _ _ (nodes_are record_bytes n parts) (sym (flat_map-map record_bytes line.Arc n.arcs)) (sym (flat_map-map record_bytes line.Link n.links)) (sym (trips_are record_bytes n.trips))
+      ∙ ap (λ t. head ++ (roads ++ (stops ++ (switches ++ (flat_map record_bytes (map line.Arc n.arcs) ++ (flat_map record_bytes (map line.Link n.links) ++ t)))))) (sym (append-nil (flat_map record_bytes (flat_map trip_lines n.trips))) ∙ ap (λ t. flat_map record_bytes (flat_map trip_lines n.trips) ++ t) (sym none))
+      ∙ ap (λ t. head ++ t) (sym (section_texts record_bytes (map node_line n.roads) (map stop_line (zip n.stop_names n.stops)) (map node_line n.switches) (map line.Arc n.arcs) (map line.Link n.links) (flat_map trip_lines n.trips) (line.End ∷ [])))
+      ∙ ap (λ t. head ++ t) (sym (flat_map-cons record_bytes (line.Days n.days) lines))
+
+  pub records_written : (((head_bytes n.days (counts_of n) ++ flat_map (node_record n.stop_names) (nodes_of n)) ++ flat_map arc_bytes n.arcs) ++ flat_map arc_bytes n.links) ++ flat_map trip_records n.trips ≡ region_bytes n
+  unfolding region_bytes
+  records_written = written_records (head_bytes n.days (counts_of n))

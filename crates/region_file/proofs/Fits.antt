@@ -1,5 +1,5 @@
 -- Each network has a spelling: each of its lines says what a line may say.
-use Rattle.std.proofs.Common.{◌≡◌, ℕ, List, [], ◌∷◌, ◌++◌, length, map, ◌<◌, ◌≤◌, ◌^◌, true, arith, length-append}
+use Rattle.std.proofs.Common.{◌≡◌, ℕ, List, [], ◌∷◌, ◌++◌, length, map, ◌<◌, ◌≤◌, ◌+◌, ◌^◌, true, arith, length-append}
 use Rattle.std.specs.Prelude.{All, nat_le, slice_index_or, zip}
 use Rattle.std.specs.List.{AllByRecursion, flat_map}
 use Rattle.std.proofs.lemmas.Bool.{leb-true}
@@ -18,6 +18,7 @@ use Rattle.mode_network.specs.declared.nodes.NodeKey.TheVariants.{Road, Stop, Sw
 use Rattle.mode_network.specs.NetworkLists.{NetworkLists}
 use Rattle.mode_network.specs.Rules.{IsNetwork, IsRoad, IsSwitch}
 use Rattle.mode_network.proofs.RuleLemmas.{arcs_in_range, links_in_range, nodes_hold_roads}
+use Rattle.region_file.specs.Bytes.{FitCounts, counts_of}
 use Rattle.region_file.specs.declared.lines.Line.{Line}
 use Rattle.region_file.specs.declared.lines.Line.TheVariants as line
 use Rattle.region_file.specs.Lines.{FitsArc, FitsCall, FitsDays, FitsLine, IsRegion, key_line, node_line, region_lines, stop_line, trip_lines}
@@ -26,16 +27,16 @@ use Rattle.region_file.specs.Lines.{FitsArc, FitsCall, FitsDays, FitsLine, IsReg
 each_fits : {X : Type 0} (f : X → Line) (P : X → Type 0) → ((x : X) → P x → FitsLine (f x)) → (xs : List X) → All P xs → AllByRecursion FitsLine (map f xs)
 each_fits f P fits xs h = recursion_from_All FitsLine (map f xs) (All-map FitsLine f xs (All-weaker P (λ x. FitsLine (f x)) fits xs h))
 
-both_fit : (xs ys : List Line) → AllByRecursion FitsLine xs → AllByRecursion FitsLine ys → AllByRecursion FitsLine (xs ++ ys)
+pub both_fit : (xs ys : List Line) → AllByRecursion FitsLine xs → AllByRecursion FitsLine ys → AllByRecursion FitsLine (xs ++ ys)
 both_fit [] ys before after = after
 both_fit (x ∷ xs) ys before after = (before.0, both_fit xs ys before.1 after)
 
-road_fits : (key : NodeKey) (place : Place) → IsRoad key → FitsLine (key_line key place)
+pub road_fits : (key : NodeKey) (place : Place) → IsRoad key → FitsLine (key_line key place)
 road_fits (Road mode id) place h = h
 road_fits (Stop stop) place h = absurd h
 road_fits (Switch id) place h = absurd h
 
-switch_fits : (key : NodeKey) (place : Place) → IsSwitch key → FitsLine (key_line key place)
+pub switch_fits : (key : NodeKey) (place : Place) → IsSwitch key → FitsLine (key_line key place)
 switch_fits (Road mode id) place h = absurd h
 switch_fits (Stop stop) place h = absurd h
 switch_fits (Switch id) place h = h
@@ -126,3 +127,19 @@ module _ (n : NetworkLists) (network : IsNetwork n) where
       (both_fit (map line.Link n.links) _ (each_fits line.Link FitsArc (λ arc h. h) n.links links_fit)
       (both_fit (flat_map trip_lines n.trips) _ (trips_fit (length n.days.bases) (length n.stops) n.trips few_days few_stops (spelled_trips days)) closing))))) in
       record { parts = network.parts; fits = (days_fit n days, fits) }
+
+  -- Its counts fit their fields, and so do those of the calls of its trips.
+  pub counts_fit : FitCounts (counts_of n)
+  counts_fit =
+      let nodes : length (n.roads ++ n.stops ++ n.switches) ≡ length n.roads + length n.stops + length n.switches = omega (arith, length-append (n.roads ++ n.stops) n.switches, length-append n.roads n.stops) in
+      record {
+        roads = omega (arith, nodes, network.few_nodes);
+        stops = omega (arith, nodes, network.few_nodes);
+        switches = omega (arith, nodes, network.few_nodes);
+        arcs = omega (arith, network.few_arcs);
+        links = omega (arith, network.few_links);
+        trips = omega (arith, network.trips_fit.few);
+      }
+
+  pub few_calls : All (λ (trip : TripLists). length trip.calls < 2 ^ 32) n.trips
+  few_calls k d lt = omega (arith, network.trips_fit.few_calls, get_or-le-sum_by (λ (trip : TripLists). length trip.calls) n.trips k d lt)

@@ -36,7 +36,7 @@ use Rattle.region_file.specs.Letters.{letter_at, letter_name, letter_names}
 use Rattle.region_file.specs.Lines.{FitsArc, FitsCall, FitsDays, FitsLine, FitsTrip, arc_words, call_words, flags_of, mode_name, place_words, rule_words, spelled, words}
 use Rattle.region_file.specs.Kinds.{arc_at, call_at, days_at, end_at, kind_at, line_of, line_of_words, made, mode_at, place_at, road_at, rule_at, stop_at, switch_at, trip_at, word_at}
 
-mapped : {A B : Type 0} (f : A → B) (o : Option A) (y : B) → option_map f o ≡ Some y → (x : A) × (o ≡ Some x) × (f x ≡ y)
+pub mapped : {A B : Type 0} (f : A → B) (o : Option A) (y : B) → option_map f o ≡ Some y → (x : A) × (o ≡ Some x) × (f x ≡ y)
 mapped f None y e = absurd (none-some y e)
 mapped f (Some x) y e = (x, refl, same_Some (f x) y e)
 
@@ -113,7 +113,7 @@ letter_is_word : (letter : ℕ) → 3 ≤ letter → letter < 14 → IsWord (let
 letter_is_word letter low high = (place_laws (letter - 3) (omega (arith, low, high))).1
 
 -- places
-place_of_takes : (lat lon : ℤ) (place : Place) → place_of lat lon ≡ Some place → (lat ≡ place.lat) × (lon ≡ place.lon)
+pub place_of_takes : (lat lon : ℤ) (place : Place) → place_of lat lon ≡ Some place → (lat ≡ place.lat) × (lon ≡ place.lon)
 place_of_takes lat lon place e =
     option_and_then_some _ (shown (int_le (neg_ℤ (pos 900000000)) lat)) place e (λ south _ e.
     option_and_then_some _ (shown (int_le lat (pos 900000000))) place e (λ north _ e.
@@ -131,7 +131,7 @@ place_takes lat lon place e =
     let lon_is = (signed_takes lon (2 * 10 ^ 9) east (omega arith) is_lon).1 in
     ap₂ (λ x y. x ∷ y ∷ []) (lat_is ∙ ap signed_decimal same.0) (lon_is ∙ ap signed_decimal same.1)))
 
-size_below : (z : ℤ) (n : ℕ) → neg_ℤ (pos n) ≤ℤ z → z ≤ℤ pos n → n < 2 * 10 ^ 9 → unsigned_abs z < 2 * 10 ^ 9
+pub size_below : (z : ℤ) (n : ℕ) → neg_ℤ (pos n) ≤ℤ z → z ≤ℤ pos n → n < 2 * 10 ^ 9 → unsigned_abs z < 2 * 10 ^ 9
 size_below z n low high small = omega (arith, ints)
 
 place_is_read : (place : Place) → place_at (signed_decimal place.lat) (signed_decimal place.lon) ≡ Some place
@@ -164,19 +164,19 @@ unfolding arc_at
 arc_again arc h = rw (word_again arc.from h.from, word_again arc.to h.to, word_again arc.ms h.ms) (grind (arith, nat_tests, h.some))
 
 -- calls
-flags_read : (marks : ℕ) → marks < 4 → cond (marks % 2 == 1) 1 0 + cond (nat_le 2 marks) 2 0 ≡ marks
+pub flags_read : (marks : ℕ) → marks < 4 → cond (marks % 2 == 1) 1 0 + cond (nat_le 2 marks) 2 0 ≡ marks
 flags_read zero h = refl
 flags_read (suc zero) h = refl
 flags_read (suc (suc zero)) h = refl
 flags_read (suc (suc (suc zero))) h = refl
 flags_read (suc (suc (suc (suc n)))) h = absurd (omega (arith, h))
 
-record AreFlags (board alight : Bool) (marks : ℕ) : Type 0 where
-  few : marks < 4
-  boards : (marks % 2 == 1) ≡ board
-  alights : nat_le 2 marks ≡ alight
+pub record AreFlags (board alight : Bool) (marks : ℕ) : Type 0 where
+  pub few : marks < 4
+  pub boards : (marks % 2 == 1) ≡ board
+  pub alights : nat_le 2 marks ≡ alight
 
-flags_again : (board alight : Bool) → AreFlags board alight (cond board 1 0 + cond alight 2 0)
+pub flags_again : (board alight : Bool) → AreFlags board alight (cond board 1 0 + cond alight 2 0)
 flags_again true true = record { few = omega arith; boards = refl; alights = refl }
 flags_again true false = record { few = omega arith; boards = refl; alights = refl }
 flags_again false true = record { few = omega arith; boards = refl; alights = refl }
@@ -274,7 +274,7 @@ switch_takes (a ∷ b ∷ c ∷ []) l e =
     subst (λ x. (words x ≡ codes "switch" ∷ a ∷ b ∷ c ∷ []) × FitsLine x) (same_Some (line.Switch id place) l e) (same, key.0)))
 
 -- the line of days
-made_takes : (r : Result DaysMeaning RangeFault) (days : DaysMeaning) → made r ≡ Some days → r ≡ Ok days
+pub made_takes : (r : Result DaysMeaning RangeFault) (days : DaysMeaning) → made r ≡ Some days → r ≡ Ok days
 made_takes (Ok d) days e = ap Ok (same_Some d days e)
 made_takes (Err fault) days e = absurd (none-some days e)
 
@@ -284,12 +284,12 @@ if_made true false made days f g e = absurd (cc)
 if_made false counted made days f g e = absurd (cc)
 
 -- days are of the first date, the count and the rule that they are made of
-record AreMade (first count : ℕ) (zone : Option (List ℕ)) (days : DaysMeaning) : Type 0 where
-  first_is : first ≡ days.first
-  count_is : count ≡ days.count
-  zone_is : zone ≡ days.zone
+pub record AreMade (first count : ℕ) (zone : Option (List ℕ)) (days : DaysMeaning) : Type 0 where
+  pub first_is : first ≡ days.first
+  pub count_is : count ≡ days.count
+  pub zone_is : zone ≡ days.zone
 
-fits_days : (first count : ℕ) (rule : Option (List ℕ)) (days : DaysMeaning) → first < 2 ^ 32 → count < 2 ^ 32 → AreMade first count rule days → days_made first count rule ≡ Ok days → FitsDays days
+pub fits_days : (first count : ℕ) (rule : Option (List ℕ)) (days : DaysMeaning) → first < 2 ^ 32 → count < 2 ^ 32 → AreMade first count rule days → days_made first count rule ≡ Ok days → FitsDays days
 fits_days first count rule days date number of is = record {
   first = subst (λ n. n < 2 ^ 32) of.first_is date;
   count = subst (λ n. n < 2 ^ 32) of.count_is number;
@@ -305,7 +305,7 @@ if_ok : (t : Bool) (r : Result DaysMeaning RangeFault) (f : RangeFault) (days : 
 if_ok true r f days e = (refl, e)
 if_ok false r f days e = absurd (cc)
 
-made_in : (first count : ℕ) (rule : List ℕ) (days : DaysMeaning) → zone_days first count rule ≡ Ok days → (is_rule_text rule ≡ true) × AreMade first count (Some rule) days
+pub made_in : (first count : ℕ) (rule : List ℕ) (days : DaysMeaning) → zone_days first count rule ≡ Ok days → (is_rule_text rule ≡ true) × AreMade first count (Some rule) days
 made_in first count rule days e =
     let dated = if_ok (is_first_date first) _ BadDate days e in
     let counted = if_ok (is_day_count count) _ BadCount days dated.1 in
@@ -320,7 +320,7 @@ made_in first count rule days e =
         let is : days_with_bases zone rule first count dates ≡ days = cc same in
         record { first_is = ap (λ (d : DaysMeaning). d.first) is; count_is = ap (λ (d : DaysMeaning). d.count) is; zone_is = ap (λ (d : DaysMeaning). d.zone) is }
 
-made_by : (first count : ℕ) (zone : Option (List ℕ)) (days : DaysMeaning) → days_made first count zone ≡ Ok days → AreMade first count zone days
+pub made_by : (first count : ℕ) (zone : Option (List ℕ)) (days : DaysMeaning) → days_made first count zone ≡ Ok days → AreMade first count zone days
 made_by first count None days e = made_of first count days e
 made_by first count (Some rule) days e = (made_in first count rule days e).1
 

@@ -5,6 +5,16 @@ mod SectionLaws
 mod Found
 mod PartsMade
 mod Again
-mod Decoded
+mod LoopLemmas
+pub mod FrontLaws
+mod RecordLaws
+mod ManyLaws
 mod Fits
+mod WholeLaws
+mod HeadLaws
+mod StopLaws
+mod CauseLaws
+mod RecordsDecoded
+mod Decoded
 mod Encoded
+mod PushLaws

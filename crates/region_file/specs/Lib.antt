@@ -2,5 +2,9 @@ pub mod Letters
 pub mod Lines
 pub mod Kinds
 pub mod Sections
+pub mod Bytes
+pub mod Fronts
+pub mod Records
+pub mod Due
 pub mod Regions
 pub mod Texts

@@ -1,20 +1,29 @@
--- What the lines of a region text make, and what is wrong with bytes that are no region.
-use Rattle.std.specs.Prelude.{◌≡◌, ℕ, List, [], ◌∷◌, ◌++◌, length, take, drop, Option, Some, None, Result, Ok, Err, fold, if◌then◌else◌}
+-- What the lines of a region text make, what the bytes of a region spell in either format, and what is wrong with bytes that are
+-- no region.
+use Rattle.std.specs.Prelude.{◌≡◌, ◌≢◌, ℕ, ◌+◌, ◌<◌, ◌⊎◌, List, [], ◌∷◌, ◌++◌, length, take, drop, Option, Some, None, Result, Ok, Err, fold, if◌then◌else◌}
 use Rattle.std.specs.Str.{bytes_eq}
 use Rattle.plain_texts.specs.Lines.{pieces}
-use Rattle.plain_texts.specs.Course.{Course, whole, bad, trailing, lines_from, IsFirstBad, IsTrailing}
+use Rattle.std.specs.List.{AllByRecursion, flat_map}
+use Rattle.plain_texts.specs.Course.{Course, whole, bad, trailing, lines_from, run_on, IsFirstBad, IsTrailing}
 use Rattle.plan_base.specs.declared.limits.Caps.{Caps}
 use Rattle.mode_network.specs.declared.nodes.NodeKey.TheVariants.{Road, Stop, Switch}
 use Rattle.mode_network.specs.declared.faults.NetFault.{NetFault}
 use Rattle.mode_network.specs.NetworkLists.{NetworkLists}
 use Rattle.timetable_arcs.specs.declared.trips.Call.{Call}
 use Rattle.timetable_arcs.specs.Trips.{TripLists}
+use Rattle.service_days.specs.DaysMeaning.{DaysMeaning}
 use Rattle.mode_network.specs.Rules.{first_fault}
+use Rattle.region_file.specs.Bytes.{FitCounts, counts_of, head_bytes, record_bytes, region_bytes}
+use Rattle.region_file.specs.Due.{Due, due_of, record_after}
+use Rattle.region_file.specs.Records.{lists_in}
+use Rattle.region_file.specs.declared.counts.Counts.{Counts}
 use Rattle.region_file.specs.declared.fault.RegionFault.{RegionFault}
 use Rattle.region_file.specs.declared.fault.RegionFault.TheVariants.{BadHead, BadRecord, Network, Trailing, OutOfMemory}
+use Rattle.region_file.specs.declared.format.Format.{Format}
+use Rattle.region_file.specs.declared.format.Format.TheVariants.{Text, Binary}
 use Rattle.region_file.specs.declared.lines.Line.{Line}
 use Rattle.region_file.specs.declared.lines.Line.TheVariants as line
-use Rattle.region_file.specs.Lines.{FitsLine, IsRegion, head_line, region_text, spelled}
+use Rattle.region_file.specs.Lines.{FitsDays, FitsLine, IsRegion, head_line, region_text, spelled}
 use Rattle.region_file.specs.Sections.{is_end, line_at, progress_after, start}
 
 -- no line yet
@@ -71,13 +80,14 @@ network_of caps (Err fault) = Err fault
 unfoldable pub behind_head : List ℕ → Option (List ℕ)
 behind_head bytes = if bytes_eq (take (length head_line) bytes) head_line then Some (drop (length head_line) bytes) else None
 
-abbrev pub from_text : Caps → Option (List ℕ) → Result NetworkLists RegionFault
-from_text caps None = Err BadHead
-from_text caps (Some text) = network_of caps (lists_of text)
+-- the lists that bytes spell: as text where they begin with its head line, and else as records
+abbrev pub lists_by : List ℕ → Option (List ℕ) → Result NetworkLists RegionFault
+lists_by bytes (Some text) = lists_of text
+lists_by bytes None = lists_in bytes
 
 -- what the bytes of a region spell: a network, or the first fault
 unfoldable pub region_of : Caps → List ℕ → Result NetworkLists RegionFault
-region_of caps bytes = from_text caps (behind_head bytes)
+region_of caps bytes = network_of caps (lists_by bytes (behind_head bytes))
 
 -- What a function returned is what is defined, unless memory ran out.
 abbrev pub Gives : Result NetworkLists RegionFault → Result NetworkLists RegionFault → Type 0
@@ -88,22 +98,75 @@ Gives (Err (BadRecord at)) defined = defined ≡ Err (BadRecord at)
 Gives (Err (Network fault)) defined = defined ≡ Err (Network fault)
 Gives (Err (Trailing at)) defined = defined ≡ Err (Trailing at)
 
--- The bytes are the spelling of this network, which keeps every rule.
+-- the one spelling of a network in a format
+abbrev pub spelling : Format → NetworkLists → List ℕ
+spelling Text n = region_text n
+spelling Binary n = region_bytes n
+
+-- The bytes are the spelling of this network as records, whose counts fit their fields.
+pub record IsInBytes (bytes : List ℕ) (n : NetworkLists) : Type 0 where
+  pub counts : FitCounts (counts_of n)
+  pub spelled : bytes ≡ region_bytes n
+
+-- the bytes are one of the two spellings of this network: as text, or as records
+abbrev pub AreSpelling : List ℕ → NetworkLists → Type 0
+AreSpelling bytes n = (bytes ≡ region_text n) ⊎ IsInBytes bytes n
+
+-- The bytes are a spelling of this network, which keeps every rule.
 pub record IsDecoded (caps : Caps) (bytes : List ℕ) (n : NetworkLists) : Type 0 where
   pub region : IsRegion n
-  pub spelled : bytes ≡ region_text n
+  pub spelled : AreSpelling bytes n
   pub faultless : first_fault caps n ≡ None
 
 -- a text behind the head line
 pub record HasHead (bytes text : List ℕ) : Type 0 where
   pub is : bytes ≡ head_line ++ text
 
--- Why bytes are refused: they have no head; some line is the first that may not stand where it does; bytes
--- follow the end; or they spell a network that breaks a rule, the first of which is named. That memory ran
--- out has no cause.
+-- Bytes begin with the head of these days and counts.
+pub record BeginsWith (bytes : List ℕ) (days : DaysMeaning) (counts : Counts) (rest : List ℕ) : Type 0 where
+  pub days_fit : FitsDays days
+  pub counts_fit : FitCounts counts
+  pub are : bytes ≡ head_bytes days counts ++ rest
+
+-- Some line of a text is the first that may not stand where it does.
+abbrev pub IsBadLine : List ℕ → ℕ → Type 0
+IsBadLine bytes at = (text : List ℕ) × HasHead bytes text × IsFirstBad spelled FitsLine progress_after is_end start 2 (pieces text) at
+
+-- Behind some records that may stand where they do, more are due, and no record that may come next stands in the bytes at this
+-- place.
+pub record IsBadRecord (bytes : List ℕ) (at : ℕ) : Type 0 where
+  pub days : DaysMeaning
+  pub counts : Counts
+  pub records : List Line
+  pub due : Due
+  pub rest : List ℕ
+  pub begins : BeginsWith bytes days counts (flat_map record_bytes records ++ rest)
+  pub fit : AllByRecursion FitsLine records
+  pub run : run_on record_after (Some (due_of counts)) records ≡ Some due
+  pub some : 0 < due.calls + length due.sections
+  pub none : (l : Line) (more : List ℕ) → FitsLine l → record_after due l ≢ None → rest ≡ record_bytes l ++ more → ⊥
+  pub place : at + length rest ≡ length bytes
+
+-- Bytes follow the end of a text, and this is the line where they begin.
+abbrev pub IsTrailingLine : List ℕ → ℕ → Type 0
+IsTrailingLine bytes at = (text : List ℕ) × HasHead bytes text × IsTrailing spelled FitsLine progress_after is_end start 2 (pieces text) at
+
+-- Bytes follow all records, and begin at this place.
+pub record FollowRecords (bytes : List ℕ) (at : ℕ) : Type 0 where
+  pub network : NetworkLists
+  pub rest : List ℕ
+  pub region : IsRegion network
+  pub counts : FitCounts (counts_of network)
+  pub are : bytes ≡ region_bytes network ++ rest
+  pub some : 0 < length rest
+  pub place : at + length rest ≡ length bytes
+
+-- Why bytes are refused: they have no head of either format; some line or record is the first that may not stand where it does;
+-- bytes follow the end; or they spell a network that breaks a rule, the first of which is named. That memory ran out has no
+-- cause.
 abbrev pub HasCause : Caps → List ℕ → RegionFault → Type 0
-HasCause caps bytes BadHead = (text : List ℕ) → bytes ≡ head_line ++ text → ⊥
-HasCause caps bytes (BadRecord at) = (text : List ℕ) × HasHead bytes text × IsFirstBad spelled FitsLine progress_after is_end start 2 (pieces text) at
-HasCause caps bytes (Trailing at) = (text : List ℕ) × HasHead bytes text × IsTrailing spelled FitsLine progress_after is_end start 2 (pieces text) at
-HasCause caps bytes (Network fault) = (n : NetworkLists) × IsRegion n × (bytes ≡ region_text n) × (first_fault caps n ≡ Some fault)
+HasCause caps bytes BadHead = ((text : List ℕ) → HasHead bytes text → ⊥) × ((days : DaysMeaning) (counts : Counts) (rest : List ℕ) → BeginsWith bytes days counts rest → ⊥)
+HasCause caps bytes (BadRecord at) = IsBadLine bytes at ⊎ IsBadRecord bytes at
+HasCause caps bytes (Trailing at) = IsTrailingLine bytes at ⊎ FollowRecords bytes at
+HasCause caps bytes (Network fault) = (n : NetworkLists) × IsRegion n × AreSpelling bytes n × (first_fault caps n ≡ Some fault)
 HasCause caps bytes OutOfMemory = Unit {0}

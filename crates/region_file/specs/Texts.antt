@@ -10,6 +10,7 @@ use Rattle.mode_network.specs.declared.nodes.NodeKey.{NodeKey}
 use Rattle.mode_network.specs.declared.nodes.NodeKey.TheVariants.{Road, Stop, Switch}
 use Rattle.region_file.specs.declared.lines.Line.{Line}
 use Rattle.region_file.specs.declared.lines.Line.TheVariants as line
+use Rattle.region_file.specs.Bytes.{call_bytes, record_bytes, trip_bytes}
 use Rattle.region_file.specs.Lines.{spelled}
 
 -- a line and its line feed
@@ -36,6 +37,14 @@ call_text call = line_text (line.Call call)
 abbrev pub trip_text : TripLists → List ℕ
 trip_text trip =
     line_text (line.Trip trip.letter trip.days (length trip.calls) trip.name) ++ flat_map call_text trip.calls
+
+-- the record of a node, whose stop has its name
+abbrev pub node_record : List (List ℕ) → Node → List ℕ
+node_record names node = record_bytes (named_line names node.key node.place)
+
+-- the record of a trip, and those of its calls
+abbrev pub trip_records : TripLists → List ℕ
+trip_records trip = trip_bytes trip.letter trip.days (length trip.calls) trip.name ++ flat_map call_bytes trip.calls
 
 -- a stop is one of those that have a name
 abbrev pub IsListed : List (List ℕ) → NodeKey → Type 0

@@ -6,12 +6,15 @@ ghost use Rattle.plain_texts.specs.Lines.{pieces};
 ghost use Rattle.mode_network.specs.NetworkLists.{NetworkLists};
 ghost use Rattle.mode_network.specs.Rules.{AreParts, first_fault};
 ghost use Rattle.region_file.specs.Sections.{behind_days, is_end, line_at, start};
-ghost use Rattle.region_file.specs.Regions.{Gives, HasCause, IsDecoded, behind_head, lists_of, network_of, or_fault, put_all, region_of};
+ghost use Rattle.region_file.specs.Regions.{Gives, HasCause, IsDecoded, behind_head, lists_by, lists_of, or_fault, put_all, region_of};
+ghost use Rattle.region_file.specs.Records.{lists_in};
 ghost use Rattle.region_file.specs.declared.lines.Line.TheVariants as line;
 
-use crate::fault::RegionFault;
+use crate::fault::{Halt, RegionFault};
+use crate::fronts::head_front;
 use crate::kinds::line_of;
 use crate::lines::{HEAD, Line};
+use crate::reading::parts_of;
 use crate::records::{no_parts, put};
 use crate::section::Progress;
 use mode_network::{NetFault, Network, Parts};
@@ -114,14 +117,6 @@ fn build(alloc: Global, parts: Parts, caps: &Caps) -> Result<Network, RegionFaul
     }
 }
 
-/// The network that the text behind the head line spells.
-fn read_text(alloc: Global, text: &[u8], caps: &Caps) -> Result<Network, RegionFault>
-    ensures { Gives result (network_of caps.now (lists_of text.now)) }
-{
-    let parts = read_parts(alloc, text)?;
-    build(alloc, parts, caps)
-}
-
 /// The text behind the head line.
 #[tactic(auto, unfolding(crate::specs::Regions::behind_head))]
 fn behind_head(bytes: &[u8]) -> Option<&[u8]>
@@ -130,25 +125,65 @@ fn behind_head(bytes: &[u8]) -> Option<&[u8]>
     bytes.strip_prefix(HEAD)
 }
 
+/// The parts that the records of bytes spell.
+#[tactic(auto, unfolding(crate::specs::Records::lists_in))]
+fn read_records(alloc: Global, bytes: &[u8]) -> Result<Parts, RegionFault>
+    ensures { Gives result (lists_in bytes.now) }
+{
+    let Some(((days, counts), rest)) = head_front(alloc, bytes)? else {
+        return Err(RegionFault::BadHead);
+    };
+    match parts_of(alloc, days, counts, rest) {
+        Err(Halt::Memory) => Err(RegionFault::OutOfMemory),
+        Err(Halt::Left(left)) => Err(RegionFault::BadRecord {
+            at: (bytes.len() as u64).saturating_sub(left),
+        }),
+        Ok((parts, behind)) => {
+            if behind.is_empty() {
+                Ok(parts)
+            } else {
+                Err(RegionFault::Trailing {
+                    at: (bytes.len() as u64).saturating_sub(behind.len() as u64),
+                })
+            }
+        }
+    }
+}
+
+/// The parts that bytes spell: as text where they begin with its head line, and else as records.
+fn read_either(alloc: Global, bytes: &[u8]) -> Result<Parts, RegionFault>
+    ensures { Gives result (lists_by bytes.now (behind_head bytes.now)) }
+{
+    match behind_head(bytes) {
+        Some(text) => read_parts(alloc, text),
+        None => read_records(alloc, bytes),
+    }
+}
+
 #[tactic(auto, unfolding(crate::specs::Regions::region_of))]
 fn read_region(alloc: Global, bytes: &[u8], caps: &Caps) -> Result<Network, RegionFault>
     ensures { Gives result (region_of caps.now bytes.now) }
 {
-    match behind_head(bytes) {
-        Some(text) => read_text(alloc, text, caps),
-        None => Err(RegionFault::BadHead),
-    }
+    let parts = read_either(alloc, bytes)?;
+    build(alloc, parts, caps)
 }
 
-/// The network that the bytes of a region spell.
+/// The network that the bytes of a region spell, in either [`Format`](crate::Format).
 ///
-/// The bytes are read as lines. The first is the head line `modeplan region 1`, and the others are those of
+/// A text is read as lines. The first is the head line `modeplan region 1`, and the others are those of
 /// the days, the nodes, the arcs, the links and the trips, in this order, and the line `end`; behind the line
-/// of a trip come exactly as many lines of calls as it says. Each network has exactly one spelling, and other
-/// bytes are refused: first where the head is not there, then at the first line that may not stand where it
-/// does, then where bytes follow the end, and at last where the network breaks a rule of [`Network::build`]
-/// or is past a limit of `caps`. 2^32 stops are refused like want of memory, since no network numbers so many
-/// nodes.
+/// of a trip come exactly as many lines of calls as it says.
+///
+/// Other bytes are read as a head and records. The head is the magic `MPREGN02`, or `MPREGZ02` where the days have a
+/// zone rule; the first date and the count of days; the counts of road nodes, stops, switches, arcs, links and
+/// trips; and the zone rule behind its length, if there is one. The records follow in the order of the counts, and
+/// behind the record of a trip come exactly as many records of calls as it says.
+///
+/// Each network has exactly one spelling in each format, and other bytes are refused: first where the head is not
+/// there, then at the first line or record that may not stand where it does, then where bytes follow the end, and at
+/// last where the network breaks a rule of [`Network::build`] or is past a limit of `caps`. 2^32 stops are refused
+/// like want of memory, since no network numbers so many nodes. No more room is taken than the lines or records need
+/// that are there.
 pub fn decode(alloc: Global, bytes: &[u8], caps: &Caps) -> Result<Network, RegionFault>
     // What is read is a network that keeps the rules, and is spelled so.
     ensures found { IfOk result (IsDecoded caps.now bytes.now) }

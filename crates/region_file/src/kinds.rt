@@ -177,7 +177,7 @@ fn stop_of(alloc: Global, fields: &[&[u8]]) -> Result<Option<Line>, AllocError>
 
 /// The days of a first date and a count, in the zone of a rule if there is one; `None` exactly where there are
 /// none.
-fn made_days(
+pub fn made_days(
     alloc: Global,
     first: u32,
     count: u32,

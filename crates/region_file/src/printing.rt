@@ -138,7 +138,7 @@ pub fn push_link(out: &mut Vec<u8>, link: Arc) -> Result<(), AllocError>
 }
 
 /// 1 for boarding plus 2 for alighting.
-fn flags_of(call: Call) -> u8
+pub fn flags_of(call: Call) -> u8
     ensures { result ≡ flags_of call }
 {
     u8::from(call.board) + 2 * u8::from(call.alight)

@@ -1,8 +1,7 @@
 use Rattle.std.proofs.Common.{◌≡◌, ◌++◌, take}
 use Rattle.std.specs.List.{flat_map}
-use Rattle.region_file.specs.declared.lines.Line.TheVariants as line
-use Rattle.region_file.specs.Texts.{line_text}
+use Rattle.region_file.specs.Bytes.{arc_bytes}
 use Rattle.region_file.proofs.encoding.push_arcs.Given as goal
 
 abbrev pub invariant-loop-arc : goal.invariant-loop-arc
-invariant-loop-arc l = l.out.items ≡ l.fn.out.items ++ flat_map (λ arc. line_text (line.Arc arc)) (take l.arc-index l.arcs)
+invariant-loop-arc l = l.out.items ≡ l.fn.out.items ++ flat_map arc_bytes (take l.arc-index l.arcs)

@@ -1,4 +1,4 @@
-use Rattle.std.proofs.Common.{◌≡◌, ◌++◌, codes, rules, subst}
+use Rattle.std.proofs.Common.{◌≡◌, ◌++◌, codes, rules, subst, inl}
 use Rattle.std.specs.List.{flat_map}
 use Rattle.service_days.specs.Zones.{AreKept}
 use Rattle.mode_network.specs.NetworkLists.{nodes_of}
@@ -8,7 +8,7 @@ use Rattle.region_file.specs.Texts.{line_text, node_text, trip_text}
 use Rattle.region_file.proofs.Decoded.{region_again}
 use Rattle.region_file.proofs.Encoded.{written}
 use Rattle.region_file.proofs.Fits.{is_region}
-use Rattle.region_file.proofs.encoding.text_of.Goals as goal
+use Rattle.region_file.proofs.texting.text_of.Goals as goal
 
 pub returns-clause-spelled : goal.returns-clause-spelled
 returns-clause-spelled c =
@@ -27,4 +27,4 @@ returns-clause-again c =
     let n = c.args.network.now in
     let kept : AreKept c.days.result.now = record { are = c.facts.ensures.days; made = c.facts.ensures.made } in
     let region = is_region n c.known.ensures (subst AreKept c.days.ensures kept) in
-    λ caps faultless. region_again caps c.extend_from_slice-2.new.self.items n (record { region = region; spelled = returns-clause-spelled c; faultless = faultless })
+    λ caps faultless. region_again caps c.extend_from_slice-2.new.self.items n (record { region = region; spelled = inl (returns-clause-spelled c); faultless = faultless })

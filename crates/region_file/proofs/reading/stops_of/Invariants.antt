@@ -1,0 +1,8 @@
+use Rattle.std.proofs.Common.{◌≡◌, ◌-◌}
+use Rattle.region_file.specs.Fronts.{stop_front}
+use Rattle.region_file.specs.Records.{many, one, stops_read}
+use Rattle.region_file.proofs.LoopLemmas.{with_stops}
+use Rattle.region_file.proofs.reading.stops_of.Given as goal
+
+abbrev pub invariant-loop-number : goal.invariant-loop-number
+invariant-loop-number l = with_stops l.stops.names.items l.stops.nodes.items l.number (many (one stop_front) (l.count - l.number) l.rest) ≡ stops_read l.count l.bytes

@@ -1,0 +1,7 @@
+use Rattle.std.proofs.Common.{◌≡◌, ◌-◌}
+use Rattle.region_file.specs.Records.{many, trip_read}
+use Rattle.region_file.proofs.LoopLemmas.{with_front}
+use Rattle.region_file.proofs.reading.trips_of.Given as goal
+
+abbrev pub invariant-loop : goal.invariant-loop
+invariant-loop l = with_front l.trips.items (many trip_read (l.count - l.counter) l.rest) ≡ many trip_read l.count l.bytes

@@ -1,0 +1,8 @@
+use Rattle.std.proofs.Common.{◌≡◌, ◌++◌, take}
+use Rattle.std.specs.List.{flat_map}
+use Rattle.region_file.specs.declared.lines.Line.TheVariants as line
+use Rattle.region_file.specs.Texts.{line_text}
+use Rattle.region_file.proofs.texting.push_arcs.Given as goal
+
+abbrev pub invariant-loop-arc : goal.invariant-loop-arc
+invariant-loop-arc l = l.out.items ≡ l.fn.out.items ++ flat_map (λ arc. line_text (line.Arc arc)) (take l.arc-index l.arcs)

@@ -1,0 +1,101 @@
+-- How a region in bytes is read: its head, and the records that it counts, one behind the other.
+use Rattle.std.specs.Prelude.{◌≡◌, ℕ, zero, suc, ◌+◌, ◌-◌, ◌==◌, List, [], ◌∷◌, length, map, Option, Some, None, Result, Ok, Err, if◌then◌else◌}
+use Rattle.plan_base.specs.declared.places.Place.{Place}
+use Rattle.service_days.specs.DaysMeaning.{DaysMeaning}
+use Rattle.timetable_arcs.specs.Trips.{TripLists}
+use Rattle.mode_network.specs.declared.nodes.Node.{Node}
+use Rattle.mode_network.specs.declared.nodes.NodeKey.TheVariants.{Stop}
+use Rattle.mode_network.specs.NetworkLists.{NetworkLists}
+use Rattle.region_file.specs.Fronts.{arc_front, call_front, head_front, road_front, stop_front, switch_front, trip_front}
+use Rattle.region_file.specs.declared.counts.Counts.{Counts}
+use Rattle.region_file.specs.declared.fault.Halt.{Halt}
+use Rattle.region_file.specs.declared.fault.Halt.TheVariants.{Memory, Left}
+use Rattle.region_file.specs.declared.fault.RegionFault.{RegionFault}
+use Rattle.region_file.specs.declared.fault.RegionFault.TheVariants.{BadHead, BadRecord, Trailing}
+
+-- What is read of bytes is a value and the bytes behind it; or it is how many bytes are left at the first record that may not
+-- stand there.
+infixl 10 ◌>>=◌
+abbrev pub ◌>>=◌ : {A B : Type 0} → Result A ℕ → (A → Result B ℕ) → Result B ℕ
+(Ok x) >>= next = next x
+(Err left) >>= next = Err left
+
+abbrev pub or_left : {X : Type 0} → ℕ → Option X → Result X ℕ
+or_left left None = Err left
+or_left left (Some x) = Ok x
+
+-- the record at the front
+abbrev pub one : {X : Type 0} → (List ℕ → Option (X × List ℕ)) → List ℕ → Result (X × List ℕ) ℕ
+one front bytes = or_left (length bytes) (front bytes)
+
+-- so many records
+unfoldable pub many : {X : Type 0} → (List ℕ → Result (X × List ℕ) ℕ) → ℕ → List ℕ → Result (List X × List ℕ) ℕ
+many read zero bytes = Ok ([], bytes)
+many read (suc n) bytes = do
+  first ← read bytes
+  others ← many read n first.1
+  Ok (first.0 ∷ others.0, others.1)
+
+-- a trip, and as many calls as its record counts
+unfoldable pub trip_read : List ℕ → Result (TripLists × List ℕ) ℕ
+trip_read bytes = do
+  trip ← one trip_front bytes
+  calls ← many (one call_front) trip.0.1 trip.1
+  Ok (record trip.0.0 { calls = calls.0 }, calls.1)
+
+-- the nodes of stops, which are numbered in their order
+abbrev pub stop_nodes : ℕ → List (List ℕ × Place) → List Node
+stop_nodes number [] = []
+stop_nodes number (stop ∷ stops) = record { key = Stop number; place = stop.1 } ∷ stop_nodes (number + 1) stops
+
+-- so many stops: their names, and their nodes
+unfoldable pub stops_read : ℕ → List ℕ → Result ((List (List ℕ) × List Node) × List ℕ) ℕ
+stops_read count bytes = do
+  stops ← many (one stop_front) count bytes
+  Ok ((map (λ stop. stop.0) stops.0, stop_nodes 0 stops.0), stops.1)
+
+-- the lists of a network, and the bytes behind its records
+unfoldable pub records_of : DaysMeaning → Counts → List ℕ → Result (NetworkLists × List ℕ) ℕ
+records_of days counts bytes = do
+  roads ← many (one road_front) counts.roads bytes
+  stops ← stops_read counts.stops roads.1
+  switches ← many (one switch_front) counts.switches stops.1
+  arcs ← many (one arc_front) counts.arcs switches.1
+  links ← many (one arc_front) counts.links arcs.1
+  trips ← many trip_read counts.trips links.1
+  Ok (
+    record {
+      days = days;
+      roads = roads.0;
+      stop_names = stops.0.0;
+      stops = stops.0.1;
+      switches = switches.0;
+      arcs = arcs.0;
+      links = links.0;
+      trips = trips.0;
+    },
+    trips.1,
+  )
+
+-- In so many bytes: the lists, where nothing follows them. A record, or what follows the last one, is named by its place.
+abbrev pub ended : ℕ → Result (NetworkLists × List ℕ) ℕ → Result NetworkLists RegionFault
+ended len (Ok x) = if length x.1 == 0 then Ok x.0 else Err (Trailing (len - length x.1))
+ended len (Err left) = Err (BadRecord (len - left))
+
+abbrev pub behind : ℕ → Option ((DaysMeaning × Counts) × List ℕ) → Result NetworkLists RegionFault
+behind len None = Err BadHead
+behind len (Some head) = ended len (records_of head.0.0 head.0.1 head.1)
+
+-- the lists that bytes spell, or what is wrong with them
+unfoldable pub lists_in : List ℕ → Result NetworkLists RegionFault
+lists_in bytes = behind (length bytes) (head_front bytes)
+
+-- Why the reading of a function stopped is why reading does, unless memory ran out.
+abbrev pub HaltsAs : {Y : Type 0} → Halt → Result Y ℕ → Type 0
+HaltsAs Memory read = Unit {0}
+HaltsAs (Left left) read = read ≡ Err left
+
+-- What a function returned, seen by view, is what reading gives, unless memory ran out.
+abbrev pub GivesRead : {X Y : Type 0} → (X → Y) → Result X Halt → Result Y ℕ → Type 0
+GivesRead view (Ok x) read = read ≡ Ok (view x)
+GivesRead view (Err halt) read = HaltsAs halt read

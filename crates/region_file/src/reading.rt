@@ -1,0 +1,184 @@
+//! From records to the parts of a network.
+
+ghost use Rattle.std.specs.Prelude.{◌≡◌, ◌++◌, ◌∷◌, [], OnOk};
+ghost use Rattle.mode_network.specs.declared.nodes.NodeKey.TheVariants.{Stop};
+ghost use Rattle.region_file.specs.Fronts.{arc_front, call_front, road_front, switch_front};
+ghost use Rattle.region_file.specs.Records.{GivesRead, many, one, records_of, stops_read, trip_read};
+
+use crate::counts::Counts;
+use crate::fault::Halt;
+use crate::fronts;
+use mode_network::{Arc, Node, NodeKey, Parts};
+use plain_texts::Name;
+use plan_base::Place;
+use service_days::Days;
+use std::alloc::{AllocError, Global};
+use timetable_arcs::{Call, Trip};
+
+/// So many road nodes.
+fn roads_of(alloc: Global, count: u32, bytes: &[u8]) -> Result<(Vec<Node>, &[u8]), Halt>
+    ensures { GivesRead (λ x. (x.0.items, x.1.now)) result (many (one road_front) count bytes.now) }
+{
+    let mut roads = Vec::new(alloc);
+    let mut rest = bytes;
+    for _ in 0..count {
+        let Some((road, behind)) = fronts::road_front(rest) else {
+            return Err(Halt::Left(rest.len() as u64));
+        };
+        roads.push(road)?;
+        rest = behind;
+    }
+    Ok((roads, rest))
+}
+
+/// So many switches.
+fn switches_of(alloc: Global, count: u32, bytes: &[u8]) -> Result<(Vec<Node>, &[u8]), Halt>
+    ensures { GivesRead (λ x. (x.0.items, x.1.now)) result (many (one switch_front) count bytes.now) }
+{
+    let mut switches = Vec::new(alloc);
+    let mut rest = bytes;
+    for _ in 0..count {
+        let Some((switch, behind)) = fronts::switch_front(rest) else {
+            return Err(Halt::Left(rest.len() as u64));
+        };
+        switches.push(switch)?;
+        rest = behind;
+    }
+    Ok((switches, rest))
+}
+
+/// So many road arcs or links.
+fn arcs_of(alloc: Global, count: u32, bytes: &[u8]) -> Result<(Vec<Arc>, &[u8]), Halt>
+    ensures { GivesRead (λ x. (x.0.items, x.1.now)) result (many (one arc_front) count bytes.now) }
+{
+    let mut arcs = Vec::new(alloc);
+    let mut rest = bytes;
+    for _ in 0..count {
+        let Some((arc, behind)) = fronts::arc_front(rest) else {
+            return Err(Halt::Left(rest.len() as u64));
+        };
+        arcs.push(arc)?;
+        rest = behind;
+    }
+    Ok((arcs, rest))
+}
+
+/// So many calls.
+fn calls_of(alloc: Global, count: u32, bytes: &[u8]) -> Result<(Vec<Call>, &[u8]), Halt>
+    ensures { GivesRead (λ x. (x.0.items, x.1.now)) result (many (one call_front) count bytes.now) }
+{
+    let mut calls = Vec::new(alloc);
+    let mut rest = bytes;
+    for _ in 0..count {
+        let Some((call, behind)) = fronts::call_front(rest) else {
+            return Err(Halt::Left(rest.len() as u64));
+        };
+        calls.push(call)?;
+        rest = behind;
+    }
+    Ok((calls, rest))
+}
+
+/// A trip and its calls.
+#[tactic(auto, unfolding(crate::specs::Records::trip_read))]
+fn trip_of(alloc: Global, bytes: &[u8]) -> Result<(Trip, &[u8]), Halt>
+    ensures { GivesRead (λ x. (x.0, x.1.now)) result (trip_read bytes.now) }
+{
+    let Some(((mut trip, count), rest)) = fronts::trip_front(alloc, bytes)? else {
+        return Err(Halt::Left(bytes.len() as u64));
+    };
+    let (calls, behind) = calls_of(alloc, count, rest)?;
+    trip.calls = calls;
+    Ok((trip, behind))
+}
+
+/// So many trips, each with its calls.
+fn trips_of(alloc: Global, count: u32, bytes: &[u8]) -> Result<(Vec<Trip>, &[u8]), Halt>
+    ensures { GivesRead (λ x. (x.0.items, x.1.now)) result (many trip_read count bytes.now) }
+{
+    let mut trips = Vec::new(alloc);
+    let mut rest = bytes;
+    for _ in 0..count {
+        match trip_of(alloc, rest) {
+            Ok((trip, behind)) => {
+                trips.push(trip)?;
+                rest = behind;
+            }
+            Err(halt) => return Err(halt),
+        }
+    }
+    Ok((trips, rest))
+}
+
+/// The names of stops, and their nodes in the same order.
+#[derive(Drop)]
+struct Stops {
+    names: Vec<Name>,
+    nodes: Vec<Node>,
+}
+
+/// Puts a stop of this number behind the others.
+fn push_stop(stops: &mut Stops, number: u32, stop: (Name, Place)) -> Result<(), AllocError>
+    ensures names { OnOk result (stops.new.names.items ≡ stops.old.names.items ++ stop.0 ∷ []) }
+    ensures nodes { OnOk result (stops.new.nodes.items ≡ stops.old.nodes.items ++ record { key = Stop number; place = stop.1 } ∷ []) }
+{
+    let (name, place) = stop;
+    let key = NodeKey::Stop(number);
+    stops.names.push(name)?;
+    stops.nodes.push(Node { key, place })?;
+    Ok(())
+}
+
+/// So many stops.
+fn stops_of(alloc: Global, count: u32, bytes: &[u8]) -> Result<(Stops, &[u8]), Halt>
+    ensures { GivesRead (λ x. ((x.0.names.items, x.0.nodes.items), x.1.now)) result (stops_read count bytes.now) }
+{
+    let mut stops = Stops {
+        names: Vec::new(alloc),
+        nodes: Vec::new(alloc),
+    };
+    let mut rest = bytes;
+    for number in 0..count {
+        let Some((stop, behind)) = fronts::stop_front(alloc, rest)? else {
+            return Err(Halt::Left(rest.len() as u64));
+        };
+        push_stop(&mut stops, number, stop)?;
+        rest = behind;
+    }
+    Ok((stops, rest))
+}
+
+/// The parts of a network of these days, which so many records spell, and the bytes behind the records.
+#[tactic(auto, unfolding(crate::specs::Records::records_of))]
+pub fn parts_of(
+    alloc: Global,
+    days: Days,
+    counts: Counts,
+    bytes: &[u8],
+) -> Result<(Parts, &[u8]), Halt>
+    ensures { GivesRead (λ x. (x.0, x.1.now)) result (records_of days counts bytes.now) }
+{
+    let (roads, rest) = roads_of(alloc, counts.roads, bytes)?;
+    let (stops, rest) = stops_of(alloc, counts.stops, rest)?;
+    let (switches, rest) = switches_of(alloc, counts.switches, rest)?;
+    let (arcs, rest) = arcs_of(alloc, counts.arcs, rest)?;
+    let (links, rest) = arcs_of(alloc, counts.links, rest)?;
+    let (trips, behind) = trips_of(alloc, counts.trips, rest)?;
+    let Stops {
+        names: stop_names,
+        nodes: stops,
+    } = stops;
+    Ok((
+        Parts {
+            days,
+            roads,
+            stop_names,
+            stops,
+            switches,
+            arcs,
+            links,
+            trips,
+        },
+        behind,
+    ))
+}
