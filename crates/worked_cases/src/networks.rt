@@ -4,7 +4,7 @@ use crate::script::Script;
 use crate::words;
 use mode_network::Network;
 use plan_base::Caps;
-use region_file::{decode, encode};
+use region_file::{Format, decode, encode};
 use std::alloc::{AllocError, Global};
 
 /// `region TEXT [KIND MOST]`: the first fault of a region text, or whether its network is written as the same text.
@@ -13,7 +13,7 @@ pub fn region(alloc: Global, script: &Script, words: &[u8]) -> Result<String, Al
     let text = script.text(name);
     match decode(alloc, text, &words::caps(limit)) {
         Ok(network) => {
-            let written = encode(alloc, &network, 1)?;
+            let written = encode(alloc, &network, Format::Text)?;
             let same = written.as_slice() == text;
             format!(in alloc; "a network, written as the same text: {same}")
         }
