@@ -1,10 +1,6 @@
 -- Why the bytes of records are refused, and that records are read again.
-use Rattle.std.proofs.Common.{◌≡◌, ℕ, ◌+◌, ◌-◌, ◌<◌, ◌≤◌, Bool, true, false, cond, eqb, List, [], ◌∷◌, ◌++◌, length, map, Some, None, Result, Ok, Err, refl, sym, ap, ap₂, subst, ◌∙◌, append_assoc, append-nil, length-append, arith, ◌⊎◌, inl, inr}
-use Rattle.std.specs.Prelude.{Option}
-use Rattle.std.specs.List.{flat_map, AllByRecursion}
-use Rattle.std.proofs.lemmas.Bool.{eqb-true, eqb-false}
-use Rattle.std.proofs.lemmas.List.{nil_from_length}
-use Rattle.std.proofs.lemmas.Option.{none-some}
+use Rattle.std.proofs.Common.{◌≡◌, ℕ, List, [], ◌++◌, length, map, Some, Result, Ok, Err, sym, ap, subst, ◌∙◌, ◌⊎◌, inl, inr}
+use Rattle.std.specs.List.{AllByRecursion}
 use Rattle.plain_texts.specs.Course.{run_on}
 use Rattle.plan_base.specs.declared.places.Place.{Place}
 use Rattle.service_days.specs.DaysMeaning.{DaysMeaning}
@@ -13,26 +9,21 @@ use Rattle.mode_network.specs.declared.nodes.Arc.{Arc}
 use Rattle.mode_network.specs.declared.nodes.Node.{Node}
 use Rattle.mode_network.specs.NetworkLists.{NetworkLists}
 use Rattle.region_file.specs.declared.counts.Counts.{Counts}
-use Rattle.region_file.specs.declared.fault.RegionFault.{RegionFault}
-use Rattle.region_file.specs.declared.fault.RegionFault.TheVariants.{BadHead, BadRecord, Network, Trailing, OutOfMemory}
 use Rattle.region_file.specs.declared.lines.Line.{Line}
 use Rattle.region_file.specs.declared.lines.Line.TheVariants as line
 use Rattle.region_file.specs.declared.section.Section.{Section}
 use Rattle.region_file.specs.declared.section.Section.TheVariants as section
-use Rattle.region_file.specs.Bytes.{FitCounts, arc_bytes, counts_of, head_bytes, record_bytes, region_bytes}
-use Rattle.region_file.specs.Due.{Due, announce, due_of, record_after}
-use Rattle.region_file.specs.Fronts.{arc_front, head_front, road_front, stop_front, switch_front}
-use Rattle.region_file.specs.Lines.{FitsArc, FitsDays, FitsLine, IsRegion, node_line, region_lines, trip_lines}
-use Rattle.region_file.specs.Texts.{trip_records}
-use Rattle.region_file.specs.Records.{behind, ended, lists_in, many, one, records_of, stop_nodes, stops_read, trip_read}
-use Rattle.region_file.specs.Regions.{BeginsWith, FollowRecords, IsBadRecord, IsInBytes}
+use Rattle.region_file.specs.Bytes.{record_bytes}
+use Rattle.region_file.specs.Due.{announce, due_of, record_after}
+use Rattle.region_file.specs.Fronts.{arc_front, road_front, stop_front, switch_front}
+use Rattle.region_file.specs.Lines.{FitsArc, FitsLine, node_line}
+use Rattle.region_file.specs.Records.{many, one, records_of, stop_nodes, stops_read, trip_read}
 use Rattle.region_file.proofs.Fits.{road_fits, switch_fits}
-use Rattle.region_file.proofs.FrontLaws.{IsBytes, Takes}
-use Rattle.region_file.proofs.HeadLaws.{head_again, head_takes}
-use Rattle.region_file.proofs.ManyLaws.{FitsRow, bind_err, bind_ok, err_is, ok_is}
-use Rattle.region_file.proofs.RecordLaws.{IsNamed, IsRoadNode, IsSwitchNode, node_bytes, stop_bytes}
+use Rattle.region_file.proofs.FrontLaws.{IsBytes}
+use Rattle.region_file.proofs.ManyLaws.{bind_err, bind_ok, ok_is}
+use Rattle.region_file.proofs.RecordLaws.{IsNamed, IsRoadNode, IsSwitchNode}
 use Rattle.region_file.proofs.StopLaws.{IsBadBehind, bad_arcs, bad_later, bad_links, bad_roads, bad_stops, bad_switches, bad_trips, resting, run_arcs, run_links, run_roads, run_stops, run_switches}
-use Rattle.region_file.proofs.WholeLaws.{AreRead, Taken, arcs_stop, arcs_take, mapped_bytes, mapped_fit, records_again, records_take, roads_stop, roads_take, stop_row_line, stops_stop, stops_take, switches_stop, switches_take, trips_stop}
+use Rattle.region_file.proofs.WholeLaws.{Taken, arcs_stop, arcs_take, mapped_bytes, mapped_fit, roads_stop, roads_take, stop_row_line, stops_stop, stops_take, switches_stop, switches_take, trips_stop}
 
 -- stops, as names and nodes
 abbrev as_stops : List (List ℕ × Place) × List ℕ → Result ((List (List ℕ) × List Node) × List ℕ) ℕ

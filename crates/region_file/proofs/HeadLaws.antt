@@ -1,7 +1,6 @@
 -- The head of a region in bytes: what is read is spelled so, and what is spelled so is read.
-use Rattle.std.proofs.Common.{◌≡◌, ℕ, ◌^◌, ◌<◌, ◌≤◌, Bool, true, false, cond, List, [], ◌∷◌, ◌++◌, length, take, drop, Some, None, Result, Ok, Err, refl, sym, ap, ap₂, subst, ◌∙◌, append_assoc, arith}
-use Rattle.std.specs.Prelude.{Option, option_map, not, nat_eq, nat_le, ◌&&◌}
-use Rattle.std.specs.List.{list_all}
+use Rattle.std.proofs.Common.{◌≡◌, ℕ, ◌^◌, ◌<◌, ◌≤◌, Bool, true, false, cond, List, ◌++◌, length, take, drop, Some, None, Ok, refl, sym, ap, ap₂, subst, ◌∙◌, append_assoc, arith}
+use Rattle.std.specs.Prelude.{Option, option_map}
 use Rattle.std.specs.Int.{w32}
 use Rattle.std.specs.Str.{bytes_eq}
 use Rattle.std.proofs.lemmas.Bool.{and_parts, leb-true}
@@ -9,14 +8,14 @@ use Rattle.std.proofs.lemmas.List.{take-append-drop}
 use Rattle.std.proofs.lemmas.Option.{none-some, same_Some, option_and_then_some}
 use Rattle.std.proofs.lemmas.Slice.Eq.{bytes_eq-Decides}
 use Rattle.service_days.specs.DaysMeaning.{DaysMeaning}
-use Rattle.service_days.specs.Zones.{days_made, is_rule_text, zone_days}
+use Rattle.service_days.specs.Zones.{days_made, is_rule_text}
 use Rattle.region_file.specs.declared.counts.Counts.{Counts}
-use Rattle.region_file.specs.Bytes.{FitCounts, counted_bytes, counts_bytes, head_bytes, magic_of, plain_magic, rule_bytes, word_bytes, zoned_magic}
+use Rattle.region_file.specs.Bytes.{FitCounts, counts_bytes, head_bytes, magic_of, plain_magic, rule_bytes, word_bytes, zoned_magic}
 use Rattle.region_file.specs.Fronts.{counted_front, counts_front, head_front, magic_front, number_front, rule_front}
 use Rattle.region_file.specs.Kinds.{made}
 use Rattle.region_file.specs.Lines.{FitsDays}
 use Rattle.region_file.proofs.FrontLaws.{IsBytes, IsBytes-drop, Takes, Takes-then, and_then, counted_again, counted_takes, word_again, word_takes}
-use Rattle.region_file.proofs.KindLaws.{AreMade, fits_days, made_by, made_in, made_takes, mapped}
+use Rattle.region_file.proofs.KindLaws.{fits_days, made_by, made_in, made_takes, mapped}
 
 -- ---- the magic
 

@@ -12,7 +12,7 @@ use Rattle.region_file.specs.Lines.{FitsCall, FitsTrip}
 use Rattle.region_file.specs.Texts.{trip_records}
 use Rattle.region_file.specs.Records.{◌>>=◌, many, one, or_left, trip_read}
 use Rattle.region_file.proofs.FrontLaws.{IsBytes, Takes, Takes-then}
-use Rattle.region_file.proofs.LoopLemmas.{many_ok, many_err, onto}
+use Rattle.region_file.proofs.LoopLemmas.{many_ok, onto}
 use Rattle.region_file.proofs.RecordLaws.{FitsHead, head_bytes_of, call_again, call_takes, trip_again, trip_takes}
 
 -- steps of reading

@@ -1,9 +1,9 @@
 -- The two laws of each record: what is read is spelled so, and what is spelled so is read.
-use Rattle.std.proofs.Common.{◌≡◌, ℕ, zero, suc, ◌+◌, ◌%◌, ◌^◌, ◌<◌, ◌≤◌, true, cond, List, [], ◌∷◌, ◌++◌, length, Some, None, refl, sym, ap, ap₂, subst, ◌∙◌, append_assoc, arith}
-use Rattle.std.specs.Prelude.{Option, ◌==◌, nat_le, nat_lt}
+use Rattle.std.proofs.Common.{◌≡◌, ℕ, ◌%◌, ◌<◌, ◌≤◌, true, cond, List, [], ◌∷◌, ◌++◌, Some, None, refl, sym, ap, ap₂, subst, ◌∙◌, append_assoc}
+use Rattle.std.specs.Prelude.{◌==◌, nat_le, nat_lt}
 use Rattle.std.specs.Int.{w32, w64}
 use Rattle.std.proofs.lemmas.Bool.{lt-ltb, ltb-true, leb-true, le-leb}
-use Rattle.std.proofs.lemmas.Option.{none-some, same_Some, cond_some, option_and_then_some}
+use Rattle.std.proofs.lemmas.Option.{same_Some, cond_some, option_and_then_some}
 use Rattle.plain_texts.specs.Names.{is_name}
 use Rattle.plan_base.specs.declared.places.Place.{Place}
 use Rattle.timetable_arcs.specs.declared.trips.Call.{Call}
@@ -18,7 +18,7 @@ use Rattle.region_file.specs.Bytes.{arc_bytes, call_bytes, counted_bytes, place_
 use Rattle.region_file.specs.Fronts.{arc_front, byte_front, call_front, id_front, letter_front, name_front, number_front, place_front, road_front, set_front, stop_front, switch_front, trip_front}
 use Rattle.region_file.specs.Lines.{FitsArc, FitsCall, FitsTrip, flags_of, key_line, node_line}
 use Rattle.region_file.proofs.FrontLaws.{IsBytes, Takes, Takes-then, and_then, byte_again, byte_takes, id_again, id_takes, name_again, name_takes, place_is_read, place_takes, set_again, set_takes, word_again, word_takes}
-use Rattle.region_file.proofs.KindLaws.{AreFlags, flags_again, flags_read}
+use Rattle.region_file.proofs.KindLaws.{flags_again, flags_read}
 
 -- ---- nodes
 

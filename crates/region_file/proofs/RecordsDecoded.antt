@@ -1,5 +1,5 @@
 -- What bytes spell as records: the laws of the whole.
-use Rattle.std.proofs.Common.{◌≡◌, ℕ, ◌+◌, ◌-◌, ◌<◌, ◌≤◌, Bool, true, false, cond, eqb, List, [], ◌∷◌, ◌++◌, length, Some, None, Result, Ok, Err, refl, sym, ap, ap₂, subst, ◌∙◌, append_assoc, append-nil, length-append, arith, inl, inr}
+use Rattle.std.proofs.Common.{◌≡◌, ℕ, ◌+◌, ◌-◌, Bool, true, false, cond, eqb, List, [], ◌++◌, length, Some, None, Result, Ok, Err, refl, sym, ap, ap₂, subst, ◌∙◌, append_assoc, append-nil, length-append, arith, inr}
 use Rattle.std.specs.Prelude.{Option}
 use Rattle.std.specs.List.{flat_map}
 use Rattle.std.proofs.lemmas.Bool.{eqb-true, eqb-false}
@@ -10,17 +10,16 @@ use Rattle.service_days.specs.DaysMeaning.{DaysMeaning}
 use Rattle.mode_network.specs.NetworkLists.{NetworkLists}
 use Rattle.region_file.specs.declared.counts.Counts.{Counts}
 use Rattle.region_file.specs.declared.fault.RegionFault.{RegionFault}
-use Rattle.region_file.specs.declared.fault.RegionFault.TheVariants.{BadHead, BadRecord, Network, Trailing, OutOfMemory}
+use Rattle.region_file.specs.declared.fault.RegionFault.TheVariants.{BadHead, BadRecord, Trailing}
 use Rattle.region_file.specs.Bytes.{FitCounts, counts_of, head_bytes, magic_of, record_bytes, region_bytes}
 use Rattle.region_file.specs.Fronts.{head_front}
-use Rattle.region_file.specs.Lines.{FitsDays, IsRegion, region_lines}
+use Rattle.region_file.specs.Lines.{IsRegion, region_lines}
 use Rattle.region_file.specs.Records.{behind, ended, lists_in, records_of}
-use Rattle.region_file.specs.Regions.{BeginsWith, FollowRecords, HasCause, HasHead, IsBadRecord, IsInBytes, behind_head}
+use Rattle.region_file.specs.Regions.{BeginsWith, HasCause, HasHead, IsBadRecord, IsInBytes, behind_head}
 use Rattle.region_file.proofs.CauseLaws.{records_bad}
-use Rattle.region_file.proofs.FrontLaws.{IsBytes, Takes}
+use Rattle.region_file.proofs.FrontLaws.{IsBytes}
 use Rattle.region_file.proofs.HeadLaws.{head_again, head_takes}
-use Rattle.region_file.proofs.StopLaws.{IsBadBehind}
-use Rattle.region_file.proofs.WholeLaws.{AreRead, records_again, records_take}
+use Rattle.region_file.proofs.WholeLaws.{records_again, records_take}
 
 fault_is : (x y : RegionFault) → ◌≡◌ {A = Result NetworkLists RegionFault} (Err x) (Err y) → x ≡ y
 fault_is x y e = cc

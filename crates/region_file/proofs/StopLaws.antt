@@ -1,5 +1,5 @@
 -- Where the reading of records stops, no record that may come next is spelled.
-use Rattle.std.proofs.Common.{◌≡◌, ℕ, zero, suc, ◌+◌, ◌-◌, ◌<◌, ◌≤◌, Bool, true, false, cond, List, [], ◌∷◌, ◌++◌, length, map, Some, None, Result, Ok, Err, refl, sym, ap, ap₂, subst, ◌∙◌, append_assoc, arith, ◌⊎◌, inl, inr}
+use Rattle.std.proofs.Common.{◌≡◌, ℕ, zero, suc, ◌+◌, ◌-◌, ◌<◌, true, false, cond, List, [], ◌∷◌, ◌++◌, length, map, Some, None, refl, sym, ap, ◌∙◌, append_assoc, arith, inl, inr}
 use Rattle.std.specs.Prelude.{◌≢◌, Option, option_and_then, nat_eq, nat_lt}
 use Rattle.std.specs.List.{flat_map, AllByRecursion}
 use Rattle.std.proofs.lemmas.Bool.Decides.{nat_tests}
@@ -25,7 +25,7 @@ use Rattle.region_file.specs.Due.{Due, announce, next_behind, record_after}
 use Rattle.region_file.specs.Lines.{FitsArc, FitsCall, FitsLine, key_line, node_line, trip_lines}
 use Rattle.region_file.specs.Texts.{trip_records}
 use Rattle.region_file.proofs.Fits.{both_fit, road_fits, switch_fits}
-use Rattle.region_file.proofs.ManyLaws.{CallsStop, FitsRow, OneStop, StopsAt, StopsInCalls, TripStop}
+use Rattle.region_file.proofs.ManyLaws.{CallsStop, FitsRow, OneStop, StopsAt, TripStop}
 use Rattle.region_file.proofs.RecordLaws.{FitsHead, IsNamed, IsRoadNode, IsSwitchNode, head_bytes_of, node_bytes, stop_bytes}
 use Rattle.region_file.proofs.WholeLaws.{mapped_bytes, mapped_fit, rows_are, rows_fit, stop_row_line}
 

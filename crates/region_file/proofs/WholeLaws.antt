@@ -1,30 +1,28 @@
 -- The records of a network: what is read keeps the rules of parts and is spelled so, and what is spelled so is read.
-use Rattle.std.proofs.Common.{◌≡◌, ℕ, zero, suc, ◌+◌, ◌<◌, List, [], ◌∷◌, ◌++◌, length, map, get_or, Some, None, Result, Ok, Err, refl, sym, ap, ap₂, subst, ◌∙◌, append_assoc, append-nil, arith, add-zero, zero-add}
-use Rattle.std.specs.Prelude.{All, zip}
+use Rattle.std.proofs.Common.{◌≡◌, ℕ, zero, suc, ◌+◌, ◌<◌, List, [], ◌∷◌, ◌++◌, length, map, get_or, Ok, Err, refl, sym, ap, ap₂, subst, ◌∙◌, append_assoc, append-nil, arith, add-zero, zero-add}
+use Rattle.std.specs.Prelude.{zip}
 use Rattle.std.specs.List.{flat_map, AllByRecursion}
 use Rattle.std.proofs.lemmas.Grind.{flat_map-append}
 use Rattle.std.proofs.lemmas.List.Concat.{flat_map-cons}
 use Rattle.std.proofs.lemmas.List.Elements.{All-from_recursion, recursion_from_All, All-weaker}
 use Rattle.std.proofs.lemmas.List.Folds.{flat_map-map}
-use Rattle.plain_texts.specs.Names.{is_name}
 use Rattle.plan_base.specs.declared.places.Place.{Place}
 use Rattle.service_days.specs.DaysMeaning.{DaysMeaning}
-use Rattle.timetable_arcs.specs.declared.trips.Call.{Call}
 use Rattle.timetable_arcs.specs.Trips.{TripLists}
 use Rattle.mode_network.specs.declared.nodes.Arc.{Arc}
 use Rattle.mode_network.specs.declared.nodes.Node.{Node}
 use Rattle.mode_network.specs.declared.nodes.NodeKey.{NodeKey}
 use Rattle.mode_network.specs.declared.nodes.NodeKey.TheVariants.{Road, Stop, Switch}
 use Rattle.mode_network.specs.NetworkLists.{NetworkLists}
-use Rattle.mode_network.specs.Rules.{AreParts, IsRoad, IsStop, IsSwitch}
+use Rattle.mode_network.specs.Rules.{IsStop}
 use Rattle.region_file.specs.declared.counts.Counts.{Counts}
 use Rattle.region_file.specs.declared.lines.Line.{Line}
 use Rattle.region_file.specs.declared.lines.Line.TheVariants as line
-use Rattle.region_file.specs.Bytes.{arc_bytes, call_bytes, counts_of, record_bytes}
+use Rattle.region_file.specs.Bytes.{arc_bytes, counts_of, record_bytes}
 use Rattle.region_file.specs.Fronts.{arc_front, road_front, stop_front, switch_front}
-use Rattle.region_file.specs.Lines.{FitsArc, FitsCall, FitsDays, FitsLine, IsRegion, key_line, node_line, region_lines, stop_line, trip_lines}
+use Rattle.region_file.specs.Lines.{FitsArc, FitsCall, FitsDays, FitsLine, IsRegion, node_line, region_lines, stop_line, trip_lines}
 use Rattle.region_file.specs.Texts.{trip_records}
-use Rattle.region_file.specs.Records.{◌>>=◌, many, one, records_of, stop_nodes, stops_read, trip_read}
+use Rattle.region_file.specs.Records.{many, one, records_of, stop_nodes, stops_read, trip_read}
 use Rattle.region_file.proofs.Fits.{both_fit, road_fits, switch_fits}
 use Rattle.region_file.proofs.FrontLaws.{IsBytes, Takes, Takes-then}
 use Rattle.region_file.proofs.ManyLaws.{FitsRow, OneStop, StopsAt, TripStop, bind_is, bind_ok, many_again, many_stops, many_takes, ok_is, one_again, one_stops, one_takes, row_again, row_stops, row_takes}

@@ -50,6 +50,20 @@ fn is_fault(rt: &HostRuntime, bytes: &[u8], fault: RegionFault) -> bool {
     }
 }
 
+/// The first n bytes, or all of them where there are fewer.
+fn front(bytes: &[u8], n: usize) -> &[u8] {
+    match bytes.get(..n) {
+        Some(front) => front,
+        None => bytes,
+    }
+}
+
+fn with_byte(bytes: &mut [u8], at: usize, byte: u8) {
+    if let Some(place) = bytes.get_mut(at) {
+        *place = byte;
+    }
+}
+
 /// The small region has a head of 40 bytes, three road nodes of 17, stops of 13 and 17, a switch of 16, four arcs and
 /// links of 12, the record of its trip of 27, and two calls of 13.
 #[test]
@@ -57,13 +71,14 @@ fn the_first_fault_of_the_bytes_is_named(rt: HostRuntime) -> Result<(), Fail> {
     let network: Network = decode(rt.alloc(), SMALL, &Caps::FULL)?;
     let mut bytes = encode(rt.alloc(), &network, Format::Binary)?;
     assert!(rt; bytes.len() == 238);
-    assert!(rt; is_fault(&rt, &bytes[..39], RegionFault::BadHead));
-    assert!(rt; is_fault(&rt, &bytes[1..], RegionFault::BadHead));
-    assert!(rt; is_fault(&rt, &bytes[..237], RegionFault::BadRecord { at: 225 }));
-    assert!(rt; is_fault(&rt, &bytes[..211], RegionFault::BadRecord { at: 185 }));
+    assert!(rt; is_fault(&rt, front(&bytes, 39), RegionFault::BadHead));
+    assert!(rt; is_fault(&rt, front(&bytes, 237), RegionFault::BadRecord { at: 225 }));
+    assert!(rt; is_fault(&rt, front(&bytes, 211), RegionFault::BadRecord { at: 185 }));
     bytes.push(0)?;
     assert!(rt; is_fault(&rt, &bytes, RegionFault::Trailing { at: 238 }));
-    bytes[40] = 3;
+    with_byte(&mut bytes, 40, 3);
     assert!(rt; is_fault(&rt, &bytes, RegionFault::BadRecord { at: 40 }));
+    with_byte(&mut bytes, 0, 0);
+    assert!(rt; is_fault(&rt, &bytes, RegionFault::BadHead));
     Ok(())
 }

@@ -4,7 +4,7 @@ use Rattle.timetable_arcs.specs.Trips.{TripLists}
 use Rattle.std.specs.List.{flat_map}
 use Rattle.service_days.specs.Zones.{AreKept}
 use Rattle.mode_network.specs.NetworkLists.{nodes_of}
-use Rattle.region_file.specs.Bytes.{arc_bytes, counts_of, head_bytes, region_bytes}
+use Rattle.region_file.specs.Bytes.{arc_bytes, counts_of, head_bytes}
 use Rattle.region_file.specs.Texts.{node_record, trip_records}
 use Rattle.region_file.proofs.Decoded.{region_again}
 use Rattle.region_file.proofs.Encoded.{records_written}

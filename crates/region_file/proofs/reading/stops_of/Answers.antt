@@ -1,5 +1,4 @@
-use Rattle.std.proofs.Common.{◌≡◌, ◌∙◌, ◌+◌, ◌-◌, ◌++◌, ◌∷◌, [], None, Some, ap₂, rules}
-use Rattle.mode_network.specs.declared.nodes.NodeKey.TheVariants.{Stop}
+use Rattle.std.proofs.Common.{◌≡◌, ◌∙◌, ◌+◌, ◌-◌, [], None, Some, ap₂, rules}
 use Rattle.region_file.specs.Fronts.{stop_front}
 use Rattle.region_file.specs.Records.{many, one, stops_read}
 use Rattle.region_file.proofs.LoopLemmas.{with_stops, stops_begin, stops_go_on, stops_halt, stops_done}
