@@ -15,7 +15,7 @@ use Rattle.hierarchy.proofs.SoundLemmas.{fits, bridged}
 
 -- ---- heights after one node more
 
-height_kept : (order : List ℕ) (x v : ℕ) → height_in order v < length order → height_in (order ++ x ∷ []) v ≡ height_in order v
+pub height_kept : (order : List ℕ) (x v : ℕ) → height_in order v < length order → height_in (order ++ x ∷ []) v ≡ height_in order v
 height_kept [] x v lt = absurd (omega arith)
 height_kept (y ∷ order) x v lt = by_test (nat_eq y v) lt (height_kept order x v) where
   by_test : (b : Bool) → cond b 0 (suc (height_in order v)) < suc (length order) → (height_in order v < length order → height_in (order ++ x ∷ []) v ≡ height_in order v)
@@ -23,7 +23,7 @@ height_kept (y ∷ order) x v lt = by_test (nat_eq y v) lt (height_kept order x 
   by_test true h next = refl
   by_test false h next = ap suc (next (omega arith))
 
-height_next : (order : List ℕ) (x : ℕ) → height_in order x ≡ length order → height_in (order ++ x ∷ []) x ≡ length order
+pub height_next : (order : List ℕ) (x : ℕ) → height_in order x ≡ length order → height_in (order ++ x ∷ []) x ≡ length order
 height_next [] x core = rw (eq-eqb x x refl) refl
 height_next (y ∷ order) x core = by_test (nat_eq y x) core (height_next order x) where
   by_test : (b : Bool) → cond b 0 (suc (height_in order x)) ≡ suc (length order) → (height_in order x ≡ length order → height_in (order ++ x ∷ []) x ≡ length order)
@@ -31,7 +31,7 @@ height_next (y ∷ order) x core = by_test (nat_eq y x) core (height_next order 
   by_test true h next = absurd (omega arith)
   by_test false h next = ap suc (next (omega arith))
 
-height_other : (order : List ℕ) (x v : ℕ) → v ≢ x → height_in order v ≡ length order → height_in (order ++ x ∷ []) v ≡ length order + 1
+pub height_other : (order : List ℕ) (x v : ℕ) → v ≢ x → height_in order v ≡ length order → height_in (order ++ x ∷ []) v ≡ length order + 1
 height_other [] x v differ core = rw (ne_eqb x v (λ e. differ (sym e))) refl
 height_other (y ∷ order) x v differ core = by_test (nat_eq y v) core (height_other order x v differ) where
   by_test : (b : Bool) → cond b 0 (suc (height_in order v)) ≡ suc (length order) → (height_in order v ≡ length order → height_in (order ++ x ∷ []) v ≡ length order + 1)

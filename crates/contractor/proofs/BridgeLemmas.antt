@@ -1,0 +1,317 @@
+-- One contraction over what contraction keeps.
+use Rattle.std.proofs.Common.{◌≡◌, ◌≢◌, ℕ, suc, ◌+◌, ◌-◌, ◌<◌, ◌≤◌, ◌^◌, ◌⊎◌, inl, inr, List, [], ◌∷◌, ◌++◌, ◌∙◌, length, map, get_or, Some, refl, sym, ap, subst, arith}
+use Rattle.std.specs.Prelude.{All, AllPairs, Contains, Vec, slice_get}
+use Rattle.std.specs.declared.alloc.Global.{Global}
+use Rattle.std.proofs.lemmas.List.{length_push, map_push}
+use Rattle.std.proofs.lemmas.List.Elements.{All-contains, All-push, All-cons, Contains-get_or}
+use Rattle.std.proofs.lemmas.List.Quantifiers.{all_pairs_push}
+use Rattle.mode_network.specs.NetworkLists.{NetworkLists}
+use Rattle.mode_network.specs.Rules.{IsNetwork}
+use Rattle.hierarchy.specs.declared.entry.Entry.{Entry}
+use Rattle.hierarchy.specs.Hops.{Hop, AreHops, total, nodes_of}
+use Rattle.hierarchy.specs.Lists.{HierarchyLists, WitnessLists, IsCore, IsContracted, first_of, last_of}
+use Rattle.hierarchy.specs.Soundness.{HasEntry, IsSound, IsFree}
+use Rattle.hierarchy.proofs.HopLemmas.{hops_weaker}
+use Rattle.hierarchy.proofs.SoundLemmas.{fits}
+use Rattle.hierarchy.proofs.ContractionLemmas.{height_kept, height_next}
+use Rattle.witness.specs.declared.edge.Edge.{Edge}
+use Rattle.witness.specs.Rows.{row_at, HasEdge, AreRows, IsWalkWithin, NoWalkWithin}
+use Rattle.contractor.specs.declared.way.Way.{Way}
+use Rattle.contractor.specs.declared.way.Walk.{Walk}
+use Rattle.contractor.specs.declared.layer.Layer.{Layer}
+use Rattle.contractor.specs.Partway.{IsGood, IsLive, IsWay, AreWays, IsPartway, IsPut, shortcut_of, HaveOtherEnds, HaveOtherWays, IsTrueWeight}
+use Rattle.contractor.specs.Layers.{IsLayer, IsListed, FitsRows, CanPut, lists_of, lists_with, witness_of, HaveOtherKeys, FitsWalk, IsForWay, AreWalks, IsState, IsBridging, IsInRows, AreFirst, AreSecond, AreWaysOf, into_at}
+use Rattle.contractor.specs.declared.way.Side.{Side}
+use Rattle.contractor.proofs.WayLemmas.{are_ways}
+use Rattle.contractor.proofs.ListLemmas.{place_of, contains_place}
+use Rattle.contractor.proofs.LiveLemmas.{core_more}
+use Rattle.contractor.proofs.StepLemmas.{light, by_lighter, by_shortcut, by_witness, partway_begins, partway_ends}
+
+-- ---- rows and entries
+
+module _ (order : List ℕ) (layer : Layer) (is : IsLayer order layer) where
+  fits_entry : (e : Entry) → Contains layer.entries.items e → FitsRows (length layer.rows.items) e
+  fits_entry e there = All-contains (FitsRows (length layer.rows.items)) layer.entries.items e is.fit there
+
+  pub rows_are : AreRows layer.rows.items
+  rows_are = record {
+    few = is.few;
+    edges = λ u edge there. (let l = is.listed u edge there in
+        let entry = l.entry in
+        let f = fits_entry entry (contains_place layer.entries.items edge.entry entry l.at) in
+        record {
+          to = subst (λ v. v < length layer.rows.items) (sym (ap (λ (y : Edge). y.to) l.is)) f.to;
+          positive = subst (λ w. 0 < w) (sym (ap (λ (y : Edge). y.weight) l.is)) f.positive;
+          light = subst (λ w. w < 2 ^ 56) (sym (ap (λ (y : Edge). y.weight) l.is)) f.light;
+        });
+  }
+
+  -- the hierarchy that has these entries and this order
+  module _ (h : HierarchyLists) (order_is : h.order ≡ order) (entries_are : h.entries ≡ layer.entries.items) where
+    edge_live : (u v w : ℕ) → HasEdge layer.rows.items u v w → IsLive h u v w
+    edge_live u v w (number, there) =
+        let edge : Edge = record { to = v; entry = number; weight = w } in
+        let l = is.listed u edge there in
+        let e = l.entry in
+        let to : e.to ≡ v = sym (ap (λ (y : Edge). y.to) l.is) in
+        let weight : e.weight ≡ w = sym (ap (λ (y : Edge). y.weight) l.is) in
+        let listed : HasEntry layer.entries.items e.from e.to e.weight = (e.via, contains_place layer.entries.items number e l.at) in
+        record {
+          entry = subst (λ es. HasEntry es u v w) (sym entries_are) (subst (HasEntry layer.entries.items u v) weight (subst (λ y. HasEntry layer.entries.items u y e.weight) to (subst (λ y. HasEntry layer.entries.items y e.to e.weight) l.from listed)));
+          core_from = subst (λ o. IsCore o u) (sym order_is) (subst (IsCore order) l.from l.core_from);
+          core_to = subst (λ o. IsCore o v) (sym order_is) (subst (IsCore order) to l.core_to);
+        }
+
+    live_edge : (u v w : ℕ) → IsLive h u v w → HasEdge layer.rows.items u v w
+    live_edge u v w live =
+        let has = subst (λ es. HasEntry es u v w) entries_are live.entry in
+        let e : Entry = record { from = u; to = v; weight = w; via = has.0 } in
+        let at = place_of layer.entries.items e has.1 in
+        (at.0, (is.all at.0 e at.1 (subst (λ o. IsCore o u) order_is live.core_from) (subst (λ o. IsCore o v) order_is live.core_to)).out)
+
+    pub none_live : (u v limit : ℕ) → NoWalkWithin layer.rows.items u v limit → (hops : List Hop) → AreHops (IsLive h) u hops v → limit < total hops
+    none_live u v limit none hops walk = none hops (hops_weaker (IsLive h) (HasEdge layer.rows.items) live_edge hops u v walk)
+
+    pub walk_live : (hops : List Hop) (u v : ℕ) → AreHops (HasEdge layer.rows.items) u hops v → AreHops (IsLive h) u hops v
+    walk_live hops u v walk = hops_weaker (HasEdge layer.rows.items) (IsLive h) edge_live hops u v walk
+
+-- ---- walks
+
+module _ (order : List ℕ) (x : ℕ) (ways : List Way) (k : ℕ) (walks : List Walk) (core : IsCore order x) (are : AreWalks order x ways k walks) where
+  later : (walk : Walk) → IsContracted order walk.below ⊎ ((walk.below ≡ x) × IsForWay ways k walk) → IsContracted order walk.below ⊎ ((walk.below ≡ x) × IsForWay ways (k + 1) walk)
+  later walk (inl low) = inl low
+  later walk (inr it) = let f = it.1 in inr (it.0, record { place = f.place; before = (let lt = f.before in omega arith); first = f.first; last = f.last })
+
+  pub walks_stay : AreWalks order x ways (k + 1) walks
+  walks_stay = record { apart = are.apart; fit = are.fit; each = λ j d low. later (get_or walks j d) (are.each j d low) }
+
+  pub walks_more : AllPairs HaveOtherWays ways → k < length ways → (walk : Walk) → walk.below ≡ x → ((d : Way) → (get_or ways k d).from ≡ walk.first) → ((d : Way) → (get_or ways k d).to ≡ walk.last) → FitsWalk walk
+      → AreWalks order x ways (k + 1) (walks ++ walk ∷ [])
+  walks_more other lt walk below first last fits = record {
+    apart = all_pairs_push HaveOtherKeys walks walk are.apart (λ j d low. differs j d low);
+    fit = All-push FitsWalk walks walk are.fit fits;
+    each = All-push (λ (w : Walk). IsContracted order w.below ⊎ ((w.below ≡ x) × IsForWay ways (k + 1) w)) walks walk walks_stay.each
+        (inr (below, record { place = k; before = omega arith; first = first; last = last }));
+  } where
+    differs : (j : ℕ) (d : Walk) → j < length walks → HaveOtherKeys (get_or walks j d) walk
+    differs j d low same_below same_first same_last = elim (are.each j d low) [
+      | inl contracted ↦ (let now : IsContracted order x = subst (IsContracted order) (same_below ∙ below) contracted in omega arith)
+      | inr it ↦ (let f = it.1 in
+          let w : Way = record { sum = 0; from = 0; to = 0 } in
+          other f.place k w f.before lt (f.first w ∙ same_first ∙ sym (first w)) (f.last w ∙ same_last ∙ sym (last w)))
+    ]
+
+-- all are for contracted nodes, once x is one
+pub walks_end : (order : List ℕ) (x : ℕ) (ways : List Way) (k : ℕ) (walks : List Walk) → IsCore order x → AreWalks order x ways k walks → AreWalks (order ++ x ∷ []) 0 [] 0 walks
+walks_end order x ways k walks core are = record {
+  apart = are.apart;
+  fit = are.fit;
+  each = λ j d low. elim (are.each j d low) [
+    | inl contracted ↦ (let same = height_kept order x (get_or walks j d).below contracted in inl (omega (arith, length_push order x)))
+    | inr it ↦ (let next = height_next order x core in inl (subst (IsContracted (order ++ x ∷ [])) (sym it.0) (omega (arith, length_push order x))))
+  ];
+}
+
+-- before the first way
+pub walks_begin : (order : List ℕ) (x : ℕ) (ways : List Way) (walks : List Walk) → AreWalks order 0 [] 0 walks → AreWalks order x ways 0 walks
+walks_begin order x ways walks are = record {
+  apart = are.apart;
+  fit = are.fit;
+  each = λ j d low. elim (are.each j d low) [
+    | inl contracted ↦ inl contracted
+    | inr it ↦ absurd (let f = it.1 in let lt = f.before in omega arith)
+  ];
+}
+
+-- the nodes of a walk between different nodes
+walk_nodes : (rows : List (Vec Edge Global)) → AreRows rows → (hops : List Hop) (u v : ℕ) → AreHops (HasEdge rows) u hops v → u < 2 ^ 24 → All (λ w. w < 2 ^ 24) (nodes_of u hops)
+walk_nodes rows are [] u v walk low = λ j d lt. one j d lt where
+  one : (j d : ℕ) → j < 1 → get_or (u ∷ []) j d < 2 ^ 24
+  one j d lt = let first : j ≡ 0 = omega arith in subst (λ i. get_or (u ∷ []) i d < 2 ^ 24) (sym first) low
+walk_nodes rows are (hop ∷ hops) u v (edge, walk) low = All-cons (λ w. w < 2 ^ 24) u (nodes_of hop.to hops) low
+    (walk_nodes rows are hops hop.to v walk (let e = are.edges u (record { to = hop.to; entry = edge.0; weight = hop.weight }) edge.1 in let few = are.few in let to = e.to in omega arith))
+
+last_more : (u w : ℕ) (ns : List ℕ) → last_of (u ∷ w ∷ ns) ≡ last_of (w ∷ ns)
+last_more u w ns =
+    let a : length (u ∷ w ∷ ns) - 1 ≡ suc (length ns) = omega arith in
+    let b : length (w ∷ ns) - 1 ≡ length ns = omega arith in
+    ap (λ k. get_or (u ∷ w ∷ ns) k 0) a ∙ ap (λ k. get_or (w ∷ ns) k 0) (sym b)
+
+last_is : (rows : List (Vec Edge Global)) (hops : List Hop) (u v : ℕ) → AreHops (HasEdge rows) u hops v → last_of (nodes_of u hops) ≡ v
+last_is rows [] u v walk = sym walk
+last_is rows (hop ∷ hops) u v (edge, walk) = last_more u hop.to (map (λ (h : Hop). h.to) hops) ∙ last_is rows hops hop.to v walk
+
+pub walk_fits : (rows : List (Vec Edge Global)) (u v limit : ℕ) (walk : Walk) → AreRows rows → u < length rows → u ≢ v → walk.first ≡ u → walk.last ≡ v → IsWalkWithin rows u v limit walk.nodes.items → FitsWalk walk
+walk_fits rows u v limit walk are inside differ first last w = record {
+  nodes = subst (λ ns. All (λ y. y < 2 ^ 24) ns) (sym w.are) (walk_nodes rows are w.hops u v w.walk (let few = are.few in omega arith));
+  is_walk = subst (λ ns. 2 ≤ length ns) (sym w.are) (two w.hops w.walk);
+  first = first ∙ sym (ap first_of w.are);
+  last = last ∙ sym (ap last_of w.are ∙ last_is rows w.hops u v w.walk);
+} where
+  two : (hops : List Hop) → AreHops (HasEdge rows) u hops v → 2 ≤ length (nodes_of u hops)
+  two [] walk = absurd (differ (sym walk))
+  two (hop ∷ hops) walk = omega arith
+
+-- ---- one way more
+
+module _ (n : NetworkLists) (h : HierarchyLists) (x : ℕ) (ways : List Way) (k : ℕ) (old : Layer) (network : IsNetwork n) (core : IsCore h.order x) (are : AreWays h x ways) (state : IsBridging n h x ways k old)
+    (way : Way) (lt : k < length ways) (is : (d : Way) → get_or ways k d ≡ way) where
+  abbrev here : IsWay h x way
+  here = subst (IsWay h x) (is way) (are.each k way lt)
+
+  from_is : way.from ≢ x
+  from_is same = (fits n h state.good.sound way.from x here.first here.is_first).differ same
+
+  to_is : way.to ≢ x
+  to_is same = (fits n h state.good.sound x way.to here.second here.is_second).differ (sym same)
+
+  pub left_from : IsCore (old.order.items ++ x ∷ []) way.from
+  left_from = subst (λ o. IsCore (o ++ x ∷ []) way.from) (sym state.order) (core_more h.order x way.from from_is here.core_from)
+
+  pub left_to : IsCore (old.order.items ++ x ∷ []) way.to
+  left_to = subst (λ o. IsCore (o ++ x ∷ []) way.to) (sym state.order) (core_more h.order x way.to to_is here.core_to)
+
+  pub lighter_more : (weight : ℕ) → HasEdge old.rows.items way.from way.to weight → weight ≤ way.sum → IsBridging n h x ways (k + 1) old
+  lighter_more weight edge le = record {
+    good = state.good;
+    order = state.order;
+    partway = by_lighter n h x ways k (lists_with x old) network state.good.sound core are state.partway way lt is
+        (weight, (edge_live (old.order.items ++ x ∷ []) old state.layer (lists_with x old) refl refl way.from way.to weight edge).entry, le);
+    layer = state.layer;
+    walks = walks_stay old.order.items x ways k old.walks.items (subst (λ o. IsCore o x) (sym state.order) core) state.walks;
+  }
+
+  module _ (none : NoWalkWithin old.rows.items way.from way.to way.sum) where
+    no_live : (hops : List Hop) → AreHops (IsLive (lists_with x old)) way.from hops way.to → way.sum < total hops
+    no_live = none_live (old.order.items ++ x ∷ []) old state.layer (lists_with x old) refl refl way.from way.to way.sum none
+
+    pub can_put : (entries : List Entry) → h.entries ≡ entries → (nodes : ℕ) → All (FitsRows nodes) entries → CanPut nodes way
+    can_put entries same nodes fit =
+        let a = fit_of way.from x here.first here.is_first in
+        let b = fit_of x way.to here.second here.is_second in
+        record {
+          differ = here.differ;
+          from = a.from;
+          to = b.to;
+          positive = (let s = here.sum in let p = a.positive in omega arith);
+          light = light n h x ways k (lists_with x old) network state.good.sound core are state.partway way lt is no_live;
+        }
+      where
+        fit_of : (u v w : ℕ) (has : HasEntry h.entries u v w) → FitsRows nodes (record { from = u; to = v; weight = w; via = has.0 })
+        fit_of u v w has = All-contains (FitsRows nodes) entries (record { from = u; to = v; weight = w; via = has.0 }) fit (subst (λ es. Contains es (record { from = u; to = v; weight = w; via = has.0 })) same has.1)
+
+    pub shortcut_more : (new : Layer) → new.order.items ≡ old.order.items → new.walks.items ≡ old.walks.items → IsPut old.entries.items new.entries.items (shortcut_of x way) → IsLayer (old.order.items ++ x ∷ []) new → IsBridging n h x ways (k + 1) new
+    shortcut_more new order walks put layer = record {
+      good = state.good;
+      order = order ∙ state.order;
+      partway = by_shortcut n h x ways k (lists_with x old) network state.good.sound core are state.partway way lt is no_live (lists_with x new) (ap (λ o. o ++ x ∷ []) order) (ap (map witness_of) walks) put;
+      layer = subst (λ o. IsLayer (o ++ x ∷ []) new) (sym order) layer;
+      walks = subst (λ o. AreWalks o x ways (k + 1) new.walks.items) (sym order) (subst (λ ws. AreWalks old.order.items x ways (k + 1) ws) (sym walks)
+          (walks_stay old.order.items x ways k old.walks.items (subst (λ o. IsCore o x) (sym state.order) core) state.walks));
+    }
+
+  pub witness_more : (new : Layer) (walk : Walk) → new ≡ record old { walks = new.walks } → new.walks.items ≡ old.walks.items ++ walk ∷ [] → walk.below ≡ x → walk.first ≡ way.from → walk.last ≡ way.to
+      → IsWalkWithin old.rows.items way.from way.to way.sum walk.nodes.items → way.from < length old.rows.items → IsBridging n h x ways (k + 1) new
+  witness_more new walk others walks below first last found inside = record {
+    good = state.good;
+    order = order ∙ state.order;
+    partway = by_witness n h x ways k (lists_with x old) network state.good.sound core are state.partway way lt is found.hops
+        (walk_live (old.order.items ++ x ∷ []) old state.layer (lists_with x old) refl refl found.hops way.from way.to found.walk) found.within (lists_with x new) (ap (λ o. o ++ x ∷ []) order) entries
+        (ap (map witness_of) walks ∙ map_push witness_of old.walks.items walk ∙ ap (λ w. map witness_of old.walks.items ++ w ∷ []) witness);
+    layer = subst (λ o. IsLayer (o ++ x ∷ []) new) (sym order) (subst (IsLayer (old.order.items ++ x ∷ [])) (sym others) (same_layer state.layer));
+    walks = subst (λ o. AreWalks o x ways (k + 1) new.walks.items) (sym order) (subst (λ ws. AreWalks old.order.items x ways (k + 1) ws) (sym walks)
+        (walks_more old.order.items x ways k old.walks.items (subst (λ o. IsCore o x) (sym state.order) core) state.walks are.apart lt walk below (λ d. ap (λ (w : Way). w.from) (is d) ∙ sym first) (λ d. ap (λ (w : Way). w.to) (is d) ∙ sym last)
+        (walk_fits old.rows.items way.from way.to way.sum walk (rows_are (old.order.items ++ x ∷ []) old state.layer) inside here.differ first last found)));
+  } where
+    order : new.order.items ≡ old.order.items
+    order = ap (λ (l : Layer). l.order.items) others
+
+    entries : new.entries.items ≡ old.entries.items
+    entries = ap (λ (l : Layer). l.entries.items) others
+
+    witness : witness_of walk ≡ record { below = x; nodes = nodes_of way.from found.hops }
+    witness = ap (λ b. listed_walk b walk.nodes.items) below ∙ ap (λ ns. listed_walk x ns) found.are where
+      listed_walk : ℕ → List ℕ → WitnessLists
+      listed_walk b ns = record { below = b; nodes = ns }
+
+    same_layer : IsLayer (old.order.items ++ x ∷ []) old → IsLayer (old.order.items ++ x ∷ []) (record old { walks = new.walks })
+    same_layer l = record { few = l.few; count = l.count; fit = l.fit; apart = l.apart; listed = l.listed; all = l.all; into_fit = l.into_fit }
+
+-- ---- the begin and the end
+
+pub bridging_begins : (n : NetworkLists) (h : HierarchyLists) (x : ℕ) (ways : List Way) (layer : Layer) → IsGood n h → h ≡ lists_of layer → IsLayer (layer.order.items ++ x ∷ []) layer → AreWalks layer.order.items 0 [] 0 layer.walks.items
+    → IsBridging n h x ways 0 layer
+bridging_begins n h x ways layer good same is walks = record {
+  good = good;
+  order = sym (ap (λ (l : HierarchyLists). l.order) same);
+  partway = subst (λ (g : HierarchyLists). IsPartway n g x ways 0 (lists_with x layer)) (sym same) (partway_begins n (lists_of layer) x ways (subst (λ (g : HierarchyLists). All (IsTrueWeight n) g.entries) same good.true_weights));
+  layer = is;
+  walks = walks_begin layer.order.items x ways layer.walks.items walks;
+}
+
+pub contracted : (n : NetworkLists) (h : HierarchyLists) (x : ℕ) (ways : List Way) (layer new : Layer) → IsCore h.order x → IsFree n x → AreWays h x ways → IsBridging n h x ways (length ways) layer
+    → new.order.items ≡ layer.order.items ++ x ∷ [] → new.entries.items ≡ layer.entries.items → new.walks.items ≡ layer.walks.items → new.rows.items ≡ layer.rows.items → new.into.items ≡ layer.into.items → IsState n new
+contracted n h x ways layer new core free are state order entries walks rows into = record {
+  good = record {
+    sound = subst (IsSound n) (sym lists) (partway_ends n h x ways (length ways) (lists_with x layer) state.good.sound core free are (omega arith) state.partway);
+    true_weights = subst (λ es. All (IsTrueWeight n) es) (sym entries) state.partway.true_weights;
+    apart = subst (λ es. AllPairs HaveOtherEnds es) (sym entries) state.layer.apart;
+  };
+  layer = subst (λ o. IsLayer o new) (sym order) (moved state.layer);
+  walks = subst (λ o. AreWalks o 0 [] 0 new.walks.items) (sym order) (subst (λ ws. AreWalks (layer.order.items ++ x ∷ []) 0 [] 0 ws) (sym walks)
+      (walks_end layer.order.items x ways (length ways) layer.walks.items (subst (λ o. IsCore o x) (sym state.order) core) state.walks));
+} where
+  lists : lists_of new ≡ lists_with x layer
+  lists = ap (λ o. made o new.entries.items (map witness_of new.walks.items)) order ∙ ap (λ es. made (layer.order.items ++ x ∷ []) es (map witness_of new.walks.items)) entries ∙ ap (λ ws. made (layer.order.items ++ x ∷ []) layer.entries.items (map witness_of ws)) walks where
+    made : List ℕ → List Entry → List WitnessLists → HierarchyLists
+    made o es ws = record { order = o; entries = es; witnesses = ws }
+
+  moved : IsLayer (layer.order.items ++ x ∷ []) layer → IsLayer (layer.order.items ++ x ∷ []) new
+  moved l = record {
+    few = subst (λ (rs : List (Vec Edge Global)). length rs ≤ 2 ^ 24) (sym rows) l.few;
+    count = ap length into ∙ l.count ∙ sym (ap length rows);
+    fit = subst (λ (rs : List (Vec Edge Global)). All (FitsRows (length rs)) new.entries.items) (sym rows) (subst (λ es. All (FitsRows (length layer.rows.items)) es) (sym entries) l.fit);
+    apart = subst (λ es. AllPairs HaveOtherEnds es) (sym entries) l.apart;
+    listed = λ u e there. subst (λ es. IsListed (layer.order.items ++ x ∷ []) es u e) (sym entries) (l.listed u e (subst (λ (rs : List (Vec Edge Global)). Contains (row_at rs u) e) rows there));
+    all = λ number e at from to. subst (λ (rs : List (Vec Edge Global)). IsInRows rs new.into.items number e) (sym rows) (subst (λ (is : List (Vec ℕ Global)). IsInRows layer.rows.items is number e) (sym into)
+        (l.all number e (subst (λ es. slice_get es number ≡ Some e) entries at) from to));
+    into_fit = λ v u there. subst (λ (rs : List (Vec Edge Global)). u < length rs) (sym rows) (l.into_fit v u (subst (λ (is : List (Vec ℕ Global)). Contains (into_at is v) u) into there));
+  }
+
+-- ---- after a node was cut out
+
+module _ (n : NetworkLists) (old new : Layer) (x : ℕ) (state : IsState n old) (order : new.order.items ≡ old.order.items) (entries : new.entries.items ≡ old.entries.items) (walks : new.walks.items ≡ old.walks.items) where
+  pub sides_light : (sides : List Side) (order : List ℕ) → AreFirst order old.entries.items x sides → All (λ (s : Side). s.weight < 2 ^ 56) sides
+  sides_light sides order are k d low =
+      let s = get_or sides k d in
+      let has = (are.each s (Contains-get_or sides k d low)).0 in
+      (All-contains (FitsRows (length old.rows.items)) old.entries.items (record { from = s.node; to = x; weight = s.weight; via = has.0 }) state.layer.fit has.1).light
+
+  pub edges_light : (edges : List Edge) (order : List ℕ) → AreSecond order old.entries.items x edges → All (λ (e : Edge). e.weight < 2 ^ 56) edges
+  edges_light edges order are k d low =
+      let e = get_or edges k d in
+      let has = (are.each e (Contains-get_or edges k d low)).0 in
+      (All-contains (FitsRows (length old.rows.items)) old.entries.items (record { from = x; to = e.to; weight = e.weight; via = has.0 }) state.layer.fit has.1).light
+
+  pub ways_now : (first : List Side) (second : List Edge) (ways : List Way) → AreFirst old.order.items old.entries.items x first → AreSecond old.order.items old.entries.items x second → AreWaysOf first second ways → AreWays (lists_of new) x ways
+  ways_now first second ways before after are = are_ways (lists_of new) x first second ways (subst (λ es. AllPairs HaveOtherEnds es) (sym entries) state.layer.apart)
+      (subst (λ o. AreFirst o new.entries.items x first) (sym order) (subst (λ es. AreFirst old.order.items es x first) (sym entries) before))
+      (subst (λ o. AreSecond o new.entries.items x second) (sym order) (subst (λ es. AreSecond old.order.items es x second) (sym entries) after)) are
+
+  pub bridging_now : (ways : List Way) → IsLayer (old.order.items ++ x ∷ []) new → IsBridging n (lists_of new) x ways 0 new
+  bridging_now ways layer = bridging_begins n (lists_of new) x ways new good refl (subst (λ o. IsLayer (o ++ x ∷ []) new) (sym order) layer)
+      (subst (λ o. AreWalks o 0 [] 0 new.walks.items) (sym order) (subst (λ ws. AreWalks old.order.items 0 [] 0 ws) (sym walks) state.walks)) where
+        good : IsGood n (lists_of new)
+        good = subst (λ o. IsGood n (record { order = o; entries = new.entries.items; witnesses = map witness_of new.walks.items })) (sym order)
+            (subst (λ es. IsGood n (record { order = old.order.items; entries = es; witnesses = map witness_of new.walks.items })) (sym entries)
+            (subst (λ (ws : List Walk). IsGood n (record { order = old.order.items; entries = old.entries.items; witnesses = map witness_of ws })) (sym walks) state.good))
+
+-- the ends of a way have rows
+pub way_inside : (h : HierarchyLists) (x nodes : ℕ) (entries : List Entry) (way : Way) → IsWay h x way → h.entries ≡ entries → All (FitsRows nodes) entries → (way.from < nodes) × (way.to < nodes) × (way.sum < 2 ^ 57)
+way_inside h x nodes entries way w same fit =
+    let a = fit_of way.from x w.first w.is_first in
+    let b = fit_of x way.to w.second w.is_second in
+    (a.from, b.to, (let s = w.sum in let p = a.light in let q = b.light in omega arith))
+  where
+    fit_of : (u v w : ℕ) (has : HasEntry h.entries u v w) → FitsRows nodes (record { from = u; to = v; weight = w; via = has.0 })
+    fit_of u v w has = All-contains (FitsRows nodes) entries (record { from = u; to = v; weight = w; via = has.0 }) fit (subst (λ es. Contains es (record { from = u; to = v; weight = w; via = has.0 })) same has.1)

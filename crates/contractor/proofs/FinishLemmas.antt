@@ -1,0 +1,207 @@
+-- The lists of a hierarchy in order.
+use Rattle.std.proofs.Common.{◌≡◌, ℕ, zero, ◌+◌, ◌<◌, ◌⊎◌, inl, inr, Bool, false, nat_eq, ◌&&◌, List, [], ◌∷◌, length, map, get_or, Some, None, refl, sym, subst, arith, Ordering}
+use Rattle.std.specs.Prelude.{Option, All, AllPairs, Contains, IfSome, IsPermutation}
+use Rattle.std.specs.Cmp.{IsTotalOrder}
+use Rattle.std.specs.Ordering.{is_lt, nat_cmp, ordering_then}
+use Rattle.std.specs.declared.cmp.Ordering.TheVariants.{Less}
+use Rattle.std.proofs.lemmas.Bool.{cases_Bool, and_parts, eqb-true}
+use Rattle.std.proofs.lemmas.Bool.Decides.{nat_tests}
+use Rattle.std.proofs.lemmas.Cmp.{then_total, on_total, nat_cmp_total}
+use Rattle.std.proofs.lemmas.List.{get_or-map, length-map}
+use Rattle.std.proofs.lemmas.List.Elements.{All-contains, All-map, Contains-get_or}
+use Rattle.std.proofs.lemmas.List.Sorted.{sorted_far, ranks_by, All-permutation, Contains-permutation, IsPermutation-sym, IsPermutation-map}
+use Rattle.std.proofs.lemmas.Map.Keys.{IsDistinct-from_apart, IsDistinct-IsPermutation, apart_from_distinct}
+use Rattle.mode_network.specs.NetworkLists.{NetworkLists, mode_at}
+use Rattle.mode_network.specs.Rules.{IsNetwork}
+use Rattle.mode_network.proofs.RuleLemmas.{mode_is_road, nodes_hold_roads}
+use Rattle.hierarchy.specs.declared.entry.Entry.{Entry}
+use Rattle.hierarchy.specs.Hops.{AreHigh, total, nodes_of}
+use Rattle.hierarchy.specs.Lists.{HierarchyLists, WitnessLists, height_in, IsContracted, first_of, last_of}
+use Rattle.hierarchy.specs.Rules.{IsHierarchy, IsNode, FitsWitness, IsAscending, entry_cmp, witness_cmp}
+use Rattle.hierarchy.specs.Soundness.{HasEntry, IsBridged, FitsLayer, IsMade, IsMadeBy, NodeIsBridged, PairsAreBridged, PairIsBridged, HoldsBelow, MayStandAt, IsSound}
+use Rattle.hierarchy.proofs.HopLemmas.{hops_weaker}
+use Rattle.hierarchy.proofs.SoundLemmas.{contracted_free}
+use Rattle.contractor.specs.declared.way.Walk.{Walk}
+use Rattle.contractor.specs.declared.layer.Layer.{Layer}
+use Rattle.contractor.specs.Partway.{HaveOtherEnds, IsTrueWeight}
+use Rattle.contractor.specs.Layers.{IsState, lists_of, witness_of, HaveOtherKeys, FitsWalk, IsForWay, walk_cmp, AreInOrder, IsFinished}
+
+-- ---- soundness is of the elements, not of their order
+
+module _ (n : NetworkLists) (h h2 : HierarchyLists) (order : h2.order ≡ h.order) (entries : IsPermutation h.entries h2.entries) (witnesses : IsPermutation h.witnesses h2.witnesses) where
+  has_now : (u v w : ℕ) → HasEntry h.entries u v w → HasEntry h2.entries u v w
+  has_now u v w (via, there) = (via, Contains-permutation h.entries h2.entries (record { from = u; to = v; weight = w; via = via }) entries there)
+
+  was_there : (e : Entry) → Contains h2.entries e → Contains h.entries e
+  was_there e there = Contains-permutation h2.entries h.entries e (IsPermutation-sym h.entries h2.entries entries) there
+
+  made_now : (e : Entry) (via : Option ℕ) → IsMadeBy n h e via → IsMadeBy n h2 e via
+  made_now e None is = is
+  made_now e (Some m) is = record {
+    below_from = subst (λ o. height_in o m < height_in o e.from) (sym order) is.below_from;
+    below_to = subst (λ o. height_in o m < height_in o e.to) (sym order) is.below_to;
+    first = is.first;
+    second = is.second;
+    is_first = has_now e.from m is.first is.is_first;
+    is_second = has_now m e.to is.second is.is_second;
+    sum = is.sum;
+  }
+
+  bridged_now : (x u v limit : ℕ) → IsBridged h x u v limit → IsBridged h2 x u v limit
+  bridged_now x u v limit (inl (w, has, le)) = inl (w, has_now u v w has, le)
+  bridged_now x u v limit (inr w) = inr (record {
+    hops = w.hops;
+    walk = hops_weaker (HasEntry h.entries) (HasEntry h2.entries) has_now w.hops u v w.walk;
+    above = subst (λ o. AreHigh (height_in o) (height_in o x) w.hops) (sym order) w.above;
+    within = w.within;
+    listed = Contains-permutation h.witnesses h2.witnesses (record { below = x; nodes = nodes_of u w.hops }) witnesses w.listed;
+  })
+
+  pub sound_moved : IsSound n h → IsSound n h2
+  sound_moved sound = record {
+    in_order = subst (λ o. HoldsBelow (length o) (MayStandAt n o)) (sym order) sound.in_order;
+    in_layers = All-permutation (FitsLayer n) h.entries h2.entries entries sound.in_layers;
+    arcs_covered = λ k d low. (let c = sound.arcs_covered k d low in (c.0, has_now _ _ c.0 c.1, c.2));
+    made = λ k d low. (let e = get_or h2.entries k d in made_now e e.via (All-contains (IsMade n h) h.entries e sound.made (was_there e (Contains-get_or h2.entries k d low))));
+    bridged = subst (λ o. All (NodeIsBridged h2) o) (sym order) (λ k d low. node (get_or h.order k d) (sound.bridged k d low));
+  } where
+    node : (x : ℕ) → NodeIsBridged h x → NodeIsBridged h2 x
+    node x is i a low j b within pair =
+        let first = get_or h2.entries i a in
+        let second = get_or h2.entries j b in
+        let at_first = All-contains (PairsAreBridged h x) h.entries first is (was_there first (Contains-get_or h2.entries i a low)) in
+        let at_second = All-contains (PairIsBridged h x first) h.entries second at_first (was_there second (Contains-get_or h2.entries j b within)) in
+        bridged_now x first.from second.to (first.weight + second.weight) (at_second (record {
+          to_x = pair.to_x;
+          from_x = pair.from_x;
+          start_above = subst (λ o. height_in o x < height_in o first.from) order pair.start_above;
+          end_above = subst (λ o. height_in o x < height_in o second.to) order pair.end_above;
+          differ = pair.differ;
+        }))
+
+-- ---- sorted, and no two alike
+
+ascends : {X : Type 0} (cmp : X → X → Ordering) → IsTotalOrder cmp → (same : X → X → Bool) → ((a b : X) → same a b ≡ same b a) → ((a b : X) → is_lt (cmp b a) ≡ false → same a b ≡ false → cmp a b ≡ Less)
+    → (old new : List X) → ((i j : ℕ) (d : X) → i < j → j < length old → same (get_or old i d) (get_or old j d) ≡ false) → AreInOrder cmp old new → AllPairs (λ a b. cmp a b ≡ Less) new
+ascends cmp total same flips strict old new apart are = λ i j d lt low. strict (get_or new i d) (get_or new j d)
+    (sorted_far (λ x y. is_lt (cmp x y)) (ranks_by total (λ x. x)) new are.sorted i j d (omega arith) low)
+    (apart_from_distinct same new i j d (IsDistinct-IsPermutation same flips old new are.moved (IsDistinct-from_apart same old apart)) lt low)
+
+entry_total : IsTotalOrder entry_cmp
+entry_total = then_total (on_total (λ (e : Entry). e.from) nat_cmp_total) (on_total (λ (e : Entry). e.to) nat_cmp_total)
+
+same_ends : Entry → Entry → Bool
+same_ends a b = nat_eq a.from b.from && nat_eq a.to b.to
+
+ends_flip : (a b : Entry) → same_ends a b ≡ same_ends b a
+unfolding same_ends
+ends_flip a b = grind (arith, nat_tests)
+
+ends_strict : (a b : Entry) → is_lt (entry_cmp b a) ≡ false → same_ends a b ≡ false → entry_cmp a b ≡ Less
+unfolding same_ends
+ends_strict a b h apart = grind (arith, nat_tests)
+
+ends_apart : (a b : Entry) → HaveOtherEnds a b → same_ends a b ≡ false
+unfolding same_ends
+ends_apart a b apart = elim (cases_Bool (same_ends a b)) [
+  | inr no_one ↦ no_one
+  | inl same ↦ (let parts = and_parts (nat_eq a.from b.from) (nat_eq a.to b.to) same in absurd (apart (eqb-true a.from b.from parts.0) (eqb-true a.to b.to parts.1)))
+]
+
+walk_total : IsTotalOrder walk_cmp
+walk_total = then_total (then_total (on_total (λ (w : Walk). w.below) nat_cmp_total) (on_total (λ (w : Walk). w.first) nat_cmp_total)) (on_total (λ (w : Walk). w.last) nat_cmp_total)
+
+same_keys : Walk → Walk → Bool
+same_keys a b = nat_eq a.below b.below && (nat_eq a.first b.first && nat_eq a.last b.last)
+
+keys_flip : (a b : Walk) → same_keys a b ≡ same_keys b a
+unfolding same_keys
+keys_flip a b = grind (arith, nat_tests)
+
+keys_strict : (a b : Walk) → is_lt (walk_cmp b a) ≡ false → same_keys a b ≡ false → walk_cmp a b ≡ Less
+unfolding same_keys
+keys_strict a b h apart = grind (arith, nat_tests)
+
+keys_apart : (a b : Walk) → HaveOtherKeys a b → same_keys a b ≡ false
+unfolding same_keys
+keys_apart a b apart = elim (cases_Bool (same_keys a b)) [
+  | inr no_one ↦ no_one
+  | inl same ↦ (let parts = and_parts (nat_eq a.below b.below) (nat_eq a.first b.first && nat_eq a.last b.last) same in
+      let rest = and_parts (nat_eq a.first b.first) (nat_eq a.last b.last) parts.1 in
+      absurd (apart (eqb-true a.below b.below parts.0) (eqb-true a.first b.first rest.0) (eqb-true a.last b.last rest.1)))
+]
+
+first_place : {X : Type 0} (xs : List X) → 0 < length xs → (x : X) × Contains xs x
+first_place [] lt = absurd (omega arith)
+first_place (x ∷ xs) lt = (x, (zero, (omega arith), refl))
+
+-- ---- the whole
+
+module _ (n : NetworkLists) (layer : Layer) (network : IsNetwork n) (state : IsState n layer) (entries : List Entry) (walks : List Walk) (entries_in_order : AreInOrder entry_cmp layer.entries.items entries) (walks_in_order : AreInOrder walk_cmp layer.walks.items walks)
+    (witnesses : List WitnessLists) (are : witnesses ≡ map witness_of walks) where
+  abbrev h : HierarchyLists
+  h = record { order = layer.order.items; entries = entries; witnesses = witnesses }
+
+  sound : IsSound n h
+  sound = sound_moved n (lists_of layer) h refl entries_in_order.moved
+      (subst (λ ws. IsPermutation (map witness_of layer.walks.items) ws) (sym are) (IsPermutation-map witness_of layer.walks.items walks walks_in_order.moved)) state.good.sound
+
+  pub finished : IsFinished n layer.order.items h
+  finished = record { sound = sound; order_is = refl; true_weights = All-permutation (IsTrueWeight n) layer.entries.items entries entries_in_order.moved state.good.true_weights }
+
+  node_low : (v mode : ℕ) → mode_at n.roads v ≡ Some mode → IsNode v
+  node_low v mode road = let low = (mode_is_road n network v mode road).0 in let hold = nodes_hold_roads n network in let few = network.few_nodes in omega arith
+
+  entry_low : (u v w : ℕ) → HasEntry entries u v w → IsNode u × IsNode v
+  entry_low u v w has =
+      let f = All-contains (FitsLayer n) entries (record { from = u; to = v; weight = w; via = has.0 }) sound.in_layers has.1 in
+      (node_low u f.mode f.from_mode, node_low v f.mode f.to_mode)
+
+  via_low : (e : Entry) (via : Option ℕ) → IsMadeBy n h e via → IfSome via IsNode
+  via_low e None is = tt
+  via_low e (Some m) is = (entry_low e.from m is.first is.is_first).1
+
+  walk_fits : All FitsWalk walks
+  walk_fits = All-permutation FitsWalk layer.walks.items walks walks_in_order.moved state.walks.fit
+
+  below_low : (w : Walk) → Contains walks w → IsNode w.below
+  below_low w there =
+      let each = All-contains (λ (y : Walk). IsContracted layer.order.items y.below ⊎ ((y.below ≡ 0) × IsForWay [] 0 y)) layer.walks.items w state.walks.each
+      (Contains-permutation walks layer.walks.items w (IsPermutation-sym layer.walks.items walks walks_in_order.moved) there) in
+      elim each [
+        | inl low ↦ (let free = contracted_free n h sound w.below low in node_low w.below free.mode free.road)
+        | inr never ↦ absurd (let f = never.1 in let lt = f.before in omega arith)
+      ]
+
+  walks_ascend : AllPairs (λ a b. walk_cmp a b ≡ Less) walks
+  walks_ascend = ascends walk_cmp walk_total same_keys keys_flip keys_strict layer.walks.items walks (λ i j d lt low. keys_apart (get_or layer.walks.items i d) (get_or layer.walks.items j d) (state.walks.apart i j d lt low)) walks_in_order
+
+  witness_fits : All FitsWitness (map witness_of walks)
+  witness_fits = All-map FitsWitness witness_of walks (λ k d low. (let w = get_or walks k d in let f = walk_fits k d low in record { below = below_low w (Contains-get_or walks k d low); nodes = f.nodes; is_walk = f.is_walk }))
+
+  witnesses_rise : IsAscending witness_cmp (map witness_of walks)
+  witnesses_rise i j d lt low =
+      let e : Walk = (first_place walks (omega (arith, length-map walks witness_of))).0 in
+      let short : j < length walks = omega (arith, length-map walks witness_of) in
+      let a = get_or walks i e in
+      let b = get_or walks j e in
+      let at_i : get_or (map witness_of walks) i d ≡ witness_of a = get_or-map witness_of walks i e d (omega arith) in
+      let at_j : get_or (map witness_of walks) j d ≡ witness_of b = get_or-map witness_of walks j e d short in
+      subst (λ x. witness_cmp x (get_or (map witness_of walks) j d) ≡ Less) (sym at_i) (subst (λ x. witness_cmp (witness_of a) x ≡ Less) (sym at_j)
+      (by_ends a b (walk_fits i e (omega arith)) (walk_fits j e short) (walks_ascend i j e lt short)))
+    where
+      by_ends : (a b : Walk) → FitsWalk a → FitsWalk b → walk_cmp a b ≡ Less → witness_cmp (witness_of a) (witness_of b) ≡ Less
+      by_ends a b f g less = subst (λ k. ordering_then (ordering_then (nat_cmp a.below b.below) (nat_cmp k (first_of b.nodes.items))) (nat_cmp (last_of a.nodes.items) (last_of b.nodes.items)) ≡ Less) f.first
+          (subst (λ k. ordering_then (ordering_then (nat_cmp a.below b.below) (nat_cmp a.first k)) (nat_cmp (last_of a.nodes.items) (last_of b.nodes.items)) ≡ Less) g.first
+          (subst (λ k. ordering_then (ordering_then (nat_cmp a.below b.below) (nat_cmp a.first b.first)) (nat_cmp k (last_of b.nodes.items)) ≡ Less) f.last
+          (subst (λ k. ordering_then (ordering_then (nat_cmp a.below b.below) (nat_cmp a.first b.first)) (nat_cmp a.last k) ≡ Less) g.last less)))
+
+  pub is_hierarchy : IsHierarchy h
+  is_hierarchy = record {
+    order_fits = λ k d low. (let free = (sound.in_order k low).0 d in node_low (get_or layer.order.items k d) free.mode free.road);
+    entries_fit = λ k d low. (let e = get_or entries k d in let f = sound.in_layers k d low in
+        record { from = node_low e.from f.mode f.from_mode; to = node_low e.to f.mode f.to_mode; via = via_low e e.via (sound.made k d low) });
+    entries_ascend = ascends entry_cmp entry_total same_ends ends_flip ends_strict layer.entries.items entries (λ i j d lt low. ends_apart (get_or layer.entries.items i d) (get_or layer.entries.items j d) (state.good.apart i j d lt low)) entries_in_order;
+    witnesses_fit = subst (λ ws. All FitsWitness ws) (sym are) witness_fits;
+    witnesses_ascend = subst (λ ws. IsAscending witness_cmp ws) (sym are) witnesses_rise;
+  }

@@ -1,0 +1,13 @@
+pub mod LiveLemmas
+pub mod PastLemmas
+pub mod SimpleLemmas
+pub mod StepLemmas
+pub mod ListLemmas
+pub mod WayLemmas
+pub mod RowLemmas
+pub mod CutLemmas
+pub mod PutLemmas
+pub mod BridgeLemmas
+pub mod BeginLemmas
+pub mod FinishLemmas
+pub mod WaitingLemmas

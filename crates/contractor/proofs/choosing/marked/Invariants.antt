@@ -1,0 +1,6 @@
+use Rattle.std.proofs.Common.{◌≡◌, take}
+use Rattle.std.specs.Prelude.{count_by}
+use Rattle.contractor.proofs.choosing.marked.Given as goal
+
+abbrev pub invariant-nodes : goal.invariant-nodes
+invariant-nodes l = count_by (λ b. b) (take l.v l.waiting) ≡ 0

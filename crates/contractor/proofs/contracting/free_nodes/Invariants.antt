@@ -1,0 +1,14 @@
+use Rattle.std.proofs.Common.{◌≡◌, ◌≤◌, ℕ, length, Some, true}
+use Rattle.std.specs.Prelude.{count_by, slice_get}
+use Rattle.hierarchy.specs.Soundness.{IsFree}
+use Rattle.contractor.specs.Contracted.{free_below}
+use Rattle.contractor.proofs.contracting.free_nodes.Given as goal
+
+abbrev pub invariant-nodes : goal.invariant-nodes
+invariant-nodes l = record {
+  count : length (l.waiting).items ≡ l.v;
+  each : (v : ℕ) → slice_get (l.waiting).items v ≡ Some true → IsFree l.network v;
+  marked : count_by (λ b. b) (l.waiting).items ≡ l.count;
+  free : l.count ≡ free_below l.network l.v;
+  few : l.count ≤ l.v;
+}

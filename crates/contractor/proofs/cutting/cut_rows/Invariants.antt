@@ -1,0 +1,6 @@
+use Rattle.std.proofs.Common.{take}
+use Rattle.contractor.specs.Layers.{IsCut}
+use Rattle.contractor.proofs.cutting.cut_rows.Given as goal
+
+abbrev pub invariant-nodes : goal.invariant-nodes
+invariant-nodes l = IsCut l.x (take l.u-index l.before) (l.fn.rows).items (l.rows).items

@@ -1,0 +1,6 @@
+use Rattle.std.proofs.Common.{◌≡◌, map}
+use Rattle.contractor.specs.Layers.{witness_of}
+use Rattle.contractor.proofs.finishing.witnesses.Given as goal
+
+abbrev pub invariant-walks : goal.invariant-walks
+invariant-walks l = (l.witnesses).items ≡ map witness_of l.yielded

@@ -1,0 +1,3 @@
+pub mod Contracted
+pub mod Partway
+pub mod Layers

@@ -1,0 +1,103 @@
+//! The contraction of all nodes that are not kept.
+
+ghost use Rattle.std.specs.Prelude.{◌≡◌, ◌+◌, ◌-◌, ◌<◌, ◌≤◌, ◌^◌, [], length, IfOk, OnOk, IsTrue};
+ghost use Rattle.mode_network.specs.NetworkLists.{nodes_of};
+ghost use Rattle.hierarchy.specs.Soundness.{IsFree};
+ghost use Rattle.contractor.specs.Contracted.{IsContracted, free_count, is_free};
+ghost use Rattle.contractor.specs.Layers.{IsState, AreWaiting};
+
+use crate::beginning::begin;
+use crate::bridging::contract_node;
+use crate::choosing::{Queue, marked};
+use crate::finishing::finish;
+use crate::layer::Layer;
+use hierarchy::Hierarchy;
+use mode_network::Network;
+use std::alloc::{AllocError, Global};
+use witness::Workspace;
+
+/// What is told of a contraction while it goes on.
+pub trait Progress {
+    /// So many nodes are contracted, of so many that are to be; and so many entries there are.
+    fn told(&mut self, contracted: u64, of: u64, entries: u64);
+}
+
+/// A sound hierarchy of a network. Its core is all nodes that are no road nodes, the road nodes with a link, and of the
+/// other road nodes as many as are to be kept, or all where there are fewer. Each shortcut weighs what the roads between
+/// its ends take at least, in milliseconds. Fails where memory runs out.
+///
+/// The nodes are contracted one after the other, those first that seem to need the fewest shortcuts, as in Geisberger's
+/// contraction hierarchies; those with a link are left, as Dibbelt, Pajor and Wagner do for user-constrained paths.
+pub fn contract<P: Progress>(
+    alloc: Global,
+    network: &Network,
+    keep: u32,
+    progress: &mut P,
+) -> Result<Hierarchy, AllocError>
+    ensures { IfOk result (IsContracted network.now keep) }
+{
+    network.known();
+    let mut layer = begin(alloc, network)?;
+    let (waiting, free) = free_nodes(alloc, network)?;
+    let number = free.saturating_sub(u64::from(keep));
+    contract_nodes(alloc, network, &mut layer, waiting, free, number, progress)?;
+    let hierarchy = finish(alloc, network, layer)?;
+    Ok(hierarchy)
+}
+
+/// Marks the nodes that are free, and counts them.
+fn free_nodes(alloc: Global, network: &Network) -> Result<(Vec<bool>, u64), AllocError>
+    ensures { IfOk result (λ nodes. AreWaiting network.now [] nodes.1 nodes.0.items × (nodes.1 ≡ free_count network.now)) }
+{
+    let mut waiting = Vec::with_capacity(alloc, network.nodes() as usize)?;
+    let mut count = 0;
+    'nodes: for v in 0..network.nodes() {
+        let free = is_free(network, v);
+        waiting.push(free)?;
+        count += u64::from(free);
+    }
+    Ok((waiting, count))
+}
+
+/// Whether a node is a road node without links.
+fn is_free(network: &Network, v: u32) -> bool
+    requires { v < length (nodes_of network.now) }
+    ensures is { result ≡ is_free network.now v }
+    ensures free { IsTrue result → IsFree network.now v }
+{
+    network.mode(v).is_some() && !network.has_link(v)
+}
+
+/// Contracts so many of the marked nodes.
+fn contract_nodes<P: Progress>(
+    alloc: Global,
+    network: &Network,
+    layer: &mut Layer,
+    waiting: Vec<bool>,
+    free: u64,
+    number: u64,
+    progress: &mut P,
+) -> Result<(), AllocError>
+    requires state { IsState network.now layer.old }
+    requires count { length layer.old.rows.items ≡ length (nodes_of network.now) }
+    requires order { layer.old.order.items ≡ [] }
+    requires waiting { AreWaiting network.now [] free waiting.items }
+    requires number { number ≤ free }
+    ensures state { OnOk result (IsState network.now layer.new) }
+    ensures order { OnOk result (length layer.new.order.items ≡ number) }
+{
+    network.known();
+    let mut waiting = waiting;
+    let mut workspace = Workspace::new(alloc);
+    let mut queue = Queue::new(alloc, layer, &waiting)?;
+    let mut left = number;
+    'nodes: while left > 0 {
+        let x = marked(&waiting, queue.next(layer)?);
+        waiting[x as usize] = false;
+        queue.deepen(layer, x);
+        contract_node(alloc, network, &mut workspace, layer, x)?;
+        left -= 1;
+        progress.told(number - left, number, layer.entries.len() as u64);
+    }
+    Ok(())
+}

@@ -1,0 +1,27 @@
+//! Ways past a node.
+
+/// A way from one neighbour of a node to another by the node, of an entry to it and one from it. Those that weigh less
+/// come first.
+#[derive(Clone, Copy, Debug, PartialEq, Eq, PartialOrd, Ord)]
+pub struct Way {
+    /// What both entries weigh together.
+    pub sum: u64,
+    pub from: u32,
+    pub to: u32,
+}
+
+/// A node that has an entry to the one that is contracted, and what the entry weighs.
+#[derive(Clone, Copy, Debug)]
+pub struct Side {
+    pub node: u32,
+    pub weight: u64,
+}
+
+/// A walk past a node that was found for a way by it. By that node, then by its first and its last node.
+#[derive(Debug, Drop, PartialEq, Eq, PartialOrd, Ord)]
+pub struct Walk {
+    pub below: u32,
+    pub first: u32,
+    pub last: u32,
+    pub nodes: Vec<u32>,
+}

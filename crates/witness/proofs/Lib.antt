@@ -1,0 +1,3 @@
+pub mod BackLemmas
+pub mod PlaceLemmas
+pub mod SearchLemmas

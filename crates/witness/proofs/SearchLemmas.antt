@@ -1,0 +1,275 @@
+-- The search after a walk was offered, and what it shows at its end.
+use Rattle.std.proofs.Common.{◌≡◌, ◌≢◌, ℕ, zero, suc, ◌+◌, ◌*◌, ◌<◌, ◌≤◌, ◌⊎◌, inl, inr, List, [], ◌∷◌, ◌∙◌, length, take, get_or, refl, sym, ap, subst, arith}
+use Rattle.std.specs.Prelude.{All, Contains, Vec}
+use Rattle.std.specs.List.{sum_by}
+use Rattle.std.specs.BinaryHeap.{heap_items, heap_len}
+use Rattle.std.specs.declared.cmp.Reverse.{Reverse}
+use Rattle.std.specs.declared.alloc.Global.{Global}
+use Rattle.std.proofs.lemmas.Bool.{cases_lt}
+use Rattle.std.proofs.lemmas.List.{length-set, take_all}
+use Rattle.std.proofs.lemmas.List.Elements.{All-more, All-weaker, All-contains}
+use Rattle.std.proofs.lemmas.List.Sorted.{Contains-permutation}
+use Rattle.witness.specs.declared.edge.Edge.{Edge}
+use Rattle.witness.specs.declared.workspace.Workspace.{Workspace}
+use Rattle.hierarchy.specs.Hops.{Hop, AreHops, total}
+use Rattle.witness.specs.Rows.{HasEdge, NoWalkWithin, row_at}
+use Rattle.witness.specs.Places.{Known, IsReachedBy}
+use Rattle.witness.specs.Searching.{IsSearch, IsFresh, NobodyBusy, IsBusy, IsKnown, Knows, Reaches, Waits, waiting_of, Takes, Leaves, IsOffered, HasParent, IsClosed, AreLower, IsNext, IsSame, IsKnownAt, IsEdgeClosed, NobodyWaits, left_of, work}
+use Rattle.witness.proofs.PlaceLemmas.{known_here, known_was, lower, less_left}
+
+pub contains_head : {X : Type 0} (x : X) (xs : List X) → Contains (x ∷ xs) x
+contains_head x xs = (zero, (omega arith), refl)
+
+pub contains_tail : {X : Type 0} (x : X) (xs : List X) (y : X) → Contains xs y → Contains (x ∷ xs) y
+contains_tail x xs y (k, lt, is) = (suc k, (omega arith), is)
+
+pub head_or_tail : {X : Type 0} (x : X) (xs : List X) (y : X) → Contains (x ∷ xs) y → (x ≡ y) ⊎ Contains xs y
+head_or_tail x xs y (zero, lt, is) = inl is
+head_or_tail x xs y (suc k, lt, is) = inr (k, (omega arith), is)
+
+module _ (rows : List (Vec Edge Global)) (limit : ℕ) (busy : ℕ → ℕ → Type 0) (old new : Workspace) (to at parent : ℕ) (there : to < length old.places.items) where
+  module _ (round : new.round ≡ old.round) (takes : Takes old new to at parent) where
+    knows_was : (v d p : ℕ) → Knows new v d p → ((v ≢ to) × Knows old v d p) ⊎ ((v ≡ to) × (d ≡ at) × (p ≡ parent))
+    knows_was v d p now = known_was old.places.items new.places.items old.round to at parent there takes.places v d p (subst (λ r. Known new.places.items r v d p) round now)
+
+    takes_lower : AreLower old new
+    takes_lower v l r = subst (λ k. IsReachedBy new.places.items k v l) (sym round) (lower old.places.items new.places.items old.round to at parent there takes.places takes.heavier v l r)
+
+    still_waits : (v d : ℕ) → Waits old v d → Waits new v d
+    still_waits v d w = Contains-permutation (waiting_of at to ∷ heap_items old.waiting) (heap_items new.waiting) (waiting_of d v) takes.waiting (contains_tail (waiting_of at to) (heap_items old.waiting) (waiting_of d v) w)
+
+    here_waits : Waits new to at
+    here_waits = Contains-permutation (waiting_of at to ∷ heap_items old.waiting) (heap_items new.waiting) (waiting_of at to) takes.waiting (contains_head (waiting_of at to) (heap_items old.waiting))
+
+    parent_kept : (v d p : ℕ) → HasParent rows old v d p → HasParent rows new v d p
+    parent_kept v d p h = record { before = h.before; weight = h.weight; reached = takes_lower p h.before h.reached; edge = h.edge; sum = h.sum }
+
+    takes_search : new.start ≡ old.start → at ≤ limit → HasParent rows old to at parent → IsSearch rows limit busy old → IsSearch rows limit busy new
+    takes_search start le from s = record {
+      count = ap length takes.places ∙ length-set old.places.items to (record { at = at; parent = parent; round = old.round }) ∙ s.count;
+      begun = subst (λ v. Reaches new v 0) (sym start) (takes_lower old.start 0 s.begun);
+      within = λ v d p now. elim (knows_was v d p now) [
+        | inl was ↦ s.within v d p was.1
+        | inr here ↦ (let same = here.1 in omega arith)
+      ];
+      parents = λ v d p now other. elim (knows_was v d p now) [
+        | inl was ↦ parent_kept v d p (s.parents v d p was.1 (λ is. other (is ∙ sym start)))
+        | inr here ↦ subst (λ x. HasParent rows new x d p) (sym here.0) (subst (λ x. HasParent rows new to x p) (sym here.1) (subst (λ x. HasParent rows new to at x) (sym here.2) (parent_kept to at parent from)))
+      ];
+      dealt = λ v d p now. elim (knows_was v d p now) [
+        | inl was ↦ elim (s.dealt v d p was.1) [
+          | inl waits ↦ inl (still_waits v d waits)
+          | inr other ↦ elim other [
+            | inl now ↦ inr (inl now)
+            | inr closed ↦ inr (inr (λ z w edge le. takes_lower z (d + w) (closed z w edge le)))
+          ]
+        ]
+        | inr here ↦ inl (subst (λ x. Waits new x d) (sym here.0) (subst (λ x. Waits new to x) (sym here.1) here_waits))
+      ];
+    }
+
+    takes_less : at ≤ limit → work limit new + 1 ≤ work limit old
+    takes_less le =
+        let less = less_left old.places.items new.places.items old.round to at parent there takes.places takes.heavier limit le in
+        let more = takes.one_more in
+        subst (λ r. heap_len new.waiting + 2 * sum_by (left_of r limit) new.places.items + 1 ≤ work limit old) (sym round) (omega arith)
+
+  module _ (round : new.round ≡ old.round) (leaves : Leaves old new to at) where
+    leaves_lower : AreLower old new
+    leaves_lower v l r = subst (λ k. IsReachedBy new.places.items k v l) (sym round) (subst (λ ps. IsReachedBy ps old.round v l) (sym leaves.places) r)
+
+    knew : (v d p : ℕ) → Knows new v d p → Knows old v d p
+    knew v d p now = subst (λ ps. Known ps old.round v d p) leaves.places (subst (λ r. Known new.places.items r v d p) round now)
+
+    leaves_search : new.start ≡ old.start → IsSearch rows limit busy old → IsSearch rows limit busy new
+    leaves_search start s = record {
+      count = ap length leaves.places ∙ s.count;
+      begun = subst (λ v. Reaches new v 0) (sym start) (leaves_lower old.start 0 s.begun);
+      within = λ v d p now. s.within v d p (knew v d p now);
+      parents = λ v d p now other. (let h = s.parents v d p (knew v d p now) (λ is. other (is ∙ sym start)) in
+          record { before = h.before; weight = h.weight; reached = leaves_lower p h.before h.reached; edge = h.edge; sum = h.sum });
+      dealt = λ v d p now. elim (s.dealt v d p (knew v d p now)) [
+        | inl waits ↦ inl (subst (λ w. Contains (heap_items w) (waiting_of d v)) (sym leaves.waiting) waits)
+        | inr other ↦ elim other [
+          | inl now ↦ inr (inl now)
+          | inr closed ↦ inr (inr (λ z w edge le. leaves_lower z (d + w) (closed z w edge le)))
+        ]
+      ];
+    }
+
+    leaves_less : work limit new ≤ work limit old
+    leaves_less = subst (λ r. heap_len new.waiting + 2 * sum_by (left_of r limit) new.places.items ≤ work limit old) (sym round)
+        (subst (λ ps. heap_len new.waiting + 2 * sum_by (left_of old.round limit) ps ≤ work limit old) (sym leaves.places)
+        (subst (λ h. heap_len h + 2 * sum_by (left_of old.round limit) old.places.items ≤ work limit old) (sym leaves.waiting) (omega arith)))
+
+  module _ (offered : IsOffered old new to at parent) where
+    pub offered_lower : AreLower old new
+    offered_lower = elim offered.offered [
+      | inl takes ↦ takes_lower offered.round takes
+      | inr leaves ↦ leaves_lower offered.round leaves
+    ]
+
+    pub offered_search : at ≤ limit → HasParent rows old to at parent → IsSearch rows limit busy old → IsSearch rows limit busy new
+    offered_search le from s = elim offered.offered [
+      | inl takes ↦ takes_search offered.round takes offered.start le from s
+      | inr leaves ↦ leaves_search offered.round leaves offered.start s
+    ]
+
+    pub offered_less : at ≤ limit → work limit new ≤ work limit old
+    offered_less le = elim offered.offered [
+      | inl takes ↦ (let less = takes_less offered.round takes le in omega arith)
+      | inr leaves ↦ leaves_less offered.round leaves
+    ]
+
+    pub offered_here : Reaches new to at
+    offered_here = elim offered.offered [
+      | inl takes ↦ subst (λ k. IsReachedBy new.places.items k to at) (sym offered.round)
+          (record { at = at; parent = parent; known = known_here old.places.items new.places.items old.round to at parent there takes.places; within = omega arith })
+      | inr leaves ↦ leaves_lower offered.round leaves to at leaves.lighter
+    ]
+
+-- where all that is reached is closed, a walk within the limit is followed to its end
+module _ (rows : List (Vec Edge Global)) (limit : ℕ) (w : Workspace) (closed : (v at parent : ℕ) → Knows w v at parent → IsClosed rows limit w v at) where
+  pub follows : (hops : List Hop) (u v before : ℕ) → AreHops (HasEdge rows) u hops v → before + total hops ≤ limit → Reaches w u before → IsKnown w v
+  follows [] u v before walk le r = subst (IsKnown w) (sym walk) (r.at, r.parent, r.known)
+  follows (hop ∷ hops) u v before (edge, walk) le r =
+      let within = r.within in
+      let onward = closed u r.at r.parent r.known hop.to hop.weight edge (omega arith) in
+      let less = onward.within in
+      follows hops hop.to v (before + hop.weight) walk (omega arith)
+      (record { at = onward.at; parent = onward.parent; known = onward.known; within = omega arith })
+
+-- ---- a pair taken from the queue
+
+module _ (old new : Workspace) (same : IsSame old new) where
+  knew_it : (v d p : ℕ) → Knows new v d p → Knows old v d p
+  knew_it v d p now = subst (λ ps. Known ps old.round v d p) same.places (subst (λ r. Known new.places.items r v d p) same.round now)
+
+  same_lower : AreLower old new
+  same_lower v l r = subst (λ k. IsReachedBy new.places.items k v l) (sym same.round) (subst (λ ps. IsReachedBy ps old.round v l) (sym same.places) r)
+
+  pub same_known : (v : ℕ) → IsKnown new v → IsKnown old v
+  same_known v (at, p, known) = (at, p, knew_it v at p known)
+
+  same_search : (rows : List (Vec Edge Global)) (limit : ℕ) (busy also : ℕ → ℕ → Type 0) → ((v d : ℕ) → Waits old v d → Waits new v d ⊎ also v d) → ((v d : ℕ) → busy v d → also v d)
+      → IsSearch rows limit busy old → IsSearch rows limit also new
+  same_search rows limit busy also waits more s = record {
+    count = ap length same.places ∙ s.count;
+    begun = subst (λ v. Reaches new v 0) (sym same.start) (same_lower old.start 0 s.begun);
+    within = λ v d p now. s.within v d p (knew_it v d p now);
+    parents = λ v d p now other. (let h = s.parents v d p (knew_it v d p now) (λ is. other (is ∙ sym same.start)) in
+        record { before = h.before; weight = h.weight; reached = same_lower p h.before h.reached; edge = h.edge; sum = h.sum });
+    dealt = λ v d p now. elim (s.dealt v d p (knew_it v d p now)) [
+      | inl was ↦ elim (waits v d was) [ inl still ↦ inl still | inr it ↦ inr (inl it) ]
+      | inr other ↦ elim other [
+        | inl it ↦ inr (inl (more v d it))
+        | inr closed ↦ inr (inr (λ z w edge le. same_lower z (d + w) (closed z w edge le)))
+      ]
+    ];
+  }
+
+pub next_search : (rows : List (Vec Edge Global)) (limit : ℕ) (old new : Workspace) (at node : ℕ) → IsNext old new at node → IsSearch rows limit NobodyBusy old → IsSearch rows limit (IsBusy node at) new
+next_search rows limit old new at node next s = same_search old new next.same rows limit NobodyBusy (IsBusy node at) waits (λ v d it. absurd it) s where
+  waits : (v d : ℕ) → Waits old v d → Waits new v d ⊎ IsBusy node at v d
+  waits v d was = elim (head_or_tail (waiting_of at node) (heap_items new.waiting) (waiting_of d v) (Contains-permutation (heap_items old.waiting) (waiting_of at node ∷ heap_items new.waiting) (waiting_of d v) next.waiting was)) [
+    | inr still ↦ inl still
+    | inl it ↦ inr (sym (ap (λ (x : Reverse (ℕ × ℕ)). x.0.1) it), sym (ap (λ (x : Reverse (ℕ × ℕ)). x.0.0) it))
+  ]
+
+pub next_less : (limit : ℕ) (old new : Workspace) (at node : ℕ) → IsNext old new at node → work limit new + 1 ≡ work limit old
+next_less limit old new at node next =
+    let less = next.one_less in
+    subst (λ r. heap_len new.waiting + 2 * sum_by (left_of r limit) new.places.items + 1 ≡ work limit old) (sym next.same.round)
+    (subst (λ ps. heap_len new.waiting + 2 * sum_by (left_of old.round limit) ps + 1 ≡ work limit old) (sym next.same.places) (omega arith))
+
+-- a pair of which nothing is known any more is passed over
+pub passed_over : (rows : List (Vec Edge Global)) (limit : ℕ) (w : Workspace) (at node : ℕ) → (IsKnownAt w node at → ⊥) → IsSearch rows limit (IsBusy node at) w → IsSearch rows limit NobodyBusy w
+passed_over rows limit w at node stale s = record {
+  count = s.count;
+  begun = s.begun;
+  within = s.within;
+  parents = s.parents;
+  dealt = λ v d p now. elim (s.dealt v d p now) [
+    | inl waits ↦ inl waits
+    | inr other ↦ elim other [
+      | inl it ↦ absurd (stale (p, subst (λ x. Knows w x at p) it.0 (subst (λ x. Knows w v x p) it.1 now)))
+      | inr closed ↦ inr (inr closed)
+    ]
+  ];
+}
+
+-- once its ways are closed, nobody is busy
+pub closed_now : (rows : List (Vec Edge Global)) (limit : ℕ) (w : Workspace) (at node : ℕ) → IsClosed rows limit w node at → IsSearch rows limit (IsBusy node at) w → IsSearch rows limit NobodyBusy w
+closed_now rows limit w at node closed s = record {
+  count = s.count;
+  begun = s.begun;
+  within = s.within;
+  parents = s.parents;
+  dealt = λ v d p now. elim (s.dealt v d p now) [
+    | inl waits ↦ inl waits
+    | inr other ↦ elim other [
+      | inl it ↦ inr (inr (subst (λ x. IsClosed rows limit w x d) (sym it.0) (subst (λ x. IsClosed rows limit w node x) (sym it.1) closed)))
+      | inr closed ↦ inr (inr closed)
+    ]
+  ];
+}
+
+-- the ways so far are closed, and one more
+pub closed_more : (limit : ℕ) (old new : Workspace) (at : ℕ) (edges : List Edge) (i : ℕ) (d : Edge) → i < length edges → All (IsEdgeClosed limit old at) (take i edges) → AreLower old new
+    → IsEdgeClosed limit new at (get_or edges i d) → All (IsEdgeClosed limit new at) (take (i + 1) edges)
+closed_more limit old new at edges i d lt before lower here =
+    All-more (IsEdgeClosed limit new at) edges i d lt
+    (All-weaker (IsEdgeClosed limit old at) (IsEdgeClosed limit new at) (λ edge closed le. lower edge.to (at + edge.weight) (closed le)) (take i edges) before)
+    here
+
+-- and then all that the row has
+pub all_closed : (rows : List (Vec Edge Global)) (limit : ℕ) (w : Workspace) (at node : ℕ) (edges : List Edge) (i : ℕ) → row_at rows node ≡ edges → length edges ≤ i → All (IsEdgeClosed limit w at) (take i edges) → IsClosed rows limit w node at
+all_closed rows limit w at node edges i is le all to weight (entry, listed) within =
+    let closed = subst (λ es. All (IsEdgeClosed limit w at) es) (take_all i edges le) all in
+    All-contains (IsEdgeClosed limit w at) edges (record { to = to; entry = entry; weight = weight }) closed (subst (λ es. Contains es (record { to = to; entry = entry; weight = weight })) is listed) within
+
+-- ---- the begin
+
+-- the start is offered to a search that knows nothing
+pub begins : (rows : List (Vec Edge Global)) (limit u : ℕ) (old new : Workspace) → u < length rows → IsFresh old (length rows) u → IsOffered old new u 0 u → IsSearch rows limit NobodyBusy new
+begins rows limit u old new there fresh offered = elim offered.offered [
+  | inr leaves ↦ (let r = leaves.lighter in absurd (fresh.unknown u r.at r.parent r.known))
+  | inl takes ↦ (let inside : u < length old.places.items = omega (arith, fresh.count) in record {
+    count = ap length takes.places ∙ length-set old.places.items u (record { at = 0; parent = u; round = old.round }) ∙ fresh.count;
+    begun = subst (λ v. Reaches new v 0) (sym (offered.start ∙ fresh.start)) (offered_here rows limit NobodyBusy old new u 0 u inside offered);
+    within = λ v d p now. elim (knows_was rows limit NobodyBusy old new u 0 u inside offered.round takes v d p now) [
+      | inl was ↦ absurd (fresh.unknown v d p was.1)
+      | inr here ↦ (let zero = here.1 in omega arith)
+    ];
+    parents = λ v d p now other. elim (knows_was rows limit NobodyBusy old new u 0 u inside offered.round takes v d p now) [
+      | inl was ↦ absurd (fresh.unknown v d p was.1)
+      | inr here ↦ absurd (other (here.0 ∙ sym (offered.start ∙ fresh.start)))
+    ];
+    dealt = λ v d p now. elim (knows_was rows limit NobodyBusy old new u 0 u inside offered.round takes v d p now) [
+      | inl was ↦ absurd (fresh.unknown v d p was.1)
+      | inr here ↦ inl (subst (λ x. Waits new x d) (sym here.0) (subst (λ x. Waits new u x) (sym here.1) (here_waits rows limit NobodyBusy old new u 0 u inside offered.round takes)))
+    ];
+  })
+]
+
+pub begins_unknown : (rows : List (Vec Edge Global)) (u v : ℕ) (old new : Workspace) → u ≢ v → u < length rows → IsFresh old (length rows) u → IsOffered old new u 0 u → IsKnown new v → ⊥
+begins_unknown rows u v old new differ there fresh offered (at, p, known) = elim offered.offered [
+  | inr leaves ↦ (let r = leaves.lighter in absurd (fresh.unknown u r.at r.parent r.known))
+  | inl takes ↦ elim (knows_was rows 0 NobodyBusy old new u 0 u (omega (arith, fresh.count)) offered.round takes v at p known) [
+    | inl was ↦ fresh.unknown v at p was.1
+    | inr here ↦ differ (sym here.0)
+  ]
+]
+
+-- ---- the end
+
+pub none_found : (rows : List (Vec Edge Global)) (limit u v : ℕ) (w : Workspace) → IsSearch rows limit NobodyBusy w → NobodyWaits w → w.start ≡ u → (IsKnown w v → ⊥) → NoWalkWithin rows u v limit
+none_found rows limit u v w s nobody start unknown hops walk = elim (cases_lt limit (total hops)) [
+  | inl more ↦ more
+  | inr within ↦ absurd (unknown (follows rows limit w closed hops u v 0 walk (omega arith) (subst (λ x. Reaches w x 0) start s.begun)))
+] where
+  closed : (v at parent : ℕ) → Knows w v at parent → IsClosed rows limit w v at
+  closed x at parent known = elim (s.dealt x at parent known) [
+    | inl waits ↦ absurd (nobody x at waits)
+    | inr other ↦ elim other [ inl it ↦ absurd it | inr all ↦ all ]
+  ]

@@ -1,0 +1,110 @@
+-- A search from one node: what is known of others, and who waits.
+use Rattle.std.specs.Prelude.{◌≡◌, ◌≢◌, ℕ, ◌+◌, ◌*◌, ◌≤◌, ◌⊎◌, ◌==◌, List, [], ◌∷◌, length, Contains, IsPermutation, Vec, slice_set, if◌then◌else◌}
+use Rattle.std.specs.List.{sum_by}
+use Rattle.std.specs.BinaryHeap.{heap_items, heap_len}
+use Rattle.std.specs.declared.cmp.Reverse.{Reverse}
+use Rattle.std.specs.declared.alloc.Global.{Global}
+use Rattle.witness.specs.declared.edge.Edge.{Edge}
+use Rattle.witness.specs.declared.place.Place.{Place}
+use Rattle.witness.specs.declared.workspace.Workspace.{Workspace}
+use Rattle.witness.specs.Places.{Known, IsReachedBy}
+use Rattle.witness.specs.Rows.{HasEdge}
+
+abbrev pub waiting_of : ℕ → ℕ → Reverse (ℕ × ℕ)
+waiting_of at v = record { 0 = (at, v) }
+
+abbrev pub Knows : Workspace → ℕ → ℕ → ℕ → Type 0
+Knows w v at parent = Known w.places.items w.round v at parent
+
+abbrev pub Reaches : Workspace → ℕ → ℕ → Type 0
+Reaches w v limit = IsReachedBy w.places.items w.round v limit
+
+abbrev pub IsKnown : Workspace → ℕ → Type 0
+IsKnown w v = (at : ℕ) × (parent : ℕ) × Knows w v at parent
+
+abbrev pub IsKnownAt : Workspace → ℕ → ℕ → Type 0
+IsKnownAt w v at = (parent : ℕ) × Knows w v at parent
+
+abbrev pub Waits : Workspace → ℕ → ℕ → Type 0
+Waits w v at = Contains (heap_items w.waiting) (waiting_of at v)
+
+-- nothing is known yet
+pub record IsFresh (w : Workspace) (nodes first : ℕ) : Type 0 where
+  pub count : length w.places.items ≡ nodes
+  pub start : w.start ≡ first
+  pub unknown : (v at parent : ℕ) → Knows w v at parent → ⊥
+  pub nobody : heap_items w.waiting ≡ []
+
+-- no walk to the node was known, or all were heavier; this one is known now, and waits
+pub record Takes (old new : Workspace) (to at parent : ℕ) : Type 0 where
+  pub heavier : Reaches old to at → ⊥
+  pub places : new.places.items ≡ slice_set old.places.items to (record { at = at; parent = parent; round = old.round })
+  pub waiting : IsPermutation (waiting_of at to ∷ heap_items old.waiting) (heap_items new.waiting)
+  pub one_more : heap_len new.waiting ≡ heap_len old.waiting + 1
+
+-- a walk to the node is no heavier, and nothing has changed
+pub record Leaves (old new : Workspace) (to at : ℕ) : Type 0 where
+  pub lighter : Reaches old to at
+  pub places : new.places.items ≡ old.places.items
+  pub waiting : new.waiting ≡ old.waiting
+
+pub record IsOffered (old new : Workspace) (to at parent : ℕ) : Type 0 where
+  pub round : new.round ≡ old.round
+  pub start : new.start ≡ old.start
+  pub offered : Takes old new to at parent ⊎ Leaves old new to at
+
+-- v is reached by way of p
+pub record HasParent (rows : List (Vec Edge Global)) (w : Workspace) (v at p : ℕ) : Type 0 where
+  pub before : ℕ
+  pub weight : ℕ
+  pub reached : Reaches w p before
+  pub edge : HasEdge rows p v weight
+  pub sum : before + weight ≡ at
+
+-- what the ways out of v lead to within the limit is reached
+abbrev pub IsClosed : List (Vec Edge Global) → ℕ → Workspace → ℕ → ℕ → Type 0
+IsClosed rows limit w v at = (to weight : ℕ) → HasEdge rows v to weight → at + weight ≤ limit → Reaches w to (at + weight)
+
+-- each node that is reached waits, is dealt with now, or is closed
+pub record IsSearch (rows : List (Vec Edge Global)) (limit : ℕ) (busy : ℕ → ℕ → Type 0) (w : Workspace) : Type 0 where
+  pub count : length w.places.items ≡ length rows
+  pub begun : Reaches w w.start 0
+  pub within : (v at parent : ℕ) → Knows w v at parent → at ≤ limit
+  pub parents : (v at parent : ℕ) → Knows w v at parent → v ≢ w.start → HasParent rows w v at parent
+  pub dealt : (v at parent : ℕ) → Knows w v at parent → Waits w v at ⊎ busy v at ⊎ IsClosed rows limit w v at
+
+abbrev pub IsBusy : ℕ → ℕ → ℕ → ℕ → Type 0
+IsBusy node time v at = (v ≡ node) × (at ≡ time)
+
+abbrev pub NobodyBusy : ℕ → ℕ → Type 0
+NobodyBusy v at = ⊥
+
+-- what a place counts for: the weight that is known, or one more than the limit
+abbrev pub left_of : ℕ → ℕ → Place → ℕ
+left_of round limit place = if place.round == round then place.at else (limit + 1)
+
+-- falls with each turn: a walk that is taken takes one off the sum, and waits
+abbrev pub work : ℕ → Workspace → ℕ
+work limit w = heap_len w.waiting + 2 * sum_by (left_of w.round limit) w.places.items
+
+-- what was reached is reached still
+abbrev pub AreLower : Workspace → Workspace → Type 0
+AreLower old new = (v limit : ℕ) → Reaches old v limit → Reaches new v limit
+
+abbrev pub IsEdgeClosed : ℕ → Workspace → ℕ → Edge → Type 0
+IsEdgeClosed limit w at edge = at + edge.weight ≤ limit → Reaches w edge.to (at + edge.weight)
+
+abbrev pub NobodyWaits : Workspace → Type 0
+NobodyWaits w = (v at : ℕ) → Waits w v at → ⊥
+
+-- what is known is the same
+pub record IsSame (old new : Workspace) : Type 0 where
+  pub round : new.round ≡ old.round
+  pub start : new.start ≡ old.start
+  pub places : new.places.items ≡ old.places.items
+
+-- a pair was taken from those that wait
+pub record IsNext (old new : Workspace) (at v : ℕ) : Type 0 where
+  pub same : IsSame old new
+  pub waiting : IsPermutation (heap_items old.waiting) (waiting_of at v ∷ heap_items new.waiting)
+  pub one_less : heap_len new.waiting + 1 ≡ heap_len old.waiting
