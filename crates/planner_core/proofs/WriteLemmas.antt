@@ -22,7 +22,7 @@ module _ (n : NetworkLists) where
     pub wrote : WroteBlocks old new n done
 
   pub writing_starts : (old : SinkMeaning) (text : List ℕ) → IsWriting old old text text
-  writing_starts old text = record { done = []; split = refl; wrote = record { out = []; blocks = refl; appended = none_more old.bytes } }
+  writing_starts old text = record { done = []; split = refl; wrote = record { out = []; is = refl; appended = none_more old.bytes } }
     where
       none_more : (bytes : Option (List ℕ)) → bytes ≡ option_map (λ b. b ++ []) bytes
       none_more None = refl
@@ -46,8 +46,8 @@ module _ (n : NetworkLists) where
     done = writing.done ++ query ∷ [];
     split = writing.split ∙ (ap (λ (x : List (List ℕ)). writing.done ++ x) (query_first rest line after query e is) ∙ sym (append_assoc writing.done (query ∷ []) (query_lines after)));
     wrote = record {
-      out = writing.wrote.out ++ block.block;
-      blocks = blocks_more writing.done writing.wrote.out query block.block writing.wrote.blocks block.is;
+      out = writing.wrote.out ++ block.out;
+      is = blocks_more writing.done writing.wrote.out query block.out writing.wrote.is block.is;
       appended = appended_twice old mid new _ _ writing.wrote.appended block.appended;
     };
   }
@@ -61,13 +61,13 @@ module _ (n : NetworkLists) where
       → as_query (without_return line) ≡ Some query → WrotePart mid new n query → WroteFront old new n (query_lines text)
   writing_fails old mid new text rest line after query writing e is part = record {
     out = writing.wrote.out ++ take part.part.count part.block;
-    begins = record {
+    is = record {
       done = writing.done;
       rest = query_lines rest;
       whole = writing.wrote.out;
       part = take part.part.count part.block;
       lines_are = writing.split;
-      blocks = writing.wrote.blocks;
+      blocks = writing.wrote.is;
       next = subst (λ (x : List (List ℕ)). BeginsNext n x (take part.part.count part.block)) (sym (query_first rest line after query e is)) (inr (part.block, part.part.count, part.is, refl));
       out_is = refl;
     };
@@ -78,13 +78,13 @@ module _ (n : NetworkLists) where
   pub writing_stops : (old mid new : SinkMeaning) (text rest : List ℕ) → IsWriting old mid text rest → new.bytes ≡ mid.bytes → WroteFront old new n (query_lines text)
   writing_stops old mid new text rest writing same = record {
     out = writing.wrote.out;
-    begins = record {
+    is = record {
       done = writing.done;
       rest = query_lines rest;
       whole = writing.wrote.out;
       part = [];
       lines_are = writing.split;
-      blocks = writing.wrote.blocks;
+      blocks = writing.wrote.is;
       next = nothing_next (query_lines rest);
       out_is = sym (append-nil writing.wrote.out);
     };

@@ -1,6 +1,7 @@
 pub mod Plans
 pub mod Written
 pub mod Outputs
+pub mod Commands
 pub mod Outcomes
-pub mod Working
 pub mod Complete
+pub mod Working

@@ -1,5 +1,5 @@
--- What each command writes.
-use Rattle.std.specs.Prelude.{◌≡◌, ℕ, ◌⊎◌, List, ◌++◌, take, Option, Some, None, codes, Ok}
+-- What `certify`, `verify` and `contract` write.
+use Rattle.std.specs.Prelude.{◌≡◌, ℕ, ◌⊎◌, List, ◌++◌, Option, Some, None, Ok, codes}
 use Rattle.plain_texts.specs.Lines.{with_feed}
 use Rattle.mode_network.specs.NetworkLists.{NetworkLists}
 use Rattle.mode_network.specs.Journeys.{Route}
@@ -11,12 +11,10 @@ use Rattle.certificate.specs.Certificates.{Claim}
 use Rattle.certificate.specs.Texts.{IsCertText}
 use Rattle.certificate.specs.Valid.{IsValid, Proves}
 use Rattle.hierarchy.specs.Lists.{HierarchyLists}
-use Rattle.hierarchy.specs.Soundness.{IsSound}
+use Rattle.hierarchy_file.specs.Spelling.{hierarchy_text}
 use Rattle.hierarchy_file.specs.Reading.{hierarchy_of}
-use Rattle.planner_core.specs.declared.command.Command.{Command}
-use Rattle.planner_core.specs.declared.command.Command.TheVariants.{Answer, Certify, Verify, Check}
+use Rattle.contractor.specs.Contracted.{IsContracted}
 use Rattle.planner_core.specs.Plans.{AreTheLabels}
-use Rattle.planner_core.specs.Written.{query_lines, AreBlocks, BeginsBlocks}
 
 -- the text of a valid certificate for the line, whose labels are those of the search; it proves what it claims
 pub record IsCertificateFor (n : NetworkLists) (line out : List ℕ) : Type 0 where
@@ -50,23 +48,9 @@ pub record IsVerified (n : NetworkLists) (bytes out : List ℕ) : Type 0 where
   pub told : TellsValid n claim.line (body_of claim.result) out
   pub right : IsBlock n claim.line told.block
 
--- The bytes spell a hierarchy that is sound for the network; written is `sound`.
-pub record IsChecked (n : NetworkLists) (bytes out : List ℕ) : Type 0 where
+-- Written is the text of a hierarchy that contraction makes of the network, with so many nodes kept; it spells that hierarchy.
+pub record IsContraction (n : NetworkLists) (keep : ℕ) (out : List ℕ) : Type 0 where
   pub hierarchy : HierarchyLists
-  pub spells : hierarchy_of bytes ≡ Ok hierarchy
-  pub sound : IsSound n hierarchy
-  pub out_is : out ≡ with_feed (codes "sound")
-
--- What a command writes over a network and what it is given: `answer` a right block for each query line of a file, in order; `certify` a
--- certificate for a query line; `verify` what the certificate of a file shows; `check` that the hierarchy of a file is
--- sound.
-abbrev pub IsOutput : Command → NetworkLists → List ℕ → List ℕ → Type 0
-IsOutput Answer n given out = AreBlocks n (query_lines given) out
-IsOutput Certify n given out = IsCertified n given out
-IsOutput Verify n given out = IsVerified n given out
-IsOutput Check n given out = IsChecked n given out
-
--- a front of what a command writes; of `answer` right blocks of the first query lines, and a front of a right block of the next
-abbrev pub IsFront : Command → NetworkLists → List ℕ → List ℕ → Type 0
-IsFront Answer n given out = BeginsBlocks n (query_lines given) out
-IsFront command n given out = (whole : List ℕ) × (count : ℕ) × IsOutput command n given whole × (out ≡ take count whole)
+  pub contracted : IsContracted n keep hierarchy
+  pub text : out ≡ hierarchy_text hierarchy
+  pub spells : hierarchy_of out ≡ Ok hierarchy

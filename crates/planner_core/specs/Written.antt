@@ -1,9 +1,10 @@
 -- What `answer` writes: the right block of each query line, in order.
 use Rattle.std.specs.Prelude.{◌≡◌, ℕ, ◌⊎◌, ◌==◌, ◌-◌, List, [], ◌∷◌, ◌++◌, length, take, Option, Some, None, if◌then◌else◌, option_to_list, nat_lt, ◌&&◌, slice_index}
 use Rattle.plain_texts.specs.Lines.{lines_of}
-use Rattle.plan_base.specs.Sinks.{SinkMeaning, Appended, AppendedPart}
+use Rattle.plan_base.specs.Sinks.{SinkMeaning, AppendedPart}
 use Rattle.mode_network.specs.NetworkLists.{NetworkLists}
 use Rattle.journey.specs.Best.{IsBlock}
+use Rattle.run_steps.specs.Sayings.{HasWritten}
 
 -- a line without the carriage return at its end, if one stands there
 abbrev pub without_return : List ℕ → List ℕ
@@ -29,10 +30,8 @@ AreBlocks n [] out = out ≡ []
 AreBlocks n (line ∷ lines) out = (block : List ℕ) × (rest : List ℕ) × IsBlock n line block × AreBlocks n lines rest × (out ≡ block ++ rest)
 
 -- the sink has taken a right block for each line
-pub record WroteBlocks (old new : SinkMeaning) (n : NetworkLists) (lines : List (List ℕ)) : Type 0 where
-  pub out : List ℕ
-  pub blocks : AreBlocks n lines out
-  pub appended : Appended old new out
+abbrev pub WroteBlocks : SinkMeaning → SinkMeaning → NetworkLists → List (List ℕ) → Type 0
+WroteBlocks old new n lines = HasWritten (AreBlocks n lines) old new
 
 -- what has been written of the next line's block: a front of a right one, or nothing
 abbrev pub BeginsNext : NetworkLists → List (List ℕ) → List ℕ → Type 0
@@ -50,16 +49,12 @@ pub record BeginsBlocks (n : NetworkLists) (lines : List (List ℕ)) (out : List
   pub next : BeginsNext n rest part
   pub out_is : out ≡ whole ++ part
 
-pub record WroteFront (old new : SinkMeaning) (n : NetworkLists) (lines : List (List ℕ)) : Type 0 where
-  pub out : List ℕ
-  pub begins : BeginsBlocks n lines out
-  pub appended : Appended old new out
+abbrev pub WroteFront : SinkMeaning → SinkMeaning → NetworkLists → List (List ℕ) → Type 0
+WroteFront old new n lines = HasWritten (BeginsBlocks n lines) old new
 
 -- the sink has taken a right block of the line
-pub record WroteBlock (old new : SinkMeaning) (n : NetworkLists) (line : List ℕ) : Type 0 where
-  pub block : List ℕ
-  pub is : IsBlock n line block
-  pub appended : Appended old new block
+abbrev pub WroteBlock : SinkMeaning → SinkMeaning → NetworkLists → List ℕ → Type 0
+WroteBlock old new n line = HasWritten (IsBlock n line) old new
 
 -- the sink has taken a front of a right block of the line
 pub record WrotePart (old new : SinkMeaning) (n : NetworkLists) (line : List ℕ) : Type 0 where

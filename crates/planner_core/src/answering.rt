@@ -1,33 +1,35 @@
 //! The command `answer`: the block of each query line of a file.
 
 ghost use Rattle.std.specs.Prelude.{◌≡◌, ◌≤◌, option_map, IfErr, OnOk};
-ghost use Rattle.planner_core.specs.declared.command.Command.TheVariants as command;
-ghost use Rattle.planner_core.specs.declared.outcome.Outcome.TheVariants.{Done};
-ghost use Rattle.planner_core.specs.Working.{IsBlockOutcome, IsBlocksOutcome, IsWorkOutcome};
+ghost use Rattle.command_words.specs.Requests.{answer};
+ghost use Rattle.run_steps.specs.Sayings.{end_of};
+ghost use Rattle.planner_core.specs.Commands.{says};
+ghost use Rattle.planner_core.specs.Working.{IsBlockOutcome, IsBlocksOutcome};
 ghost use Rattle.planner_core.specs.Written.{WroteBlock, WroteBlocks, without_return, as_query, query_lines};
 
 use crate::blocks::block_of;
-use crate::files::read_file;
-use crate::outcome::{FileRole, Outcome};
 use mode_network::Network;
 use plain_texts::split_line;
-use plan_base::{Shelf, Sink, write_all};
+use plan_base::{Caps, Shelf, Sink, write_all};
 use product_search::Workspace;
+use run_steps::{FileRole, Outcome, read_file, read_region};
 use std::alloc::Global;
 
-/// Reads the queries file of this name, and writes the block of each query line.
-pub(crate) fn answer<F: Shelf, O: Sink>(
+/// Reads the region and the queries file of these names, and writes the block of each query line.
+pub(crate) fn answer<F: Shelf, O: Sink, E: Sink>(
     alloc: Global,
-    network: &Network,
+    region: &str,
     queries: &str,
     shelf: &mut F,
     out: &mut O,
+    notes: &mut E,
+    caps: &Caps,
 ) -> Result<(), Outcome>
-    ensures ok { OnOk result (IsWorkOutcome command.Answer network.now (F.meaning shelf.old) (F.meaning shelf.new) queries.now (O.meaning out.old) (O.meaning out.new) Done) }
-    ensures err { IfErr result (IsWorkOutcome command.Answer network.now (F.meaning shelf.old) (F.meaning shelf.new) queries.now (O.meaning out.old) (O.meaning out.new)) }
+    ensures { says caps.now (answer region.now queries.now) (F.meaning shelf.old) (F.meaning shelf.new) (O.meaning out.old) (O.meaning out.new) (end_of result) }
 {
-    let text = read_file(alloc, shelf, queries, FileRole::Queries)?;
-    write_blocks(alloc, network, &text, out)?;
+    let network = read_region(alloc, shelf, region, caps, notes)?;
+    let text = read_file(alloc, shelf, queries, FileRole::Queries, notes)?;
+    write_blocks(alloc, &network, &text, out)?;
     Ok(())
 }
 

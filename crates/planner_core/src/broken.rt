@@ -3,29 +3,13 @@
 use hierarchy::{Entry, Hierarchy};
 use mode_expression::Letter;
 use mode_network::{Network, NodeKey};
-use plan_base::{Sink, write_all};
 use std::alloc::{AllocError, Global};
 
-/// Says which node of the order, road arc or entries a clause fails at, each counted from 0, and what the clause asks for.
-/// A fault of `notes` changes nothing.
-pub(crate) fn tell_broken<E: Sink>(
+/// Which node of the order, road arc or entries a clause fails at, each counted from 0, and what the clause asks for.
+pub(crate) fn broken(
     alloc: Global,
     network: &Network,
-    h: &Hierarchy,
-    clause: u8,
-    at: u64,
-    by: u64,
-    notes: &mut E,
-) {
-    if let Ok(line) = broken(alloc, network, h, clause, at, by) {
-        let _ = write_all(notes, line.as_bytes());
-    }
-}
-
-/// The line that says what a clause fails at, and what it asks for.
-fn broken(
-    alloc: Global,
-    network: &Network,
+    path: &str,
     h: &Hierarchy,
     clause: u8,
     at: u64,
@@ -34,7 +18,7 @@ fn broken(
     let what = broken_at(alloc, network, h, clause, at, by)?;
     let rule = sound_rule(clause);
     format!(in alloc;
-        "modeplan: the hierarchy is not sound for the region: {what}; by clause {clause}, {rule}\n"
+        "{path}: the hierarchy is not sound for the region: {what}; by clause {clause}, {rule}"
     )
 }
 

@@ -2,54 +2,59 @@
 
 ghost use Rattle.std.specs.Prelude.{◌≡◌, IfOk, IfErr, OnOk};
 ghost use Rattle.plain_texts.specs.Lines.{IsLine};
-ghost use Rattle.plan_base.specs.Shelves.{ShelfMeaning};
 ghost use Rattle.plan_base.specs.Sinks.{Appended};
 ghost use Rattle.journey.specs.Blocks.{IsPrintableBody};
-ghost use Rattle.planner_core.specs.declared.command.Command.TheVariants as command;
-ghost use Rattle.planner_core.specs.declared.outcome.Outcome.TheVariants.{Done};
+ghost use Rattle.command_words.specs.Requests.{certify, verify};
 ghost use Rattle.planner_core.specs.Plans.{IsRead};
 ghost use Rattle.planner_core.specs.Outputs.{IsCertificateFor, IsCertified, IsVerified, TellsValid, body_of};
-ghost use Rattle.planner_core.specs.Working.{IsTextOutcome, IsUnverified, IsWorkOutcome};
+ghost use Rattle.planner_core.specs.Working.{IsUnverified};
+ghost use Rattle.run_steps.specs.Sayings.{end_of};
+ghost use Rattle.planner_core.specs.Commands.{says};
 
-use crate::files::read_file;
-use crate::outcome::{FileRole, Outcome};
 use crate::plans::{FoundPlan, find_plan};
 use certificate::{CertFault, CertVerdict, Certificate, print, read};
+use fault_notes::{bad_certificate, invalid_certificate};
 use journey::{BlockBody, Query, QueryFault, block, read_query};
 use mode_network::{Journey, Network};
-use plan_base::{Shelf, Sink, Time, write_all};
+use plan_base::{Caps, Shelf, Sink, Time, write_all};
+use run_steps::{FileRole, Outcome, read_file, read_region, tell, write_text};
 use std::alloc::{AllocError, Global};
 
-/// Writes the certificate of a query line, or its block where the line is refused.
-pub(crate) fn certify<O: Sink>(
+/// Reads the region of this name, and writes the certificate of a query line, or its block where the line is refused.
+pub(crate) fn certify<F: Shelf, O: Sink, E: Sink>(
     alloc: Global,
-    network: &Network,
+    region: &str,
     line: &[u8],
+    shelf: &mut F,
     out: &mut O,
+    notes: &mut E,
+    caps: &Caps,
 ) -> Result<(), Outcome>
-    ensures ok { OnOk result ((old new : ShelfMeaning) → IsWorkOutcome command.Certify network.now old new line.now (O.meaning out.old) (O.meaning out.new) Done) }
-    ensures err { IfErr result (λ outcome. (old new : ShelfMeaning) → IsWorkOutcome command.Certify network.now old new line.now (O.meaning out.old) (O.meaning out.new) outcome) }
+    ensures { says caps.now (certify region.now line.now) (F.meaning shelf.old) (F.meaning shelf.new) (O.meaning out.old) (O.meaning out.new) (end_of result) }
 {
-    let Ok(text) = certified(alloc, network, line) else {
+    let network = read_region(alloc, shelf, region, caps, notes)?;
+    let Ok(text) = certified(alloc, &network, line) else {
         return Err(Outcome::OutOfMemory);
     };
     write_text(out, &text)?;
     Ok(())
 }
 
-/// Reads the certificate file of this name, and writes that it is valid and the block of its line and result.
-pub(crate) fn verify<F: Shelf, O: Sink>(
+/// Reads the region and the certificate file of these names, and writes that it is valid and the block of its line and result.
+pub(crate) fn verify<F: Shelf, O: Sink, E: Sink>(
     alloc: Global,
-    network: &Network,
-    name: &str,
+    region: &str,
+    certificate: &str,
     shelf: &mut F,
     out: &mut O,
+    notes: &mut E,
+    caps: &Caps,
 ) -> Result<(), Outcome>
-    ensures ok { OnOk result (IsWorkOutcome command.Verify network.now (F.meaning shelf.old) (F.meaning shelf.new) name.now (O.meaning out.old) (O.meaning out.new) Done) }
-    ensures err { IfErr result (IsWorkOutcome command.Verify network.now (F.meaning shelf.old) (F.meaning shelf.new) name.now (O.meaning out.old) (O.meaning out.new)) }
+    ensures { says caps.now (verify region.now certificate.now) (F.meaning shelf.old) (F.meaning shelf.new) (O.meaning out.old) (O.meaning out.new) (end_of result) }
 {
-    let bytes = read_file(alloc, shelf, name, FileRole::Certificate)?;
-    let text = verified(alloc, network, &bytes)?;
+    let network = read_region(alloc, shelf, region, caps, notes)?;
+    let bytes = read_file(alloc, shelf, certificate, FileRole::Certificate, notes)?;
+    let text = verified(alloc, &network, certificate, &bytes, notes)?;
     write_text(out, &text)?;
     Ok(())
 }
@@ -89,20 +94,32 @@ fn certificate_text(alloc: Global, network: &Network, query: Query) -> Result<Ve
     Ok(text)
 }
 
-/// What is written of the bytes of a valid certificate; or why they are none.
-fn verified(alloc: Global, network: &Network, bytes: &[u8]) -> Result<Vec<u8>, Outcome>
+/// What is written of the bytes of a valid certificate; or why they are none, which `notes` is told too.
+fn verified<E: Sink>(
+    alloc: Global,
+    network: &Network,
+    path: &str,
+    bytes: &[u8],
+    notes: &mut E,
+) -> Result<Vec<u8>, Outcome>
     ensures ok { IfOk result (λ text. IsVerified network.now bytes.now text.items) }
     ensures err { IfErr result (IsUnverified network.now bytes.now) }
 {
     network.known();
     let certificate = match read(alloc, bytes) {
         Ok(certificate) => certificate,
-        Err(CertFault::BadLine { line }) => return Err(Outcome::BadCertificate { line }),
+        Err(CertFault::BadLine { line }) => {
+            tell(alloc, notes, bad_certificate(alloc, path, bytes, line));
+            return Err(Outcome::BadCertificate { line });
+        }
         Err(CertFault::OutOfMemory) => return Err(Outcome::OutOfMemory),
     };
     match certificate::verify(alloc, network, &certificate) {
         Ok(CertVerdict::Valid) => {}
-        Ok(CertVerdict::Invalid { clause, at }) => return Err(Outcome::Invalid { clause, at }),
+        Ok(CertVerdict::Invalid { clause, at }) => {
+            tell(alloc, notes, invalid_certificate(alloc, path, clause, at));
+            return Err(Outcome::Invalid { clause, at });
+        }
         Err(_) => return Err(Outcome::OutOfMemory),
     }
     match valid_text(alloc, network, certificate) {
@@ -140,16 +157,5 @@ fn body_of(claimed: Option<(Time, Journey)>) -> BlockBody
     match claimed {
         Some((_, journey)) => BlockBody::Journey(journey),
         None => BlockBody::Nothing,
-    }
-}
-
-/// Writes a text.
-pub(crate) fn write_text<O: Sink>(out: &mut O, text: &[u8]) -> Result<(), Outcome>
-    ensures ok { OnOk result (Appended (O.meaning out.old) (O.meaning out.new) text.now) }
-    ensures err { IfErr result (IsTextOutcome (O.meaning out.old) (O.meaning out.new) text.now) }
-{
-    match write_all(out, text) {
-        Ok(()) => Ok(()),
-        Err(_) => Err(Outcome::WriteFault),
     }
 }

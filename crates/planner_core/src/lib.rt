@@ -6,16 +6,14 @@ mod blocks;
 mod broken;
 mod certifying;
 mod checking;
-pub mod command;
-mod files;
-pub mod outcome;
+mod contracting;
 pub mod plans;
 mod running;
 
-pub use command::Command;
-pub use outcome::{FileRole, Outcome};
+pub use command_words::Command;
 pub use plans::{Answer, find_best, plan};
 pub use product_search::Workspace;
+pub use run_steps::{FileRole, Outcome, SourceFault};
 pub use running::{run, run_within};
 
 #[cfg(test)]

@@ -1,86 +1,7 @@
 use super::*;
 use plan_base::{MemoryShelf, MemorySink};
-use region_file::RegionFault;
 use std::collections::BTreeMap;
 use std::test::Fail;
-
-/// Outcomes and their exit statuses.
-const OUTCOMES: &[(Outcome, u8)] = &[
-    (Outcome::Done, 0),
-    (Outcome::Usage, 2),
-    (
-        Outcome::Missing {
-            file: FileRole::Region,
-        },
-        3,
-    ),
-    (
-        Outcome::Missing {
-            file: FileRole::Queries,
-        },
-        3,
-    ),
-    (
-        Outcome::ReadFault {
-            file: FileRole::Region,
-        },
-        4,
-    ),
-    (
-        Outcome::ReadFault {
-            file: FileRole::Queries,
-        },
-        4,
-    ),
-    (
-        Outcome::TooLong {
-            file: FileRole::Region,
-        },
-        5,
-    ),
-    (
-        Outcome::TooLong {
-            file: FileRole::Queries,
-        },
-        5,
-    ),
-    (Outcome::WriteFault, 6),
-    (
-        Outcome::BadRegion {
-            fault: RegionFault::BadHead,
-        },
-        7,
-    ),
-    (
-        Outcome::BadRegion {
-            fault: RegionFault::BadRecord { at: 4 },
-        },
-        7,
-    ),
-    (
-        Outcome::BadRegion {
-            fault: RegionFault::Trailing { at: 9 },
-        },
-        7,
-    ),
-    (Outcome::Invalid { clause: 9, at: 0 }, 11),
-    (Outcome::BadCertificate { line: 3 }, 12),
-    (Outcome::OutOfMemory, 13),
-];
-
-/// Whether these bytes are one line.
-fn is_one_line(bytes: &[u8]) -> bool {
-    bytes.ends_with(b"\n") && bytes.iter().filter(|byte| **byte == b'\n').count() == 1
-}
-
-#[test]
-fn each_outcome_has_a_status_and_a_note(rt: HostRuntime) -> Result<(), Fail> {
-    for (outcome, status) in OUTCOMES {
-        let note = outcome.note(rt.alloc())?;
-        assert!(rt; outcome.status() == *status && is_one_line(note.as_bytes()));
-    }
-    Ok(())
-}
 
 /// Four corners. The way from 1 to 3 by 2 takes 20 ms, and that by 4 takes 10.
 const SQUARE: &[u8] = b"modeplan region 1
@@ -104,7 +25,7 @@ const NO_WITNESS: &[u8] = b"MPHIER01\0\0\0\0\0\0\0\x01\0\0\0\0\0\0\0\x04\0\0\0\0
 \0\0\0\x01\0\0\0\x02\0\0\0\0\0\0\0\x0a\xff\xff\xff\xff\
 \0\0\0\x03\0\0\0\x02\0\0\0\0\0\0\0\x05\xff\xff\xff\xff";
 
-const TOLD: &[u8] = b"modeplan: the hierarchy is not sound for the region: \
+const TOLD: &[u8] = b"modeplan: h: the hierarchy is not sound for the region: \
 entry 0 leads from foot:1 to foot:2 in 10 ms, and entry 2 from foot:2 to foot:3 in 10 ms; by clause 4, \
 the entries to and from a contracted node must have an entry or a listed witness that is no heavier\n";
 

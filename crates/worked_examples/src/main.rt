@@ -7,7 +7,7 @@ use std::alloc::{AllocError, Global};
 use std::io;
 
 /// The folders of the examples, each with the files `region`, `queries` and `expected`.
-const EXAMPLES: [&str; 3] = ["foot-town", "bike-and-park", "town"];
+const EXAMPLES: [&str; 4] = ["foot-town", "bike-and-park", "town", "make-region"];
 
 /// No example has a longer output than this many bytes.
 const MOST_BYTES: usize = 1 << 20;

@@ -1,5 +1,14 @@
-use Rattle.planner_core.proofs.CompleteLemmas.{complete}
+use Rattle.std.proofs.Common.{subst}
+use Rattle.command_words.specs.Requests.{Request}
+use Rattle.planner_core.specs.Commands.{says}
+use Rattle.planner_core.proofs.CompleteLemmas.{completes}
 use Rattle.planner_core.proofs.running.run_within.Goals as goal
 
-pub returns-clause-complete : goal.returns-clause-complete
-returns-clause-complete g c = complete _ _ _ _ _ _ c.obey.result c.obey.ensures
+pub returns-in-Err-clause-complete : goal.returns-in-Err-clause-complete
+returns-in-Err-clause-complete g c r files form tells can reads writes =
+    let old = g.F.Shelf.meaning c.args.shelf.now in
+    let new = g.F.Shelf.meaning c.carry_out.new.shelf in
+    let before = g.O.Sink.meaning c.args.out.now in
+    let after = g.O.Sink.meaning c.carry_out.new.out in
+    completes files c.args.caps.now r can old new before after c.in-Err.outcome tells reads writes
+    (subst (λ (q : Request). says c.args.caps.now q old new before after c.in-Err.outcome) (c.in-Ok.ensures.plain r form).0 c.in-Err.ensures)

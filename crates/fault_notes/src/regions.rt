@@ -1,0 +1,212 @@
+//! Faults of region files.
+
+use crate::pieces::{line_at, number_of_line, shown};
+use mode_network::NetFault;
+use plain_texts::read_id;
+use plan_base::Kind;
+use region_file::RegionFault;
+use std::alloc::{AllocError, Global};
+use timetable_arcs::TableFault;
+
+/// What is wrong with the bytes of the region file of this path.
+pub fn bad_region(
+    alloc: Global,
+    path: &str,
+    bytes: &[u8],
+    fault: RegionFault,
+) -> Result<String, AllocError> {
+    match fault {
+        RegionFault::BadHead => bad_head(alloc, path, bytes),
+        RegionFault::BadRecord { at } => bad_line(alloc, path, bytes, at),
+        RegionFault::Network(fault) => bad_network(alloc, path, bytes, fault),
+        RegionFault::Trailing { at } => {
+            format!(in alloc;
+                "{path}, line {at}: something follows the line \"end\", which must be the last"
+            )
+        }
+        RegionFault::OutOfMemory => format!(in alloc; "memory ran out"),
+    }
+}
+
+/// The first line is not that of a region.
+fn bad_head(alloc: Global, path: &str, bytes: &[u8]) -> Result<String, AllocError> {
+    let line = shown(alloc, line_at(bytes, 1).unwrap_or(&[]))?;
+    format!(in alloc;
+        "{path}, line 1: a region begins with the line \"modeplan region 1\", and here stands {line}"
+    )
+}
+
+/// A line may not stand where it does.
+fn bad_line(alloc: Global, path: &str, bytes: &[u8], at: u64) -> Result<String, AllocError> {
+    match line_at(bytes, at) {
+        None | Some([]) => {
+            format!(in alloc;
+                "{path}, line {at}: the region ends here without its last line, \"end\""
+            )
+        }
+        Some(line) => {
+            let form = form_of(line);
+            let line = shown(alloc, line)?;
+            format!(in alloc; "{path}, line {at}: {line} may not stand here; {form}")
+        }
+    }
+}
+
+/// How a line with the first word of this one is written, and where it may stand.
+fn form_of(line: &[u8]) -> &'static str {
+    match line.split(|byte| *byte == b' ').next().unwrap_or(&[]) {
+        b"days" =>
+            "the second line is \"days YYYYMMDD COUNT\" or \"days YYYYMMDD COUNT RULE\", with a date from 1900 to 2199, 1 to 60 days, and a zone rule",
+        b"node" =>
+            "a road node is \"node MODE ID LAT LON\", with the mode foot, bike or car, and places in units of 10^-7 degree; nodes follow the line of days",
+        b"stop" =>
+            "a stop is \"stop NAME LAT LON\" with places in units of 10^-7 degree; stops follow the nodes",
+        b"switch" =>
+            "a switch is \"switch ID LAT LON\" with places in units of 10^-7 degree; switches follow the stops",
+        b"arc" =>
+            "a road arc is \"arc FROM TO MS\", with nodes by their numbers from 0; arcs follow the switches",
+        b"link" =>
+            "a link is \"link FROM TO MS\", with nodes by their numbers from 0; links follow the arcs",
+        b"trip" =>
+            "a trip is \"trip LETTER DAYS CALLS NAME\", with days as hexadecimal digits, and so many calls follow it; trips follow the links",
+        b"call" =>
+            "a call is \"call STOP ARR DEP FLAGS\", with seconds and flags of 0 to 3, and stands behind its trip, which says how many there are",
+        b"end" => "\"end\" is the last line, and no calls may be missing before it",
+        _ =>
+            "the lines of a region are days, node, stop, switch, arc, link, trip with its calls, and end, in this order",
+    }
+}
+
+/// The network breaks a rule.
+fn bad_network(
+    alloc: Global,
+    path: &str,
+    bytes: &[u8],
+    fault: NetFault,
+) -> Result<String, AllocError> {
+    match fault {
+        NetFault::OutOfOrder { kind, row } => {
+            let words = match kind {
+                Kind::Nodes => node_word(bytes, row),
+                _ => words_of(kind),
+            };
+            let place = place_of(alloc, bytes, words, row)?;
+            format!(in alloc;
+                "{path}{place}: each of the {} must come after the one before it: {}",
+                name_of(kind),
+                order_of(kind)
+            )
+        }
+        NetFault::BadEnd { kind, row } => {
+            let place = place_of(alloc, bytes, words_of(kind), row)?;
+            format!(in alloc; "{path}{place}: {}", ends_of(kind))
+        }
+        NetFault::Table(fault) => bad_trip(alloc, path, bytes, fault),
+        NetFault::TooMany { kind } => {
+            format!(in alloc; "{path}: a region may not have so many {}", name_of(kind))
+        }
+        NetFault::OutOfMemory => format!(in alloc; "memory ran out"),
+    }
+}
+
+/// The trips break a rule.
+fn bad_trip(
+    alloc: Global,
+    path: &str,
+    bytes: &[u8],
+    fault: TableFault,
+) -> Result<String, AllocError> {
+    match fault {
+        TableFault::TimeGoesBack { trip } => {
+            let place = place_of(alloc, bytes, &[b"trip"], u64::from(trip))?;
+            format!(in alloc;
+                "{path}{place}: the times of this trip go back; each call departs no earlier than it arrives, and arrives no earlier than the one before departs"
+            )
+        }
+        TableFault::UnknownStop { trip, call } => {
+            let place = place_of(alloc, bytes, &[b"trip"], u64::from(trip))?;
+            format!(in alloc;
+                "{path}{place}: call {call} of this trip, counted from 0, names a stop that is not there; stops are numbered from 0"
+            )
+        }
+        TableFault::BadTrip { trip } => {
+            let place = place_of(alloc, bytes, &[b"trip"], u64::from(trip))?;
+            format!(in alloc;
+                "{path}{place}: a trip must have a letter of transit, two calls or more, days of the region, and times below 168 hours"
+            )
+        }
+        TableFault::TooMany { kind } => {
+            format!(in alloc; "{path}: a region may not have so many {}", name_of(kind))
+        }
+        TableFault::OutOfMemory => format!(in alloc; "memory ran out"),
+    }
+}
+
+/// Where a row stands: the number of its line, where the region is a text.
+fn place_of(alloc: Global, bytes: &[u8], words: &[&[u8]], row: u64) -> Result<String, AllocError> {
+    match number_of_line(bytes, words, row) {
+        Some(number) => format!(in alloc; ", line {number}"),
+        None => format!(in alloc; ", row {row} of its kind"),
+    }
+}
+
+/// What people call the rows of a kind.
+fn name_of(kind: Kind) -> &'static str {
+    match kind {
+        Kind::Nodes => "road nodes and switches",
+        Kind::Arcs => "road arcs",
+        Kind::Links => "links",
+        Kind::Stops => "stops",
+        Kind::Trips => "trips",
+        Kind::Calls => "calls",
+        _ => "rows",
+    }
+}
+
+/// The first words of the lines of a kind.
+fn words_of(kind: Kind) -> &'static [&'static [u8]] {
+    match kind {
+        Kind::Arcs => &[b"arc"],
+        Kind::Links => &[b"link"],
+        Kind::Stops => &[b"stop"],
+        Kind::Trips => &[b"trip"],
+        _ => &[b"call"],
+    }
+}
+
+/// The first word of the lines of nodes in which this row, counted from 0, does not come after the one before it: that of
+/// road nodes, if it does not there, else that of switches.
+fn node_word(bytes: &[u8], row: u64) -> &'static [&'static [u8]] {
+    let nodes: &'static [&'static [u8]] = &[b"node"];
+    let key = |row| line_at(bytes, number_of_line(bytes, nodes, row)?).and_then(node_key);
+    match (row.checked_sub(1).and_then(key), key(row)) {
+        (Some(before), Some(here)) if here <= before => nodes,
+        _ => &[b"switch"],
+    }
+}
+
+/// The id and the mode's place of a line of a road node.
+fn node_key(line: &[u8]) -> Option<(i64, usize)> {
+    let mut words = line.split(|byte| *byte == b' ').skip(1);
+    let mode = words.next()?;
+    let id = read_id(words.next()?)?;
+    let modes: [&[u8]; 3] = [b"foot", b"bike", b"car"];
+    Some((id, modes.iter().position(|name| *name == mode)?))
+}
+
+/// In which order the rows of a kind stand.
+fn order_of(kind: Kind) -> &'static str {
+    match kind {
+        Kind::Nodes => "nodes by id and then by mode (foot, bike, car), switches by id",
+        Kind::Stops => "stops by the bytes of their names",
+        _ => "by FROM, and then by TO, each pair once",
+    }
+}
+
+/// Which ends a row of a kind has.
+fn ends_of(kind: Kind) -> &'static str {
+    match kind {
+        Kind::Arcs => "a road arc leads between two different road nodes of one mode",
+        _ => "a link leads between two nodes, of which exactly one is a road node",
+    }
+}

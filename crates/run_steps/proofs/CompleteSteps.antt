@@ -1,0 +1,75 @@
+-- A run whose files are there and without fault ends with its work done, step by step.
+use Rattle.std.proofs.Common.{◌≡◌, ℕ, ◌<◌, ◌∙◌, inl, inr, List, Option, Some, None, subst, arith}
+use Rattle.std.specs.Prelude.{Result, length, IfSome, IsSomeAnd}
+use Rattle.plan_base.specs.Counts.{Rose}
+use Rattle.plan_base.specs.Shelves.{ShelfMeaning, Told}
+use Rattle.plan_base.specs.declared.limits.Caps.{Caps}
+use Rattle.mode_network.specs.NetworkLists.{NetworkLists}
+use Rattle.mode_network.specs.Rules.{IsNetwork}
+use Rattle.region_file.specs.declared.fault.RegionFault.{RegionFault}
+use Rattle.region_file.specs.Regions.{region_of}
+use Rattle.run_steps.specs.declared.outcome.FileRole.{FileRole}
+use Rattle.run_steps.specs.declared.outcome.Outcome.{Outcome}
+use Rattle.run_steps.specs.declared.outcome.Outcome.TheVariants.{Done, Usage, Missing, ReadFault, TooLong, WriteFault, BadRegion, BadFeed, Invalid, BadCertificate, BadHierarchy, Unsound, OutOfMemory}
+use Rattle.run_steps.specs.Sayings.{Saying, IsUnread, OnFile, Writes, most_bytes}
+use Rattle.run_steps.specs.Regions.{OnNetwork}
+use Rattle.run_steps.specs.Complete.{Files, IsHeld, SpellsNetwork, IsDoneOrMemory, Completes}
+use Rattle.run_steps.proofs.Steps.{rose_over}
+
+-- what a shelf tells that holds these bytes
+told_held : (shelf : ShelfMeaning) (files : Files) (name bytes : List ℕ) → shelf.files ≡ Some files → files name ≡ Some bytes
+    → (P : Option (List ℕ) → Type 0) → Told shelf name P → P (Some bytes)
+told_held shelf files name bytes tells held P told = subst P held (subst (λ (f : Option Files). IfSome f (λ g. P (g name))) tells told)
+
+module _ (files : Files) where
+  -- a file that is held is read
+  unread : (old new : ShelfMeaning) (file : FileRole) (name : List ℕ) (P : List ℕ → Type 0) (held : IsHeld files name P) → old.files ≡ Some files
+      → (Rose old.faults new.faults → ⊥) → (outcome : Outcome) → IsUnread old new name file outcome → IsDoneOrMemory outcome
+  unread old new file name P held tells quiet (Missing other) (e, rose, told) =
+      let none = told_held old files name held.bytes tells held.held (λ h. h ≡ None) told in
+      absurd (cc)
+  unread old new file name P held tells quiet (ReadFault other) (e, rose) = absurd (quiet rose)
+  unread old new file name P held tells quiet (TooLong other) (e, told) =
+      let long = told_held old files name held.bytes tells held.held (λ h. IsSomeAnd h (λ bytes. most_bytes < length bytes)) told in
+      let within = held.within in
+      absurd (omega arith)
+  unread old new file name P held tells quiet OutOfMemory none = none
+  unread old new file name P held tells quiet Done none = absurd none
+  unread old new file name P held tells quiet Usage none = none
+  unread old new file name P held tells quiet WriteFault none = none
+  unread old new file name P held tells quiet (BadRegion fault) none = none
+  unread old new file name P held tells quiet (BadFeed fault) none = none
+  unread old new file name P held tells quiet (Invalid clause at) none = none
+  unread old new file name P held tells quiet (BadCertificate line) none = none
+  unread old new file name P held tells quiet (BadHierarchy fault) none = none
+  unread old new file name P held tells quiet (Unsound clause at by) none = none
+
+  pub file_completes : (file : FileRole) (name : List ℕ) (P : List ℕ → Type 0) (rest : List ℕ → Saying) → ((bytes : List ℕ) → Completes files (P bytes) (rest bytes))
+      → Completes files (IsHeld files name P) (OnFile file name rest)
+  file_completes file name P rest more held old new before after outcome tells reads writes (inl (not, same)) = unread old new file name P held tells reads outcome not
+  file_completes file name P rest more held old new before after outcome tells reads writes (inr on) =
+      let file_is = told_held old files name held.bytes tells held.held (λ h. h ≡ Some on.bytes) on.file.file in
+      let bytes : held.bytes ≡ on.bytes = cc in
+      more on.bytes (subst P bytes held.fine) on.mid new before after outcome (on.later.files ∙ tells)
+      (λ rose. reads (rose_over old.faults on.mid.faults new.faults on.later.faults rose)) writes on.says
+
+  pub network_completes : (caps : Caps) (P : NetworkLists → Type 0) (rest : NetworkLists → Saying) → ((n : NetworkLists) → IsNetwork n → Completes files (P n) (rest n))
+      → (bytes : List ℕ) → Completes files (SpellsNetwork caps P bytes) (OnNetwork (region_of caps bytes) rest)
+  network_completes caps P rest more bytes (n, spells, p) old new before after outcome tells reads writes said =
+      let on = subst (λ (r : Result NetworkLists RegionFault). OnNetwork r rest old new before after outcome) spells said in
+      more n on.0 p old new before after outcome tells reads writes on.1
+
+  pub writes_completes : (IsOut IsFront : List ℕ → Type 0) → Completes files (Unit {0}) (Writes IsOut IsFront)
+  writes_completes IsOut IsFront p old new before after Done tells reads writes is = tt
+  writes_completes IsOut IsFront p old new before after OutOfMemory tells reads writes is = tt
+  writes_completes IsOut IsFront p old new before after WriteFault tells reads writes (rose, front) = absurd (writes rose)
+  writes_completes IsOut IsFront p old new before after Usage tells reads writes none = none
+  writes_completes IsOut IsFront p old new before after (Missing file) tells reads writes none = none
+  writes_completes IsOut IsFront p old new before after (ReadFault file) tells reads writes none = none
+  writes_completes IsOut IsFront p old new before after (TooLong file) tells reads writes none = none
+  writes_completes IsOut IsFront p old new before after (BadRegion fault) tells reads writes none = none
+  writes_completes IsOut IsFront p old new before after (BadFeed fault) tells reads writes none = none
+  writes_completes IsOut IsFront p old new before after (Invalid clause at) tells reads writes none = none
+  writes_completes IsOut IsFront p old new before after (BadCertificate line) tells reads writes none = none
+  writes_completes IsOut IsFront p old new before after (BadHierarchy fault) tells reads writes none = none
+  writes_completes IsOut IsFront p old new before after (Unsound clause at by) tells reads writes none = none

@@ -1,0 +1,36 @@
+-- When a run does all of its work: its files are there and without fault, and nothing failed.
+use Rattle.std.specs.Prelude.{◌≡◌, ℕ, ◌≤◌, List, length, Option, Some, Ok}
+use Rattle.plan_base.specs.Counts.{Rose}
+use Rattle.plan_base.specs.Shelves.{ShelfMeaning}
+use Rattle.plan_base.specs.Sinks.{SinkMeaning}
+use Rattle.plan_base.specs.declared.limits.Caps.{Caps}
+use Rattle.mode_network.specs.NetworkLists.{NetworkLists}
+use Rattle.region_file.specs.Regions.{region_of}
+use Rattle.run_steps.specs.declared.outcome.Outcome.{Outcome}
+use Rattle.run_steps.specs.declared.outcome.Outcome.TheVariants.{Done, OutOfMemory}
+use Rattle.run_steps.specs.Sayings.{Saying, most_bytes}
+
+-- what a shelf that tells holds under each name
+abbrev pub Files : Type 0
+Files = List ℕ → Option (List ℕ)
+
+-- a file of this name is there; it has not too many bytes, and they have P
+pub record IsHeld (files : Files) (name : List ℕ) (P : List ℕ → Type 0) : Type 0 where
+  pub bytes : List ℕ
+  pub held : files name ≡ Some bytes
+  pub within : length bytes ≤ most_bytes
+  pub fine : P bytes
+
+-- the bytes spell a network within the limits that has P
+abbrev pub SpellsNetwork : Caps → (NetworkLists → Type 0) → List ℕ → Type 0
+SpellsNetwork caps P bytes = (n : NetworkLists) × (region_of caps bytes ≡ Ok n) × P n
+
+abbrev pub IsDoneOrMemory : Outcome → Type 0
+IsDoneOrMemory Done = Unit {0}
+IsDoneOrMemory OutOfMemory = Unit {0}
+IsDoneOrMemory _ = ⊥
+
+-- where the shelf tells these files, they have P, and no count of faults rose, a run of which this is said has done all of its work, unless memory ran out
+abbrev pub Completes : Files → Type 0 → Saying → Type 0
+Completes files P S = P → (old new : ShelfMeaning) (before after : SinkMeaning) (outcome : Outcome) → old.files ≡ Some files
+    → (Rose old.faults new.faults → ⊥) → (Rose before.faults after.faults → ⊥) → S old new before after outcome → IsDoneOrMemory outcome

@@ -1,0 +1,70 @@
+-- What a run says by its outcome, put together from what it reads and what it writes.
+use Rattle.std.specs.Prelude.{◌≡◌, ℕ, ◌<◌, ◌^◌, ◌⊎◌, ⊤, List, length, take, None, Result, Ok, Err, IsSomeAnd}
+use Rattle.plan_base.specs.Counts.{Rose}
+use Rattle.plan_base.specs.Shelves.{ShelfMeaning, IsLater, Told, HasRead}
+use Rattle.plan_base.specs.Sinks.{SinkMeaning, Appended}
+use Rattle.run_steps.specs.declared.outcome.FileRole.{FileRole}
+use Rattle.run_steps.specs.declared.outcome.Outcome.{Outcome}
+use Rattle.run_steps.specs.declared.outcome.Outcome.TheVariants.{Done, Missing, ReadFault, TooLong, WriteFault, OutOfMemory}
+
+-- A saying speaks of a run, or of the rest of one: of the shelf before and after, of the output before and after, and of the outcome.
+abbrev pub Saying : Type 1
+Saying = ShelfMeaning → ShelfMeaning → SinkMeaning → SinkMeaning → Outcome → Type 0
+
+-- how a step of a run ends the run, or that it goes on to its end
+abbrev pub end_of : Result ⊤ Outcome → Outcome
+end_of (Ok _) = Done
+end_of (Err outcome) = outcome
+
+-- ---- reading
+
+-- a file has at most so many bytes
+abbrev pub most_bytes : ℕ
+most_bytes = 2 ^ 30
+
+-- why the file of this name, which has this role, was not read whole
+abbrev pub IsUnread : ShelfMeaning → ShelfMeaning → List ℕ → FileRole → Outcome → Type 0
+IsUnread old new name file (Missing other) = (other ≡ file) × Rose old.misses new.misses × Told old name (λ held. held ≡ None)
+IsUnread old new name file (ReadFault other) = (other ≡ file) × Rose old.faults new.faults
+IsUnread old new name file (TooLong other) = (other ≡ file) × Told old name (λ held. IsSomeAnd held (λ bytes. most_bytes < length bytes))
+IsUnread old new name file OutOfMemory = Unit {0}
+IsUnread old new name file _ = ⊥
+
+abbrev pub IsUnwritten : SinkMeaning → SinkMeaning → Type 0
+IsUnwritten before after = after.bytes ≡ before.bytes
+
+-- the run ends so, and nothing is written
+abbrev pub Ends : Outcome → Saying
+Ends end old new before after outcome = (outcome ≡ end) × IsUnwritten before after
+
+-- the file was read whole, and the rest of the run says this of its bytes
+pub record HasGoneOn (name : List ℕ) (rest : List ℕ → Saying) (old new : ShelfMeaning) (before after : SinkMeaning) (outcome : Outcome) : Type 0 where
+  pub bytes : List ℕ
+  pub file : HasRead old name most_bytes bytes
+  pub mid : ShelfMeaning
+  pub later : IsLater old mid
+  pub says : rest bytes mid new before after outcome
+
+-- a file is read: it was not read whole, or the rest says this of its bytes
+abbrev pub OnFile : FileRole → List ℕ → (List ℕ → Saying) → Saying
+OnFile file name rest old new before after outcome =
+    (IsUnread old new name file outcome × IsUnwritten before after) ⊎ HasGoneOn name rest old new before after outcome
+
+-- ---- writing
+
+-- the output was appended that has P
+pub record HasWritten (P : List ℕ → Type 0) (before after : SinkMeaning) : Type 0 where
+  pub out : List ℕ
+  pub is : P out
+  pub appended : Appended before after out
+
+-- an output is written, whole where all is done; or a front of one
+abbrev pub Writes : (List ℕ → Type 0) → (List ℕ → Type 0) → Saying
+Writes IsOut IsFront old new before after Done = HasWritten IsOut before after
+Writes IsOut IsFront old new before after WriteFault = Rose before.faults after.faults × HasWritten IsFront before after
+Writes IsOut IsFront old new before after OutOfMemory = IsUnwritten before after ⊎ HasWritten IsFront before after
+Writes IsOut IsFront old new before after _ = ⊥
+
+-- a text is written, or a front of one
+abbrev pub WritesText : (List ℕ → Type 0) → Saying
+WritesText IsText = Writes IsText (λ part. (whole : List ℕ) × (count : ℕ) × IsText whole × (part ≡ take count whole))

@@ -1,0 +1,19 @@
+-- The exit status of each outcome.
+use Rattle.std.specs.Prelude.{ℕ}
+use Rattle.run_steps.specs.declared.outcome.Outcome.{Outcome}
+use Rattle.run_steps.specs.declared.outcome.Outcome.TheVariants.{Done, Usage, Missing, ReadFault, TooLong, WriteFault, BadRegion, BadFeed, Invalid, BadCertificate, BadHierarchy, Unsound, OutOfMemory}
+
+abbrev pub status_of : Outcome → ℕ
+status_of Done = 0
+status_of Usage = 2
+status_of (Missing file) = 3
+status_of (ReadFault file) = 4
+status_of (TooLong file) = 5
+status_of WriteFault = 6
+status_of (BadRegion fault) = 7
+status_of (BadFeed fault) = 8
+status_of (BadHierarchy fault) = 9
+status_of (Unsound clause at by) = 10
+status_of (Invalid clause at) = 11
+status_of (BadCertificate line) = 12
+status_of OutOfMemory = 13

@@ -1,0 +1,47 @@
+-- What the steps of a run answer: what was read, why it was not, and why a text was not written.
+use Rattle.std.specs.Prelude.{◌≡◌, ℕ, List, Err, Ok}
+use Rattle.plan_base.specs.Counts.{Rose}
+use Rattle.plan_base.specs.Shelves.{ShelfMeaning, HasRead}
+use Rattle.plan_base.specs.Sinks.{SinkMeaning, AppendedPart}
+use Rattle.plan_base.specs.declared.limits.Caps.{Caps}
+use Rattle.plan_base.specs.declared.reading.ReadFault.{ReadFault as ReadCause}
+use Rattle.plan_base.specs.declared.reading.ReadFault.TheVariants as cause
+use Rattle.mode_network.specs.NetworkLists.{NetworkLists}
+use Rattle.mode_network.specs.Rules.{IsNetwork}
+use Rattle.region_file.specs.declared.fault.RegionFault.{RegionFault}
+use Rattle.region_file.specs.Regions.{region_of}
+use Rattle.run_steps.specs.declared.outcome.FileRole.{FileRole}
+use Rattle.run_steps.specs.declared.outcome.FileRole.TheVariants.{Region}
+use Rattle.run_steps.specs.declared.outcome.Outcome.{Outcome}
+use Rattle.run_steps.specs.declared.outcome.Outcome.TheVariants.{Missing, ReadFault, TooLong, WriteFault, BadRegion, OutOfMemory}
+use Rattle.run_steps.specs.Sayings.{most_bytes, IsUnread}
+
+-- how a run ends where a file can't be read
+abbrev pub outcome_of : FileRole → ReadCause → Outcome
+outcome_of file cause.Missing = Missing file
+outcome_of file cause.Failed = ReadFault file
+outcome_of file (cause.TooLong cap) = TooLong file
+outcome_of file cause.OutOfMemory = OutOfMemory
+
+-- the region file was read, and spells this network within the limits, which keeps the rules of networks
+pub record HasRegion (caps : Caps) (shelf : ShelfMeaning) (name : List ℕ) (n : NetworkLists) : Type 0 where
+  pub bytes : List ℕ
+  pub file : HasRead shelf name most_bytes bytes
+  pub spells : region_of caps bytes ≡ Ok n
+  pub rules : IsNetwork n
+
+-- the region file was read, and this is its first fault
+pub record HasBadRegion (caps : Caps) (shelf : ShelfMeaning) (name : List ℕ) (fault : RegionFault) : Type 0 where
+  pub bytes : List ℕ
+  pub file : HasRead shelf name most_bytes bytes
+  pub first : region_of caps bytes ≡ Err fault
+
+-- why no region was read
+abbrev pub IsRegionOutcome : Caps → ShelfMeaning → ShelfMeaning → List ℕ → Outcome → Type 0
+IsRegionOutcome caps old new name (BadRegion fault) = HasBadRegion caps old name fault
+IsRegionOutcome caps old new name outcome = IsUnread old new name Region outcome
+
+-- why a text was not written whole
+abbrev pub IsTextOutcome : SinkMeaning → SinkMeaning → List ℕ → Outcome → Type 0
+IsTextOutcome before after text WriteFault = Rose before.faults after.faults × AppendedPart before after text
+IsTextOutcome before after text _ = ⊥

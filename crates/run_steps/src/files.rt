@@ -1,0 +1,97 @@
+//! The files that a command reads.
+
+ghost use Rattle.std.specs.Prelude.{◌≡◌, IfOk, IfErr};
+ghost use Rattle.plan_base.specs.Shelves.{IsLater, HasRead};
+ghost use Rattle.run_steps.specs.Sayings.{IsUnread, most_bytes};
+ghost use Rattle.run_steps.specs.Working.{HasRegion, IsRegionOutcome, outcome_of};
+
+use crate::notes::tell;
+use crate::outcome::{FileRole, Outcome};
+use fault_notes::bad_region;
+use mode_network::Network;
+use plan_base::{Caps, ReadFault, Shelf, Sink, read_whole};
+use region_file::{RegionFault, decode};
+use std::alloc::{AllocError, Global};
+
+/// The most bytes that a file may have.
+const MOST_BYTES: u64 = 1 << 30;
+
+/// A file, whole. If it can't be had, `notes` is told why.
+pub fn read_file<F: Shelf, E: Sink>(
+    alloc: Global,
+    shelf: &mut F,
+    name: &str,
+    file: FileRole,
+    notes: &mut E,
+) -> Result<Vec<u8>, Outcome>
+    ensures later { IsLater (F.meaning shelf.old) (F.meaning shelf.new) }
+    ensures ok { IfOk result (λ bytes. HasRead (F.meaning shelf.old) name.now most_bytes bytes.items) }
+    ensures err { IfErr result (IsUnread (F.meaning shelf.old) (F.meaning shelf.new) name.now file) }
+{
+    match read_whole(alloc, shelf, name, MOST_BYTES) {
+        Ok(bytes) => Ok(bytes),
+        Err(ReadFault::OutOfMemory) => Err(Outcome::OutOfMemory),
+        Err(fault) => {
+            tell(alloc, notes, unread(alloc, name, file, fault));
+            Err(outcome_of(file, fault))
+        }
+    }
+}
+
+/// How a run ends where a file can't be read.
+fn outcome_of(file: FileRole, fault: ReadFault) -> Outcome
+    ensures { result ≡ outcome_of file fault }
+{
+    match fault {
+        ReadFault::Missing => Outcome::Missing { file },
+        ReadFault::Failed => Outcome::ReadFault { file },
+        ReadFault::TooLong { .. } => Outcome::TooLong { file },
+        ReadFault::OutOfMemory => Outcome::OutOfMemory,
+    }
+}
+
+/// Why a file can't be read, told to people.
+fn unread(
+    alloc: Global,
+    path: &str,
+    file: FileRole,
+    fault: ReadFault,
+) -> Result<String, AllocError> {
+    let role = file.name();
+    match fault {
+        ReadFault::Missing => {
+            format!(in alloc; "{path}: there is no such file; it should be the {role} file")
+        }
+        ReadFault::Failed => format!(in alloc; "{path}: the {role} file can't be read"),
+        ReadFault::TooLong { .. } => format!(in alloc;
+            "{path}: the {role} file has more than 2^30 bytes, which is the most that is read"
+        ),
+        ReadFault::OutOfMemory => format!(in alloc; "memory ran out"),
+    }
+}
+
+/// The network that a region file spells. If there is none, `notes` is told why.
+pub fn read_region<F: Shelf, E: Sink>(
+    alloc: Global,
+    shelf: &mut F,
+    name: &str,
+    caps: &Caps,
+    notes: &mut E,
+) -> Result<Network, Outcome>
+    ensures later { IsLater (F.meaning shelf.old) (F.meaning shelf.new) }
+    ensures ok { IfOk result (HasRegion caps.now (F.meaning shelf.old) name.now) }
+    ensures err { IfErr result (IsRegionOutcome caps.now (F.meaning shelf.old) (F.meaning shelf.new) name.now) }
+{
+    let bytes = read_file(alloc, shelf, name, FileRole::Region, notes)?;
+    match decode(alloc, &bytes, caps) {
+        Ok(network) => {
+            network.known();
+            Ok(network)
+        }
+        Err(RegionFault::OutOfMemory) => Err(Outcome::OutOfMemory),
+        Err(fault) => {
+            tell(alloc, notes, bad_region(alloc, name, &bytes, fault));
+            Err(Outcome::BadRegion { fault })
+        }
+    }
+}

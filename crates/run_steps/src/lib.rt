@@ -1,0 +1,16 @@
+//! What all commands are made of: how a run ends, and what is said of it by its outcome; reading files and regions, writing
+//! texts, and telling people.
+#![tactic(auto)]
+
+mod files;
+mod notes;
+pub mod outcome;
+mod texts;
+
+pub use files::{read_file, read_region};
+pub use notes::tell;
+pub use outcome::{FileRole, Outcome, SourceFault};
+pub use texts::write_text;
+
+#[cfg(test)]
+mod tests;
