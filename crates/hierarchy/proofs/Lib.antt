@@ -2,6 +2,7 @@ pub mod OffsetLemmas
 pub mod HeightLemmas
 pub mod EndLemmas
 pub mod RiseLemmas
+pub mod RiseLists
 pub mod LookupLemmas
 pub mod HopLemmas
 pub mod Shapes

@@ -1,16 +1,17 @@
 -- The rises among entries, one entry after the other, and those that begin at one node.
-use Rattle.std.proofs.Common.{◌≡◌, ℕ, ◌+◌, ◌-◌, ◌<◌, ◌≤◌, ◌∙◌, nat_eq, Bool, true, false, List, [], ◌∷◌, ◌++◌, length, drop, get_or, refl, ap, arith, sym, subst}
+use Rattle.std.proofs.Common.{◌≡◌, ℕ, ◌+◌, ◌-◌, ◌<◌, ◌≤◌, ◌∙◌, nat_eq, cond, suc, add-one, append_assoc, drop-cons, Bool, true, false, List, [], ◌∷◌, ◌++◌, length, drop, take, get_or, refl, ap, arith, sym, subst}
 use Rattle.std.specs.Prelude.{All, Contains, slice_range}
 use Rattle.std.specs.List.Sorted.{IsNonDecreasingBy}
 use Rattle.std.proofs.lemmas.Bool.{eqb-true, eqb-false}
 use Rattle.std.proofs.lemmas.List.{length_push, get_or_push, get_or_append_left, get_or_default, get_or-take, get_or-drop, length-take-le, length-drop}
+use Rattle.std.proofs.lemmas.List.Elements.{All-nil, All-cons, All-weaker}
 use Rattle.hierarchy.specs.declared.entry.Entry.{Entry}
 use Rattle.hierarchy.specs.declared.rises.Rise.{Rise}
 use Rattle.hierarchy.specs.Lists.{HierarchyLists}
 use Rattle.hierarchy.specs.Lookups.{count_below, from_of}
 use Rattle.hierarchy.specs.Indexes.{AreEndsBelow, AreOffsets}
-use Rattle.hierarchy.specs.Rises.{AreRisesUpTo, AreRiseTables, AreRisesFrom, IsRiseRange, IsRiseOf, is_rise, rise_from}
-use Rattle.hierarchy.proofs.OffsetLemmas.{count_rises, count_most, key_in_range, in_range_of_key}
+use Rattle.hierarchy.specs.Rises.{AreRisesUpTo, AreRiseTables, AreRisesFrom, IsRiseRange, IsRiseOf, is_rise, rise_from, rises_among, all_rises, rises_of}
+use Rattle.hierarchy.proofs.OffsetLemmas.{count_rises, count_most, count_all, key_in_range, in_range_of_key}
 
 module _ (order : List ℕ) (entries : List Entry) where
   pub rises_none : AreRisesUpTo order entries 0 []
@@ -100,6 +101,20 @@ module _ (order : List ℕ) (entries : List Entry) where
           let earlier : j < length rises = omega (arith, eqb-false _ _ apart, length_push rises last) in
           rw (get_or_append_left rises (last ∷ []) d i (omega arith), get_or_append_left rises (last ∷ []) d j earlier) (far.rising i j d le earlier)
 
+-- the list goes on after one entry more
+module _ (order : List ℕ) (entries : List Entry) (n : ℕ) (e : Entry) (rises : List Rise) (within : n < length entries) (is : e ≡ get_or entries n e) (list : List Rise)
+    (far : rises ++ rises_among order n (drop n entries) ≡ list) where
+  next : drop n entries ≡ e ∷ drop (n + 1) entries
+  next = drop-cons entries n e within ∙ ap (λ x. x ∷ drop (suc n) entries) (sym is) ∙ ap (λ k. e ∷ drop k entries) (sym (add-one n))
+
+  pub list_pass : is_rise order e ≡ false → rises ++ rises_among order (n + 1) (drop (n + 1) entries) ≡ list
+  list_pass level = sym (ap (λ xs. rises ++ rises_among order n xs) next ∙ ap (λ b. rises ++ cond b (record { from = e.from; place = n } ∷ rises_among order (n + 1) (drop (n + 1) entries)) (rises_among order (n + 1) (drop (n + 1) entries))) level) ∙ far
+
+  pub list_more : is_rise order e ≡ true → (rises ++ record { from = e.from; place = n } ∷ []) ++ rises_among order (n + 1) (drop (n + 1) entries) ≡ list
+  list_more up =
+      append_assoc rises (record { from = e.from; place = n } ∷ []) (rises_among order (n + 1) (drop (n + 1) entries))
+      ∙ sym (ap (λ xs. rises ++ rises_among order n xs) next ∙ ap (λ b. rises ++ cond b (record { from = e.from; place = n } ∷ rises_among order (n + 1) (drop (n + 1) entries)) (rises_among order (n + 1) (drop (n + 1) entries))) up) ∙ far
+
 -- ---- those that begin at one node
 
 module _ (h : HierarchyLists) (rises : List Rise) (are : AreRisesUpTo h.order h.entries (length h.entries) rises) (u low high : ℕ)
@@ -140,13 +155,45 @@ module _ (h : HierarchyLists) (rises : List Rise) (are : AreRisesUpTo h.order h.
 
 -- the rises in order, with the counts of rises, are such tables
 pub are_rise_tables : (h : HierarchyLists) (nodes : ℕ) (offsets : List ℕ) (rises : List Rise) → AreRisesUpTo h.order h.entries (length h.entries) rises
-    → AreOffsets rise_from nodes rises offsets → AreRiseTables h nodes offsets rises
-are_rise_tables h nodes offsets rises are counts = record {
+    → rises ≡ all_rises h → AreOffsets rise_from nodes rises offsets → AreRiseTables h nodes offsets rises
+are_rise_tables h nodes offsets rises are list counts = record {
   one_more = counts.one_more;
+  all = list;
+  counts = counts.counts;
   ranges = λ u d lt. rises_from h rises are u (get_or offsets u d) (get_or offsets (u + 1) d) (counts.counts u d (omega arith)) (counts.counts (u + 1) d (omega arith));
 }
 
+-- what the tables hold between two offsets are the rises of a node
+pub range_is : (h : HierarchyLists) (nodes : ℕ) (offsets : List ℕ) (rises : List Rise) → AreRiseTables h nodes offsets rises → (u : ℕ) → u < nodes → (low high : ℕ)
+    → low ≡ get_or offsets u low → high ≡ get_or offsets (u + 1) high → slice_range rises low high ≡ rises_of h u
+range_is h nodes offsets rises tables u lt low high first end =
+    let a = first ∙ tables.counts u low (omega arith) ∙ ap (λ rs. count_below rise_from rs u) tables.all in
+    let b = end ∙ tables.counts (u + 1) high (omega arith) ∙ ap (λ rs. count_below rise_from rs (u + 1)) tables.all in
+    ap (λ rs. slice_range rs low high) tables.all ∙ ap (λ n. slice_range (all_rises h) n high) a ∙ ap (slice_range (all_rises h) (count_below rise_from (all_rises h) u)) b
+
+-- rises begin where entries do
+among_below : (order : List ℕ) (entries : List Entry) (k v : ℕ) → All (λ (e : Entry). e.from < v) entries → All (λ (r : Rise). r.from < v) (rises_among order k entries)
+among_below order [] k v below = All-nil (λ (r : Rise). r.from < v)
+among_below order (e ∷ entries) k v below =
+    by_test (is_rise order e) (among_below order entries (k + 1) v (λ j d lt. below (suc j) d (omega arith)))
+  where
+    first : Rise
+    first = record { from = e.from; place = k }
+
+    by_test : (b : Bool) → All (λ (r : Rise). r.from < v) (rises_among order (k + 1) entries)
+        → All (λ (r : Rise). r.from < v) (cond b (first ∷ rises_among order (k + 1) entries) (rises_among order (k + 1) entries))
+    by_test true more = All-cons (λ (r : Rise). r.from < v) first (rises_among order (k + 1) entries) (below 0 e (omega arith)) more
+    by_test false more = more
+
 -- past all nodes nothing begins
+pub none_of : (h : HierarchyLists) (u nodes : ℕ) → nodes ≤ u → All (AreEndsBelow nodes) h.entries → [] ≡ rises_of h u
+none_of h u nodes past below =
+    let lower = λ (v : ℕ) (from : nodes ≤ v). among_below h.order h.entries 0 v (All-weaker (AreEndsBelow nodes) (λ (e : Entry). e.from < v) (λ e ends. let low = ends.0 in omega arith) h.entries below) in
+    let low = count_all rise_from (all_rises h) u (lower u past) in
+    let high = count_all rise_from (all_rises h) (u + 1) (lower (u + 1) (omega arith)) in
+    let none : count_below rise_from (all_rises h) (u + 1) - count_below rise_from (all_rises h) u ≡ 0 = omega (arith, low, high) in
+    sym (ap (λ n. take n (drop (count_below rise_from (all_rises h) u) (all_rises h))) none)
+
 pub no_rises : (h : HierarchyLists) (u nodes : ℕ) → nodes ≤ u → All (AreEndsBelow nodes) h.entries → AreRisesFrom h u []
 no_rises h u nodes past below = record {
   each = λ k d lt. absurd (omega arith);

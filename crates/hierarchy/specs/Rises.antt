@@ -1,9 +1,10 @@
 -- The entries that lead up from a node, or along the core.
-use Rattle.std.specs.Prelude.{◌≡◌, ℕ, ◌+◌, ◌<◌, ◌≤◌, ◌==◌, ◌||◌, ◌&&◌, Bool, true, List, length, All, Contains, slice_range, slice_index_or}
+use Rattle.std.specs.Prelude.{◌≡◌, ℕ, ◌+◌, ◌<◌, ◌≤◌, ◌==◌, ◌||◌, ◌&&◌, Bool, true, if◌then◌else◌, List, [], ◌∷◌, length, All, Contains, slice_range, slice_index_or}
 use Rattle.std.specs.List.Sorted.{IsNonDecreasingBy}
 use Rattle.hierarchy.specs.declared.entry.Entry.{Entry}
 use Rattle.hierarchy.specs.declared.rises.Rise.{Rise}
 use Rattle.hierarchy.specs.Lists.{HierarchyLists, height_in, is_above}
+use Rattle.hierarchy.specs.Lookups.{count_below, range_of}
 
 abbrev pub is_core : List ℕ → ℕ → Bool
 is_core order v = height_in order v == length order
@@ -17,6 +18,18 @@ is_rise order e = leads_up order e.from e.to
 
 abbrev pub rise_from : Rise → ℕ
 rise_from rise = rise.from
+
+-- the rises among entries whose places are those from k on, in order
+abbrev pub rises_among : List ℕ → ℕ → List Entry → List Rise
+rises_among order k [] = []
+rises_among order k (e ∷ entries) = if is_rise order e then record { from = e.from; place = k } ∷ rises_among order (k + 1) entries else rises_among order (k + 1) entries
+
+abbrev pub all_rises : HierarchyLists → List Rise
+all_rises h = rises_among h.order 0 h.entries
+
+-- those from u: the entries ascend by the node that they leave, so they stand side by side
+abbrev pub rises_of : HierarchyLists → ℕ → List Rise
+rises_of h u = slice_range (all_rises h) (range_of rise_from (all_rises h) u).0 (range_of rise_from (all_rises h) u).1
 
 -- a rise is an entry that leads up or along the core, and begins where it says
 pub record IsRiseOf (order : List ℕ) (entries : List Entry) (rise : Rise) : Type 0 where
@@ -46,4 +59,6 @@ pub record IsRiseRange (h : HierarchyLists) (u : ℕ) (rises : List Rise) (low h
 
 pub record AreRiseTables (h : HierarchyLists) (nodes : ℕ) (offsets : List ℕ) (rises : List Rise) : Type 0 where
   pub one_more : length offsets ≡ nodes + 1
+  pub all : rises ≡ all_rises h
+  pub counts : (v d : ℕ) → v ≤ nodes → slice_index_or offsets v d ≡ count_below rise_from rises v
   pub ranges : (u d : ℕ) → u < nodes → IsRiseRange h u rises (slice_index_or offsets u d) (slice_index_or offsets (u + 1) d)

@@ -3,7 +3,7 @@
 ghost use Rattle.std.specs.Prelude.{◌≡◌, IfOk, MatchOption};
 ghost use Rattle.hierarchy.specs.Lists.{height_in, is_above, is_contracted};
 ghost use Rattle.hierarchy.specs.Rules.{IsHierarchy};
-ghost use Rattle.hierarchy.specs.Rises.{AreRisesFrom};
+ghost use Rattle.hierarchy.specs.Rises.{AreRisesFrom, rises_of};
 ghost use Rattle.hierarchy.specs.Lookups.{IsEntryFor, HasNoEntry, IsWitnessFor, HasNoWitness, AreFrom, AreInto, range_of, from_of};
 
 use crate::entry::{Entry, Witness};
@@ -169,7 +169,8 @@ impl Hierarchy {
 
     /// The entries from `u` that lead to a node above it, or from one core node to another.
     pub fn rises_from(&self, u: u32) -> &[Rise]
-        ensures { AreRisesFrom self.now u result.now }
+        ensures list { result.now ≡ rises_of self.now u }
+        ensures are { AreRisesFrom self.now u result.now }
     {
         if u < self.nodes {
             let first = self.rise_offsets[u as usize] as usize;

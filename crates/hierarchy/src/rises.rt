@@ -4,7 +4,7 @@ ghost use Rattle.std.specs.Prelude.{◌≡◌, ◌<◌, ◌^◌, All, IfOk, leng
 ghost use Rattle.std.specs.List.Sorted.{IsNonDecreasingBy};
 ghost use Rattle.hierarchy.specs.Lookups.{from_of};
 ghost use Rattle.hierarchy.specs.Indexes.{AreEndsBelow, AreHeights};
-ghost use Rattle.hierarchy.specs.Rises.{AreRisesUpTo, is_rise, rise_from};
+ghost use Rattle.hierarchy.specs.Rises.{AreRisesUpTo, is_rise, rise_from, rises_among};
 
 use crate::entry::Entry;
 use crate::offsets::Keyed;
@@ -51,7 +51,8 @@ pub(crate) fn rises(
     requires ends { All (AreEndsBelow nodes) entries.now }
     requires rising { IsNonDecreasingBy from_of entries.now }
     requires short { length entries.now < 2 ^ 63 }
-    ensures { IfOk result (λ rises. AreRisesUpTo order.now entries.now (length entries.now) rises.items) }
+    ensures are { IfOk result (λ rises. AreRisesUpTo order.now entries.now (length entries.now) rises.items) }
+    ensures in_order { IfOk result (λ rises. rises.items ≡ rises_among order.now 0 entries.now) }
 {
     let mut rises = Vec::new(alloc);
     for (place, entry) in entries.iter().enumerate() {

@@ -1,4 +1,4 @@
 pub mod Same
 pub mod RunLemmas
 mod BoardTies
-mod PlaceTies
+pub mod PlaceTies

@@ -75,7 +75,7 @@ module _ (n : NetworkLists) (t : TableLists) (time letters v : ℕ) where
 
   -- ---- the arc that stands, or the rides
 
-  stand_at : (mode : ℕ) → mode_at n.roads v ≡ Some mode → plain_arc n t v (roads + links) ≡ Stand
+  pub stand_at : (mode : ℕ) → mode_at n.roads v ≡ Some mode → plain_arc n t v (roads + links) ≡ Stand
   stand_at mode has =
       let past_roads = le-ltb (roads + links) roads (omega arith) in
       let past_links = le-ltb (roads + links - roads) links (omega arith) in
@@ -116,17 +116,15 @@ module _ (n : NetworkLists) (t : TableLists) (time letters v : ℕ) where
       ap (from (roads + links)) all ∙ stop_ways n t time letters v stop found none
 
   -- all of them
-  pub all_ways : (before first second third : List Way) → first ≡ before ++ from 0 roads → second ≡ first ++ from roads links → third ≡ second ++ from (roads + links) (inner_arcs_at n t v)
-      → third ≡ before ++ ways_of (plain_meaning n t) v time letters
-  all_ways before first second third e f h =
+  pub all_ways : (before first second : List Way) → first ≡ before ++ from 0 roads → second ≡ first ++ from roads (links + inner_arcs_at n t v)
+      → second ≡ before ++ ways_of (plain_meaning n t) v time letters
+  all_ways before first second e f =
       let here : 0 + roads ≡ roads = omega arith in
-      let there : 0 + (roads + links) ≡ roads + links = omega arith in
-      let both : from 0 (roads + links) ≡ from 0 roads ++ from roads links =
-      ways_split (plain_meaning n t) v time letters 0 roads links ∙ ap (λ (i : ℕ). from 0 roads ++ from i links) here in
-      let all : ways_of (plain_meaning n t) v time letters ≡ from 0 (roads + links) ++ from (roads + links) (inner_arcs_at n t v) =
-      ways_split (plain_meaning n t) v time letters 0 (roads + links) (inner_arcs_at n t v) ∙ ap (λ (i : ℕ). from 0 (roads + links) ++ from i (inner_arcs_at n t v)) there in
-      h ∙ ap (λ (ws : List Way). ws ++ from (roads + links) (inner_arcs_at n t v)) (f ∙ ap (λ (ws : List Way). ws ++ from roads links) e ∙ append_assoc before (from 0 roads) (from roads links) ∙ ap (λ (ws : List Way). before ++ ws) (sym both))
-      ∙ append_assoc before (from 0 (roads + links)) (from (roads + links) (inner_arcs_at n t v)) ∙ ap (λ (ws : List Way). before ++ ws) (sym all)
+      let count : roads + links + inner_arcs_at n t v ≡ roads + (links + inner_arcs_at n t v) = omega arith in
+      let all : ways_of (plain_meaning n t) v time letters ≡ from 0 roads ++ from roads (links + inner_arcs_at n t v) =
+      ap (from 0) count ∙ ways_split (plain_meaning n t) v time letters 0 roads (links + inner_arcs_at n t v) ∙ ap (λ (i : ℕ). from 0 roads ++ from i (links + inner_arcs_at n t v)) here in
+      f ∙ ap (λ (ws : List Way). ws ++ from roads (links + inner_arcs_at n t v)) e
+      ∙ append_assoc before (from 0 roads) (from roads (links + inner_arcs_at n t v)) ∙ ap (λ (ws : List Way). before ++ ws) (sym all)
 
 pub nothing_more : (before more : List Way) → more ≡ [] → before ≡ before ++ more
 nothing_more before more none = sym (append-nil before) ∙ ap (λ (ws : List Way). before ++ ws) (sym none)

@@ -294,6 +294,30 @@ impl<'a> Plain<'a> {
         Ok(())
     }
 
+    /// Appends the arcs of `v` but its road arcs that arrive if they are taken at `t`, by a letter of the set or by none,
+    /// in order. They stand behind the road arcs. Fails where memory runs out.
+    pub fn push_past_roads(
+        &self,
+        v: u32,
+        t: Time,
+        letters: u32,
+        ways: &mut Vec<Way>,
+    ) -> Result<(), AllocError>
+        requires node { v < length (nodes_of self.now.network.now) }
+        requires time { t < 2 ^ 127 }
+        ensures { OnOk result (ways.new.items ≡ ways.old.items
+            ++ ways_from (plain_meaning self.now.network.now self.now.timetable.now) v t letters (count_from self.now.network.now.arcs v)
+            (count_from self.now.network.now.links v + inner_arcs_at self.now.network.now self.now.timetable.now v)) }
+    {
+        let (first_arc, past_arc) = self.network.arcs_from(v);
+        let (first_link, past_link) = self.network.links_from(v);
+        let arcs = (past_arc - first_arc) as u64;
+        let links = (past_link - first_link) as u64;
+        self.push_links(v, arcs, t, letters, ways)?;
+        self.push_inner(v, arcs + links, t, letters, ways)?;
+        Ok(())
+    }
+
     /// Appends the links out of `v`, the first of which is the arc at this place.
     fn push_links(
         &self,
@@ -412,13 +436,8 @@ impl Graph for Plain<'_> {
     }
 
     fn ways(&self, v: u32, t: Time, letters: u32, ways: &mut Vec<Way>) -> Result<(), AllocError> {
-        let (first_arc, past_arc) = self.network.arcs_from(v);
-        let (first_link, past_link) = self.network.links_from(v);
-        let arcs = (past_arc - first_arc) as u64;
-        let links = (past_link - first_link) as u64;
         self.push_roads(v, t, letters, ways)?;
-        self.push_links(v, arcs, t, letters, ways)?;
-        self.push_inner(v, arcs + links, t, letters, ways)?;
+        self.push_past_roads(v, t, letters, ways)?;
         Ok(())
     }
 

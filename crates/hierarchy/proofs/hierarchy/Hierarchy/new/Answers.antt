@@ -30,5 +30,6 @@ invariant_of-result c =
       from = rw (← c.deref-4.ensures.value) c.in_ok-from_offsets.ensures;
       into = rw (c.in_ok-into.ensures, c.deref-7.ensures.value) tables;
       rises = are_rise_tables lists nodes c.in_ok-rise_offsets.rise_offsets.items c.in_ok-rises.rises.items
-          (rw (← c.deref-9.ensures.value, ← c.deref-10.ensures.value) c.in_ok-rises.ensures) (rw (← c.deref-11.ensures.value) c.in_ok-rise_offsets.ensures);
+          (rw (← c.deref-9.ensures.value, ← c.deref-10.ensures.value) c.in_ok-rises.ensures.are)
+          (rw (← c.deref-9.ensures.value, ← c.deref-10.ensures.value) c.in_ok-rises.ensures.in_order) (rw (← c.deref-11.ensures.value) c.in_ok-rise_offsets.ensures);
     }
