@@ -1,76 +1,96 @@
--- What is built is what a map and a feed give, or what is answered is its first fault.
-use Rattle.std.proofs.Common.{◌≡◌, ℕ, ◌<◌, List, length, Option, None, Some, refl, sym, ap, subst, ◌∙◌}
-use Rattle.std.specs.Prelude.{IfOk, IfErr, OnOk, MatchOption, Ok, Err, Result, nat_lt}
-use Rattle.std.specs.Option.{option_map}
-use Rattle.std.proofs.lemmas.Bool.{cond-true, lt-ltb}
+-- What a map and a feed give has a fault, or is a network that keeps all rules.
+use Rattle.std.proofs.Common.{◌≡◌, List, ◌++◌, length, map, None, Some, refl, sym, ap, subst, ◌∙◌}
 use Rattle.plan_base.specs.declared.limits.Caps.{Caps}
-use Rattle.plan_base.specs.declared.limits.Kind.{Kind}
-use Rattle.plan_base.specs.declared.limits.Kind.TheVariants as kinds
+use Rattle.service_days.specs.Days.{AreDays}
 use Rattle.service_days.specs.DaysMeaning.{DaysMeaning}
-use Rattle.opl_reader.specs.ObjectLists.{ObjectLists}
+use Rattle.opl_reader.specs.ObjectLists.{AreObjects, ObjectLists}
 use Rattle.gtfs_tables.specs.FeedLists.{FeedLists}
+use Rattle.gtfs_tables.specs.Sound.{IsFeed}
+use Rattle.gtfs_tables.specs.declared.calls.CallRow.{CallRow}
+use Rattle.gtfs_tables.specs.declared.frequencies.FrequencyRow.{FrequencyRow}
 use Rattle.mode_network.specs.NetworkLists.{NetworkLists}
-use Rattle.mode_network.specs.Rules.{first_fault}
-use Rattle.region_build.specs.Answers.{IsCompiled, IsFaultOf, HasFault, IsOr, fault_by, or_else, past_trips, too_many}
-use Rattle.region_build.specs.Compiled.{IsDraft, lists_kind, trips_kind}
-use Rattle.region_build.specs.Copies.{expanded, first_back}
-use Rattle.region_build.specs.Sources.{SourceLists}
+use Rattle.mode_network.specs.Rules.{AreParts, first_fault}
+use Rattle.mode_network.specs.declared.nodes.Arc.{Arc}
+use Rattle.mode_network.specs.declared.nodes.Node.{Node}
+use Rattle.region_build.specs.Answers.{HasFault, IsCompiled, IsFaultOf, draft_fault, fault_by}
+use Rattle.region_build.specs.Compiled.{AreLists, IsDraft}
+use Rattle.region_build.specs.Copies.{expanded}
+use Rattle.region_build.specs.Sources.{AreCallsInOrder, AreFrequenciesInOrder, AreSources, AreSourcesFrom, SourceLists}
 use Rattle.region_build.specs.StopNames.{stop_number}
-use Rattle.region_build.specs.Trips.{AreExpanded}
-use Rattle.region_build.specs.declared.copies.Expansion.{Expansion}
+use Rattle.region_build.specs.Tallies.{IsTally, counts_of}
 use Rattle.region_build.specs.declared.faults.BuildFault.{BuildFault}
-use Rattle.region_build.specs.declared.faults.BuildFault.TheVariants.{TimeGoesBack, TooMany, Network, OutOfMemory}
+use Rattle.region_build.specs.declared.faults.BuildFault.TheVariants.{TimeGoesBack, TooMany, OutOfMemory}
 use Rattle.region_build.specs.declared.stops.StopEntry.{StopEntry}
+use Rattle.region_build.specs.declared.tallies.Counts.{Counts}
+use Rattle.region_build.specs.declared.tallies.Tally.{Tally}
+use Rattle.region_build.proofs.KeepLaws.{draft_keeps}
+use Rattle.region_build.proofs.PartLaws.{lists_are_parts}
+use Rattle.region_build.proofs.TallyLaws.{calls_counted, trips_counted}
 
--- the trips that were found, or more than the limit
-module _ {feed : FeedLists} {days : DaysMeaning} {entries : List StopEntry} {most : ℕ} (all : Option Expansion) (e : AreExpanded feed days entries most all) where
-  pub trips_found : (x : Expansion) → all ≡ Some x → (x.trips.items ≡ expanded (stop_number entries) e.sources) × (x.back ≡ first_back (stop_number entries) e.sources)
-  trips_found x is = subst (λ (all : Option Expansion). MatchOption all (most < length (expanded (stop_number entries) e.sources))
-      (λ all. (all.trips.items ≡ expanded (stop_number entries) e.sources) × (all.back ≡ first_back (stop_number entries) e.sources))) is e.are
+-- what is said of trips is read from rows that were put in order
+pub sources_said : (feed : FeedLists) (days : DaysMeaning) (given calls calls_now : List CallRow) (given_rows rows rows_now : List FrequencyRow) (sources : List SourceLists)
+    → given ≡ feed.calls → AreCallsInOrder given calls → calls_now ≡ calls → given_rows ≡ feed.frequencies → AreFrequenciesInOrder given_rows rows → rows_now ≡ rows
+    → AreSourcesFrom feed days calls_now rows_now 0 feed.trips sources → AreSources feed days sources
+sources_said feed days given calls calls_now given_rows rows rows_now sources of_calls calls_are calls_same of_rows rows_are rows_same each = record {
+  calls = calls_now;
+  calls_are = subst (AreCallsInOrder feed.calls) (sym calls_same) (subst (λ (given : List CallRow). AreCallsInOrder given calls) of_calls calls_are);
+  frequencies = rows_now;
+  frequencies_are = subst (AreFrequenciesInOrder feed.frequencies) (sym rows_same) (subst (λ (given : List FrequencyRow). AreFrequenciesInOrder given rows) of_rows rows_are);
+  each = each;
+}
 
-  pub past_the_limit : all ≡ None → most < length (expanded (stop_number entries) e.sources)
-  past_the_limit is = subst (λ (all : Option Expansion). MatchOption all (most < length (expanded (stop_number entries) e.sources))
-      (λ all. (all.trips.items ≡ expanded (stop_number entries) e.sources) × (all.back ≡ first_back (stop_number entries) e.sources))) is e.are
+module _ (caps : Caps) {objects : ObjectLists} {feed : FeedLists} {days : DaysMeaning} {entries : List StopEntry} {sources : List SourceLists} {roads stops switches : List Node} {arcs links : List Arc} {tally : Tally}
+    (lists : AreLists objects feed entries roads stops switches arcs links) (said : AreSources feed days sources) (is : IsTally sources tally) where
+  abbrev drafted : NetworkLists
+  drafted = record {
+    days = days;
+    roads = roads;
+    stop_names = map (λ (entry : StopEntry). entry.name) entries;
+    stops = stops;
+    switches = switches;
+    arcs = arcs;
+    links = links;
+    trips = expanded (stop_number entries) sources;
+  }
 
-module _ (caps : Caps) (objects : ObjectLists) (feed : FeedLists) (days : DaysMeaning) (entries : List StopEntry) (sources : List SourceLists) (n : NetworkLists) (draft : IsDraft objects feed days entries sources n) where
-  module _ (back : Option ℕ) (same : back ≡ first_back (stop_number entries) sources) where
-    pub answer_compiled : (r : Result NetworkLists BuildFault) → IfOk r (λ built. built ≡ n) → OnOk r (fault_by caps n back ≡ None) → IfOk r (IsCompiled caps objects feed days)
-    answer_compiled (Ok built) is faultless =
-        subst (IsCompiled caps objects feed days) (sym is) (record { entries = entries; sources = sources; draft = draft; faultless = ap (fault_by caps n) (sym same) ∙ faultless })
-    answer_compiled (Err fault) is faultless = tt
+  draft : IsDraft objects feed days entries sources drafted
+  draft = record { days_are = refl; lists = lists; names = refl; said = said; trips = refl }
 
-    found : (fault : BuildFault) → fault_by caps n back ≡ Some fault → HasFault caps objects feed days fault
-    found fault h = record { lists = n; entries = entries; sources = sources; draft = draft; first = ap (fault_by caps n) (sym same) ∙ h }
+  abbrev counts : Counts
+  counts = record {
+    nodes = length (roads ++ stops ++ switches);
+    stops = length stops;
+    arcs = length arcs;
+    links = length links;
+    trips = tally.trips;
+    calls = tally.calls;
+  }
 
-    caused : (fault : BuildFault) → IsOr fault (fault_by caps n back) → IsFaultOf caps objects feed days fault
-    caused OutOfMemory h = tt
-    caused (TimeGoesBack row) h = found (TimeGoesBack row) h
-    caused (TooMany kind) h = found (TooMany kind) h
-    caused (Network fault) h = found (Network fault) h
+  counted : counts ≡ counts_of drafted
+  counted =
+      ap {B = Counts} (λ trips. record { nodes = length (roads ++ stops ++ switches); stops = length stops; arcs = length arcs; links = length links; trips = trips; calls = tally.calls }) (is.trips ∙ sym (trips_counted (stop_number entries) sources))
+      ∙ ap {B = Counts} (λ calls. record { nodes = length (roads ++ stops ++ switches); stops = length stops; arcs = length arcs; links = length links; trips = length (expanded (stop_number entries) sources); calls = calls })
+      (is.calls ∙ sym (calls_counted (stop_number entries) sources))
 
-    pub answer_fault : (r : Result NetworkLists BuildFault) → IfErr r (λ fault. IsOr fault (fault_by caps n back)) → IfErr r (IsFaultOf caps objects feed days)
-    answer_fault (Ok built) h = tt
-    answer_fault (Err fault) h = caused fault h
+  same : draft_fault caps sources drafted ≡ fault_by caps counts tally.back
+  same = ap (fault_by caps (counts_of drafted)) (sym is.back) ∙ ap (λ counts. fault_by caps counts tally.back) (sym counted)
 
-  -- more trips than the limit, where the other lists are those of n
-  pub past_fault : caps.trips < length n.trips → IsFaultOf caps objects feed days (past_trips caps n)
-  past_fault more = by_kind (lists_kind caps n) refl
-    where
-      by_kind : (kind : Option Kind) → lists_kind caps n ≡ kind → IsFaultOf caps objects feed days (too_many kind)
-      by_kind (Some kind) is = record {
-        lists = n;
-        entries = entries;
-        sources = sources;
-        draft = draft;
-        first = ap (λ kind. or_else (option_map TooMany kind) (or_else (option_map TooMany (trips_kind caps n)) (or_else (option_map TimeGoesBack (first_back (stop_number entries) sources)) (option_map Network (first_fault caps n))))) is;
-      }
-      by_kind None is =
-          let trips : trips_kind caps n ≡ Some kinds.Trips = cond-true (nat_lt caps.trips (length n.trips)) (Some kinds.Trips) _ (lt-ltb caps.trips (length n.trips) more) in
-          record {
-            lists = n;
-            entries = entries;
-            sources = sources;
-            draft = draft;
-            first = ap (λ kind. or_else (option_map TooMany kind) (or_else (option_map TooMany (trips_kind caps n)) (or_else (option_map TimeGoesBack (first_back (stop_number entries) sources)) (option_map Network (first_fault caps n))))) is
-                ∙ ap (λ kind. or_else (option_map TooMany kind) (or_else (option_map TimeGoesBack (first_back (stop_number entries) sources)) (option_map Network (first_fault caps n)))) trips;
-          }
+  found : (fault : BuildFault) → fault_by caps counts tally.back ≡ Some fault → HasFault caps objects feed days fault
+  found fault h = record { lists = drafted; entries = entries; sources = sources; draft = draft; first = same ∙ h }
+
+  pub has_fault : (fault : BuildFault) → fault_by caps counts tally.back ≡ Some fault → IsFaultOf caps objects feed days fault
+  has_fault OutOfMemory h = tt
+  has_fault (TimeGoesBack row) h = found (TimeGoesBack row) h
+  has_fault (TooMany kind) h = found (TooMany kind) h
+
+  -- parts that are these
+  module _ (none : fault_by caps counts tally.back ≡ None) (parts : NetworkLists) (are : parts ≡ drafted) where
+    pub are_compiled : IsCompiled caps objects feed days parts
+    are_compiled = subst (IsCompiled caps objects feed days) (sym are) (record { entries = entries; sources = sources; draft = draft; faultless = same ∙ none })
+
+    module _ (sound : AreObjects objects) where
+      pub are_parts : AreParts parts
+      are_parts = subst AreParts (sym are) (lists_are_parts objects entries drafted sound lists refl)
+
+      pub are_faultless : IsFeed feed → AreDays days → first_fault caps parts ≡ None
+      are_faultless right days_sound = subst (λ parts. first_fault caps parts ≡ None) (sym are) (draft_keeps caps objects feed days entries sources drafted sound right days_sound draft (same ∙ none))

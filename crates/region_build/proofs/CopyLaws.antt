@@ -1,8 +1,7 @@
--- The copies of trips, one after the other.
-use Rattle.std.proofs.Common.{◌≡◌, ℕ, zero, suc, ◌+◌, ◌-◌, ◌<◌, List, [], ◌∷◌, ◌++◌, length, true, nat_lt, refl, sym, ap, ◌∙◌, arith, append_assoc, length-append}
+-- The departures of a headway, one after the other.
+use Rattle.std.proofs.Common.{◌≡◌, ℕ, zero, suc, ◌+◌, ◌-◌, ◌<◌, List, [], ◌∷◌, ◌++◌, true, nat_lt, refl, sym, ap, ◌∙◌, arith, append_assoc}
 use Rattle.std.proofs.lemmas.Bool.Decides.{nat_tests}
-use Rattle.timetable_arcs.specs.Trips.{TripLists}
-use Rattle.region_build.specs.Copies.{departing, has_copies}
+use Rattle.region_build.specs.Copies.{departing}
 
 -- one time more
 departing-more : (most t end headway : ℕ) → 0 < most → t < end → departing most t end headway ≡ t ∷ departing (most - 1) (t + headway) end headway
@@ -16,8 +15,3 @@ pub departs : (old new all : List ℕ) (most t end headway : ℕ) → 0 < most �
 departs old new all most t end headway some before pushed so_far =
     ap (λ front. front ++ departing (most - 1) (t + headway) end headway) pushed ∙ append_assoc old (t ∷ []) (departing (most - 1) (t + headway) end headway)
     ∙ ap (λ times. old ++ times) (sym (departing-more most t end headway some before)) ∙ so_far
-
--- there are more trips than before where there are copies
-pub grows : (old new copies : List TripLists) → new ≡ old ++ copies → nat_lt (length old) (length new) ≡ has_copies copies
-grows old new [] e = let same = ap length e ∙ length-append old [] in grind (arith, nat_tests, same)
-grows old new (copy ∷ copies) e = let same = ap length e ∙ length-append old (copy ∷ copies) in grind (arith, nat_tests, same)

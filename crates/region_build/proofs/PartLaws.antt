@@ -33,7 +33,7 @@ use Rattle.region_build.specs.declared.links.Join.{Join}
 use Rattle.region_build.specs.declared.stops.StopEntry.{StopEntry}
 
 -- what holds of all that each element gives, where the elements are such
-flat_map-if : {X Y : Type 0} (P : Y → Type 0) (Q : X → Type 0) (f : X → List Y) → ((x : X) → Q x → All P (f x)) → (xs : List X) → All Q xs → All P (flat_map f xs)
+pub flat_map-if : {X Y : Type 0} (P : Y → Type 0) (Q : X → Type 0) (f : X → List Y) → ((x : X) → Q x → All P (f x)) → (xs : List X) → All Q xs → All P (flat_map f xs)
 flat_map-if P Q f each [] all = All-nil P
 flat_map-if P Q f each (x ∷ xs) all = All-append P (f x) (flat_map f xs) (each x (All-head Q x xs all)) (flat_map-if P Q f each xs (All-tail Q x xs all))
 
@@ -50,7 +50,7 @@ placed_id (node ∷ nodes) id ids e = by_test (int_eq node.id id) refl (placed_i
     by_test true same others e = subst IsId ((Decides-int_eq node.id id).0 same) ids.0
     by_test false same others e = others e
 
-once_keeps : (P : End → Type 0) (seen ends : List End) → All P seen → All P ends → All P (once_behind seen ends)
+pub once_keeps : (P : End → Type 0) (seen ends : List End) → All P seen → All P ends → All P (once_behind seen ends)
 once_keeps P seen [] here there = here
 once_keeps P seen (end ∷ ends) here there = once_keeps P (if list_any (is_end end) seen then seen else seen ++ end ∷ []) ends (by_test (list_any (is_end end) seen)) (All-tail P end ends there)
   where
@@ -147,7 +147,7 @@ stop_nodes_keep j (entry ∷ entries) (suc k) d below =
     let same : j + 1 + k ≡ j + suc k = omega arith in
     subst (λ n. IsStop n (get_or (stop_nodes (j + 1) entries) k d).key) same rest
 
-stop_nodes_long : (j : ℕ) (entries : List StopEntry) → length (stop_nodes j entries) ≡ length entries
+pub stop_nodes_long : (j : ℕ) (entries : List StopEntry) → length (stop_nodes j entries) ≡ length entries
 stop_nodes_long j [] = refl
 stop_nodes_long j (entry ∷ entries) = ap suc (stop_nodes_long (j + 1) entries)
 

@@ -1,5 +1,5 @@
 -- The region of a map and a feed.
-use Rattle.std.specs.Prelude.{◌≡◌, List, map, length, Option, None, Some, nat_lt, if◌then◌else◌}
+use Rattle.std.specs.Prelude.{◌≡◌, List, map, Option, None, Some, nat_lt, if◌then◌else◌}
 use Rattle.plan_base.specs.declared.limits.Caps.{Caps}
 use Rattle.plan_base.specs.declared.limits.Kind.{Kind}
 use Rattle.plan_base.specs.declared.limits.Kind.TheVariants as kind
@@ -10,8 +10,7 @@ use Rattle.road_profile.specs.Arcs.{AreRoadArcs}
 use Rattle.road_profile.specs.Legs.{place_at}
 use Rattle.road_profile.specs.declared.rows.RoadRow.{RoadRow}
 use Rattle.gtfs_tables.specs.FeedLists.{FeedLists}
-use Rattle.timetable_arcs.specs.TripRules.{calls_of}
-use Rattle.mode_network.specs.NetworkLists.{NetworkLists, nodes_of}
+use Rattle.mode_network.specs.NetworkLists.{NetworkLists}
 use Rattle.mode_network.specs.declared.nodes.Arc.{Arc}
 use Rattle.mode_network.specs.declared.nodes.Node.{Node}
 use Rattle.region_build.specs.Copies.{expanded}
@@ -22,6 +21,7 @@ use Rattle.region_build.specs.Sources.{AreSources, SourceLists}
 use Rattle.region_build.specs.StopNames.{AreEntries, stop_nodes, stop_number}
 use Rattle.region_build.specs.Switches.{AreSwitches, switch_node}
 use Rattle.region_build.specs.declared.stops.StopEntry.{StopEntry}
+use Rattle.region_build.specs.declared.tallies.Counts.{Counts}
 
 -- the ends of a map's road arcs, their nodes in the order of ids and modes, and the road arcs between them
 pub record AreRoads (objects : ObjectLists) (ends : List End) (nodes : List Node) (arcs : List Arc) : Type 0 where
@@ -53,16 +53,12 @@ pub record IsDraft (objects : ObjectLists) (feed : FeedLists) (days : DaysMeanin
   pub trips : n.trips ≡ expanded (stop_number entries) sources
 
 -- what there is too much of, tried in this order
-abbrev pub lists_kind : Caps → NetworkLists → Option Kind
-lists_kind caps n =
-    if nat_lt caps.nodes (length (nodes_of n)) then Some kind.Nodes
-    else (if nat_lt caps.stops (length n.stops) then Some kind.Stops
-    else (if nat_lt caps.arcs (length n.arcs) then Some kind.Arcs
-    else (if nat_lt caps.links (length n.links) then Some kind.Links
-    else None)))
-
-abbrev pub trips_kind : Caps → NetworkLists → Option Kind
-trips_kind caps n =
-    if nat_lt caps.trips (length n.trips) then Some kind.Trips
-    else (if nat_lt caps.calls (calls_of n.trips) then Some kind.Calls
-    else None)
+abbrev pub kind_over : Caps → Counts → Option Kind
+kind_over caps counts =
+    if nat_lt caps.nodes counts.nodes then Some kind.Nodes
+    else (if nat_lt caps.stops counts.stops then Some kind.Stops
+    else (if nat_lt caps.arcs counts.arcs then Some kind.Arcs
+    else (if nat_lt caps.links counts.links then Some kind.Links
+    else (if nat_lt caps.trips counts.trips then Some kind.Trips
+    else (if nat_lt caps.calls counts.calls then Some kind.Calls
+    else None)))))

@@ -1,6 +1,7 @@
 -- The trips of a region: the trips of a feed, each as often as its headways have it leave.
-use Rattle.std.specs.Prelude.{ℕ, zero, suc, ◌+◌, ◌-◌, List, [], ◌∷◌, length, map, Bool, true, false, not, ◌&&◌, nat_le, nat_lt, Option, None, Some, unwrap_or, if◌then◌else◌}
+use Rattle.std.specs.Prelude.{ℕ, zero, suc, ◌+◌, ◌-◌, List, [], ◌∷◌, length, map, filter, Bool, true, not, ◌&&◌, nat_le, nat_lt, Option, None, Some, unwrap_or, if◌then◌else◌}
 use Rattle.std.specs.List.{flat_map, list_all}
+use Rattle.std.specs.Option.{option_or}
 use Rattle.plain_texts.specs.Escape.{escaped}
 use Rattle.gtfs_tables.specs.declared.calls.CallRow.{CallRow}
 use Rattle.gtfs_tables.specs.declared.frequencies.FrequencyRow.{FrequencyRow}
@@ -53,17 +54,20 @@ copy_at number source leave = record {
   calls = map (call_at number (first_departure source.calls) leave) source.calls;
 }
 
--- A copy with a later time is left out.
-unfoldable pub early_copy : (ℕ → Option ℕ) → SourceLists → ℕ → List TripLists
-early_copy number source leave =
-    if list_all (is_early (first_departure source.calls) leave) source.calls then copy_at number source leave ∷ [] else []
+-- a copy is kept whose times are all below 168 hours
+abbrev pub is_kept : SourceLists → ℕ → Bool
+is_kept source leave = list_all (is_early (first_departure source.calls) leave) source.calls
 
 -- a trip runs that has two calls or more, and some day
 abbrev pub runs : SourceLists → Bool
 runs source = nat_le 2 (length source.calls) && nat_lt 0 source.days.0
 
+-- the times at which a trip that runs leaves on a copy that is kept
+unfoldable pub leaves_of : SourceLists → List ℕ
+leaves_of source = if runs source then filter (is_kept source) (departures_of source source.frequencies) else []
+
 unfoldable pub copies_of : (ℕ → Option ℕ) → SourceLists → List TripLists
-copies_of number source = if runs source then flat_map (early_copy number source) (departures_of source source.frequencies) else []
+copies_of number source = map (copy_at number source) (leaves_of source)
 
 -- the trips of a region
 unfoldable pub expanded : (ℕ → Option ℕ) → List SourceLists → List TripLists
@@ -75,19 +79,11 @@ abbrev pub goes_on : ℕ → List CallRow → Bool
 goes_on t [] = true
 goes_on t (call ∷ calls) = nat_le t call.arr && nat_le call.arr call.dep && goes_on call.dep calls
 
--- the row in trips.txt of the first trip that runs and whose times go back
-abbrev pub has_copies : List TripLists → Bool
-has_copies [] = false
-has_copies (copy ∷ copies) = true
+-- the row in trips.txt of a trip that has a copy and whose times go back
+abbrev pub back_of : ℕ → SourceLists → Option ℕ
+back_of copies source = if nat_lt 0 copies && not (goes_on 0 source.calls) then Some source.row else None
 
-abbrev pub back_of : Bool → SourceLists → Option ℕ
-back_of copies source = if copies && not (goes_on 0 source.calls) then Some source.row else None
-
--- this row, or else the other
-abbrev pub or_row : Option ℕ → Option ℕ → Option ℕ
-or_row (Some row) other = Some row
-or_row None other = other
-
-abbrev pub first_back : (ℕ → Option ℕ) → List SourceLists → Option ℕ
-first_back number [] = None
-first_back number (source ∷ sources) = or_row (back_of (has_copies (copies_of number source)) source) (first_back number sources)
+-- that of the first such trip
+abbrev pub first_back : List SourceLists → Option ℕ
+first_back [] = None
+first_back (source ∷ sources) = option_or (back_of (length (leaves_of source)) source) (first_back sources)

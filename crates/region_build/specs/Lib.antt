@@ -6,9 +6,12 @@ pub mod Switches
 pub mod Links
 pub mod Layers
 pub mod Services
+pub mod ByService
 pub mod Groups
 pub mod Sources
 pub mod Copies
+pub mod Leaving
+pub mod Left
+pub mod Tallies
 pub mod Compiled
 pub mod Answers
-pub mod Trips

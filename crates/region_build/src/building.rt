@@ -1,26 +1,27 @@
 //! The build of a region.
 
-ghost use Rattle.std.specs.Prelude.{◌≡◌, ◌<◌, ◌^◌, length, None, nat_lt, IfErr, IfOk, OnOk};
-ghost use Rattle.timetable_arcs.specs.TripRules.{calls_of};
+ghost use Rattle.std.specs.Prelude.{◌≡◌, ◌<◌, ◌^◌, length, None, IfErr, IfOk, OnOk};
 ghost use Rattle.opl_reader.specs.ObjectLists.{AreObjects};
 ghost use Rattle.gtfs_tables.specs.Sound.{IsFeed};
-ghost use Rattle.mode_network.specs.Rules.{AreParts};
-ghost use Rattle.region_build.specs.Compiled.{AreLists, AreRoads, lists_kind, trips_kind};
-ghost use Rattle.region_build.specs.Answers.{IsCompiled, IsFaultOf, IsOr, fault_by, past_trips};
-ghost use Rattle.region_build.specs.Trips.{AreExpanded};
+ghost use Rattle.mode_network.specs.Rules.{AreParts, first_fault};
+ghost use Rattle.region_build.specs.Answers.{IsCompiled, IsFaultOf, fault_by};
+ghost use Rattle.region_build.specs.Compiled.{AreLists, AreRoads};
+ghost use Rattle.region_build.specs.Left.{AreLeftOut};
 
-use crate::copies::{Expansion, LeftOut, expanded};
+use crate::copies::expanded;
 use crate::ends::Ends;
 use crate::faults::BuildFault;
+use crate::left::LeftOut;
 use crate::links::links_of;
 use crate::roads::{road_arcs_between, road_nodes};
 use crate::sources::{calls_in_order, frequencies_in_order, sources_of};
 use crate::stops::{StopEntry, entries_of, names_of, numbers_of, stop_nodes};
 use crate::switches::{switch_nodes, switches_of};
+use crate::tallies::{Counts, Tally, kind_over, tally_of};
 use gtfs_tables::Feed;
 use mode_network::{Arc, NetFault, Network, Node, Parts};
 use opl_reader::Objects;
-use plan_base::{Caps, Kind};
+use plan_base::Caps;
 use road_profile::{places_of, road_arcs};
 use service_days::Days;
 use std::alloc::{AllocError, Global};
@@ -98,107 +99,93 @@ fn lists_of(alloc: Global, objects: &Objects, feed: &Feed) -> Result<Lists, Allo
     })
 }
 
-fn trips_of(
-    alloc: Global,
-    feed: &Feed,
-    days: &Days,
-    entries: &[StopEntry],
-    most: u64,
-) -> Result<Option<Expansion>, AllocError>
-    requires feed { IsFeed feed.now }
-    requires few { length entries.now < 2 ^ 32 }
-    ensures { IfOk result (AreExpanded feed.now days.now entries.now most) }
-{
-    let numbers = numbers_of(alloc, entries)?;
-    has_numbers(feed.trips.len())?;
-    let calls = calls_in_order(alloc, &feed.calls)?;
-    let frequencies = frequencies_in_order(alloc, &feed.frequencies)?;
-    let sources = sources_of(alloc, feed, days, &calls, &frequencies)?;
-    expanded(alloc, most, &numbers, &sources)
-}
+impl Lists {
+    ghost use Rattle.std.specs.Prelude.{◌≡◌, ◌++◌, length, map, IfOk};
 
-fn have_more_calls(trips: &[Trip], most: u64) -> bool
-    ensures { result ≡ nat_lt most (calls_of trips.now) }
-{
-    let mut left = most;
-    let mut rest = trips;
-    while let [trip, after @ ..] = rest {
-        let calls = trip.calls.len() as u64;
-        if left < calls {
-            return true;
+    /// How much there is of everything.
+    fn counts(&self, tally: &Tally) -> Counts
+        ensures { result ≡ record {
+          nodes = length (self.now.roads.items ++ self.now.stops.items ++ self.now.switches.items);
+          stops = length self.now.stops.items;
+          arcs = length self.now.arcs.items;
+          links = length self.now.links.items;
+          trips = tally.now.trips;
+          calls = tally.now.calls;
+        } }
+    {
+        Counts {
+            nodes: self.roads.len() as u128
+                + self.stops.len() as u128
+                + self.switches.len() as u128,
+            stops: self.stops.len() as u64,
+            arcs: self.arcs.len() as u64,
+            links: self.links.len() as u64,
+            trips: tally.trips,
+            calls: tally.calls,
         }
-        left -= calls;
-        rest = after;
     }
-    false
+
+    /// The parts of a network with these days and trips.
+    fn into_parts(self, alloc: Global, days: Days, trips: Vec<Trip>) -> Result<Parts, AllocError>
+        ensures { IfOk result (λ parts. parts ≡ record {
+          days = days;
+          roads = self.roads.items;
+          stop_names = map (λ entry. entry.name) self.entries.items;
+          stops = self.stops.items;
+          switches = self.switches.items;
+          arcs = self.arcs.items;
+          links = self.links.items;
+          trips = trips.items;
+        }) }
+    {
+        let Lists {
+            roads,
+            entries,
+            stops,
+            switches,
+            arcs,
+            links,
+        } = self;
+        let stop_names = names_of(alloc, entries)?;
+        Ok(Parts {
+            days,
+            roads,
+            stop_names,
+            stops,
+            switches,
+            arcs,
+            links,
+            trips,
+        })
+    }
 }
 
-fn lists_kind(caps: &Caps, parts: &Parts) -> Option<Kind>
-    ensures { result ≡ lists_kind caps.now parts.now }
+/// The first fault of what has so much of everything, and in which the times of the trip in this row go back, or none do.
+fn fault_by(caps: &Caps, counts: &Counts, back: Option<u64>) -> Option<BuildFault>
+    ensures { result ≡ fault_by caps.now counts.now back }
 {
-    let nodes = parts.roads.len() as u128
-        + parts.stops.len() as u128
-        + parts.switches.len() as u128;
-    if nodes > u128::from(caps.nodes) {
-        Some(Kind::Nodes)
-    } else if parts.stops.len() as u64 > caps.stops {
-        Some(Kind::Stops)
-    } else if parts.arcs.len() as u64 > caps.arcs {
-        Some(Kind::Arcs)
-    } else if parts.links.len() as u64 > caps.links {
-        Some(Kind::Links)
-    } else {
-        None
+    if let Some(kind) = kind_over(caps, counts) {
+        return Some(BuildFault::TooMany { kind });
+    }
+    match back {
+        Some(row) => Some(BuildFault::TimeGoesBack { row }),
+        None => None,
     }
 }
 
-fn trips_kind(caps: &Caps, parts: &Parts) -> Option<Kind>
-    ensures { result ≡ trips_kind caps.now parts.now }
+/// The network of parts that break no rule.
+fn network_of(alloc: Global, caps: &Caps, parts: Parts) -> Result<Network, AllocError>
+    requires parts { AreParts parts }
+    requires faultless { first_fault caps.now parts ≡ None }
+    ensures { IfOk result (λ network. network ≡ parts) }
 {
-    if parts.trips.len() as u64 > caps.trips {
-        Some(Kind::Trips)
-    } else if have_more_calls(&parts.trips, caps.calls) {
-        Some(Kind::Calls)
-    } else {
-        None
-    }
-}
-
-/// The network of these parts, in which the times of the trip in this row go back, or none do.
-fn network_of(
-    alloc: Global,
-    caps: &Caps,
-    parts: Parts,
-    back: Option<u64>,
-) -> Result<Network, BuildFault>
-    requires { AreParts parts }
-    ensures built { IfOk result (λ network. network ≡ parts) }
-    ensures faultless { OnOk result (fault_by caps.now parts back ≡ None) }
-    ensures fault { IfErr result (λ fault. IsOr fault (fault_by caps.now parts back)) }
-{
-    if let Some(kind) = lists_kind(caps, &parts) {
-        return Err(BuildFault::TooMany { kind });
-    }
-    if let Some(kind) = trips_kind(caps, &parts) {
-        return Err(BuildFault::TooMany { kind });
-    }
-    if let Some(row) = back {
-        return Err(BuildFault::TimeGoesBack { row });
-    }
     match Network::build(alloc, parts, caps) {
         Ok(network) => Ok(network),
-        Err(NetFault::OutOfMemory) => Err(BuildFault::OutOfMemory),
-        Err(fault) => Err(BuildFault::Network(fault)),
-    }
-}
-
-/// The fault of parts that have more trips than the limit allows, and whose other lists are these.
-fn past_trips(caps: &Caps, parts: &Parts) -> BuildFault
-    ensures { result ≡ past_trips caps.now parts.now }
-{
-    match lists_kind(caps, parts) {
-        Some(kind) => BuildFault::TooMany { kind },
-        None => BuildFault::TooMany { kind: Kind::Trips },
+        Err(NetFault::OutOfMemory) => Err(AllocError),
+        Err(NetFault::OutOfOrder { .. }) => unreachable!(),
+        Err(NetFault::BadEnd { .. }) => unreachable!(),
+        Err(NetFault::Table(_)) => unreachable!(),
+        Err(NetFault::TooMany { .. }) => unreachable!(),
     }
 }
 
@@ -228,40 +215,25 @@ pub fn build(
     requires objects { AreObjects objects.now }
     requires feed { IsFeed feed.now }
     ensures compiled { IfOk result (λ region. IsCompiled caps.now objects.now feed.now days region.network) }
+    ensures left_out { IfOk result (λ region. AreLeftOut feed.now days region.left_out) }
     ensures fault { IfErr result (IsFaultOf caps.now objects.now feed.now days) }
 {
+    days.facts();
     let lists = lists_of(alloc, objects, feed)?;
-    let expansion = trips_of(alloc, feed, &days, &lists.entries, caps.trips)?;
-    let Lists {
-        roads,
-        entries,
-        stops,
-        switches,
-        arcs,
-        links,
-    } = lists;
-    let stop_names = names_of(alloc, entries)?;
-    let mut parts = Parts {
-        days,
-        roads,
-        stop_names,
-        stops,
-        switches,
-        arcs,
-        links,
-        trips: Vec::new(alloc),
-    };
-    let Some(
-        Expansion {
-            trips,
-            back,
-            left_out,
-        },
-    ) = expansion
-    else {
-        return Err(past_trips(caps, &parts));
-    };
-    parts.trips = trips;
-    let network = network_of(alloc, caps, parts, back)?;
-    Ok(Region { network, left_out })
+    has_numbers(feed.trips.len())?;
+    let calls = calls_in_order(alloc, &feed.calls)?;
+    let frequencies = frequencies_in_order(alloc, &feed.frequencies)?;
+    let sources = sources_of(alloc, feed, &days, &calls, &frequencies)?;
+    let tally = tally_of(&sources)?;
+    if let Some(fault) = fault_by(caps, &lists.counts(&tally), tally.back) {
+        return Err(fault);
+    }
+    let numbers = numbers_of(alloc, &lists.entries)?;
+    let trips = expanded(alloc, &numbers, &sources)?;
+    let parts = lists.into_parts(alloc, days, trips)?;
+    let network = network_of(alloc, caps, parts)?;
+    Ok(Region {
+        network,
+        left_out: tally.left_out,
+    })
 }

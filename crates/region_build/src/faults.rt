@@ -3,7 +3,6 @@
 ghost use Rattle.std.specs.Prelude.{◌≡◌};
 ghost use Rattle.region_build.specs.declared.faults.BuildFault.TheVariants.{OutOfMemory};
 
-use mode_network::NetFault;
 use plan_base::Kind;
 use std::alloc::AllocError;
 use thiserror::Error;
@@ -17,9 +16,6 @@ pub enum BuildFault {
     /// The times of the trip in this row of trips.txt go back.
     #[error("trips.txt, row {row}: the times of this trip's calls go back")]
     TimeGoesBack { row: u64 },
-    /// A rule of networks is broken.
-    #[error("the region breaks a rule of networks: {0:?}")]
-    Network(NetFault),
     /// Memory ran out.
     #[error("out of memory")]
     OutOfMemory,

@@ -5,17 +5,20 @@ mod building;
 mod copies;
 mod ends;
 mod faults;
+mod headways;
 mod layers;
+mod left;
 mod links;
 mod roads;
 mod services;
 mod sources;
 mod stops;
 mod switches;
+mod tallies;
 
 pub use building::{Region, build};
-pub use copies::LeftOut;
 pub use faults::BuildFault;
+pub use left::LeftOut;
 
 #[cfg(test)]
 mod tests;

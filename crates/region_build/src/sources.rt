@@ -1,15 +1,17 @@
 //! What the tables of a feed say of a trip.
 
 ghost use Rattle.std.specs.Prelude.{◌≡◌, ◌+◌, ◌<◌, ◌≤◌, ◌^◌, ℕ, length, filter, map, IfOk};
-ghost use Rattle.gtfs_tables.specs.Sound.{IsFeed};
+ghost use Rattle.service_days.specs.DaysMeaning.{DaysMeaning};
 ghost use Rattle.region_build.specs.Groups.{Ascend, is_of, own_count, trip_of_call, trip_of_frequency};
+ghost use Rattle.region_build.specs.Services.{AreDaysOf};
 ghost use Rattle.region_build.specs.Sources as spec;
 
-use crate::services::days_of;
+use crate::services::Services;
 use gtfs_tables::{CallRow, Feed, FrequencyRow, RouteRow, TripRow};
 use plan_base::DaySet;
 use service_days::Days;
 use std::alloc::{AllocError, Global};
+use std::collections::HashMap;
 
 /// What the tables of a feed say of a trip.
 #[derive(Clone, Copy)]
@@ -94,24 +96,23 @@ fn split_frequencies(frequencies: &[FrequencyRow], trip: u32) -> (&[FrequencyRow
 }
 
 fn source_of<'a>(
-    alloc: Global,
     feed: &'a Feed,
-    days: &Days,
     trip: &'a TripRow,
+    days: DaySet,
     calls: &'a [CallRow],
     frequencies: &'a [FrequencyRow],
-) -> Result<Source<'a>, AllocError>
-    ensures { IfOk result (λ source. spec.IsSource feed.now days.now calls.now frequencies.now trip.now (spec.lists_of source)) }
+) -> Source<'a>
+    ensures { (days_of_region : DaysMeaning) → AreDaysOf feed.now days_of_region trip.now.service days
+        → spec.IsSource feed.now days_of_region calls.now frequencies.now trip.now (spec.lists_of result) }
 {
-    let days = days_of(alloc, feed, days, trip.service.as_bytes())?;
-    Ok(Source {
+    Source {
         row: trip.row,
         id: trip.id.as_bytes(),
         letter: letter_of(&feed.routes, trip.route),
         days,
         calls,
         frequencies,
-    })
+    }
 }
 
 /// What the tables say of each trip, where calls and headways are in the order of their trips.
@@ -127,6 +128,8 @@ pub(crate) fn sources_of<'a>(
     requires frequencies { Ascend trip_of_frequency 0 frequencies.now }
     ensures { IfOk result (λ sources. spec.AreSourcesFrom feed.now days.now calls.now frequencies.now 0 feed.now.trips (map spec.lists_of sources.items)) }
 {
+    let services = Services::of(alloc, feed)?;
+    let mut known = HashMap::new(alloc);
     let mut sources = Vec::new(alloc);
     let mut place = 0;
     let (mut calls_left, mut frequencies_left) = (calls, frequencies);
@@ -134,7 +137,8 @@ pub(crate) fn sources_of<'a>(
     while let [trip, after @ ..] = rest {
         let (own_calls, later_calls) = split_calls(calls_left, place);
         let (own, later_frequencies) = split_frequencies(frequencies_left, place);
-        sources.push(source_of(alloc, feed, days, trip, own_calls, own)?)?;
+        let runs = services.days_of(&mut known, days, trip.service.as_bytes())?;
+        sources.push(source_of(feed, trip, runs, own_calls, own))?;
         place += 1;
         calls_left = later_calls;
         frequencies_left = later_frequencies;

@@ -6,7 +6,7 @@ use super::*;
 use gtfs_tables::{Feed, FeedFiles, read_feed};
 use mode_network::{Arc, Network, Node};
 use opl_reader::{Objects, Opl};
-use plan_base::Caps;
+use plan_base::{Caps, Kind};
 use service_days::Days;
 use std::alloc::Global;
 use std::test::Fail;
@@ -64,15 +64,23 @@ fn feed_of(
     Ok(read_feed(alloc, &files, &Caps::FULL)?)
 }
 
+fn built(
+    alloc: Global,
+    frequencies: Option<&'static [u8]>,
+    dates: Option<&'static [u8]>,
+) -> Result<Result<Region, BuildFault>, Fail> {
+    let map = map_of(alloc)?;
+    let feed = feed_of(alloc, frequencies, dates)?;
+    let days = Days::new(alloc, 20240304, 1)?;
+    Ok(build(alloc, &map, &feed, days, &Caps::FULL))
+}
+
 fn region_of(
     alloc: Global,
     frequencies: Option<&'static [u8]>,
     dates: Option<&'static [u8]>,
 ) -> Result<Network, Fail> {
-    let map = map_of(alloc)?;
-    let feed = feed_of(alloc, frequencies, dates)?;
-    let days = Days::new(alloc, 20240304, 1)?;
-    Ok(build(alloc, &map, &feed, days, &Caps::FULL)?.network)
+    Ok(built(alloc, frequencies, dates)??.network)
 }
 
 fn tell_trip(alloc: Global, text: &mut String, trip: &Trip) -> Result<(), Fail> {
@@ -173,5 +181,24 @@ fn trips_leave_at_their_headways(rt: HostRuntime) -> Result<(), Fail> {
     assert_eq!(rt; inexact.as_str(), "");
     assert_eq!(rt; late.as_str(), "");
     assert_eq!(rt; removed.as_str(), ONE_DAY_LESS);
+    Ok(())
+}
+
+const HOSTILE: &[u8] =
+    b"trip_id,start_time,end_time,headway_secs,exact_times\nt1,0:00:00,167:59:59,1,1\nt1,0:00:00,167:59:59,1,1\n";
+
+#[test]
+fn copies_are_counted_before_they_are_made(rt: HostRuntime) -> Result<(), Fail> {
+    let fault = built(rt.alloc(), Some(HOSTILE), None)?.err();
+    assert_eq!(rt; fault, Some(BuildFault::TooMany { kind: Kind::Trips }));
+    Ok(())
+}
+
+#[test]
+fn what_is_left_out(rt: HostRuntime) -> Result<(), Fail> {
+    let late = built(rt.alloc(), Some(LATE), None)??.left_out;
+    let inexact = built(rt.alloc(), Some(INEXACT), None)??.left_out;
+    assert_eq!(rt; (late.late, late.inexact), (1, 0));
+    assert_eq!(rt; (inexact.late, inexact.inexact), (0, 1));
     Ok(())
 }

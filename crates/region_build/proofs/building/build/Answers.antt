@@ -1,44 +1,94 @@
-use Rattle.std.proofs.Common.{List, refl, subst}
-use Rattle.std.specs.Prelude.{Err, Ok}
-use Rattle.std.proofs.lemmas.Result.{err_from_is_err_and}
+use Rattle.std.proofs.Common.{List, ℕ, Option, ◌≡◌, ◌≤◌, length, map, subst, sym, ap, ◌∙◌}
+use Rattle.std.specs.List.{All, AllByRecursion}
+use Rattle.plan_base.specs.declared.limits.Caps.{Caps}
+use Rattle.gtfs_tables.specs.FeedLists.{FeedLists}
+use Rattle.gtfs_tables.specs.Sound.{IsId}
+use Rattle.gtfs_tables.specs.declared.frequencies.FrequencyRow.{FrequencyRow}
+use Rattle.timetable_arcs.specs.Trips.{TripLists}
 use Rattle.mode_network.specs.NetworkLists.{NetworkLists}
-use Rattle.region_build.specs.Compiled.{IsDraft}
+use Rattle.region_build.specs.Answers.{fault_by}
 use Rattle.region_build.specs.Copies.{expanded}
+use Rattle.region_build.specs.Sources.{lists_of}
 use Rattle.region_build.specs.StopNames.{stop_number}
-use Rattle.region_build.specs.Trips.{AreExpanded}
+use Rattle.region_build.specs.Tallies.{IsTally}
+use Rattle.region_build.specs.declared.faults.BuildFault.{BuildFault}
+use Rattle.region_build.specs.declared.sources.Source.{Source}
 use Rattle.region_build.specs.declared.stops.StopEntry.{StopEntry}
-use Rattle.region_build.proofs.BuildLaws.{answer_compiled, answer_fault, past_fault, past_the_limit, trips_found}
-use Rattle.region_build.proofs.PartLaws.{lists_are_parts}
+use Rattle.region_build.specs.declared.tallies.Counts.{Counts}
+use Rattle.region_build.proofs.BuildLaws.{are_compiled, are_faultless, are_parts, has_fault, sources_said}
+use Rattle.region_build.proofs.TripLaws.{sources_have_ids}
+use Rattle.region_build.proofs.TripRuleLaws.{headways_last, headways_right}
 use Rattle.region_build.proofs.building.build.Goals as goal
 
-pub network_of-requires : goal.network_of-requires
-network_of-requires c =
-    let n : NetworkLists = record { days = c.args.days; roads = c.in_ok-lists.lists.roads.items; stop_names = c.in_ok-stop_names.stop_names.items; stops = c.in_ok-lists.lists.stops.items; switches = c.in_ok-lists.lists.switches.items; arcs = c.in_ok-lists.lists.arcs.items; links = c.in_ok-lists.lists.links.items; trips = c.in-Some.field-0.trips.items } in
-    lists_are_parts c.args.objects.now c.in_ok-lists.lists.entries.items n c.requires.objects c.in_ok-lists.ensures.are c.in_ok-stop_names.ensures
+fault_is : (caps : Caps) (back : Option ℕ) {counts given : Counts} {fault other : Option BuildFault} → fault ≡ fault_by caps counts back → counts ≡ given → fault ≡ other → fault_by caps given back ≡ other
+fault_is caps back found counted is = ap (λ (counts : Counts). fault_by caps counts back) (sym counted) ∙ sym found ∙ is
 
-pub returns-in_default-clause-fault : goal.returns-in_default-clause-fault
-returns-in_default-clause-fault c =
-    let entries : List StopEntry = c.in_ok-lists.lists.entries.items in
-    let e = subst (λ (entries : List StopEntry). AreExpanded c.args.feed.now c.args.days entries c.args.caps.now.trips c.in_ok-expansion.expansion) c.deref.ensures.value c.in_ok-expansion.ensures in
-    let n : NetworkLists = record { days = c.args.days; roads = c.in_ok-lists.lists.roads.items; stop_names = c.in_ok-stop_names.stop_names.items; stops = c.in_ok-lists.lists.stops.items; switches = c.in_ok-lists.lists.switches.items; arcs = c.in_ok-lists.lists.arcs.items; links = c.in_ok-lists.lists.links.items; trips = expanded (stop_number entries) e.sources } in
-    let draft : IsDraft c.args.objects.now c.args.feed.now c.args.days entries e.sources n = record { days_are = refl; lists = c.in_ok-lists.ensures.are; names = c.in_ok-stop_names.ensures; said = e.said; trips = refl } in
-    rw c.past_trips.ensures (past_fault c.args.caps.now c.args.objects.now c.args.feed.now c.args.days entries e.sources n draft (past_the_limit c.in_ok-expansion.expansion e c.in_default.is))
+pub tally_of-requires : goal.tally_of-requires
+tally_of-requires c =
+    let last = headways_right c.args.feed.now c.deref-2.result.now c.in_ok-frequencies.frequencies.items c.requires.feed (c.deref-2.ensures.value ∙ ap (λ (feed : FeedLists). feed.frequencies) c.feed.view_is) c.in_ok-frequencies.ensures.are.same in
+    subst (λ (sources : List Source). AllByRecursion (λ (source : Source). AllByRecursion (λ (row : FrequencyRow). 1 ≤ row.headway) source.frequencies.now) sources) (sym c.deref-5.ensures.value)
+    (headways_last c.args.feed.now c.args.days c.deref-3.result.now c.deref-4.result.now 0 c.args.feed.now.trips c.in_ok-sources.sources.items
+    (subst (All (λ (row : FrequencyRow). 1 ≤ row.headway)) (sym c.deref-4.ensures.value) last) c.in_ok-sources.ensures)
+
+pub expanded-requires : goal.expanded-requires
+expanded-requires c =
+    subst (λ (sources : List Source). AllByRecursion (λ (source : Source). IsId source.id.now) sources) (sym c.deref-7.ensures.value)
+    (sources_have_ids c.args.feed.now c.args.days c.deref-3.result.now c.deref-4.result.now 0 (length c.args.feed.now.routes) c.args.feed.now.trips c.in_ok-sources.sources.items c.in_ok-sources.ensures c.requires.feed.trips)
+
+pub returns-in-Some-clause-fault : goal.returns-in-Some-clause-fault
+returns-in-Some-clause-fault c =
+    let said = sources_said c.args.feed.now c.args.days _ c.in_ok-calls.calls.items _ _ c.in_ok-frequencies.frequencies.items _ (map lists_of c.in_ok-sources.sources.items)
+    (c.deref.ensures.value ∙ ap (λ (feed : FeedLists). feed.calls) c.feed.view_is) c.in_ok-calls.ensures.are c.deref-3.ensures.value
+    (c.deref-2.ensures.value ∙ ap (λ (feed : FeedLists). feed.frequencies) c.feed.view_is) c.in_ok-frequencies.ensures.are c.deref-4.ensures.value c.in_ok-sources.ensures in
+    let is = subst (λ (sources : List Source). IsTally (map lists_of sources) c.in_ok-tally.tally) c.deref-5.ensures.value c.in_ok-tally.ensures in
+    has_fault c.args.caps.now c.in_ok-lists.ensures.are said is c.in-Some.fault (fault_is c.args.caps.now c.in_ok-tally.tally.back c.fault_by.ensures c.counts.ensures c.in-Some.is)
+
+pub network_of-requires-clause-parts : goal.network_of-requires-clause-parts
+network_of-requires-clause-parts c =
+    let said = sources_said c.args.feed.now c.args.days _ c.in_ok-calls.calls.items _ _ c.in_ok-frequencies.frequencies.items _ (map lists_of c.in_ok-sources.sources.items)
+    (c.deref.ensures.value ∙ ap (λ (feed : FeedLists). feed.calls) c.feed.view_is) c.in_ok-calls.ensures.are c.deref-3.ensures.value
+    (c.deref-2.ensures.value ∙ ap (λ (feed : FeedLists). feed.frequencies) c.feed.view_is) c.in_ok-frequencies.ensures.are c.deref-4.ensures.value c.in_ok-sources.ensures in
+    let is = subst (λ (sources : List Source). IsTally (map lists_of sources) c.in_ok-tally.tally) c.deref-5.ensures.value c.in_ok-tally.ensures in
+    let trips = c.in_ok-trips.ensures
+    ∙ ap (λ (number : ℕ → Option ℕ). expanded number (map lists_of c.deref-7.result.now)) (λ i stop. c.in_ok-numbers.ensures stop i)
+    ∙ ap (λ (entries : List StopEntry). expanded (stop_number entries) (map lists_of c.deref-7.result.now)) c.deref-6.ensures.value
+    ∙ ap (λ (sources : List Source). expanded (stop_number c.in_ok-lists.lists.entries.items) (map lists_of sources)) c.deref-7.ensures.value in
+    let parts = c.in_ok-parts.ensures ∙ ap {B = NetworkLists} (λ (trips : List TripLists). record { days = c.args.days; roads = c.in_ok-lists.lists.roads.items; stop_names = map (λ (entry : StopEntry). entry.name) c.in_ok-lists.lists.entries.items; stops = c.in_ok-lists.lists.stops.items; switches = c.in_ok-lists.lists.switches.items; arcs = c.in_ok-lists.lists.arcs.items; links = c.in_ok-lists.lists.links.items; trips = trips }) trips in
+    let none = fault_is c.args.caps.now c.in_ok-tally.tally.back c.fault_by.ensures c.counts.ensures c.in_default.is in
+    are_parts c.args.caps.now c.in_ok-lists.ensures.are said is none c.in_ok-parts.parts parts c.requires.objects
+
+pub network_of-requires-clause-faultless : goal.network_of-requires-clause-faultless
+network_of-requires-clause-faultless c =
+    let said = sources_said c.args.feed.now c.args.days _ c.in_ok-calls.calls.items _ _ c.in_ok-frequencies.frequencies.items _ (map lists_of c.in_ok-sources.sources.items)
+    (c.deref.ensures.value ∙ ap (λ (feed : FeedLists). feed.calls) c.feed.view_is) c.in_ok-calls.ensures.are c.deref-3.ensures.value
+    (c.deref-2.ensures.value ∙ ap (λ (feed : FeedLists). feed.frequencies) c.feed.view_is) c.in_ok-frequencies.ensures.are c.deref-4.ensures.value c.in_ok-sources.ensures in
+    let is = subst (λ (sources : List Source). IsTally (map lists_of sources) c.in_ok-tally.tally) c.deref-5.ensures.value c.in_ok-tally.ensures in
+    let trips = c.in_ok-trips.ensures
+    ∙ ap (λ (number : ℕ → Option ℕ). expanded number (map lists_of c.deref-7.result.now)) (λ i stop. c.in_ok-numbers.ensures stop i)
+    ∙ ap (λ (entries : List StopEntry). expanded (stop_number entries) (map lists_of c.deref-7.result.now)) c.deref-6.ensures.value
+    ∙ ap (λ (sources : List Source). expanded (stop_number c.in_ok-lists.lists.entries.items) (map lists_of sources)) c.deref-7.ensures.value in
+    let parts = c.in_ok-parts.ensures ∙ ap {B = NetworkLists} (λ (trips : List TripLists). record { days = c.args.days; roads = c.in_ok-lists.lists.roads.items; stop_names = map (λ (entry : StopEntry). entry.name) c.in_ok-lists.lists.entries.items; stops = c.in_ok-lists.lists.stops.items; switches = c.in_ok-lists.lists.switches.items; arcs = c.in_ok-lists.lists.arcs.items; links = c.in_ok-lists.lists.links.items; trips = trips }) trips in
+    let none = fault_is c.args.caps.now c.in_ok-tally.tally.back c.fault_by.ensures c.counts.ensures c.in_default.is in
+    are_faultless c.args.caps.now c.in_ok-lists.ensures.are said is none c.in_ok-parts.parts parts c.requires.objects c.requires.feed c.facts.ensures.days
 
 pub returns-clause-compiled : goal.returns-clause-compiled
 returns-clause-compiled c =
-    let entries : List StopEntry = c.in_ok-lists.lists.entries.items in
-    let e = subst (λ (entries : List StopEntry). AreExpanded c.args.feed.now c.args.days entries c.args.caps.now.trips c.in_ok-expansion.expansion) c.deref.ensures.value c.in_ok-expansion.ensures in
-    let n : NetworkLists = record { days = c.args.days; roads = c.in_ok-lists.lists.roads.items; stop_names = c.in_ok-stop_names.stop_names.items; stops = c.in_ok-lists.lists.stops.items; switches = c.in_ok-lists.lists.switches.items; arcs = c.in_ok-lists.lists.arcs.items; links = c.in_ok-lists.lists.links.items; trips = c.in-Some.field-0.trips.items } in
-    let found = trips_found c.in_ok-expansion.expansion e c.in-Some.field-0 c.in-Some.is in
-    let draft : IsDraft c.args.objects.now c.args.feed.now c.args.days entries e.sources n = record { days_are = refl; lists = c.in_ok-lists.ensures.are; names = c.in_ok-stop_names.ensures; said = e.said; trips = found.0 } in
-    answer_compiled c.args.caps.now c.args.objects.now c.args.feed.now c.args.days entries e.sources n draft c.in-Some.field-0.back found.1 (Ok c.in_ok-network.network) c.in_ok-network.ensures.built c.in_ok-network.ensures.faultless
+    let said = sources_said c.args.feed.now c.args.days _ c.in_ok-calls.calls.items _ _ c.in_ok-frequencies.frequencies.items _ (map lists_of c.in_ok-sources.sources.items)
+    (c.deref.ensures.value ∙ ap (λ (feed : FeedLists). feed.calls) c.feed.view_is) c.in_ok-calls.ensures.are c.deref-3.ensures.value
+    (c.deref-2.ensures.value ∙ ap (λ (feed : FeedLists). feed.frequencies) c.feed.view_is) c.in_ok-frequencies.ensures.are c.deref-4.ensures.value c.in_ok-sources.ensures in
+    let is = subst (λ (sources : List Source). IsTally (map lists_of sources) c.in_ok-tally.tally) c.deref-5.ensures.value c.in_ok-tally.ensures in
+    let trips = c.in_ok-trips.ensures
+    ∙ ap (λ (number : ℕ → Option ℕ). expanded number (map lists_of c.deref-7.result.now)) (λ i stop. c.in_ok-numbers.ensures stop i)
+    ∙ ap (λ (entries : List StopEntry). expanded (stop_number entries) (map lists_of c.deref-7.result.now)) c.deref-6.ensures.value
+    ∙ ap (λ (sources : List Source). expanded (stop_number c.in_ok-lists.lists.entries.items) (map lists_of sources)) c.deref-7.ensures.value in
+    let parts = c.in_ok-parts.ensures ∙ ap {B = NetworkLists} (λ (trips : List TripLists). record { days = c.args.days; roads = c.in_ok-lists.lists.roads.items; stop_names = map (λ (entry : StopEntry). entry.name) c.in_ok-lists.lists.entries.items; stops = c.in_ok-lists.lists.stops.items; switches = c.in_ok-lists.lists.switches.items; arcs = c.in_ok-lists.lists.arcs.items; links = c.in_ok-lists.lists.links.items; trips = trips }) trips in
+    let none = fault_is c.args.caps.now c.in_ok-tally.tally.back c.fault_by.ensures c.counts.ensures c.in_default.is in
+    are_compiled c.args.caps.now c.in_ok-lists.ensures.are said is none c.in_ok-network.network (c.in_ok-network.ensures ∙ parts)
 
-pub returns-in_err-network-clause-fault : goal.returns-in_err-network-clause-fault
-returns-in_err-network-clause-fault c =
-    let entries : List StopEntry = c.in_ok-lists.lists.entries.items in
-    let e = subst (λ (entries : List StopEntry). AreExpanded c.args.feed.now c.args.days entries c.args.caps.now.trips c.in_ok-expansion.expansion) c.deref.ensures.value c.in_ok-expansion.ensures in
-    let n : NetworkLists = record { days = c.args.days; roads = c.in_ok-lists.lists.roads.items; stop_names = c.in_ok-stop_names.stop_names.items; stops = c.in_ok-lists.lists.stops.items; switches = c.in_ok-lists.lists.switches.items; arcs = c.in_ok-lists.lists.arcs.items; links = c.in_ok-lists.lists.links.items; trips = c.in-Some.field-0.trips.items } in
-    let found = trips_found c.in_ok-expansion.expansion e c.in-Some.field-0 c.in-Some.is in
-    let draft : IsDraft c.args.objects.now c.args.feed.now c.args.days entries e.sources n = record { days_are = refl; lists = c.in_ok-lists.ensures.are; names = c.in_ok-stop_names.ensures; said = e.said; trips = found.0 } in
-    let p = err_from_is_err_and c.from_residual-in_err-network.result c.from_residual-in_err-network.ensures.1 in
-    rw (p.1, p.2) (answer_fault c.args.caps.now c.args.objects.now c.args.feed.now c.args.days entries e.sources n draft c.in-Some.field-0.back found.1 (Err c.in_err-network.field-0.0) c.in_err-network.ensures.fault)
+pub returns-clause-left_out : goal.returns-clause-left_out
+returns-clause-left_out c =
+    let said = sources_said c.args.feed.now c.args.days _ c.in_ok-calls.calls.items _ _ c.in_ok-frequencies.frequencies.items _ (map lists_of c.in_ok-sources.sources.items)
+    (c.deref.ensures.value ∙ ap (λ (feed : FeedLists). feed.calls) c.feed.view_is) c.in_ok-calls.ensures.are c.deref-3.ensures.value
+    (c.deref-2.ensures.value ∙ ap (λ (feed : FeedLists). feed.frequencies) c.feed.view_is) c.in_ok-frequencies.ensures.are c.deref-4.ensures.value c.in_ok-sources.ensures in
+    let is = subst (λ (sources : List Source). IsTally (map lists_of sources) c.in_ok-tally.tally) c.deref-5.ensures.value c.in_ok-tally.ensures in
+    record { sources = map lists_of c.in_ok-sources.sources.items; said = said; are = is.left }

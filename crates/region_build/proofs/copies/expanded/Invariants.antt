@@ -2,7 +2,7 @@ use Rattle.std.proofs.Common.{◌≡◌, ◌++◌, length, map, nat_eq}
 use Rattle.std.specs.HashMap.{get}
 use Rattle.std.specs.List.{AllByRecursion, flat_map}
 use Rattle.gtfs_tables.specs.Sound.{IsId}
-use Rattle.region_build.specs.Copies.{copies_of, first_back, or_row}
+use Rattle.region_build.specs.Copies.{copies_of}
 use Rattle.region_build.specs.Sources.{lists_of}
 use Rattle.region_build.proofs.copies.expanded.Given as goal
 
@@ -13,5 +13,4 @@ abbrev pub invariant-loop-rest : goal.invariant-loop-rest
 invariant-loop-rest l = record {
   ids : AllByRecursion (λ source. IsId source.id.now) l.rest;
   so_far : l.trips.items ++ flat_map (copies_of (get nat_eq l.numbers.by_stop)) (map lists_of l.rest) ≡ flat_map (copies_of (get nat_eq l.numbers.by_stop)) (map lists_of l.sources);
-  back : or_row l.back (first_back (get nat_eq l.numbers.by_stop) (map lists_of l.rest)) ≡ first_back (get nat_eq l.numbers.by_stop) (map lists_of l.sources);
 }

@@ -1,5 +1,6 @@
 use Rattle.std.proofs.Common.{◌≡◌, ℕ, ◌+◌, ◌++◌, ◌≤◌, List, length, map}
 use Rattle.std.specs.Prelude.{filter}
+use Rattle.region_build.specs.ByService.{KnowDays, at, listed}
 use Rattle.region_build.specs.Groups.{Ascend, is_of, trip_of_call, trip_of_frequency}
 use Rattle.region_build.specs.Sources.{AreSourcesFrom, SourceLists, lists_of}
 use Rattle.region_build.proofs.sources.sources_of.Given as goal
@@ -16,4 +17,5 @@ invariant-loop-rest l = record {
   frequencies_ascend : Ascend trip_of_frequency l.place l.frequencies_left;
   calls_same : (k : ℕ) → l.place ≤ k → filter (is_of trip_of_call k) l.calls_left ≡ filter (is_of trip_of_call k) l.calls;
   frequencies_same : (k : ℕ) → l.place ≤ k → filter (is_of trip_of_frequency k) l.frequencies_left ≡ filter (is_of trip_of_frequency k) l.frequencies;
+  know : KnowDays l.days (at l.services.rules) (listed l.services.added) (listed l.services.removed) (at l.known);
 }

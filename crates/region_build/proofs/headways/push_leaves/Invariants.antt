@@ -1,6 +1,6 @@
 use Rattle.std.proofs.Common.{◌≡◌, ◌++◌}
 use Rattle.region_build.specs.Copies.{departing}
-use Rattle.region_build.proofs.copies.push_departures.Given as goal
+use Rattle.region_build.proofs.headways.push_leaves.Given as goal
 
 abbrev pub decreases-loop-most : goal.decreases-loop-most
 decreases-loop-most l = l.most
