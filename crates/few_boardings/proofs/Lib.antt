@@ -1,0 +1,5 @@
+pub mod CountedLemmas
+pub mod RideLemmas
+pub mod RoundLemmas
+pub mod FoundLemmas
+pub mod TextLemmas

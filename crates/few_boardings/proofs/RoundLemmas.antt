@@ -1,0 +1,217 @@
+-- The rounds of the search make the boardings list.
+use Rattle.std.proofs.Common.{◌≡◌, ℕ, ◌<◌, ◌≤◌, ◌⊎◌, Bool, true, false, nat_lt, cond, List, [], ◌∷◌, length, Option, Some, None, inl, inr, refl, sym, ap, subst, arith}
+use Rattle.std.specs.Prelude.{All, AllPairs, Contains, IfSome, ◌↔◌}
+use Rattle.std.proofs.lemmas.Bool.{ltb-true, ltb-false}
+use Rattle.std.proofs.lemmas.List.Elements.{All-nil, All-cons, All-contains, Contains-append_left, Contains-append_right}
+use Rattle.std.proofs.lemmas.List.Kept.{AllPairs-cons}
+use Rattle.mode_network.specs.NetworkLists.{NetworkLists}
+use Rattle.mode_network.specs.Journeys.{Route}
+use Rattle.journey.specs.Best.{Asked, Answers}
+use Rattle.few_boardings.specs.declared.boardings.FewRow.{FewRow}
+use Rattle.few_boardings.specs.declared.boardings.Found.{Found}
+use Rattle.few_boardings.specs.Boardings.{rides, IsListed, IsRow, AreRows, HasNoneByFew, IsPrintableRow}
+use Rattle.few_boardings.specs.Rounds.{IsLeastFound, IsLeastBelow, is_later, kept, IsCovered, IsOpen, IsListing}
+
+-- a number is at most another, or above it
+le_or_above : (a b : ℕ) → (a ≤ b) ⊎ (b < a)
+le_or_above a b = on_test (nat_lt b a) refl
+  where
+    on_test : (t : Bool) → nat_lt b a ≡ t → (a ≤ b) ⊎ (b < a)
+    on_test true e = inr (ltb-true b a e)
+    on_test false e = inl (ltb-false b a e)
+
+first_of_all : (row : FewRow) (rows : List FewRow) → Contains (row ∷ rows) row
+first_of_all row rows = Contains-append_left (row ∷ []) rows row (0, omega arith, refl)
+
+after_first : (row other : FewRow) (rows : List FewRow) → Contains rows other → Contains (row ∷ rows) other
+after_first row other rows there = Contains-append_right (row ∷ []) rows other there
+
+module _ (n : NetworkLists) (q : Asked) where
+  -- what was found with fewer rides than a limit has no more rides and arrives no later than a journey below the limit, or has more
+  open_below : (limit : ℕ) (best : Option Found) → IsLeastBelow n q limit best → (k : Route) (u : ℕ) → rides k < limit → Answers n q k u → IsOpen best k u
+  open_below limit None none k u below answers = none k u below answers
+  open_below limit (Some f) least k u below answers = on_rides (le_or_above f.row.boardings (rides k))
+    where
+      on_rides : (f.row.boardings ≤ rides k) ⊎ (rides k < f.row.boardings) → IsOpen (Some f) k u
+      on_rides (inl few) = inl (few, least.least k u below answers)
+      on_rides (inr more) = inr more
+
+  pub starts : (best : Option Found) → IsLeastBelow n q 9 best → IsListing n q [] best
+  starts best least = record {
+    rising = λ i j d less within. absurd (omega arith);
+    right = All-nil (IsRow n q);
+    printable = All-nil (IsPrintableRow n);
+    below = nothing best;
+    limit = 9;
+    few = omega arith;
+    found = least;
+    covers = λ k u few answers. inr (open_below 9 best least k u (omega arith) answers);
+  }
+    where
+      nothing : (best : Option Found) → IfSome best (λ found. All (λ (row : FewRow). found.row.boardings < row.boardings) [])
+      nothing None = tt
+      nothing (Some f) = All-nil (λ (row : FewRow). f.row.boardings < row.boardings)
+
+  -- a row that is later with fewer rides is listed
+  row_of : (f : Found) (limit : ℕ) → limit ≤ 9 → IsLeastFound n q limit f → (fewer : Option Found) → IsLeastBelow n q f.row.boardings fewer
+      → is_later fewer f.arrival ≡ true → IsRow n q f.row
+  row_of f limit few least fewer below later = record {
+    arrival = f.arrival;
+    listed = record {
+      few = (let b = least.below in omega arith);
+      least = record {
+        journey = f.row.journey;
+        within = (let b = least.boards in omega arith);
+        answers = least.answers;
+        least = λ k u most answers. least.least k u (let b = least.below in omega arith) answers;
+      };
+      later = λ k u less answers. later_than fewer below later k u less answers;
+    };
+    answers = least.answers;
+    boards = least.boards;
+  }
+    where
+      later_than : (fewer : Option Found) → IsLeastBelow n q f.row.boardings fewer → is_later fewer f.arrival ≡ true
+          → (k : Route) (u : ℕ) → rides k < f.row.boardings → Answers n q k u → f.arrival < u
+      later_than None none test k u less answers = absurd (none k u less answers)
+      later_than (Some g) some test k u less answers =
+          let at = some.least k u less answers in let apart = ltb-true f.arrival g.arrival test in omega arith
+
+  -- one with as few rides that is as early takes the place of what was found
+  as_early : (f : Found) (limit : ℕ) → IsLeastFound n q limit f → (fewer : Option Found) → IsLeastBelow n q f.row.boardings fewer → is_later fewer f.arrival ≡ false
+      → (k : Route) (u : ℕ) → f.row.boardings ≤ rides k → f.arrival ≤ u → IsOpen fewer k u
+  as_early f limit least None none test k u few soon = absurd cc
+  as_early f limit least (Some g) some test k u few soon =
+      let early = ltb-false f.arrival g.arrival test in let less = some.below in inl (omega arith, omega arith)
+
+  below_all : (f : Found) (rows : List FewRow) → All (λ (row : FewRow). f.row.boardings < row.boardings) rows → (fewer : Option Found) → IsLeastBelow n q f.row.boardings fewer
+      → (t : ℕ) → IfSome fewer (λ found. All (λ (row : FewRow). found.row.boardings < row.boardings) (kept fewer t f.row rows))
+  below_all f rows below None none t = tt
+  below_all f rows below (Some g) some t = on_test (is_later (Some g) t)
+    where
+      less : g.row.boardings < f.row.boardings
+      less = some.below
+
+      others : All (λ (row : FewRow). g.row.boardings < row.boardings) rows
+      others = λ k d within. (let b = below k d within in let l = less in omega arith)
+
+      on_test : (b : Bool) → All (λ (row : FewRow). g.row.boardings < row.boardings) (cond b (f.row ∷ rows) rows)
+      on_test true = All-cons (λ (row : FewRow). g.row.boardings < row.boardings) f.row rows less others
+      on_test false = others
+
+  pub goes_on : (f : Found) (rows : List FewRow) → IsListing n q rows (Some f) → (fewer : Option Found) → IsLeastBelow n q f.row.boardings fewer
+      → IsListing n q (kept fewer f.arrival f.row rows) fewer
+  goes_on f rows so_far fewer below = on_test (is_later fewer f.arrival) refl
+    where
+      least : IsLeastFound n q so_far.limit f
+      least = so_far.found
+
+      few : f.row.boardings ≤ 9
+      few = let b = least.below in let l = so_far.few in omega arith
+
+      after : (k : Route) (u : ℕ) → IsOpen (Some f) k u → Answers n q k u → (IsCovered n q (f.row ∷ rows) k u) ⊎ ((f.row.boardings ≤ rides k) × (f.arrival ≤ u)) ⊎ IsOpen fewer k u
+      after k u (inl both) answers = inr (inl both)
+      after k u (inr more) answers = inr (inr (open_below f.row.boardings fewer below k u more answers))
+
+      still : (rest : List FewRow) → ((row : FewRow) → Contains rows row → Contains rest row) → (k : Route) (u : ℕ) → IsCovered n q rows k u → IsCovered n q rest k u
+      still rest there k u covered = record {
+        row = covered.row;
+        listed = there covered.row covered.listed;
+        few = covered.few;
+        arrival = covered.arrival;
+        answers = covered.answers;
+        soon = covered.soon;
+      }
+
+      by_row : (k : Route) (u : ℕ) → f.row.boardings ≤ rides k → f.arrival ≤ u → IsCovered n q (f.row ∷ rows) k u
+      by_row k u boards soon = record {
+        row = f.row;
+        listed = first_of_all f.row rows;
+        few = boards;
+        arrival = f.arrival;
+        answers = least.answers;
+        soon = soon;
+      }
+
+      covers_kept : (k : Route) (u : ℕ) → Answers n q k u → IsCovered n q rows k u ⊎ IsOpen (Some f) k u → IsCovered n q (f.row ∷ rows) k u ⊎ IsOpen fewer k u
+      covers_kept k u answers (inl covered) = inl (still (f.row ∷ rows) (λ (row : FewRow) there. after_first f.row row rows there) k u covered)
+      covers_kept k u answers (inr (inl (boards, soon))) = inl (by_row k u boards soon)
+      covers_kept k u answers (inr (inr more)) = inr (open_below f.row.boardings fewer below k u more answers)
+
+      covers_passed : is_later fewer f.arrival ≡ false → (k : Route) (u : ℕ) → Answers n q k u → IsCovered n q rows k u ⊎ IsOpen (Some f) k u → IsCovered n q rows k u ⊎ IsOpen fewer k u
+      covers_passed test k u answers (inl covered) = inl covered
+      covers_passed test k u answers (inr (inl (boards, soon))) = inr (as_early f so_far.limit least fewer below test k u boards soon)
+      covers_passed test k u answers (inr (inr more)) = inr (open_below f.row.boardings fewer below k u more answers)
+
+      on_test : (b : Bool) → is_later fewer f.arrival ≡ b → IsListing n q (kept fewer f.arrival f.row rows) fewer
+      on_test true e =
+          let same : kept fewer f.arrival f.row rows ≡ f.row ∷ rows = ap (λ (t : Bool). cond t (f.row ∷ rows) rows) e in
+          record {
+            rising = subst (AllPairs (λ (first second : FewRow). first.boardings < second.boardings)) (sym same)
+                (AllPairs-cons (λ (first second : FewRow). first.boardings < second.boardings) f.row rows so_far.below so_far.rising);
+            right = subst (All (IsRow n q)) (sym same) (All-cons (IsRow n q) f.row rows (row_of f so_far.limit so_far.few least fewer below e) so_far.right);
+            printable = subst (All (IsPrintableRow n)) (sym same) (All-cons (IsPrintableRow n) f.row rows least.printable so_far.printable);
+            below = below_all f rows so_far.below fewer below f.arrival;
+            limit = f.row.boardings;
+            few = few;
+            found = below;
+            covers = λ k u most answers. subst (λ (rs : List FewRow). IsCovered n q rs k u ⊎ IsOpen fewer k u) (sym same) (covers_kept k u answers (so_far.covers k u most answers));
+          }
+      on_test false e =
+          let same : kept fewer f.arrival f.row rows ≡ rows = ap (λ (t : Bool). cond t (f.row ∷ rows) rows) e in
+          record {
+            rising = subst (AllPairs (λ (first second : FewRow). first.boardings < second.boardings)) (sym same) so_far.rising;
+            right = subst (All (IsRow n q)) (sym same) so_far.right;
+            printable = subst (All (IsPrintableRow n)) (sym same) so_far.printable;
+            below = below_all f rows so_far.below fewer below f.arrival;
+            limit = f.row.boardings;
+            few = few;
+            found = below;
+            covers = λ k u most answers. subst (λ (rs : List FewRow). IsCovered n q rs k u ⊎ IsOpen fewer k u) (sym same) (covers_passed e k u answers (so_far.covers k u most answers));
+          }
+
+  covered_at_end : (rows : List FewRow) (k : Route) (u : ℕ) → IsCovered n q rows k u ⊎ IsOpen None k u → IsCovered n q rows k u
+  covered_at_end rows k u (inl covered) = covered
+  covered_at_end rows k u (inr none) = absurd none
+
+  -- where nothing is open any more, the rows are the boardings list
+  pub are_rows : (rows : List FewRow) → IsListing n q rows None → AreRows n q rows
+  are_rows rows so_far = record { rising = so_far.rising; right = so_far.right; whole = whole }
+    where
+      whole : (boardings t : ℕ) → IsListed n q boardings t → (row : FewRow) × Contains rows row × (row.boardings ≡ boardings)
+      whole boardings t listed =
+          let least = listed.least in
+          let few = listed.few in
+          let within = least.within in
+          let covered = covered_at_end rows least.journey t (so_far.covers least.journey t (omega arith) least.answers) in
+          let row = All-contains (IsRow n q) rows covered.row so_far.right covered.listed in
+          (covered.row, covered.listed, same covered row (le_or_above boardings covered.row.boardings) (omega (arith, covered.few)))
+        where
+          same : (covered : IsCovered n q rows listed.least.journey t) → IsRow n q covered.row → (boardings ≤ covered.row.boardings) ⊎ (covered.row.boardings < boardings)
+              → covered.row.boardings ≤ boardings → covered.row.boardings ≡ boardings
+          same covered row (inl le) ge = omega arith
+          same covered row (inr less) ge =
+              let later = listed.later covered.row.journey covered.arrival (let b = row.boards in omega arith) covered.answers in
+              let soon = covered.soon in absurd (omega arith)
+
+  pub none_or_some : (rows : List FewRow) → IsListing n q rows None → (rows ≡ []) ↔ HasNoneByFew n q
+  none_or_some rows so_far = (out, back rows so_far.right)
+    where
+      out : rows ≡ [] → HasNoneByFew n q
+      out none k u few answers =
+          let covered = covered_at_end rows k u (so_far.covers k u few answers) in
+          let (place, within, is) = covered.listed in
+          let empty = ap length none in absurd (omega arith)
+
+      back : (rs : List FewRow) → All (IsRow n q) rs → HasNoneByFew n q → rs ≡ []
+      back [] right none = refl
+      back (row ∷ rs) right none =
+          let is = right 0 row (omega arith) in
+          let boards = is.boards in let few = is.listed.few in
+          absurd (none row.journey is.arrival (omega arith) is.answers)
+
+  -- the same, where the parts are given by what they are equal to
+  pub goes_on_by : (best fewer : Option Found) (f : Found) (rows new : List FewRow) → IsListing n q rows best → best ≡ Some f → IsLeastBelow n q f.row.boardings fewer
+      → new ≡ kept fewer f.arrival f.row rows → IsListing n q new fewer
+  goes_on_by best fewer f rows new so_far is below e =
+      subst (λ (rs : List FewRow). IsListing n q rs fewer) (sym e) (goes_on f rows (subst (λ (b : Option Found). IsListing n q rows b) is so_far) fewer below)

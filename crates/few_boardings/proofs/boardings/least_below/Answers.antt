@@ -1,0 +1,45 @@
+use Rattle.std.proofs.Common.{ℕ, List, ◌+◌, ◌-◌, ◌≡◌, ◌≤◌, sym, subst, arith}
+use Rattle.std.specs.Prelude.{◌↔◌}
+use Rattle.search_laws.specs.LabelLaws.{Accepts}
+use Rattle.automaton.specs.Collapsed.{AcceptsCollapsed, collapsed}
+use Rattle.automaton.specs.Meanings.{position_meaning}
+use Rattle.automaton.specs.declared.positions.Positions.{Positions}
+use Rattle.mode_expression.specs.Form.{Denotes, form_of}
+use Rattle.journey.specs.Best.{asked_by}
+use Rattle.few_boardings.specs.Counted.{counted}
+use Rattle.few_boardings.specs.Rounds.{IsLeastBelow}
+use Rattle.few_boardings.proofs.FoundLemmas.{few_of, walk_is_plain, found_below}
+use Rattle.few_boardings.proofs.boardings.least_below.Goals as goal
+
+pub unpacked-requires : goal.unpacked-requires
+unpacked-requires c =
+    let n = c.args.network.now in
+    let collapsing = c.new-collapsed.result in
+    let inner = position_meaning collapsing.inner in
+    let same = sym c.new-collapsed.ensures.same in
+    let denotes = subst (λ (p : Positions). (word : List ℕ) → Accepts (position_meaning p) word ↔ Denotes c.args.query.now.expr word) same c.in_ok-of.ensures.accepts in
+    let collapses = subst (λ (p : Positions). AcceptsCollapsed (position_meaning p)) same c.new-collapsed.ensures.accepts in
+    let few = few_of (form_of c.args.query.now.expr) inner (c.args.limit - 1) denotes collapses c.new-labels.ensures.accepts in
+    let walk = rw (c.new-plain.ensures.network, c.deref.ensures.value, c.deref-2.ensures.value, c.new-labels.ensures.same, c.new-labels.ensures.limit) at c.in_ok-best.ensures.walk in
+    rw c.new-plain.ensures.network (walk_is_plain n c.known.ensures c.new-plain.result.timetable.now (asked_by c.args.query.now) (counted (collapsed inner) (c.args.limit - 1)) (c.args.limit - 1)
+    c.in_ok-starts.starts.items c.in_ok-targets.targets.items few c.new-plain.ensures.journeys c.in_ok-starts.ensures.are c.in_ok-targets.ensures.are _ _ walk)
+
+pub returns : goal.returns
+returns c =
+    let n = c.args.network.now in
+    let q = c.args.query.now in
+    let most = c.args.limit - 1 in
+    let collapsing = c.new-collapsed.result in
+    let inner = position_meaning collapsing.inner in
+    let same = sym c.new-collapsed.ensures.same in
+    let denotes = subst (λ (p : Positions). (word : List ℕ) → Accepts (position_meaning p) word ↔ Denotes q.expr word) same c.in_ok-of.ensures.accepts in
+    let collapses = subst (λ (p : Positions). AcceptsCollapsed (position_meaning p)) same c.new-collapsed.ensures.accepts in
+    let few = few_of (form_of q.expr) inner most denotes collapses c.new-labels.ensures.accepts in
+    let walk = rw (c.new-plain.ensures.network, c.deref.ensures.value, c.deref-2.ensures.value, c.new-labels.ensures.same, c.new-labels.ensures.limit) at c.in_ok-best.ensures.walk in
+    let arrival = rw (c.new-plain.ensures.network, c.deref.ensures.value, c.deref-2.ensures.value, c.new-labels.ensures.same, c.new-labels.ensures.limit) at c.in_ok-best.ensures.arrival in
+    let found = rw c.new-plain.ensures.network at c.in_ok-found.ensures in
+    let limit : most + 1 ≡ c.args.limit = let some = c.if-limit-eq0.false in omega arith in
+    let small : most ≤ 8 = let few = c.requires.limit in omega arith in
+    let below = found_below n c.known.ensures c.new-plain.result.timetable.now (asked_by q) (counted (collapsed inner) most) most c.in_ok-starts.starts.items c.in_ok-targets.targets.items
+    few c.new-plain.ensures.journeys c.in_ok-starts.ensures.are c.in_ok-targets.ensures.are small _ _ _ arrival walk c.requires.soon found in
+    subst (λ k. IsLeastBelow n (asked_by q) k c.in_ok-found.found) limit below

@@ -1,0 +1,5 @@
+pub mod Counted
+pub mod CountedLaws
+pub mod Boardings
+pub mod Blocks
+pub mod Rounds

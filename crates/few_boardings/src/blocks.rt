@@ -1,0 +1,141 @@
+//! The block of a query line that asks for the journeys that are worth their boardings.
+
+ghost use Rattle.std.specs.Prelude.{◌≡◌, [], ◌∷◌, All, IfOk, OnOk};
+ghost use Rattle.journey.specs.Blocks.{AddsText, IsPrintable};
+ghost use Rattle.journey.specs.Texts.{IsJourneyText};
+ghost use Rattle.few_boardings.specs.Boardings.{IsPrintableRow};
+ghost use Rattle.few_boardings.specs.Blocks.{AreTold, IsFewText, IsBlockOf, IsFewBlock};
+
+use crate::boardings::{FewRow, few_with};
+use journey::{BlockBody, QueryFault, block, read_query};
+use mode_network::{Journey, Network};
+use plain_texts::{push_decimal, push_line_feed};
+use product_search::Workspace;
+use std::alloc::{AllocError, Global};
+
+/// What stands before and behind the body of the block of an empty line: `query` with a space and a line feed, and `end`
+/// with a line feed.
+const BEFORE: usize = 7;
+
+const BEHIND: usize = 4;
+
+/// A journey with the same start, time and steps.
+fn copied(alloc: Global, journey: &Journey) -> Result<Journey, AllocError>
+    ensures { IfOk result (λ copy. copy ≡ journey.now) }
+{
+    let steps = Vec::from_slice(alloc, &journey.steps)?;
+    Ok(Journey {
+        start: journey.start,
+        at: journey.at,
+        steps,
+    })
+}
+
+/// Appends what a block prints of a journey.
+fn push_journey(
+    alloc: Global,
+    out: &mut Vec<u8>,
+    network: &Network,
+    journey: &Journey,
+) -> Result<(), AllocError>
+    requires { IsPrintable network.now journey.now }
+    ensures { OnOk result (AddsText (IsJourneyText network.now journey.now) out.old.items out.new.items) }
+{
+    let journey = copied(alloc, journey)?;
+    let text = block(alloc, network, b"", &BlockBody::Journey(journey))?;
+    out.extend_from_slice(&text[BEFORE..text.len() - BEHIND])?;
+    Ok(())
+}
+
+/// Appends a row: the line `boardings`, and what a block prints of its journey.
+fn push_row(
+    alloc: Global,
+    out: &mut Vec<u8>,
+    network: &Network,
+    row: &FewRow,
+) -> Result<(), AllocError>
+    requires { IsPrintableRow network.now row.now }
+    ensures { OnOk result (AddsText (AreTold network.now (row.now ∷ [])) out.old.items out.new.items) }
+{
+    out.extend_from_slice(b"boardings ")?;
+    push_decimal(out, u128::from(row.boardings))?;
+    push_line_feed(out)?;
+    push_journey(alloc, out, network, &row.journey)?;
+    Ok(())
+}
+
+/// Appends the rows, one after the other.
+fn push_rows(
+    alloc: Global,
+    out: &mut Vec<u8>,
+    network: &Network,
+    rows: &[FewRow],
+) -> Result<(), AllocError>
+    requires { All (IsPrintableRow network.now) rows.now }
+    ensures { OnOk result (AddsText (AreTold network.now rows.now) out.old.items out.new.items) }
+{
+    for row in rows {
+        push_row(alloc, out, network, row)?;
+    }
+    Ok(())
+}
+
+/// Appends the body of a block: the rows, or the line `no journey` where there is none.
+fn push_body(
+    alloc: Global,
+    out: &mut Vec<u8>,
+    network: &Network,
+    rows: &[FewRow],
+) -> Result<(), AllocError>
+    requires { All (IsPrintableRow network.now) rows.now }
+    ensures { OnOk result (AddsText (IsFewText network.now rows.now) out.old.items out.new.items) }
+{
+    if rows.is_empty() {
+        out.extend_from_slice(b"no journey\n")?;
+    } else {
+        push_rows(alloc, out, network, rows)?;
+    }
+    Ok(())
+}
+
+/// The block of a line with these rows.
+fn rows_block(
+    alloc: Global,
+    network: &Network,
+    line: &[u8],
+    rows: &[FewRow],
+) -> Result<Vec<u8>, AllocError>
+    requires { All (IsPrintableRow network.now) rows.now }
+    ensures { IfOk result (λ block. IsBlockOf network.now line.now rows.now block.items) }
+{
+    let mut out = Vec::new(alloc);
+    out.extend_from_slice(b"query ")?;
+    out.extend_from_slice(line)?;
+    push_line_feed(&mut out)?;
+    push_body(alloc, &mut out, network, rows)?;
+    out.extend_from_slice(b"end\n")?;
+    Ok(out)
+}
+
+/// The right block of a query line: that of its refusal, or of the journeys that are worth their boardings. The searches
+/// use the workspace.
+pub fn few_block(
+    alloc: Global,
+    workspace: &mut Workspace,
+    network: &Network,
+    line: &[u8],
+) -> Result<Vec<u8>, AllocError>
+    ensures { IfOk result (λ block. IsFewBlock network.now line.now block.items) }
+{
+    let query = match read_query(alloc, network, line) {
+        Ok(query) => query,
+        Err(QueryFault::OutOfMemory) => return Err(AllocError),
+        Err(fault) => {
+            let block = block(alloc, network, line, &BlockBody::Refused(fault))?;
+            return Ok(block);
+        }
+    };
+    let rows = few_with(alloc, workspace, network, &query)?;
+    let block = rows_block(alloc, network, line, &rows)?;
+    Ok(block)
+}

@@ -1,0 +1,12 @@
+//! The journeys that are worth their boardings: for each number of rides, whether one more arrives earlier.
+#![tactic(auto)]
+
+mod blocks;
+mod boardings;
+mod counted;
+#[cfg(test)]
+mod tests;
+
+pub use blocks::few_block;
+pub use boardings::{FewRow, few, few_with};
+pub use counted::Counted;
