@@ -177,7 +177,8 @@ fn fault_by(caps: &Caps, counts: &Counts, back: Option<u64>) -> Option<BuildFaul
 fn network_of(alloc: Global, caps: &Caps, parts: Parts) -> Result<Network, AllocError>
     requires parts { AreParts parts }
     requires faultless { first_fault caps.now parts ≡ None }
-    ensures { IfOk result (λ network. network ≡ parts) }
+    ensures parts { IfOk result (λ network. network ≡ parts) }
+    ensures faultless { IfOk result (λ network. first_fault caps.now network ≡ None) }
 {
     match Network::build(alloc, parts, caps) {
         Ok(network) => Ok(network),
@@ -215,6 +216,7 @@ pub fn build(
     requires objects { AreObjects objects.now }
     requires feed { IsFeed feed.now }
     ensures compiled { IfOk result (λ region. IsCompiled caps.now objects.now feed.now days region.network) }
+    ensures faultless { IfOk result (λ region. first_fault caps.now region.network ≡ None) }
     ensures left_out { IfOk result (λ region. AreLeftOut feed.now days region.left_out) }
     ensures fault { IfErr result (IsFaultOf caps.now objects.now feed.now days) }
 {

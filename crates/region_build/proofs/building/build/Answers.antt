@@ -83,7 +83,7 @@ returns-clause-compiled c =
     ∙ ap (λ (sources : List Source). expanded (stop_number c.in_ok-lists.lists.entries.items) (map lists_of sources)) c.deref-7.ensures.value in
     let parts = c.in_ok-parts.ensures ∙ ap {B = NetworkLists} (λ (trips : List TripLists). record { days = c.args.days; roads = c.in_ok-lists.lists.roads.items; stop_names = map (λ (entry : StopEntry). entry.name) c.in_ok-lists.lists.entries.items; stops = c.in_ok-lists.lists.stops.items; switches = c.in_ok-lists.lists.switches.items; arcs = c.in_ok-lists.lists.arcs.items; links = c.in_ok-lists.lists.links.items; trips = trips }) trips in
     let none = fault_is c.args.caps.now c.in_ok-tally.tally.back c.fault_by.ensures c.counts.ensures c.in_default.is in
-    are_compiled c.args.caps.now c.in_ok-lists.ensures.are said is none c.in_ok-network.network (c.in_ok-network.ensures ∙ parts)
+    are_compiled c.args.caps.now c.in_ok-lists.ensures.are said is none c.in_ok-network.network (c.in_ok-network.ensures.parts ∙ parts)
 
 pub returns-clause-left_out : goal.returns-clause-left_out
 returns-clause-left_out c =
