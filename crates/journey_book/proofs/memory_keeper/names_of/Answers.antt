@@ -1,0 +1,6 @@
+use Rattle.std.proofs.Common.{rules}
+use Rattle.journey_book.proofs.BookLemmas.{names_are}
+use Rattle.journey_book.proofs.memory_keeper.names_of.Goals as goal
+
+pub returns : goal.returns
+returns c = names_are c.args.map.now c.keys-name-items.ensures.ordered _ (search rules)

@@ -1,0 +1,12 @@
+use Rattle.std.specs.Prelude.{◌≤◌, map, string_bytes, take}
+use Rattle.journey_book.specs.Keepers.{Stays}
+use Rattle.journey_book.specs.Reports.{AreReported}
+use Rattle.journey_book.proofs.reports.report_all.Given as goal
+
+-- the book has stayed, and the lines so far are of the names so far
+abbrev pub invariant-loop-name : goal.invariant-loop-name
+invariant-loop-name g l = record {
+  later : (g.K.Keeper.meaning l.fn.keeper).faults ≤ (g.K.Keeper.meaning l.keeper).faults;
+  stays : Stays (g.K.Keeper.meaning l.fn.keeper) (g.K.Keeper.meaning l.keeper);
+  lines : AreReported l.network (g.K.Keeper.meaning l.fn.keeper) (map string_bytes (take l.name-index l.names)) l.text.items;
+}

@@ -1,0 +1,10 @@
+use Rattle.journey_book.proofs.running.carry_out.Goals as goal
+
+pub returns-in-Drop : goal.returns-in-Drop
+returns-in-Drop g c = rw (c.in-Drop.is) (c.drop_name.ensures (g.F.Shelf.meaning c.args.shelf.now) (g.O.Sink.meaning c.args.out.now))
+
+pub returns-in-List : goal.returns-in-List
+returns-in-List g c = rw (c.in-List.is) (c.list.ensures (g.F.Shelf.meaning c.args.shelf.now))
+
+pub returns-in-Show : goal.returns-in-Show
+returns-in-Show g c = rw (c.in-Show.is) (c.show.ensures (g.F.Shelf.meaning c.args.shelf.now))

@@ -1,0 +1,6 @@
+use Rattle.std.specs.Prelude.{◌≡◌, map, string_bytes, take}
+use Rattle.plain_texts.specs.Lines.{lines_text}
+use Rattle.journey_book.proofs.showing.listed.Given as goal
+
+abbrev pub invariant-loop-name : goal.invariant-loop-name
+invariant-loop-name l = l.text.items ≡ lines_text (map string_bytes (take l.name-index l.names))

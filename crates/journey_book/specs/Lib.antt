@@ -1,0 +1,11 @@
+pub mod Books
+pub mod Keepers
+pub mod Memory
+pub mod Requests
+pub mod Statuses
+pub mod Sayings
+pub mod Reports
+pub mod Commands
+pub mod Complete
+pub mod Outcomes
+pub mod Working

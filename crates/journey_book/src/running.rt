@@ -1,0 +1,92 @@
+//! The top call: what a command with these words does to a book.
+
+ghost use Rattle.std.specs.Prelude.{◌≡◌, ℕ, List, map, string_bytes};
+ghost use Rattle.plan_base.specs.declared.limits.Caps.{Caps};
+ghost use Rattle.journey_book.specs.Commands.{says};
+ghost use Rattle.journey_book.specs.Outcomes.{AreFull, IsComplete, IsOutcome};
+ghost use Rattle.journey_book.specs.Requests.{request_of};
+ghost use Rattle.journey_book.specs.Sayings.{end_of, scene};
+
+use crate::keeper::Keeper;
+use crate::keeping::{drop_name, keep};
+use crate::outcome::BookOutcome;
+use crate::showing::{list, recheck_all, show};
+use crate::steps::tell;
+use crate::words::{BookCommand, read_words};
+use plan_base::{Caps, Shelf, Sink};
+use std::alloc::Global;
+
+/// Does what a command asks for.
+fn carry_out<F: Shelf, K: Keeper, O: Sink, E: Sink>(
+    alloc: Global,
+    command: BookCommand<'_>,
+    shelf: &mut F,
+    keeper: &mut K,
+    out: &mut O,
+    notes: &mut E,
+    caps: &Caps,
+) -> Result<(), BookOutcome>
+    ensures { says caps.now (request_of command.entry) (scene (F.meaning shelf.old) (K.meaning keeper.old) (O.meaning out.old)) (scene (F.meaning shelf.new) (K.meaning keeper.new) (O.meaning out.new)) (end_of result) }
+{
+    match command {
+        BookCommand::Keep {
+            name,
+            region,
+            certificate,
+        } => keep(alloc, name, region, certificate, shelf, keeper, notes, caps),
+        BookCommand::Drop { name } => drop_name(name, keeper, caps),
+        BookCommand::List => list(alloc, keeper, out, caps),
+        BookCommand::Show { name } => show(name, keeper, out, caps),
+        BookCommand::Recheck { region } => {
+            recheck_all(alloc, region, shelf, keeper, out, notes, caps)
+        }
+    }
+}
+
+/// Does what a command with these words asks for, within these limits.
+pub fn run_book_within<F: Shelf, K: Keeper, O: Sink, E: Sink>(
+    alloc: Global,
+    words: &[String],
+    shelf: &mut F,
+    keeper: &mut K,
+    out: &mut O,
+    notes: &mut E,
+    caps: &Caps,
+) -> BookOutcome
+    ensures outcome { IsOutcome caps.now (map string_bytes words.now) (scene (F.meaning shelf.old) (K.meaning keeper.old) (O.meaning out.old)) (scene (F.meaning shelf.new) (K.meaning keeper.new) (O.meaning out.new)) result }
+    ensures complete { IsComplete caps.now (map string_bytes words.now) (scene (F.meaning shelf.old) (K.meaning keeper.old) (O.meaning out.old)) (scene (F.meaning shelf.new) (K.meaning keeper.new) (O.meaning out.new)) result }
+{
+    let Some(command) = read_words(words) else {
+        return BookOutcome::Usage;
+    };
+    match carry_out(alloc, command, shelf, keeper, out, notes, caps) {
+        Ok(()) => BookOutcome::Done,
+        Err(outcome) => outcome,
+    }
+}
+
+/// Does what a command with these words asks for: the program's name, the book's, which is not looked at, the command's, and what it
+/// works on.
+///
+/// `keep` keeps a certificate's bytes under a name, where it is valid in a region; `drop` removes a name; `list` writes all names and
+/// `show` what is kept under one; `recheck` writes what a region makes of all that is kept. The outcome says how the run ended. Where
+/// the shelf tells that all files are there, they are without fault, and no count of faults rose, all of the work is done, unless
+/// nothing is kept under the name or memory ran out. `notes` is told why a run did not end with its work done; a fault of `notes`
+/// changes nothing.
+pub fn run_book<F: Shelf, K: Keeper, O: Sink, E: Sink>(
+    alloc: Global,
+    words: &[String],
+    shelf: &mut F,
+    keeper: &mut K,
+    out: &mut O,
+    notes: &mut E,
+) -> BookOutcome
+    ensures outcome { (caps : Caps) × AreFull caps × IsOutcome caps (map string_bytes words.now) (scene (F.meaning shelf.old) (K.meaning keeper.old) (O.meaning out.old)) (scene (F.meaning shelf.new) (K.meaning keeper.new) (O.meaning out.new)) result }
+    ensures complete { (caps : Caps) × AreFull caps × IsComplete caps (map string_bytes words.now) (scene (F.meaning shelf.old) (K.meaning keeper.old) (O.meaning out.old)) (scene (F.meaning shelf.new) (K.meaning keeper.new) (O.meaning out.new)) result }
+{
+    let outcome = run_book_within(alloc, words, shelf, keeper, out, notes, &Caps::FULL);
+    if let Some(note) = outcome.note() {
+        tell(alloc, notes, String::from_str(alloc, note));
+    }
+    outcome
+}

@@ -1,0 +1,82 @@
+//! The commands `list`, `show` and `recheck`, which write what is kept.
+
+ghost use Rattle.std.specs.Prelude.{◌≡◌, map, string_bytes, IfOk};
+ghost use Rattle.plain_texts.specs.Lines.{lines_text};
+ghost use Rattle.plan_base.specs.Shelves.{ShelfMeaning};
+ghost use Rattle.journey_book.specs.Commands.{says};
+ghost use Rattle.journey_book.specs.Requests.{list, show, recheck};
+ghost use Rattle.journey_book.specs.Sayings.{end_of, scene};
+
+use crate::keeper::Keeper;
+use crate::outcome::BookOutcome;
+use crate::reports::recheck;
+use crate::steps::{outcome_of_keeper, read_region, write_text};
+use plain_texts::push_line_feed;
+use plan_base::{Caps, Shelf, Sink};
+use std::alloc::{AllocError, Global};
+
+/// Writes all names.
+pub(crate) fn list<K: Keeper, O: Sink>(
+    alloc: Global,
+    keeper: &mut K,
+    out: &mut O,
+    caps: &Caps,
+) -> Result<(), BookOutcome>
+    ensures { (shelf : ShelfMeaning) → says caps.now list (scene shelf (K.meaning keeper.old) (O.meaning out.old)) (scene shelf (K.meaning keeper.new) (O.meaning out.new)) (end_of result) }
+{
+    let names = match keeper.names() {
+        Ok(names) => names,
+        Err(fault) => return Err(outcome_of_keeper(fault)),
+    };
+    let Ok(text) = listed(alloc, &names) else {
+        return Err(BookOutcome::OutOfMemory);
+    };
+    write_text(out, &text)
+}
+
+/// Names, each on a line.
+fn listed(alloc: Global, names: &[String]) -> Result<Vec<u8>, AllocError>
+    ensures { IfOk result (λ text. text.items ≡ lines_text (map string_bytes names.now)) }
+{
+    let mut text = Vec::new(alloc);
+    for name in names {
+        text.extend_from_slice(name.as_bytes())?;
+        push_line_feed(&mut text)?;
+    }
+    Ok(text)
+}
+
+/// Writes what is kept under a name.
+pub(crate) fn show<K: Keeper, O: Sink>(
+    name: &str,
+    keeper: &mut K,
+    out: &mut O,
+    caps: &Caps,
+) -> Result<(), BookOutcome>
+    ensures { (shelf : ShelfMeaning) → says caps.now (show name.now) (scene shelf (K.meaning keeper.old) (O.meaning out.old)) (scene shelf (K.meaning keeper.new) (O.meaning out.new)) (end_of result) }
+{
+    match keeper.get(name) {
+        Ok(Some(body)) => write_text(out, &body),
+        Ok(None) => Err(BookOutcome::Absent),
+        Err(fault) => Err(outcome_of_keeper(fault)),
+    }
+}
+
+/// Reads a region, and writes what it makes of all that is kept.
+pub(crate) fn recheck_all<F: Shelf, K: Keeper, O: Sink, E: Sink>(
+    alloc: Global,
+    region: &str,
+    shelf: &mut F,
+    keeper: &mut K,
+    out: &mut O,
+    notes: &mut E,
+    caps: &Caps,
+) -> Result<(), BookOutcome>
+    ensures { says caps.now (recheck region.now) (scene (F.meaning shelf.old) (K.meaning keeper.old) (O.meaning out.old)) (scene (F.meaning shelf.new) (K.meaning keeper.new) (O.meaning out.new)) (end_of result) }
+{
+    let network = read_region(alloc, shelf, region, caps, notes)?;
+    match recheck(alloc, &network, keeper) {
+        Ok(text) => write_text(out, &text),
+        Err(fault) => Err(outcome_of_keeper(fault)),
+    }
+}
