@@ -1,12 +1,19 @@
 -- What a command line asks for, and which words ask for it.
-use Rattle.std.specs.Prelude.{◌≡◌, ℕ, ◌&&◌, nat_le, List, [], ◌∷◌, length, codes, Option, Some, None, option_and_then, option_map, if◌then◌else◌}
+use Rattle.std.specs.Prelude.{◌≡◌, ℕ, ◌&&◌, nat_eq, nat_le, List, [], ◌∷◌, length, codes, Option, Some, None, option_and_then, option_map, if◌then◌else◌}
+use Rattle.std.specs.Result.{result_ok}
 use Rattle.std.specs.Str.{bytes_eq}
 use Rattle.plain_texts.specs.FixedDecimal.{fixed_at}
+use Rattle.service_days.specs.DaysMeaning.{DaysMeaning}
+use Rattle.service_days.specs.Zones.{days_made}
+use Rattle.region_file.specs.declared.format.Format.{Format}
+use Rattle.region_file.specs.declared.format.Format.TheVariants.{Text, Binary}
 use Rattle.command_words.specs.declared.command.Command.{Command}
 use Rattle.command_words.specs.declared.command.Command.TheVariants as command
 
--- a command with what it works on: the names of files, query lines, and numbers
+-- a command with what it works on: the names of files, query lines, days, formats and numbers
 pub data Request : Type 0 where
+  compile : (map feed : List ℕ) (days : DaysMeaning) (format : Format) → Request
+  migrate : (region : List ℕ) (format : Format) → Request
   contract : (region : List ℕ) (keep : ℕ) → Request
   answer : (region queries : List ℕ) → Request
   certify : (region query : List ℕ) → Request
@@ -15,6 +22,8 @@ pub data Request : Type 0 where
 
 -- what a command of the program asks for
 abbrev pub request_of : Command → Request
+request_of (command.Compile map feed days format) = compile map.now feed.now days format
+request_of (command.Migrate region format) = migrate region.now format
 request_of (command.Contract region keep) = contract region.now keep
 request_of (command.Answer region queries) = answer region.now queries.now
 request_of (command.Certify region query) = certify region.now query.now
@@ -30,6 +39,51 @@ pub record AreWords (words : List (List ℕ)) (name : List ℕ) (given : List (L
 abbrev pub number_of : List ℕ → Option ℕ
 number_of word = if nat_le 1 (length word) && nat_le (length word) 8 then fixed_at word else None
 
+-- a date is 8 digits
+abbrev pub date_of : List ℕ → Option ℕ
+date_of word = if nat_eq (length word) 8 then fixed_at word else None
+
+-- the days that a date, a number and a zone rule, where there is one, give, if they give days
+abbrev pub days_of : List ℕ → List ℕ → Option (List ℕ) → Option DaysMeaning
+days_of date count rule = option_and_then (λ first. option_and_then (λ days. result_ok (days_made first days rule)) (number_of count)) (date_of date)
+
+-- a format is named by its number
+abbrev pub format_of : List ℕ → Option Format
+format_of word = if bytes_eq word (codes "1") then Some Text else (if bytes_eq word (codes "2") then Some Binary else None)
+
+-- the format that an option says, or this one where none does
+abbrev pub format_or : Format → Option (List ℕ) → Option Format
+format_or other None = Some other
+format_or other (Some word) = format_of word
+
+-- what the options --format and --zone say, of which each may be there, in this order
+abbrev pub format_and_zone : List (List ℕ) → Option (Option (List ℕ) × Option (List ℕ))
+format_and_zone [] = Some (None, None)
+format_and_zone (option ∷ []) = None
+format_and_zone (option ∷ value ∷ []) =
+    if bytes_eq option (codes "--format") then Some (Some value, None) else (if bytes_eq option (codes "--zone") then Some (None, Some value) else None)
+format_and_zone (option ∷ value ∷ next ∷ []) = None
+format_and_zone (option ∷ value ∷ next ∷ rule ∷ []) =
+    if bytes_eq option (codes "--format") && bytes_eq next (codes "--zone") then Some (Some value, Some rule) else None
+format_and_zone (option ∷ value ∷ next ∷ rule ∷ one ∷ more) = None
+
+-- the days and the format of a region to be compiled, in format 1 where no option says another
+abbrev pub days_and_format : List ℕ → List ℕ → Option (List ℕ) × Option (List ℕ) → Option (DaysMeaning × Format)
+days_and_format date count said =
+    option_and_then (λ format. option_map (λ days. (days, format)) (days_of date count said.1)) (format_or Text said.0)
+
+-- a map, a feed, a first date and a count of days, and then the options
+abbrev pub compiled_at : List (List ℕ) → Option (List ℕ × List ℕ × DaysMeaning × Format)
+compiled_at (map ∷ feed ∷ date ∷ count ∷ options) =
+    option_map (λ said. (map, feed, said.0, said.1)) (option_and_then (days_and_format date count) (format_and_zone options))
+compiled_at _ = None
+
+-- a region, and the format in which it is to be written, which is 2 where no option says another
+abbrev pub migrated_at : List (List ℕ) → Option (List ℕ × Format)
+migrated_at (region ∷ []) = Some (region, Binary)
+migrated_at (region ∷ option ∷ value ∷ []) = if bytes_eq option (codes "--format") then option_map (λ format. (region, format)) (format_of value) else None
+migrated_at _ = None
+
 -- how many nodes are to be kept: a number up to 16,777,216
 abbrev pub keep_of : List ℕ → Option ℕ
 keep_of word = option_and_then (λ keep. if nat_le keep 16777216 then Some keep else None) (number_of word)
@@ -44,6 +98,9 @@ kept_at (region ∷ option ∷ value ∷ next ∷ more) = None
 
 -- the words in the plain form: the command's words in their order, and then its options
 abbrev pub IsPlainForm : List (List ℕ) → Request → Type 0
+IsPlainForm words (compile map feed days format) =
+    (given : List (List ℕ)) × AreWords words (codes "compile") given × (compiled_at given ≡ Some (map, feed, days, format))
+IsPlainForm words (migrate region format) = (given : List (List ℕ)) × AreWords words (codes "migrate") given × (migrated_at given ≡ Some (region, format))
 IsPlainForm words (contract region keep) = (given : List (List ℕ)) × AreWords words (codes "contract") given × (kept_at given ≡ Some (region, keep))
 IsPlainForm words (answer region queries) = AreWords words (codes "answer") (region ∷ queries ∷ [])
 IsPlainForm words (certify region query) = AreWords words (codes "certify") (region ∷ query ∷ [])

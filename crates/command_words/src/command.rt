@@ -1,8 +1,23 @@
 //! The commands of `modeplan`, each with what it works on.
 
+use region_file::Format;
+use service_days::Days;
+
 /// What a command line asks for. A file is named by its path.
-#[derive(Clone, Copy, Debug, PartialEq, Eq)]
+#[derive(Debug, Drop)]
 pub enum Command<'a> {
+    /// The region of a map and of the timetable feed in a folder, over some days.
+    Compile {
+        map: &'a str,
+        feed: &'a str,
+        days: Days,
+        format: Format,
+    },
+    /// A region written anew in a format.
+    Migrate {
+        region: &'a str,
+        format: Format,
+    },
     /// A hierarchy of the region's road layers, in whose core so many nodes are kept besides those that must be.
     Contract {
         region: &'a str,

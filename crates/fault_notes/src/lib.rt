@@ -3,12 +3,16 @@
 #![tactic(auto)]
 
 mod certificates;
+mod feeds;
 mod hierarchies;
+mod maps;
 mod pieces;
 mod regions;
 
 pub use certificates::{bad_certificate, invalid_certificate};
+pub use feeds::{bad_build, bad_feed};
 pub use hierarchies::bad_hierarchy;
+pub use maps::bad_map;
 pub use pieces::shown;
 pub use regions::bad_region;
 

@@ -15,10 +15,11 @@ use Rattle.hierarchy.specs.declared.verdict.Verdict.TheVariants.{Broken}
 use Rattle.hierarchy_check.proofs.VerdictLemmas.{sound_verdict}
 use Rattle.hierarchy_file.specs.declared.fault.HFileFault.{HFileFault}
 use Rattle.hierarchy_file.specs.Reading.{hierarchy_of}
-use Rattle.command_words.specs.Requests.{Request, contract, answer, certify, verify, check}
+use Rattle.command_words.specs.Requests.{Request, compile, migrate, contract, answer, certify, verify, check}
 use Rattle.run_steps.specs.Sayings.{Saying}
 use Rattle.run_steps.specs.Complete.{Files, IsDoneOrMemory, Completes}
 use Rattle.run_steps.proofs.CompleteSteps.{file_completes, network_completes, writes_completes}
+use Rattle.compile_steps.proofs.CompleteSteps.{map_completes, feed_completes, build_completes}
 use Rattle.planner_core.specs.Commands.{OnSound, OnCertificate, says}
 use Rattle.planner_core.specs.Complete.{SpellsSound, SpellsValid, CanBeDone}
 
@@ -50,6 +51,9 @@ module _ (files : Files) where
 
   -- what can be done is done
   pub completes : (caps : Caps) (r : Request) → Completes files (CanBeDone caps files r) (says caps r)
+  completes caps (compile map feed days format) =
+      map_completes files caps map _ _ (λ objects. feed_completes files caps feed _ _ (λ tables. build_completes files caps objects tables days _ (λ n. writes_completes files _ _)))
+  completes caps (migrate region format) = file_completes files _ region _ _ (network_completes files caps _ _ (λ n rules. writes_completes files _ _))
   completes caps (contract region keep) = file_completes files _ region _ _ (network_completes files caps _ _ (λ n rules. writes_completes files _ _))
   completes caps (answer region queries) =
       file_completes files _ region _ _ (network_completes files caps _ _ (λ n rules. file_completes files _ queries _ _ (λ text. writes_completes files _ _)))

@@ -16,14 +16,17 @@ use Rattle.hierarchy.specs.Soundness.{IsSound}
 use Rattle.hierarchy.specs.FirstBroken.{IsFirstBroken}
 use Rattle.hierarchy_file.specs.declared.fault.HFileFault.{HFileFault}
 use Rattle.hierarchy_file.specs.Reading.{hierarchy_of}
-use Rattle.command_words.specs.Requests.{Request, contract, answer, certify, verify, check}
+use Rattle.command_words.specs.Requests.{Request, compile, migrate, contract, answer, certify, verify, check}
 use Rattle.run_steps.specs.declared.outcome.FileRole.TheVariants.{Queries, Certificate, Hierarchy}
 use Rattle.run_steps.specs.declared.outcome.Outcome.{Outcome}
 use Rattle.run_steps.specs.declared.outcome.Outcome.TheVariants.{Invalid, BadCertificate, BadHierarchy, Unsound}
 use Rattle.run_steps.specs.Regions.{OnRegion}
 use Rattle.run_steps.specs.Sayings.{Saying, Ends, OnFile, Writes, WritesText}
+use Rattle.compile_steps.specs.Maps.{OnMap}
+use Rattle.compile_steps.specs.Feeds.{OnFeed}
+use Rattle.compile_steps.specs.Builds.{OnBuild}
 use Rattle.planner_core.specs.Written.{query_lines, AreBlocks, BeginsBlocks}
-use Rattle.planner_core.specs.Outputs.{IsCertified, IsVerified, IsContraction}
+use Rattle.planner_core.specs.Outputs.{IsRegionFile, IsCertified, IsVerified, IsContraction}
 
 -- the hierarchy is not sound for the network: this is the first clause that fails, at its least place
 abbrev pub IsUnsound : NetworkLists → HierarchyLists → Saying
@@ -54,9 +57,13 @@ abbrev pub OnCertificate : NetworkLists → List ℕ → Saying → Saying
 OnCertificate n bytes rest old new before after outcome =
     IsBadCertificate bytes old new before after outcome ⊎ (IsInvalid n bytes old new before after outcome ⊎ rest old new before after outcome)
 
--- What a run says that was asked for this: `contract` writes a hierarchy of the region's road layers; `answer` writes a right block for each query line of a file, in order; `certify` a
--- certificate for a query line; `verify` what the certificate of a file shows; `check` that the hierarchy of a file is sound.
+-- What a run says that was asked for this: `compile` writes the region of a map and a feed over some days, in a format, and `migrate` a region in another one; `contract` writes a hierarchy of
+-- the region's road layers; `answer` writes a right block for each query line of a file, in order; `certify` a certificate for a query line; `verify` what the certificate of a file shows;
+-- `check` that the hierarchy of a file is sound.
 abbrev pub says : Caps → Request → Saying
+says caps (compile map feed days format) =
+    OnMap caps map (λ objects. OnFeed caps feed (λ tables. OnBuild caps objects tables days (λ n. WritesText (IsRegionFile caps format n))))
+says caps (migrate region format) = OnRegion caps region (λ n. WritesText (IsRegionFile caps format n))
 says caps (contract region keep) = OnRegion caps region (λ n. WritesText (IsContraction n keep))
 says caps (answer region queries) =
     OnRegion caps region (λ n. OnFile Queries queries (λ text. Writes (AreBlocks n (query_lines text)) (BeginsBlocks n (query_lines text))))

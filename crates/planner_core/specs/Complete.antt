@@ -11,8 +11,9 @@ use Rattle.certificate.specs.Valid.{IsValid}
 use Rattle.hierarchy.specs.Lists.{HierarchyLists}
 use Rattle.hierarchy.specs.Soundness.{IsSound}
 use Rattle.hierarchy_file.specs.Reading.{hierarchy_of}
-use Rattle.command_words.specs.Requests.{Request, IsPlainForm, contract, answer, certify, verify, check}
+use Rattle.command_words.specs.Requests.{Request, IsPlainForm, compile, migrate, contract, answer, certify, verify, check}
 use Rattle.run_steps.specs.declared.outcome.Outcome.{Outcome}
+use Rattle.compile_steps.specs.Complete.{GivesRegion, IsFeedHeld, SpellsObjects}
 use Rattle.run_steps.specs.Complete.{Files, IsHeld, SpellsNetwork, IsDoneOrMemory}
 
 -- the bytes spell a hierarchy that is sound for the network
@@ -25,6 +26,8 @@ SpellsValid n bytes = (claim : Claim) × IsCertText bytes claim × IsValid n cla
 
 -- all that is asked for can be done: each file is there and without fault
 abbrev pub CanBeDone : Caps → Files → Request → Type 0
+CanBeDone caps files (compile map feed days format) = IsHeld files map (SpellsObjects caps (λ objects. IsFeedHeld caps files feed (GivesRegion caps objects days)))
+CanBeDone caps files (migrate region format) = IsHeld files region (SpellsNetwork caps (λ n. Unit {0}))
 CanBeDone caps files (contract region keep) = IsHeld files region (SpellsNetwork caps (λ n. Unit {0}))
 CanBeDone caps files (answer region queries) = IsHeld files region (SpellsNetwork caps (λ n. IsHeld files queries (λ text. Unit {0})))
 CanBeDone caps files (certify region query) = IsHeld files region (SpellsNetwork caps (λ n. Unit {0}))

@@ -1,4 +1,4 @@
--- What `certify`, `verify` and `contract` write.
+-- What `compile`, `migrate`, `certify`, `verify` and `contract` write.
 use Rattle.std.specs.Prelude.{◌≡◌, ℕ, ◌⊎◌, List, ◌++◌, Option, Some, None, Ok, codes}
 use Rattle.plain_texts.specs.Lines.{with_feed}
 use Rattle.mode_network.specs.NetworkLists.{NetworkLists}
@@ -14,7 +14,15 @@ use Rattle.hierarchy.specs.Lists.{HierarchyLists}
 use Rattle.hierarchy_file.specs.Spelling.{hierarchy_text}
 use Rattle.hierarchy_file.specs.Reading.{hierarchy_of}
 use Rattle.contractor.specs.Contracted.{IsContracted}
+use Rattle.plan_base.specs.declared.limits.Caps.{Caps}
+use Rattle.region_file.specs.Regions.{region_of, spelling}
+use Rattle.region_file.specs.declared.format.Format.{Format}
 use Rattle.planner_core.specs.Plans.{AreTheLabels}
+
+-- Written is the one spelling of the network in this format; it spells that network, within the limits.
+pub record IsRegionFile (caps : Caps) (format : Format) (n : NetworkLists) (out : List ℕ) : Type 0 where
+  pub text : out ≡ spelling format n
+  pub spells : region_of caps out ≡ Ok n
 
 -- the text of a valid certificate for the line, whose labels are those of the search; it proves what it claims
 pub record IsCertificateFor (n : NetworkLists) (line out : List ℕ) : Type 0 where

@@ -6,6 +6,7 @@ mod blocks;
 mod broken;
 mod certifying;
 mod checking;
+mod compiling;
 mod contracting;
 pub mod plans;
 mod running;

@@ -11,6 +11,7 @@ ghost use Rattle.planner_core.specs.Complete.{IsComplete};
 use crate::answering::answer;
 use crate::certifying::{certify, verify};
 use crate::checking::check;
+use crate::compiling::{compile, migrate};
 use crate::contracting::contract;
 use command_words::{Command, WordsFault, read_words};
 use plan_base::{Caps, Shelf, Sink};
@@ -29,6 +30,15 @@ fn carry_out<F: Shelf, O: Sink, E: Sink>(
     ensures { says caps.now (request_of command.entry) (F.meaning shelf.old) (F.meaning shelf.new) (O.meaning out.old) (O.meaning out.new) (end_of result) }
 {
     match command {
+        Command::Compile {
+            map,
+            feed,
+            days,
+            format,
+        } => compile(alloc, map, feed, days, format, shelf, out, notes, caps),
+        Command::Migrate { region, format } => {
+            migrate(alloc, region, format, shelf, out, notes, caps)
+        }
         Command::Contract { region, keep } => {
             contract(alloc, region, keep, shelf, out, notes, caps)
         }
@@ -71,10 +81,11 @@ pub fn run_within<F: Shelf, O: Sink, E: Sink>(
     }
 }
 
-/// Does what a command with these words asks for. The first word is the program's name, and each command reads the region
-/// file that the third names.
+/// Does what a command with these words asks for. The first word is the program's name, and each command but `compile` reads
+/// the region file that the third names.
 ///
-/// `contract` writes a hierarchy of the region's road layers, which `check` accepts. `answer` with a queries file writes the right block of each query line, in order. `certify` with a query line writes a
+/// `compile` with a map and the folder of a timetable feed writes the region of both over some days, and `migrate` writes a
+/// region anew, in the other format. `contract` writes a hierarchy of the region's road layers, which `check` accepts. `answer` with a queries file writes the right block of each query line, in order. `certify` with a query line writes a
 /// certificate for it, or its block where it is refused. `verify` with a certificate file writes `valid` and the block of
 /// the certificate's line and result, which is the right block of that line. `check` with a hierarchy file writes `sound`
 /// where the hierarchy is sound for the region.

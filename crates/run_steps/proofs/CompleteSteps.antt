@@ -17,15 +17,15 @@ use Rattle.run_steps.specs.Complete.{Files, IsHeld, SpellsNetwork, IsDoneOrMemor
 use Rattle.run_steps.proofs.Steps.{rose_over}
 
 -- what a shelf tells that holds these bytes
-told_held : (shelf : ShelfMeaning) (files : Files) (name bytes : List ℕ) → shelf.files ≡ Some files → files name ≡ Some bytes
+pub told_held : (shelf : ShelfMeaning) (files : Files) (name bytes : List ℕ) → shelf.files ≡ Some files → files name ≡ Some bytes
     → (P : Option (List ℕ) → Type 0) → Told shelf name P → P (Some bytes)
 told_held shelf files name bytes tells held P told = subst P held (subst (λ (f : Option Files). IfSome f (λ g. P (g name))) tells told)
 
 module _ (files : Files) where
   -- a file that is held is read
-  unread : (old new : ShelfMeaning) (file : FileRole) (name : List ℕ) (P : List ℕ → Type 0) (held : IsHeld files name P) → old.files ≡ Some files
+  pub unread : (old new : ShelfMeaning) (file : FileRole) (name : List ℕ) (P : List ℕ → Type 0) (held : IsHeld files name P) → old.files ≡ Some files
       → (Rose old.faults new.faults → ⊥) → (outcome : Outcome) → IsUnread old new name file outcome → IsDoneOrMemory outcome
-  unread old new file name P held tells quiet (Missing other) (e, rose, told) =
+  unread old new file name P held tells quiet (Missing other) (e, (rose, told)) =
       let none = told_held old files name held.bytes tells held.held (λ h. h ≡ None) told in
       absurd (cc)
   unread old new file name P held tells quiet (ReadFault other) (e, rose) = absurd (quiet rose)

@@ -1,15 +1,19 @@
 -- What the steps of a run answer, put together to what the run says.
-use Rattle.std.proofs.Common.{ℕ, ◌≤◌, inl, inr, List, take, refl, sym, subst, arith, rules}
-use Rattle.std.specs.Prelude.{Result}
+use Rattle.std.proofs.Common.{◌≡◌, ℕ, ◌<◌, ◌≤◌, ◌∙◌, inl, inr, List, Option, Some, None, Ok, Err, take, refl, sym, subst, arith, rules}
+use Rattle.std.specs.Prelude.{Result, IfSome, IsSomeAnd, length}
 use Rattle.plan_base.specs.Counts.{Rose}
-use Rattle.plan_base.specs.Shelves.{ShelfMeaning, IsLater}
+use Rattle.plan_base.specs.Shelves.{ShelfMeaning, IsLater, Told}
 use Rattle.plan_base.specs.Sinks.{SinkMeaning}
 use Rattle.plan_base.specs.declared.limits.Caps.{Caps}
 use Rattle.mode_network.specs.NetworkLists.{NetworkLists}
+use Rattle.mode_network.specs.Rules.{first_fault}
+use Rattle.mode_network.specs.declared.faults.NetFault.{NetFault}
 use Rattle.region_file.specs.declared.fault.RegionFault.{RegionFault}
+use Rattle.region_file.specs.Regions.{behind_head, lists_by, network_of, or_fault, region_of}
 use Rattle.run_steps.specs.declared.outcome.Outcome.{Outcome}
 use Rattle.run_steps.specs.declared.outcome.Outcome.TheVariants.{Done, Usage, Missing, ReadFault, TooLong, WriteFault, BadRegion, BadFeed, Invalid, BadCertificate, BadHierarchy, Unsound, OutOfMemory}
-use Rattle.run_steps.specs.Sayings.{Saying, IsUnwritten, WritesText}
+use Rattle.run_steps.specs.declared.outcome.FileRole.{FileRole}
+use Rattle.run_steps.specs.Sayings.{Saying, IsUnread, IsUnreadable, IsUnwritten, WritesText, most_bytes}
 use Rattle.run_steps.specs.Regions.{OnNetwork, OnRegion}
 use Rattle.run_steps.specs.Working.{HasRegion, IsRegionOutcome, IsTextOutcome}
 
@@ -17,6 +21,52 @@ use Rattle.run_steps.specs.Working.{HasRegion, IsRegionOutcome, IsTextOutcome}
 pub rose_over : (first second third : ℕ) → first ≤ second → Rose second third → Rose first third
 rose_over first second third le (inl more) = inl (omega arith)
 rose_over first second third le (inr last) = inr last
+
+-- what a shelf tells it told before
+pub told_before : (old mid : ShelfMeaning) → IsLater old mid → (name : List ℕ) (P : Option (List ℕ) → Type 0) → Told mid name P → Told old name P
+told_before old mid later name P told = subst (λ (files : Option (List ℕ → Option (List ℕ))). IfSome files (λ f. P (f name))) later.files told
+
+-- why a file was not read whole is told of an earlier state too
+pub unreadable_before : (old mid new : ShelfMeaning) → IsLater old mid → (name : List ℕ) (file : FileRole) (outcome : Outcome)
+    → IsUnreadable mid new name file outcome → IsUnreadable old new name file outcome
+unreadable_before old mid new later name file (ReadFault other) (e, rose) = (e, rose_over old.faults mid.faults new.faults later.faults rose)
+unreadable_before old mid new later name file (TooLong other) (e, told) = (e, told_before old mid later name (λ held. IsSomeAnd held (λ bytes. most_bytes < length bytes)) told)
+unreadable_before old mid new later name file OutOfMemory none = none
+unreadable_before old mid new later name file Done none = none
+unreadable_before old mid new later name file Usage none = none
+unreadable_before old mid new later name file (Missing other) none = absurd none
+unreadable_before old mid new later name file WriteFault none = none
+unreadable_before old mid new later name file (BadRegion fault) none = none
+unreadable_before old mid new later name file (BadFeed fault) none = none
+unreadable_before old mid new later name file (Invalid clause at) none = none
+unreadable_before old mid new later name file (BadCertificate line) none = none
+unreadable_before old mid new later name file (BadHierarchy fault) none = none
+unreadable_before old mid new later name file (Unsound clause at by) none = none
+
+pub unread_before : (old mid new : ShelfMeaning) → IsLater old mid → (name : List ℕ) (file : FileRole) (outcome : Outcome)
+    → IsUnread mid new name file outcome → IsUnread old new name file outcome
+unread_before old mid new later name file (Missing other) (e, (rose, told)) =
+    (e, (rose_over old.misses mid.misses new.misses later.misses rose, told_before old mid later name (λ held. held ≡ None) told))
+unread_before old mid new later name file (ReadFault other) why = unreadable_before old mid new later name file (ReadFault other) why
+unread_before old mid new later name file (TooLong other) why = unreadable_before old mid new later name file (TooLong other) why
+unread_before old mid new later name file OutOfMemory none = none
+unread_before old mid new later name file Done none = none
+unread_before old mid new later name file Usage none = none
+unread_before old mid new later name file WriteFault none = none
+unread_before old mid new later name file (BadRegion fault) none = none
+unread_before old mid new later name file (BadFeed fault) none = none
+unread_before old mid new later name file (Invalid clause at) none = none
+unread_before old mid new later name file (BadCertificate line) none = none
+unread_before old mid new later name file (BadHierarchy fault) none = none
+unread_before old mid new later name file (Unsound clause at by) none = none
+
+-- one state after another
+pub later_twice : (old mid new : ShelfMeaning) → IsLater old mid → IsLater mid new → IsLater old new
+later_twice old mid new first second = record {
+  files = second.files ∙ first.files;
+  misses = (let one = first.misses in let two = second.misses in omega arith);
+  faults = (let one = first.faults in let two = second.faults in omega arith);
+}
 
 -- ---- what is written
 
@@ -40,7 +90,7 @@ module _ (old new : ShelfMeaning) (before after : SinkMeaning) where
 
 -- ---- what is read
 
-not_earlier : (shelf : ShelfMeaning) → IsLater shelf shelf
+pub not_earlier : (shelf : ShelfMeaning) → IsLater shelf shelf
 not_earlier shelf = record { files = refl; misses = search rules; faults = search rules }
 
 module _ (old mid new : ShelfMeaning) (before after : SinkMeaning) (name : List ℕ) where
@@ -77,3 +127,16 @@ module _ (old mid new : ShelfMeaning) (before after : SinkMeaning) (name : List 
     later = later;
     says = subst (λ (r : Result NetworkLists RegionFault). OnNetwork r rest mid new before after outcome) (sym has.spells) (has.rules, says);
   })
+
+-- a network that a region spells is within the limits
+spelled_within : (caps : Caps) (n m : NetworkLists) (fault : Option NetFault) → first_fault caps m ≡ fault → or_fault m fault ≡ Ok n → first_fault caps n ≡ None
+spelled_within caps n m None none e = let same : m ≡ n = cc in subst (λ (x : NetworkLists). first_fault caps x ≡ None) same none
+spelled_within caps n m (Some fault) some e = absurd (cc)
+
+network_within : (caps : Caps) (n : NetworkLists) (lists : Result NetworkLists RegionFault) → network_of caps lists ≡ Ok n → first_fault caps n ≡ None
+network_within caps n (Ok m) e = spelled_within caps n m (first_fault caps m) refl e
+network_within caps n (Err fault) e = absurd (cc)
+
+pub region_within : (caps : Caps) (bytes : List ℕ) (n : NetworkLists) → region_of caps bytes ≡ Ok n → first_fault caps n ≡ None
+unfolding region_of
+region_within caps bytes n e = network_within caps n (lists_by bytes (behind_head bytes)) e

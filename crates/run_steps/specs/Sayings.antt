@@ -22,13 +22,21 @@ end_of (Err outcome) = outcome
 abbrev pub most_bytes : ℕ
 most_bytes = 2 ^ 30
 
+-- why the file of this name, which has this role, was not read whole though it may be there
+abbrev pub IsUnreadable : ShelfMeaning → ShelfMeaning → List ℕ → FileRole → Outcome → Type 0
+IsUnreadable old new name file (ReadFault other) = (other ≡ file) × Rose old.faults new.faults
+IsUnreadable old new name file (TooLong other) = (other ≡ file) × Told old name (λ held. IsSomeAnd held (λ bytes. most_bytes < length bytes))
+IsUnreadable old new name file OutOfMemory = Unit {0}
+IsUnreadable old new name file _ = ⊥
+
+-- a read missed the file; where the shelf tells, it has none of this name
+abbrev pub IsAbsent : ShelfMeaning → ShelfMeaning → List ℕ → Type 0
+IsAbsent old new name = Rose old.misses new.misses × Told old name (λ held. held ≡ None)
+
 -- why the file of this name, which has this role, was not read whole
 abbrev pub IsUnread : ShelfMeaning → ShelfMeaning → List ℕ → FileRole → Outcome → Type 0
-IsUnread old new name file (Missing other) = (other ≡ file) × Rose old.misses new.misses × Told old name (λ held. held ≡ None)
-IsUnread old new name file (ReadFault other) = (other ≡ file) × Rose old.faults new.faults
-IsUnread old new name file (TooLong other) = (other ≡ file) × Told old name (λ held. IsSomeAnd held (λ bytes. most_bytes < length bytes))
-IsUnread old new name file OutOfMemory = Unit {0}
-IsUnread old new name file _ = ⊥
+IsUnread old new name file (Missing other) = (other ≡ file) × IsAbsent old new name
+IsUnread old new name file outcome = IsUnreadable old new name file outcome
 
 abbrev pub IsUnwritten : SinkMeaning → SinkMeaning → Type 0
 IsUnwritten before after = after.bytes ≡ before.bytes

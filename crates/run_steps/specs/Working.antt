@@ -1,5 +1,5 @@
 -- What the steps of a run answer: what was read, why it was not, and why a text was not written.
-use Rattle.std.specs.Prelude.{◌≡◌, ℕ, List, Err, Ok}
+use Rattle.std.specs.Prelude.{◌≡◌, ℕ, List, Option, None, Some, Err, Ok}
 use Rattle.plan_base.specs.Counts.{Rose}
 use Rattle.plan_base.specs.Shelves.{ShelfMeaning, HasRead}
 use Rattle.plan_base.specs.Sinks.{SinkMeaning, AppendedPart}
@@ -14,7 +14,7 @@ use Rattle.run_steps.specs.declared.outcome.FileRole.{FileRole}
 use Rattle.run_steps.specs.declared.outcome.FileRole.TheVariants.{Region}
 use Rattle.run_steps.specs.declared.outcome.Outcome.{Outcome}
 use Rattle.run_steps.specs.declared.outcome.Outcome.TheVariants.{Missing, ReadFault, TooLong, WriteFault, BadRegion, OutOfMemory}
-use Rattle.run_steps.specs.Sayings.{most_bytes, IsUnread}
+use Rattle.run_steps.specs.Sayings.{most_bytes, IsAbsent, IsUnread}
 
 -- how a run ends where a file can't be read
 abbrev pub outcome_of : FileRole → ReadCause → Outcome
@@ -22,6 +22,11 @@ outcome_of file cause.Missing = Missing file
 outcome_of file cause.Failed = ReadFault file
 outcome_of file (cause.TooLong cap) = TooLong file
 outcome_of file cause.OutOfMemory = OutOfMemory
+
+-- a file that may be absent was read, or is absent
+abbrev pub IsFound : ShelfMeaning → ShelfMeaning → List ℕ → Option (List ℕ) → Type 0
+IsFound old new name (Some bytes) = HasRead old name most_bytes bytes
+IsFound old new name None = IsAbsent old new name
 
 -- the region file was read, and spells this network within the limits, which keeps the rules of networks
 pub record HasRegion (caps : Caps) (shelf : ShelfMeaning) (name : List ℕ) (n : NetworkLists) : Type 0 where

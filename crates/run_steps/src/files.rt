@@ -1,9 +1,9 @@
 //! The files that a command reads.
 
-ghost use Rattle.std.specs.Prelude.{◌≡◌, IfOk, IfErr};
+ghost use Rattle.std.specs.Prelude.{◌≡◌, IfOk, IfErr, option_map};
 ghost use Rattle.plan_base.specs.Shelves.{IsLater, HasRead};
-ghost use Rattle.run_steps.specs.Sayings.{IsUnread, most_bytes};
-ghost use Rattle.run_steps.specs.Working.{HasRegion, IsRegionOutcome, outcome_of};
+ghost use Rattle.run_steps.specs.Sayings.{IsUnread, IsUnreadable, most_bytes};
+ghost use Rattle.run_steps.specs.Working.{HasRegion, IsFound, IsRegionOutcome, outcome_of};
 
 use crate::notes::tell;
 use crate::outcome::{FileRole, Outcome};
@@ -14,7 +14,7 @@ use region_file::{RegionFault, decode};
 use std::alloc::{AllocError, Global};
 
 /// The most bytes that a file may have.
-const MOST_BYTES: u64 = 1 << 30;
+pub const MOST_BYTES: u64 = 1 << 30;
 
 /// A file, whole. If it can't be had, `notes` is told why.
 pub fn read_file<F: Shelf, E: Sink>(
@@ -31,11 +31,42 @@ pub fn read_file<F: Shelf, E: Sink>(
     match read_whole(alloc, shelf, name, MOST_BYTES) {
         Ok(bytes) => Ok(bytes),
         Err(ReadFault::OutOfMemory) => Err(Outcome::OutOfMemory),
-        Err(fault) => {
-            tell(alloc, notes, unread(alloc, name, file, fault));
-            Err(outcome_of(file, fault))
-        }
+        Err(fault) => Err(refused(alloc, name, file, fault, notes)),
     }
+}
+
+/// A file that may be absent, whole; None where it is absent. If it is there and can't be had, `notes` is told why.
+pub fn read_file_if_there<F: Shelf, E: Sink>(
+    alloc: Global,
+    shelf: &mut F,
+    name: &str,
+    file: FileRole,
+    notes: &mut E,
+) -> Result<Option<Vec<u8>>, Outcome>
+    ensures later { IsLater (F.meaning shelf.old) (F.meaning shelf.new) }
+    ensures ok { IfOk result (λ found. IsFound (F.meaning shelf.old) (F.meaning shelf.new) name.now (option_map (λ bytes. bytes.items) found)) }
+    ensures err { IfErr result (IsUnreadable (F.meaning shelf.old) (F.meaning shelf.new) name.now file) }
+{
+    match read_whole(alloc, shelf, name, MOST_BYTES) {
+        Ok(bytes) => Ok(Some(bytes)),
+        Err(ReadFault::Missing) => Ok(None),
+        Err(ReadFault::OutOfMemory) => Err(Outcome::OutOfMemory),
+        Err(fault) => Err(refused(alloc, name, file, fault, notes)),
+    }
+}
+
+/// How a run ends where a read of a file was refused, or it is too long. `notes` is told why.
+pub fn refused<E: Sink>(
+    alloc: Global,
+    name: &str,
+    file: FileRole,
+    fault: ReadFault,
+    notes: &mut E,
+) -> Outcome
+    ensures { result ≡ outcome_of file fault }
+{
+    tell(alloc, notes, unread(alloc, name, file, fault));
+    outcome_of(file, fault)
 }
 
 /// How a run ends where a file can't be read.

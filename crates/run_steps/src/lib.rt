@@ -7,7 +7,7 @@ mod notes;
 pub mod outcome;
 mod texts;
 
-pub use files::{read_file, read_region};
+pub use files::{MOST_BYTES, read_file, read_file_if_there, read_region, refused};
 pub use notes::tell;
 pub use outcome::{FileRole, Outcome, SourceFault};
 pub use texts::write_text;

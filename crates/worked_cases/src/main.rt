@@ -46,6 +46,7 @@ fn told(alloc: Global, script: &Script, line: &[u8]) -> Result<String, AllocErro
         b"certificate" => certificates::certificate(alloc, script, words),
         b"verdict" => certificates::verdict(alloc, script, words),
         b"run" => runs::run(alloc, script, words),
+        b"bytes" => runs::bytes(alloc, script, words),
         b"fill" => runs::fill(alloc, script, words),
         b"sweep" => runs::sweep(alloc, script, words),
         _ => String::from_str(alloc, "no such call"),

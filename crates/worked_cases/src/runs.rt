@@ -47,6 +47,17 @@ pub fn run(alloc: Global, script: &Script, words: &[u8]) -> Result<String, Alloc
     format!(in alloc; "{outcome:?}, status {status}, {notes} notes\n{text}")
 }
 
+/// `bytes WORDS`: how the run ends, and the bytes that it writes, in hexadecimal.
+pub fn bytes(alloc: Global, script: &Script, line: &[u8]) -> Result<String, AllocError> {
+    let told = run_over(alloc, script, line, NOTHING)?;
+    let (outcome, count) = (told.outcome, told.out.len());
+    let mut text = format!(in alloc; "{outcome:?}, {count} bytes: ")?;
+    for byte in &told.out {
+        text.push_str(&format!(in alloc; "{byte:02x}")?)?;
+    }
+    Ok(text)
+}
+
 /// `sweep WORDS`: read number k fails, for k from 1 until a run is Done, and then write number k, where a write takes four
 /// bytes; whether each earlier run ended as it must, with nothing written after a read and with a front of the output after
 /// a write.
@@ -126,6 +137,14 @@ fn is_front(out: &[u8], whole: &[u8], write: u64) -> bool {
     whole.starts_with(out) && out.len() as u64 <= write.saturating_sub(1).saturating_mul(4)
 }
 
+/// Whether a name is that of a file, or of one in a folder, which a word names.
+fn is_at(name: &[u8], word: &[u8]) -> bool {
+    match name.strip_prefix(word) {
+        Some(rest) => rest.is_empty() || rest.first() == Some(&b'/'),
+        None => false,
+    }
+}
+
 /// Runs the words over the texts that they name.
 fn run_over(
     alloc: Global,
@@ -140,9 +159,11 @@ fn run_over(
             break;
         }
         given.push(String::from_utf8_lossy(alloc, word)?)?;
-        if script.has(word) {
-            let bytes = Vec::from_slice(alloc, script.text(word))?;
-            held.insert(String::from_utf8_lossy(alloc, word)?, bytes)?;
+        for text in script.texts() {
+            if is_at(&text.name, word) {
+                let bytes = Vec::from_slice(alloc, &text.bytes)?;
+                held.insert(String::from_utf8_lossy(alloc, &text.name)?, bytes)?;
+            }
         }
     }
     let mut shelf = MemoryShelf::new(held, vec![in alloc; failing.read]?);

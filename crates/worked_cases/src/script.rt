@@ -14,10 +14,11 @@ pub struct Script {
     texts: Vec<Text>,
 }
 
+/// A text and its name.
 #[derive(Drop)]
-struct Text {
-    name: Vec<u8>,
-    bytes: Vec<u8>,
+pub struct Text {
+    pub name: Vec<u8>,
+    pub bytes: Vec<u8>,
 }
 
 impl Script {
@@ -37,9 +38,9 @@ impl Script {
         b""
     }
 
-    /// Whether there is a text of this name.
-    pub fn has(&self, name: &[u8]) -> bool {
-        self.texts.iter().any(|text| text.name.as_slice() == name)
+    /// All texts, in order.
+    pub fn texts(&self) -> &[Text] {
+        &self.texts
     }
 
     /// Takes a line that says something of texts, or nothing; whether it was one.

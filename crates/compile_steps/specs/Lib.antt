@@ -1,0 +1,5 @@
+pub mod Maps
+pub mod Feeds
+pub mod Builds
+pub mod Complete
+pub mod Working

@@ -1,0 +1,37 @@
+-- What a run says that reads a map.
+use Rattle.std.specs.Prelude.{◌≡◌, List, ℕ, ◌⊎◌, ◌++◌, IsSomeAnd, Result, Ok, Err}
+use Rattle.plan_base.specs.Shelves.{ShelfMeaning, Told}
+use Rattle.plan_base.specs.declared.limits.Caps.{Caps}
+use Rattle.opl_reader.specs.ObjectLists.{ObjectLists}
+use Rattle.opl_reader.specs.Objects.{objects_of}
+use Rattle.opl_reader.specs.Readings.{IsEndedFault}
+use Rattle.opl_reader.specs.declared.objects.OplFault.{OplFault}
+use Rattle.run_steps.specs.declared.outcome.FileRole.TheVariants as role
+use Rattle.run_steps.specs.declared.outcome.Outcome.TheVariants.{BadFeed}
+use Rattle.run_steps.specs.declared.outcome.SourceFault.TheVariants as source
+use Rattle.run_steps.specs.Sayings.{Saying, Ends, OnFile}
+
+-- the file begins with these bytes
+abbrev pub BeginsSo : List ℕ → List ℕ → Type 0
+BeginsSo bytes file = (more : List ℕ) × (file ≡ bytes ++ more)
+
+-- the lines that end in what was read of the map show its first fault, whatever follows
+pub record ShowsFault (caps : Caps) (shelf : ShelfMeaning) (name : List ℕ) (fault : OplFault) : Type 0 where
+  pub bytes : List ℕ
+  pub front : Told shelf name (λ held. IsSomeAnd held (BeginsSo bytes))
+  pub first : IsEndedFault caps bytes fault
+
+-- a map is refused before its end is read
+abbrev pub IsRefusedEarly : Caps → List ℕ → Saying
+IsRefusedEarly caps name old new before after outcome =
+    (fault : OplFault) × ShowsFault caps old name fault × Ends (BadFeed (source.Opl fault)) old new before after outcome
+
+-- what a map's bytes give: objects, or their first fault
+abbrev pub OnObjects : Result ObjectLists OplFault → (ObjectLists → Saying) → Saying
+OnObjects (Ok objects) rest old new before after outcome = rest objects old new before after outcome
+OnObjects (Err fault) rest old new before after outcome = Ends (BadFeed (source.Opl fault)) old new before after outcome
+
+-- a map is read: up to its first fault, or whole
+abbrev pub OnMap : Caps → List ℕ → (ObjectLists → Saying) → Saying
+OnMap caps name rest old new before after outcome =
+    IsRefusedEarly caps name old new before after outcome ⊎ OnFile role.Opl name (λ bytes. OnObjects (objects_of caps bytes) rest) old new before after outcome
