@@ -169,10 +169,10 @@ module _ (n : NetworkLists) (h : HierarchyLists) (targets : List ℕ) (network :
     | inr le ↦ (let most = height_most h.order v in omega arith)
   ]
 
-  link_leaves_core : (v to ms : ℕ) → Leads n.links v to ms → IsCore h.order v
+  pub link_leaves_core : (v to ms : ℕ) → Leads n.links v to ms → IsCore h.order v
   link_leaves_core v to ms leads = core_if_bound v (λ free. All-contains (λ (link : Arc). link.from ≡ v → ⊥) n.links (record { from = v; to = to; ms = ms }) free.none_from leads refl)
 
-  stop_is_core : (v stop : ℕ) → v ≡ stop_node n stop → IsCore h.order v
+  pub stop_is_core : (v stop : ℕ) → v ≡ stop_node n stop → IsCore h.order v
   stop_is_core v stop is = core_if_bound v (λ free. none-some free.mode (sym (past v (omega arith)) ∙ free.road))
     where
       past : (v : ℕ) → length n.roads ≤ v → mode_at n.roads v ≡ None

@@ -3,3 +3,10 @@ pub mod MoveLemmas
 pub mod JourneyLemmas
 pub mod RoadLemmas
 pub mod ArcLemmas
+pub mod MarkLemmas
+pub mod GraphLemmas
+pub mod PlaceLemmas
+pub mod GraphMoves
+mod WayTies
+pub mod WalkedLemmas
+pub mod InUseLemmas

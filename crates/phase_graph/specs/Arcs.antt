@@ -19,25 +19,26 @@ IsRest (cross step) = ⊥
 IsRest stand = ⊥
 
 -- the arc at a place of p leads to q with this letter, and arrives at a, which is no later than u, if it is taken at t
-pub record IsPhaseArc (g : GraphMeaning) (p t q u : ℕ) (letter : Option ℕ) (i a : ℕ) : Type 0 where
+pub record IsArcBy (g : GraphMeaning) (p t q u : ℕ) (letter : Option ℕ) (i a : ℕ) : Type 0 where
   pub has : HasArc g p i
   pub to : (g.arc_at p i).to ≡ q
   pub tells : (g.arc_at p i).letter ≡ letter
   pub arrives : g.arrive p i t ≡ Some a
   pub in_time : a ≤ u
 
--- the arc at a place of v, taken at t, is a move that arrives at u
+-- the arc at a place of v, taken at t, is a move other than a rest that arrives at u
 pub record IsArcOfMove (n : NetworkLists) (h : HierarchyLists) (targets : List ℕ) (g : GraphMeaning) (v : ℕ) (down : Bool) (t i u : ℕ) : Type 0 where
   pub move : PhaseMove
   pub to : ℕ
   pub down2 : Bool
+  pub moves : IsRest move → ⊥
   pub is : IsMove n h targets v down t move to down2 u (g.arc_at (phase_node v down) i).letter
   pub leads : (g.arc_at (phase_node v down) i).to ≡ phase_node to down2
 
--- each move but a rest has an arc that arrives no later, and each arc that arrives is a move
+-- each move but a rest has an arc that arrives no later, and each arc that arrives is such a move
 pub record IsPhaseGraph (n : NetworkLists) (h : HierarchyLists) (targets : List ℕ) (g : GraphMeaning) : Type 0 where
   pub arc_of : (v : ℕ) (down : Bool) (t : ℕ) (move : PhaseMove) (w : ℕ) (down2 : Bool) (u : ℕ) (letter : Option ℕ)
-      → IsMove n h targets v down t move w down2 u letter → (IsRest move → ⊥) → (i : ℕ) × (a : ℕ) × IsPhaseArc g (phase_node v down) t (phase_node w down2) u letter i a
+      → IsMove n h targets v down t move w down2 u letter → (IsRest move → ⊥) → (i : ℕ) × (a : ℕ) × IsArcBy g (phase_node v down) t (phase_node w down2) u letter i a
   pub move_of : (v : ℕ) (down : Bool) (t i u : ℕ) → HasArc g (phase_node v down) i → g.arrive (phase_node v down) i t ≡ Some u → IsArcOfMove n h targets g v down t i u
 
 -- waits and arcs lead from p at t to q at u, and their word is this

@@ -1,3 +1,9 @@
 pub mod Moves
 pub mod Laws
 pub mod Arcs
+pub mod Falls
+pub mod Marking
+pub mod PhaseArcs
+pub mod Walked
+pub mod InUse
+pub mod InUseGraph

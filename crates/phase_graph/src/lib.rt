@@ -2,8 +2,16 @@
 //! and down, and the laws that tie this to journeys.
 #![tactic(auto)]
 
+pub mod falls;
+pub mod in_use;
+pub mod phases;
+
 ghost use Rattle.phase_graph.specs.Arcs.{PhaseGraphsHaveMoves, PhaseGraphsHaveNoOthers};
 ghost use Rattle.phase_graph.specs.Laws.{JourneysHavePhaseWalks, PhaseWalksHaveJourneys};
+
+pub use falls::Fall;
+pub use in_use::{GraphInUse, ends_in, starts_in};
+pub use phases::{PhaseArc, PhaseStep, Phases};
 
 /// For each journey to a target, whatever sound hierarchy is taken, there is a walk through the phase graph with the
 /// same ends and departure, whose word collapses to the same and which arrives no later.

@@ -1,0 +1,201 @@
+-- The arcs of the phase graph are its moves, and keep the laws of graphs.
+use Rattle.std.proofs.Common.{◌≡◌, ℕ, ◌+◌, ◌-◌, ◌*◌, ◌/◌, ◌%◌, ◌^◌, ◌<◌, ◌≤◌, ◌∙◌, cond, nat_lt, nat_eq, Bool, true, false, List, length, drop, get_or, Option, Some, None, refl, ap, arith, sym, subst}
+use Rattle.std.specs.Prelude.{All, IfSome}
+use Rattle.std.specs.List.Sorted.{IsNonDecreasingBy}
+use Rattle.std.proofs.lemmas.Bool.{eqb-true, eqb-false, ltb-true, ltb-false}
+use Rattle.std.proofs.lemmas.List.{get_or-take, get_or-drop, length-take-le, length-drop}
+use Rattle.search_laws.specs.GraphLaws.{GraphMeaning, HasArc, IsLawfulGraph}
+use Rattle.timetable_arcs.specs.Patterns.{TableLists}
+use Rattle.timetable_arcs.specs.Table.{IsTable}
+use Rattle.mode_network.specs.NetworkLists.{NetworkLists, nodes_of, mode_at}
+use Rattle.mode_network.specs.Rules.{IsNetwork}
+use Rattle.mode_network.specs.Timetables.{IsTimetableOf}
+use Rattle.mode_network.proofs.RuleLemmas.{some_is, mode_is_road, nodes_hold_roads}
+use Rattle.hierarchy.specs.Lists.{HierarchyLists, IsAbove}
+use Rattle.hierarchy.specs.Rules.{IsHierarchy}
+use Rattle.hierarchy.specs.Indexes.{AreBelow}
+use Rattle.hierarchy.specs.Rises.{is_rise}
+use Rattle.hierarchy.specs.Soundness.{IsSound, FitsLayer}
+use Rattle.hierarchy.specs.Lookups.{count_below}
+use Rattle.hierarchy.proofs.RiseLists.{are_rises_from}
+use Rattle.hierarchy.proofs.OffsetLemmas.{count_most, key_in_range}
+use Rattle.plain_graph.specs.PlainArcs.{plain_meaning, arcs_at}
+use Rattle.plain_graph.specs.Lawful.{plain_lawful}
+use Rattle.phase_graph.specs.declared.falls.Fall.{Fall}
+use Rattle.phase_graph.specs.declared.phases.PhaseArc.{PhaseArc}
+use Rattle.phase_graph.specs.declared.phases.PhaseArc.TheVariants.{Up, Down, Other}
+use Rattle.phase_graph.specs.Moves.{IsMarked}
+use Rattle.phase_graph.specs.Arcs.{phase_node}
+use Rattle.phase_graph.specs.Falls.{AreFalls, BeginsThere, falls_of, fall_from}
+use Rattle.phase_graph.specs.PhaseArcs.{phase_meaning, phase_arc, phase_arcs_at, arc_of, arrival_of, entry_at, rises_at, others_at, first_other, no_rise, no_fall, no_entry, node_of, is_down, BeginsAt}
+
+-- ---- the numbers of nodes
+
+pub half : (v : ℕ) (down : Bool) → node_of (phase_node v down) ≡ v
+half v false = omega arith
+half v true = omega arith
+
+pub phase_of : (v : ℕ) (down : Bool) → is_down (phase_node v down) ≡ down
+phase_of v false = let odd : (2 * v) % 2 ≡ 0 = omega arith in ap (λ k. nat_eq k 1) odd
+phase_of v true = let odd : (2 * v + 1) % 2 ≡ 1 = omega arith in ap (λ k. nat_eq k 1) odd
+
+pub whole : (p : ℕ) → phase_node (node_of p) (is_down p) ≡ p
+whole p = by_rest (nat_eq (p % 2) 1) refl
+  where
+    by_rest : (b : Bool) → nat_eq (p % 2) 1 ≡ b → phase_node (p / 2) b ≡ p
+    by_rest true e = let one = eqb-true (p % 2) 1 e in omega (arith, one)
+    by_rest false e = let none = nat_other p e in omega (arith, none)
+      where
+        nat_other : (p : ℕ) → nat_eq (p % 2) 1 ≡ false → p % 2 ≡ 0
+        nat_other p e = let apart = eqb-false (p % 2) 1 e in omega (arith, apart)
+
+pub in_nodes : (v : ℕ) (down : Bool) (n : ℕ) → v < n → phase_node v down < 2 * n
+in_nodes v false n lt = omega arith
+in_nodes v true n lt = omega arith
+
+-- the nodes of a sound hierarchy are road nodes
+module _ (n : NetworkLists) (h : HierarchyLists) (network : IsNetwork n) (sound : IsSound n h) where
+  pub road_inside : (v mode : ℕ) → mode_at n.roads v ≡ Some mode → v < length (nodes_of n)
+  road_inside v mode is = let low = (mode_is_road n network v mode is).0 in omega (arith, low, nodes_hold_roads n)
+
+  pub below_nodes : AreBelow h (length (nodes_of n))
+  below_nodes = record {
+    order = λ k d lt. (let free = (sound.in_order k lt).0 d in road_inside (get_or h.order k d) free.mode free.road);
+    entries = λ k d lt. (let f = sound.in_layers k d lt in (road_inside (get_or h.entries k d).from f.mode f.from_mode, road_inside (get_or h.entries k d).to f.mode f.to_mode));
+  }
+
+-- what is known of an arc out of v
+abbrev pub IsArcAt : NetworkLists → HierarchyLists → List ℕ → TableLists → ℕ → Bool → PhaseArc → Type 0
+IsArcAt n h targets t v down (Up place) = (down ≡ false) × (place < length h.entries) × ((entry_at h place).from ≡ v) × (is_rise h.order (entry_at h place) ≡ true)
+IsArcAt n h targets t v down (Down place) =
+    (place < length h.entries) × ((entry_at h place).from ≡ v) × IsAbove h.order v (entry_at h place).to × IsMarked h targets (entry_at h place).to
+IsArcAt n h targets t v down (Other place) = (first_other n v down ≤ place) × (place < first_other n v down + others_at n t v down)
+
+-- the falls of a node, read by place
+module _ (h : HierarchyLists) (falls : List Fall) (rising : IsNonDecreasingBy fall_from falls) where
+  pub falls_short : (v : ℕ) → length (falls_of falls v) ≡ count_below fall_from falls (v + 1) - count_below fall_from falls v
+  falls_short v =
+      length-take-le (count_below fall_from falls (v + 1) - count_below fall_from falls v) (drop (count_below fall_from falls v) falls)
+      (omega (arith, length-drop (count_below fall_from falls v) falls, count_most fall_from falls (v + 1)))
+
+  pub fall_read : (v i : ℕ) (d : Fall) → i < length (falls_of falls v) → get_or (falls_of falls v) i d ≡ get_or falls (count_below fall_from falls v + i) d
+  fall_read v i d lt =
+      get_or-take (count_below fall_from falls (v + 1) - count_below fall_from falls v) (drop (count_below fall_from falls v) falls) i d (omega (arith, lt, falls_short v))
+      ∙ get_or-drop (count_below fall_from falls v) falls i d
+
+  -- one of them begins at the node
+  pub fall_inside : (v i : ℕ) → i < length (falls_of falls v) → count_below fall_from falls v + i < length falls
+  fall_inside v i lt = omega (arith, lt, falls_short v, count_most fall_from falls (v + 1))
+
+  pub fall_begins : (v i : ℕ) (d : Fall) → i < length (falls_of falls v) → (get_or falls (count_below fall_from falls v + i) d).from ≡ v
+  fall_begins v i d lt = key_in_range fall_from falls rising v (count_below fall_from falls v + i) d (omega arith) (omega (arith, lt, falls_short v))
+
+  pub falls_begin : All (BeginsThere h) falls → (v : ℕ) → All (λ fall. BeginsAt h v fall.place) (falls_of falls v)
+  falls_begin begun v i d lt =
+      let x = begun (count_below fall_from falls v + i) d (fall_inside v i lt) in
+      subst (λ (f : Fall). BeginsAt h v f.place) (sym (fall_read v i d lt)) (x.0, x.1 no_entry ∙ fall_begins v i d lt)
+
+module _ (n : NetworkLists) (h : HierarchyLists) (targets : List ℕ) (network : IsNetwork n) (rules : IsHierarchy h) (sound : IsSound n h) (t : TableLists) (table : IsTable t) (of : IsTimetableOf n t)
+    (falls : List Fall) (are : AreFalls h targets falls) where
+  abbrev g : GraphMeaning
+  g = phase_meaning n t h falls
+
+  abbrev plain : GraphMeaning
+  plain = plain_meaning n t
+
+  -- what is known of an arc out of v
+  abbrev IsKnown : ℕ → Bool → PhaseArc → Type 0
+  IsKnown v down a = IsArcAt n h targets t v down a
+
+  up_at : (v i : ℕ) (down : Bool) → i < length (rises_at h v down) → IsKnown v down (Up (get_or (rises_at h v down) i no_rise).place)
+  up_at v i true lt = absurd (omega arith)
+  up_at v i false lt =
+      let r = are_rises_from h rules v in
+      let x = r.each i no_rise lt in
+      (refl, x.within, x.begins no_entry ∙ r.from_u i no_rise lt, x.leads no_entry)
+
+  down_at : (v i : ℕ) (down : Bool) → i < length (falls_of falls v) → IsKnown v down (Down (get_or (falls_of falls v) i no_fall).place)
+  down_at v i down lt =
+      let k = count_below fall_from falls v + i in
+      let x = are.each k no_fall (fall_inside h falls are.rising v i lt) in
+      let from = fall_begins h falls are.rising v i no_fall lt in
+      subst (λ (f : Fall). IsKnown v down (Down f.place)) (sym (fall_read h falls are.rising v i no_fall lt))
+      (x.within, x.begins no_entry ∙ from, subst (λ u. IsAbove h.order u (entry_at h (get_or falls k no_fall).place).to) from (x.lower no_entry), x.marked no_entry)
+
+  pub arc_is : (v i : ℕ) (down : Bool) → i < phase_arcs_at n t h falls v down → IsKnown v down (phase_arc n h falls v down i)
+  arc_is v i down lt = by_kind (nat_lt i (length (rises_at h v down))) refl (nat_lt (i - length (rises_at h v down)) (length (falls_of falls v))) refl
+    where
+      by_kind : (b : Bool) → nat_lt i (length (rises_at h v down)) ≡ b → (c : Bool) → nat_lt (i - length (rises_at h v down)) (length (falls_of falls v)) ≡ c
+          → IsKnown v down (cond b (Up (get_or (rises_at h v down) i no_rise).place)
+          (cond c (Down (get_or (falls_of falls v) (i - length (rises_at h v down)) no_fall).place) (Other (first_other n v down + (i - length (rises_at h v down) - length (falls_of falls v))))))
+      by_kind true e c f = up_at v i down (ltb-true _ _ e)
+      by_kind false e true f = down_at v (i - length (rises_at h v down)) down (ltb-true _ _ f)
+      by_kind false e false f =
+          let past = ltb-false _ _ e in
+          let more = ltb-false _ _ f in
+          (omega arith, omega (arith, past, more, lt))
+
+  -- ---- the laws
+
+  few_double : 2 * length (nodes_of n) ≤ 2 ^ 25
+  few_double = let few = network.few_nodes in omega (arith, few)
+
+  layer : (place : ℕ) → place < length h.entries → FitsLayer n (entry_at h place)
+  layer place lt = sound.in_layers place no_entry lt
+
+  mode_fits : (v : ℕ) (o : Option ℕ) → mode_at n.roads v ≡ o → IfSome o (λ c. c < 14)
+  mode_fits v None e = tt
+  mode_fits v (Some mode) e = let low = mode_is_road n network v mode e in omega (arith, low.1)
+
+  -- a place behind the road arcs is one of the plain graph
+  pub place_fits : (v place : ℕ) (down : Bool) → IsKnown v down (Other place) → place < arcs_at n t v
+  place_fits v place false is = let past = is.1 in omega (arith, past)
+  place_fits v place true is = let past = is.1 in omega (arith, past)
+
+  plain_has : (v place : ℕ) (down : Bool) → v < length (nodes_of n) → IsKnown v down (Other place) → HasArc plain v place
+  plain_has v place down node is = record { node = node; arc = place_fits v place down is }
+
+  laws : IsLawfulGraph plain
+  laws = plain_lawful n network t table of
+
+  to_fits : (v : ℕ) (down : Bool) (a : PhaseArc) → v < length (nodes_of n) → IsKnown v down a → (arc_of n t h v down a).to < 2 * length (nodes_of n)
+  to_fits v down (Up place) node is = let f = layer place is.1 in in_nodes (entry_at h place).to false (length (nodes_of n)) (road_inside n h network sound (entry_at h place).to f.mode f.to_mode)
+  to_fits v down (Down place) node is = let f = layer place is.0 in in_nodes (entry_at h place).to true (length (nodes_of n)) (road_inside n h network sound (entry_at h place).to f.mode f.to_mode)
+  to_fits v down (Other place) node is = in_nodes (plain.arc_at v place).to down (length (nodes_of n)) (laws.to_in_range v place (plain_has v place down node is))
+
+  letter_fits : (v : ℕ) (down : Bool) (a : PhaseArc) → v < length (nodes_of n) → IsKnown v down a → IfSome (arc_of n t h v down a).letter (λ c. c < 14)
+  letter_fits v down (Up place) node is = mode_fits v _ refl
+  letter_fits v down (Down place) node is = mode_fits v _ refl
+  letter_fits v down (Other place) node is = laws.letter_in_range v place (plain_has v place down node is)
+
+  soon : (v time at : ℕ) (down : Bool) (a : PhaseArc) → v < length (nodes_of n) → IsKnown v down a → arrival_of n t h v time a ≡ Some at → (time ≤ at) × (at ≤ time + 2 ^ 57)
+  soon v time at down (Up place) node is e = let light = (layer place is.1).light in let same = some_is e in (omega (arith, same), omega (arith, same, light))
+  soon v time at down (Down place) node is e = let light = (layer place is.0).light in let same = some_is e in (omega (arith, same), omega (arith, same, light))
+  soon v time at down (Other place) node is e = (laws.not_before v place time at (plain_has v place down node is) e, laws.not_late v place time at (plain_has v place down node is) e)
+
+  later : (v s time a b : ℕ) (down : Bool) (arc : PhaseArc) → v < length (nodes_of n) → IsKnown v down arc → s ≤ time → arrival_of n t h v s arc ≡ Some a → arrival_of n t h v time arc ≡ Some b → a ≤ b
+  later v s time a b down (Up place) node is le e f = omega (arith, le, some_is e, some_is f)
+  later v s time a b down (Down place) node is le e f = omega (arith, le, some_is e, some_is f)
+  later v s time a b down (Other place) node is le e f = laws.rises v place s time a b (plain_has v place down node is) le e f
+
+  never : (v s time : ℕ) (down : Bool) (arc : PhaseArc) → v < length (nodes_of n) → IsKnown v down arc → s ≤ time → arrival_of n t h v s arc ≡ None → arrival_of n t h v time arc ≡ None
+  never v s time down (Up place) node is le e = cc
+  never v s time down (Down place) node is le e = cc
+  never v s time down (Other place) node is le e = laws.stays_none v place s time (plain_has v place down node is) le e
+
+  pub node_half : (p : ℕ) → p < 2 * length (nodes_of n) → node_of p < length (nodes_of n)
+  node_half p lt = omega (arith, lt)
+
+  known : (p i : ℕ) → HasArc g p i → IsKnown (node_of p) (is_down p) (phase_arc n h falls (node_of p) (is_down p) i)
+  known p i has = arc_is (node_of p) i (is_down p) has.arc
+
+  pub lawful : IsLawfulGraph (phase_meaning n t h falls)
+  lawful = record {
+    few_nodes = few_double;
+    to_in_range = λ p i has. to_fits (node_of p) (is_down p) _ (node_half p has.node) (known p i has);
+    letter_in_range = λ p i has. letter_fits (node_of p) (is_down p) _ (node_half p has.node) (known p i has);
+    not_before = λ p i time u has e. (soon (node_of p) time u (is_down p) _ (node_half p has.node) (known p i has) e).0;
+    not_late = λ p i time u has e. (soon (node_of p) time u (is_down p) _ (node_half p has.node) (known p i has) e).1;
+    rises = λ p i s time a b has le e f. later (node_of p) s time a b (is_down p) _ (node_half p has.node) (known p i has) le e f;
+    stays_none = λ p i s time has le e. never (node_of p) s time (is_down p) _ (node_half p has.node) (known p i has) le e;
+  }

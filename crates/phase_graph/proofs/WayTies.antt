@@ -1,0 +1,311 @@
+-- The ways out of a node of the phase graph: along entries, and those that the plain graph has too.
+use Rattle.std.proofs.Common.{◌≡◌, ℕ, ◌+◌, ◌-◌, ◌^◌, ◌<◌, ◌≤◌, Bool, true, false, cond, List, [], ◌∷◌, ◌++◌, length, take, drop, set, get_or, zero, suc, Option, Some, None, refl, sym, ◌∙◌, ap, subst, append_assoc, append-nil, arith}
+use Rattle.std.specs.Prelude.{All, map, is_some}
+use Rattle.std.proofs.Math.Seq.{set-append_seam, get_or-append_seam, drop-append_seam, take-append_seam}
+use Rattle.std.proofs.lemmas.List.{drop_more, drop_all, take_more, take_all, take-append-drop, length-append, length-map, length-take-le, length-drop, get_or-drop, map-append}
+use Rattle.std.proofs.lemmas.List.Elements.{All-cons, All-nil, All-append}
+use Rattle.search_laws.specs.GraphLaws.{GraphMeaning}
+use Rattle.search_laws.specs.Ways.{is_open, way_if, open_way, way_at, ways_from}
+use Rattle.search_laws.specs.declared.graph.GraphArc.{GraphArc}
+use Rattle.search_laws.specs.declared.graph.Way.{Way}
+use Rattle.search_laws.proofs.WayLemmas.{ways_more, ways_split}
+use Rattle.timetable_arcs.specs.Patterns.{TableLists}
+use Rattle.timetable_arcs.specs.Table.{IsTable}
+use Rattle.timetable_arcs.proofs.TableLemmas.{rides_few}
+use Rattle.mode_network.specs.NetworkLists.{NetworkLists, nodes_of, mode_at, stop_at}
+use Rattle.mode_network.specs.Rules.{IsNetwork}
+use Rattle.mode_network.specs.Timetables.{IsTimetableOf}
+use Rattle.mode_network.proofs.IndexLemmas.{range_is_range}
+use Rattle.hierarchy.specs.Lists.{HierarchyLists}
+use Rattle.plain_graph.specs.PlainArcs.{plain_meaning, count_from, inner_arcs_at, rides_from, graph_arc, arrival}
+use Rattle.plain_graph.specs.Lawful.{plain_lawful}
+use Rattle.plain_graph.specs.declared.plain.PlainArc.{PlainArc}
+use Rattle.plain_graph.proofs.PlaceTies.{stand_at}
+use Rattle.phase_graph.specs.declared.falls.Fall.{Fall}
+use Rattle.phase_graph.specs.declared.phases.PhaseArc.{PhaseArc}
+use Rattle.phase_graph.specs.declared.phases.PhaseArc.TheVariants.{Up, Down, Other}
+use Rattle.phase_graph.specs.Arcs.{phase_node}
+use Rattle.phase_graph.specs.Falls.{falls_of}
+use Rattle.phase_graph.specs.PhaseArcs.{phase_meaning, phase_arc, arc_of, arrival_of, rises_at, others_at, first_other, no_rise, no_fall, node_of, is_down, renumbered, entry_way, FitsAnew}
+use Rattle.phase_graph.proofs.GraphLemmas.{whole}
+use Rattle.phase_graph.proofs.PlaceLemmas.{up_is, down_is, other_is}
+
+module _ (n : NetworkLists) (h : HierarchyLists) (t : TableLists) (falls : List Fall) (p time letters : ℕ) where
+  abbrev g : GraphMeaning
+  g = phase_meaning n t h falls
+
+  abbrev plain : GraphMeaning
+  plain = plain_meaning n t
+
+  abbrev from : ℕ → ℕ → List Way
+  from i k = ways_from g p time letters i k
+
+  abbrev letter : Option ℕ
+  letter = mode_at n.roads (node_of p)
+
+  abbrev ups : ℕ
+  ups = length (rises_at h (node_of p) (is_down p))
+
+  abbrev downs : ℕ
+  downs = length (falls_of falls (node_of p))
+
+  abbrev arc_there : ℕ → PhaseArc
+  arc_there i = phase_arc n h falls (node_of p) (is_down p) i
+
+  -- a known arc at a place
+  way_is : (i : ℕ) (a : PhaseArc) → arc_there i ≡ a → way_at g p time letters i ≡ open_way letters i (arc_of n t h (node_of p) (is_down p) a) (arrival_of n t h (node_of p) time a)
+  way_is i a is = ap (λ (x : PhaseArc). open_way letters i (arc_of n t h (node_of p) (is_down p) x) (arrival_of n t h (node_of p) time x)) is
+
+  -- one way more
+  pushed : (start i : ℕ) (way : Way) (before now next : List Way) → now ≡ before ++ from start i → way_at g p time letters (start + i) ≡ way ∷ [] → next ≡ now ++ way ∷ []
+      → next ≡ before ++ from start (i + 1)
+  pushed start i way before now next first is push =
+      push ∙ ap (λ (ws : List Way). ws ++ way ∷ []) first ∙ append_assoc before (from start i) (way ∷ [])
+      ∙ ap (λ (ws : List Way). before ++ (from start i ++ ws)) (sym is) ∙ ap (λ (ws : List Way). before ++ ws) (sym (ways_more g p time letters start i))
+
+  -- ---- entries
+
+  pub up_pushed : (i place : ℕ) (before now next : List Way) → i < ups → (get_or (rises_at h (node_of p) (is_down p)) i no_rise).place ≡ place → is_open letters letter ≡ true → now ≡ before ++ from 0 i
+      → next ≡ now ++ entry_way h letter false time i place ∷ [] → next ≡ before ++ from 0 (i + 1)
+  up_pushed i place before now next lt at opens first push =
+      let here : 0 + i ≡ i = omega arith in
+      let is : way_at g p time letters i ≡ entry_way h letter false time i place ∷ [] = way_is i (Up place) (up_is n h falls (node_of p) (is_down p) i place lt at) ∙ rw opens refl in
+      pushed 0 i (entry_way h letter false time i place) before now next first (ap (way_at g p time letters) here ∙ is) push
+
+  pub down_pushed : (i place : ℕ) (before now next : List Way) → i < downs → (get_or (falls_of falls (node_of p)) i no_fall).place ≡ place → is_open letters letter ≡ true → now ≡ before ++ from ups i
+      → next ≡ now ++ entry_way h letter true time (ups + i) place ∷ [] → next ≡ before ++ from ups (i + 1)
+  down_pushed i place before now next lt at opens first push =
+      let is : way_at g p time letters (ups + i) ≡ entry_way h letter true time (ups + i) place ∷ [] =
+      way_is (ups + i) (Down place) (down_is n h falls (node_of p) (is_down p) i place lt at) ∙ rw opens refl in
+      pushed ups i (entry_way h letter true time (ups + i) place) before now next first is push
+
+  -- where their letter is not in the set there are none
+  entry_closed : is_open letters letter ≡ false → (i : ℕ) (a : PhaseArc) → arc_there i ≡ a → (arc_of n t h (node_of p) (is_down p) a).letter ≡ letter → way_at g p time letters i ≡ []
+  entry_closed closed i a is tells = way_is i a is ∙ shut (is_open letters (arc_of n t h (node_of p) (is_down p) a).letter) (ap (is_open letters) tells ∙ closed)
+    where
+      shut : (b : Bool) → b ≡ false → cond b (way_if i (arc_of n t h (node_of p) (is_down p) a) (arrival_of n t h (node_of p) time a)) [] ≡ []
+      shut true e = cc
+      shut false e = refl
+
+  ups_closed : is_open letters letter ≡ false → (i k : ℕ) → i + k ≤ ups → from i k ≡ []
+  ups_closed closed i zero within = refl
+  ups_closed closed i (suc k) within =
+      let is = entry_closed closed i (Up (get_or (rises_at h (node_of p) (is_down p)) i no_rise).place) (up_is n h falls (node_of p) (is_down p) i _ (omega arith) refl) refl in
+      ap (λ (ws : List Way). ws ++ from (i + 1) k) is ∙ ups_closed closed (i + 1) k (omega arith)
+
+  downs_closed : is_open letters letter ≡ false → (i k : ℕ) → i + k ≤ downs → from (ups + i) k ≡ []
+  downs_closed closed i zero within = refl
+  downs_closed closed i (suc k) within =
+      let is = entry_closed closed (ups + i) (Down (get_or (falls_of falls (node_of p)) i no_fall).place) (down_is n h falls (node_of p) (is_down p) i _ (omega arith) refl) refl in
+      let next : ups + i + 1 ≡ ups + (i + 1) = omega arith in
+      ap (λ (ws : List Way). ws ++ from (ups + i + 1) k) is ∙ ap (λ x. from x k) next ∙ downs_closed closed (i + 1) k (omega arith)
+
+  both : (i j : ℕ) → from 0 (i + j) ≡ from 0 i ++ from i j
+  both i j = let here : 0 + i ≡ i = omega arith in ways_split g p time letters 0 i j ∙ ap (λ x. from 0 i ++ from x j) here
+
+  pub entries_closed : (before : List Way) → is_open letters letter ≡ false → before ≡ before ++ from 0 (ups + downs)
+  entries_closed before closed =
+      let none : ups + 0 ≡ ups = omega arith in
+      let falls_none : from ups downs ≡ [] = ap (λ x. from x downs) (sym none) ∙ downs_closed closed 0 downs (omega arith) in
+      sym (append-nil before) ∙ ap (λ (ws : List Way). before ++ ws) (sym (both ups downs ∙ ap (λ (ws : List Way). ws ++ from ups downs) (ups_closed closed 0 ups (omega arith)) ∙ falls_none))
+
+  -- one list behind the other
+  pub joined : (i j : ℕ) (before first second : List Way) → first ≡ before ++ from 0 i → second ≡ first ++ from i j → second ≡ before ++ from 0 (i + j)
+  joined i j before first second e f =
+      f ∙ ap (λ (ws : List Way). ws ++ from i j) e ∙ append_assoc before (from 0 i) (from i j) ∙ ap (λ (ws : List Way). before ++ ws) (sym (both i j))
+
+  -- ---- the arcs that the plain graph has too
+
+  -- before the descent: the same arcs behind the road arcs, numbered anew
+  other_at : is_down p ≡ false → (k : ℕ) → arc_there (ups + downs + k) ≡ Other (count_from n.arcs (node_of p) + k)
+  other_at first k =
+      let place = count_from n.arcs (node_of p) + k in
+      let low : first_other n (node_of p) (is_down p) ≡ count_from n.arcs (node_of p) + 0 = ap (λ d. first_other n (node_of p) d) first in
+      let at : ups + downs + k ≡ ups + downs + (place - first_other n (node_of p) (is_down p)) = omega (arith, low) in
+      ap arc_there at ∙ other_is n h falls (node_of p) (is_down p) place (omega (arith, low))
+
+  one_renumbered : is_down p ≡ false → (k : ℕ)
+      → map (renumbered (count_from n.arcs (node_of p)) (ups + downs)) (way_at plain (node_of p) time letters (count_from n.arcs (node_of p) + k)) ≡ way_at g p time letters (ups + downs + k)
+  one_renumbered first k =
+      by_tests (is_open letters (plain.arc_at (node_of p) place).letter) (plain.arrive (node_of p) place time)
+      ∙ ap (λ d. open_way letters (ups + downs + k) (record { to = phase_node (plain.arc_at (node_of p) place).to d; letter = (plain.arc_at (node_of p) place).letter }) (plain.arrive (node_of p) place time)) (sym first)
+      ∙ sym (way_is (ups + downs + k) (Other place) (other_at first k))
+    where
+      place : ℕ
+      place = count_from n.arcs (node_of p) + k
+
+      arc : GraphArc
+      arc = plain.arc_at (node_of p) place
+
+      by_tests : (b : Bool) (o : Option ℕ) → map (renumbered (count_from n.arcs (node_of p)) (ups + downs)) (cond b (way_if place arc o) [])
+          ≡ cond b (way_if (ups + downs + k) (record { to = phase_node arc.to false; letter = arc.letter }) o) []
+      by_tests false o = refl
+      by_tests true None = refl
+      by_tests true (Some at) =
+          let same : place - count_from n.arcs (node_of p) + (ups + downs) ≡ ups + downs + k = omega arith in
+          ap (λ x. record { place = x; arc = record { to = phase_node arc.to false; letter = arc.letter }; at = at } ∷ []) same
+
+  pub others_renumbered : is_down p ≡ false → (m k : ℕ)
+      → map (renumbered (count_from n.arcs (node_of p)) (ups + downs)) (ways_from plain (node_of p) time letters (count_from n.arcs (node_of p) + k) m) ≡ from (ups + downs + k) m
+  others_renumbered first zero k = refl
+  others_renumbered first (suc m) k =
+      let f = renumbered (count_from n.arcs (node_of p)) (ups + downs) in
+      let here = count_from n.arcs (node_of p) + k in
+      let next : here + 1 ≡ count_from n.arcs (node_of p) + (k + 1) = omega arith in
+      let there : ups + downs + (k + 1) ≡ ups + downs + k + 1 = omega arith in
+      let more = others_renumbered first m (k + 1) in
+      map-append f (way_at plain (node_of p) time letters here) (ways_from plain (node_of p) time letters (here + 1) m)
+      ∙ ap (λ (ws : List Way). ws ++ map f (ways_from plain (node_of p) time letters (here + 1) m)) (one_renumbered first k)
+      ∙ ap (λ x. way_at g p time letters (ups + downs + k) ++ map f (ways_from plain (node_of p) time letters x m)) next
+      ∙ ap (λ (ws : List Way). way_at g p time letters (ups + downs + k) ++ ws) (more ∙ ap (λ x. from x m) there)
+
+  -- what was put behind a list is numbered anew there
+  pub put_behind : is_down p ≡ false → (before mid after : List Way)
+      → mid ≡ before ++ ways_from plain (node_of p) time letters (count_from n.arcs (node_of p)) (count_from n.links (node_of p) + inner_arcs_at n t (node_of p))
+      → after ≡ take (length before) mid ++ map (renumbered (count_from n.arcs (node_of p)) (ups + downs)) (drop (length before) mid)
+      → after ≡ before ++ from (ups + downs) (others_at n t (node_of p) (is_down p))
+  put_behind first before mid after e done =
+      let f = renumbered (count_from n.arcs (node_of p)) (ups + downs) in
+      let m = count_from n.links (node_of p) + inner_arcs_at n t (node_of p) in
+      let there = ways_from plain (node_of p) time letters (count_from n.arcs (node_of p)) m in
+      let here : count_from n.arcs (node_of p) ≡ count_from n.arcs (node_of p) + 0 = omega arith in
+      let now : ups + downs + 0 ≡ ups + downs = omega arith in
+      done ∙ ap (λ (ws : List Way). take (length before) ws ++ map f (drop (length before) ws)) e
+      ∙ ap (λ (ws : List Way). ws ++ map f (drop (length before) (before ++ there))) (take-append_seam before there)
+      ∙ ap (λ (ws : List Way). before ++ map f ws) (drop-append_seam before there)
+      ∙ ap (λ k. before ++ map f (ways_from plain (node_of p) time letters k m)) here
+      ∙ ap (λ (ws : List Way). before ++ ws) (others_renumbered first m 0 ∙ ap (λ k. from k m) now ∙ ap (λ d. from (ups + downs) (others_at n t (node_of p) d)) (sym first))
+
+  -- in the descent: the one that stands
+  stand_is : is_down p ≡ true → (mode : ℕ) → letter ≡ Some mode → from (ups + downs) (others_at n t (node_of p) (is_down p)) ≡ open_way letters (ups + downs) (record { to = p; letter = Some mode }) (Some time)
+  stand_is low mode has =
+      let place = count_from n.arcs (node_of p) + count_from n.links (node_of p) in
+      let first : first_other n (node_of p) (is_down p) ≡ place = ap (λ d. first_other n (node_of p) d) low in
+      let one : others_at n t (node_of p) (is_down p) ≡ 1 = ap (λ d. others_at n t (node_of p) d) low ∙ ap (λ (o : Option ℕ). cond (is_some o) 1 0) has in
+      let at : ups + downs ≡ ups + downs + (place - first_other n (node_of p) (is_down p)) = omega (arith, first) in
+      let is = ap arc_there at ∙ other_is n h falls (node_of p) (is_down p) place (omega (arith, first)) in
+      let stands = stand_at n t 0 0 (node_of p) mode has in
+      ap (from (ups + downs)) one ∙ append-nil (way_at g p time letters (ups + downs)) ∙ way_is (ups + downs) (Other place) is
+      ∙ ap (λ (a : PlainArc). open_way letters (ups + downs) (record { to = phase_node (graph_arc n t (node_of p) a).to (is_down p); letter = (graph_arc n t (node_of p) a).letter }) (arrival t time a)) stands
+      ∙ ap (λ (o : Option ℕ). open_way letters (ups + downs) (record { to = phase_node (node_of p) (is_down p); letter = o }) (Some time)) has
+      ∙ ap (λ x. open_way letters (ups + downs) (record { to = x; letter = Some mode }) (Some time)) (whole p)
+
+  pub stand_ways : is_down p ≡ true → (mode : ℕ) → letter ≡ Some mode → is_open letters (Some mode) ≡ true
+      → from (ups + downs) (others_at n t (node_of p) (is_down p)) ≡ record { place = ups + downs; arc = record { to = p; letter = Some mode }; at = time } ∷ []
+  stand_ways low mode has opens = stand_is low mode has ∙ rw opens refl
+
+  pub stand_closed : (before : List Way) → is_down p ≡ true → (mode : ℕ) → letter ≡ Some mode → is_open letters (Some mode) ≡ false
+      → before ≡ before ++ from (ups + downs) (others_at n t (node_of p) (is_down p))
+  stand_closed before low mode has closed =
+      let none : from (ups + downs) (others_at n t (node_of p) (is_down p)) ≡ [] = stand_is low mode has ∙ rw closed refl in
+      sym (append-nil before) ∙ ap (λ (ws : List Way). before ++ ws) (sym none)
+
+  pub stand_none : (before : List Way) → is_down p ≡ true → letter ≡ None → before ≡ before ++ from (ups + downs) (others_at n t (node_of p) (is_down p))
+  stand_none before low has =
+      let count : others_at n t (node_of p) (is_down p) ≡ 0 = ap (λ d. others_at n t (node_of p) d) low ∙ ap (λ (o : Option ℕ). cond (is_some o) 1 0) has in
+      sym (append-nil before) ∙ ap (λ k. before ++ from (ups + downs) k) (sym count)
+
+-- ---- ways numbered anew, in their list
+
+module _ (f : Way → Way) (old : List Way) (b : ℕ) where
+  -- those before one place, where all from another on are changed
+  abbrev pub changed : ℕ → List Way
+  changed k = take b old ++ map f (take (k - b) (drop b old))
+
+  changed_length : (k : ℕ) → b ≤ k → k ≤ length old → length (changed k) ≡ k
+  changed_length k from within =
+      length-append (take b old) (map f (take (k - b) (drop b old)))
+      ∙ omega (arith, length-take-le b old (omega arith), length-map (take (k - b) (drop b old)) f, length-take-le (k - b) (drop b old) (omega (arith, length-drop b old)))
+
+  pub change_begins : old ≡ changed b ++ drop b old
+  change_begins =
+      let none : b - b ≡ 0 = omega arith in
+      sym (take-append-drop b old) ∙ ap (λ (ws : List Way). ws ++ drop b old) (sym (append-nil (take b old)) ∙ ap (λ k. take b old ++ map f (take k (drop b old))) (sym none))
+
+  pub change_more : (k : ℕ) (now : List Way) (w : Way) → b ≤ k → k < length old → w ≡ get_or now k w → now ≡ changed k ++ drop k old → set now k (f w) ≡ changed (k + 1) ++ drop (k + 1) old
+  change_more k now w from lt at is =
+      let x = get_or old k w in
+      let next : drop k old ≡ x ∷ drop (k + 1) old = drop_more old k w lt in
+      let whole : now ≡ changed k ++ x ∷ drop (k + 1) old = is ∙ ap (λ (ws : List Way). changed k ++ ws) next in
+      let long = changed_length k from (omega arith) in
+      let same : w ≡ x = at ∙ ap (λ (ws : List Way). get_or ws k w) whole ∙ ap (λ i. get_or (changed k ++ x ∷ drop (k + 1) old) i w) (sym long) ∙ get_or-append_seam (changed k) x (drop (k + 1) old) w in
+      let inside : k - b < length (drop b old) = omega (arith, length-drop b old) in
+      let back : b + (k - b) ≡ k = omega arith in
+      let count : k + 1 - b ≡ (k - b) + 1 = omega arith in
+      let last : take (k + 1 - b) (drop b old) ≡ take (k - b) (drop b old) ++ x ∷ [] =
+      ap (λ i. take i (drop b old)) count ∙ take_more (drop b old) (k - b) w inside ∙ ap (λ (y : Way). take (k - b) (drop b old) ++ y ∷ []) (get_or-drop b old (k - b) w ∙ ap (λ i. get_or old i w) back) in
+      ap (λ (ws : List Way). set ws k (f w)) whole ∙ ap (λ i. set (changed k ++ x ∷ drop (k + 1) old) i (f w)) (sym long)
+      ∙ set-append_seam (changed k) x (drop (k + 1) old) (f w)
+      ∙ ap (λ (y : Way). changed k ++ f y ∷ drop (k + 1) old) same
+      ∙ sym (append_assoc (changed k) (f x ∷ []) (drop (k + 1) old))
+      ∙ ap (λ (ws : List Way). ws ++ drop (k + 1) old)
+      (append_assoc (take b old) (map f (take (k - b) (drop b old))) (f x ∷ []) ∙ ap (λ (ws : List Way). take b old ++ ws) (sym (map-append f (take (k - b) (drop b old)) (x ∷ [])) ∙ ap (map f) (sym last)))
+
+  -- what is changed next is as it was
+  pub change_next : (k : ℕ) (now : List Way) (w : Way) → b ≤ k → k < length old → now ≡ changed k ++ drop k old → get_or now k w ≡ get_or old k w
+  change_next k now w from lt is =
+      let x = get_or old k w in
+      let next : drop k old ≡ x ∷ drop (k + 1) old = drop_more old k w lt in
+      let long = changed_length k from (omega arith) in
+      ap (λ (ws : List Way). get_or ws k w) (is ∙ ap (λ (ws : List Way). changed k ++ ws) next) ∙ ap (λ i. get_or (changed k ++ x ∷ drop (k + 1) old) i w) (sym long) ∙ get_or-append_seam (changed k) x (drop (k + 1) old) w
+
+  pub change_ends : (k : ℕ) (now : List Way) → k ≡ length old → b ≤ k → now ≡ changed k ++ drop k old → now ≡ take b old ++ map f (drop b old)
+  change_ends k now end from is =
+      let none : drop k old ≡ [] = drop_all k old (omega arith) in
+      let all : take (k - b) (drop b old) ≡ drop b old = take_all (k - b) (drop b old) (omega (arith, length-drop b old)) in
+      is ∙ ap (λ (ws : List Way). changed k ++ ws) none ∙ append-nil (changed k) ∙ ap (λ (ws : List Way). take b old ++ map f ws) all
+
+-- ---- how many there are
+
+few_rides : (t : TableLists) → IsTable t → (o : Option ℕ) → length (rides_from t o) < 2 ^ 63
+few_rides t table None = omega arith
+few_rides t table (Some stop) = rides_few t table stop
+
+few_stand : (o : Option ℕ) → cond (is_some o) 1 0 ≤ 1
+few_stand None = omega arith
+few_stand (Some mode) = omega arith
+
+pub few_arcs : (n : NetworkLists) → IsNetwork n → (t : TableLists) → IsTable t → (v : ℕ) → count_from n.links v + inner_arcs_at n t v < 2 ^ 63 + 2 ^ 34
+few_arcs n network t table v =
+    let range = range_is_range n.links v in
+    let links = network.few_links in
+    let stands = few_stand (mode_at n.roads v) in
+    let rides = few_rides t table (stop_at n v) in
+    omega (arith, range.1, links, stands, rides)
+
+-- the ways behind the road arcs of a node can be numbered anew
+module _ (n : NetworkLists) (network : IsNetwork n) (t : TableLists) (table : IsTable t) (of : IsTimetableOf n t) (v time letters : ℕ) (node : v < length (nodes_of n)) where
+  one_fits : (k : ℕ) → k < count_from n.links v + inner_arcs_at n t v → All (FitsAnew (count_from n.arcs v)) (way_at (plain_meaning n t) v time letters (count_from n.arcs v + k))
+  one_fits k lt =
+      by_tests (is_open letters ((plain_meaning n t).arc_at v place).letter) ((plain_meaning n t).arrive v place time)
+    where
+      place : ℕ
+      place = count_from n.arcs v + k
+
+      arc : GraphArc
+      arc = (plain_meaning n t).arc_at v place
+
+      low : arc.to < 2 ^ 31
+      low =
+          let to = (plain_lawful n network t table of).to_in_range v place (record { node = node; arc = omega (arith, lt) }) in
+          let few = network.few_nodes in
+          omega (arith, to, few)
+
+      by_tests : (b : Bool) (o : Option ℕ) → All (FitsAnew (count_from n.arcs v)) (cond b (way_if place arc o) [])
+      by_tests false o = All-nil (FitsAnew (count_from n.arcs v))
+      by_tests true None = All-nil (FitsAnew (count_from n.arcs v))
+      by_tests true (Some at) =
+          All-cons (FitsAnew (count_from n.arcs v)) (record { place = place; arc = arc; at = at }) []
+          (record { behind = omega arith; few = (let all = few_arcs n network t table v in omega (arith, lt, all)); node = low }) (All-nil (FitsAnew (count_from n.arcs v)))
+
+  pub fit_anew : (m k : ℕ) → k + m ≤ count_from n.links v + inner_arcs_at n t v → All (FitsAnew (count_from n.arcs v)) (ways_from (plain_meaning n t) v time letters (count_from n.arcs v + k) m)
+  fit_anew zero k within = All-nil (FitsAnew (count_from n.arcs v))
+  fit_anew (suc m) k within =
+      let next : count_from n.arcs v + k + 1 ≡ count_from n.arcs v + (k + 1) = omega arith in
+      All-append (FitsAnew (count_from n.arcs v)) (way_at (plain_meaning n t) v time letters (count_from n.arcs v + k)) (ways_from (plain_meaning n t) v time letters (count_from n.arcs v + k + 1) m)
+      (one_fits k (omega (arith, within)))
+      (subst (λ x. All (FitsAnew (count_from n.arcs v)) (ways_from (plain_meaning n t) v time letters x m)) (sym next) (fit_anew m (k + 1) (omega (arith, within))))
+
+pub few_others : (n : NetworkLists) → IsNetwork n → (t : TableLists) → IsTable t → (v : ℕ) (down : Bool) → others_at n t v down < 2 ^ 63 + 2 ^ 34
+few_others n network t table v false = few_arcs n network t table v
+few_others n network t table v true = let stands = few_stand (mode_at n.roads v) in omega (arith, stands)

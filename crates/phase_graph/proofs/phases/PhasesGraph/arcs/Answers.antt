@@ -1,0 +1,21 @@
+use Rattle.std.proofs.Common.{◌*◌, ◌^◌, ◌<◌, length, refl, subst, arith}
+use Rattle.timetable_arcs.specs.Table.{IsTable}
+use Rattle.phase_graph.specs.PhaseArcs.{node_of, is_down}
+use Rattle.phase_graph.proofs.WayTies.{few_others}
+use Rattle.phase_graph.proofs.phases.PhasesGraph.arcs.Goals as goal
+
+pub overflow_add-result-2 : goal.overflow_add-result-2
+overflow_add-result-2 c =
+    let self = c.args.self.now in
+    let few = few_others self.plain.network.now self.plain.kept self.plain.timetable.now (subst IsTable c.timetable.ensures.same c.timetable.ensures.keeps) (node_of c.args.p) (is_down c.args.p) in
+    let others = rw c.split-v.ensures at c.others.ensures in
+    let ups : length c.rises_at.result.now * 16 < 2 ^ 63 = c.rises_at.type_inv.1 in
+    let downs : length c.falls_at.result.now * 16 < 2 ^ 63 = c.falls_at.type_inv.1 in
+    omega (arith, others, few, ups, downs)
+
+pub returns : goal.returns
+returns c =
+    let rises = rw c.split-v.ensures at c.rises_at.ensures.list in
+    let falls = rw c.split-v.ensures at c.falls_at.ensures.list in
+    let others = rw c.split-v.ensures at c.others.ensures in
+    rw (rises, falls, others) refl

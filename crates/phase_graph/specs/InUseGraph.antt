@@ -1,0 +1,25 @@
+-- What the graph in use answers, and what it is made of.
+use Rattle.std.specs.Prelude.{Option, Some, None}
+use Rattle.search_laws.specs.GraphLaws.{GraphMeaning, IsLawfulGraph}
+use Rattle.mode_network.specs.NetworkLists.{NetworkLists}
+use Rattle.hierarchy.specs.Lists.{HierarchyLists}
+use Rattle.plain_graph.specs.PlainArcs.{plain_meaning}
+use Rattle.phase_graph.specs.declared.in_use.GraphInUse.{GraphInUse}
+use Rattle.phase_graph.specs.declared.in_use.GraphInUse.TheVariants.{Plain, Phases}
+use Rattle.phase_graph.specs.PhaseArcs.{phase_meaning}
+
+abbrev pub meaning_in_use : GraphInUse → GraphMeaning
+meaning_in_use (Plain p) = plain_meaning p.network.now p.timetable.now
+meaning_in_use (Phases p) = phase_meaning p.plain.network.now p.plain.timetable.now p.hierarchy.now p.falls.items
+
+abbrev pub network_in : GraphInUse → NetworkLists
+network_in (Plain p) = p.network.now
+network_in (Phases p) = p.plain.network.now
+
+abbrev pub hierarchy_in : GraphInUse → Option HierarchyLists
+hierarchy_in (Plain p) = None
+hierarchy_in (Phases p) = Some p.hierarchy.now
+
+pub lawful_in_use : (g : GraphInUse) → IsLawfulGraph (meaning_in_use g)
+lawful_in_use (Plain p) = p.lawful
+lawful_in_use (Phases p) = p.lawful

@@ -1,0 +1,117 @@
+-- The arcs of the phase graph: out of each node, before the descent, its entries up and along the core; then the entries down to
+-- marked nodes; and then the arcs of the network that are no road arcs, of which in the descent there is one that stands at most.
+use Rattle.std.specs.Prelude.{◌≡◌, ℕ, ◌+◌, ◌-◌, ◌*◌, ◌/◌, ◌%◌, ◌^◌, ◌==◌, ◌<◌, ◌≤◌, nat_lt, Bool, true, false, List, [], length, Option, Some, None, if◌then◌else◌, slice_index_or}
+use Rattle.search_laws.specs.GraphLaws.{GraphMeaning}
+use Rattle.search_laws.specs.declared.graph.GraphArc.{GraphArc}
+use Rattle.search_laws.specs.declared.graph.Way.{Way}
+use Rattle.timetable_arcs.specs.Patterns.{TableLists}
+use Rattle.mode_network.specs.NetworkLists.{NetworkLists, nodes_of, mode_at}
+use Rattle.hierarchy.specs.declared.entry.Entry.{Entry}
+use Rattle.hierarchy.specs.declared.rises.Rise.{Rise}
+use Rattle.hierarchy.specs.Lists.{HierarchyLists}
+use Rattle.hierarchy.specs.Rises.{rises_of}
+use Rattle.plain_graph.specs.PlainArcs.{plain_meaning, count_from, stands_at, inner_arcs_at, arcs_at, plain_arc}
+use Rattle.plain_graph.specs.declared.plain.PlainArc.{PlainArc}
+use Rattle.plain_graph.specs.declared.plain.PlainArc.TheVariants as plain
+use Rattle.phase_graph.specs.declared.falls.Fall.{Fall}
+use Rattle.phase_graph.specs.declared.phases.PhaseArc.{PhaseArc}
+use Rattle.phase_graph.specs.declared.phases.PhaseArc.TheVariants.{Up, Down, Other}
+use Rattle.phase_graph.specs.declared.phases.PhaseStep.{PhaseStep}
+use Rattle.phase_graph.specs.declared.phases.PhaseStep.TheVariants as step
+use Rattle.phase_graph.specs.Arcs.{phase_node}
+use Rattle.phase_graph.specs.Falls.{falls_of}
+
+abbrev pub no_rise : Rise
+no_rise = record { from = 0; place = 0 }
+
+abbrev pub no_fall : Fall
+no_fall = record { from = 0; place = 0 }
+
+abbrev pub no_entry : Entry
+no_entry = record { from = 0; to = 0; weight = 0; via = None }
+
+abbrev pub entry_at : HierarchyLists → ℕ → Entry
+entry_at h place = slice_index_or h.entries place no_entry
+
+-- in the descent nothing leads up
+abbrev pub rises_at : HierarchyLists → ℕ → Bool → List Rise
+rises_at h v down = if down then [] else rises_of h v
+
+-- the first arc of the plain graph that counts, and how many do: all but the road arcs, or in the descent the one that stands
+abbrev pub first_other : NetworkLists → ℕ → Bool → ℕ
+first_other n v down = count_from n.arcs v + (if down then count_from n.links v else 0)
+
+abbrev pub others_at : NetworkLists → TableLists → ℕ → Bool → ℕ
+others_at n t v down = if down then stands_at n v else count_from n.links v + inner_arcs_at n t v
+
+abbrev pub phase_arc : NetworkLists → HierarchyLists → List Fall → ℕ → Bool → ℕ → PhaseArc
+phase_arc n h falls v down i =
+    if nat_lt i (length (rises_at h v down)) then Up (slice_index_or (rises_at h v down) i no_rise).place
+    else (if nat_lt (i - length (rises_at h v down)) (length (falls_of falls v))
+    then Down (slice_index_or (falls_of falls v) (i - length (rises_at h v down)) no_fall).place
+    else Other (first_other n v down + (i - length (rises_at h v down) - length (falls_of falls v))))
+
+abbrev pub phase_arcs_at : NetworkLists → TableLists → HierarchyLists → List Fall → ℕ → Bool → ℕ
+phase_arcs_at n t h falls v down = length (rises_at h v down) + length (falls_of falls v) + others_at n t v down
+
+-- the entry at this place leaves v
+abbrev pub BeginsAt : HierarchyLists → ℕ → ℕ → Type 0
+BeginsAt h v place = (place < length h.entries) × ((entry_at h place).from ≡ v)
+
+-- an arc out of v whose place is one
+abbrev pub FitsArc : NetworkLists → TableLists → HierarchyLists → ℕ → PhaseArc → Type 0
+FitsArc n t h v (Up place) = BeginsAt h v place
+FitsArc n t h v (Down place) = BeginsAt h v place
+FitsArc n t h v (Other place) = place < arcs_at n t v
+
+-- where it leads, and its letter
+abbrev pub arc_of : NetworkLists → TableLists → HierarchyLists → ℕ → Bool → PhaseArc → GraphArc
+arc_of n t h v down (Up place) = record { to = phase_node (entry_at h place).to false; letter = mode_at n.roads v }
+arc_of n t h v down (Down place) = record { to = phase_node (entry_at h place).to true; letter = mode_at n.roads v }
+arc_of n t h v down (Other place) = record { to = phase_node ((plain_meaning n t).arc_at v place).to down; letter = ((plain_meaning n t).arc_at v place).letter }
+
+-- when it arrives, taken at a time
+abbrev pub arrival_of : NetworkLists → TableLists → HierarchyLists → ℕ → ℕ → PhaseArc → Option ℕ
+arrival_of n t h v time (Up place) = Some (time + (entry_at h place).weight)
+arrival_of n t h v time (Down place) = Some (time + (entry_at h place).weight)
+arrival_of n t h v time (Other place) = (plain_meaning n t).arrive v place time
+
+-- an entry as a way, at a place among the arcs of its node
+abbrev pub entry_way : HierarchyLists → Option ℕ → Bool → ℕ → ℕ → ℕ → Way
+entry_way h letter down time i place = record { place = i; arc = record { to = phase_node (entry_at h place).to down; letter = letter }; at = time + (entry_at h place).weight }
+
+-- a way of the plain graph as one before the descent, where the places that began at `first` begin at `now`
+abbrev pub renumbered : ℕ → ℕ → Way → Way
+renumbered first now way = record { place = way.place - first + now; arc = record { to = phase_node way.arc.to false; letter = way.arc.letter }; at = way.at }
+
+-- the way may be numbered so: its place is not before the first, nor so far behind that a number runs over
+pub record FitsAnew (first : ℕ) (way : Way) : Type 0 where
+  pub behind : first ≤ way.place
+  pub few : way.place - first < 2 ^ 63 + 2 ^ 34
+  pub node : way.arc.to < 2 ^ 31
+
+abbrev pub node_of : ℕ → ℕ
+node_of p = p / 2
+
+abbrev pub is_down : ℕ → Bool
+is_down p = p % 2 == 1
+
+abbrev pub phase_meaning : NetworkLists → TableLists → HierarchyLists → List Fall → GraphMeaning
+phase_meaning n t h falls = record {
+  nodes = 2 * length (nodes_of n);
+  arcs = λ p. phase_arcs_at n t h falls (node_of p) (is_down p);
+  arc_at = λ p i. arc_of n t h (node_of p) (is_down p) (phase_arc n h falls (node_of p) (is_down p) i);
+  arrive = λ p i time. arrival_of n t h (node_of p) time (phase_arc n h falls (node_of p) (is_down p) i);
+}
+
+-- what is done along an arc of the plain graph, and along one of the phase graph
+abbrev pub other_step : PlainArc → PhaseStep
+other_step (plain.Road arc) = step.Entry arc.to
+other_step (plain.Link link) = step.Link link.to
+other_step plain.Stand = step.Stand
+other_step (plain.Ride ride) = step.Ride ride.pattern ride.board ride.alight
+
+abbrev pub phase_step : NetworkLists → TableLists → HierarchyLists → ℕ → PhaseArc → PhaseStep
+phase_step n t h v (Up place) = step.Entry (entry_at h place).to
+phase_step n t h v (Down place) = step.Entry (entry_at h place).to
+phase_step n t h v (Other place) = other_step (plain_arc n t v place)

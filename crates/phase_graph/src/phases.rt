@@ -1,0 +1,504 @@
+//! The phase graph of a hierarchy, as a graph that can be searched.
+
+ghost use Rattle.std.specs.Prelude.{◌≡◌, ◌<◌, ◌+◌, ◌*◌, ◌^◌, ◌++◌, ◌≤◌, Bool, All, IfOk, OnOk, length, map, take, drop};
+ghost use Rattle.search_laws.specs.GraphLaws.{IsLawfulGraph};
+ghost use Rattle.mode_network.specs.NetworkLists.{nodes_of};
+ghost use Rattle.hierarchy.specs.declared.entry.Entry.{Entry};
+ghost use Rattle.hierarchy.specs.Soundness.{IsSound};
+ghost use Rattle.plain_graph.specs.Lawful.{IsLawfulGraph-prop};
+ghost use Rattle.phase_graph.specs.Arcs.{phase_node};
+ghost use Rattle.phase_graph.specs.Falls.{fall_from, BeginsThere};
+ghost use Rattle.phase_graph.specs.PhaseArcs.{phase_meaning, node_of, is_down, renumbered, FitsAnew};
+ghost use Rattle.std.specs.List.Sorted.{IsNonDecreasingBy};
+
+use crate::falls::{Fall, falls};
+use hierarchy::{Entry, Hierarchy, Rise};
+use mode_network::Network;
+use plain_graph::{Plain, PlainArc};
+use search_laws::{Graph, GraphArc, Time, Way, is_open};
+use std::alloc::{AllocError, Global};
+
+/// An arc out of a node of the phase graph.
+#[derive(Clone, Copy, Debug, PartialEq, Eq)]
+pub enum PhaseArc {
+    /// The entry at this place, to a node above or along the core.
+    Up(u64),
+    /// The entry at this place, to a marked node below.
+    Down(u64),
+    /// The arc at this place of those of the plain graph: a link, a ride, or one that stands.
+    Other(u64),
+}
+
+/// What is done along an arc. A link and an entry lead to a node of the network; a ride goes from one call of a
+/// pattern to another.
+#[derive(Clone, Copy, Debug, PartialEq, Eq)]
+pub enum PhaseStep {
+    Entry(u32),
+    Link(u32),
+    Ride {
+        pattern: u32,
+        board: u32,
+        alight: u32,
+    },
+    Stand,
+}
+
+/// The phase graph of a sound hierarchy for some targets. The node `2v` is the network's node v before the descent, and
+/// `2v + 1` is v in the descent.
+#[derive(Drop)]
+pub struct Phases<'a> {
+    plain: Plain<'a>,
+    hierarchy: &'a Hierarchy,
+    falls: Vec<Fall>,
+    pub ghost sound: { ∥ IsSound plain.network.now hierarchy.now ∥₁ },
+    pub ghost begun: { All (BeginsThere hierarchy.now) falls.items },
+    pub ghost rising: { IsNonDecreasingBy fall_from falls.items },
+    pub ghost lawful: { IsLawfulGraph (phase_meaning plain.network.now plain.timetable.now hierarchy.now falls.items) } by { IsLawfulGraph-prop (phase_meaning plain.network.now plain.timetable.now hierarchy.now falls.items) },
+}
+
+impl<'a> Phases<'a> {
+    ghost use Rattle.std.specs.Prelude.{◌≡◌, ◌<◌, ◌+◌, ◌*◌, ◌^◌, ◌++◌, Bool, true, false, All, IfOk, OnOk, length};
+    ghost use Rattle.hierarchy.specs.declared.rises.Rise.{Rise};
+    ghost use Rattle.search_laws.specs.Ways.{ways_from, is_open};
+    ghost use Rattle.mode_network.specs.NetworkLists.{nodes_of, mode_at};
+    ghost use Rattle.phase_graph.specs.Arcs.{IsPhaseGraph, phase_node};
+    ghost use Rattle.phase_graph.specs.Falls.{AreFalls, falls_of};
+    ghost use Rattle.hierarchy.specs.Lookups.{count_below};
+    ghost use Rattle.timetable_arcs.specs.Table.{IsTable};
+    ghost use Rattle.phase_graph.specs.Walked.{JourneysHaveWalks, WalksHaveJourneys};
+    ghost use Rattle.phase_graph.specs.PhaseArcs.{phase_meaning, rises_at, others_at, first_other, phase_arc, phase_arcs_at, FitsArc, BeginsAt, entry_at, phase_step, node_of, is_down};
+    ghost use Rattle.plain_graph.specs.PlainArcs.{plain_meaning, arcs_at};
+
+    /// The phase graph of a sound hierarchy for these targets, which are nodes of the network. For each journey to a
+    /// target it has a walk that arrives no later, with the same ends, whose word collapses to the same; and for each of
+    /// its walks there is a journey with the same ends, arrival and collapsed word. Fails where memory runs out.
+    pub fn new(
+        alloc: Global,
+        network: &'a Network,
+        hierarchy: &'a Hierarchy,
+        targets: &[u32],
+    ) -> Result<Phases<'a>, AllocError>
+        requires { IsSound network.now hierarchy.now }
+        ensures network { IfOk result (λ p. p.plain.network.now ≡ network.now) }
+        ensures hierarchy { IfOk result (λ p. p.hierarchy.now ≡ hierarchy.now) }
+        ensures keeps { IfOk result (λ p. IsTable p.plain.timetable.now) }
+        ensures falls { IfOk result (λ p. AreFalls hierarchy.now targets.now p.falls.items) }
+        ensures is { IfOk result (λ p. IsPhaseGraph network.now hierarchy.now targets.now
+            (phase_meaning network.now p.plain.timetable.now hierarchy.now p.falls.items)) }
+        ensures journeys { IfOk result (λ p. JourneysHaveWalks network.now hierarchy.now targets.now
+            (phase_meaning network.now p.plain.timetable.now hierarchy.now p.falls.items)) }
+        ensures walks { IfOk result (λ p. WalksHaveJourneys network.now
+            (phase_meaning network.now p.plain.timetable.now hierarchy.now p.falls.items)) }
+    {
+        network.known();
+        hierarchy.known();
+        let falls = falls(alloc, network.nodes(), hierarchy, targets)?;
+        let plain = Plain::new(network);
+        Ok(Phases {
+            plain,
+            hierarchy,
+            falls,
+        })
+    }
+
+    /// The graph of the network.
+    pub fn plain(&self) -> &Plain<'a>
+        ensures { result.now ≡ self.now.plain }
+    {
+        &self.plain
+    }
+
+    /// The network.
+    pub fn network(&self) -> &'a Network
+        ensures { result.now ≡ self.now.plain.network.now }
+    {
+        self.plain.network()
+    }
+
+    /// The hierarchy.
+    pub fn hierarchy(&self) -> &'a Hierarchy
+        ensures { result.now ≡ self.now.hierarchy.now }
+    {
+        self.hierarchy
+    }
+
+    /// The entries that lead up from a node of the network, or along the core; in the descent there are none.
+    fn rises_at(&self, v: u32, down: bool) -> &'a [Rise]
+        ensures list { result.now ≡ rises_at self.now.hierarchy.now v down }
+        ensures each { All (λ rise. BeginsAt self.now.hierarchy.now v rise.place) result.now }
+    {
+        if down {
+            &[]
+        } else {
+            self.hierarchy.rises_from(v)
+        }
+    }
+
+    /// The entries that lead down from a node of the network to marked nodes.
+    fn falls_at(&self, v: u32) -> &[Fall]
+        ensures list { result.now ≡ falls_of self.now.falls.items v }
+        ensures each { All (λ fall. BeginsAt self.now.hierarchy.now v fall.place) result.now }
+    {
+        let first = self.first_from(u64::from(v));
+        let end = self.first_from(u64::from(v) + 1);
+        &self.falls[first..end]
+    }
+
+    /// The place of the first fall from this node or a later one.
+    fn first_from(&self, v: u64) -> usize
+        ensures { result ≡ count_below fall_from self.now.falls.items v }
+    {
+        self.falls.partition_point(|fall| u64::from(fall.from) < v)
+    }
+
+    /// How many arcs out of a node lead along neither rises nor falls: the plain graph's but its road arcs, or in the
+    /// descent the one that stands.
+    fn others(&self, v: u32, down: bool) -> u64
+        requires { v < length (nodes_of self.now.plain.network.now) }
+        ensures { result ≡ others_at self.now.plain.network.now self.now.plain.timetable.now v down }
+    {
+        if down {
+            if self.network().mode(v).is_some() {
+                1
+            } else {
+                0
+            }
+        } else {
+            let (first, past) = self.network().arcs_from(v);
+            self.plain.arcs(v) - (past - first) as u64
+        }
+    }
+
+    /// Where the arcs that the plain graph has in common with this one begin among those of a node.
+    fn first_other(&self, v: u32, down: bool) -> u64
+        requires { v < length (nodes_of self.now.plain.network.now) }
+        ensures value { result ≡ first_other self.now.plain.network.now v down }
+        ensures small { result < 2 ^ 34 }
+    {
+        let (first, past) = self.network().arcs_from(v);
+        let (first_link, past_link) = self.network().links_from(v);
+        let links = if down { past_link - first_link } else { 0 };
+        (past - first) as u64 + links as u64
+    }
+
+    /// The arc at place `i` of those out of the node `p`: first come the entries up and along the core, then those down to
+    /// marked nodes, and then what the plain graph has in common with this one.
+    pub fn phase_arc(&self, p: u32, i: u64) -> PhaseArc
+        requires node { p < (phase_meaning self.now.plain.network.now self.now.plain.timetable.now self.now.hierarchy.now self.now.falls.items).nodes }
+        requires arc { i < (phase_meaning self.now.plain.network.now self.now.plain.timetable.now self.now.hierarchy.now self.now.falls.items).arcs p }
+        ensures value { result ≡ phase_arc self.now.plain.network.now self.now.hierarchy.now self.now.falls.items (node_of p) (is_down p) i }
+        ensures fits { FitsArc self.now.plain.network.now self.now.plain.timetable.now self.now.hierarchy.now (node_of p) result }
+    {
+        self.plain.timetable().known();
+        let (v, down) = split(p);
+        let rises = self.rises_at(v, down);
+        let falls = self.falls_at(v);
+        let (ups, downs) = (rises.len() as u64, falls.len() as u64);
+        if i < ups {
+            PhaseArc::Up(rises[i as usize].place)
+        } else if i - ups < downs {
+            PhaseArc::Down(falls[(i - ups) as usize].place)
+        } else {
+            PhaseArc::Other(self.first_other(v, down) + (i - ups - downs))
+        }
+    }
+
+    /// Where an entry leads, before the descent or in it, with this letter.
+    fn entry_arc(&self, letter: Option<u8>, place: u64, down: bool) -> GraphArc
+        requires { place < length self.now.hierarchy.now.entries }
+        ensures { result ≡ record { to = phase_node (entry_at self.now.hierarchy.now place).to down; letter = letter } }
+    {
+        self.hierarchy.known();
+        GraphArc {
+            to: number_of(self.hierarchy.entries()[place as usize].to, down),
+            letter,
+        }
+    }
+
+    /// How long an entry takes.
+    fn weight(&self, place: u64) -> Time
+        requires { place < length self.now.hierarchy.now.entries }
+        ensures value { result ≡ (entry_at self.now.hierarchy.now place).weight }
+        ensures small { result < 2 ^ 64 }
+    {
+        Time::from(self.hierarchy.entries()[place as usize].weight)
+    }
+
+    /// Where an arc of the plain graph leads, which keeps to the descent or to what is before it, and its letter.
+    fn other_arc(&self, v: u32, place: u64, down: bool) -> GraphArc
+        requires node { v < length (nodes_of self.now.plain.network.now) }
+        requires arc { place < arcs_at self.now.plain.network.now self.now.plain.timetable.now v }
+        ensures { result ≡ record {
+          to = phase_node ((plain_meaning self.now.plain.network.now self.now.plain.timetable.now).arc_at v place).to down;
+          letter = ((plain_meaning self.now.plain.network.now self.now.plain.timetable.now).arc_at v place).letter;
+        } }
+    {
+        let arc = self.plain.arc_at(v, place);
+        GraphArc {
+            to: number_of(arc.to, down),
+            letter: arc.letter,
+        }
+    }
+
+    /// What is done along the arc at place `i` of those out of the node `p`. The numbering of arcs has no other use.
+    pub fn step(&self, p: u32, i: u64) -> PhaseStep
+        requires node { p < (phase_meaning self.now.plain.network.now self.now.plain.timetable.now self.now.hierarchy.now self.now.falls.items).nodes }
+        requires arc { i < (phase_meaning self.now.plain.network.now self.now.plain.timetable.now self.now.hierarchy.now self.now.falls.items).arcs p }
+        ensures { result ≡ phase_step self.now.plain.network.now self.now.plain.timetable.now self.now.hierarchy.now (node_of p)
+            (phase_arc self.now.plain.network.now self.now.hierarchy.now self.now.falls.items (node_of p) (is_down p) i) }
+    {
+        match self.phase_arc(p, i) {
+            PhaseArc::Up(place) | PhaseArc::Down(place) => {
+                PhaseStep::Entry(self.hierarchy.entries()[place as usize].to)
+            }
+            PhaseArc::Other(place) => match self.plain.plain_arc(p / 2, place) {
+                PlainArc::Road(arc) => PhaseStep::Entry(arc.to),
+                PlainArc::Link(link) => PhaseStep::Link(link.to),
+                PlainArc::Stand => PhaseStep::Stand,
+                PlainArc::Ride(ride) => PhaseStep::Ride {
+                    pattern: ride.pattern,
+                    board: ride.board,
+                    alight: ride.alight,
+                },
+            },
+        }
+    }
+
+    /// Appends the entries up and along the core that leave the node `p`, whose letter is in the set.
+    fn push_ups(&self, p: u32, t: Time, letters: u32, ways: &mut Vec<Way>) -> Result<(), AllocError>
+        requires time { t < 2 ^ 127 }
+        requires opens { is_open letters (mode_at self.now.plain.network.now.roads (node_of p)) ≡ true }
+        ensures { OnOk result (ways.new.items ≡ ways.old.items
+            ++ ways_from (phase_meaning self.now.plain.network.now self.now.plain.timetable.now self.now.hierarchy.now self.now.falls.items) p t letters 0
+            (length (rises_at self.now.hierarchy.now (node_of p) (is_down p)))) }
+    {
+        let (v, down) = split(p);
+        let letter = self.network().mode(v);
+        let rises = self.rises_at(v, down);
+        for i in 0..rises.len() {
+            let place = rises[i].place;
+            ways.push(Way {
+                place: i as u64,
+                arc: self.entry_arc(letter, place, false),
+                at: t + self.weight(place),
+            })?;
+        }
+        Ok(())
+    }
+
+    /// Appends the entries down to marked nodes that leave the node `p`, whose letter is in the set. They stand behind
+    /// the entries up and along the core.
+    fn push_downs(
+        &self,
+        p: u32,
+        t: Time,
+        letters: u32,
+        ways: &mut Vec<Way>,
+    ) -> Result<(), AllocError>
+        requires time { t < 2 ^ 127 }
+        requires opens { is_open letters (mode_at self.now.plain.network.now.roads (node_of p)) ≡ true }
+        ensures { OnOk result (ways.new.items ≡ ways.old.items
+            ++ ways_from (phase_meaning self.now.plain.network.now self.now.plain.timetable.now self.now.hierarchy.now self.now.falls.items) p t letters
+            (length (rises_at self.now.hierarchy.now (node_of p) (is_down p))) (length (falls_of self.now.falls.items (node_of p)))) }
+    {
+        let (v, down) = split(p);
+        let letter = self.network().mode(v);
+        let first = self.rises_at(v, down).len() as u64;
+        let falls = self.falls_at(v);
+        for i in 0..falls.len() {
+            let place = falls[i].place;
+            ways.push(Way {
+                place: first + i as u64,
+                arc: self.entry_arc(letter, place, true),
+                at: t + self.weight(place),
+            })?;
+        }
+        Ok(())
+    }
+
+    /// Appends the entries that leave the node `p`, if their letter is in the set.
+    fn push_entries(
+        &self,
+        p: u32,
+        t: Time,
+        letters: u32,
+        ways: &mut Vec<Way>,
+    ) -> Result<(), AllocError>
+        requires time { t < 2 ^ 127 }
+        ensures { OnOk result (ways.new.items ≡ ways.old.items
+            ++ ways_from (phase_meaning self.now.plain.network.now self.now.plain.timetable.now self.now.hierarchy.now self.now.falls.items) p t letters 0
+            (length (rises_at self.now.hierarchy.now (node_of p) (is_down p)) + length (falls_of self.now.falls.items (node_of p)))) }
+    {
+        if is_open(letters, self.network().mode(p / 2)) {
+            self.push_ups(p, t, letters, ways)?;
+            self.push_downs(p, t, letters, ways)?;
+        }
+        Ok(())
+    }
+
+    /// Appends what leaves the node `p` along no entry. It stands behind the entries.
+    fn push_others(
+        &self,
+        p: u32,
+        t: Time,
+        letters: u32,
+        ways: &mut Vec<Way>,
+    ) -> Result<(), AllocError>
+        requires node { node_of p < length (nodes_of self.now.plain.network.now) }
+        requires time { t < 2 ^ 127 }
+        ensures { OnOk result (ways.new.items ≡ ways.old.items
+            ++ ways_from (phase_meaning self.now.plain.network.now self.now.plain.timetable.now self.now.hierarchy.now self.now.falls.items) p t letters
+            (length (rises_at self.now.hierarchy.now (node_of p) (is_down p)) + length (falls_of self.now.falls.items (node_of p)))
+            (others_at self.now.plain.network.now self.now.plain.timetable.now (node_of p) (is_down p))) }
+    {
+        let (v, down) = split(p);
+        let first = self.rises_at(v, down).len() as u64 + self.falls_at(v).len() as u64;
+        if down {
+            self.push_stand(p, first, t, letters, ways)
+        } else {
+            self.push_plain(p, first, t, letters, ways)
+        }
+    }
+
+    /// Appends what leaves the node `p` before the descent along no entry: the plain graph's arcs but its road arcs.
+    fn push_plain(
+        &self,
+        p: u32,
+        first: u64,
+        t: Time,
+        letters: u32,
+        ways: &mut Vec<Way>,
+    ) -> Result<(), AllocError>
+        requires node { node_of p < length (nodes_of self.now.plain.network.now) }
+        requires phase { is_down p ≡ false }
+        requires first { first ≡ length (rises_at self.now.hierarchy.now (node_of p) (is_down p)) + length (falls_of self.now.falls.items (node_of p)) }
+        requires few { first < 2 ^ 62 }
+        requires time { t < 2 ^ 127 }
+        ensures { OnOk result (ways.new.items ≡ ways.old.items
+            ++ ways_from (phase_meaning self.now.plain.network.now self.now.plain.timetable.now self.now.hierarchy.now self.now.falls.items) p t letters first
+            (others_at self.now.plain.network.now self.now.plain.timetable.now (node_of p) (is_down p))) }
+    {
+        self.plain.timetable().known();
+        let v = p / 2;
+        let before = ways.len();
+        let (first_arc, past_arc) = self.network().arcs_from(v);
+        self.plain.push_past_roads(v, t, letters, ways)?;
+        renumber(ways, before, (past_arc - first_arc) as u64, first);
+        Ok(())
+    }
+
+    /// Appends what leaves the node `p` in the descent along no entry: the arc that stands, if it is a road node's.
+    fn push_stand(
+        &self,
+        p: u32,
+        first: u64,
+        t: Time,
+        letters: u32,
+        ways: &mut Vec<Way>,
+    ) -> Result<(), AllocError>
+        requires phase { is_down p ≡ true }
+        requires first { first ≡ length (rises_at self.now.hierarchy.now (node_of p) (is_down p)) + length (falls_of self.now.falls.items (node_of p)) }
+        ensures { OnOk result (ways.new.items ≡ ways.old.items
+            ++ ways_from (phase_meaning self.now.plain.network.now self.now.plain.timetable.now self.now.hierarchy.now self.now.falls.items) p t letters first
+            (others_at self.now.plain.network.now self.now.plain.timetable.now (node_of p) (is_down p))) }
+    {
+        if let Some(mode) = self.network().mode(p / 2) {
+            if is_open(letters, Some(mode)) {
+                ways.push(Way {
+                    place: first,
+                    arc: GraphArc {
+                        to: p,
+                        letter: Some(mode),
+                    },
+                    at: t,
+                })?;
+            }
+        }
+        Ok(())
+    }
+}
+
+impl Graph for Phases<'_> {
+    ghost use Rattle.phase_graph.specs.PhaseArcs.{phase_meaning};
+
+    ghost meaning = { λ g. phase_meaning g.plain.network.now g.plain.timetable.now g.hierarchy.now g.falls.items };
+
+    fn nodes(&self) -> u32 {
+        2 * self.network().nodes()
+    }
+
+    fn arcs(&self, p: u32) -> u64 {
+        self.plain.timetable().known();
+        let (v, down) = split(p);
+        self.rises_at(v, down).len() as u64 + self.falls_at(v).len() as u64 + self.others(v, down)
+    }
+
+    fn arc_at(&self, p: u32, i: u64) -> GraphArc {
+        let (v, down) = split(p);
+        match self.phase_arc(p, i) {
+            PhaseArc::Up(place) => self.entry_arc(self.network().mode(v), place, false),
+            PhaseArc::Down(place) => self.entry_arc(self.network().mode(v), place, true),
+            PhaseArc::Other(place) => self.other_arc(v, place, down),
+        }
+    }
+
+    fn arrive(&self, p: u32, i: u64, t: Time) -> Option<Time> {
+        let (v, down) = split(p);
+        match self.phase_arc(p, i) {
+            PhaseArc::Up(place) | PhaseArc::Down(place) => Some(t + self.weight(place)),
+            PhaseArc::Other(place) => self.plain.arrive(v, place, t),
+        }
+    }
+
+    fn ways(&self, p: u32, t: Time, letters: u32, ways: &mut Vec<Way>) -> Result<(), AllocError> {
+        self.push_entries(p, t, letters, ways)?;
+        self.push_others(p, t, letters, ways)?;
+        Ok(())
+    }
+
+    ghost lawful = { λ g. g.lawful };
+}
+
+/// The node of the network that a number stands for, and whether it is in the descent.
+fn split(p: u32) -> (u32, bool)
+    ensures { result ≡ (node_of p, is_down p) }
+{
+    (p / 2, p % 2 == 1)
+}
+
+/// The number of a node of the network, before the descent or in it.
+pub(crate) fn number_of(v: u32, down: bool) -> u32
+    requires { v < 2 ^ 31 }
+    ensures { result ≡ phase_node v down }
+{
+    if down { 2 * v + 1 } else { 2 * v }
+}
+
+/// Numbers the ways from one on anew: they lead to nodes before the descent, and their places begin at `first` where they
+/// began at `old`.
+fn renumber(ways: &mut Vec<Way>, from: usize, old: u64, first: u64)
+    requires within { from ≤ length ways.old.items }
+    requires fits { All (FitsAnew old) (drop from ways.old.items) }
+    requires few { first < 2 ^ 62 }
+    ensures { ways.new.items ≡ take from ways.old.items ++ map (renumbered old first) (drop from ways.old.items) }
+{
+    for k in from..ways.len() {
+        ways[k] = renumbered(ways[k], old, first);
+    }
+}
+
+/// A way of the plain graph as one before the descent.
+fn renumbered(way: Way, old: u64, first: u64) -> Way
+    requires fits { FitsAnew old way }
+    requires few { first < 2 ^ 62 }
+    ensures { result ≡ renumbered old first way }
+{
+    Way {
+        place: way.place - old + first,
+        arc: GraphArc {
+            to: number_of(way.arc.to, false),
+            letter: way.arc.letter,
+        },
+        at: way.at,
+    }
+}
