@@ -1,0 +1,7 @@
+use Rattle.std.proofs.Common.{◌∙◌, sym}
+use Rattle.latest_departure.specs.Entries.{row_entries}
+use Rattle.latest_departure.proofs.RowLemmas.{total}
+use Rattle.latest_departure.proofs.mirror.MirrorGraph.arcs.Goals as goal
+
+pub returns : goal.returns
+returns c = c.count.ensures ∙ sym (total (row_entries c.args.self.now.entries.items c.args.self.now.places.items c.args.v))

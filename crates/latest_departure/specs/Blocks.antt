@@ -1,0 +1,36 @@
+-- The block of a query line that asks for the latest departure.
+use Rattle.std.specs.Prelude.{◌≡◌, ℕ, List, ◌++◌, ◌⊎◌, codes}
+use Rattle.plain_texts.specs.Lines.{with_feed}
+use Rattle.service_days.specs.Clock.{clock_text_of}
+use Rattle.mode_network.specs.NetworkLists.{NetworkLists}
+use Rattle.mode_network.specs.Journeys.{Route}
+use Rattle.journey.specs.Best.{Asked, Asks, IsRefusedBlock}
+use Rattle.journey.specs.Texts.{IsJourneyText, block_text}
+use Rattle.latest_departure.specs.Late.{IsLatest, HasNoneInTime}
+
+-- what is printed of a journey: when it departs, and then what any block prints of it
+pub record IsLateText (n : NetworkLists) (j : Route) (text : List ℕ) : Type 0 where
+  pub own : List ℕ
+  pub told : IsJourneyText n j own
+  pub text_is : text ≡ with_feed (codes "depart " ++ clock_text_of n.days j.at) ++ own
+
+-- the block of a journey that starts at the latest departure
+pub record IsJourneyBlock (n : NetworkLists) (line block : List ℕ) : Type 0 where
+  pub asked : Asked
+  pub asks : Asks n line asked
+  pub journey : Route
+  pub latest : IsLatest n asked journey
+  pub text : List ℕ
+  pub told : IsLateText n journey text
+  pub block_is : block ≡ block_text line text
+
+-- the block of the answer that there is none
+pub record IsNothingBlock (n : NetworkLists) (line block : List ℕ) : Type 0 where
+  pub asked : Asked
+  pub asks : Asks n line asked
+  pub none : HasNoneInTime n asked
+  pub block_is : block ≡ block_text line (with_feed (codes "no journey"))
+
+-- the right late block of a query line
+abbrev pub IsLateBlock : NetworkLists → List ℕ → List ℕ → Type 0
+IsLateBlock n line block = IsRefusedBlock n line block ⊎ IsJourneyBlock n line block ⊎ IsNothingBlock n line block

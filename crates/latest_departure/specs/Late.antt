@@ -1,0 +1,36 @@
+-- The latest departure for a deadline. Of a query line the date and the time are the deadline.
+use Rattle.std.specs.Prelude.{ℕ, ◌≤◌, List, slice_index}
+use Rattle.mode_expression.specs.Form.{IsWordOf}
+use Rattle.mode_network.specs.NetworkLists.{NetworkLists}
+use Rattle.mode_network.specs.Journeys.{Route, IsJourney}
+use Rattle.mode_network.specs.Copies.{IsCopy}
+use Rattle.journey.specs.Best.{Asked}
+
+abbrev pub deadline : Asked → ℕ
+deadline q = q.depart
+
+-- when the first date of a region begins: seven days stand before it
+abbrev pub first_moment : NetworkLists → ℕ
+first_moment n = slice_index n.days.bases 7
+
+-- the journey is real, goes from a copy of the origin, not before the first date, to a copy of the destination, is there by the deadline, and the
+-- expression denotes its word
+pub record IsInTime (n : NetworkLists) (q : Asked) (j : Route) : Type 0 where
+  pub end : ℕ
+  pub arrival : ℕ
+  pub word : List ℕ
+  pub starts_at_copy : IsCopy n q.from j.start
+  pub not_before : first_moment n ≤ j.at
+  pub real : IsJourney n j end arrival word
+  pub ends_at_copy : IsCopy n q.to end
+  pub by_deadline : arrival ≤ deadline q
+  pub denoted : IsWordOf q.form word
+
+-- the journey is in time, and no journey that is starts later
+pub record IsLatest (n : NetworkLists) (q : Asked) (j : Route) : Type 0 where
+  pub in_time : IsInTime n q j
+  pub latest : (k : Route) → IsInTime n q k → k.at ≤ j.at
+
+-- no journey is in time
+abbrev pub HasNoneInTime : NetworkLists → Asked → Type 0
+HasNoneInTime n q = (k : Route) → IsInTime n q k → ⊥

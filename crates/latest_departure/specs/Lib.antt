@@ -1,0 +1,9 @@
+pub mod Late
+pub mod Blocks
+pub mod Reversed
+pub mod StateViews
+pub mod Meanings
+pub mod Entries
+pub mod MirrorArcs
+pub mod Known
+pub mod Mirrored
