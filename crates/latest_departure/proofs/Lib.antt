@@ -6,3 +6,6 @@ pub mod ReversedLemmas
 pub mod TurnedLemmas
 pub mod EntryLemmas
 pub mod RowLemmas
+pub mod DeadlineLemmas
+pub mod LeavingLemmas
+pub mod LateLemmas

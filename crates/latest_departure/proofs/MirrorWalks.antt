@@ -67,6 +67,13 @@ word_then g (arc i ∷ walk) more v t w u (at, has, arrives, leads) =
     ap (λ (l : List ℕ). option_to_list (g.arc_at v i).letter ++ l) (word_then g walk more (g.arc_at v i).to at w u leads)
     ∙ sym (append_assoc (option_to_list (g.arc_at v i).letter) (word_from g (g.arc_at v i).to walk) (word_from g w more))
 
+module _ (n : NetworkLists) (network : IsNetwork n) (t : TableLists) (table : IsTable t) (of : IsTimetableOf n t) where
+  -- steps end no earlier than they begin
+  pub steps_rise : (v t0 : ℕ) (steps : List Step) (w u : ℕ) (letters : List ℕ) → AreSteps n v t0 steps w u letters → t0 ≤ u
+  steps_rise v t0 steps w u letters are =
+      let walk = journeys_are_walks n network t table of v t0 steps w u letters are in
+      walk_rises (plain_meaning n t) (plain_lawful n network t table of) walk.walk v t0 w u walk.leads
+
 module _ (n : NetworkLists) (network : IsNetwork n) (t : TableLists) (table : IsTable t) (of : IsTimetableOf n t) (rows : ℕ → List Source) (sources : AreSources n t rows)
     (deadline : ℕ) (lawful : IsLawfulGraph (mirror_meaning n t rows deadline)) where
   abbrev g : GraphMeaning
@@ -128,15 +135,10 @@ module _ (n : NetworkLists) (network : IsNetwork n) (t : TableLists) (table : Is
     word = word_then g before.walk (wait (deadline - t0) ∷ []) w s v1 (deadline - t1) before.leads ∙ append-nil (word_from g w before.walk) ∙ before.word;
   }
 
-  steps_rise : (v t0 : ℕ) (steps : List Step) (w u : ℕ) (letters : List ℕ) → AreSteps n v t0 steps w u letters → t0 ≤ u
-  steps_rise v t0 steps w u letters are =
-      let walk = journeys_are_walks n network t table of v t0 steps w u letters are in
-      walk_rises (plain_meaning n t) (plain_lawful n network t table of) walk.walk v t0 w u walk.leads
-
   taken : (v t0 v1 t1 : ℕ) (step : Step) (letter : Option ℕ) (steps : List Step) (w u : ℕ) (rest letters : List ℕ) → IsNoWait step → IsStep n v t0 step v1 t1 letter → AreSteps n v1 t1 steps w u rest
       → letters ≡ option_to_list letter ++ rest → u ≤ deadline → HasMirror g w (deadline - u) v1 (deadline - t1) (reverse rest) → HasMirror g w (deadline - u) v (deadline - t0) (reverse letters)
   taken v t0 v1 t1 step letter steps w u rest letters moves is more e early before =
-      let rises = steps_rise v1 t1 steps w u rest more in
+      let rises = steps_rise n network t table of v1 t1 steps w u rest more in
       subst (HasMirror g w (deadline - u) v (deadline - t0)) (sym (ap reverse e ∙ turned letter rest))
       (then_back w (deadline - u) v1 t1 v t0 (reverse rest) letter before (step_back n network t table of deadline v t0 v1 t1 step letter moves is (omega arith)))
 

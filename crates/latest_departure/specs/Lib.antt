@@ -7,3 +7,5 @@ pub mod Entries
 pub mod MirrorArcs
 pub mod Known
 pub mod Mirrored
+pub mod Latest
+pub mod Leaving

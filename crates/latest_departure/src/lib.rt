@@ -1,14 +1,15 @@
-//! The latest departure for a deadline: the network in mirrored time as a graph, and automata that read words from their
-//! ends.
+//! The latest departure for a deadline, by a search through the network in mirrored time.
 #![tactic(auto)]
 
 mod backwards;
+mod departing;
 mod mirror;
 mod reversed;
 mod source;
 #[cfg(test)]
 mod tests;
 
+pub use departing::{Late, latest};
 pub use mirror::Mirror;
 pub use reversed::Reversed;
 pub use source::{Entry, Source};
