@@ -9,3 +9,4 @@ pub mod RowLemmas
 pub mod DeadlineLemmas
 pub mod LeavingLemmas
 pub mod LateLemmas
+pub mod TextLemmas

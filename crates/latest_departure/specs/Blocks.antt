@@ -1,5 +1,5 @@
 -- The block of a query line that asks for the latest departure.
-use Rattle.std.specs.Prelude.{◌≡◌, ℕ, List, ◌++◌, ◌⊎◌, codes}
+use Rattle.std.specs.Prelude.{◌≡◌, ℕ, Option, Some, None, List, ◌++◌, ◌⊎◌, codes}
 use Rattle.plain_texts.specs.Lines.{with_feed}
 use Rattle.service_days.specs.Clock.{clock_text_of}
 use Rattle.mode_network.specs.NetworkLists.{NetworkLists}
@@ -14,15 +14,19 @@ pub record IsLateText (n : NetworkLists) (j : Route) (text : List ℕ) : Type 0 
   pub told : IsJourneyText n j own
   pub text_is : text ≡ with_feed (codes "depart " ++ clock_text_of n.days j.at) ++ own
 
+-- the block of a line with this journey
+pub record IsBlockOf (n : NetworkLists) (line : List ℕ) (j : Route) (block : List ℕ) : Type 0 where
+  pub text : List ℕ
+  pub told : IsLateText n j text
+  pub block_is : block ≡ block_text line text
+
 -- the block of a journey that starts at the latest departure
 pub record IsJourneyBlock (n : NetworkLists) (line block : List ℕ) : Type 0 where
   pub asked : Asked
   pub asks : Asks n line asked
   pub journey : Route
   pub latest : IsLatest n asked journey
-  pub text : List ℕ
-  pub told : IsLateText n journey text
-  pub block_is : block ≡ block_text line text
+  pub tells : IsBlockOf n line journey block
 
 -- the block of the answer that there is none
 pub record IsNothingBlock (n : NetworkLists) (line block : List ℕ) : Type 0 where
@@ -30,6 +34,11 @@ pub record IsNothingBlock (n : NetworkLists) (line block : List ℕ) : Type 0 wh
   pub asks : Asks n line asked
   pub none : HasNoneInTime n asked
   pub block_is : block ≡ block_text line (with_feed (codes "no journey"))
+
+-- the block of a line with this journey, or with the answer that there is none
+abbrev pub IsAnswerBlock : NetworkLists → List ℕ → Option Route → List ℕ → Type 0
+IsAnswerBlock n line (Some j) block = IsBlockOf n line j block
+IsAnswerBlock n line None block = block ≡ block_text line (with_feed (codes "no journey"))
 
 -- the right late block of a query line
 abbrev pub IsLateBlock : NetworkLists → List ℕ → List ℕ → Type 0

@@ -2,6 +2,7 @@
 #![tactic(auto)]
 
 mod backwards;
+mod blocks;
 mod departing;
 mod mirror;
 mod reversed;
@@ -9,6 +10,7 @@ mod source;
 #[cfg(test)]
 mod tests;
 
+pub use blocks::late_block;
 pub use departing::{Late, latest};
 pub use mirror::Mirror;
 pub use reversed::Reversed;

@@ -1,5 +1,6 @@
-use crate::{Mirror, Reversed};
+use crate::{Mirror, Reversed, late_block, latest};
 use automaton::OneState;
+use journey::read_query;
 use mode_network::{Network, Node, NodeKey, Parts};
 use plan_base::{Caps, Place};
 use search_laws::{Graph, Labels};
@@ -48,5 +49,30 @@ fn one_state_is_its_own_reverse(rt: HostRuntime) -> Result<(), Fail> {
     let alloc = rt.alloc();
     let reversed = Reversed::of(alloc, &OneState)?;
     assert!(rt; reversed.states() == 1);
+    Ok(())
+}
+
+#[test]
+fn one_leaves_a_corner_at_the_deadline(rt: HostRuntime) -> Result<(), Fail> {
+    let alloc = rt.alloc();
+    let network = corner(alloc)?;
+    let query = read_query(alloc, &network, b"n101 n101 20240304 08:00:00 foot")?;
+    let late = latest(alloc, &network, &query)?;
+    let journey = late.journey.as_ref().ok_or("no journey")?;
+    assert!(rt; journey.at == 633_600_000);
+    Ok(())
+}
+
+#[test]
+fn a_block_tells_the_departure(rt: HostRuntime) -> Result<(), Fail> {
+    let alloc = rt.alloc();
+    let network = corner(alloc)?;
+    let block = late_block(alloc, &network, b"n101 n101 20240304 08:00:00 foot")?;
+    let wanted =
+        b"query n101 n101 20240304 08:00:00 foot\ndepart 20240304 08:00:00.000\narrive 20240304 08:00:00.000\nword foot\nfrom foot:101 20240304 08:00:00.000\nstand\nend\n";
+    assert!(rt; block.as_slice() == wanted.as_slice());
+    let none = late_block(alloc, &network, b"n101 n101 20240304 08:00:00 bus")?;
+    let nothing = b"query n101 n101 20240304 08:00:00 bus\nno journey\nend\n";
+    assert!(rt; none.as_slice() == nothing.as_slice());
     Ok(())
 }

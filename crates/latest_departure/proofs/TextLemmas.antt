@@ -1,0 +1,33 @@
+-- The text of a late block.
+use Rattle.std.proofs.Common.{◌≡◌, ℕ, List, ◌++◌, append_assoc, Option, Some, None, inl, inr, refl, ap, ◌∙◌}
+use Rattle.std.specs.Prelude.{IfSome}
+use Rattle.std.specs.Prelude.{codes}
+use Rattle.plain_texts.specs.Lines.{with_feed}
+use Rattle.service_days.specs.Clock.{clock_text_of}
+use Rattle.mode_network.specs.NetworkLists.{NetworkLists}
+use Rattle.mode_network.specs.Journeys.{Route}
+use Rattle.journey.specs.Blocks.{AddsText}
+use Rattle.journey.specs.Texts.{IsJourneyText}
+use Rattle.journey.specs.Best.{Asked, Asks}
+use Rattle.journey.specs.Blocks.{IsPrintable}
+use Rattle.latest_departure.specs.Latest.{IsLate}
+use Rattle.latest_departure.specs.Blocks.{IsLateText, IsAnswerBlock, IsLateBlock}
+
+pub late_told : (n : NetworkLists) (j : Route) (old now new : List ℕ) → now ≡ old ++ with_feed (codes "depart " ++ clock_text_of n.days j.at) → AddsText (IsJourneyText n j) now new
+    → AddsText (IsLateText n j) old new
+late_told n j old now new departs own =
+    let line = with_feed (codes "depart " ++ clock_text_of n.days j.at) in
+    record {
+      text = line ++ own.text;
+      is = record { own = own.text; told = own.is; text_is = refl };
+      added = own.added ∙ ap (λ (t : List ℕ). t ++ own.text) departs ∙ append_assoc old line own.text;
+    }
+
+-- what is answered can be printed, and its block is right
+pub late_printable : (n : NetworkLists) (q : Asked) (found : Option Route) → IsLate n q found → IfSome found (IsPrintable n)
+late_printable n q None none = tt
+late_printable n q (Some j) late = late.1
+
+pub late_right : (n : NetworkLists) (line : List ℕ) (q : Asked) → Asks n line q → (found : Option Route) → IsLate n q found → (block : List ℕ) → IsAnswerBlock n line found block → IsLateBlock n line block
+late_right n line q asks None none block tells = inr (inr (record { asked = q; asks = asks; none = none; block_is = tells }))
+late_right n line q asks (Some j) late block tells = inr (inl (record { asked = q; asks = asks; journey = j; latest = late.0; tells = tells }))

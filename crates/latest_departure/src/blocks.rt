@@ -1,0 +1,120 @@
+//! The block of a query line that asks for the latest departure.
+
+ghost use Rattle.std.specs.Prelude.{◌≡◌, ◌++◌, IfOk, IfSome, OnOk, codes};
+ghost use Rattle.plain_texts.specs.Lines.{with_feed};
+ghost use Rattle.service_days.specs.Clock.{clock_text_of};
+ghost use Rattle.journey.specs.Blocks.{AddsText, IsPrintable};
+ghost use Rattle.journey.specs.Texts.{IsJourneyText};
+ghost use Rattle.latest_departure.specs.Blocks.{IsLateText, IsBlockOf, IsAnswerBlock, IsLateBlock};
+
+use crate::departing::{Late, latest};
+use journey::{BlockBody, QueryFault, block, read_query};
+use mode_network::{Journey, Network};
+use plain_texts::push_line_feed;
+use search_laws::Time;
+use std::alloc::{AllocError, Global};
+
+/// What stands before and behind the body of the block of an empty line: `query` with a space and a line feed, and `end`
+/// with a line feed.
+const BEFORE: usize = 7;
+
+const BEHIND: usize = 4;
+
+/// The line of a departure.
+fn push_departure(out: &mut Vec<u8>, network: &Network, t: Time) -> Result<(), AllocError>
+    ensures { OnOk result (out.new.items ≡ out.old.items ++ with_feed (codes "depart " ++ clock_text_of network.now.days t)) }
+{
+    out.extend_from_slice(b"depart ")?;
+    network.days().push_clock(out, t)?;
+    push_line_feed(out)
+}
+
+/// Appends what any block prints of a journey.
+fn push_journey(
+    alloc: Global,
+    out: &mut Vec<u8>,
+    network: &Network,
+    journey: Journey,
+) -> Result<(), AllocError>
+    requires { IsPrintable network.now journey }
+    ensures { OnOk result (AddsText (IsJourneyText network.now journey) out.old.items out.new.items) }
+{
+    let text = block(alloc, network, b"", &BlockBody::Journey(journey))?;
+    out.extend_from_slice(&text[BEFORE..text.len() - BEHIND])?;
+    Ok(())
+}
+
+/// Appends when a journey departs, and then what any block prints of it.
+fn push_late(
+    alloc: Global,
+    out: &mut Vec<u8>,
+    network: &Network,
+    journey: Journey,
+) -> Result<(), AllocError>
+    requires { IsPrintable network.now journey }
+    ensures { OnOk result (AddsText (IsLateText network.now journey) out.old.items out.new.items) }
+{
+    push_departure(out, network, journey.at)?;
+    push_journey(alloc, out, network, journey)?;
+    Ok(())
+}
+
+/// The block of a line with this journey.
+fn journey_block(
+    alloc: Global,
+    network: &Network,
+    line: &[u8],
+    journey: Journey,
+) -> Result<Vec<u8>, AllocError>
+    requires { IsPrintable network.now journey }
+    ensures { IfOk result (λ block. IsBlockOf network.now line.now journey block.items) }
+{
+    let mut out = Vec::new(alloc);
+    out.extend_from_slice(b"query ")?;
+    out.extend_from_slice(line)?;
+    push_line_feed(&mut out)?;
+    push_late(alloc, &mut out, network, journey)?;
+    out.extend_from_slice(b"end\n")?;
+    Ok(out)
+}
+
+/// The block of a line with a journey, or with the answer that there is none.
+fn answer_block(
+    alloc: Global,
+    network: &Network,
+    line: &[u8],
+    journey: Option<Journey>,
+) -> Result<Vec<u8>, AllocError>
+    requires { IfSome journey (IsPrintable network.now) }
+    ensures { IfOk result (λ block. IsAnswerBlock network.now line.now journey block.items) }
+{
+    match journey {
+        Some(journey) => {
+            let block = journey_block(alloc, network, line, journey)?;
+            Ok(block)
+        }
+        None => {
+            let block = block(alloc, network, line, &BlockBody::Nothing)?;
+            Ok(block)
+        }
+    }
+}
+
+/// The right late block of a query line: that of its refusal, of a journey that starts at the latest departure, or of the
+/// answer that there is none.
+pub fn late_block(alloc: Global, network: &Network, line: &[u8]) -> Result<Vec<u8>, AllocError>
+    ensures { IfOk result (λ block. IsLateBlock network.now line.now block.items) }
+{
+    let query = match read_query(alloc, network, line) {
+        Ok(query) => query,
+        Err(QueryFault::OutOfMemory) => return Err(AllocError),
+        Err(fault) => {
+            let block = block(alloc, network, line, &BlockBody::Refused(fault))?;
+            return Ok(block);
+        }
+    };
+    let late = latest(alloc, network, &query)?;
+    let Late { journey, labels: _ } = late;
+    let block = answer_block(alloc, network, line, journey)?;
+    Ok(block)
+}
