@@ -71,7 +71,9 @@ fn run_over<S: Alter>(
 
 fn tell_unopened(rt: &HostRuntime, path: &str, error: Error) {
     let mut notes = StreamSink::new(rt.stderr());
-    if let Ok(line) = format!(in rt.alloc(); "planbook: {path}: the book can't be opened: {error}\n") {
+    if let Ok(line) = format!(in rt.alloc();
+        "planbook: {path}: the book can't be opened: {error}\n"
+    ) {
         let _ = write_all(&mut notes, line.as_bytes());
     }
 }
