@@ -1,1 +1,2 @@
 pub mod UnpackLemmas
+pub mod PhaseLemmas

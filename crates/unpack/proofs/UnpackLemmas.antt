@@ -3,6 +3,7 @@ use Rattle.std.proofs.Common.{◌≡◌, ℕ, ◌^◌, ◌<◌, ◌≤◌, ◌�
 use Rattle.std.specs.Prelude.{All, option_to_list, option_map, slice_index_or}
 use Rattle.std.proofs.lemmas.Bool.{ltb-true, ltb-false}
 use Rattle.std.proofs.lemmas.Option.{get_or_from_slice_get}
+use Rattle.search_laws.specs.GraphLaws.{GraphMeaning}
 use Rattle.search_laws.specs.LabelLaws.{LabelsMeaning}
 use Rattle.search_laws.specs.Walks.{word_from}
 use Rattle.product_search.specs.Answer.{AreHops}
@@ -27,16 +28,17 @@ use Rattle.plain_graph.specs.Simulation.{step_of}
 use Rattle.plain_graph.specs.OutArcs.{IsOut, out_of}
 use Rattle.plain_graph.specs.Rides.{alights_within, takes}
 use Rattle.plain_graph.proofs.Same.{step_at}
-use Rattle.unpack.specs.Unpacking.{ArePlainHops, HaveArcs, AreOnTime, DepartsAt, IsSoon, leaves_at, with_wait, steps_of, end_of, arrival_of, letters_of}
+use Rattle.unpack.specs.PhaseUnpacking.{letters_in}
+use Rattle.unpack.specs.Unpacking.{AreHopsIn, ArePlainHops, HaveArcs, AreOnTime, DepartsAt, IsSoon, leaves_at, with_wait, steps_of, end_of, arrival_of, letters_of}
 
 module _ (n : NetworkLists) (network : IsNetwork n) (table : TableLists) (keeps : IsTable table) (of : IsTimetableOf n table) where
   -- a step leaves at t or later, and can be taken then; where it is a ride, it departs then
-  record Leaves (v t : ℕ) (step : Step) (w u : ℕ) (letter : Option ℕ) : Type 0 where
-    later : t ≤ leaves_at table t step
-    is : IsStep n v (leaves_at table t step) step w u letter
-    departs : DepartsAt n (leaves_at table t step) step
+  pub record Leaves (v t : ℕ) (step : Step) (w u : ℕ) (letter : Option ℕ) : Type 0 where
+    pub later : t ≤ leaves_at table t step
+    pub is : IsStep n v (leaves_at table t step) step w u letter
+    pub departs : DepartsAt n (leaves_at table t step) step
 
-  leaves : (v t : ℕ) (step : Step) (w u : ℕ) (letter : Option ℕ) → IsStep n v t step w u letter → Leaves v t step w u letter
+  pub leaves : (v t : ℕ) (step : Step) (w u : ℕ) (letter : Option ℕ) → IsStep n v t step w u letter → Leaves v t step w u letter
   leaves v t (Wait until) w u letter is = record { later = omega arith; is = is; departs = tt }
   leaves v t (Road to) w u letter is = record { later = omega arith; is = is; departs = tt }
   leaves v t (Link to) w u letter is = record { later = omega arith; is = is; departs = tt }
@@ -53,7 +55,7 @@ module _ (n : NetworkLists) (network : IsNetwork n) (table : TableLists) (keeps 
       }
 
   -- steps that are on time, behind a step with a wait before it
-  behind : (v t : ℕ) (step : Step) (w u : ℕ) (letter : Option ℕ) (steps : List Step) (x y : ℕ) (rest : List ℕ) → Leaves v t step w u letter
+  pub behind : (v t : ℕ) (step : Step) (w u : ℕ) (letter : Option ℕ) (steps : List Step) (x y : ℕ) (rest : List ℕ) → Leaves v t step w u letter
       → AreOnTime n w u steps x y rest → AreOnTime n v t (with_wait table t (Some step) ++ steps) x y (option_to_list letter ++ rest)
   behind v t step w u letter steps x y rest at more = on_test (nat_lt t (leaves_at table t step)) refl
     where
@@ -106,7 +108,7 @@ module _ (n : NetworkLists) (network : IsNetwork n) (table : TableLists) (keeps 
       on_test true e = let later = ltb-true t (leaves_at table t step) e in absurd (omega (arith, later, now))
       on_test false e = one step soon
 
-  arc_soon : (v t : ℕ) (a : PlainArc) → IsOut n table v a → All IsSoon (with_wait table t (step_of table t a))
+  pub arc_soon : (v t : ℕ) (a : PlainArc) → IsOut n table v a → All IsSoon (with_wait table t (step_of table t a))
   arc_soon v t (RoadArc a) out = at_once t (Road a.to) tt refl
   arc_soon v t (LinkArc a) out = at_once t (Link a.to) tt refl
   arc_soon v t StandArc out = at_once t Stand tt refl
@@ -127,19 +129,33 @@ module _ (n : NetworkLists) (network : IsNetwork n) (table : TableLists) (keeps 
       All-append IsSoon (with_wait table t (step_of table t (plain_arc n table v hop.arc))) (steps_of n table hop.to hop.at hops)
       (arc_soon v t (plain_arc n table v hop.arc) (out_of n network table keeps v hop.arc has.arc)) (steps_soon hop.to hop.at hops rest)
 
--- the hops of an answer of a search over the graph of a network
+-- the hops of an answer of a search over a graph
+module _ (g : GraphMeaning) (l : LabelsMeaning) where
+  pub hops_in : (hops : List Hop) (v q t v2 q2 t2 : ℕ) → AreHops g l v q t hops v2 q2 t2 → AreHopsIn g v t hops
+  hops_in [] v q t v2 q2 t2 are = tt
+  hops_in (hop ∷ hops) v q t v2 q2 t2 (is, rest) = (is.has, is.arrives, is.to, hops_in hops hop.to hop.state hop.at v2 q2 t2 rest)
+
+  pub hops_end_in : (hops : List Hop) (v q t v2 q2 t2 : ℕ) → AreHops g l v q t hops v2 q2 t2 → (end_of v hops ≡ v2) × (arrival_of t hops ≡ t2)
+  hops_end_in [] v q t v2 q2 t2 (at, state, now) = (sym at, sym now)
+  hops_end_in (hop ∷ hops) v q t v2 q2 t2 (is, rest) = hops_end_in hops hop.to hop.state hop.at v2 q2 t2 rest
+
+  pub hops_letters_in : (hops : List Hop) (v q t v2 q2 t2 : ℕ) → AreHops g l v q t hops v2 q2 t2 → letters_in g v hops ≡ word_from g v (arcs_of hops)
+  hops_letters_in [] v q t v2 q2 t2 are = refl
+  hops_letters_in (hop ∷ hops) v q t v2 q2 t2 (is, rest) =
+      ap (λ (x : List ℕ). option_to_list (g.arc_at v hop.arc).letter ++ x) (hops_letters_in hops hop.to hop.state hop.at v2 q2 t2 rest ∙ ap (λ w. word_from g w (arcs_of hops)) is.to)
+
+-- over the graph of a network
+pub plain_letters : (n : NetworkLists) (table : TableLists) (hops : List Hop) (v : ℕ) → letters_of n table v hops ≡ letters_in (plain_meaning n table) v hops
+plain_letters n table [] v = refl
+plain_letters n table (hop ∷ hops) v = ap (λ (x : List ℕ). option_to_list (graph_arc n table v (plain_arc n table v hop.arc)).letter ++ x) (plain_letters n table hops hop.to)
+
 module _ (n : NetworkLists) (table : TableLists) (l : LabelsMeaning) where
   pub plain_hops : (hops : List Hop) (v q t v2 q2 t2 : ℕ) → AreHops (plain_meaning n table) l v q t hops v2 q2 t2 → ArePlainHops n table v t hops
-  plain_hops [] v q t v2 q2 t2 are = tt
-  plain_hops (hop ∷ hops) v q t v2 q2 t2 (is, rest) = (is.has, is.arrives, is.to, plain_hops hops hop.to hop.state hop.at v2 q2 t2 rest)
+  plain_hops = hops_in (plain_meaning n table) l
 
   pub hops_end : (hops : List Hop) (v q t v2 q2 t2 : ℕ) → AreHops (plain_meaning n table) l v q t hops v2 q2 t2 → (end_of v hops ≡ v2) × (arrival_of t hops ≡ t2)
-  hops_end [] v q t v2 q2 t2 (at, state, now) = (sym at, sym now)
-  hops_end (hop ∷ hops) v q t v2 q2 t2 (is, rest) = hops_end hops hop.to hop.state hop.at v2 q2 t2 rest
+  hops_end = hops_end_in (plain_meaning n table) l
 
   pub hops_letters : (hops : List Hop) (v q t v2 q2 t2 : ℕ) → AreHops (plain_meaning n table) l v q t hops v2 q2 t2
       → letters_of n table v hops ≡ word_from (plain_meaning n table) v (arcs_of hops)
-  hops_letters [] v q t v2 q2 t2 are = refl
-  hops_letters (hop ∷ hops) v q t v2 q2 t2 (is, rest) =
-      ap (λ (x : List ℕ). option_to_list (graph_arc n table v (plain_arc n table v hop.arc)).letter ++ x)
-      (hops_letters hops hop.to hop.state hop.at v2 q2 t2 rest ∙ ap (λ w. word_from (plain_meaning n table) w (arcs_of hops)) is.to)
+  hops_letters hops v q t v2 q2 t2 are = plain_letters n table hops v ∙ hops_letters_in (plain_meaning n table) l hops v q t v2 q2 t2 are

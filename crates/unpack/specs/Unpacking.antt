@@ -1,6 +1,6 @@
 -- The journey of a walk through the graph of a network.
 use Rattle.std.specs.Prelude.{◌≡◌, ℕ, ◌<◌, ◌^◌, nat_lt, List, [], ◌∷◌, ◌++◌, Option, Some, None, option_to_list, slice_index_or, if◌then◌else◌}
-use Rattle.search_laws.specs.GraphLaws.{HasArc}
+use Rattle.search_laws.specs.GraphLaws.{GraphMeaning, HasArc}
 use Rattle.timetable_arcs.specs.Trips.{departure_of}
 use Rattle.timetable_arcs.specs.Patterns.{TableLists, departs, no_trip, no_call}
 use Rattle.mode_network.specs.declared.steps.Step.{Step}
@@ -11,12 +11,14 @@ use Rattle.product_search.specs.declared.label.Hop.{Hop}
 use Rattle.plain_graph.specs.PlainArcs.{plain_meaning, plain_arc, graph_arc}
 use Rattle.plain_graph.specs.Simulation.{step_of}
 
--- the hops are a walk of the graph from v at t, each taken when the one before it arrives
+-- the hops are a walk of a graph from v at t, each taken when the one before it arrives
+abbrev pub AreHopsIn : GraphMeaning → ℕ → ℕ → List Hop → Type 0
+AreHopsIn g v t [] = Unit {0}
+AreHopsIn g v t (hop ∷ hops) = HasArc g v hop.arc × (g.arrive v hop.arc t ≡ Some hop.at) × (hop.to ≡ (g.arc_at v hop.arc).to) × AreHopsIn g hop.to hop.at hops
+
+-- so of the graph of a network
 abbrev pub ArePlainHops : NetworkLists → TableLists → ℕ → ℕ → List Hop → Type 0
-ArePlainHops n table v t [] = Unit {0}
-ArePlainHops n table v t (hop ∷ hops) =
-    HasArc (plain_meaning n table) v hop.arc × ((plain_meaning n table).arrive v hop.arc t ≡ Some hop.at)
-    × (hop.to ≡ ((plain_meaning n table).arc_at v hop.arc).to) × ArePlainHops n table hop.to hop.at hops
+ArePlainHops n table v t hops = AreHopsIn (plain_meaning n table) v t hops
 
 -- when a step leaves that is taken at t: a ride when its run departs, and any other step at once
 abbrev pub leaves_at : TableLists → ℕ → Step → ℕ

@@ -1,8 +1,12 @@
 //! Walks of a search made into journeys.
 #![tactic(auto)]
 
+mod graph_walk;
+mod phase_walk;
 mod plain_walk;
 #[cfg(test)]
 mod tests;
 
+pub use graph_walk::from_graph;
+pub use phase_walk::from_phases;
 pub use plain_walk::from_plain;

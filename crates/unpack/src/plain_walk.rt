@@ -16,7 +16,7 @@ use timetable_arcs::Ride;
 
 /// Appends the steps that take an arc of the graph at a time: before a ride that leaves later, a wait until it does.
 /// Where no run makes a ride any more there are none.
-fn push_steps(
+pub(crate) fn push_steps(
     plain: &Plain<'_>,
     arc: PlainArc,
     t: Time,
