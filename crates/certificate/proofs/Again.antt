@@ -21,11 +21,11 @@ label_stands more label =
     let is : nat_lt 0 (suc more) ≡ true = grind (arith, nat_tests) in
     ap (λ t. cond t (Some (due.Labels (suc more - 1))) None) is ∙ ap (λ n. Some (due.Labels n)) (omega arith)
 
-run_labels : (labels : List Label) → run_on due_behind (Some (due.Labels (length labels))) (map line.Label labels ++ line.End ∷ []) ≡ Some due.Nothing
+pub run_labels : (labels : List Label) → run_on due_behind (Some (due.Labels (length labels))) (map line.Label labels ++ line.End ∷ []) ≡ Some due.Nothing
 run_labels [] = refl
 run_labels (label ∷ labels) = ap (λ o. run_on due_behind o (map line.Label labels ++ line.End ∷ [])) (label_stands (length labels) label) ∙ run_labels labels
 
-run_steps : (steps : List Step) (rest : List Line) → run_on due_behind (Some due.Steps) (map line.Step steps ++ rest) ≡ run_on due_behind (Some due.Steps) rest
+pub run_steps : (steps : List Step) (rest : List Line) → run_on due_behind (Some due.Steps) (map line.Step steps ++ rest) ≡ run_on due_behind (Some due.Steps) rest
 run_steps [] rest = refl
 run_steps (step ∷ steps) rest = run_steps steps rest
 

@@ -21,11 +21,11 @@ run_stopped [] = refl
 run_stopped (l ∷ ls) = run_stopped ls
 
 -- No lines go on where one may not stand.
-no_end : {P : Type 0} (ls : List Line) (end : Due) → run_on due_behind None ls ≡ Some end → P
+pub no_end : {P : Type 0} (ls : List Line) (end : Due) → run_on due_behind None ls ≡ Some end → P
 no_end ls end runs = absurd (none-some end (sym (run_stopped ls) ∙ runs))
 
 -- The last place is not one at which something is due.
-not_here : {P : Type 0} (place end : Due) → ◌≡◌ {A = Option Due} (Some place) (Some end) → is_last end ≡ true → is_last place ≡ false → P
+pub not_here : {P : Type 0} (place end : Due) → ◌≡◌ {A = Option Due} (Some place) (Some end) → is_last end ≡ true → is_last place ≡ false → P
 not_here place end runs last going = absurd (false≢true (sym going ∙ ap is_last (same_Some place end runs) ∙ last))
 
 -- so many labels, and the end
@@ -61,11 +61,11 @@ labels_are (line.End ∷ ls) more end runs last = by_test (nat_eq more 0) refl r
 labels_are (l ∷ ls) more end runs last = no_end ls end runs
 
 -- how many labels there are, these, and the end
-record AreCounted (ls : List Line) : Type 0 where
-  labels : List Label
-  are : ls ≡ label_lines labels
+pub record AreCounted (ls : List Line) : Type 0 where
+  pub labels : List Label
+  pub are : ls ≡ label_lines labels
 
-counted_are : (ls : List Line) (end : Due) → run_on due_behind (Some due.Count) ls ≡ Some end → is_last end ≡ true → AreCounted ls
+pub counted_are : (ls : List Line) (end : Due) → run_on due_behind (Some due.Count) ls ≡ Some end → is_last end ≡ true → AreCounted ls
 counted_are [] end runs last = not_here due.Count end runs last refl
 counted_are (line.Labels count ∷ ls) end runs last =
     let h = labels_are ls count end runs last in
@@ -73,12 +73,12 @@ counted_are (line.Labels count ∷ ls) end runs last =
 counted_are (l ∷ ls) end runs last = no_end ls end runs
 
 -- steps, and then the labels
-record AreSteps (ls : List Line) : Type 0 where
-  steps : List Step
-  labels : List Label
-  are : ls ≡ map line.Step steps ++ label_lines labels
+pub record AreSteps (ls : List Line) : Type 0 where
+  pub steps : List Step
+  pub labels : List Label
+  pub are : ls ≡ map line.Step steps ++ label_lines labels
 
-steps_are : (ls : List Line) (end : Due) → run_on due_behind (Some due.Steps) ls ≡ Some end → is_last end ≡ true → AreSteps ls
+pub steps_are : (ls : List Line) (end : Due) → run_on due_behind (Some due.Steps) ls ≡ Some end → is_last end ≡ true → AreSteps ls
 steps_are [] end runs last = not_here due.Steps end runs last refl
 steps_are (line.Step step ∷ ls) end runs last =
     let h = steps_are ls end runs last in

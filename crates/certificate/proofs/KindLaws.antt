@@ -29,14 +29,14 @@ word_takes text n e = number_takes text (2 ^ 32) n (omega arith) e
 word_again : (n : ℕ) → n < 2 ^ 32 → word_at (decimal n) ≡ Some n
 word_again n h = number_again (2 ^ 32) n (omega arith) h
 
-time_takes : (text : List ℕ) (t : ℕ) → time_at text ≡ Some t → IsTime t × (text ≡ decimal t)
+pub time_takes : (text : List ℕ) (t : ℕ) → time_at text ≡ Some t → IsTime t × (text ≡ decimal t)
 time_takes text t e = number_takes text (10 ^ 30) t (omega arith) e
 
-time_again : (t : ℕ) → IsTime t → time_at (decimal t) ≡ Some t
+pub time_again : (t : ℕ) → IsTime t → time_at (decimal t) ≡ Some t
 time_again t h = number_again (10 ^ 30) t (omega arith) h
 
 -- bytes that are equal to a literal
-same_bytes : (xs ys : List ℕ) → bytes_eq xs ys ≡ true → xs ≡ ys
+pub same_bytes : (xs ys : List ℕ) → bytes_eq xs ys ≡ true → xs ≡ ys
 same_bytes xs ys e = (bytes_eq-Decides xs ys).0 e
 
 -- labels

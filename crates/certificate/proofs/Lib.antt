@@ -1,10 +1,10 @@
-mod KindLaws
-mod SectionLaws
-mod OneLine
-mod Again
-mod Found
-mod TextLemmas
-mod FitLemmas
+pub mod KindLaws
+pub mod SectionLaws
+pub mod OneLine
+pub mod Again
+pub mod Found
+pub mod TextLemmas
+pub mod FitLemmas
 pub mod ReadLaws
 pub mod StateLemmas
 pub mod WalkedLemmas

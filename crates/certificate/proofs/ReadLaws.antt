@@ -29,14 +29,14 @@ use Rattle.certificate.proofs.SectionLaws.{reads_lines}
 use Rattle.certificate.proofs.Again.{made_again, runs_to_end}
 use Rattle.certificate.proofs.Found.{cert_is}
 
-same_Ok : {A E : Type 0} (x y : A) → ◌≡◌ {A = Result A E} (Ok x) (Ok y) → x ≡ y
+pub same_Ok : {A E : Type 0} (x y : A) → ◌≡◌ {A = Result A E} (Ok x) (Ok y) → x ≡ y
 same_Ok x y e = cc
 
 same_Err : {A E : Type 0} (x y : E) → ◌≡◌ {A = Result A E} (Err x) (Err y) → x ≡ y
 same_Err x y e = cc
 
 -- No piece of a text has a line feed in it.
-pieces_are_lines : (text : List ℕ) → AllByRecursion IsLine (pieces text)
+pub pieces_are_lines : (text : List ℕ) → AllByRecursion IsLine (pieces text)
 unfolding pieces
 pieces_are_lines [] = (All-nil (λ b. is_feed b ≡ false), tt)
 pieces_are_lines (b ∷ bs) = by_test (is_feed b) refl (slice_split is_feed bs) (pieces_are_lines bs)
@@ -46,7 +46,7 @@ pieces_are_lines (b ∷ bs) = by_test (is_feed b) refl (slice_split is_feed bs) 
     by_test false is [] h = (All-cons (λ b. is_feed b ≡ false) b [] is (All-nil (λ b. is_feed b ≡ false)), tt)
     by_test false is (part ∷ parts) h = (All-cons (λ b. is_feed b ≡ false) b part is h.0, h.1)
 
-query_is_line : (bytes : List ℕ) → IsLine (spelled (line.Query bytes)) → IsLine bytes
+pub query_is_line : (bytes : List ℕ) → IsLine (spelled (line.Query bytes)) → IsLine bytes
 unfolding spaced
 query_is_line bytes h = All-drop (λ b. is_feed b ≡ false) 6 (codes "query " ++ bytes) h
 
@@ -58,11 +58,11 @@ step_has_time (Link to) h = tt
 step_has_time Stand h = tt
 step_has_time (Ride trip day board alight) h = tt
 
-steps_have_times : (steps : List Step) → AllByRecursion FitsLine (map line.Step steps) → All HasTime steps
+pub steps_have_times : (steps : List Step) → AllByRecursion FitsLine (map line.Step steps) → All HasTime steps
 steps_have_times [] h = All-nil HasTime
 steps_have_times (step ∷ steps) h = All-cons HasTime step steps (step_has_time step h.0) (steps_have_times steps h.1)
 
-labels_have_times : (labels : List Label) → AllByRecursion FitsLine (map line.Label labels) → All HasLabelTime labels
+pub labels_have_times : (labels : List Label) → AllByRecursion FitsLine (map line.Label labels) → All HasLabelTime labels
 labels_have_times [] h = All-nil HasLabelTime
 labels_have_times (label ∷ labels) h = All-cons HasLabelTime label labels h.0.at (labels_have_times labels h.1)
 
@@ -95,7 +95,7 @@ found bytes c e = by_course (lines_from line_at is_last due.Head 1 (pieces bytes
     by_course (trailing k) is e = absurd (cc)
 
 -- all lines but the query line are words
-mapped_in_words : {X : Type 0} (f : X → Line) → ((x : X) → IsInWords (f x)) → (xs : List X) → AllByRecursion IsInWords (map f xs)
+pub mapped_in_words : {X : Type 0} (f : X → Line) → ((x : X) → IsInWords (f x)) → (xs : List X) → AllByRecursion IsInWords (map f xs)
 mapped_in_words f h [] = tt
 mapped_in_words f h (x ∷ xs) = (h x, mapped_in_words f h xs)
 
@@ -103,11 +103,11 @@ result_in_words : (result : Option (ℕ × Route)) → AllByRecursion IsInWords 
 result_in_words None = (tt, tt)
 result_in_words (Some answer) = (tt, (tt, mapped_in_words line.Step (λ step. tt) answer.1.steps))
 
-each_is_line : (ls : List Line) → AllByRecursion IsInWords ls → AllByRecursion FitsLine ls → AllByRecursion IsLine (map spelled ls)
+pub each_is_line : (ls : List Line) → AllByRecursion IsInWords ls → AllByRecursion FitsLine ls → AllByRecursion IsLine (map spelled ls)
 each_is_line [] in_words h = tt
 each_is_line (l ∷ ls) in_words h = (spaced_is_line _ (words_are_words l in_words.0 h.0), each_is_line ls in_words.1 h.1)
 
-query_line : (bytes : List ℕ) → IsLine bytes → IsLine (spelled (line.Query bytes))
+pub query_line : (bytes : List ℕ) → IsLine bytes → IsLine (spelled (line.Query bytes))
 unfolding spaced pieces
 query_line bytes h = All-append (λ b. is_feed b ≡ false) (codes "query ") bytes (pieces_are_lines (codes "query ")).0 h
 

@@ -12,12 +12,12 @@ use Rattle.certificate.specs.Certificates.{Claim}
 use Rattle.certificate.specs.Lines.{spelled}
 use Rattle.certificate.specs.Texts.{cert_text, front_lines, label_lines, result_lines}
 
-lines_append : (xs ys : List Line) → lines_text (map spelled (xs ++ ys)) ≡ lines_text (map spelled xs) ++ lines_text (map spelled ys)
+pub lines_append : (xs ys : List Line) → lines_text (map spelled (xs ++ ys)) ≡ lines_text (map spelled xs) ++ lines_text (map spelled ys)
 lines_append [] ys = refl
 lines_append (x ∷ xs) ys = ap (λ t. with_feed (spelled x) ++ t) (lines_append xs ys) ∙ sym (append_assoc (with_feed (spelled x)) (lines_text (map spelled xs)) (lines_text (map spelled ys)))
 
 -- lines that are made alike
-made_alike : {X : Type 0} (f : X → Line) (xs : List X) → flat_map (λ x. with_feed (spelled (f x))) xs ≡ lines_text (map spelled (map f xs))
+pub made_alike : {X : Type 0} (f : X → Line) (xs : List X) → flat_map (λ x. with_feed (spelled (f x))) xs ≡ lines_text (map spelled (map f xs))
 made_alike f [] = refl
 made_alike f (x ∷ xs) = ap (λ t. with_feed (spelled (f x)) ++ t) (made_alike f xs)
 

@@ -1,7 +1,7 @@
 -- A certificate has one verdict. Each clause says the same however the timetable sorts the runs into patterns, and whichever position
 -- automaton of the expression is taken; and of the clauses one is the first that fails, at one place.
-use Rattle.std.proofs.Common.{◌≡◌, ℕ, zero, suc, ◌<◌, ◌≤◌, ◌⊎◌, inl, inr, List, [], ◌∷◌, ◌++◌, length, take, Bool, true, false, Option, Some, None, if◌then◌else◌, refl, sym, ap, ap₂, subst, ◌∙◌, arith}
-use Rattle.std.specs.Prelude.{slice_index_or, Ok, Err}
+use Rattle.std.proofs.Common.{◌≡◌, ℕ, zero, suc, ◌<◌, ◌≤◌, ◌⊎◌, inl, inr, List, [], ◌∷◌, ◌++◌, length, take, Bool, true, Option, Some, None, if◌then◌else◌, refl, sym, ap, ap₂, subst, ◌∙◌, arith}
+use Rattle.std.specs.Prelude.{slice_index_or, is_some, Ok, Err}
 use Rattle.std.proofs.lemmas.Bool.{cases_lt}
 use Rattle.search_laws.specs.Collapse.{collapse}
 use Rattle.search_laws.specs.GraphLaws.{GraphMeaning}
@@ -16,13 +16,11 @@ use Rattle.automaton.specs.Written.{written}
 use Rattle.automaton.specs.States.{IsPositionAutomaton}
 use Rattle.automaton.specs.Collapsed.{collapsed}
 use Rattle.automaton.proofs.SameLemmas.{AnswerAlike, positions_alike, collapsed_alike}
-use Rattle.plain_graph.specs.PlainArcs.{plain_meaning}
-use Rattle.plain_graph.proofs.Same.{arcs_are_steps, steps_are_arcs}
-use Rattle.timetable_arcs.specs.Patterns.{TableLists}
-use Rattle.timetable_arcs.specs.Table.{IsTable}
+use Rattle.hierarchy.specs.Lists.{HierarchyLists}
+use Rattle.phase_graph.specs.InUse.{IsInUse, IsSoundIfGiven, starts_in, ends_in, Covers, AreAlike}
+use Rattle.phase_graph.proofs.InUseLemmas.{graphs_in_use_are_alike}
 use Rattle.mode_network.specs.NetworkLists.{NetworkLists}
 use Rattle.mode_network.specs.Rules.{IsNetwork}
-use Rattle.mode_network.specs.Timetables.{IsTimetableOf}
 use Rattle.mode_network.specs.declared.steps.Step.{Step}
 use Rattle.mode_network.specs.Journeys.{Route, IsStep, AreSteps, IsJourney}
 use Rattle.mode_network.specs.Copies.{IsCopy}
@@ -54,17 +52,17 @@ first_once n m P Q to from a b one other = elim (cases_lt a b) [
   ]
 ]
 
--- ---- the clauses of labels, over two graphs of a network and two automata that answer alike
+-- ---- the clauses of labels, over two graphs and two automata that answer alike
 
-module _ (n : NetworkLists) (network : IsNetwork n) (one two : TableLists) (keeps_one : IsTable one) (of_one : IsTimetableOf n one) (keeps_two : IsTable two) (of_two : IsTimetableOf n two)
+module _ (g h : GraphMeaning) (nodes : g.nodes ≡ h.nodes) (covers : Covers h g)
     (l m : LabelsMeaning) (states : l.states ≡ m.states) (moves : (q c r : ℕ) → q < l.states → HasMove m q c r → HasMove l q c r)
     (accepts : (q : ℕ) → q < l.states → m.accepts q ≡ l.accepts q) (targets : List ℕ) (arrival : Option ℕ) (list : List Label) where
-  in_order_over : (k : ℕ) → IsInOrderAt (plain_meaning n one) l arrival list k → IsInOrderAt (plain_meaning n two) m arrival list k
+  in_order_over : (k : ℕ) → IsInOrderAt g l arrival list k → IsInOrderAt h m arrival list k
   in_order_over k holds d =
       let (range, up) = holds d in
-      ((range.0, subst (λ s. (slice_index_or list k d).state < s) states range.1, range.2), up)
+      ((subst (λ v. (slice_index_or list k d).node < v) nodes range.0, subst (λ s. (slice_index_or list k d).state < s) states range.1, range.2), up)
 
-  no_end_over : (k : ℕ) → IsInOrderAt (plain_meaning n one) l arrival list k → IsNoEndAt l targets list k → IsNoEndAt m targets list k
+  no_end_over : (k : ℕ) → IsInOrderAt g l arrival list k → IsNoEndAt l targets list k → IsNoEndAt m targets list k
   no_end_over k in_order holds d at_target accepting =
       let range = (in_order d).0 in
       holds d at_target (subst (λ (b : Bool). b ≡ true) (accepts (slice_index_or list k d).state range.1) accepting)
@@ -90,21 +88,19 @@ module _ (n : NetworkLists) (network : IsNetwork n) (one two : TableLists) (keep
   after_weaker q None P Q to all = to q all
   after_weaker q (Some c) P Q to all = λ j within set. to (l.move_at q j).to (all j within set)
 
-  -- an arc of the one is a step of the network, and so there is an arc of the other that arrives no later
-  arcs_over : (k : ℕ) → IsInOrderAt (plain_meaning n one) l arrival list k → ArcsAreListedAt (plain_meaning n one) l arrival list k → ArcsAreListedAt (plain_meaning n two) m arrival list k
+  -- an arc of the other has one of the first that arrives no later
+  arcs_over : (k : ℕ) → IsInOrderAt g l arrival list k → ArcsAreListedAt g l arrival list k → ArcsAreListedAt h m arrival list k
   arcs_over k in_order holds d i within u arrives before =
       let x = slice_index_or list k d in
       let range = (in_order d).0 in
-      let g = plain_meaning n one in
-      let h = plain_meaning n two in
-      let step = arcs_are_steps n network two keeps_two of_two x.node i x.at u (record { node = range.0; arc = within }) arrives in
-      let arc = steps_are_arcs n network one keeps_one of_one x.node x.at x.at (h.arc_at x.node i).to u step.0 (h.arc_at x.node i).letter (omega arith) step.1 step.2 in
-      let listed = holds d arc.place arc.has.arc arc.at arc.arrives (soon arc.at u arc.soon before) in
-      let there = subst (λ (w : ℕ). AllAfter l x.state (g.arc_at x.node arc.place).letter (λ r. IsListedBy list w r arc.at)) arc.to listed in
-      let by_letter = subst (λ (c : Option ℕ). AllAfter l x.state c (λ r. IsListedBy list (h.arc_at x.node i).to r arc.at)) arc.same there in
+      let way = covers x.node x.at i u (record { node = subst (λ v. x.node < v) nodes range.0; arc = within }) arrives in
+      let arc = way.2 in
+      let listed = holds d way.0 arc.has.arc way.1 arc.arrives (soon way.1 u arc.in_time before) in
+      let there = subst (λ (w : ℕ). AllAfter l x.state (g.arc_at x.node way.0).letter (λ r. IsListedBy list w r way.1)) arc.to listed in
+      let by_letter = subst (λ (c : Option ℕ). AllAfter l x.state c (λ r. IsListedBy list (h.arc_at x.node i).to r way.1)) arc.tells there in
       after_over x.state (h.arc_at x.node i).letter (λ r. IsListedBy list (h.arc_at x.node i).to r u) range.1
-      (after_weaker x.state (h.arc_at x.node i).letter (λ r. IsListedBy list (h.arc_at x.node i).to r arc.at) (λ r. IsListedBy list (h.arc_at x.node i).to r u)
-      (λ r. listed_later (h.arc_at x.node i).to r arc.at u arc.soon) by_letter)
+      (after_weaker x.state (h.arc_at x.node i).letter (λ r. IsListedBy list (h.arc_at x.node i).to r way.1) (λ r. IsListedBy list (h.arc_at x.node i).to r u)
+      (λ r. listed_later (h.arc_at x.node i).to r way.1 u arc.in_time) by_letter)
 
 -- ---- the verdict on labels, clause by clause
 
@@ -154,8 +150,7 @@ pairs_same l m alike states (v ∷ starts) =
     let here : start_states l l.states ≡ start_states m m.states = ap (start_states l) states ∙ states_same l m alike m.states in
     ap (λ qs. pairs_at v qs ++ start_pairs l starts) here ∙ ap (λ ps. pairs_at v (start_states m m.states) ++ ps) (pairs_same l m alike states starts)
 
-module _ (n : NetworkLists) (network : IsNetwork n) (one two : TableLists) (keeps_one : IsTable one) (of_one : IsTimetableOf n one) (keeps_two : IsTable two) (of_two : IsTimetableOf n two)
-    (l m : LabelsMeaning) (alike : AnswerAlike l m) (starts targets : List ℕ) (dep : ℕ) (arrival : Option ℕ) (list : List Label) where
+module _ (g h : GraphMeaning) (same : AreAlike g h) (l m : LabelsMeaning) (alike : AnswerAlike l m) (starts targets : List ℕ) (dep : ℕ) (arrival : Option ℕ) (list : List Label) where
   forth_moves : (q c r : ℕ) → q < l.states → HasMove m q c r → HasMove l q c r
   forth_moves q c r lt = (alike.moves q c r lt).1
 
@@ -171,31 +166,31 @@ module _ (n : NetworkLists) (network : IsNetwork n) (one two : TableLists) (keep
   abbrev ListedAt : List (ℕ × ℕ) → ℕ → Type 0
   ListedAt pairs k = (d : ℕ × ℕ) → IsBefore arrival dep → IsListedBy list (slice_index_or pairs k d).0 (slice_index_or pairs k d).1 dep
 
-  pub same_labels_verdict : (r s : LabelVerdict) → IsVerdict (plain_meaning n one) l starts targets dep arrival list r
-      → IsVerdict (plain_meaning n two) m starts targets dep arrival list s → r ≡ s
+  pub same_labels_verdict : (r s : LabelVerdict) → IsVerdict g l starts targets dep arrival list r
+      → IsVerdict h m starts targets dep arrival list s → r ≡ s
   same_labels_verdict r s first second =
       same_clause 6 (length list) (length list) _ _ _ _ r s refl
-      (λ k lt. in_order_over n network one two keeps_one of_one keeps_two of_two l m alike.states forth_moves (λ q lt. sym (alike.accepts q lt)) targets arrival list k)
-      (λ k lt. in_order_over n network two one keeps_two of_two keeps_one of_one m l (sym alike.states) back_moves back_accepts targets arrival list k)
-      by_starts (clauses_of (plain_meaning n one) l starts targets dep arrival list r first) (clauses_of (plain_meaning n two) m starts targets dep arrival list s second)
+      (λ k lt. in_order_over g h same.nodes same.back l m alike.states forth_moves (λ q lt. sym (alike.accepts q lt)) targets arrival list k)
+      (λ k lt. in_order_over h g (sym same.nodes) same.forth m l (sym alike.states) back_moves back_accepts targets arrival list k)
+      by_starts (clauses_of g l starts targets dep arrival list r first) (clauses_of h m starts targets dep arrival list s second)
     where
-      by_starts : HoldsBelow (length list) (IsInOrderAt (plain_meaning n one) l arrival list) → HoldsBelow (length list) (IsInOrderAt (plain_meaning n two) m arrival list)
-          → ByStarts (plain_meaning n one) l starts targets dep arrival list r → ByStarts (plain_meaning n two) m starts targets dep arrival list s → r ≡ s
+      by_starts : HoldsBelow (length list) (IsInOrderAt g l arrival list) → HoldsBelow (length list) (IsInOrderAt h m arrival list)
+          → ByStarts g l starts targets dep arrival list r → ByStarts h m starts targets dep arrival list s → r ≡ s
       by_starts in_one in_two = same_clause 7 (length (start_pairs l starts)) (length (start_pairs m starts)) _ _ _ _ r s (ap length same_pairs)
           (λ k lt. subst (λ (ps : List (ℕ × ℕ)). ListedAt ps k) same_pairs)
           (λ k lt. subst (λ (ps : List (ℕ × ℕ)). ListedAt ps k) (sym same_pairs))
           (λ _ _. by_ends)
         where
-          by_ends : ByEnds (plain_meaning n one) l starts targets dep arrival list r → ByEnds (plain_meaning n two) m starts targets dep arrival list s → r ≡ s
+          by_ends : ByEnds g l starts targets dep arrival list r → ByEnds h m starts targets dep arrival list s → r ≡ s
           by_ends = same_clause 8 (length list) (length list) _ _ _ _ r s refl
-              (λ k lt. no_end_over n network one two keeps_one of_one keeps_two of_two l m alike.states forth_moves (λ q lt. sym (alike.accepts q lt)) targets arrival list k (in_one k lt))
-              (λ k lt. no_end_over n network two one keeps_two of_two keeps_one of_one m l (sym alike.states) back_moves back_accepts targets arrival list k (in_two k lt))
+              (λ k lt. no_end_over g h same.nodes same.back l m alike.states forth_moves (λ q lt. sym (alike.accepts q lt)) targets arrival list k (in_one k lt))
+              (λ k lt. no_end_over h g (sym same.nodes) same.forth m l (sym alike.states) back_moves back_accepts targets arrival list k (in_two k lt))
               (λ _ _. by_arcs)
             where
-              by_arcs : ByArcs (plain_meaning n one) l starts targets dep arrival list r → ByArcs (plain_meaning n two) m starts targets dep arrival list s → r ≡ s
+              by_arcs : ByArcs g l starts targets dep arrival list r → ByArcs h m starts targets dep arrival list s → r ≡ s
               by_arcs = same_clause 9 (length list) (length list) _ _ _ _ r s refl
-                  (λ k lt. arcs_over n network one two keeps_one of_one keeps_two of_two l m alike.states forth_moves (λ q lt. sym (alike.accepts q lt)) targets arrival list k (in_one k lt))
-                  (λ k lt. arcs_over n network two one keeps_two of_two keeps_one of_one m l (sym alike.states) back_moves back_accepts targets arrival list k (in_two k lt))
+                  (λ k lt. arcs_over g h same.nodes same.back l m alike.states forth_moves (λ q lt. sym (alike.accepts q lt)) targets arrival list k (in_one k lt))
+                  (λ k lt. arcs_over h g (sym same.nodes) same.forth m l (sym alike.states) back_moves back_accepts targets arrival list k (in_two k lt))
                   (λ _ _ e f. e ∙ sym f)
 
 -- ---- the verdict on a journey
@@ -222,7 +217,7 @@ bad_before n network v t (step ∷ steps) (suc a) (suc b) one other lt =
     (record { node = other.node; at = other.at; letters = rest2; step = other.step; before = there; step_is = other.step_is; bad = other.bad }) (omega arith)
 
 -- a bad step is the first at one place
-first_bad_once : (n : NetworkLists) → IsNetwork n → (v t : ℕ) (steps : List Step) (a b : ℕ) → IsFirstBad n v t steps a → IsFirstBad n v t steps b → a ≡ b
+pub first_bad_once : (n : NetworkLists) → IsNetwork n → (v t : ℕ) (steps : List Step) (a b : ℕ) → IsFirstBad n v t steps a → IsFirstBad n v t steps b → a ≡ b
 first_bad_once n network v t steps a b one other = elim (cases_lt a b) [
   | inl lt ↦ absurd (bad_before n network v t steps a b one other lt)
   | inr ge ↦ elim (cases_lt b a) [
@@ -232,7 +227,7 @@ first_bad_once n network v t steps a b one other = elim (cases_lt a b) [
 ]
 
 -- of three facts one is the first that fails
-fails_first_once : (P Q R P2 Q2 R2 : Type 0) → (P → P2) → (P2 → P) → (Q → Q2) → (Q2 → Q) → (R → R2) → (R2 → R) → (a b : ℕ) → FailsFirst P Q R a → FailsFirst P2 Q2 R2 b → a ≡ b
+pub fails_first_once : (P Q R P2 Q2 R2 : Type 0) → (P → P2) → (P2 → P) → (Q → Q2) → (Q2 → Q) → (R → R2) → (R2 → R) → (a b : ℕ) → FailsFirst P Q R a → FailsFirst P2 Q2 R2 b → a ≡ b
 fails_first_once P Q R P2 Q2 R2 p p2 q q2 r r2 a b (inl (e, none)) (inl (f, _)) = e ∙ sym f
 fails_first_once P Q R P2 Q2 R2 p p2 q q2 r r2 a b (inl (e, none)) (inr (inl (f, first, _))) = absurd (none (p2 first))
 fails_first_once P Q R P2 Q2 R2 p p2 q q2 r r2 a b (inl (e, none)) (inr (inr (f, first, _, _))) = absurd (none (p2 first))
@@ -286,17 +281,17 @@ module _ (n : NetworkLists) (network : IsNetwork n) (q : Asked) (arrival : ℕ) 
 
 -- ---- the verdict on a certificate, clause by clause
 
-module _ (n : NetworkLists) (network : IsNetwork n) (c : Claim) where
+module _ (n : NetworkLists) (network : IsNetwork n) (h : Option HierarchyLists) (sound : IsSoundIfGiven n h) (c : Claim) where
   -- the labels decide, over some setting
   abbrev ByLabels : Asked → CertVerdict → Type 0
-  ByLabels asked r = (s : Setting n c.line) × (s.asked ≡ asked) × ((v : LabelVerdict)
-      × IsVerdict (plain_meaning n s.table) (collapsed s.automaton) s.starts s.targets s.asked.depart (claimed_arrival c.result) c.labels v × (r ≡ as_verdict v))
+  ByLabels asked r = (s : Setting n h c.line) × (s.asked ≡ asked) × ((v : LabelVerdict)
+      × IsVerdict s.graph (collapsed s.automaton) (starts_in h s.origins) (ends_in h s.targets) s.asked.depart (claimed_arrival c.result) c.labels v × (r ≡ as_verdict v))
 
   abbrev ByResult : Asked → CertVerdict → Type 0
   ByResult asked r = ((clause : ℕ) × (at : ℕ) × IsResultVerdict n asked c.result (Invalid clause at) × (r ≡ Invalid clause at)) ⊎ (ResultHolds n asked c.result × ByLabels asked r)
 
   abbrev ByPhases : Asked → CertVerdict → Type 0
-  ByPhases asked r = ((c.phases ≡ true) × (r ≡ Invalid 2 0)) ⊎ ((c.phases ≡ false) × ByResult asked r)
+  ByPhases asked r = ((c.phases ≡ is_some h → ⊥) × (r ≡ Invalid 2 0)) ⊎ ((c.phases ≡ is_some h) × ByResult asked r)
 
   abbrev ByLine : CertVerdict → Type 0
   ByLine r = ((fault : QueryFault) × (at : ℕ) × IsRefused n c.line fault × (number_of fault ≡ Some at) × (r ≡ Invalid 1 at)) ⊎ ((asked : Asked) × Asks n c.line asked × ByPhases asked r)
@@ -304,15 +299,16 @@ module _ (n : NetworkLists) (network : IsNetwork n) (c : Claim) where
   same_by_labels : (asked : Asked) (r s : CertVerdict) → ByLabels asked r → ByLabels asked s → r ≡ s
   same_by_labels asked r s (x, same_x, (v, first, e)) (y, same_y, (w, second, f)) =
       let asks : x.asked ≡ y.asked = same_x ∙ sym same_y in
-      let starts : x.starts ≡ y.starts = one_list_of_copies n x.asked.from x.starts y.starts x.origin (subst (λ (a : Asked). AreTheCopies n a.from y.starts) (sym asks) y.origin) in
+      let origins : x.origins ≡ y.origins = one_list_of_copies n x.asked.from x.origins y.origins x.origin (subst (λ (a : Asked). AreTheCopies n a.from y.origins) (sym asks) y.origin) in
       let targets : x.targets ≡ y.targets = one_list_of_copies n x.asked.to x.targets y.targets x.destination (subst (λ (a : Asked). AreTheCopies n a.to y.targets) (sym asks) y.destination) in
+      let graphs = graphs_in_use_are_alike n network h sound x.targets x.graph y.graph x.in_use (subst (λ (ts : List ℕ). IsInUse n h ts y.graph) (sym targets) y.in_use) in
       let depart : x.asked.depart ≡ y.asked.depart = ap (λ (a : Asked). a.depart) asks in
       let positions = subst (λ (a : Asked). IsPositionAutomaton (written a.form) y.automaton) (sym asks) y.positions in
       let alike = collapsed_alike x.automaton y.automaton x.lawful y.lawful (positions_alike (written x.asked.form) x.automaton y.automaton x.positions positions) in
-      let there = subst (λ (ss : List ℕ). IsVerdict (plain_meaning n y.table) (collapsed y.automaton) ss x.targets x.asked.depart (claimed_arrival c.result) c.labels w) (sym starts)
-      (subst (λ (ts : List ℕ). IsVerdict (plain_meaning n y.table) (collapsed y.automaton) y.starts ts x.asked.depart (claimed_arrival c.result) c.labels w) (sym targets)
-      (subst (λ (d : ℕ). IsVerdict (plain_meaning n y.table) (collapsed y.automaton) y.starts y.targets d (claimed_arrival c.result) c.labels w) (sym depart) second)) in
-      let same = same_labels_verdict n network x.table y.table x.keeps x.of y.keeps y.of (collapsed x.automaton) (collapsed y.automaton) alike x.starts x.targets x.asked.depart
+      let there = subst (λ (ss : List ℕ). IsVerdict y.graph (collapsed y.automaton) (starts_in h ss) (ends_in h x.targets) x.asked.depart (claimed_arrival c.result) c.labels w) (sym origins)
+      (subst (λ (ts : List ℕ). IsVerdict y.graph (collapsed y.automaton) (starts_in h y.origins) (ends_in h ts) x.asked.depart (claimed_arrival c.result) c.labels w) (sym targets)
+      (subst (λ (d : ℕ). IsVerdict y.graph (collapsed y.automaton) (starts_in h y.origins) (ends_in h y.targets) d (claimed_arrival c.result) c.labels w) (sym depart) second)) in
+      let same = same_labels_verdict x.graph y.graph graphs (collapsed x.automaton) (collapsed y.automaton) alike (starts_in h x.origins) (ends_in h x.targets) x.asked.depart
       (claimed_arrival c.result) c.labels v w first there in
       e ∙ (ap as_verdict same ∙ sym f)
 
@@ -335,8 +331,8 @@ module _ (n : NetworkLists) (network : IsNetwork n) (c : Claim) where
 
   same_by_phases : (asked : Asked) (r s : CertVerdict) → ByPhases asked r → ByPhases asked s → r ≡ s
   same_by_phases asked r s (inl (p, e)) (inl (q, f)) = e ∙ sym f
-  same_by_phases asked r s (inl (p, e)) (inr (q, y)) = cc
-  same_by_phases asked r s (inr (p, x)) (inl (q, f)) = cc
+  same_by_phases asked r s (inl (p, e)) (inr (q, y)) = absurd (p q)
+  same_by_phases asked r s (inr (p, x)) (inl (q, f)) = absurd (q p)
   same_by_phases asked r s (inr (p, x)) (inr (q, y)) = same_by_result asked r s x y
 
   same_by_line : (r s : CertVerdict) → ByLine r → ByLine s → r ≡ s
@@ -351,12 +347,12 @@ module _ (n : NetworkLists) (network : IsNetwork n) (c : Claim) where
       let asks : a ≡ b = cc in
       same_by_phases b r s (subst (λ (asked : Asked). ByPhases asked r) asks p) q
 
-  lines_of : (r : CertVerdict) → IsCertVerdict n c r → ByLine r
-  lines_of Valid valid = inr (valid.setting.asked, valid.setting.asks, inr (valid.plain, inr (valid.holds, (valid.setting, refl, (Closed, valid.closed, refl)))))
+  lines_of : (r : CertVerdict) → IsCertVerdict n h c r → ByLine r
+  lines_of Valid valid = inr (valid.setting.asked, valid.setting.asks, inr (valid.phases, inr (valid.holds, (valid.setting, refl, (Closed, valid.closed, refl)))))
   lines_of (Invalid clause at) (inl f) = inl (f.fault, at, f.refused, f.number, ap (λ k. Invalid k at) f.clause_is)
   lines_of (Invalid clause at) (inr (inl f)) = inr (f.asked, f.asks, inl (f.phases, ap₂ Invalid f.clause_is f.place))
-  lines_of (Invalid clause at) (inr (inr (inl f))) = inr (f.asked, f.asks, inr (f.plain, inl (clause, at, f.fails, refl)))
-  lines_of (Invalid clause at) (inr (inr (inr f))) = inr (f.setting.asked, f.setting.asks, inr (f.plain, inr (f.holds, (f.setting, refl, (Open clause at, f.open_at, refl)))))
+  lines_of (Invalid clause at) (inr (inr (inl f))) = inr (f.asked, f.asks, inr (f.phases, inl (clause, at, f.fails, refl)))
+  lines_of (Invalid clause at) (inr (inr (inr f))) = inr (f.setting.asked, f.setting.asks, inr (f.phases, inr (f.holds, (f.setting, refl, (Open clause at, f.open_at, refl)))))
 
 pub verdict_is_unique : VerdictIsUnique
-verdict_is_unique n network c one other p q = same_by_line n network c one other (lines_of n network c one p) (lines_of n network c other q)
+verdict_is_unique n network h sound c one other p q = same_by_line n network h sound c one other (lines_of n network h sound c one p) (lines_of n network h sound c other q)

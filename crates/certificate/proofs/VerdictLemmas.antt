@@ -17,7 +17,7 @@ use Rattle.certificate.specs.StateSets.{AreAfter}
 use Rattle.certificate.specs.Walked.{IsWalkedTo}
 
 -- the first of three facts fails where the first of three others does that hold exactly as they do
-fails_same : (P Q R P2 R2 : Type 0) → P ↔ P2 → R ↔ R2 → (at : ℕ) → FailsFirst P Q R at → FailsFirst P2 Q R2 at
+pub fails_same : (P Q R P2 R2 : Type 0) → P ↔ P2 → R ↔ R2 → (at : ℕ) → FailsFirst P Q R at → FailsFirst P2 Q R2 at
 fails_same P Q R P2 R2 p r at (inl (is, none)) = inl (is, λ h. none (p.1 h))
 fails_same P Q R P2 R2 p r at (inr (inl (is, first, none))) = inr (inl (is, p.0 first, none))
 fails_same P Q R P2 R2 p r at (inr (inr (is, first, second, none))) = inr (inr (is, p.0 first, second, λ h. none (r.1 h)))

@@ -1,34 +1,32 @@
 -- When a certificate is valid, and what it then proves.
-use Rattle.std.specs.Prelude.{◌≡◌, ℕ, ◌<◌, ◌^◌, false, List, Option, Some, None, IfSome, All, option_map}
+use Rattle.std.specs.Prelude.{◌≡◌, ℕ, ◌<◌, ◌^◌, List, Option, Some, None, is_some, IfSome, All, option_map}
+use Rattle.search_laws.specs.GraphLaws.{GraphMeaning}
 use Rattle.search_laws.specs.LabelLaws.{LabelsMeaning, IsLawfulLabels}
 use Rattle.product_search.specs.Closed.{IsClosed}
 use Rattle.automaton.specs.Written.{written}
 use Rattle.automaton.specs.States.{IsPositionAutomaton}
 use Rattle.automaton.specs.Collapsed.{collapsed}
-use Rattle.plain_graph.specs.PlainArcs.{plain_meaning}
-use Rattle.timetable_arcs.specs.Patterns.{TableLists}
-use Rattle.timetable_arcs.specs.Table.{IsTable}
+use Rattle.hierarchy.specs.Lists.{HierarchyLists}
+use Rattle.phase_graph.specs.InUse.{IsInUse, IsSoundIfGiven, starts_in, ends_in}
 use Rattle.mode_network.specs.NetworkLists.{NetworkLists}
 use Rattle.mode_network.specs.Rules.{IsNetwork}
-use Rattle.mode_network.specs.Timetables.{IsTimetableOf}
 use Rattle.mode_network.specs.Journeys.{Route}
 use Rattle.journey.specs.CopyLists.{AreTheCopies}
 use Rattle.journey.specs.Ends.{HasTimes}
 use Rattle.journey.specs.Best.{Asked, Asks, Answers, IsBest, HasNone}
 use Rattle.certificate.specs.Certificates.{Claim}
 
--- What a line asks of a network, and what its labels are read over: the copies of its endpoints in order, a timetable of the network's
--- trips, and the position automaton of its expression. How runs are sorted into patterns is left free.
-pub record Setting (n : NetworkLists) (line : List ℕ) : Type 0 where
+-- What a line asks of a network, and what its labels are read over: the copies of its endpoints in order, the graph in use, and the
+-- position automaton of its expression. How a timetable sorts runs into patterns is left free.
+pub record Setting (n : NetworkLists) (h : Option HierarchyLists) (line : List ℕ) : Type 0 where
   pub asked : Asked
   pub asks : Asks n line asked
-  pub starts : List ℕ
+  pub origins : List ℕ
   pub targets : List ℕ
-  pub origin : AreTheCopies n asked.from starts
+  pub origin : AreTheCopies n asked.from origins
   pub destination : AreTheCopies n asked.to targets
-  pub table : TableLists
-  pub of : IsTimetableOf n table
-  pub keeps : IsTable table
+  pub graph : GraphMeaning
+  pub in_use : IsInUse n h targets graph
   pub automaton : LabelsMeaning
   pub positions : IsPositionAutomaton (written asked.form) automaton
   pub lawful : IsLawfulLabels automaton
@@ -42,16 +40,17 @@ ResultHolds n asked None = Unit {0}
 abbrev pub claimed_arrival : Option (ℕ × Route) → Option ℕ
 claimed_arrival result = option_map (λ claimed. claimed.0) result
 
--- the labels are closed, over the network's graph and the automaton that reads adjacent equal road letters as one
-abbrev pub LabelsAreClosed : (n : NetworkLists) → (c : Claim) → Setting n c.line → Type 0
-LabelsAreClosed n c s = IsClosed (plain_meaning n s.table) (collapsed s.automaton) s.starts s.targets s.asked.depart (claimed_arrival c.result) c.labels
+-- the labels are closed, over the graph in use and the automaton that reads adjacent equal road letters as one
+abbrev pub LabelsAreClosed : (n : NetworkLists) → (h : Option HierarchyLists) → (c : Claim) → Setting n h c.line → Type 0
+LabelsAreClosed n h c s =
+    IsClosed s.graph (collapsed s.automaton) (starts_in h s.origins) (ends_in h s.targets) s.asked.depart (claimed_arrival c.result) c.labels
 
--- The line is a query, the labels are of the network's own nodes and closed, and the result is as is claimed.
-pub record IsValid (n : NetworkLists) (c : Claim) : Type 0 where
-  pub setting : Setting n c.line
-  pub plain : c.phases ≡ false
+-- The line is a query, the labels are closed, and of phases exactly where a hierarchy is given, and the result is as is claimed.
+pub record IsValid (n : NetworkLists) (h : Option HierarchyLists) (c : Claim) : Type 0 where
+  pub setting : Setting n h c.line
+  pub phases : c.phases ≡ is_some h
   pub holds : ResultHolds n setting.asked c.result
-  pub closed : LabelsAreClosed n c setting
+  pub closed : LabelsAreClosed n h c setting
 
 -- the times of a certificate are below 10 ^ 30
 pub record HaveTimes (c : Claim) : Type 0 where
@@ -69,6 +68,6 @@ pub record Proves (n : NetworkLists) (c : Claim) : Type 0 where
   pub asks : Asks n c.line asked
   pub best : IsBestResult n asked c.result
 
--- a certificate that is valid proves what it claims
+-- a certificate that is valid, whatever sound hierarchy its labels are read over, proves what it claims of the network
 abbrev pub ValidProves : Type 0
-ValidProves = (n : NetworkLists) → IsNetwork n → (c : Claim) → IsValid n c → Proves n c
+ValidProves = (n : NetworkLists) → IsNetwork n → (h : Option HierarchyLists) → IsSoundIfGiven n h → (c : Claim) → IsValid n h c → Proves n c

@@ -1,5 +1,5 @@
 -- The first clause of a certificate that fails, at the first place where it does.
-use Rattle.std.specs.Prelude.{◌≡◌, ℕ, ◌≤◌, ◌↔◌, ◌⊎◌, true, false, List, Option, Some, None}
+use Rattle.std.specs.Prelude.{◌≡◌, ℕ, ◌≤◌, ◌↔◌, ◌⊎◌, is_some, List, Option, Some, None}
 use Rattle.mode_expression.specs.Form.{Form, IsWordOf}
 use Rattle.search_laws.specs.LabelLaws.{LabelsMeaning, Accepts}
 use Rattle.search_laws.specs.Collapse.{collapse}
@@ -8,7 +8,8 @@ use Rattle.product_search.specs.declared.verdict.LabelVerdict.{LabelVerdict}
 use Rattle.product_search.specs.declared.verdict.LabelVerdict.TheVariants.{Closed, Open}
 use Rattle.product_search.specs.Closed.{IsVerdict}
 use Rattle.automaton.specs.Collapsed.{collapsed}
-use Rattle.plain_graph.specs.PlainArcs.{plain_meaning}
+use Rattle.hierarchy.specs.Lists.{HierarchyLists}
+use Rattle.phase_graph.specs.InUse.{IsSoundIfGiven, starts_in, ends_in}
 use Rattle.mode_network.specs.NetworkLists.{NetworkLists}
 use Rattle.mode_network.specs.Rules.{IsNetwork}
 use Rattle.mode_network.specs.Journeys.{Route, IsJourney}
@@ -24,9 +25,9 @@ use Rattle.journey.specs.Best.{Asked, Asks, Answers}
 use Rattle.certificate.specs.Certificates.{Claim}
 use Rattle.certificate.specs.Valid.{Setting, ResultHolds, claimed_arrival, IsValid}
 
--- what is claimed of a query, by labels of the network's own nodes
-abbrev pub claim_on : Query → Option (ℕ × Route) → List Label → Claim
-claim_on q result labels = record { line = q.line; phases = false; result = result; labels = labels }
+-- what is claimed of a query, by labels of phases where a hierarchy is given
+abbrev pub claim_on : Query → Option HierarchyLists → Option (ℕ × Route) → List Label → Claim
+claim_on q h result labels = record { line = q.line; phases = is_some h; result = result; labels = labels }
 
 -- the automaton accepts exactly the words whose collapse the form denotes
 abbrev pub AreDenoted : Form → LabelsMeaning → Type 0
@@ -40,14 +41,14 @@ pub record LineFails (n : NetworkLists) (c : Claim) (clause at : ℕ) : Type 0 w
   pub refused : IsRefused n c.line fault
   pub number : number_of fault ≡ Some at
 
--- ---- clause 2: the line is a query, and the labels are of phases
+-- ---- clause 2: the line is a query, and the labels are of phases without a hierarchy, or are not with one
 
-pub record PhasesFail (n : NetworkLists) (c : Claim) (clause at : ℕ) : Type 0 where
+pub record PhasesFail (n : NetworkLists) (h : Option HierarchyLists) (c : Claim) (clause at : ℕ) : Type 0 where
   pub clause_is : clause ≡ 2
   pub place : at ≡ 0
   pub asked : Asked
   pub asks : Asks n c.line asked
-  pub phases : c.phases ≡ true
+  pub phases : c.phases ≡ is_some h → ⊥
 
 -- ---- clauses 3 to 5: of the journey that is claimed
 
@@ -100,10 +101,10 @@ abbrev pub IsResultVerdict : NetworkLists → Asked → Option (ℕ × Route) �
 IsResultVerdict n q (Some claimed) verdict = IsJourneyVerdict n q claimed.0 claimed.1 verdict
 IsResultVerdict n q None verdict = verdict ≡ Valid
 
-pub record ResultFails (n : NetworkLists) (c : Claim) (clause at : ℕ) : Type 0 where
+pub record ResultFails (n : NetworkLists) (h : Option HierarchyLists) (c : Claim) (clause at : ℕ) : Type 0 where
   pub asked : Asked
   pub asks : Asks n c.line asked
-  pub plain : c.phases ≡ false
+  pub phases : c.phases ≡ is_some h
   pub fails : IsResultVerdict n asked c.result (Invalid clause at)
 
 -- ---- clauses 6 to 9: of the labels
@@ -113,22 +114,23 @@ abbrev pub as_verdict : LabelVerdict → CertVerdict
 as_verdict Closed = Valid
 as_verdict (Open clause at) = Invalid clause at
 
-pub record LabelsFail (n : NetworkLists) (c : Claim) (clause at : ℕ) : Type 0 where
-  pub setting : Setting n c.line
-  pub plain : c.phases ≡ false
+pub record LabelsFail (n : NetworkLists) (h : Option HierarchyLists) (c : Claim) (clause at : ℕ) : Type 0 where
+  pub setting : Setting n h c.line
+  pub phases : c.phases ≡ is_some h
   pub holds : ResultHolds n setting.asked c.result
-  pub open_at : IsVerdict (plain_meaning n setting.table) (collapsed setting.automaton) setting.starts setting.targets setting.asked.depart
+  pub open_at : IsVerdict setting.graph (collapsed setting.automaton) (starts_in h setting.origins) (ends_in h setting.targets) setting.asked.depart
       (claimed_arrival c.result) c.labels (Open clause at)
 
 -- ---- all nine
 
 -- The certificate is valid; or the clause is the first that fails, at its first place.
-abbrev pub IsCertVerdict : NetworkLists → Claim → CertVerdict → Type 0
-IsCertVerdict n c Valid = IsValid n c
-IsCertVerdict n c (Invalid clause at) = LineFails n c clause at ⊎ PhasesFail n c clause at ⊎ ResultFails n c clause at ⊎ LabelsFail n c clause at
+abbrev pub IsCertVerdict : NetworkLists → Option HierarchyLists → Claim → CertVerdict → Type 0
+IsCertVerdict n h c Valid = IsValid n h c
+IsCertVerdict n h c (Invalid clause at) = LineFails n c clause at ⊎ PhasesFail n h c clause at ⊎ ResultFails n h c clause at ⊎ LabelsFail n h c clause at
 
 -- ---- laws
 
 -- a certificate has one verdict: it is valid, or one clause is the first that fails, at one place
 abbrev pub VerdictIsUnique : Type 0
-VerdictIsUnique = (n : NetworkLists) → IsNetwork n → (c : Claim) (one other : CertVerdict) → IsCertVerdict n c one → IsCertVerdict n c other → one ≡ other
+VerdictIsUnique = (n : NetworkLists) → IsNetwork n → (h : Option HierarchyLists) → IsSoundIfGiven n h → (c : Claim) (one other : CertVerdict)
+    → IsCertVerdict n h c one → IsCertVerdict n h c other → one ≡ other

@@ -19,7 +19,7 @@ fn word_of(text: &[u8]) -> Option<u32>
 }
 
 /// A time, of at most 30 digits.
-fn time_of(text: &[u8]) -> Option<Time>
+pub fn time_of(text: &[u8]) -> Option<Time>
     ensures { result ≡ spec.time_at text.now }
 {
     read_number(text, 1_000_000_000_000_000_000_000_000_000_000)

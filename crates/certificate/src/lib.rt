@@ -3,17 +3,15 @@
 
 pub mod certificate;
 pub mod due;
-mod kinds;
+pub mod kinds;
 mod laws;
 pub mod lines;
-mod printing;
+pub mod printing;
 mod reading;
 mod records;
-mod state_sets;
-#[cfg(test)]
-mod tests;
-mod verifying;
-mod walked;
+pub mod state_sets;
+pub mod verifying;
+pub mod walked;
 
 pub use certificate::Certificate;
 pub use journey::{CertFault, CertVerdict};

@@ -16,7 +16,7 @@ use product_search::Label;
 use std::alloc::{AllocError, Global};
 
 /// A space and a number.
-fn push_field(out: &mut Vec<u8>, n: u128) -> Result<(), AllocError>
+pub fn push_field(out: &mut Vec<u8>, n: u128) -> Result<(), AllocError>
     ensures { OnOk result (out.new.items ≡ out.old.items ++ 32 ∷ decimal n) }
 {
     out.push(b' ')?;
@@ -61,7 +61,7 @@ fn push_step(out: &mut Vec<u8>, step: Step) -> Result<(), AllocError>
 }
 
 /// The lines of some steps.
-fn push_steps(out: &mut Vec<u8>, steps: &[Step]) -> Result<(), AllocError>
+pub fn push_steps(out: &mut Vec<u8>, steps: &[Step]) -> Result<(), AllocError>
     requires { All HasTime steps.now }
     ensures fit { OnOk result (All FitsStep steps.now) }
     ensures lines { OnOk result (out.new.items ≡ out.old.items ++ flat_map (λ step. with_feed (spelled (line.Step step))) steps.now) }
@@ -109,7 +109,7 @@ fn push_arrival(out: &mut Vec<u8>, at: Time) -> Result<(), AllocError>
 
 /// The line of a start.
 #[tactic(auto, unfolding(plain_texts::specs::Lines::spaced))]
-fn push_start(out: &mut Vec<u8>, node: u32, at: Time) -> Result<(), AllocError>
+pub fn push_start(out: &mut Vec<u8>, node: u32, at: Time) -> Result<(), AllocError>
     ensures node { node < 2 ^ 32 }
     ensures line { OnOk result (out.new.items ≡ out.old.items ++ with_feed (spelled (line.Start node at))) }
 {
@@ -149,7 +149,7 @@ fn push_count(out: &mut Vec<u8>, count: u64) -> Result<(), AllocError>
 }
 
 /// The lines behind the result: how many labels there are, these, and the end.
-fn push_rest(out: &mut Vec<u8>, labels: &[Label]) -> Result<(), AllocError>
+pub fn push_rest(out: &mut Vec<u8>, labels: &[Label]) -> Result<(), AllocError>
     requires { All HasLabelTime labels.now }
     ensures fit { OnOk result (AllByRecursion FitsLine (label_lines labels.now)) }
     ensures lines { OnOk result (out.new.items ≡ out.old.items ++ lines_text (map spelled (label_lines labels.now))) }
@@ -162,7 +162,7 @@ fn push_rest(out: &mut Vec<u8>, labels: &[Label]) -> Result<(), AllocError>
 
 /// The query line.
 #[tactic(auto, unfolding(plain_texts::specs::Lines::spaced))]
-fn push_query(out: &mut Vec<u8>, query: &[u8]) -> Result<(), AllocError>
+pub fn push_query(out: &mut Vec<u8>, query: &[u8]) -> Result<(), AllocError>
     ensures { OnOk result (out.new.items ≡ out.old.items ++ with_feed (spelled (line.Query query.now))) }
 {
     out.extend_from_slice(b"query ")?;

@@ -10,7 +10,7 @@ use std::mem::swap;
 
 /// The states of an automaton that the letters so far are read to, and room for those after one letter more.
 #[derive(Drop)]
-pub(crate) struct StateSets {
+pub struct StateSets {
     pub reached: Vec<bool>,
     pub next: Vec<bool>,
 }

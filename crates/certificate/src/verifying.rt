@@ -1,8 +1,9 @@
 //! The check of a certificate.
 
-ghost use Rattle.std.specs.Prelude.{◌≡◌, ◌≤◌, ◌↔◌, ℕ, List, Some, [], Contains, IfOk, IfSome, IsTrue};
+ghost use Rattle.std.specs.Prelude.{◌≡◌, ◌≤◌, ◌↔◌, ℕ, List, Some, [], Contains, IfOk, IfSome, IsTrue, is_some, option_map};
 ghost use Rattle.search_laws.specs.LabelLaws.{Accepts};
 ghost use Rattle.mode_expression.specs.Form.{form_of, IsUsable};
+ghost use Rattle.hierarchy.specs.Soundness.{IsSound};
 ghost use Rattle.journey.specs.Best.{Asks, asked_by};
 ghost use Rattle.journey.specs.CopyLists.{AreTheCopies};
 ghost use Rattle.journey.specs.declared.verdict.CertVerdict.TheVariants.{Valid, Invalid};
@@ -16,9 +17,10 @@ use crate::certificate::Certificate;
 use crate::state_sets::StateSets;
 use crate::walked::{Walked, walk};
 use automaton::{Collapsed, Positions};
+use hierarchy::Hierarchy;
 use journey::{CertVerdict, Query, QueryFault, copies, read_query};
 use mode_network::{Journey, Network};
-use plain_graph::Plain;
+use phase_graph::{GraphInUse, ends_in, starts_in};
 use plan_base::Time;
 use product_search::{Label, LabelVerdict, check_labels};
 use search_laws::Labels;
@@ -27,15 +29,16 @@ use std::alloc::{AllocError, Global};
 /// Decides whether a certificate is valid: the clauses are tried in turn, and the first that fails is answered at the
 /// first place where it does.
 ///
-/// Clause 1: the line is a query; at the number of its fault. 2: the labels are of the network's own nodes; at 0. Where a
-/// journey is claimed, 3: it starts at a copy of the origin, at the departure or later; at 0. 4: each step is one of the
+/// Clause 1: the line is a query; at the number of its fault. 2: the labels are of phases exactly where a hierarchy is
+/// given; at 0. Where a journey is claimed, 3: it starts at a copy of the origin, at the departure or later; at 0. 4: each step is one of the
 /// network; at the step. 5: its last node is a copy of the destination, it arrives as is claimed, and the expression
-/// denotes its word; at 0, 1 and 2. 6 to 9: those of [`LabelVerdict`], over the network's graph.
+/// denotes its word; at 0, 1 and 2. 6 to 9: those of [`LabelVerdict`], over the network's graph, or, where a hierarchy is
+/// given, over its phase graph for the copies of the destination.
 ///
-/// Where it is valid, no journey answers the query better than the one that is claimed, or at all where none is. Who made
-/// the certificate is not asked. All memory is taken before clause 3 is tried.
+/// Where it is valid, no journey of the network answers the query better than the one that is claimed, or at all where none
+/// is. Who made the certificate, or the hierarchy, is not asked. All memory is taken before clause 3 is tried.
 ///
-/// All times of the certificate are below 10^30.
+/// The hierarchy is sound for the network, and all times of the certificate are below 10^30.
 ///
 /// # Errors
 ///
@@ -43,17 +46,22 @@ use std::alloc::{AllocError, Global};
 pub fn verify(
     alloc: Global,
     network: &Network,
+    hierarchy: Option<&Hierarchy>,
     certificate: &Certificate,
 ) -> Result<CertVerdict, AllocError>
-    requires { HaveTimes certificate.now }
-    ensures verdict { IfOk result (λ verdict. IsCertVerdict network.now certificate.now verdict) }
+    requires sound { IfSome hierarchy (λ h. IsSound network.now h.now) }
+    requires times { HaveTimes certificate.now }
+    ensures verdict { IfOk result (λ verdict. IsCertVerdict network.now (option_map (λ h. h.now) hierarchy.entry) certificate.now verdict) }
     ensures proves { IfOk result (λ verdict. verdict ≡ Valid → Proves network.now certificate.now) }
 {
     match read_query(alloc, network, certificate.line.as_slice()) {
-        Ok(_) if certificate.phases => Ok(CertVerdict::Invalid { clause: 2, at: 0 }),
+        Ok(_) if !names_graph(certificate.phases, hierarchy) => {
+            Ok(CertVerdict::Invalid { clause: 2, at: 0 })
+        }
         Ok(query) => verify_claim(
             alloc,
             network,
+            hierarchy,
             &query,
             &certificate.result,
             &certificate.labels,
@@ -62,8 +70,18 @@ pub fn verify(
     }
 }
 
+/// Whether labels are of phases exactly where a hierarchy is given.
+fn names_graph(phases: bool, hierarchy: Option<&Hierarchy>) -> bool
+    ensures { IsTrue result ↔ (phases ≡ is_some (option_map (λ h. h.now) hierarchy.entry)) }
+{
+    match hierarchy {
+        None => !phases,
+        Some(_) => phases,
+    }
+}
+
 /// The verdict on a line that is refused with this fault, unless that is want of memory.
-fn refused(fault: QueryFault) -> Result<CertVerdict, AllocError>
+pub fn refused(fault: QueryFault) -> Result<CertVerdict, AllocError>
     ensures { IfOk result (λ verdict. (at : ℕ) × (number_of fault ≡ Some at) × (verdict ≡ Invalid 1 at)) }
 {
     match fault.number() {
@@ -76,33 +94,39 @@ fn refused(fault: QueryFault) -> Result<CertVerdict, AllocError>
 fn verify_claim(
     alloc: Global,
     network: &Network,
+    hierarchy: Option<&Hierarchy>,
     query: &Query,
     claimed: &Option<(Time, Journey)>,
     labels: &[Label],
 ) -> Result<CertVerdict, AllocError>
+    requires sound { IfSome hierarchy (λ h. IsSound network.now h.now) }
     requires asks { Asks network.now query.now.line (asked_by query.now) }
     requires usable { IsUsable (form_of query.now.expr) }
-    requires times { HaveTimes (claim_on query.now claimed.now labels.now) }
-    ensures verdict { IfOk result (λ verdict. IsCertVerdict network.now (claim_on query.now claimed.now labels.now) verdict) }
-    ensures proves { IfOk result (λ verdict. verdict ≡ Valid → Proves network.now (claim_on query.now claimed.now labels.now)) }
+    requires times { HaveTimes (claim_on query.now (option_map (λ h. h.now) hierarchy) claimed.now labels.now) }
+    ensures verdict { IfOk result (λ verdict. IsCertVerdict network.now (option_map (λ h. h.now) hierarchy.entry)
+        (claim_on query.now (option_map (λ h. h.now) hierarchy.entry) claimed.now labels.now) verdict) }
+    ensures proves { IfOk result (λ verdict. verdict ≡ Valid
+        → Proves network.now (claim_on query.now (option_map (λ h. h.now) hierarchy.entry) claimed.now labels.now)) }
 {
     network.known();
-    let plain = Plain::new(network);
     let automaton = Collapsed::new(Positions::of(alloc, &query.expr)?);
-    let starts = copies(alloc, network, &query.from)?;
+    let origins = copies(alloc, network, &query.from)?;
     let targets = copies(alloc, network, &query.to)?;
+    let graph = GraphInUse::new(alloc, network, hierarchy, &targets)?;
+    let starts = starts_in(alloc, hierarchy, &origins)?;
+    let ends = ends_in(alloc, hierarchy, &targets)?;
     let states = StateSets::start(alloc, &automaton)?;
     if let CertVerdict::Invalid { clause, at } = result_verdict(
-        network, query, &automaton, &starts, &targets, states, claimed,
+        network, query, &automaton, &origins, &targets, states, claimed,
     ) {
         return Ok(CertVerdict::Invalid { clause, at });
     }
     let arrival = claimed_arrival(claimed);
     let verdict = check_labels(
-        &plain,
+        &graph,
         &automaton,
         &starts,
-        &targets,
+        &ends,
         query.depart,
         arrival,
         labels,
@@ -196,7 +220,7 @@ fn first_bad_end<L: Labels>(
 }
 
 /// Whether a list of nodes has the node.
-fn contains(nodes: &[u32], node: u32) -> bool
+pub fn contains(nodes: &[u32], node: u32) -> bool
     ensures { IsTrue result ↔ Contains nodes.now node }
 {
     nodes.contains(&node)
@@ -213,7 +237,7 @@ fn claimed_arrival(claimed: &Option<(Time, Journey)>) -> Option<Time>
 }
 
 /// A verdict on labels as one on their certificate.
-fn as_verdict(verdict: LabelVerdict) -> CertVerdict
+pub fn as_verdict(verdict: LabelVerdict) -> CertVerdict
     ensures { result ≡ as_verdict verdict }
 {
     match verdict {

@@ -14,7 +14,7 @@ use search_laws::Labels;
 
 /// A journey as far as it was walked: where and when it is, and the states that its letters are read to.
 #[derive(Drop)]
-pub(crate) struct Walked {
+pub struct Walked {
     pub node: u32,
     pub at: Time,
     pub states: StateSets,
@@ -48,7 +48,7 @@ fn keeps_rules(network: &Network)
 /// Walks a journey; or answers the place of its first step that is none.
 ///
 /// Takes no memory.
-pub(crate) fn walk<L: Labels>(
+pub fn walk<L: Labels>(
     network: &Network,
     labels: &L,
     journey: &Journey,

@@ -1,12 +1,22 @@
-use Rattle.std.proofs.Common.{refl, sym, subst}
+use Rattle.std.proofs.Common.{◌∙◌, List, ℕ, refl, sym, ap, subst, Bor}
+use Rattle.std.specs.Prelude.{option_map}
 use Rattle.automaton.specs.declared.positions.Positions.{Positions}
 use Rattle.automaton.specs.Meanings.{position_meaning}
 use Rattle.automaton.specs.Written.{written}
 use Rattle.automaton.specs.States.{IsPositionAutomaton}
+use Rattle.hierarchy.specs.declared.hierarchy.Hierarchy.{Hierarchy}
+use Rattle.phase_graph.specs.InUse.{IsInUse, starts_in, ends_in}
+use Rattle.phase_graph.specs.InUseGraph.{meaning_in_use}
 use Rattle.mode_expression.specs.Form.{form_of}
 use Rattle.certificate.specs.Verdicts.{IsCertVerdict, claim_on}
-use Rattle.certificate.proofs.VerifyLemmas.{few_copies, automaton_denotes, labels_judged, valid_proves}
+use Rattle.certificate.proofs.VerifyLemmas.{few_copies, few_starts, low_nodes, automaton_denotes, labels_judged, valid_proves}
 use Rattle.certificate.proofs.verifying.verify_claim.Goals as goal
+
+pub starts_in-requires : goal.starts_in-requires
+starts_in-requires c = rw c.deref-2.ensures.value (low_nodes c.args.network.now c.known.ensures c.in_ok-origins.origins.items c.in_ok-origins.ensures.nodes)
+
+pub ends_in-requires : goal.ends_in-requires
+ends_in-requires c = rw c.deref-3.ensures.value (low_nodes c.args.network.now c.known.ensures c.in_ok-targets.targets.items c.in_ok-targets.ensures.nodes)
 
 pub result_verdict-requires-clause-denotes : goal.result_verdict-requires-clause-denotes
 result_verdict-requires-clause-denotes c =
@@ -14,20 +24,29 @@ result_verdict-requires-clause-denotes c =
 
 pub check_labels-verdict-requires-clause-few : goal.check_labels-verdict-requires-clause-few
 check_labels-verdict-requires-clause-few c =
-    rw c.deref-3.ensures.value (few_copies c.args.network.now c.known.ensures c.in_ok-starts.starts.items c.in_ok-starts.ensures.are.ascending c.in_ok-starts.ensures.nodes)
+    let h = option_map (λ (x : Bor Hierarchy). x.now) c.args.hierarchy in
+    let starts = c.in_ok-starts.ensures ∙ ap (starts_in h) c.deref-2.ensures.value in
+    rw c.deref-6.ensures.value (few_starts h c.in_ok-origins.origins.items c.in_ok-starts.starts.items starts
+    (few_copies c.args.network.now c.known.ensures c.in_ok-origins.origins.items c.in_ok-origins.ensures.are.ascending c.in_ok-origins.ensures.nodes))
 
 pub returns-clause-verdict : goal.returns-clause-verdict
 returns-clause-verdict c =
     let q = c.args.query.now in
-    let verdict = rw (c.new-plain.ensures.network, c.deref-3.ensures.value, c.deref-4.ensures.value, c.claimed_arrival-arrival.ensures) at c.check_labels-verdict.ensures.verdict in
+    let h = option_map (λ (x : Bor Hierarchy). x.now) c.args.hierarchy in
+    let n = c.args.network.now in
+    let starts = c.in_ok-starts.ensures ∙ ap (starts_in h) c.deref-2.ensures.value in
+    let ends = c.in_ok-ends.ensures ∙ ap (ends_in h) c.deref-3.ensures.value in
+    let in_use = subst (λ (ts : List ℕ). IsInUse n h ts (meaning_in_use c.in_ok-graph.graph)) c.deref.ensures.value c.in_ok-graph.ensures.is in
+    let verdict = rw (c.deref-6.ensures.value, c.deref-7.ensures.value, starts, ends, c.claimed_arrival-arrival.ensures) at c.check_labels-verdict.ensures.verdict in
     let positions = subst (λ (p : Positions). IsPositionAutomaton (written (form_of q.expr)) (position_meaning p)) (sym c.new-automaton.ensures.same) c.in_ok-of.ensures.states in
-    rw c.as_verdict.ensures (labels_judged c.args.network.now (claim_on q c.args.claimed.now c.args.labels.now) q c.requires.asks refl
-    c.new-plain.result.timetable.now c.new-plain.ensures.of c.new-plain.ensures.keeps (position_meaning c.new-automaton.result.inner) positions c.new-automaton.result.inner.lawful
-    c.in_ok-starts.starts.items c.in_ok-targets.targets.items c.in_ok-starts.ensures.are c.in_ok-targets.ensures.are
-    c.check_labels-verdict.result c.in_default.ensures verdict)
+    rw c.as_verdict.ensures (labels_judged n h (claim_on q h c.args.claimed.now c.args.labels.now) q c.requires.asks refl
+    (position_meaning c.new-automaton.result.inner) positions c.new-automaton.result.inner.lawful
+    c.in_ok-origins.origins.items c.in_ok-targets.targets.items c.in_ok-origins.ensures.are c.in_ok-targets.ensures.are
+    (meaning_in_use c.in_ok-graph.graph) in_use c.check_labels-verdict.result c.in_default.ensures verdict)
 
 pub returns-clause-proves : goal.returns-clause-proves
 returns-clause-proves c = λ valid.
     let q = c.args.query.now in
-    let claim = claim_on q c.args.claimed.now c.args.labels.now in
-    valid_proves c.args.network.now c.known.ensures claim (subst (IsCertVerdict c.args.network.now claim) valid (returns-clause-verdict c))
+    let h = option_map (λ (x : Bor Hierarchy). x.now) c.args.hierarchy in
+    let claim = claim_on q h c.args.claimed.now c.args.labels.now in
+    valid_proves c.args.network.now c.known.ensures h c.in_ok-graph.ensures.sound claim (subst (IsCertVerdict c.args.network.now h claim) valid (returns-clause-verdict c))
