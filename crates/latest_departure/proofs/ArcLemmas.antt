@@ -82,6 +82,13 @@ module _ (n : NetworkLists) (t : TableLists) (rows : ℕ → List Source) (sourc
         get_or-map-range_with_len (ride_from ride.pattern ride.alight) 0 ride.alight ride.board ride.board (Ride ride) into.later (omega arith),
       )
 
+-- on a run one is nowhere before one boards
+pub rides_on : (t : TableLists) → IsTable t → (ride : RideCalls) → ride.board < ride.alight → ride.alight < length (pattern_trip t ride.pattern).calls → (run : Instance) → IsIn t ride.pattern run
+    → departs t run ride.board ≤ arrives t run ride.alight
+rides_on t table ride later within run is_in =
+    let same = (table.patterns.alike ride.pattern run is_in).calls in
+    never_back t table ride.pattern run is_in ride.board ride.alight later (omega (arith, same, within))
+
 module _ (n : NetworkLists) (network : IsNetwork n) (t : TableLists) (table : IsTable t) (of : IsTimetableOf n t) where
   -- where a run that is to be over by a time is known, one may board, and it is one of its pattern that is over by then
   pub record IsRunBy (deadline s : ℕ) (ride : RideCalls) (run : Instance) : Type 0 where
@@ -149,13 +156,6 @@ module _ (n : NetworkLists) (network : IsNetwork n) (t : TableLists) (table : Is
       let joins = All-contains (λ (a : Arc). joins_modes n.roads a ≡ true) n.arcs arc network.arcs_join there in
       same_of (mode_at n.roads arc.from) (mode_at n.roads arc.to) (both (is_same_mode (mode_at n.roads arc.from) (mode_at n.roads arc.to)) (not (arc.from == arc.to)) joins).0
 
-  -- on a run one is nowhere before one boards
-  pub rides_on : (ride : RideCalls) → ride.board < ride.alight → ride.alight < length (pattern_trip t ride.pattern).calls → (run : Instance) → IsIn t ride.pattern run
-      → departs t run ride.board ≤ arrives t run ride.alight
-  rides_on ride later within run is_in =
-      let same = (table.patterns.alike ride.pattern run is_in).calls in
-      never_back t table ride.pattern run is_in ride.board ride.alight later (omega (arith, same, within))
-
   -- an arc of mirrored time is a step that begins when the arc says, and ends by the deadline less the moment at which it is taken
   pub arc_steps : (deadline v s s2 : ℕ) (a : PlainArc) → IsInto n t v a → begins t deadline s a ≡ Some s2 → s2 ≤ deadline
       → HasStep (mirror_arc n t v a).to (deadline - s2) v (deadline - s) (mirror_arc n t v a).letter
@@ -202,7 +202,7 @@ module _ (n : NetworkLists) (network : IsNetwork n) (t : TableLists) (table : Is
           let arrives_by = order.arrives in
           let over = by.over in
           let early = by.early in
-          let on = rides_on ride into.later within run by.is_in in
+          let on = rides_on t table ride into.later within run by.is_in in
           let now : time ≡ deadline - s2 = omega arith in
           let step = step_at n network t table of from time (arrives t other ride.alight) (Ride ride) (ride_out v ride into by.boards)
           (ap (option_map (λ (r : Instance). arrives t r ride.alight)) some) in

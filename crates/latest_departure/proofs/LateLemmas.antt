@@ -11,7 +11,7 @@ use Rattle.search_laws.specs.GraphLaws.{GraphMeaning}
 use Rattle.search_laws.specs.LabelLaws.{LabelsMeaning, Accepts}
 use Rattle.search_laws.specs.Walks.{wait, ArrivesAt, IsLeast, word_from}
 use Rattle.product_search.specs.Answer.{IsArrival}
-use Rattle.automaton.specs.Collapsed.{collapsed, AcceptsCollapsed}
+use Rattle.automaton.specs.Collapsed.{collapsed, FitsCollapsed, AcceptsCollapsed}
 use Rattle.mode_expression.specs.Form.{Form, IsWordOf}
 use Rattle.mode_network.specs.NetworkLists.{NetworkLists}
 use Rattle.mode_network.specs.declared.steps.Step.{Step}
@@ -24,7 +24,7 @@ use Rattle.latest_departure.specs.Late.{deadline, first_moment, IsInTime, IsLate
 use Rattle.latest_departure.specs.Latest.{IsLate, span}
 use Rattle.latest_departure.specs.Leaving.{leaving_at, IsEarliest, IsLeaving, IsStarting}
 use Rattle.latest_departure.specs.Mirrored.{MirrorsAreJourneys, JourneysAreMirrors}
-use Rattle.latest_departure.specs.Reversed.{AcceptsReversed, all_moves}
+use Rattle.latest_departure.specs.Reversed.{IsReversed, AcceptsReversed, all_moves}
 
 pub few_moves : (l : LabelsMeaning) → l.states ≤ 201 → ((q : ℕ) → l.moves q ≤ 200) → all_moves l ≤ 2 ^ 16
 few_moves l states moves =
@@ -82,6 +82,13 @@ collapse_reversed (c ∷ d ∷ word) =
     on_test true = refl
     on_test false = sym (reverse-append (c ∷ []) (collapse (d ∷ word)))
 
+-- a reversed automaton is as small as the other
+pub turned_fits : (l r : LabelsMeaning) → IsReversed l r → l.states ≤ 201 → ((q : ℕ) → q < l.states → r.moves q ≤ 2 ^ 16) → FitsCollapsed r
+turned_fits l r is few moves = record {
+  few_states = let same = is.states in omega arith;
+  few_moves = λ q lt. moves q (subst (λ k. q < k) is.states lt);
+}
+
 -- the automaton reads, from its end, each word whose collapse the form denotes
 abbrev pub IsMirrorOf : Form → LabelsMeaning → Type 0
 IsMirrorOf form l = (word : List ℕ) → Accepts l (reverse word) ↔ IsWordOf form (collapse word)
@@ -100,11 +107,10 @@ mirror_of form inner reversed denotes turns collapses word = (out, into)
     into denoted = (collapses (reverse word)).1 ((turns (collapse (reverse word))).1 (subst (Accepts inner) (sym twice) ((denotes (collapse word)).1 denoted)))
 
 module _ (n : NetworkLists) (q : Asked) (g : GraphMeaning) (l : LabelsMeaning) (starts targets : List ℕ) (reads : IsMirrorOf q.form l)
-    (walks : MirrorsAreJourneys n g (deadline q)) (journeys : JourneysAreMirrors n g (deadline q)) (to : AreTheCopies n q.to starts) (from : AreTheCopies n q.from targets)
-    (late : first_moment n ≤ deadline q)
+    (journeys : JourneysAreMirrors n g (deadline q)) (to : AreTheCopies n q.to starts) (from : AreTheCopies n q.from targets)
     (rises : (v t : ℕ) (steps : List Step) (w u : ℕ) (letters : List ℕ) → AreSteps n v t steps w u letters → t ≤ u) where
   -- a journey that is in time is an accepted walk of mirrored time
-  arrives : (k : Route) → IsInTime n q k → ArrivesAt g l starts targets 0 (deadline q - k.at) × (k.at ≤ deadline q)
+  pub arrives : (k : Route) → IsInTime n q k → ArrivesAt g l starts targets 0 (deadline q - k.at) × (k.at ≤ deadline q)
   arrives k in_time =
       let letters = in_time.real.letters in
       let walk = journeys k.start k.at k.steps in_time.end in_time.arrival letters in_time.real.steps in_time.by_deadline in
@@ -123,8 +129,12 @@ module _ (n : NetworkLists) (q : Asked) (g : GraphMeaning) (l : LabelsMeaning) (
         omega arith,
       )
 
+module _ (n : NetworkLists) (q : Asked) (g : GraphMeaning) (l : LabelsMeaning) (starts targets : List ℕ) (reads : IsMirrorOf q.form l)
+    (walks : MirrorsAreJourneys n g (deadline q)) (journeys : JourneysAreMirrors n g (deadline q)) (to : AreTheCopies n q.to starts) (from : AreTheCopies n q.from targets)
+    (late : first_moment n ≤ deadline q)
+    (rises : (v t : ℕ) (steps : List Step) (w u : ℕ) (letters : List ℕ) → AreSteps n v t steps w u letters → t ≤ u) where
   -- and an accepted walk within the span is a journey that is in time
-  in_time_of : (moment : ℕ) → ArrivesAt g l starts targets 0 moment → moment ≤ span n q → (k : Route) × (arrival : ℕ) × Answers n (leaving_at q (deadline q - moment)) k arrival × (arrival ≤ deadline q)
+  pub in_time_of : (moment : ℕ) → ArrivesAt g l starts targets 0 moment → moment ≤ span n q → (k : Route) × (arrival : ℕ) × Answers n (leaving_at q (deadline q - moment)) k arrival × (arrival ≤ deadline q)
   in_time_of moment a within =
       let word = word_from g a.start a.steps in
       let there = walks a.start 0 a.steps a.end moment a.walk (omega arith) in
@@ -144,7 +154,7 @@ module _ (n : NetworkLists) (q : Asked) (g : GraphMeaning) (l : LabelsMeaning) (
       )
 
   pub late_found : (moment : Option ℕ) (found : Option Route) → IsArrival g l starts targets 0 (Some (span n q)) moment → IsStarting n q moment found → IsLate n q found
-  late_found None found none starting = subst (IsLate n q) (sym starting) (λ k in_time. let is = arrives k in_time in let early = in_time.not_before in none (deadline q - k.at) (omega arith) is.0)
+  late_found None found none starting = subst (IsLate n q) (sym starting) (λ k in_time. let is = arrives n q g l starts targets reads journeys to from rises k in_time in let early = in_time.not_before in none (deadline q - k.at) (omega arith) is.0)
   late_found (Some moment) None least starting = let there = in_time_of moment least.0.reached least.1 in absurd (starting there.0 there.1 there.2)
   late_found (Some moment) (Some j) least starting =
       let there = in_time_of moment least.0.reached least.1 in
@@ -165,7 +175,7 @@ module _ (n : NetworkLists) (q : Asked) (g : GraphMeaning) (l : LabelsMeaning) (
             by_deadline = omega arith;
             denoted = answers.denoted;
           };
-          latest = λ k in_time. let is = arrives k in_time in let low = is.1 in let first = least.0.least (deadline q - k.at) is.0 in omega arith;
+          latest = λ k in_time. let is = arrives n q g l starts targets reads journeys to from rises k in_time in let low = is.1 in let first = least.0.least (deadline q - k.at) is.0 in omega arith;
         },
         starting.printable,
       )

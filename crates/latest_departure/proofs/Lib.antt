@@ -6,7 +6,13 @@ pub mod ReversedLemmas
 pub mod TurnedLemmas
 pub mod EntryLemmas
 pub mod RowLemmas
+pub mod WayLemmas
 pub mod DeadlineLemmas
 pub mod LeavingLemmas
 pub mod LateLemmas
 pub mod TextLemmas
+pub mod ValidLemmas
+pub mod SearchLemmas
+pub mod ClosedLemmas
+pub mod AlikeLemmas
+pub mod CertifyLemmas

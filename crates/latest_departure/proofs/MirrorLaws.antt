@@ -73,11 +73,11 @@ module _ (n : NetworkLists) (network : IsNetwork n) (t : TableLists) (table : Is
       on_run None by none = cc
       on_run (Some run) by some =
           let known = run_is_by n network t table of deadline s ride into.alights.within run by in
-          let on = rides_on n network t table of ride into.later into.alights.within run known.is_in in
+          let on = rides_on t table ride into.later into.alights.within run known.is_in in
           let over = known.over in let early = known.early in let is = some_is some in
           (omega arith, omega arith)
 
-  begins_rise : (deadline v r s a b : ℕ) (arc : PlainArc) → IsInto n t v arc → r ≤ s → begins t deadline r arc ≡ Some a → begins t deadline s arc ≡ Some b → a ≤ b
+  pub begins_rise : (deadline v r s a b : ℕ) (arc : PlainArc) → IsInto n t v arc → r ≤ s → begins t deadline r arc ≡ Some a → begins t deadline s arc ≡ Some b → a ≤ b
   begins_rise deadline v r s a b (Road arc) into le first second = let x = some_is first in let y = some_is second in omega arith
   begins_rise deadline v r s a b (Link link) into le first second = let x = some_is first in let y = some_is second in omega arith
   begins_rise deadline v r s a b Stand into le first second = let x = some_is first in let y = some_is second in omega arith
@@ -96,7 +96,7 @@ module _ (n : NetworkLists) (network : IsNetwork n) (t : TableLists) (table : Is
           let departs_by = order.departs in
           let x = some_is first in let y = some_is second in omega arith
 
-  none_later : (deadline v r s : ℕ) (arc : PlainArc) → IsInto n t v arc → r ≤ s → begins t deadline r arc ≡ None → begins t deadline s arc ≡ None
+  pub none_later : (deadline v r s : ℕ) (arc : PlainArc) → IsInto n t v arc → r ≤ s → begins t deadline r arc ≡ None → begins t deadline s arc ≡ None
   none_later deadline v r s (Road arc) into le none = cc
   none_later deadline v r s (Link link) into le none = cc
   none_later deadline v r s Stand into le none = cc

@@ -43,7 +43,7 @@ module _ {X Y : Type 0} (f : X → List Y) where
       All-append P (f x) (flat_map f xs) (each x (Contains-append_left (x ∷ []) xs x (0, omega arith, refl)))
       (all_of_pieces P xs (λ y there. each y (Contains-append_right (x ∷ []) xs y there)))
 
-  head_is : (first x : X) → Contains (first ∷ []) x → first ≡ x
+  pub head_is : (first x : X) → Contains (first ∷ []) x → first ≡ x
   head_is first x (k, within, is) =
       let zero_place : k ≡ 0 = omega arith in
       subst (λ j. slice_index_or (first ∷ []) j x ≡ x) zero_place is

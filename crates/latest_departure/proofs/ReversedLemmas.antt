@@ -7,7 +7,7 @@ use Rattle.search_laws.proofs.WalkLemmas.{reads_more}
 use Rattle.latest_departure.specs.Reversed.{IsReversed, AcceptsReversed}
 
 module _ (l : LabelsMeaning) (lawful : IsLawfulLabels l) where
-  to_below : (q c p : ℕ) → q < l.states → HasMove l q c p → p < l.states
+  pub to_below : (q c p : ℕ) → q < l.states → HasMove l q c p → p < l.states
   to_below q c p lt (i, move) = subst (λ k. k < l.states) move.to (lawful.to_in_range q i lt move.place)
 
   pub reads_below : (word : List ℕ) (q p : ℕ) → q < l.states → Reads l q word p → p < l.states

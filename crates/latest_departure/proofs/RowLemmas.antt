@@ -90,12 +90,16 @@ module _ (n : NetworkLists) (t : TableLists) (table : IsTable t) (entries : List
   few_each v source.Stand leads = omega arith
   few_each v (source.Alight pattern call) leads = let short = pattern_short t table pattern in let within = leads.within in omega arith
 
+  pub entry_leads : (v : ℕ) → v < length (nodes_of n) → (k : ℕ) (d : Entry) → k < length (row_entries entries places v) → LeadsInto n t v (source_of (get_or (row_entries entries places v) k d))
+  entry_leads v node k d within =
+      let row = row_entries entries places v in
+      let fits = sources.fit v node k (source_of d) (subst (λ j. k < j) (sym (length-map row source_of)) within) in
+      subst (LeadsInto n t v) (get_or-map source_of row k d (source_of d) within) fits
+
   pub few_arcs : length entries < 2 ^ 32 → FewLead entries places (length (nodes_of n))
   few_arcs short v node =
       let row = row_entries entries places v in
-      let each = λ (k : ℕ) (d : Entry) (within : k < length row).
-      let fits = sources.fit v node k (source_of d) (subst (λ j. k < j) (sym (length-map row source_of)) within) in
-      few_each v (source_of (get_or row k d)) (subst (LeadsInto n t v) (get_or-map source_of row k d (source_of d) within) fits) in
+      let each = λ (k : ℕ) (d : Entry) (within : k < length row). few_each v (source_of (get_or row k d)) (entry_leads v node k d within) in
       let most = sum_by-le entry_count (2 ^ 32 - 1) row each in
       let size = length-take (place_at places (v + 1) - place_at places v) (drop (place_at places v) entries) in
       let rest = length-drop (place_at places v) entries in

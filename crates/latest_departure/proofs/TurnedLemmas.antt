@@ -4,7 +4,7 @@ use Rattle.std.specs.Prelude.{All, Contains, slice_index_or}
 use Rattle.std.specs.List.{flat_map, range_with_len, sum_by}
 use Rattle.std.proofs.lemmas.Bool.Decides.{nat_tests}
 use Rattle.std.proofs.lemmas.Grind.{flat_map-append}
-use Rattle.std.proofs.lemmas.List.{append_assoc, append-nil, get_or_default, get_or-map, map-append}
+use Rattle.std.proofs.lemmas.List.{get_or_past, append_assoc, append-nil, get_or_default, get_or-map, map-append}
 use Rattle.std.proofs.lemmas.List.Concat.{length-flat_map}
 use Rattle.std.proofs.lemmas.List.Sums.{sum_by-le, sum_by-le-sum_by}
 use Rattle.std.proofs.lemmas.List.Elements.{All-nil, All-cons}
@@ -157,6 +157,7 @@ module _ (l : LabelsMeaning) (lawful : IsLawfulLabels l) where
   made_reversed = record {
     states = states_are;
     starts = λ q lt. ap (λ (s : StateLists). s.starts) (state_is q lt);
+    no_more = λ q past. ap (λ (s : StateLists). s.starts) (get_or_past list q no_state (let same = states_are in omega arith));
     accepts = λ q lt. ap (λ (s : StateLists). s.accepts) (state_is q lt);
     moves = λ q c p lt below. (back_out q c p lt, back_in q c p lt below);
   }

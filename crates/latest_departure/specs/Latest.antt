@@ -1,15 +1,16 @@
 -- What is answered for a deadline: a journey that starts at the latest departure, and the labels of the search.
-use Rattle.std.specs.Prelude.{◌≡◌, ℕ, ◌-◌, List, Option, Some, None}
-use Rattle.search_laws.specs.LabelLaws.{LabelsMeaning}
+use Rattle.std.specs.Prelude.{ℕ, ◌-◌, ◌<◌, List, length, All, Option, Some, None}
+use Rattle.search_laws.specs.GraphLaws.{GraphMeaning}
+use Rattle.search_laws.specs.LabelLaws.{LabelsMeaning, IsLawfulLabels}
 use Rattle.product_search.specs.declared.label.Label.{Label}
 use Rattle.product_search.specs.Listed.{AreLeastLabels}
 use Rattle.product_search.specs.Answer.{IsArrival}
 use Rattle.automaton.specs.Written.{written}
 use Rattle.automaton.specs.States.{IsPositionAutomaton}
-use Rattle.automaton.specs.Collapsed.{collapsed}
+use Rattle.automaton.specs.Collapsed.{collapsed, FitsCollapsed}
 use Rattle.timetable_arcs.specs.Patterns.{TableLists}
 use Rattle.timetable_arcs.specs.Table.{IsTable}
-use Rattle.mode_network.specs.NetworkLists.{NetworkLists}
+use Rattle.mode_network.specs.NetworkLists.{NetworkLists, nodes_of}
 use Rattle.mode_network.specs.Timetables.{IsTimetableOf}
 use Rattle.mode_network.specs.Journeys.{Route}
 use Rattle.journey.specs.Best.{Asked}
@@ -29,22 +30,46 @@ IsLate n q None = HasNoneInTime n q
 abbrev pub span : NetworkLists → Asked → ℕ
 span n q = deadline q - first_moment n
 
--- The labels of the search through mirrored time, from the destination's copies back to those of the origin: over the network's graph with some
--- timetable of its trips, and the automaton that reads the words of the expression from their ends, and adjacent equal road letters as one.
-pub record AreLateLabels (n : NetworkLists) (q : Asked) (labels : List Label) : Type 0 where
+-- the automaton reads the words of what is asked from their ends
+pub record ReadsFromEnds (q : Asked) (reversed : LabelsMeaning) : Type 0 where
+  pub automaton : LabelsMeaning
+  pub positions : IsPositionAutomaton (written q.form) automaton
+  pub lawful : IsLawfulLabels automaton
+  pub turned : IsReversed automaton reversed
+  pub turned_lawful : IsLawfulLabels reversed
+  pub fits : FitsCollapsed reversed
+
+-- the nodes are the copies of the destination, where the search starts, and those of the origin
+pub record AreEnds (n : NetworkLists) (q : Asked) (starts targets : List ℕ) : Type 0 where
+  pub destination : AreTheCopies n q.to starts
+  pub origin : AreTheCopies n q.from targets
+  pub start_nodes : All (λ v. v < length (nodes_of n)) starts
+  pub target_nodes : All (λ v. v < length (nodes_of n)) targets
+
+-- What a search for a deadline goes over: the network in mirrored time, with some timetable of its trips; an automaton that reads the words of the
+-- expression from their ends; and the copies of the destination, from which it goes back to those of the origin.
+pub record Mirroring (n : NetworkLists) (q : Asked) : Type 0 where
   pub table : TableLists
   pub of : IsTimetableOf n table
   pub keeps : IsTable table
   pub rows : ℕ → List Source
   pub sources : AreSources n table rows
-  pub automaton : LabelsMeaning
-  pub positions : IsPositionAutomaton (written q.form) automaton
   pub reversed : LabelsMeaning
-  pub turned : IsReversed automaton reversed
+  pub reads : ReadsFromEnds q reversed
   pub starts : List ℕ
   pub targets : List ℕ
-  pub destination : AreTheCopies n q.to starts
-  pub origin : AreTheCopies n q.from targets
+  pub ends : AreEnds n q starts targets
+
+abbrev pub graph_of : (n : NetworkLists) (q : Asked) → Mirroring n q → GraphMeaning
+graph_of n q m = mirror_meaning n m.table m.rows (deadline q)
+
+-- it reads adjacent equal road letters as one
+abbrev pub labels_of : (n : NetworkLists) (q : Asked) → Mirroring n q → LabelsMeaning
+labels_of n q m = collapsed m.reversed
+
+-- the labels of the search through mirrored time: all product states that are reached before the least moment, each with the least moment at which it is
+pub record AreLateLabels (n : NetworkLists) (q : Asked) (labels : List Label) : Type 0 where
+  pub over : Mirroring n q
   pub arrival : Option ℕ
-  pub first : IsArrival (mirror_meaning n table rows (deadline q)) (collapsed reversed) starts targets 0 (Some (span n q)) arrival
-  pub least : AreLeastLabels (mirror_meaning n table rows (deadline q)) (collapsed reversed) starts 0 (Some (span n q)) arrival labels
+  pub first : IsArrival (graph_of n q over) (labels_of n q over) over.starts over.targets 0 (Some (span n q)) arrival
+  pub least : AreLeastLabels (graph_of n q over) (labels_of n q over) over.starts 0 (Some (span n q)) arrival labels

@@ -6,6 +6,11 @@ pub mod Meanings
 pub mod Entries
 pub mod MirrorArcs
 pub mod Known
+pub mod BackLists
+pub mod Inside
+pub mod MirrorWays
 pub mod Mirrored
 pub mod Latest
 pub mod Leaving
+pub mod Searches
+pub mod ValidLate

@@ -1,13 +1,14 @@
 -- An automaton that reads words from their ends.
-use Rattle.std.specs.Prelude.{◌≡◌, ℕ, ◌<◌, ◌==◌, ◌↔◌, Bool, List, [], ◌∷◌, length, reverse, slice_index_or, false, if◌then◌else◌}
+use Rattle.std.specs.Prelude.{◌≡◌, ℕ, ◌<◌, ◌≤◌, ◌==◌, ◌↔◌, Bool, List, [], ◌∷◌, length, reverse, slice_index_or, false, if◌then◌else◌}
 use Rattle.std.specs.List.{flat_map, range_with_len, sum_by}
 use Rattle.search_laws.specs.declared.labels.Move.{Move}
 use Rattle.search_laws.specs.LabelLaws.{LabelsMeaning, HasMove, Accepts}
 
--- The states are those of another automaton; it starts where that accepts, accepts where that starts, and each move goes the other way.
+-- The states are those of another automaton; it starts where that accepts, and nowhere else, accepts where that starts, and each move goes the other way.
 pub record IsReversed (l r : LabelsMeaning) : Type 0 where
   pub states : r.states ≡ l.states
   pub starts : (q : ℕ) → q < l.states → r.is_start q ≡ l.accepts q
+  pub no_more : (q : ℕ) → l.states ≤ q → r.is_start q ≡ false
   pub accepts : (q : ℕ) → q < l.states → r.accepts q ≡ l.is_start q
   pub moves : (q c p : ℕ) → q < l.states → p < l.states → HasMove r q c p ↔ HasMove l p c q
 

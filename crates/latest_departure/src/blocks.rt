@@ -7,10 +7,12 @@ ghost use Rattle.journey.specs.Blocks.{AddsText, IsPrintable};
 ghost use Rattle.journey.specs.Texts.{IsJourneyText};
 ghost use Rattle.latest_departure.specs.Blocks.{IsLateText, IsBlockOf, IsAnswerBlock, IsLateBlock};
 
-use crate::departing::{Late, latest};
+use crate::backwards::Backwards;
+use crate::departing::find_latest;
 use journey::{BlockBody, QueryFault, block, read_query};
 use mode_network::{Journey, Network};
 use plain_texts::push_line_feed;
+use product_search::Workspace;
 use search_laws::Time;
 use std::alloc::{AllocError, Global};
 
@@ -79,7 +81,7 @@ fn journey_block(
 }
 
 /// The block of a line with a journey, or with the answer that there is none.
-fn answer_block(
+pub fn answer_block(
     alloc: Global,
     network: &Network,
     line: &[u8],
@@ -102,9 +104,17 @@ fn answer_block(
 
 /// The right late block of a query line: that of its refusal, of a journey that starts at the latest departure, or of the
 /// answer that there is none.
-pub fn late_block(alloc: Global, network: &Network, line: &[u8]) -> Result<Vec<u8>, AllocError>
-    ensures { IfOk result (λ block. IsLateBlock network.now line.now block.items) }
+///
+/// The table of what leads to each node and the workspace serve many lines.
+pub fn late_block(
+    alloc: Global,
+    workspace: &mut Workspace,
+    backwards: &Backwards<'_>,
+    line: &[u8],
+) -> Result<Vec<u8>, AllocError>
+    ensures { IfOk result (λ block. IsLateBlock backwards.now.network line.now block.items) }
 {
+    let network = backwards.network();
     let query = match read_query(alloc, network, line) {
         Ok(query) => query,
         Err(QueryFault::OutOfMemory) => return Err(AllocError),
@@ -113,8 +123,7 @@ pub fn late_block(alloc: Global, network: &Network, line: &[u8]) -> Result<Vec<u
             return Ok(block);
         }
     };
-    let late = latest(alloc, network, &query)?;
-    let Late { journey, labels: _ } = late;
+    let journey = find_latest(alloc, workspace, backwards, &query)?;
     let block = answer_block(alloc, network, line, journey)?;
     Ok(block)
 }

@@ -9,13 +9,15 @@ ghost use Rattle.journey.specs.CopyLists.{AreTheCopies};
 ghost use Rattle.latest_departure.specs.Latest.{IsLate, AreLateLabels};
 ghost use Rattle.latest_departure.specs.Leaving.{IsPlainWalk, IsUnpacked, IsLeaving, IsStarting};
 
-use crate::mirror::Mirror;
-use crate::reversed::Reversed;
+use crate::backwards::Backwards;
+use crate::search::LateSearch;
 use automaton::{Collapsed, Positions};
-use journey::{Query, copies};
+use journey::Query;
 use mode_network::{Journey, Network};
 use plain_graph::Plain;
-use product_search::{Best, Found, Label, Walk, Workspace, search, search_best_with};
+use product_search::{
+    Best, Found, Label, Walk, Workspace, search as search_labels, search_best_with,
+};
 use search_laws::Time;
 use std::alloc::{AllocError, Global};
 use unpack::from_plain;
@@ -50,6 +52,7 @@ fn unpacked(
 /// expression, and arrives as early as any such journey that starts then or later; None exactly where there is none.
 fn leaving(
     alloc: Global,
+    workspace: &mut Workspace,
     network: &Network,
     query: &Query,
     starts: &[u32],
@@ -66,16 +69,8 @@ fn leaving(
     let plain = Plain::new(network);
     network.known();
     let automaton = Collapsed::new(Positions::of(alloc, &query.expr)?);
-    let mut workspace = Workspace::new(alloc);
     let found = search_best_with(
-        alloc,
-        &mut workspace,
-        &plain,
-        &automaton,
-        starts,
-        targets,
-        depart,
-        None,
+        alloc, workspace, &plain, &automaton, starts, targets, depart, None,
     )?;
     let Best { arrival: _, walk } = found;
     let journey = unpacked(alloc, &plain, &walk)?;
@@ -85,6 +80,7 @@ fn leaving(
 /// The journey that starts so long before the deadline, if there is a moment at which one does.
 fn starting(
     alloc: Global,
+    workspace: &mut Workspace,
     network: &Network,
     query: &Query,
     starts: &[u32],
@@ -102,6 +98,7 @@ fn starting(
     match moment {
         Some(moment) => leaving(
             alloc,
+            workspace,
             network,
             query,
             starts,
@@ -113,40 +110,88 @@ fn starting(
 }
 
 /// A journey that starts at the latest departure of those that are at the destination by the deadline, and of these one that
-/// arrives first; None exactly where none is in time. And exactly the labels of the search through mirrored time, up to the
-/// region's first date.
+/// arrives first; None exactly where none is in time.
 ///
 /// The time of a query is the deadline. The first search finds the latest departure, and a second one a journey that takes it.
+/// The table of what leads to each node and the workspace serve many queries.
+pub fn find_latest(
+    alloc: Global,
+    workspace: &mut Workspace,
+    backwards: &Backwards<'_>,
+    query: &Query,
+) -> Result<Option<Journey>, AllocError>
+    requires asks { IsQuery backwards.now.network query.now.line query.now.from query.now.to query.now.depart (form_of query.now.expr) }
+    requires usable { IsUsable (form_of query.now.expr) }
+    requires soon { query.now.depart < 2 ^ 64 }
+    ensures { IfOk result (IsLate backwards.now.network (asked_by query.now)) }
+{
+    backwards.known();
+    let search = LateSearch::new(alloc, backwards, query)?;
+    let found = search_best_with(
+        alloc,
+        workspace,
+        &search.mirror,
+        &search.automaton,
+        &search.starts,
+        &search.targets,
+        0,
+        Some(search.span),
+    )?;
+    let Best { arrival, walk: _ } = found;
+    let journey = starting(
+        alloc,
+        workspace,
+        backwards.network(),
+        query,
+        &search.targets,
+        &search.starts,
+        arrival,
+    )?;
+    Ok(journey)
+}
+
+/// Exactly the labels of the search through mirrored time, up to the region's first date.
+pub fn late_labels(
+    alloc: Global,
+    backwards: &Backwards<'_>,
+    query: &Query,
+) -> Result<Vec<Label>, AllocError>
+    requires asks { IsQuery backwards.now.network query.now.line query.now.from query.now.to query.now.depart (form_of query.now.expr) }
+    requires usable { IsUsable (form_of query.now.expr) }
+    ensures are { IfOk result (λ labels. AreLateLabels backwards.now.network (asked_by query.now) labels.items) }
+    ensures times { IfOk result (λ labels. All (λ x. x.at < 10 ^ 30) labels.items) }
+{
+    backwards.known();
+    let search = LateSearch::new(alloc, backwards, query)?;
+    let found = search_labels(
+        alloc,
+        &search.mirror,
+        &search.automaton,
+        &search.starts,
+        &search.targets,
+        0,
+        Some(search.span),
+    )?;
+    let Found {
+        arrival: _,
+        labels,
+        walk: _,
+    } = found;
+    Ok(labels)
+}
+
+/// What is answered for a deadline, with a table and a workspace of its own.
 pub fn latest(alloc: Global, network: &Network, query: &Query) -> Result<Late, AllocError>
     requires asks { IsQuery network.now query.now.line query.now.from query.now.to query.now.depart (form_of query.now.expr) }
     requires usable { IsUsable (form_of query.now.expr) }
     requires soon { query.now.depart < 2 ^ 64 }
     ensures journey { IfOk result (λ late. IsLate network.now (asked_by query.now) late.journey) }
     ensures labels { IfOk result (λ late. AreLateLabels network.now (asked_by query.now) late.labels.items) }
+    ensures times { IfOk result (λ late. All (λ x. x.at < 10 ^ 30) late.labels.items) }
 {
-    network.known();
-    let days = network.days();
-    days.facts();
-    let span = query.depart - Time::from(days.base(7));
-    let mirror = Mirror::new(alloc, network, query.depart)?;
-    let reversed = Reversed::of(alloc, &Positions::of(alloc, &query.expr)?)?;
-    let automaton = Collapsed::new(reversed);
-    let origins = copies(alloc, network, &query.from)?;
-    let destinations = copies(alloc, network, &query.to)?;
-    let found = search(
-        alloc,
-        &mirror,
-        &automaton,
-        &destinations,
-        &origins,
-        0,
-        Some(span),
-    )?;
-    let Found {
-        arrival,
-        labels,
-        walk: _,
-    } = found;
-    let journey = starting(alloc, network, query, &origins, &destinations, arrival)?;
+    let backwards = Backwards::new(alloc, network)?;
+    let mut workspace = Workspace::new(alloc);
+    let journey = find_latest(alloc, &mut workspace, &backwards, query)?;
+    let labels = late_labels(alloc, &backwards, query)?;
     Ok(Late { journey, labels })
 }

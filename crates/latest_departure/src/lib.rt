@@ -4,14 +4,17 @@
 mod backwards;
 mod blocks;
 mod departing;
+mod laws;
 mod mirror;
 mod reversed;
+mod search;
 mod source;
-#[cfg(test)]
-mod tests;
 
-pub use blocks::late_block;
-pub use departing::{Late, latest};
+pub use backwards::Backwards;
+pub use blocks::{answer_block, late_block};
+pub use departing::{Late, find_latest, late_labels, latest};
+pub use laws::valid_late_proves;
 pub use mirror::Mirror;
 pub use reversed::Reversed;
+pub use search::LateSearch;
 pub use source::{Entry, Source};

@@ -4,4 +4,4 @@ use Rattle.latest_departure.proofs.RowLemmas.{total}
 use Rattle.latest_departure.proofs.mirror.MirrorGraph.arcs.Goals as goal
 
 pub returns : goal.returns
-returns c = c.count.ensures ∙ sym (total (row_entries c.args.self.now.entries.items c.args.self.now.places.items c.args.v))
+returns c = c.count.ensures ∙ sym (total (row_entries c.args.self.now.backwards.now.entries c.args.self.now.backwards.now.places c.args.v))

@@ -1,0 +1,18 @@
+-- What the search for a deadline holds.
+use Rattle.std.specs.Prelude.{◌≡◌, ◌<◌, ◌≤◌, ◌^◌}
+use Rattle.journey.specs.Best.{Asked}
+use Rattle.latest_departure.specs.declared.search.LateSearch.{LateSearch}
+use Rattle.latest_departure.specs.Late.{deadline, first_moment}
+use Rattle.latest_departure.specs.Latest.{span, ReadsFromEnds, AreEnds}
+use Rattle.latest_departure.specs.BackLists.{BackLists}
+use Rattle.latest_departure.specs.Meanings.{reversed_meaning}
+
+-- it goes over this table, for what is asked
+pub record IsSearchFor (b : BackLists) (q : Asked) (s : LateSearch) : Type 0 where
+  pub backwards : s.mirror.backwards.now ≡ b
+  pub by : s.mirror.deadline ≡ deadline q
+  pub small : deadline q < 2 ^ 57
+  pub not_before : first_moment b.network ≤ deadline q
+  pub back_to : s.span ≡ span b.network q
+  pub reads : ReadsFromEnds q (reversed_meaning s.automaton.inner)
+  pub ends : AreEnds b.network q s.starts.items s.targets.items
