@@ -1,0 +1,10 @@
+mod KindLaws
+mod SectionLaws
+mod OneLine
+mod Again
+mod Found
+mod TextLemmas
+pub mod ReadLaws
+pub mod VerdictLemmas
+pub mod VerifyLemmas
+pub mod UniqueLemmas

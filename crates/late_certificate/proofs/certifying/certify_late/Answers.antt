@@ -1,0 +1,24 @@
+use Rattle.std.proofs.Common.{refl, subst}
+use Rattle.service_days.specs.Days.{AreDays, AreInOrder}
+use Rattle.journey.specs.Best.{Asked, asked_by}
+use Rattle.journey.specs.Rides.{KeepsRules}
+use Rattle.latest_departure.specs.Latest.{AreLateLabels}
+use Rattle.latest_departure.proofs.CertifyLemmas.{late_is_valid}
+use Rattle.latest_departure.proofs.ValidLemmas.{valid_late_proves}
+use Rattle.late_certificate.proofs.VerifyLemmas.{late_fits, one_asked}
+use Rattle.late_certificate.proofs.certifying.certify_late.Goals as goal
+
+pub returns : goal.returns
+returns c =
+    let n = c.args.network.now in
+    let q = c.args.query in
+    let late = c.in_ok-late.late in
+    let rules : KeepsRules n = record { network = c.known.ensures; days = subst AreDays c.days.ensures c.facts.ensures.days; order = subst AreInOrder c.days.ensures c.facts.ensures.order } in
+    let valid = late_is_valid n rules q.line (asked_by q) c.requires.asks late.journey c.in_ok-late.ensures.journey late.labels.items c.in_ok-late.ensures.labels in
+    record {
+      line_is = refl;
+      valid = valid;
+      labelled = subst (λ (a : Asked). AreLateLabels n a late.labels.items) (one_asked n q.line (asked_by q) valid.setting.asked c.requires.asks valid.setting.asks) c.in_ok-late.ensures.labels;
+      fits = record { line = c.requires.line; result = late_fits n (asked_by q) late.journey c.in_ok-late.ensures.journey; labels = c.in_ok-late.ensures.times };
+      proves = valid_late_proves n rules _ valid;
+    }

@@ -1,0 +1,6 @@
+use Rattle.std.proofs.Common.{append_assoc}
+use Rattle.late_certificate.proofs.TextLemmas.{front_text}
+use Rattle.late_certificate.proofs.printing.push_front.Goals as goal
+
+pub returns : goal.returns
+returns c = rw (c.in_ok-push_query.ensures, c.in_ok-extend_from_slice.ensures.items, front_text c.args.query.now) (simp append_assoc)

@@ -1,0 +1,21 @@
+//! Certificates of the latest departure for a deadline: their text, and the check of one.
+#![tactic(auto)]
+
+mod certifying;
+pub mod due;
+mod kinds;
+pub mod late;
+mod laws;
+pub mod lines;
+mod printing;
+mod reading;
+mod records;
+mod verifying;
+
+pub use certifying::certify_late;
+pub use journey::{CertFault, CertVerdict};
+pub use late::LateCertificate;
+pub use laws::late_verdict_is_unique;
+pub use printing::print_late;
+pub use reading::read_late;
+pub use verifying::verify_late;

@@ -1,0 +1,222 @@
+//! The check of a late certificate.
+
+ghost use Rattle.std.specs.Prelude.{◌≡◌, ◌<◌, ◌≤◌, ◌+◌, ◌^◌, ◌↔◌, ℕ, List, [], Contains, IfOk, IfSome, IsTrue};
+ghost use Rattle.search_laws.specs.LabelLaws.{Accepts};
+ghost use Rattle.mode_expression.specs.Form.{form_of, IsUsable};
+ghost use Rattle.journey.specs.Best.{Asked, Asks, asked_by};
+ghost use Rattle.journey.specs.CopyLists.{AreTheCopies};
+ghost use Rattle.journey.specs.declared.verdict.CertVerdict.TheVariants.{Valid};
+ghost use Rattle.journey.specs.Ends.{HasTimes};
+ghost use Rattle.certificate.specs.StateSets.{AreAfter};
+ghost use Rattle.certificate.specs.Verdicts.{AreDenoted, IsFirstFailing};
+ghost use Rattle.latest_departure.specs.Late.{first_moment};
+ghost use Rattle.latest_departure.specs.Latest as late;
+ghost use Rattle.latest_departure.specs.ValidLate.{ProvesLate, late_bound};
+ghost use Rattle.mode_network.specs.NetworkLists.{NetworkLists};
+ghost use Rattle.late_certificate.specs.Verdicts.{claim_on, HaveTimes, IsLateVerdict, IsJourneyVerdict, IsResultVerdict};
+
+use crate::late::LateCertificate;
+use automaton::{Collapsed, Positions};
+use certificate::state_sets::StateSets;
+use certificate::verifying::{as_verdict, contains, refused};
+use certificate::walked::{Walked, walk};
+use journey::{CertVerdict, Query, read_query};
+use latest_departure::{Backwards, LateSearch};
+use mode_network::{Journey, Network};
+use plan_base::Time;
+use product_search::{Label, check_labels};
+use search_laws::Labels;
+use std::alloc::{AllocError, Global};
+
+/// Decides whether a late certificate is valid: the clauses are tried in turn, and the first that fails is answered at the
+/// first place where it does.
+///
+/// Clause 1: the line is a query; at the number of its fault. There is no clause 2. Where a journey is claimed, 3: it starts
+/// at a copy of the origin, not before the region's first date; at 0. 4: each step is one of the network; at the step. 5: its
+/// last node is a copy of the destination, it arrives by the deadline, and the expression denotes its word; at 0, 1 and 2. 6 to
+/// 9: those of [`LabelVerdict`](product_search::LabelVerdict), over the network in mirrored time and the automaton that reads
+/// words from their ends, from the destination's copies at 0 back to those of the origin, before the moment of the departure,
+/// or, where none is claimed, up to the region's first date.
+///
+/// Where it is valid, no journey of the network that is in time starts later than the one that is claimed, or none is in time.
+/// Who made the certificate is not asked. All memory is taken before clause 3 is tried. All times of the certificate are below
+/// 10^30.
+///
+/// # Errors
+///
+/// Where memory is refused.
+pub fn verify_late(
+    alloc: Global,
+    network: &Network,
+    certificate: &LateCertificate,
+) -> Result<CertVerdict, AllocError>
+    requires { HaveTimes certificate.now }
+    ensures verdict { IfOk result (IsLateVerdict network.now certificate.now) }
+    ensures proves { IfOk result (λ verdict. verdict ≡ Valid → ProvesLate network.now certificate.now) }
+{
+    match read_query(alloc, network, certificate.line.as_slice()) {
+        Ok(query) => verify_claim(
+            alloc,
+            network,
+            &query,
+            &certificate.result,
+            &certificate.labels,
+        ),
+        Err(fault) => refused(fault),
+    }
+}
+
+/// The verdict on what is claimed of a query, by clauses 3 to 9.
+fn verify_claim(
+    alloc: Global,
+    network: &Network,
+    query: &Query,
+    claimed: &Option<Journey>,
+    labels: &[Label],
+) -> Result<CertVerdict, AllocError>
+    requires asks { Asks network.now query.now.line (asked_by query.now) }
+    requires usable { IsUsable (form_of query.now.expr) }
+    requires times { HaveTimes (claim_on query.now claimed.now labels.now) }
+    ensures verdict { IfOk result (IsLateVerdict network.now (claim_on query.now claimed.now labels.now)) }
+    ensures proves { IfOk result (λ verdict. verdict ≡ Valid → ProvesLate network.now (claim_on query.now claimed.now labels.now)) }
+{
+    network.known();
+    network.days().facts();
+    let backwards = Backwards::new(alloc, network)?;
+    let search = LateSearch::new(alloc, &backwards, query)?;
+    let automaton = Collapsed::new(Positions::of(alloc, &query.expr)?);
+    let states = StateSets::start(alloc, &automaton)?;
+    let first = query.depart - search.span;
+    if let CertVerdict::Invalid { clause, at } = result_verdict(
+        network,
+        query,
+        first,
+        &automaton,
+        &search.targets,
+        &search.starts,
+        states,
+        claimed,
+    ) {
+        return Ok(CertVerdict::Invalid { clause, at });
+    }
+    backwards.known();
+    let bound = late_bound(query.depart, search.span, claimed);
+    let ends: &[u32] = &search.targets;
+    let verdict = check_labels(
+        &search.mirror,
+        &search.automaton,
+        &search.starts,
+        ends,
+        0,
+        Some(bound),
+        labels,
+    );
+    Ok(as_verdict(verdict))
+}
+
+/// Before which mirrored moment the labels are to tell all: that of the departure, or one past the region's first date.
+fn late_bound(deadline: Time, span: Time, claimed: &Option<Journey>) -> Time
+    requires span { span < 2 ^ 57 }
+    requires in_time { IfSome claimed.now (λ j. j.at ≤ deadline) }
+    ensures { (n : NetworkLists) (q : Asked) → q.depart ≡ deadline → late.span n q ≡ span → result ≡ late_bound n q claimed.now }
+{
+    match claimed {
+        Some(journey) => deadline - journey.at,
+        None => span + 1,
+    }
+}
+
+/// The verdict by clauses 3 to 5; they are skipped where it is claimed that none is in time.
+fn result_verdict<L: Labels>(
+    network: &Network,
+    query: &Query,
+    first: Time,
+    labels: &L,
+    origins: &[u32],
+    destinations: &[u32],
+    states: StateSets,
+    claimed: &Option<Journey>,
+) -> CertVerdict
+    requires times { IfSome claimed.now HasTimes }
+    requires first { first ≡ first_moment network.now }
+    requires origins { AreTheCopies network.now query.now.from origins.now }
+    requires destinations { AreTheCopies network.now query.now.to destinations.now }
+    requires denotes { AreDenoted (form_of query.now.expr) (L.automaton labels.now) }
+    requires states { AreAfter (L.automaton labels.now) [] states }
+    ensures { IsResultVerdict network.now (asked_by query.now) claimed.now result }
+{
+    match claimed {
+        Some(journey) => journey_verdict(
+            network,
+            query,
+            first,
+            labels,
+            origins,
+            destinations,
+            states,
+            journey,
+        ),
+        None => CertVerdict::Valid,
+    }
+}
+
+/// The verdict on a journey that is claimed, by clauses 3 to 5.
+fn journey_verdict<L: Labels>(
+    network: &Network,
+    query: &Query,
+    first: Time,
+    labels: &L,
+    origins: &[u32],
+    destinations: &[u32],
+    states: StateSets,
+    journey: &Journey,
+) -> CertVerdict
+    requires times { HasTimes journey.now }
+    requires first { first ≡ first_moment network.now }
+    requires origins { AreTheCopies network.now query.now.from origins.now }
+    requires destinations { AreTheCopies network.now query.now.to destinations.now }
+    requires denotes { AreDenoted (form_of query.now.expr) (L.automaton labels.now) }
+    requires states { AreAfter (L.automaton labels.now) [] states }
+    ensures { IsJourneyVerdict network.now (asked_by query.now) journey.now result }
+{
+    if !starts_well(first, origins, journey) {
+        return CertVerdict::Invalid { clause: 3, at: 0 };
+    }
+    match walk(network, labels, journey, states) {
+        Ok(walked) => match first_bad_end(labels, destinations, query.depart, &walked) {
+            Some(at) => CertVerdict::Invalid { clause: 5, at },
+            None => CertVerdict::Valid,
+        },
+        Err(at) => CertVerdict::Invalid { clause: 4, at },
+    }
+}
+
+/// Whether a journey starts at one of the nodes, not before the region's first date.
+fn starts_well(first: Time, origins: &[u32], journey: &Journey) -> bool
+    ensures { IsTrue result ↔ (Contains origins.now journey.now.start × (first ≤ journey.now.at)) }
+{
+    contains(origins, journey.start) && first <= journey.at
+}
+
+/// The place of the first that fails of a journey that was walked: it ends at a destination, it arrives by the deadline, and
+/// the automaton accepts its letters.
+fn first_bad_end<L: Labels>(
+    labels: &L,
+    destinations: &[u32],
+    deadline: Time,
+    walked: &Walked,
+) -> Option<u64>
+    requires { (letters : List ℕ) × AreAfter (L.automaton labels.now) letters walked.now.states }
+    ensures { (letters : List ℕ) → AreAfter (L.automaton labels.now) letters walked.now.states
+        → IsFirstFailing (Contains destinations.now walked.now.node) (walked.now.at ≤ deadline) (Accepts (L.automaton labels.now) letters) result }
+{
+    if !contains(destinations, walked.node) {
+        Some(0)
+    } else if walked.at > deadline {
+        Some(1)
+    } else if !walked.states.accepts(labels) {
+        Some(2)
+    } else {
+        None
+    }
+}
