@@ -9,8 +9,6 @@ mod one_state;
 mod position_set;
 mod positions;
 mod state;
-#[cfg(test)]
-mod tests;
 
 pub use collapsed::Collapsed;
 pub use laws::positions_accept;

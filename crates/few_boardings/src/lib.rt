@@ -4,8 +4,6 @@
 mod blocks;
 mod boardings;
 mod counted;
-#[cfg(test)]
-mod tests;
 
 pub use blocks::few_block;
 pub use boardings::{FewRow, few, few_with};

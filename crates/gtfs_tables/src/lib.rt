@@ -61,6 +61,3 @@ pub use routes::RouteRow;
 pub use services::ServiceRow;
 pub use stops::StopRow;
 pub use trips::TripRow;
-
-#[cfg(test)]
-mod tests;

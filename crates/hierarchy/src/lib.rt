@@ -16,6 +16,3 @@ pub use hierarchy::Hierarchy;
 pub use laws::{contractions_keep_soundness, cores_keep_distances, entries_are_roads};
 pub use rises::Rise;
 pub use verdict::Verdict;
-
-#[cfg(test)]
-mod tests;

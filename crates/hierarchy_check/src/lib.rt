@@ -8,6 +8,3 @@ mod order;
 mod witnesses;
 
 pub use checking::check;
-
-#[cfg(test)]
-mod tests;

@@ -11,6 +11,3 @@ mod records;
 pub use decoding::decode;
 pub use encoding::encode;
 pub use fault::HFileFault;
-
-#[cfg(test)]
-mod tests;

@@ -14,8 +14,6 @@ mod rides;
 mod shape;
 pub mod step_ends;
 mod telling;
-#[cfg(test)]
-mod tests;
 mod texts;
 pub mod verdict;
 

@@ -16,6 +16,3 @@ pub use expr::Expr;
 pub use fault::ExprFault;
 pub use letter::Letter;
 pub use parsing::{expressions_are_usable, outcome_is_unique, parse};
-
-#[cfg(test)]
-mod tests;

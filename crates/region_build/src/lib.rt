@@ -19,6 +19,3 @@ mod tallies;
 pub use building::{Region, build};
 pub use faults::BuildFault;
 pub use left::LeftOut;
-
-#[cfg(test)]
-mod tests;

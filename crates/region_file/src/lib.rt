@@ -21,6 +21,3 @@ pub use decoding::decode;
 pub use encoding::encode;
 pub use fault::RegionFault;
 pub use format::Format;
-
-#[cfg(test)]
-mod tests;

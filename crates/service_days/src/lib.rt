@@ -7,8 +7,6 @@ mod clock;
 mod range;
 mod region_days;
 mod services;
-#[cfg(test)]
-mod tests;
 mod zones;
 
 pub use civil::{is_date, read_date};

@@ -2,8 +2,8 @@
 
 ghost use Rattle.std.specs.Prelude.{◌<◌};
 
-use crate::words;
-use automaton::{Collapsed, Positions};
+use automaton::{Collapsed, OneState, Positions};
+use case_script::words;
 use mode_expression::{Letter, parse};
 use search_laws::Labels;
 use std::alloc::{AllocError, Global};
@@ -20,6 +20,27 @@ pub fn accepts(alloc: Global, words: &[u8]) -> Result<String, AllocError> {
     let exactly = is_accepted(alloc, &positions, &letters)?;
     let collapsed = is_accepted(alloc, &Collapsed::new(positions), &letters)?;
     format!(in alloc; "positions {exactly}, collapsed {collapsed}")
+}
+
+/// `one WORD`: whether the automaton of one state accepts a word, as it does each.
+pub fn one(alloc: Global, word: &[u8]) -> Result<String, AllocError> {
+    let letters = letters(alloc, word)?;
+    let (count, accepted) = (OneState.states(), is_accepted(alloc, &OneState, &letters)?);
+    format!(in alloc; "{count} state; accepted {accepted}")
+}
+
+/// `size EXPRESSION`: how many states the position automaton has, and how many moves its last one.
+pub fn size(alloc: Global, text: &[u8]) -> Result<String, AllocError> {
+    let Ok(expr) = parse(alloc, text) else {
+        return String::from_str(alloc, "no expression");
+    };
+    let positions = Positions::of(alloc, &expr)?;
+    let count = positions.states();
+    let moves = match count.checked_sub(1) {
+        Some(last) => positions.moves(last),
+        None => 0,
+    };
+    format!(in alloc; "{count} states; the last has {moves} moves")
 }
 
 /// `states EXPR`: the moves of each state of the positions, and of the collapsed automaton; a move as the bits of its

@@ -4,8 +4,7 @@ ghost use Rattle.std.specs.Prelude.{IsTrue, All};
 ghost use Rattle.journey.specs.Ends.{HasTime};
 ghost use Rattle.journey.specs.Blocks.{IsPrintable};
 
-use crate::script::Script;
-use crate::words;
+use case_script::{Script, words};
 use certificate::{Certificate, print, read, verify};
 use journey::{BlockBody, block, ends, first_bad, is_real, word};
 use mode_network::{Journey, Network, Step};
@@ -34,7 +33,7 @@ pub fn verdict(alloc: Global, script: &Script, words: &[u8]) -> Result<String, A
     };
     match read(alloc, script.text(name)) {
         Ok(certificate) => {
-            let verdict = verify(alloc, &network, &certificate)?;
+            let verdict = verify(alloc, &network, None, &certificate)?;
             format!(in alloc; "{verdict:?}")
         }
         Err(fault) => format!(in alloc; "{fault:?}"),

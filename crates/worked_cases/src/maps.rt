@@ -1,7 +1,6 @@
 //! Maps in OPL.
 
-use crate::script::Script;
-use crate::words;
+use case_script::{Script, words};
 use opl_reader::{Objects, Opl, OplFault, OsmWay};
 use plan_base::Caps;
 use std::alloc::{AllocError, Global};

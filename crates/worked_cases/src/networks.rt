@@ -1,7 +1,6 @@
 //! Region texts and their networks.
 
-use crate::script::Script;
-use crate::words;
+use case_script::{Script, words};
 use mode_network::Network;
 use plan_base::Caps;
 use region_file::{Format, decode, encode};

@@ -1,7 +1,6 @@
 //! Query lines.
 
-use crate::script::Script;
-use crate::words;
+use case_script::{Script, words};
 use journey::{Query, copies, read_query};
 use mode_network::Network;
 use plan_base::Caps;

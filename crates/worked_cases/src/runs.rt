@@ -1,11 +1,9 @@
 //! Whole runs of the program over files in memory.
 
-use crate::script::Script;
-use crate::words;
+use case_script::{Given, Script, words, words_and_files};
 use plan_base::{MemoryShelf, MemorySink};
 use planner_core::Outcome;
 use std::alloc::{AllocError, Global};
-use std::collections::BTreeMap;
 
 /// No output of a case is longer.
 const ROOM: usize = 20_000;
@@ -29,22 +27,31 @@ const NOTHING: Failing = Failing {
     notes: ROOM,
 };
 
-/// How a run ended, what it wrote, and how many lines its notes have.
+/// How a run ended, what it wrote, and its notes.
 #[derive(Drop)]
 struct Told {
     outcome: Outcome,
     out: Vec<u8>,
-    notes: usize,
+    notes: Vec<u8>,
 }
 
 /// `run [read K | write K | most K | room K | notes K] .. : WORDS`, the words parted by `|`: how the run ends, and what it writes.
 pub fn run(alloc: Global, script: &Script, words: &[u8]) -> Result<String, AllocError> {
     let (failing, line) = cut_failing(words);
     let told = run_over(alloc, script, line, failing)?;
-    let (outcome, notes) = (told.outcome, told.notes);
+    let outcome = told.outcome;
+    let notes = told.notes.iter().filter(|byte| **byte == b'\n').count();
     let status = outcome.status();
     let text = String::from_utf8_lossy(alloc, &told.out)?;
     format!(in alloc; "{outcome:?}, status {status}, {notes} notes\n{text}")
+}
+
+/// `notes WORDS`: how the run ends, and its notes.
+pub fn notes(alloc: Global, script: &Script, line: &[u8]) -> Result<String, AllocError> {
+    let told = run_over(alloc, script, line, NOTHING)?;
+    let outcome = told.outcome;
+    let text = String::from_utf8_lossy(alloc, &told.notes)?;
+    format!(in alloc; "{outcome:?}\n{text}")
 }
 
 /// `bytes WORDS`: how the run ends, and the bytes that it writes, in hexadecimal.
@@ -137,14 +144,6 @@ fn is_front(out: &[u8], whole: &[u8], write: u64) -> bool {
     whole.starts_with(out) && out.len() as u64 <= write.saturating_sub(1).saturating_mul(4)
 }
 
-/// Whether a name is that of a file, or of one in a folder, which a word names.
-fn is_at(name: &[u8], word: &[u8]) -> bool {
-    match name.strip_prefix(word) {
-        Some(rest) => rest.is_empty() || rest.first() == Some(&b'/'),
-        None => false,
-    }
-}
-
 /// Runs the words over the texts that they name.
 fn run_over(
     alloc: Global,
@@ -152,29 +151,16 @@ fn run_over(
     line: &[u8],
     failing: Failing,
 ) -> Result<Told, AllocError> {
-    let mut given = Vec::new(alloc);
-    let mut held = BTreeMap::new(alloc);
-    for word in line.split(|byte| *byte == b'|') {
-        if line.is_empty() {
-            break;
-        }
-        given.push(String::from_utf8_lossy(alloc, word)?)?;
-        for text in script.texts() {
-            if is_at(&text.name, word) {
-                let bytes = Vec::from_slice(alloc, &text.bytes)?;
-                held.insert(String::from_utf8_lossy(alloc, &text.name)?, bytes)?;
-            }
-        }
-    }
-    let mut shelf = MemoryShelf::new(held, vec![in alloc; failing.read]?);
+    let Given { words, files } = words_and_files(alloc, script, line)?;
+    let mut shelf = MemoryShelf::new(files, vec![in alloc; failing.read]?);
     let fail = vec![in alloc; failing.write]?;
     let mut out = MemorySink::new(alloc, failing.room, failing.most.max(1), fail)?;
     let mut notes = MemorySink::new(alloc, failing.notes, 7, Vec::new(alloc))?;
-    let outcome = planner_core::run(alloc, &given, &mut shelf, &mut out, &mut notes);
+    let outcome = planner_core::run(alloc, &words, &mut shelf, &mut out, &mut notes);
     Ok(Told {
         outcome,
         out: Vec::from_slice(alloc, out.bytes())?,
-        notes: notes.bytes().iter().filter(|byte| **byte == b'\n').count(),
+        notes: Vec::from_slice(alloc, notes.bytes())?,
     })
 }
 

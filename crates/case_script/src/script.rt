@@ -3,7 +3,8 @@
 //! `text NAME` begins one. Each line behind it that begins with `|` is a line of it, which a line feed ends; in it `\r`
 //! stands for a carriage return, `\t` for a tab, `\\` for a backslash and `\xHH` for a byte, and a backslash at the end
 //! takes the line feed away. `front NAME COUNT` stands for the first lines of an earlier text, and `rest NAME COUNT` for
-//! the lines behind those. Empty lines and lines that begin with `#` say nothing.
+//! the lines behind those. `folder NAME OTHER` begins a copy of each text `OTHER/..`, `without NAME` takes a text away, and a
+//! text in the place of one of the same name does so too. Empty lines and lines that begin with `#` say nothing.
 
 use crate::words;
 use std::alloc::{AllocError, Global};
@@ -60,9 +61,19 @@ impl Script {
         let (call, rest) = words::cut(line);
         match call {
             b"text" => {
+                self.remove(rest);
                 let name = Vec::from_slice(alloc, rest)?;
                 let bytes = Vec::new(alloc);
                 self.texts.push(Text { name, bytes })?;
+                Ok(true)
+            }
+            b"without" => {
+                self.remove(rest);
+                Ok(true)
+            }
+            b"folder" => {
+                let (name, other) = words::cut(rest);
+                self.copy_folder(alloc, name, other)?;
                 Ok(true)
             }
             b"front" => {
@@ -85,6 +96,33 @@ impl Script {
             }
             _ => Ok(false),
         }
+    }
+
+    /// Takes the text of this name away.
+    fn remove(&mut self, name: &[u8]) {
+        self.texts.retain(|text| text.name.as_slice() != name);
+    }
+
+    /// Copies each text in a folder into another one.
+    fn copy_folder(&mut self, alloc: Global, name: &[u8], other: &[u8]) -> Result<(), AllocError> {
+        let mut copies = Vec::new(alloc);
+        for text in &self.texts {
+            if let Some(rest) = text.name.strip_prefix(other) {
+                if rest.starts_with(b"/") {
+                    let mut copied = Vec::from_slice(alloc, name)?;
+                    copied.extend_from_slice(rest)?;
+                    let bytes = Vec::from_slice(alloc, &text.bytes)?;
+                    copies.push(Text {
+                        name: copied,
+                        bytes,
+                    })?;
+                }
+            }
+        }
+        for copy in copies {
+            self.texts.push(copy)?;
+        }
+        Ok(())
     }
 
     /// Puts bytes at the end of the last text.

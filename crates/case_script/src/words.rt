@@ -76,6 +76,9 @@ fn kind(name: &[u8]) -> Option<Kind> {
         b"osm_nodes" => Some(Kind::OsmNodes),
         b"ways" => Some(Kind::Ways),
         b"refs" => Some(Kind::Refs),
+        b"routes" => Some(Kind::Routes),
+        b"services" => Some(Kind::Services),
+        b"dates" => Some(Kind::Dates),
         _ => None,
     }
 }
