@@ -59,11 +59,31 @@ fn read_tables<F: Shelf, E: Sink>(
     let mut texts = Vec::new(alloc);
     for table in tables {
         let text = read_table(alloc, shelf, folder, *table, notes)?;
+        tell_large(alloc, folder, *table, text.as_deref(), notes);
         let Ok(()) = texts.push(text) else {
             return Err(Outcome::OutOfMemory);
         };
     }
     Ok(texts)
+}
+
+/// Tells that a file of a feed is read, where it is large.
+fn tell_large<E: Sink>(
+    alloc: Global,
+    folder: &str,
+    table: FeedFile,
+    text: Option<&[u8]>,
+    notes: &mut E,
+) {
+    let mebibytes = text.unwrap_or(&[]).len() >> 20;
+    if mebibytes > 0 {
+        let name = table.name();
+        tell(
+            alloc,
+            notes,
+            format!(in alloc; "{folder}/{name}: {mebibytes} MiB are read"),
+        );
+    }
 }
 
 /// What a file of a feed holds; None for one that is absent and may be.

@@ -9,6 +9,3 @@ mod maps;
 pub use builds::built;
 pub use feeds::read_feed_in;
 pub use maps::read_map;
-
-#[cfg(test)]
-mod tests;

@@ -79,7 +79,7 @@ fn line_in(piece: &[u8], number: u64, ended: u64) -> Option<&[u8]> {
 }
 
 /// After how many bytes of a map people are told how far it is read.
-const MARK: u64 = 1 << 26;
+const MARK: u64 = 1 << 24;
 
 /// Tells how far a map is read, when a mark was passed with the last piece.
 fn tell_how_far<E: Sink>(alloc: Global, name: &str, taken: u64, piece: u64, notes: &mut E) {

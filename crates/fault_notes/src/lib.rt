@@ -15,6 +15,3 @@ pub use hierarchies::bad_hierarchy;
 pub use maps::bad_map;
 pub use pieces::shown;
 pub use regions::bad_region;
-
-#[cfg(test)]
-mod tests;

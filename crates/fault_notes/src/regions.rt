@@ -17,8 +17,14 @@ pub fn bad_region(
 ) -> Result<String, AllocError> {
     match fault {
         RegionFault::BadHead => bad_head(alloc, path, bytes),
+        RegionFault::BadRecord { at } if is_binary(bytes) => format!(in alloc;
+            "{path}, byte {at}: the record that begins here is cut short, or has a value that it may not have"
+        ),
         RegionFault::BadRecord { at } => bad_line(alloc, path, bytes, at),
         RegionFault::Network(fault) => bad_network(alloc, path, bytes, fault),
+        RegionFault::Trailing { at } if is_binary(bytes) => {
+            format!(in alloc; "{path}, byte {at}: bytes follow the last record of the region")
+        }
         RegionFault::Trailing { at } => {
             format!(in alloc;
                 "{path}, line {at}: something follows the line \"end\", which must be the last"
@@ -28,11 +34,16 @@ pub fn bad_region(
     }
 }
 
+/// Whether a region that begins so is one in bytes, and no text.
+fn is_binary(bytes: &[u8]) -> bool {
+    bytes.starts_with(b"MPREG")
+}
+
 /// The first line is not that of a region.
 fn bad_head(alloc: Global, path: &str, bytes: &[u8]) -> Result<String, AllocError> {
     let line = shown(alloc, line_at(bytes, 1).unwrap_or(&[]))?;
     format!(in alloc;
-        "{path}, line 1: a region begins with the line \"modeplan region 1\", and here stands {line}"
+        "{path}, line 1: a region begins with the line \"modeplan region 1\", or with the bytes of format 2, and here stands {line}"
     )
 }
 

@@ -11,6 +11,3 @@ pub use files::{MOST_BYTES, read_file, read_file_if_there, read_region, refused}
 pub use notes::tell;
 pub use outcome::{FileRole, Outcome, SourceFault};
 pub use texts::write_text;
-
-#[cfg(test)]
-mod tests;

@@ -105,7 +105,7 @@ impl Outcome {
         match self {
             Outcome::Done => Some("all is written"),
             Outcome::Usage => Some(
-                "usage: modeplan compile OPL FEED DATE DAYS [--format K] [--zone RULE] | migrate REGION [--format K] | contract REGION [--keep N] | answer REGION QUERIES | certify REGION QUERY | verify REGION CERTIFICATE | check REGION HIERARCHY",
+                "usage: modeplan compile OPL FEED DATE DAYS [--format K] [--zone RULE] | migrate REGION [--format K] | contract REGION [--keep N] | answer REGION QUERIES [--hierarchy FILE] | certify REGION QUERY [--hierarchy FILE] | verify REGION CERTIFICATE [--hierarchy FILE] | check REGION HIERARCHY | few REGION QUERIES | latest REGION QUERIES | certify-latest REGION QUERY | verify-latest REGION CERTIFICATE",
             ),
             Outcome::WriteFault => Some("standard output can't be written"),
             Outcome::OutOfMemory => Some("memory ran out"),
