@@ -1,0 +1,50 @@
+-- Blocks that were not all written: what a run says of them.
+use Rattle.std.proofs.Common.{◌≡◌, ℕ, ◌≤◌, inr, List, ◌∷◌, Some}
+use Rattle.plain_texts.specs.Lines.{lines_of}
+use Rattle.plan_base.specs.Shelves.{ShelfMeaning}
+use Rattle.plan_base.specs.Sinks.{SinkMeaning}
+use Rattle.run_steps.specs.declared.outcome.Outcome.{Outcome}
+use Rattle.run_steps.specs.declared.outcome.Outcome.TheVariants.{Done, Usage, Missing, ReadFault, TooLong, WriteFault, BadRegion, BadFeed, Invalid, BadCertificate, BadHierarchy, Unsound, OutOfMemory}
+use Rattle.run_steps.specs.Sayings.{Writes}
+use Rattle.run_steps.proofs.Steps.{rose_over}
+use Rattle.line_blocks.specs.QueryLines.{as_query, without_return, query_lines}
+use Rattle.line_blocks.specs.Blocks.{BlockRule, BeginsBlocks}
+use Rattle.line_blocks.specs.Working.{IsBlockOutcome, IsBlocksOutcome}
+use Rattle.line_blocks.proofs.WriteLemmas.{IsWriting, writing_fails, writing_stops}
+
+-- a query line whose block was not written whole
+pub block_fails : (IsBlock : BlockRule) (Counts : List ℕ → ℕ → Type 0) (old mid new : SinkMeaning) (text rest line after query : List ℕ) (sum : ℕ)
+    → IsWriting IsBlock Counts old mid text rest sum → old.faults ≤ mid.faults
+    → lines_of rest ≡ line ∷ lines_of after → as_query (without_return line) ≡ Some query
+    → (outcome : Outcome) → IsBlockOutcome mid new (IsBlock query) outcome → IsBlocksOutcome old new IsBlock (query_lines text) outcome
+block_fails IsBlock Counts old mid new text rest line after query sum writing le e is WriteFault (rose, part) =
+    (rose_over old.faults mid.faults new.faults le rose, writing_fails IsBlock Counts old mid new text rest line after query sum writing e is part)
+block_fails IsBlock Counts old mid new text rest line after query sum writing le e is OutOfMemory same = writing_stops IsBlock Counts old mid new text rest sum writing same
+block_fails IsBlock Counts old mid new text rest line after query sum writing le e is Done none = none
+block_fails IsBlock Counts old mid new text rest line after query sum writing le e is Usage none = none
+block_fails IsBlock Counts old mid new text rest line after query sum writing le e is (Missing file) none = none
+block_fails IsBlock Counts old mid new text rest line after query sum writing le e is (ReadFault file) none = none
+block_fails IsBlock Counts old mid new text rest line after query sum writing le e is (TooLong file) none = none
+block_fails IsBlock Counts old mid new text rest line after query sum writing le e is (BadRegion fault) none = none
+block_fails IsBlock Counts old mid new text rest line after query sum writing le e is (BadFeed fault) none = none
+block_fails IsBlock Counts old mid new text rest line after query sum writing le e is (Invalid clause at) none = none
+block_fails IsBlock Counts old mid new text rest line after query sum writing le e is (BadCertificate line') none = none
+block_fails IsBlock Counts old mid new text rest line after query sum writing le e is (BadHierarchy fault) none = none
+block_fails IsBlock Counts old mid new text rest line after query sum writing le e is (Unsound clause at by) none = none
+
+-- the blocks of the query lines were not all written, where what is written whole is no matter
+pub blocks_fail : (old new : ShelfMeaning) (before after : SinkMeaning) (IsBlock : BlockRule) (IsWhole : List ℕ → Type 0) (lines : List (List ℕ)) (outcome : Outcome)
+    → IsBlocksOutcome before after IsBlock lines outcome → Writes IsWhole (BeginsBlocks IsBlock lines) old new before after outcome
+blocks_fail old new before after IsBlock IsWhole lines WriteFault is = is
+blocks_fail old new before after IsBlock IsWhole lines OutOfMemory front = inr front
+blocks_fail old new before after IsBlock IsWhole lines Done none = absurd none
+blocks_fail old new before after IsBlock IsWhole lines Usage none = none
+blocks_fail old new before after IsBlock IsWhole lines (Missing file) none = none
+blocks_fail old new before after IsBlock IsWhole lines (ReadFault file) none = none
+blocks_fail old new before after IsBlock IsWhole lines (TooLong file) none = none
+blocks_fail old new before after IsBlock IsWhole lines (BadRegion fault) none = none
+blocks_fail old new before after IsBlock IsWhole lines (BadFeed fault) none = none
+blocks_fail old new before after IsBlock IsWhole lines (Invalid clause at) none = none
+blocks_fail old new before after IsBlock IsWhole lines (BadCertificate line) none = none
+blocks_fail old new before after IsBlock IsWhole lines (BadHierarchy fault) none = none
+blocks_fail old new before after IsBlock IsWhole lines (Unsound clause at by) none = none

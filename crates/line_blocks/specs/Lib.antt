@@ -1,0 +1,3 @@
+pub mod QueryLines
+pub mod Blocks
+pub mod Working
