@@ -1,0 +1,37 @@
+-- What can be done: the files that a command names are there and without fault.
+use Rattle.std.specs.Prelude.{ℕ, List}
+use Rattle.plan_base.specs.declared.limits.Caps.{Caps}
+use Rattle.mode_network.specs.NetworkLists.{NetworkLists}
+use Rattle.latest_departure.specs.ValidLate.{LateClaim, IsValidLate}
+use Rattle.late_certificate.specs.Texts.{IsLateText}
+use Rattle.run_steps.specs.Complete.{Files, IsHeld, SpellsNetwork, Completes}
+use Rattle.late_commands.specs.Commands.{SaysFew, SaysLatest, SaysCertifyLatest, SaysVerifyLatest}
+
+-- the bytes spell a late certificate that is valid
+abbrev pub SpellsValidLate : NetworkLists → List ℕ → Type 0
+SpellsValidLate n bytes = (claim : LateClaim) × IsLateText bytes claim × IsValidLate n claim
+
+abbrev pub CanFew : Caps → Files → List ℕ → List ℕ → Type 0
+CanFew caps files region queries = IsHeld files region (SpellsNetwork caps (λ n. IsHeld files queries (λ text. Unit {0})))
+
+abbrev pub CanLatest : Caps → Files → List ℕ → List ℕ → Type 0
+CanLatest caps files region queries = IsHeld files region (SpellsNetwork caps (λ n. IsHeld files queries (λ text. Unit {0})))
+
+abbrev pub CanCertifyLatest : Caps → Files → List ℕ → List ℕ → Type 0
+CanCertifyLatest caps files region query = IsHeld files region (SpellsNetwork caps (λ n. Unit {0}))
+
+abbrev pub CanVerifyLatest : Caps → Files → List ℕ → List ℕ → Type 0
+CanVerifyLatest caps files region certificate = IsHeld files region (SpellsNetwork caps (λ n. IsHeld files certificate (SpellsValidLate n)))
+
+-- where that can be done which is asked for, and no count of faults rose, all of it is done, unless memory ran out
+abbrev pub FewCompletes : Type 0
+FewCompletes = (caps : Caps) (files : Files) (region queries : List ℕ) → Completes files (CanFew caps files region queries) (SaysFew caps region queries)
+
+abbrev pub LatestCompletes : Type 0
+LatestCompletes = (caps : Caps) (files : Files) (region queries : List ℕ) → Completes files (CanLatest caps files region queries) (SaysLatest caps region queries)
+
+abbrev pub CertifyLatestCompletes : Type 0
+CertifyLatestCompletes = (caps : Caps) (files : Files) (region query : List ℕ) → Completes files (CanCertifyLatest caps files region query) (SaysCertifyLatest caps region query)
+
+abbrev pub VerifyLatestCompletes : Type 0
+VerifyLatestCompletes = (caps : Caps) (files : Files) (region certificate : List ℕ) → Completes files (CanVerifyLatest caps files region certificate) (SaysVerifyLatest caps region certificate)

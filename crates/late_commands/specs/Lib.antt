@@ -1,0 +1,4 @@
+pub mod Outputs
+pub mod Working
+pub mod Commands
+pub mod Complete

@@ -1,0 +1,14 @@
+//! The commands `few`, `latest`, `certify-latest` and `verify-latest`.
+#![tactic(auto)]
+
+mod answering;
+mod certifying;
+mod laws;
+mod verifying;
+
+pub use answering::{few, latest};
+pub use certifying::certify_latest;
+pub use laws::{
+    certify_latest_completes, few_completes, latest_completes, verify_latest_completes,
+};
+pub use verifying::verify_latest;
