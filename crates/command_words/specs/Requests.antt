@@ -15,20 +15,28 @@ pub data Request : Type 0 where
   compile : (map feed : List ℕ) (days : DaysMeaning) (format : Format) → Request
   migrate : (region : List ℕ) (format : Format) → Request
   contract : (region : List ℕ) (keep : ℕ) → Request
-  answer : (region queries : List ℕ) → Request
-  certify : (region query : List ℕ) → Request
-  verify : (region certificate : List ℕ) → Request
+  answer : (region queries : List ℕ) (hierarchy : Option (List ℕ)) → Request
+  certify : (region query : List ℕ) (hierarchy : Option (List ℕ)) → Request
+  verify : (region certificate : List ℕ) (hierarchy : Option (List ℕ)) → Request
   check : (region hierarchy : List ℕ) → Request
+  latest : (region queries : List ℕ) → Request
+  certify_latest : (region query : List ℕ) → Request
+  verify_latest : (region certificate : List ℕ) → Request
+  few : (region queries : List ℕ) → Request
 
 -- what a command of the program asks for
 abbrev pub request_of : Command → Request
 request_of (command.Compile map feed days format) = compile map.now feed.now days format
 request_of (command.Migrate region format) = migrate region.now format
 request_of (command.Contract region keep) = contract region.now keep
-request_of (command.Answer region queries) = answer region.now queries.now
-request_of (command.Certify region query) = certify region.now query.now
-request_of (command.Verify region certificate) = verify region.now certificate.now
+request_of (command.Answer region queries hierarchy) = answer region.now queries.now (option_map (λ h. h.now) hierarchy)
+request_of (command.Certify region query hierarchy) = certify region.now query.now (option_map (λ h. h.now) hierarchy)
+request_of (command.Verify region certificate hierarchy) = verify region.now certificate.now (option_map (λ h. h.now) hierarchy)
 request_of (command.Check region hierarchy) = check region.now hierarchy.now
+request_of (command.Latest region queries) = latest region.now queries.now
+request_of (command.CertifyLatest region query) = certify_latest region.now query.now
+request_of (command.VerifyLatest region certificate) = verify_latest region.now certificate.now
+request_of (command.Few region queries) = few region.now queries.now
 
 -- the words are the program's name, which may be any, a command's name, and then these
 pub record AreWords (words : List (List ℕ)) (name : List ℕ) (given : List (List ℕ)) : Type 0 where
@@ -96,16 +104,32 @@ kept_at (region ∷ option ∷ []) = None
 kept_at (region ∷ option ∷ value ∷ []) = if bytes_eq option (codes "--keep") then option_map (λ keep. (region, keep)) (keep_of value) else None
 kept_at (region ∷ option ∷ value ∷ next ∷ more) = None
 
+-- the file of a hierarchy, where an option says it
+abbrev pub hierarchy_of : List (List ℕ) → Option (Option (List ℕ))
+hierarchy_of [] = Some None
+hierarchy_of (option ∷ []) = None
+hierarchy_of (option ∷ value ∷ []) = if bytes_eq option (codes "--hierarchy") then Some (Some value) else None
+hierarchy_of (option ∷ value ∷ next ∷ more) = None
+
+-- two words, and the file of a hierarchy, where an option says it
+abbrev pub two_over : List (List ℕ) → Option (List ℕ × List ℕ × Option (List ℕ))
+two_over (first ∷ second ∷ options) = option_map (λ hierarchy. (first, second, hierarchy)) (hierarchy_of options)
+two_over _ = None
+
 -- the words in the plain form: the command's words in their order, and then its options
 abbrev pub IsPlainForm : List (List ℕ) → Request → Type 0
 IsPlainForm words (compile map feed days format) =
     (given : List (List ℕ)) × AreWords words (codes "compile") given × (compiled_at given ≡ Some (map, feed, days, format))
 IsPlainForm words (migrate region format) = (given : List (List ℕ)) × AreWords words (codes "migrate") given × (migrated_at given ≡ Some (region, format))
 IsPlainForm words (contract region keep) = (given : List (List ℕ)) × AreWords words (codes "contract") given × (kept_at given ≡ Some (region, keep))
-IsPlainForm words (answer region queries) = AreWords words (codes "answer") (region ∷ queries ∷ [])
-IsPlainForm words (certify region query) = AreWords words (codes "certify") (region ∷ query ∷ [])
-IsPlainForm words (verify region certificate) = AreWords words (codes "verify") (region ∷ certificate ∷ [])
+IsPlainForm words (answer region queries hierarchy) = (given : List (List ℕ)) × AreWords words (codes "answer") given × (two_over given ≡ Some (region, queries, hierarchy))
+IsPlainForm words (certify region query hierarchy) = (given : List (List ℕ)) × AreWords words (codes "certify") given × (two_over given ≡ Some (region, query, hierarchy))
+IsPlainForm words (verify region certificate hierarchy) = (given : List (List ℕ)) × AreWords words (codes "verify") given × (two_over given ≡ Some (region, certificate, hierarchy))
 IsPlainForm words (check region hierarchy) = AreWords words (codes "check") (region ∷ hierarchy ∷ [])
+IsPlainForm words (latest region queries) = AreWords words (codes "latest") (region ∷ queries ∷ [])
+IsPlainForm words (certify_latest region query) = AreWords words (codes "certify-latest") (region ∷ query ∷ [])
+IsPlainForm words (verify_latest region certificate) = AreWords words (codes "verify-latest") (region ∷ certificate ∷ [])
+IsPlainForm words (few region queries) = AreWords words (codes "few") (region ∷ queries ∷ [])
 
 -- the words ask for this
 abbrev pub AsksFor : List (List ℕ) → Request → Type 0

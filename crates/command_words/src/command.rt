@@ -23,24 +23,47 @@ pub enum Command<'a> {
         region: &'a str,
         keep: u32,
     },
-    /// The block of each query line of a file.
+    /// The block of each query line of a file, by a hierarchy, if one is given.
     Answer {
         region: &'a str,
         queries: &'a str,
+        hierarchy: Option<&'a str>,
     },
-    /// A certificate for a query line.
+    /// A certificate for a query line, by a hierarchy, if one is given.
     Certify {
         region: &'a str,
         query: &'a str,
+        hierarchy: Option<&'a str>,
     },
-    /// The check of a certificate file.
+    /// The check of a certificate file, whose labels are read over a hierarchy, if one is given.
     Verify {
         region: &'a str,
         certificate: &'a str,
+        hierarchy: Option<&'a str>,
     },
     /// The check of a hierarchy file.
     Check {
         region: &'a str,
         hierarchy: &'a str,
+    },
+    /// The block of each query line of a file, whose date and time are the latest arrival: the latest departure.
+    Latest {
+        region: &'a str,
+        queries: &'a str,
+    },
+    /// A certificate that a departure is the latest for a query line.
+    CertifyLatest {
+        region: &'a str,
+        query: &'a str,
+    },
+    /// The check of a file with such a certificate.
+    VerifyLatest {
+        region: &'a str,
+        certificate: &'a str,
+    },
+    /// The block of each query line of a file, with the earliest arrival by each number of boardings.
+    Few {
+        region: &'a str,
+        queries: &'a str,
     },
 }

@@ -6,6 +6,3 @@ mod reading;
 
 pub use command::Command;
 pub use reading::{WordsFault, read_words};
-
-#[cfg(test)]
-mod tests;

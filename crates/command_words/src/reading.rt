@@ -1,7 +1,7 @@
 //! Reading the words of a command line.
 
 ghost use Rattle.std.specs.Prelude.{◌≡◌, option_and_then, ℕ, List, [], ◌∷◌, Err, IfErr, IfOk, None, Some, map, option_map, string_bytes};
-ghost use Rattle.command_words.specs.Requests.{AreRefused, AsksFor, IsPlainForm, Request, compiled_at, date_of, days_and_format, days_of, format_and_zone, format_of, format_or, keep_of, kept_at, migrated_at, number_of, request_of};
+ghost use Rattle.command_words.specs.Requests.{AreRefused, AsksFor, IsPlainForm, Request, compiled_at, date_of, days_and_format, days_of, format_and_zone, format_of, format_or, hierarchy_of, keep_of, kept_at, migrated_at, number_of, request_of, two_over};
 ghost use Rattle.command_words.specs.declared.reading.WordsFault.TheVariants.{OutOfMemory, Refused};
 
 use crate::command::Command;
@@ -60,23 +60,57 @@ fn named<'a>(alloc: Global, name: &str, given: &'a [String]) -> Result<Command<'
             Ok(Command::Contract { region, keep })
         }
         "answer" => {
-            let (region, queries) = two(given)?;
-            Ok(Command::Answer { region, queries })
+            let Some((region, queries, hierarchy)) = two_over(given) else {
+                return Err(WordsFault::Refused);
+            };
+            Ok(Command::Answer {
+                region,
+                queries,
+                hierarchy,
+            })
         }
         "certify" => {
-            let (region, query) = two(given)?;
-            Ok(Command::Certify { region, query })
+            let Some((region, query, hierarchy)) = two_over(given) else {
+                return Err(WordsFault::Refused);
+            };
+            Ok(Command::Certify {
+                region,
+                query,
+                hierarchy,
+            })
         }
         "verify" => {
-            let (region, certificate) = two(given)?;
+            let Some((region, certificate, hierarchy)) = two_over(given) else {
+                return Err(WordsFault::Refused);
+            };
             Ok(Command::Verify {
                 region,
                 certificate,
+                hierarchy,
             })
         }
         "check" => {
             let (region, hierarchy) = two(given)?;
             Ok(Command::Check { region, hierarchy })
+        }
+        "latest" => {
+            let (region, queries) = two(given)?;
+            Ok(Command::Latest { region, queries })
+        }
+        "certify-latest" => {
+            let (region, query) = two(given)?;
+            Ok(Command::CertifyLatest { region, query })
+        }
+        "verify-latest" => {
+            let (region, certificate) = two(given)?;
+            Ok(Command::VerifyLatest {
+                region,
+                certificate,
+            })
+        }
+        "few" => {
+            let (region, queries) = two(given)?;
+            Ok(Command::Few { region, queries })
         }
         _ => Err(WordsFault::Refused),
     }
@@ -90,6 +124,35 @@ fn two(given: &[String]) -> Result<(&str, &str), WordsFault>
     match given {
         [first, second] => Ok((first.as_str(), second.as_str())),
         _ => Err(WordsFault::Refused),
+    }
+}
+
+/// Two words, and the file of a hierarchy, where an option says it.
+fn two_over(given: &[String]) -> Option<(&str, &str, Option<&str>)>
+    ensures { option_map (λ it. (it.0.now, it.1.now, option_map (λ h. h.now) it.2)) result ≡ two_over (map string_bytes given.now) }
+{
+    match given {
+        [first, second, options @ ..] => {
+            let hierarchy = hierarchy_of(options)?;
+            Some((first.as_str(), second.as_str(), hierarchy))
+        }
+        _ => None,
+    }
+}
+
+/// The file of a hierarchy, where an option says it.
+fn hierarchy_of(options: &[String]) -> Option<Option<&str>>
+    ensures { option_map (λ said. option_map (λ h. h.now) said) result ≡ hierarchy_of (map string_bytes options.now) }
+{
+    match options {
+        [] => Some(None),
+        [option, value] => {
+            if option.as_str() != "--hierarchy" {
+                return None;
+            }
+            Some(Some(value.as_str()))
+        }
+        _ => None,
     }
 }
 

@@ -1,7 +1,7 @@
 use Rattle.std.proofs.Common.{◌≡◌, ◌≤◌, ◌<◌, ◌∙◌, ℕ, List, [], ◌∷◌, String, Global, map, take, drop, ◌-◌, get_or, ap, sym, subst, arith}
 use Rattle.std.specs.Prelude.{IfOk, string_bytes, length}
 use Rattle.std.proofs.lemmas.List.{length-map, take_all}
-use Rattle.command_words.specs.Requests.{Request, compile, migrate, contract, answer, certify, verify, check, AreWords, IsPlainForm, request_of}
+use Rattle.command_words.specs.Requests.{Request, compile, migrate, contract, answer, certify, verify, check, latest, certify_latest, verify_latest, few, AreWords, IsPlainForm, request_of}
 use Rattle.command_words.proofs.reading.read_words.Goals as goal
 
 -- the words, cut in three
@@ -25,13 +25,17 @@ two_or_more : (words : List (List ℕ)) (r : Request) → IsPlainForm words r �
 two_or_more words (compile map feed days format) (given, are, at) = two_words words _ _ are
 two_or_more words (migrate region format) (given, are, at) = two_words words _ _ are
 two_or_more words (contract region keep) (given, are, at) = two_words words _ _ are
-two_or_more words (answer region queries) are = two_words words _ _ are
-two_or_more words (certify region query) are = two_words words _ _ are
-two_or_more words (verify region certificate) are = two_words words _ _ are
+two_or_more words (answer region queries hierarchy) (given, are, at) = two_words words _ _ are
+two_or_more words (certify region query hierarchy) (given, are, at) = two_words words _ _ are
+two_or_more words (verify region certificate hierarchy) (given, are, at) = two_words words _ _ are
 two_or_more words (check region hierarchy) are = two_words words _ _ are
+two_or_more words (latest region queries) are = two_words words _ _ are
+two_or_more words (certify_latest region query) are = two_words words _ _ are
+two_or_more words (verify_latest region certificate) are = two_words words _ _ are
+two_or_more words (few region queries) are = two_words words _ _ are
 
 too_few : (words : List (String Global)) (r : Request) → length words < 2 → IsPlainForm (map string_bytes words) r → ⊥
-too_few words r few form =
+too_few words r below form =
     let n = two_or_more (map string_bytes words) r form in
     let same : length (map string_bytes words) ≡ length words = length-map words string_bytes in
     omega (arith, n, same)
