@@ -1,0 +1,2 @@
+pub mod AnyGraph
+pub mod PlanLemmas

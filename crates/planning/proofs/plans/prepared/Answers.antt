@@ -1,0 +1,40 @@
+use Rattle.std.proofs.Common.{◌∙◌, ◌<◌, List, ℕ, sym, ap, subst, Bor}
+use Rattle.std.specs.Prelude.{option_map, All}
+use Rattle.automaton.specs.declared.positions.Positions.{Positions}
+use Rattle.automaton.specs.Meanings.{position_meaning}
+use Rattle.automaton.specs.Written.{written}
+use Rattle.automaton.specs.States.{IsPositionAutomaton}
+use Rattle.hierarchy.specs.declared.hierarchy.Hierarchy.{Hierarchy}
+use Rattle.phase_graph.specs.InUse.{IsInUse, starts_in, ends_in}
+use Rattle.phase_graph.specs.InUseGraph.{meaning_in_use}
+use Rattle.mode_expression.specs.Form.{form_of}
+use Rattle.certificate.proofs.VerifyLemmas.{automaton_denotes}
+use Rattle.planning.proofs.PlanLemmas.{starts_low, ends_low}
+use Rattle.planning.proofs.plans.prepared.Goals as goal
+
+pub returns-clause-is : goal.returns-clause-is
+returns-clause-is c =
+    let n = c.args.network.now in
+    let q = c.args.query.now in
+    let h = option_map (λ (x : Bor Hierarchy). x.now) c.args.hierarchy in
+    let g = meaning_in_use c.in_ok-graph.graph in
+    let origins = c.in_ok-origins.origins.items in
+    let targets = c.in_ok-targets.targets.items in
+    let starts = c.in_ok-starts.ensures ∙ ap (starts_in h) c.deref-2.ensures.value in
+    let ends = c.in_ok-ends.ensures ∙ ap (ends_in h) c.deref-3.ensures.value in
+    let in_use = subst (λ (ts : List ℕ). IsInUse n h ts g) c.deref.ensures.value c.in_ok-graph.ensures.is in
+    record {
+      sound = c.in_ok-graph.ensures.sound;
+      origins = origins;
+      targets = targets;
+      origin = c.in_ok-origins.ensures.are;
+      destination = c.in_ok-targets.ensures.are;
+      in_use = in_use;
+      starts_are = starts;
+      ends_are = ends;
+      starts_low = subst (All (λ v. v < g.nodes)) (sym starts) (starts_low n h targets g in_use origins c.in_ok-origins.ensures.nodes);
+      ends_low = subst (All (λ v. v < g.nodes)) (sym ends) (ends_low n h targets g in_use c.in_ok-targets.ensures.nodes);
+      positions = subst (λ (p : Positions). IsPositionAutomaton (written (form_of q.expr)) (position_meaning p)) (sym c.new-automaton.ensures.same) c.in_ok-of.ensures.states;
+      denotes = automaton_denotes q.expr c.new-automaton.result.inner _ c.new-automaton.ensures.same c.new-automaton.ensures.accepts c.in_ok-of.ensures.accepts;
+      lawful = c.new-automaton.result.inner.lawful;
+    }

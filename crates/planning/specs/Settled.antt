@@ -1,0 +1,24 @@
+-- How many labels the searches for query lines have.
+use Rattle.std.specs.Prelude.{◌≡◌, ℕ, ◌+◌, ◌⊎◌, List, [], ◌∷◌, length, Option, Some, None}
+use Rattle.product_search.specs.declared.label.Label.{Label}
+use Rattle.hierarchy.specs.Lists.{HierarchyLists}
+use Rattle.mode_network.specs.NetworkLists.{NetworkLists}
+use Rattle.journey.specs.declared.fault.QueryFault.{QueryFault}
+use Rattle.journey.specs.Queries.{IsRefused}
+use Rattle.journey.specs.Best.{Asked, Asks}
+use Rattle.planning.specs.Plans.{AreTheLabels}
+
+-- how many labels the search over a hierarchy's phase graph has; without a hierarchy they are not counted
+abbrev pub IsLabelCount : NetworkLists → Option HierarchyLists → Asked → ℕ → Type 0
+IsLabelCount n None q count = count ≡ 0
+IsLabelCount n (Some h) q count = (labels : List Label) × AreTheLabels n (Some h) q labels × (count ≡ length labels)
+
+-- that of the query of a line; none where the line is refused
+abbrev pub IsSettledBy : NetworkLists → Option HierarchyLists → List ℕ → ℕ → Type 0
+IsSettledBy n h line count =
+    ((fault : QueryFault) × IsRefused n line fault × (count ≡ 0)) ⊎ ((asked : Asked) × Asks n line asked × IsLabelCount n h asked count)
+
+-- and the sum of these over some lines
+abbrev pub Settled : NetworkLists → Option HierarchyLists → List (List ℕ) → ℕ → Type 0
+Settled n h [] sum = sum ≡ 0
+Settled n h (line ∷ lines) sum = (count : ℕ) × (rest : ℕ) × IsSettledBy n h line count × Settled n h lines rest × (sum ≡ count + rest)

@@ -1,0 +1,232 @@
+//! A best journey for a query.
+
+ghost use Rattle.std.specs.Prelude.{◌≡◌, IfOk, IfSome, option_map};
+ghost use Rattle.automaton.specs.Meanings.{position_meaning};
+ghost use Rattle.hierarchy.specs.Soundness.{IsSound};
+ghost use Rattle.journey.specs.Best.{asked_by};
+ghost use Rattle.phase_graph.specs.InUseGraph.{meaning_in_use, network_in, hierarchy_in};
+ghost use Rattle.planning.specs.Plans.{IsRead, IsPlan, AreTheLabels, AreInTime, IsCertifiable, both, route_of};
+ghost use Rattle.planning.specs.Searched.{IsSearched, IsWalkOf, IsUnder};
+ghost use Rattle.planning.specs.Settled.{IsLabelCount};
+
+use automaton::{Collapsed, Positions};
+use hierarchy::Hierarchy;
+use journey::{Query, copies};
+use mode_network::{Journey, Network};
+use phase_graph::{GraphInUse, ends_in, starts_in};
+use plan_base::Time;
+use product_search::{Best, Found, Label, Walk, Workspace, search, search_best_with};
+use std::alloc::{AllocError, Global};
+use unpack::from_graph;
+
+/// What a plan answers: a best journey, if any journey answers the query, and the labels of the search.
+#[derive(Drop)]
+pub struct Answer {
+    pub journey: Option<Journey>,
+    pub labels: Vec<Label>,
+}
+
+/// What is found for a query: a best journey and when it arrives, if any journey answers, and the labels of the search.
+#[derive(Drop)]
+pub struct FoundPlan {
+    pub best: Option<(Time, Journey)>,
+    pub labels: Vec<Label>,
+}
+
+/// A best journey for a query, if any journey answers; and how many labels the search had, if it was over a hierarchy.
+#[derive(Drop)]
+pub struct BestPlan {
+    pub journey: Option<Journey>,
+    pub settled: u64,
+}
+
+/// What a search for a query goes over: the graph in use, from the starts to the ends, and the automaton of the expression.
+#[derive(Drop)]
+struct Searched<'a> {
+    graph: GraphInUse<'a>,
+    automaton: Collapsed<Positions>,
+    starts: Vec<u32>,
+    ends: Vec<u32>,
+}
+
+/// A best journey for a query, or none exactly where no journey answers it; and exactly the labels of the search over the
+/// network's graph, or, where a hierarchy is given, over its phase graph. The hierarchy is sound for the network; which one
+/// it is changes no arrival. The arrival and the times of the labels are below 10^30.
+pub fn plan(
+    alloc: Global,
+    network: &Network,
+    hierarchy: Option<&Hierarchy>,
+    query: &Query,
+) -> Result<Answer, AllocError>
+    requires sound { IfSome hierarchy (λ h. IsSound network.now h.now) }
+    requires read { IsRead network.now query.now }
+    ensures journey { IfOk result (λ answer. IsPlan network.now (asked_by query.now) answer.journey) }
+    ensures labels { IfOk result (λ answer. AreTheLabels network.now (option_map (λ h. h.now) hierarchy.entry) (asked_by query.now) answer.labels.items) }
+    ensures times { IfOk result (λ answer. AreInTime network.now answer.journey answer.labels.items) }
+{
+    let FoundPlan { best, labels } = find_plan(alloc, network, hierarchy, query)?;
+    let journey = journey_of(best);
+    Ok(Answer { journey, labels })
+}
+
+/// A best journey for a query, or none exactly where no journey answers it. Over a hierarchy, which is sound for the
+/// network, it also counts the labels of the search; without one the search uses the workspace, and counts none.
+pub fn find_best(
+    alloc: Global,
+    workspace: &mut Workspace,
+    network: &Network,
+    hierarchy: Option<&Hierarchy>,
+    query: &Query,
+) -> Result<BestPlan, AllocError>
+    requires sound { IfSome hierarchy (λ h. IsSound network.now h.now) }
+    requires read { IsRead network.now query.now }
+    ensures journey { IfOk result (λ best. IsPlan network.now (asked_by query.now) best.journey) }
+    ensures settled { IfOk result (λ best. IsLabelCount network.now (option_map (λ h. h.now) hierarchy.entry) (asked_by query.now) best.settled) }
+{
+    match hierarchy {
+        None => {
+            let journey = find_plain(alloc, workspace, network, query)?;
+            Ok(BestPlan {
+                journey,
+                settled: 0,
+            })
+        }
+        Some(_) => {
+            let FoundPlan { best, labels } = find_plan(alloc, network, hierarchy, query)?;
+            let journey = journey_of(best);
+            Ok(BestPlan {
+                journey,
+                settled: labels.len() as u64,
+            })
+        }
+    }
+}
+
+/// A best journey for a query over the network's graph. The search uses the workspace.
+fn find_plain(
+    alloc: Global,
+    workspace: &mut Workspace,
+    network: &Network,
+    query: &Query,
+) -> Result<Option<Journey>, AllocError>
+    requires { IsRead network.now query.now }
+    ensures { IfOk result (IsPlan network.now (asked_by query.now)) }
+{
+    network.known();
+    let searched = prepared(alloc, network, None, query)?;
+    let found = search_best_with(
+        alloc,
+        workspace,
+        &searched.graph,
+        &searched.automaton,
+        &searched.starts,
+        &searched.ends,
+        query.depart,
+        None,
+    )?;
+    let Best { arrival: _, walk } = found;
+    let route = unpacked(alloc, &searched.graph, &walk)?;
+    Ok(route)
+}
+
+/// A journey that was found with its arrival.
+fn journey_of(best: Option<(Time, Journey)>) -> Option<Journey>
+    ensures { result ≡ route_of best }
+{
+    match best {
+        Some((_, journey)) => Some(journey),
+        None => None,
+    }
+}
+
+/// A best journey for a query and when it arrives, or none exactly where no journey answers it; and exactly the labels of
+/// the search. A certificate of these is valid.
+pub fn find_plan(
+    alloc: Global,
+    network: &Network,
+    hierarchy: Option<&Hierarchy>,
+    query: &Query,
+) -> Result<FoundPlan, AllocError>
+    requires sound { IfSome hierarchy (λ h. IsSound network.now h.now) }
+    requires read { IsRead network.now query.now }
+    ensures journey { IfOk result (λ found. IsPlan network.now (asked_by query.now) (route_of found.best)) }
+    ensures labels { IfOk result (λ found. AreTheLabels network.now (option_map (λ h. h.now) hierarchy.entry) (asked_by query.now) found.labels.items) }
+    ensures certifiable { IfOk result (λ found. IsCertifiable network.now (option_map (λ h. h.now) hierarchy.entry) query.now found.best found.labels.items) }
+{
+    network.known();
+    let searched = prepared(alloc, network, hierarchy, query)?;
+    let found = search(
+        alloc,
+        &searched.graph,
+        &searched.automaton,
+        &searched.starts,
+        &searched.ends,
+        query.depart,
+        None,
+    )?;
+    let Found {
+        arrival,
+        labels,
+        walk,
+    } = found;
+    let journey = unpacked(alloc, &searched.graph, &walk)?;
+    let best = with_arrival(arrival, journey);
+    Ok(FoundPlan { best, labels })
+}
+
+/// What a search for a query goes over.
+fn prepared<'a>(
+    alloc: Global,
+    network: &'a Network,
+    hierarchy: Option<&'a Hierarchy>,
+    query: &Query,
+) -> Result<Searched<'a>, AllocError>
+    requires sound { IfSome hierarchy (λ h. IsSound network.now h.now) }
+    requires read { IsRead network.now query.now }
+    ensures is { IfOk result (λ s. IsSearched network.now (option_map (λ h. h.now) hierarchy.entry) query.now
+        (meaning_in_use s.graph) (position_meaning s.automaton.inner) s.starts.items s.ends.items) }
+    ensures network { IfOk result (λ s. network_in s.graph ≡ network.now) }
+    ensures hierarchy { IfOk result (λ s. hierarchy_in s.graph ≡ option_map (λ h. h.now) hierarchy.entry) }
+{
+    network.known();
+    let automaton = Collapsed::new(Positions::of(alloc, &query.expr)?);
+    let origins = copies(alloc, network, &query.from)?;
+    let targets = copies(alloc, network, &query.to)?;
+    let graph = GraphInUse::new(alloc, network, hierarchy, &targets)?;
+    let starts = starts_in(alloc, hierarchy, &origins)?;
+    let ends = ends_in(alloc, hierarchy, &targets)?;
+    Ok(Searched {
+        graph,
+        automaton,
+        starts,
+        ends,
+    })
+}
+
+/// The journey under a walk that was found, if one was.
+fn unpacked(
+    alloc: Global,
+    graph: &GraphInUse<'_>,
+    walk: &Option<Walk>,
+) -> Result<Option<Journey>, AllocError>
+    requires { IsWalkOf (meaning_in_use graph.now) walk.now }
+    ensures { IfOk result (IsUnder (network_in graph.now) (hierarchy_in graph.now) (meaning_in_use graph.now) walk.now) }
+{
+    match walk {
+        Some(walk) => {
+            let journey = from_graph(alloc, graph, walk)?;
+            Ok(Some(journey))
+        }
+        None => Ok(None),
+    }
+}
+
+/// A journey with its arrival, where there are both.
+fn with_arrival(arrival: Option<Time>, journey: Option<Journey>) -> Option<(Time, Journey)>
+    ensures { result ≡ both arrival journey }
+{
+    match (arrival, journey) {
+        (Some(arrival), Some(journey)) => Some((arrival, journey)),
+        _ => None,
+    }
+}
