@@ -6,6 +6,7 @@ use Rattle.mode_network.specs.Journeys.{Route}
 use Rattle.mode_network.specs.Rules.{IsNetwork}
 use Rattle.journey.specs.Blocks.{IsPrintableBody}
 use Rattle.journey.proofs.CopyLemmas.{copy_in_range}
+use Rattle.hierarchy.specs.Lists.{HierarchyLists}
 use Rattle.certificate.specs.Certificates.{Claim}
 use Rattle.certificate.specs.Texts.{IsCertText, FitsResult}
 use Rattle.certificate.specs.Valid.{IsValid, Proves, ResultHolds, IsBestResult}
@@ -25,11 +26,11 @@ claimed_printable n network asked (Some claimed) answers fits = record {
   taken = record { end = _; arrival = _; letters = _; are = answers.real.steps };
 }
 
-pub valid_printable : (n : NetworkLists) → IsNetwork n → (bytes : List ℕ) (c : Claim) → IsCertText bytes c → IsValid n c → IsPrintableBody n (body_of c.result)
-valid_printable n network bytes c text valid = claimed_printable n network valid.setting.asked c.result valid.holds text.fits.result
+pub valid_printable : (n : NetworkLists) → IsNetwork n → (h : Option HierarchyLists) (bytes : List ℕ) (c : Claim) → IsCertText bytes c → IsValid n h c → IsPrintableBody n (body_of c.result)
+valid_printable n network h bytes c text valid = claimed_printable n network valid.setting.asked c.result valid.holds text.fits.result
 
-pub verified_text : (n : NetworkLists) (bytes : List ℕ) (c : Claim) (out : List ℕ) → IsCertText bytes c → IsValid n c → Proves n c → TellsValid n c.line (body_of c.result) out → IsVerified n bytes out
-verified_text n bytes c out text valid proves told = record {
+pub verified_text : (n : NetworkLists) (h : Option HierarchyLists) (bytes : List ℕ) (c : Claim) (out : List ℕ) → IsCertText bytes c → IsValid n h c → Proves n c → TellsValid n c.line (body_of c.result) out → IsVerified n h bytes out
+verified_text n h bytes c out text valid proves told = record {
   claim = c;
   text = text;
   valid = valid;

@@ -1,5 +1,3 @@
-pub mod PlanLemmas
-pub mod AnyTable
 pub mod BlockLemmas
 pub mod WriteLemmas
 pub mod OutcomeLemmas

@@ -1,28 +1,38 @@
 -- Blocks that are written one after the other.
-use Rattle.std.proofs.Common.{◌≡◌, ℕ, ◌∙◌, inl, inr, List, [], ◌∷◌, ◌++◌, append_assoc, append-nil, take, Option, Some, None, refl, ap, sym, subst}
+use Rattle.std.proofs.Common.{◌≡◌, ℕ, ◌+◌, ◌∙◌, inl, inr, List, [], ◌∷◌, ◌++◌, append_assoc, append-nil, take, Option, Some, None, refl, ap, sym, subst, arith}
 use Rattle.std.specs.Prelude.{option_map, option_to_list}
 use Rattle.plain_texts.specs.Lines.{lines_of}
 use Rattle.plan_base.specs.Sinks.{SinkMeaning}
 use Rattle.plan_base.proofs.MoreWritten.{appended_twice}
 use Rattle.mode_network.specs.NetworkLists.{NetworkLists}
+use Rattle.hierarchy.specs.Lists.{HierarchyLists}
 use Rattle.journey.specs.Best.{IsBlock}
+use Rattle.planning.specs.Settled.{IsSettledBy, Settled}
 use Rattle.planner_core.specs.Written.{as_query, without_return, queries_among, query_lines, AreBlocks, WroteBlocks, BeginsNext, WroteFront, WroteBlock, WrotePart}
 
-module _ (n : NetworkLists) where
+module _ (n : NetworkLists) (h : Option HierarchyLists) where
   -- a right block more
   blocks_more : (lines : List (List ℕ)) (out line block : List ℕ) → AreBlocks n lines out → IsBlock n line block → AreBlocks n (lines ++ line ∷ []) (out ++ block)
   blocks_more [] out line block none is = (block, [], is, refl, ap (λ (x : List ℕ). x ++ block) none ∙ sym (append-nil block))
   blocks_more (first ∷ lines) out line block (head, rest, right, more, e) is =
       (head, rest ++ block, right, blocks_more lines rest line block more is, ap (λ (x : List ℕ). x ++ block) e ∙ append_assoc head rest block)
 
-  -- how far the writing has come: blocks are written for the lines that are done, and the others are those of the rest of the text
-  pub record IsWriting (old new : SinkMeaning) (text rest : List ℕ) : Type 0 where
+  -- the labels of a search more
+  settled_more : (lines : List (List ℕ)) (sum : ℕ) (line : List ℕ) (count : ℕ) → Settled n h lines sum → IsSettledBy n h line count → Settled n h (lines ++ line ∷ []) (sum + count)
+  settled_more [] sum line count none is = (count, 0, is, refl, omega (arith, none))
+  settled_more (first ∷ lines) sum line count (head, rest, settled, more, e) is =
+      (head, rest + count, settled, settled_more lines rest line count more is, omega (arith, e))
+
+  -- how far the writing has come: blocks are written for the lines that are done, whose searches had this many labels, and the others are those
+  -- of the rest of the text
+  pub record IsWriting (old new : SinkMeaning) (text rest : List ℕ) (sum : ℕ) : Type 0 where
     pub done : List (List ℕ)
     pub split : query_lines text ≡ done ++ query_lines rest
     pub wrote : WroteBlocks old new n done
+    pub settled : Settled n h done sum
 
-  pub writing_starts : (old : SinkMeaning) (text : List ℕ) → IsWriting old old text text
-  writing_starts old text = record { done = []; split = refl; wrote = record { out = []; is = refl; appended = none_more old.bytes } }
+  pub writing_starts : (old : SinkMeaning) (text : List ℕ) → IsWriting old old text text 0
+  writing_starts old text = record { done = []; split = refl; wrote = record { out = []; is = refl; appended = none_more old.bytes }; settled = refl }
     where
       none_more : (bytes : Option (List ℕ)) → bytes ≡ option_map (λ b. b ++ []) bytes
       none_more None = refl
@@ -32,17 +42,17 @@ module _ (n : NetworkLists) where
   lines_split : (rest line after : List ℕ) → lines_of rest ≡ line ∷ lines_of after → query_lines rest ≡ option_to_list (as_query (without_return line)) ++ query_lines after
   lines_split rest line after e = ap queries_among e
 
-  pub writing_passes : (old new : SinkMeaning) (text rest line after : List ℕ) → IsWriting old new text rest → lines_of rest ≡ line ∷ lines_of after
-      → as_query (without_return line) ≡ None → IsWriting old new text after
-  writing_passes old new text rest line after writing e none =
-      record { done = writing.done; split = writing.split ∙ ap (λ (x : List (List ℕ)). writing.done ++ x) (lines_split rest line after e ∙ ap (λ (o : Option (List ℕ)). option_to_list o ++ query_lines after) none); wrote = writing.wrote }
+  pub writing_passes : (old new : SinkMeaning) (text rest line after : List ℕ) (sum : ℕ) → IsWriting old new text rest sum → lines_of rest ≡ line ∷ lines_of after
+      → as_query (without_return line) ≡ None → IsWriting old new text after sum
+  writing_passes old new text rest line after sum writing e none =
+      record { done = writing.done; split = writing.split ∙ ap (λ (x : List (List ℕ)). writing.done ++ x) (lines_split rest line after e ∙ ap (λ (o : Option (List ℕ)). option_to_list o ++ query_lines after) none); wrote = writing.wrote; settled = writing.settled }
 
   query_first : (rest line after query : List ℕ) → lines_of rest ≡ line ∷ lines_of after → as_query (without_return line) ≡ Some query → query_lines rest ≡ query ∷ query_lines after
   query_first rest line after query e is = lines_split rest line after e ∙ ap (λ (o : Option (List ℕ)). option_to_list o ++ query_lines after) is
 
-  pub writing_writes : (old mid new : SinkMeaning) (text rest line after query : List ℕ) → IsWriting old mid text rest → lines_of rest ≡ line ∷ lines_of after
-      → as_query (without_return line) ≡ Some query → WroteBlock mid new n query → IsWriting old new text after
-  writing_writes old mid new text rest line after query writing e is block = record {
+  pub writing_writes : (old mid new : SinkMeaning) (text rest line after query : List ℕ) (sum count : ℕ) → IsWriting old mid text rest sum → lines_of rest ≡ line ∷ lines_of after
+      → as_query (without_return line) ≡ Some query → WroteBlock mid new n query → IsSettledBy n h query count → IsWriting old new text after (sum + count)
+  writing_writes old mid new text rest line after query sum count writing e is block settled = record {
     done = writing.done ++ query ∷ [];
     split = writing.split ∙ (ap (λ (x : List (List ℕ)). writing.done ++ x) (query_first rest line after query e is) ∙ sym (append_assoc writing.done (query ∷ []) (query_lines after)));
     wrote = record {
@@ -50,16 +60,19 @@ module _ (n : NetworkLists) where
       is = blocks_more writing.done writing.wrote.out query block.out writing.wrote.is block.is;
       appended = appended_twice old mid new _ _ writing.wrote.appended block.appended;
     };
+    settled = settled_more writing.done sum query count writing.settled settled;
   }
 
-  pub writing_done : (old new : SinkMeaning) (text rest : List ℕ) → IsWriting old new text rest → lines_of rest ≡ [] → WroteBlocks old new n (query_lines text)
-  writing_done old new text rest writing e =
-      subst (WroteBlocks old new n) (sym (writing.split ∙ (ap (λ (x : List (List ℕ)). writing.done ++ queries_among x) e ∙ append-nil writing.done))) writing.wrote
+  pub writing_done : (old new : SinkMeaning) (text rest : List ℕ) (sum : ℕ) → IsWriting old new text rest sum → lines_of rest ≡ []
+      → WroteBlocks old new n (query_lines text) × Settled n h (query_lines text) sum
+  writing_done old new text rest sum writing e =
+      subst (λ (lines : List (List ℕ)). WroteBlocks old new n lines × Settled n h lines sum)
+      (sym (writing.split ∙ (ap (λ (x : List (List ℕ)). writing.done ++ queries_among x) e ∙ append-nil writing.done))) (writing.wrote, writing.settled)
 
   -- a write failed within the block of a query line
-  pub writing_fails : (old mid new : SinkMeaning) (text rest line after query : List ℕ) → IsWriting old mid text rest → lines_of rest ≡ line ∷ lines_of after
+  pub writing_fails : (old mid new : SinkMeaning) (text rest line after query : List ℕ) (sum : ℕ) → IsWriting old mid text rest sum → lines_of rest ≡ line ∷ lines_of after
       → as_query (without_return line) ≡ Some query → WrotePart mid new n query → WroteFront old new n (query_lines text)
-  writing_fails old mid new text rest line after query writing e is part = record {
+  writing_fails old mid new text rest line after query sum writing e is part = record {
     out = writing.wrote.out ++ take part.part.count part.block;
     is = record {
       done = writing.done;
@@ -75,8 +88,8 @@ module _ (n : NetworkLists) where
   }
 
   -- nothing of the next block is written
-  pub writing_stops : (old mid new : SinkMeaning) (text rest : List ℕ) → IsWriting old mid text rest → new.bytes ≡ mid.bytes → WroteFront old new n (query_lines text)
-  writing_stops old mid new text rest writing same = record {
+  pub writing_stops : (old mid new : SinkMeaning) (text rest : List ℕ) (sum : ℕ) → IsWriting old mid text rest sum → new.bytes ≡ mid.bytes → WroteFront old new n (query_lines text)
+  writing_stops old mid new text rest sum writing same = record {
     out = writing.wrote.out;
     is = record {
       done = writing.done;

@@ -1,4 +1,3 @@
-pub mod Plans
 pub mod Written
 pub mod Outputs
 pub mod Commands

@@ -17,25 +17,25 @@ use Rattle.contractor.specs.Contracted.{IsContracted}
 use Rattle.plan_base.specs.declared.limits.Caps.{Caps}
 use Rattle.region_file.specs.Regions.{region_of, spelling}
 use Rattle.region_file.specs.declared.format.Format.{Format}
-use Rattle.planner_core.specs.Plans.{AreTheLabels}
+use Rattle.planning.specs.Plans.{AreTheLabels}
 
 -- Written is the one spelling of the network in this format; it spells that network, within the limits.
 pub record IsRegionFile (caps : Caps) (format : Format) (n : NetworkLists) (out : List ℕ) : Type 0 where
   pub text : out ≡ spelling format n
   pub spells : region_of caps out ≡ Ok n
 
--- the text of a valid certificate for the line, whose labels are those of the search; it proves what it claims
-pub record IsCertificateFor (n : NetworkLists) (line out : List ℕ) : Type 0 where
+-- the text of a valid certificate for the line, whose labels are those of the search over the graph in use; it proves what it claims
+pub record IsCertificateFor (n : NetworkLists) (h : Option HierarchyLists) (line out : List ℕ) : Type 0 where
   pub claim : Claim
   pub text : IsCertText out claim
   pub line_is : claim.line ≡ line
-  pub valid : IsValid n claim
-  pub labelled : AreTheLabels n valid.setting.asked claim.labels
+  pub valid : IsValid n h claim
+  pub labelled : AreTheLabels n h valid.setting.asked claim.labels
   pub proves : Proves n claim
 
 -- the block of a line that is refused, or a certificate
-abbrev pub IsCertified : NetworkLists → List ℕ → List ℕ → Type 0
-IsCertified n line out = IsRefusedBlock n line out ⊎ IsCertificateFor n line out
+abbrev pub IsCertified : NetworkLists → Option HierarchyLists → List ℕ → List ℕ → Type 0
+IsCertified n h line out = IsRefusedBlock n line out ⊎ IsCertificateFor n h line out
 
 -- what a certificate claims, as the body of a block
 abbrev pub body_of : Option (ℕ × Route) → BlockBody
@@ -49,10 +49,10 @@ pub record TellsValid (n : NetworkLists) (line : List ℕ) (body : BlockBody) (o
   pub out_is : out ≡ with_feed (codes "valid") ++ block
 
 -- The bytes are the text of a valid certificate; written are `valid` and the block of its line and its result, which is a right block.
-pub record IsVerified (n : NetworkLists) (bytes out : List ℕ) : Type 0 where
+pub record IsVerified (n : NetworkLists) (h : Option HierarchyLists) (bytes out : List ℕ) : Type 0 where
   pub claim : Claim
   pub text : IsCertText bytes claim
-  pub valid : IsValid n claim
+  pub valid : IsValid n h claim
   pub told : TellsValid n claim.line (body_of claim.result) out
   pub right : IsBlock n claim.line told.block
 

@@ -1,9 +1,11 @@
--- What `answer` writes: the right block of each query line, in order.
-use Rattle.std.specs.Prelude.{◌≡◌, ℕ, ◌⊎◌, ◌==◌, ◌-◌, List, [], ◌∷◌, ◌++◌, length, take, Option, Some, None, if◌then◌else◌, option_to_list, nat_lt, ◌&&◌, slice_index}
-use Rattle.plain_texts.specs.Lines.{lines_of}
+-- What `answer` writes: the right block of each query line, in order; and with a hierarchy how many labels the searches had.
+use Rattle.std.specs.Prelude.{◌≡◌, ℕ, ◌⊎◌, codes, decimal, ◌==◌, ◌-◌, List, [], ◌∷◌, ◌++◌, length, take, Option, Some, None, if◌then◌else◌, option_to_list, nat_lt, ◌&&◌, slice_index}
+use Rattle.plain_texts.specs.Lines.{lines_of, with_feed}
 use Rattle.plan_base.specs.Sinks.{SinkMeaning, AppendedPart}
 use Rattle.mode_network.specs.NetworkLists.{NetworkLists}
+use Rattle.hierarchy.specs.Lists.{HierarchyLists}
 use Rattle.journey.specs.Best.{IsBlock}
+use Rattle.planning.specs.Settled.{Settled}
 use Rattle.run_steps.specs.Sayings.{HasWritten}
 
 -- a line without the carriage return at its end, if one stands there
@@ -61,3 +63,21 @@ pub record WrotePart (old new : SinkMeaning) (n : NetworkLists) (line : List ℕ
   pub block : List ℕ
   pub is : IsBlock n line block
   pub part : AppendedPart old new block
+
+-- ---- with a hierarchy
+
+-- the line that tells how many labels searches had
+abbrev pub settled_line : ℕ → List ℕ
+settled_line sum = with_feed (codes "settled " ++ decimal sum)
+
+-- a right block for each line, and with a hierarchy the line `settled` behind them
+abbrev pub IsAnswer : NetworkLists → Option HierarchyLists → List (List ℕ) → List ℕ → Type 0
+IsAnswer n None lines out = AreBlocks n lines out
+IsAnswer n (Some h) lines out = (blocks : List ℕ) × (sum : ℕ) × AreBlocks n lines blocks × Settled n (Some h) lines sum × (out ≡ blocks ++ settled_line sum)
+
+-- right blocks of the first lines, and a front of a right block of the next; or all blocks, and a front of the line `settled`
+abbrev pub BeginsAnswer : NetworkLists → Option HierarchyLists → List (List ℕ) → List ℕ → Type 0
+BeginsAnswer n None lines out = BeginsBlocks n lines out
+BeginsAnswer n (Some h) lines out =
+    BeginsBlocks n lines out
+    ⊎ ((blocks : List ℕ) × (sum : ℕ) × (count : ℕ) × AreBlocks n lines blocks × Settled n (Some h) lines sum × (out ≡ blocks ++ take count (settled_line sum)))

@@ -1,77 +1,126 @@
-//! The command `answer`: the block of each query line of a file.
+//! The command `answer`: the block of each query line of a file, and with a hierarchy how many labels the searches had.
 
-ghost use Rattle.std.specs.Prelude.{◌≡◌, ◌≤◌, option_map, IfErr, OnOk};
+ghost use Rattle.std.specs.Prelude.{◌≡◌, ◌≤◌, option_map, IfErr, IfOk, IfSome};
 ghost use Rattle.command_words.specs.Requests.{answer};
-ghost use Rattle.run_steps.specs.Sayings.{end_of};
+ghost use Rattle.hierarchy.specs.Soundness.{IsSound};
+ghost use Rattle.plan_base.specs.Shelves.{ShelfMeaning};
+ghost use Rattle.planning.specs.Settled.{IsSettledBy, Settled};
+ghost use Rattle.run_steps.specs.Sayings.{Writes, end_of};
 ghost use Rattle.planner_core.specs.Commands.{says};
 ghost use Rattle.planner_core.specs.Working.{IsBlockOutcome, IsBlocksOutcome};
-ghost use Rattle.planner_core.specs.Written.{WroteBlock, WroteBlocks, without_return, as_query, query_lines};
+ghost use Rattle.planner_core.specs.Written.{IsAnswer, BeginsAnswer, WroteBlock, WroteBlocks, settled_line, without_return, as_query, query_lines};
 
-use crate::blocks::block_of;
+use crate::hierarchies::read_if_named;
+use hierarchy::Hierarchy;
 use mode_network::Network;
-use plain_texts::split_line;
+use plain_texts::{push_decimal, split_line};
 use plan_base::{Caps, Shelf, Sink, write_all};
+use planning::block_of;
 use product_search::Workspace;
-use run_steps::{FileRole, Outcome, read_file, read_region};
-use std::alloc::Global;
+use run_steps::{FileRole, Outcome, read_file, read_region, write_text};
+use std::alloc::{AllocError, Global};
 
-/// Reads the region and the queries file of these names, and writes the block of each query line.
+/// Reads the region of this name, the hierarchy, if one is named, and the queries file, and writes the block of each query
+/// line; with a hierarchy the line `settled` follows.
 pub(crate) fn answer<F: Shelf, O: Sink, E: Sink>(
     alloc: Global,
     region: &str,
     queries: &str,
+    hierarchy: Option<&str>,
     shelf: &mut F,
     out: &mut O,
     notes: &mut E,
     caps: &Caps,
 ) -> Result<(), Outcome>
-    ensures { says caps.now (answer region.now queries.now) (F.meaning shelf.old) (F.meaning shelf.new) (O.meaning out.old) (O.meaning out.new) (end_of result) }
+    ensures { says caps.now (answer region.now queries.now (option_map (λ it. it.now) hierarchy.entry)) (F.meaning shelf.old) (F.meaning shelf.new) (O.meaning out.old) (O.meaning out.new) (end_of result) }
 {
     let network = read_region(alloc, shelf, region, caps, notes)?;
+    let hierarchy = read_if_named(alloc, shelf, hierarchy, &network, notes)?;
     let text = read_file(alloc, shelf, queries, FileRole::Queries, notes)?;
-    write_blocks(alloc, &network, &text, out)?;
-    Ok(())
+    write_answer(alloc, &network, hierarchy.as_ref(), &text, out)
 }
 
-/// Writes the block of each query line of a queries file.
-fn write_blocks<O: Sink>(
+/// Writes the block of each query line of a queries file, and behind them, with a hierarchy, how many labels the searches
+/// had.
+fn write_answer<O: Sink>(
     alloc: Global,
     network: &Network,
+    hierarchy: Option<&Hierarchy>,
     text: &[u8],
     out: &mut O,
 ) -> Result<(), Outcome>
-    ensures later { (O.meaning out.old).faults ≤ (O.meaning out.new).faults }
-    ensures ok { OnOk result (WroteBlocks (O.meaning out.old) (O.meaning out.new) network.now (query_lines text.now)) }
-    ensures err { IfErr result (IsBlocksOutcome (O.meaning out.old) (O.meaning out.new) network.now (query_lines text.now)) }
+    requires { IfSome hierarchy (λ h. IsSound network.now h.now) }
+    ensures { (old new : ShelfMeaning) → Writes (IsAnswer network.now (option_map (λ h. h.now) hierarchy.entry) (query_lines text.now))
+        (BeginsAnswer network.now (option_map (λ h. h.now) hierarchy.entry) (query_lines text.now)) old new (O.meaning out.old) (O.meaning out.new) (end_of result) }
 {
-    let mut workspace = Workspace::new(alloc);
-    let mut rest = text;
-    while let Some((line, after)) = split_line(rest) {
-        if let Some(query) = as_query(without_return(line)) {
-            write_block(alloc, &mut workspace, network, query, out)?;
-        }
-        rest = after;
+    let settled = write_blocks(alloc, network, hierarchy, text, out)?;
+    if hierarchy.is_some() {
+        let Ok(line) = settled_line(alloc, settled) else {
+            return Err(Outcome::OutOfMemory);
+        };
+        write_text(out, &line)?;
     }
     Ok(())
 }
 
-/// Writes the block of a query line.
+/// The line that tells how many labels searches had.
+fn settled_line(alloc: Global, settled: u128) -> Result<Vec<u8>, AllocError>
+    ensures { IfOk result (λ line. line.items ≡ settled_line settled) }
+{
+    let mut line = Vec::from_slice(alloc, b"settled ")?;
+    push_decimal(&mut line, settled)?;
+    line.push(b'\n')?;
+    Ok(line)
+}
+
+/// Writes the block of each query line of a queries file. Answers how many labels the searches had, if they were over a
+/// hierarchy.
+fn write_blocks<O: Sink>(
+    alloc: Global,
+    network: &Network,
+    hierarchy: Option<&Hierarchy>,
+    text: &[u8],
+    out: &mut O,
+) -> Result<u128, Outcome>
+    requires { IfSome hierarchy (λ h. IsSound network.now h.now) }
+    ensures later { (O.meaning out.old).faults ≤ (O.meaning out.new).faults }
+    ensures ok { IfOk result (λ _. WroteBlocks (O.meaning out.old) (O.meaning out.new) network.now (query_lines text.now)) }
+    ensures settled { IfOk result (Settled network.now (option_map (λ h. h.now) hierarchy.entry) (query_lines text.now)) }
+    ensures err { IfErr result (IsBlocksOutcome (O.meaning out.old) (O.meaning out.new) network.now (query_lines text.now)) }
+{
+    let mut workspace = Workspace::new(alloc);
+    let mut settled = 0;
+    let mut rest = text;
+    while let Some((line, after)) = split_line(rest) {
+        if let Some(query) = as_query(without_return(line)) {
+            let count = write_block(alloc, &mut workspace, network, hierarchy, query, out)?;
+            settled += u128::from(count);
+        }
+        rest = after;
+    }
+    Ok(settled)
+}
+
+/// Writes the block of a query line. Answers how many labels the search for it had, if it was over a hierarchy.
 fn write_block<O: Sink>(
     alloc: Global,
     workspace: &mut Workspace,
     network: &Network,
+    hierarchy: Option<&Hierarchy>,
     line: &[u8],
     out: &mut O,
-) -> Result<(), Outcome>
+) -> Result<u64, Outcome>
+    requires { IfSome hierarchy (λ h. IsSound network.now h.now) }
     ensures later { (O.meaning out.old).faults ≤ (O.meaning out.new).faults }
-    ensures ok { OnOk result (WroteBlock (O.meaning out.old) (O.meaning out.new) network.now line.now) }
+    ensures ok { IfOk result (λ _. WroteBlock (O.meaning out.old) (O.meaning out.new) network.now line.now) }
+    ensures settled { IfOk result (IsSettledBy network.now (option_map (λ h. h.now) hierarchy.entry) line.now) }
     ensures err { IfErr result (IsBlockOutcome (O.meaning out.old) (O.meaning out.new) network.now line.now) }
 {
-    let Ok(block) = block_of(alloc, workspace, network, line) else {
+    let Ok((block, settled)) = block_of(alloc, workspace, network, hierarchy, line) else {
         return Err(Outcome::OutOfMemory);
     };
     match write_all(out, &block) {
-        Ok(()) => Ok(()),
+        Ok(()) => Ok(settled),
         Err(_) => Err(Outcome::WriteFault),
     }
 }

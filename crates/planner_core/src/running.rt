@@ -14,6 +14,7 @@ use crate::checking::check;
 use crate::compiling::{compile, migrate};
 use crate::contracting::contract;
 use command_words::{Command, WordsFault, read_words};
+use late_commands::{certify_latest, few, latest, verify_latest};
 use plan_base::{Caps, Shelf, Sink};
 use run_steps::{Outcome, tell};
 use std::alloc::Global;
@@ -42,19 +43,53 @@ fn carry_out<F: Shelf, O: Sink, E: Sink>(
         Command::Contract { region, keep } => {
             contract(alloc, region, keep, shelf, out, notes, caps)
         }
-        Command::Answer { region, queries } => answer(
-            alloc, region, queries, shelf, out, notes, caps,
+        Command::Answer {
+            region,
+            queries,
+            hierarchy,
+        } => answer(alloc, region, queries, hierarchy, shelf, out, notes, caps),
+        Command::Certify {
+            region,
+            query,
+            hierarchy,
+        } => certify(
+            alloc,
+            region,
+            query.as_bytes(),
+            hierarchy,
+            shelf,
+            out,
+            notes,
+            caps,
         ),
-        Command::Certify { region, query } => {
-            certify(alloc, region, query.as_bytes(), shelf, out, notes, caps)
-        }
         Command::Verify {
             region,
             certificate,
-        } => verify(alloc, region, certificate, shelf, out, notes, caps),
+            hierarchy,
+        } => verify(
+            alloc,
+            region,
+            certificate,
+            hierarchy,
+            shelf,
+            out,
+            notes,
+            caps,
+        ),
         Command::Check { region, hierarchy } => {
             check(alloc, region, hierarchy, shelf, out, notes, caps)
         }
+        Command::Latest { region, queries } => {
+            latest(alloc, region, queries, shelf, out, notes, caps)
+        }
+        Command::CertifyLatest { region, query } => {
+            certify_latest(alloc, region, query.as_bytes(), shelf, out, notes, caps)
+        }
+        Command::VerifyLatest {
+            region,
+            certificate,
+        } => verify_latest(alloc, region, certificate, shelf, out, notes, caps),
+        Command::Few { region, queries } => few(alloc, region, queries, shelf, out, notes, caps),
     }
 }
 
@@ -85,10 +120,12 @@ pub fn run_within<F: Shelf, O: Sink, E: Sink>(
 /// the region file that the third names.
 ///
 /// `compile` with a map and the folder of a timetable feed writes the region of both over some days, and `migrate` writes a
-/// region anew, in the other format. `contract` writes a hierarchy of the region's road layers, which `check` accepts. `answer` with a queries file writes the right block of each query line, in order. `certify` with a query line writes a
+/// region anew, in the other format. `contract` writes a hierarchy of the region's road layers, which `check` accepts.
+/// `answer` with a queries file writes the right block of each query line, in order. `certify` with a query line writes a
 /// certificate for it, or its block where it is refused. `verify` with a certificate file writes `valid` and the block of
 /// the certificate's line and result, which is the right block of that line. `check` with a hierarchy file writes `sound`
-/// where the hierarchy is sound for the region.
+/// where the hierarchy is sound for the region. With the option `--hierarchy` the commands `answer`, `certify` and `verify`
+/// go over a hierarchy, which is checked at once; `answer` then tells behind the blocks how many labels its searches had.
 ///
 /// The outcome says how the run ended. Where the shelf tells that all files are there, they are without fault, and no count
 /// of faults rose, all of the work is done, unless memory ran out. One line on `notes` says the outcome to people. A fault
