@@ -89,8 +89,8 @@ module _ (files : Files) where
       let good = again bytes claim spells in
       absurd (cc)
   valid_completes n rules rest more bytes (claim, spells, valid) old new outcome tells quiet (inr (inl (other, clause, at, reads_so, fails, ends))) =
-      let fails_here = subst (λ (c : Claim). IsCertVerdict n c (verdict.Invalid clause at)) (same_claim bytes other claim reads_so spells) fails in
-      let both = verdict_is_unique n rules claim verdict.Valid (verdict.Invalid clause at) valid fails_here in
+      let fails_here = subst (λ (c : Claim). IsCertVerdict n None c (verdict.Invalid clause at)) (same_claim bytes other claim reads_so spells) fails in
+      let both = verdict_is_unique n rules None tt claim verdict.Valid (verdict.Invalid clause at) valid fails_here in
       absurd (cc)
   valid_completes n rules rest more bytes valid old new outcome tells quiet (inr (inr (is, rests))) = more bytes tt old new outcome tells quiet rests
 

@@ -36,12 +36,12 @@ IsBadCertificate bytes old new outcome = (line : ℕ) × (cert_of bytes ≡ Err 
 -- the bytes spell a certificate that is not valid: this is the first clause that fails, at its least place
 abbrev pub IsInvalid : NetworkLists → List ℕ → Saying
 IsInvalid n bytes old new outcome =
-    (claim : Claim) × (clause : ℕ) × (at : ℕ) × IsCertText bytes claim × IsCertVerdict n claim (verdict.Invalid clause at)
+    (claim : Claim) × (clause : ℕ) × (at : ℕ) × IsCertText bytes claim × IsCertVerdict n None claim (verdict.Invalid clause at)
     × Ends (Invalid clause at) old new outcome
 
 -- the bytes spell a certificate that is valid
 abbrev pub SpellsValid : NetworkLists → List ℕ → Type 0
-SpellsValid n bytes = (claim : Claim) × IsCertText bytes claim × IsValid n claim
+SpellsValid n bytes = (claim : Claim) × IsCertText bytes claim × IsValid n None claim
 
 -- the bytes of a certificate are read and verified
 abbrev pub OnValid : NetworkLists → List ℕ → Saying → Saying

@@ -25,7 +25,7 @@ verdict_words (Invalid clause at) = codes "invalid " ++ decimal clause ++ codes 
 abbrev pub IsReport : NetworkLists → List ℕ → List ℕ → Type 0
 IsReport n bytes words =
     ((line : ℕ) × (cert_of bytes ≡ Err (BadLine line)) × (words ≡ codes "bad " ++ decimal line))
-    ⊎ ((claim : Claim) × (verdict : CertVerdict) × IsCertText bytes claim × IsCertVerdict n claim verdict × (words ≡ verdict_words verdict))
+    ⊎ ((claim : Claim) × (verdict : CertVerdict) × IsCertText bytes claim × IsCertVerdict n None claim verdict × (words ≡ verdict_words verdict))
 
 -- what is said of what is kept under a name; that nothing is, if the keeper answers so
 abbrev pub IsReportOn : NetworkLists → Option (List ℕ) → List ℕ → Type 0

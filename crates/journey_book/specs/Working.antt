@@ -53,7 +53,7 @@ IsRegionOutcome caps old new name outcome = IsUnread old new name Region outcome
 -- why bytes were not found to spell a valid certificate
 abbrev pub IsUnverified : NetworkLists → List ℕ → BookOutcome → Type 0
 IsUnverified n bytes (BadCertificate line) = cert_of bytes ≡ Err (BadLine line)
-IsUnverified n bytes (Invalid clause at) = (claim : Claim) × IsCertText bytes claim × IsCertVerdict n claim (verdict.Invalid clause at)
+IsUnverified n bytes (Invalid clause at) = (claim : Claim) × IsCertText bytes claim × IsCertVerdict n None claim (verdict.Invalid clause at)
 IsUnverified n bytes OutOfMemory = Unit {0}
 IsUnverified n bytes _ = ⊥
 

@@ -59,7 +59,7 @@ fn check_valid<E: Sink>(
         }
         Err(CertFault::OutOfMemory) => return Err(BookOutcome::OutOfMemory),
     };
-    match verify(alloc, network, &certificate) {
+    match verify(alloc, network, None, &certificate) {
         Ok(CertVerdict::Valid) => Ok(()),
         Ok(CertVerdict::Invalid { clause, at }) => {
             tell(alloc, notes, invalid_certificate(alloc, path, clause, at));

@@ -13,8 +13,6 @@ mod running;
 mod showing;
 pub mod sqlite_keeper;
 mod steps;
-#[cfg(test)]
-mod tests;
 pub mod words;
 
 pub use keeper::{KeepFault, Keeper};

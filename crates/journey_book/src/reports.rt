@@ -94,7 +94,7 @@ fn push_verdict(
 {
     match read(alloc, bytes) {
         Ok(certificate) => {
-            let verdict = verify(alloc, network, &certificate)?;
+            let verdict = verify(alloc, network, None, &certificate)?;
             push_words(verdict, text)
         }
         Err(CertFault::BadLine { line }) => {
