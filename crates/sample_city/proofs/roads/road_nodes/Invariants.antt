@@ -1,0 +1,7 @@
+use Rattle.std.proofs.Common.{◌≡◌, take}
+use Rattle.std.specs.List.{flat_map}
+use Rattle.sample_city.specs.Roads.{nodes_at}
+use Rattle.sample_city.proofs.roads.road_nodes.Given as goal
+
+abbrev pub invariant-loop-at : goal.invariant-loop-at
+invariant-loop-at l = l.nodes.items ≡ flat_map nodes_at (take l.at-index l.corners)

@@ -1,0 +1,6 @@
+use Rattle.std.proofs.Common.{◌≡◌, map}
+use Rattle.sample_city.specs.declared.stops.CityStop.{CityStop}
+use Rattle.sample_city.proofs.stops.names_of.Given as goal
+
+abbrev pub invariant-loop-stop : goal.invariant-loop-stop
+invariant-loop-stop l = l.names.items ≡ map (λ (stop : CityStop). stop.name) l.yielded

@@ -1,0 +1,78 @@
+-- The stops and the switches of the sample city, and their links.
+use Rattle.std.specs.Prelude.{decimal, ℕ, ℤ, pos, ◌+◌, ◌-◌, List, [], ◌∷◌, ◌++◌, length, codes, Bool, ◌&&◌, Option, None, option_to_list, option_and_then, option_map, if◌then◌else◌}
+use Rattle.std.specs.List.{flat_map}
+use Rattle.plain_texts.specs.Names.{name_of}
+use Rattle.plan_base.specs.declared.places.Place.{Place}
+use Rattle.mode_network.specs.declared.nodes.Arc.{Arc}
+use Rattle.mode_network.specs.declared.nodes.Node.{Node}
+use Rattle.mode_network.specs.declared.nodes.NodeKey.TheVariants.{Stop, Switch}
+use Rattle.sample_city.specs.Corners.{corner, corners, is_stop_line, place_at}
+use Rattle.sample_city.specs.Roads.{End}
+use Rattle.sample_city.specs.declared.corners.Corner.{Corner}
+use Rattle.sample_city.specs.declared.stops.CityStop.{CityStop}
+
+-- ---- stops
+
+abbrev pub has_stop : Corner → Bool
+has_stop at = is_stop_line at.row && is_stop_line at.column
+
+-- a letter, a number, an underscore, and another number
+abbrev pub text_of : ℕ → ℕ → ℕ → List ℕ
+text_of letter line other = letter ∷ [] ++ decimal line ++ codes "_" ++ decimal other
+
+abbrev pub stop_in : Option (List ℕ) → Option Place → Corner → Option CityStop
+stop_in name place at = option_and_then (λ name. option_map (λ place. record { name = name; id = at.id; place = place }) place) name
+
+-- byte 83 is S
+abbrev pub stop_at : Corner → Option CityStop
+stop_at at = if has_stop at then stop_in (name_of (text_of 83 at.row at.column)) (place_at at) at else None
+
+abbrev pub city_stops : ℕ → List CityStop
+city_stops n = flat_map (λ at. option_to_list (stop_at at)) (corners n)
+
+-- their nodes, counted from k
+abbrev pub stop_nodes : ℕ → List CityStop → List Node
+stop_nodes k [] = []
+stop_nodes k (stop ∷ stops) = record { key = Stop k; place = stop.place } ∷ stop_nodes (k + 1) stops
+
+-- ---- switches
+
+abbrev pub switch_in : Option Place → ℤ → Option Node
+switch_in place id = option_map (λ place. record { key = Switch id; place = place }) place
+
+abbrev pub first_corner : ℕ → Corner
+first_corner n = corner n 0 0
+
+abbrev pub last_corner : ℕ → Corner
+last_corner n = corner n (n - 1) (n - 1)
+
+-- bicycles are hired at the first corner, and parked at the last
+abbrev pub city_switches : ℕ → List Node
+city_switches n = option_to_list (switch_in (place_at (first_corner n)) (pos 1000000)) ++ option_to_list (switch_in (place_at (last_corner n)) (pos 1000001))
+
+-- ---- links
+
+-- from a road node to the place of this number, and from there to it, where there is such a road node
+abbrev pub link_into : ℕ → ℕ → Option ℕ → List Arc
+link_into ms place road = option_to_list (option_map (λ road. record { from = road; to = place; ms = ms }) road)
+
+abbrev pub link_out : ℕ → ℕ → Option ℕ → List Arc
+link_out ms place road = option_to_list (option_map (λ road. record { from = place; to = road; ms = ms }) road)
+
+abbrev pub link_both : ℕ → ℕ → Option ℕ → List Arc
+link_both ms place road = link_into ms place road ++ link_out ms place road
+
+-- each stop, whose nodes are counted from k, with walkers
+abbrev pub stop_links : (End → Option ℕ) → ℕ → List CityStop → List Arc
+stop_links number k [] = []
+stop_links number k (stop ∷ stops) = link_both 60000 k (number (pos stop.id, 0)) ++ stop_links number (k + 1) stops
+
+-- Of the switches k and k + 1, the first with walkers and bikes; the last may be reached by bike, and left on foot.
+abbrev pub switch_links : ℕ → (End → Option ℕ) → ℕ → List Arc
+switch_links n number k =
+    link_both 30000 k (number (pos (first_corner n).id, 0)) ++ link_both 30000 k (number (pos (first_corner n).id, 1))
+    ++ link_into 30000 (k + 1) (number (pos (last_corner n).id, 1)) ++ link_out 30000 (k + 1) (number (pos (last_corner n).id, 0))
+
+-- the stops stand behind so many road nodes, and the switches behind the stops
+abbrev pub city_links : ℕ → (End → Option ℕ) → ℕ → List CityStop → List Arc
+city_links n number roads stops = stop_links number roads stops ++ switch_links n number (roads + length stops)

@@ -1,0 +1,87 @@
+//! The sample city, a network to try a planner on.
+
+ghost use Rattle.std.specs.Prelude.{◌≡◌, ◌<◌, ◌≤◌, ◌^◌, None, IfErr, IfOk, OnOk};
+ghost use Rattle.service_days.specs.Days.{plain_days};
+ghost use Rattle.mode_network.specs.Rules.{AreParts, first_fault};
+ghost use Rattle.sample_city.specs.SampleCity.{IsRefusal, IsSampleCity};
+
+use crate::corners::{all_corners, stop_lines};
+use crate::roads::{road_nodes, road_numbers};
+use crate::stops::{city_links, city_stops, city_switches, names_of, stop_nodes};
+use crate::streets::city_arcs;
+use crate::trips::city_trips;
+use mode_network::{NetFault, Network, Parts};
+use plan_base::Caps;
+use service_days::Days;
+use std::alloc::{AllocError, Global};
+
+/// More than 2^31 things are never held.
+fn are_few(count: usize) -> Result<(), AllocError>
+    ensures { OnOk result (count < 2 ^ 31) }
+{
+    if count >= 0x8000_0000 {
+        return Err(AllocError);
+    }
+    Ok(())
+}
+
+fn ten_days(alloc: Global) -> Result<Days, AllocError>
+    ensures { IfOk result (λ days. days ≡ plain_days 20240304 3) }
+{
+    match Days::new(alloc, 20_240_304, 3) {
+        Ok(days) => Ok(days),
+        Err(_) => Err(AllocError),
+    }
+}
+
+fn parts_of(alloc: Global, n: u32) -> Result<Parts, AllocError>
+    requires some { 1 ≤ n }
+    requires size { n ≤ 300 }
+    ensures city { IfOk result (IsSampleCity n) }
+    ensures parts { IfOk result AreParts }
+{
+    let all = all_corners(alloc, n)?;
+    let corners = all.as_slice();
+    let roads = road_nodes(alloc, corners)?;
+    let city = city_stops(alloc, corners)?;
+    are_few(roads.len())?;
+    are_few(city.len())?;
+    let numbers = road_numbers(alloc, &roads)?;
+    let arcs = city_arcs(alloc, &numbers, n, corners)?;
+    let links = city_links(alloc, &numbers, n, roads.len() as u32, &city)?;
+    let lines = stop_lines(alloc, n)?;
+    let trips = city_trips(alloc, &city, n, &lines)?;
+    let stops = stop_nodes(alloc, &city)?;
+    let switches = city_switches(alloc, n)?;
+    let days = ten_days(alloc)?;
+    let stop_names = names_of(alloc, city)?;
+    Ok(Parts {
+        days,
+        roads,
+        stop_names,
+        stops,
+        switches,
+        arcs,
+        links,
+        trips,
+    })
+}
+
+/// The sample city of `n` rows and `n` columns of corners, `n` from 1 to 300.
+///
+/// Walkers and cyclists may use every street, and cars each third row and column. Buses go along the rows, and trams along
+/// the columns, that have stops, which stand at every ninth corner; bicycles are hired at the first corner, and may be left
+/// at the last. Within [`Caps::FULL`] it fails only where memory runs out.
+pub fn sample(alloc: Global, n: u32, caps: &Caps) -> Result<Network, NetFault>
+    requires some { 1 ≤ n }
+    requires size { n ≤ 300 }
+    ensures city { IfOk result (IsSampleCity n) }
+    ensures faultless { IfOk result (λ network. first_fault caps.now network ≡ None) }
+    ensures fault { IfErr result (IsRefusal n caps.now) }
+{
+    let parts = parts_of(alloc, n)?;
+    match Network::build(alloc, parts, caps) {
+        Ok(network) => Ok(network),
+        Err(fault) => Err(fault),
+    }
+}

@@ -1,0 +1,118 @@
+//! The road nodes of the sample city, and their numbers.
+
+ghost use Rattle.std.specs.Prelude.{◌≡◌, ◌+◌, ◌<◌, ◌^◌, ◌++◌, length, option_to_list, IfOk, OnOk};
+ghost use Rattle.std.specs.HashMap.{get};
+ghost use Rattle.std.specs.List.{flat_map};
+ghost use Rattle.sample_city.specs.Roads as spec;
+ghost use Rattle.sample_city.specs.Numbers.{number_with};
+
+use crate::corners::{Corner, has_cars, place_at};
+use mode_network::{Node, NodeKey};
+use plan_base::Place;
+use std::alloc::{AllocError, Global};
+use std::collections::HashMap;
+
+/// Puts a node to the others, if there is one.
+pub(crate) fn push_node(nodes: &mut Vec<Node>, node: Option<Node>) -> Result<(), AllocError>
+    ensures { OnOk result (nodes.new.items ≡ nodes.old.items ++ option_to_list node) }
+{
+    if let Some(node) = node {
+        nodes.push(node)?;
+    }
+    Ok(())
+}
+
+fn node_in(place: Option<Place>, at: Corner, mode: u8) -> Option<Node>
+    ensures { result ≡ spec.node_in place at mode }
+{
+    let place = place?;
+    Some(Node {
+        key: NodeKey::Road(mode, i64::from(at.id)),
+        place,
+    })
+}
+
+fn push_nodes(nodes: &mut Vec<Node>, at: Corner) -> Result<(), AllocError>
+    ensures { OnOk result (nodes.new.items ≡ nodes.old.items ++ spec.nodes_at at) }
+{
+    let place = place_at(at);
+    push_node(nodes, node_in(place, at, 0))?;
+    push_node(nodes, node_in(place, at, 1))?;
+    if has_cars(at) {
+        push_node(nodes, node_in(place, at, 2))?;
+    }
+    Ok(())
+}
+
+/// The road nodes of all corners.
+pub(crate) fn road_nodes(alloc: Global, corners: &[Corner]) -> Result<Vec<Node>, AllocError>
+    ensures { IfOk result (λ nodes. nodes.items ≡ flat_map spec.nodes_at corners.now) }
+{
+    let mut nodes = Vec::new(alloc);
+    for at in corners {
+        push_nodes(&mut nodes, *at)?;
+    }
+    Ok(nodes)
+}
+
+/// The numbers of road nodes, by their OSM ids and modes.
+#[derive(Drop)]
+pub(crate) struct RoadNumbers {
+    pub(crate) by_end: HashMap<(i64, u8), u32>,
+}
+
+// Notes the number of an end, unless it has one.
+fn note(by_end: &mut HashMap<(i64, u8), u32>, key: (i64, u8), number: u32) -> Result<(), AllocError>
+    ensures { OnOk result ((end : spec.End) → get spec.is_end by_end.new end ≡ number_with (get spec.is_end by_end.old end) (spec.is_end key end) number) }
+{
+    if by_end.contains_key(&key) {
+        return Ok(());
+    }
+    by_end.insert(key, number)?;
+    Ok(())
+}
+
+// Notes the number of a road node, unless it has one.
+fn note_node(
+    by_end: &mut HashMap<(i64, u8), u32>,
+    key: NodeKey,
+    number: u32,
+) -> Result<(), AllocError>
+    ensures { OnOk result ((end : spec.End) → get spec.is_end by_end.new end ≡ number_with (get spec.is_end by_end.old end) (spec.is_key_of end key) number) }
+{
+    match key {
+        NodeKey::Road(mode, id) => note(by_end, (id, mode), number),
+        NodeKey::Stop(_) => Ok(()),
+        NodeKey::Switch(_) => Ok(()),
+    }
+}
+
+/// The numbers of these road nodes.
+pub(crate) fn road_numbers(alloc: Global, nodes: &[Node]) -> Result<RoadNumbers, AllocError>
+    requires { length nodes.now < 2 ^ 32 }
+    ensures { IfOk result (λ numbers. get spec.is_end numbers.by_end ≡ spec.road_number nodes.now) }
+{
+    let mut by_end = HashMap::new(alloc);
+    let mut number = 0;
+    let mut rest = nodes;
+    while let [node, after @ ..] = rest {
+        note_node(&mut by_end, node.key, number)?;
+        number += 1;
+        rest = after;
+    }
+    Ok(RoadNumbers { by_end })
+}
+
+impl RoadNumbers {
+    ghost use Rattle.std.specs.Prelude.{◌≡◌, ◌<◌, ◌^◌, pos};
+    ghost use Rattle.std.specs.HashMap.{get};
+    ghost use Rattle.sample_city.specs.Roads.{is_end};
+
+    /// The number of a road node; `None` exactly where none is noted.
+    pub(crate) fn of(&self, id: u64, mode: u8) -> Option<u32>
+        requires { id < 2 ^ 33 }
+        ensures { result ≡ get is_end self.now.by_end (pos id, mode) }
+    {
+        self.by_end.get(&(id as i64, mode)).copied()
+    }
+}
