@@ -24,19 +24,21 @@ pub fn days(alloc: Global, script: &Script, words: &[u8]) -> Result<String, Allo
 
 /// `day FIRST COUNT RULE DATE`: the number of a date among days.
 pub fn day(alloc: Global, script: &Script, words: &[u8]) -> Result<String, AllocError> {
-    match days_of(alloc, script, words) {
-        (Ok(days), date) => {
+    let (days, date) = days_of(alloc, script, words);
+    match days {
+        Ok(days) => {
             let day = days.day_of(words::node(date));
             format!(in alloc; "{day:?}")
         }
-        (Err(fault), _) => format!(in alloc; "{fault:?}"),
+        Err(fault) => format!(in alloc; "{fault:?}"),
     }
 }
 
 /// `clock FIRST COUNT RULE MS`: how a time is printed, and as what that is read again.
 pub fn clock(alloc: Global, script: &Script, words: &[u8]) -> Result<String, AllocError> {
-    match days_of(alloc, script, words) {
-        (Ok(days), time) => {
+    let (days, time) = days_of(alloc, script, words);
+    match days {
+        Ok(days) => {
             let time = if time == b"last".as_slice() {
                 u128::MAX
             } else {
@@ -46,26 +48,28 @@ pub fn clock(alloc: Global, script: &Script, words: &[u8]) -> Result<String, All
             let read = days.read_clock(text.as_bytes());
             format!(in alloc; "{text}, read as {read:?}")
         }
-        (Err(fault), _) => format!(in alloc; "{fault:?}"),
+        Err(fault) => format!(in alloc; "{fault:?}"),
     }
 }
 
 /// `moment FIRST COUNT RULE TEXT`: the time that the text of this name spells.
 pub fn moment(alloc: Global, script: &Script, words: &[u8]) -> Result<String, AllocError> {
-    match days_of(alloc, script, words) {
-        (Ok(days), name) => {
+    let (days, name) = days_of(alloc, script, words);
+    match days {
+        Ok(days) => {
             let read = days.read_clock(script.text(name));
             format!(in alloc; "{read:?}")
         }
-        (Err(fault), _) => format!(in alloc; "{fault:?}"),
+        Err(fault) => format!(in alloc; "{fault:?}"),
     }
 }
 
 /// `service FIRST COUNT RULE WEEKDAYS FROM TO ADDED REMOVED`: the days of a service. WEEKDAYS is seven digits, Monday first, or
 /// `-` for no rule; ADDED and REMOVED are dates that commas part.
 pub fn service(alloc: Global, script: &Script, words: &[u8]) -> Result<String, AllocError> {
-    match days_of(alloc, script, words) {
-        (Ok(days), rest) => {
+    let (days, rest) = days_of(alloc, script, words);
+    match days {
+        Ok(days) => {
             let (weekdays, rest) = words::cut(rest);
             let (from, rest) = words::cut(rest);
             let (to, rest) = words::cut(rest);
@@ -76,7 +80,7 @@ pub fn service(alloc: Global, script: &Script, words: &[u8]) -> Result<String, A
             let set = days.days_of(rule, &added, &removed).0;
             format!(in alloc; "{set:b}")
         }
-        (Err(fault), _) => format!(in alloc; "{fault:?}"),
+        Err(fault) => format!(in alloc; "{fault:?}"),
     }
 }
 
