@@ -9,8 +9,6 @@ mod gaps;
 mod grid;
 mod lengths;
 mod search;
-#[cfg(test)]
-mod tests;
 mod tree;
 mod widths;
 

@@ -13,8 +13,6 @@ pub mod parts;
 mod points;
 mod rules;
 pub mod steps;
-#[cfg(test)]
-mod tests;
 
 pub use endpoints::{Bytes, Endpoint};
 pub use faults::NetFault;

@@ -35,6 +35,3 @@ mod tags;
 pub use feeding::Opl;
 pub use lists::Items;
 pub use objects::{Amenity, Bytes, Objects, OplFault, OsmNode, OsmWay};
-
-#[cfg(test)]
-mod tests;

@@ -2,7 +2,5 @@
 #![tactic(auto)]
 
 pub mod plain;
-#[cfg(test)]
-mod tests;
 
 pub use plain::{Plain, PlainArc};

@@ -71,26 +71,3 @@ pub fn escape_facts()
     ensures name { (id : List ℕ) → 0 < length id → length id < 2 ^ 30 → is_name (spec.escaped id) ≡ true }
     ensures length { (id : List ℕ) → length (spec.escaped id) ≤ 4 * length id }
 {}
-
-#[cfg(test)]
-mod tests {
-    use super::*;
-    use std::test::Fail;
-
-    const NAMES: &[(&[u8], &[u8])] = &[
-        (b"Main St", b"Main%20%St"),
-        (b"5%", b"5%25%"),
-        (b"\x00\n\x7f", b"%0%%a%%7f%"),
-        (b"B\xc3\xbc!", b"B\xc3\xbc!"),
-    ];
-
-    #[test]
-    fn ids_have_names(rt: HostRuntime) -> Result<(), Fail> {
-        for (id, name) in NAMES {
-            assert!(rt; !id.is_empty() && id.len() < 1 << 30);
-            let is = name_of_id(rt.alloc(), id)?;
-            assert_eq!(rt; is.as_bytes(), *name);
-        }
-        Ok(())
-    }
-}

@@ -22,6 +22,3 @@ pub use numbers::{
     push_decimal, push_signed, read_id, read_number, read_short_number, read_signed,
 };
 pub use words::{split_word, words_into, words_of};
-
-#[cfg(test)]
-mod tests;

@@ -12,8 +12,6 @@ pub mod memory_ends;
 pub mod places;
 pub mod reading;
 pub mod system_ends;
-#[cfg(test)]
-mod tests;
 pub mod writing;
 
 pub use days::DaySet;

@@ -8,4 +8,3 @@ pub mod MoveTables
 pub mod Exploring
 pub mod Searching
 pub mod Trail
-pub mod Towns

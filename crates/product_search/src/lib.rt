@@ -18,8 +18,6 @@ mod searching;
 mod settling;
 mod start;
 mod start_check;
-#[cfg(test)]
-mod tests;
 mod verdict;
 mod workspace;
 

@@ -15,10 +15,6 @@ mod tags;
 
 use legs::legs_of_ways;
 use opl_reader::Objects;
-
-#[cfg(test)]
-mod tests;
-
 pub use places::{Places, place_of, places_of};
 pub use rows::RoadRow;
 use rows::arcs_of;

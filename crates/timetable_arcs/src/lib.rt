@@ -17,6 +17,3 @@ pub use plan_base::DaySet;
 pub use rides::{Board, Ride};
 pub use timetable::Timetable;
 pub use trips::{Call, Instance, Trip};
-
-#[cfg(test)]
-mod tests;

@@ -4,8 +4,6 @@
 mod graph_walk;
 mod phase_walk;
 mod plain_walk;
-#[cfg(test)]
-mod tests;
 
 pub use graph_walk::from_graph;
 pub use phase_walk::from_phases;
