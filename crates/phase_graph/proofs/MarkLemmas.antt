@@ -1,11 +1,8 @@
 -- How marks are set, and that the marked nodes are all from which a chain of entries leads down to a target.
-use Rattle.std.proofs.Common.{◌≡◌, ℕ, ◌+◌, ◌<◌, ◌≤◌, ◌⊎◌, inl, inr, ◌∙◌, nat_eq, nat_lt, cond, Some, Ordering, Bool, true, false, not, List, [], ◌∷◌, ◌++◌, length, set, get_or, refl, ap, arith, sym, subst}
-use Rattle.std.specs.Prelude.{All, Contains, IsPermutation, IsSorted}
-use Rattle.std.specs.Ordering.{is_lt, nat_cmp, ordering_then}
-use Rattle.std.specs.Cmp.{IsTotalOrder}
-use Rattle.std.proofs.lemmas.Bool.Decides.{nat_tests}
-use Rattle.std.proofs.lemmas.Cmp.{then_total, on_total, nat_cmp_total}
-use Rattle.std.proofs.lemmas.List.Sorted.{sorted_far, ranks_by, All-permutation, Contains-permutation}
+use Rattle.std.proofs.Common.{◌≡◌, ℕ, ◌+◌, ◌<◌, ◌≤◌, ◌⊎◌, inl, inr, ◌∙◌, nat_eq, nat_lt, cond, Some, Bool, true, false, not, List, [], ◌∷◌, ◌++◌, length, set, get_or, refl, ap, arith, sym, subst}
+use Rattle.std.specs.Prelude.{All, Contains, IsPermutation}
+use Rattle.std.specs.List.Sorted.{IsNonDecreasingBy}
+use Rattle.std.proofs.lemmas.List.Sorted.{All-permutation, Contains-permutation}
 use Rattle.std.proofs.lemmas.Bool.{eqb-true, eqb-false, ltb-true, ltb-false}
 use Rattle.std.proofs.lemmas.List.{length_push, get_or_push, get_or_append_left, get_or_default, get_or-set_other, length-set}
 use Rattle.std.proofs.lemmas.List.Elements.{Contains-append_left, Contains-append_right, All-contains}
@@ -20,17 +17,8 @@ use Rattle.hierarchy.specs.Lookups.{AreInto}
 use Rattle.hierarchy.proofs.HeightLemmas.{height_past, height_most}
 use Rattle.phase_graph.specs.declared.falls.Fall.{Fall}
 use Rattle.phase_graph.specs.Moves.{IsMarked}
-use Rattle.phase_graph.specs.Falls.{IsFallOf, AreFalls}
+use Rattle.phase_graph.specs.Falls.{IsFallOf, AreFalls, fall_from}
 use Rattle.phase_graph.specs.Marking.{AreMarks, IsMarking, Extends, HoldsAll, AreOldOr, IsFollowedAt, IsFollowed}
-
-abbrev pub fall_cmp : Fall → Fall → Ordering
-fall_cmp a b = ordering_then (nat_cmp a.from b.from) (nat_cmp a.place b.place)
-
-fall_total : IsTotalOrder fall_cmp
-fall_total = then_total (on_total (λ (x : Fall). x.from) nat_cmp_total) (on_total (λ (x : Fall). x.place) nat_cmp_total)
-
-from_rises : (a b : Fall) → is_lt (fall_cmp b a) ≡ false → a.from ≤ b.from
-from_rises a b h = grind (arith, nat_tests)
 
 -- ---- one mark
 
@@ -208,9 +196,9 @@ followed_all h queue falls x places into n past far k e lt is to above =
 
 -- where all in the list are followed, the falls that were found are all, in whatever order
 pub are_falls : (h : HierarchyLists) (targets queue : List ℕ) (falls sorted : List Fall) → All (IsFallOf h targets) falls → ((x : ℕ) → Contains queue x → IsFollowed h queue falls x)
-    → ((v : ℕ) → Contains targets v → IsContracted h.order v → Contains queue v) → IsPermutation falls sorted → IsSorted fall_cmp sorted → AreFalls h targets sorted
-are_falls h targets queue falls sorted each followed started moved ordered = record {
+    → ((v : ℕ) → Contains targets v → IsContracted h.order v → Contains queue v) → IsPermutation falls sorted → IsNonDecreasingBy fall_from sorted → AreFalls h targets sorted
+are_falls h targets queue falls sorted each followed started moved rises = record {
   each = All-permutation (IsFallOf h targets) falls sorted moved each;
   all = λ k e lt is above marked. Contains-permutation falls sorted (record { from = e.from; place = k }) moved (falls_found h targets queue falls followed started k e lt is above marked);
-  rising = λ i j d le lt. from_rises (get_or sorted i d) (get_or sorted j d) (sorted_far (λ x y. is_lt (fall_cmp x y)) (ranks_by fall_total (λ x. x)) sorted ordered i j d le lt);
+  rising = rises;
 }

@@ -38,7 +38,7 @@ pub(crate) fn falls(
         follow(h, nodes, targets, x, &mut marks, &mut queue, &mut falls)?;
         next += 1;
     }
-    falls.sort()?;
+    falls.sort_unstable_by_key(|fall| fall.from);
     Ok(falls)
 }
 

@@ -1,9 +1,11 @@
-use Rattle.std.proofs.Common.{◌≡◌, ℕ, ◌+◌, ◌<◌, ◌∙◌, nat_eq, Bool, true, false, length, get_or, refl, sym, ap, subst, arith}
+use Rattle.std.proofs.Common.{rules, ◌≡◌, ℕ, ◌+◌, ◌<◌, ◌∙◌, nat_eq, Bool, true, false, length, get_or, refl, sym, ap, subst, arith}
 use Rattle.std.specs.Prelude.{Contains}
 use Rattle.std.proofs.lemmas.Bool.{eqb-true, eqb-false}
 use Rattle.std.proofs.lemmas.List.{get_or_default}
 use Rattle.std.proofs.lemmas.List.Elements.{All-contains}
 use Rattle.hierarchy.specs.Lists.{IsContracted}
+use Rattle.std.proofs.lemmas.List.Sorted.{IsNonDecreasingBy-from_sort_by_key}
+use Rattle.phase_graph.specs.Falls.{fall_from}
 use Rattle.phase_graph.specs.Marking.{IsFollowed}
 use Rattle.phase_graph.proofs.MarkLemmas.{extends_contains, still_followed, are_falls}
 use Rattle.phase_graph.proofs.falls.falls.Goals as goal
@@ -32,9 +34,10 @@ loop-next-preserved c = record {
 
 pub returns : goal.returns
 returns c =
-    are_falls c.args.h.now c.args.targets.now c.loop-next.queue.items c.loop-next.falls.items c.sort.new.self.items c.loop-next.invariant.falls all_followed
+    let rising = IsNonDecreasingBy-from_sort_by_key fall_from _ c.sort_unstable_by_key.ensures.sorted (λ a r q k. search rules) in
+    are_falls c.args.h.now c.args.targets.now c.loop-next.queue.items c.loop-next.falls.items c.sort_unstable_by_key.new.self.items c.loop-next.invariant.falls all_followed
     (λ v there. All-contains (λ u. IsContracted c.args.h.now.order u → Contains c.loop-next.queue.items u) c.args.targets.now v c.loop-next.invariant.started there)
-    c.in_ok-sort.ensures.permutation c.in_ok-sort.ensures.sorted
+    c.sort_unstable_by_key.ensures.permutation rising
   where
     all_followed : (x : ℕ) → Contains c.loop-next.queue.items x → IsFollowed c.args.h.now c.loop-next.queue.items c.loop-next.falls.items x
     all_followed x (i, lt, is) = subst (IsFollowed c.args.h.now c.loop-next.queue.items c.loop-next.falls.items) is (c.loop-next.invariant.followed i x (omega (arith, lt, c.loop-next-test.false, c.len.ensures)))
