@@ -1,4 +1,5 @@
 pub mod PlaceLemmas
+pub mod RowLemmas
 pub mod OrderLemmas
 pub mod EntryLemmas
 pub mod WalkLemmas

@@ -6,6 +6,7 @@ ghost use Rattle.mode_network.specs.Journeys.{Leads};
 ghost use Rattle.hierarchy.specs.FirstBroken.{FailsFirst};
 ghost use Rattle.hierarchy_check.specs.Light.{IsLight, IsSumOver, IsModeOfBoth};
 
+use crate::rows::entry_from;
 use hierarchy::{Entry, Hierarchy};
 use mode_network::{Arc, Network};
 
@@ -72,7 +73,7 @@ pub(crate) fn has_lighter(h: &Hierarchy, u: u32, v: u32, limit: u64) -> bool
     ensures { IsTrue result ↔ HasLighter h.now.entries u v limit }
 {
     h.known();
-    match h.entry(u, v) {
+    match entry_from(h, u, v) {
         Some(entry) => entry.weight <= limit,
         None => false,
     }
@@ -131,8 +132,8 @@ fn is_sum_over(h: &Hierarchy, u: u32, m: u32, v: u32, weight: u64) -> bool
     ensures { IsTrue result ↔ IsSumOver h.now.entries u m v weight }
 {
     h.known();
-    match h.entry(u, m) {
-        Some(first) => match h.entry(m, v) {
+    match entry_from(h, u, m) {
+        Some(first) => match entry_from(h, m, v) {
             Some(second) => first.weight + second.weight == weight,
             None => false,
         },

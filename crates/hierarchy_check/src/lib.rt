@@ -5,6 +5,7 @@ mod bridges;
 mod checking;
 mod entries;
 mod order;
+mod rows;
 mod witnesses;
 
 pub use checking::check;

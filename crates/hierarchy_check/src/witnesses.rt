@@ -4,6 +4,7 @@ ghost use Rattle.std.specs.Prelude.{◌≡◌, ◌-◌, ◌<◌, ◌≤◌, ◌�
 ghost use Rattle.hierarchy.specs.Soundness.{HasWitness};
 ghost use Rattle.hierarchy_check.specs.Light.{CanStep, CanWalk};
 
+use crate::rows::entry_from;
 use hierarchy::Hierarchy;
 
 /// Whether a witness that is listed for `x` leads from `u` to `v` and weighs at most the limit.
@@ -47,7 +48,7 @@ fn after_step(h: &Hierarchy, x: u32, u: u32, y: u32, have: u64) -> Option<u64>
     if !h.above(y, x) {
         return None;
     }
-    match h.entry(u, y) {
+    match entry_from(h, u, y) {
         Some(entry) => rest_of(have, entry.weight),
         None => None,
     }
