@@ -23,6 +23,6 @@ mod workspace;
 
 pub use checking::check_labels;
 pub use label::{Best, Found, Hop, Label, Walk};
-pub use searching::{search, search_best_with};
+pub use searching::{search, search_best_with, search_with};
 pub use verdict::LabelVerdict;
 pub use workspace::Workspace;

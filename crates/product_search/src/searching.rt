@@ -47,9 +47,48 @@ pub fn search<G: Graph, L: Labels>(
         f.arrival f.labels.items) }
     ensures times { IfOk result (IsInTime dep) }
 {
+    let mut workspace = Workspace::new(alloc);
+    let found = search_with(
+        alloc,
+        &mut workspace,
+        graph,
+        labels,
+        starts,
+        targets,
+        dep,
+        bound,
+    )?;
+    Ok(found)
+}
+
+/// The same, with a list and a table that are kept for the next search. Where a search fails, the next one makes new ones.
+pub fn search_with<G: Graph, L: Labels>(
+    alloc: Global,
+    workspace: &mut Workspace,
+    graph: &G,
+    labels: &L,
+    starts: &[u32],
+    targets: &[u32],
+    dep: Time,
+    bound: Option<Time>,
+) -> Result<Found, AllocError>
+    requires starts { All (λ v. v < (G.meaning graph.now).nodes) starts.now }
+    requires targets { All (λ v. v < (G.meaning graph.now).nodes) targets.now }
+    requires dep { dep < 2 ^ 64 }
+    requires bound { IsWithin bound dep }
+    ensures arrival { IfOk result (λ f. IsArrival (G.meaning graph.now) (L.automaton labels.now) starts.now targets.now dep
+        bound f.arrival) }
+    ensures walk { IfOk result (λ f. IsWalkFor (G.meaning graph.now) (L.automaton labels.now) starts.now targets.now dep
+        f.arrival f.walk) }
+    ensures labels { IfOk result (λ f. AreLeastLabels (G.meaning graph.now) (L.automaton labels.now) starts.now dep
+        bound f.arrival f.labels.items) }
+    ensures closed { bound ≡ None → IfOk result (λ f. IsClosed (G.meaning graph.now) (L.automaton labels.now) starts.now targets.now dep
+        f.arrival f.labels.items) }
+    ensures times { IfOk result (IsInTime dep) }
+{
     let explored = settle_all(
         alloc,
-        Workspace::new(alloc),
+        workspace.take(alloc),
         graph,
         labels,
         starts,
@@ -58,21 +97,29 @@ pub fn search<G: Graph, L: Labels>(
         bound,
     )?;
     match explored.end {
-        None => Ok(Found {
-            arrival: None,
-            labels: list_labels(alloc, &explored.frontier, None)?,
-            walk: None,
-        }),
-        Some(end) => Ok(Found {
-            arrival: Some(end.at),
-            labels: list_labels(alloc, &explored.frontier, Some(end.at))?,
-            walk: Some(retrace(alloc, &explored.frontier, end)?),
-        }),
+        None => {
+            let labels = list_labels(alloc, &explored.frontier, None)?;
+            workspace.put(explored.frontier);
+            Ok(Found {
+                arrival: None,
+                labels,
+                walk: None,
+            })
+        }
+        Some(end) => {
+            let labels = list_labels(alloc, &explored.frontier, Some(end.at))?;
+            let walk = retrace(alloc, &explored.frontier, end)?;
+            workspace.put(explored.frontier);
+            Ok(Found {
+                arrival: Some(end.at),
+                labels,
+                walk: Some(walk),
+            })
+        }
     }
 }
 
-/// The same without the labels, with a table that is kept for the next search. Where a search fails, the next one makes
-/// a new table.
+/// The same as [`search_with`] without the labels.
 pub fn search_best_with<G: Graph, L: Labels>(
     alloc: Global,
     workspace: &mut Workspace,
