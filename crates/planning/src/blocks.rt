@@ -39,7 +39,7 @@ fn body(
 }
 
 /// The right block of a query line, and how many labels the search for it had, if it was over a hierarchy, which is sound
-/// for the network. A search without a hierarchy uses the workspace, and counts no labels.
+/// for the network. The search uses the workspace.
 pub fn block_of(
     alloc: Global,
     workspace: &mut Workspace,

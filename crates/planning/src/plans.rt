@@ -15,7 +15,7 @@ use journey::{Query, copies};
 use mode_network::{Journey, Network};
 use phase_graph::{GraphInUse, ends_in, starts_in};
 use plan_base::Time;
-use product_search::{Best, Found, Label, Walk, Workspace, search, search_best_with};
+use product_search::{Best, Found, Label, Walk, Workspace, search_best_with, search_with};
 use std::alloc::{AllocError, Global};
 use unpack::from_graph;
 
@@ -70,7 +70,7 @@ pub fn plan(
 }
 
 /// A best journey for a query, or none exactly where no journey answers it. Over a hierarchy, which is sound for the
-/// network, it also counts the labels of the search; without one the search uses the workspace, and counts none.
+/// network, it also counts the labels of the search; without one it counts none. The search uses the workspace.
 pub fn find_best(
     alloc: Global,
     workspace: &mut Workspace,
@@ -92,7 +92,9 @@ pub fn find_best(
             })
         }
         Some(_) => {
-            let FoundPlan { best, labels } = find_plan(alloc, network, hierarchy, query)?;
+            let FoundPlan { best, labels } = find_plan_with(
+                alloc, workspace, network, hierarchy, query,
+            )?;
             let journey = journey_of(best);
             Ok(BestPlan {
                 journey,
@@ -153,10 +155,30 @@ pub fn find_plan(
     ensures labels { IfOk result (λ found. AreTheLabels network.now (option_map (λ h. h.now) hierarchy.entry) (asked_by query.now) found.labels.items) }
     ensures certifiable { IfOk result (λ found. IsCertifiable network.now (option_map (λ h. h.now) hierarchy.entry) query.now found.best found.labels.items) }
 {
+    let mut workspace = Workspace::new(alloc);
+    let found = find_plan_with(alloc, &mut workspace, network, hierarchy, query)?;
+    Ok(found)
+}
+
+/// The same. The search uses the workspace.
+fn find_plan_with(
+    alloc: Global,
+    workspace: &mut Workspace,
+    network: &Network,
+    hierarchy: Option<&Hierarchy>,
+    query: &Query,
+) -> Result<FoundPlan, AllocError>
+    requires sound { IfSome hierarchy (λ h. IsSound network.now h.now) }
+    requires read { IsRead network.now query.now }
+    ensures journey { IfOk result (λ found. IsPlan network.now (asked_by query.now) (route_of found.best)) }
+    ensures labels { IfOk result (λ found. AreTheLabels network.now (option_map (λ h. h.now) hierarchy.entry) (asked_by query.now) found.labels.items) }
+    ensures certifiable { IfOk result (λ found. IsCertifiable network.now (option_map (λ h. h.now) hierarchy.entry) query.now found.best found.labels.items) }
+{
     network.known();
     let searched = prepared(alloc, network, hierarchy, query)?;
-    let found = search(
+    let found = search_with(
         alloc,
+        workspace,
         &searched.graph,
         &searched.automaton,
         &searched.starts,
