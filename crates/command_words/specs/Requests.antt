@@ -19,6 +19,7 @@ pub data Request : Type 0 where
   certify : (region query : List ℕ) (hierarchy : Option (List ℕ)) → Request
   verify : (region certificate : List ℕ) (hierarchy : Option (List ℕ)) → Request
   check : (region hierarchy : List ℕ) → Request
+  sample : (size : ℕ) → Request
   latest : (region queries : List ℕ) → Request
   certify_latest : (region query : List ℕ) → Request
   verify_latest : (region certificate : List ℕ) → Request
@@ -33,6 +34,7 @@ request_of (command.Answer region queries hierarchy) = answer region.now queries
 request_of (command.Certify region query hierarchy) = certify region.now query.now (option_map (λ h. h.now) hierarchy)
 request_of (command.Verify region certificate hierarchy) = verify region.now certificate.now (option_map (λ h. h.now) hierarchy)
 request_of (command.Check region hierarchy) = check region.now hierarchy.now
+request_of (command.Sample size) = sample size
 request_of (command.Latest region queries) = latest region.now queries.now
 request_of (command.CertifyLatest region query) = certify_latest region.now query.now
 request_of (command.VerifyLatest region certificate) = verify_latest region.now certificate.now
@@ -104,6 +106,10 @@ kept_at (region ∷ option ∷ []) = None
 kept_at (region ∷ option ∷ value ∷ []) = if bytes_eq option (codes "--keep") then option_map (λ keep. (region, keep)) (keep_of value) else None
 kept_at (region ∷ option ∷ value ∷ next ∷ more) = None
 
+-- the size of a sample city: a number from 1 to 300
+abbrev pub size_of : List ℕ → Option ℕ
+size_of word = option_and_then (λ size. if nat_le 1 size && nat_le size 300 then Some size else None) (number_of word)
+
 -- the file of a hierarchy, where an option says it
 abbrev pub hierarchy_of : List (List ℕ) → Option (Option (List ℕ))
 hierarchy_of [] = Some None
@@ -126,6 +132,7 @@ IsPlainForm words (answer region queries hierarchy) = (given : List (List ℕ)) 
 IsPlainForm words (certify region query hierarchy) = (given : List (List ℕ)) × AreWords words (codes "certify") given × (two_over given ≡ Some (region, query, hierarchy))
 IsPlainForm words (verify region certificate hierarchy) = (given : List (List ℕ)) × AreWords words (codes "verify") given × (two_over given ≡ Some (region, certificate, hierarchy))
 IsPlainForm words (check region hierarchy) = AreWords words (codes "check") (region ∷ hierarchy ∷ [])
+IsPlainForm words (sample size) = (word : List ℕ) × AreWords words (codes "sample") (word ∷ []) × (size_of word ≡ Some size)
 IsPlainForm words (latest region queries) = AreWords words (codes "latest") (region ∷ queries ∷ [])
 IsPlainForm words (certify_latest region query) = AreWords words (codes "certify-latest") (region ∷ query ∷ [])
 IsPlainForm words (verify_latest region certificate) = AreWords words (codes "verify-latest") (region ∷ certificate ∷ [])

@@ -46,6 +46,10 @@ pub enum Command<'a> {
         region: &'a str,
         hierarchy: &'a str,
     },
+    /// The summary of the sample city with so many rows and columns, 1 to 300.
+    Sample {
+        size: u32,
+    },
     /// The block of each query line of a file, whose date and time are the latest arrival: the latest departure.
     Latest {
         region: &'a str,

@@ -1,7 +1,7 @@
 //! Reading the words of a command line.
 
 ghost use Rattle.std.specs.Prelude.{◌≡◌, option_and_then, ℕ, List, [], ◌∷◌, Err, IfErr, IfOk, None, Some, map, option_map, string_bytes};
-ghost use Rattle.command_words.specs.Requests.{AreRefused, AsksFor, IsPlainForm, Request, compiled_at, date_of, days_and_format, days_of, format_and_zone, format_of, format_or, hierarchy_of, keep_of, kept_at, migrated_at, number_of, request_of, two_over};
+ghost use Rattle.command_words.specs.Requests.{AreRefused, AsksFor, IsPlainForm, Request, compiled_at, date_of, days_and_format, days_of, format_and_zone, format_of, format_or, hierarchy_of, keep_of, kept_at, migrated_at, number_of, request_of, size_of, two_over};
 ghost use Rattle.command_words.specs.declared.reading.WordsFault.TheVariants.{OutOfMemory, Refused};
 
 use crate::command::Command;
@@ -92,6 +92,10 @@ fn named<'a>(alloc: Global, name: &str, given: &'a [String]) -> Result<Command<'
         "check" => {
             let (region, hierarchy) = two(given)?;
             Ok(Command::Check { region, hierarchy })
+        }
+        "sample" => {
+            let size = sampled(given)?;
+            Ok(Command::Sample { size })
         }
         "latest" => {
             let (region, queries) = two(given)?;
@@ -220,7 +224,7 @@ fn format_and_zone(options: &[String]) -> Option<(Option<&[u8]>, Option<&[u8]>)>
 }
 
 /// The format of this number.
-fn format_of(word: &[u8]) -> Option<Format>
+pub fn format_of(word: &[u8]) -> Option<Format>
     ensures { result ≡ format_of word.now }
 {
     match word {
@@ -299,15 +303,41 @@ fn kept(given: &[String]) -> Option<(&str, u32)>
 }
 
 /// How many nodes are to be kept, as a word says; None exactly where it is no number up to 16,777,216.
-fn read_keep(word: &[u8]) -> Option<u32>
+pub fn read_keep(word: &[u8]) -> Option<u32>
     ensures { result ≡ keep_of word.now }
 {
     let keep = read_number(word)?;
     if keep <= 16_777_216 { Some(keep) } else { None }
 }
 
+/// The size of a sample city, as one word says.
+fn sampled(given: &[String]) -> Result<u32, WordsFault>
+    ensures ok { IfOk result (λ size. (word : List ℕ) × (map string_bytes given.now ≡ word ∷ []) × (size_of word ≡ Some size)) }
+    ensures err { IfErr result (λ fault. (fault ≡ Refused) × ((word : List ℕ) (size : ℕ) → map string_bytes given.now ≡ word ∷ [] → size_of word ≡ Some size → ⊥)) }
+{
+    match given {
+        [word] => match read_size(word.as_bytes()) {
+            Some(size) => Ok(size),
+            None => Err(WordsFault::Refused),
+        },
+        _ => Err(WordsFault::Refused),
+    }
+}
+
+/// The size of a sample city, as a word says; None exactly where it is no number from 1 to 300.
+pub fn read_size(word: &[u8]) -> Option<u32>
+    ensures { result ≡ size_of word.now }
+{
+    let size = read_number(word)?;
+    if (1..=300).contains(&size) {
+        Some(size)
+    } else {
+        None
+    }
+}
+
 /// A number of 1 to 8 digits.
-fn read_number(word: &[u8]) -> Option<u32>
+pub fn read_number(word: &[u8]) -> Option<u32>
     ensures { result ≡ number_of word.now }
 {
     if word.is_empty() || word.len() > 8 {
@@ -317,7 +347,7 @@ fn read_number(word: &[u8]) -> Option<u32>
 }
 
 /// The number that a date of 8 digits is.
-fn read_eight(word: &[u8]) -> Option<u32>
+pub fn read_eight(word: &[u8]) -> Option<u32>
     ensures { result ≡ date_of word.now }
 {
     if word.len() != 8 {

@@ -1,7 +1,7 @@
 use Rattle.std.proofs.Common.{◌≡◌, ◌≤◌, ◌<◌, ◌∙◌, ℕ, List, [], ◌∷◌, String, Global, map, take, drop, ◌-◌, get_or, ap, sym, subst, arith}
 use Rattle.std.specs.Prelude.{IfOk, string_bytes, length}
 use Rattle.std.proofs.lemmas.List.{length-map, take_all}
-use Rattle.command_words.specs.Requests.{Request, compile, migrate, contract, answer, certify, verify, check, latest, certify_latest, verify_latest, few, AreWords, IsPlainForm, request_of}
+use Rattle.command_words.specs.Requests.{Request, compile, migrate, contract, answer, certify, verify, check, sample, latest, certify_latest, verify_latest, few, AreWords, IsPlainForm, request_of}
 use Rattle.command_words.proofs.reading.read_words.Goals as goal
 
 -- the words, cut in three
@@ -29,6 +29,7 @@ two_or_more words (answer region queries hierarchy) (given, are, at) = two_words
 two_or_more words (certify region query hierarchy) (given, are, at) = two_words words _ _ are
 two_or_more words (verify region certificate hierarchy) (given, are, at) = two_words words _ _ are
 two_or_more words (check region hierarchy) are = two_words words _ _ are
+two_or_more words (sample size) (word, are, at) = two_words words _ _ are
 two_or_more words (latest region queries) are = two_words words _ _ are
 two_or_more words (certify_latest region query) are = two_words words _ _ are
 two_or_more words (verify_latest region certificate) are = two_words words _ _ are
