@@ -1,0 +1,127 @@
+//! What people are told whose words ask for no command.
+
+use crate::description::{
+    DATE, DAYS, FIRST, FORMAT, FOURTH, KEEP, KEPT, RULE, SIZE, THIRD, ZONE, modeplan,
+};
+use clap::ArgMatches;
+use clap::error::ErrorKind;
+use command_words::{format_of, read_eight, read_keep, read_number, read_size};
+use service_days::{Days, RangeFault};
+use std::alloc::{AllocError, Global};
+
+/// The version of the program.
+pub const VERSION: &str = "1.0";
+
+/// What people are told whose words ask for no command: help, the version, or which word is wrong and what would be right.
+pub fn help(alloc: Global, words: &[String]) -> Result<String, AllocError> {
+    match words {
+        [] | [_] => return modeplan(alloc)?.render_help(),
+        [_, word] if word.as_str() == "--version" => {
+            return format!(in alloc; "modeplan {VERSION}\n");
+        }
+        _ => {}
+    }
+    match modeplan(alloc)?.try_get_matches_from(words) {
+        Ok(matches) => match matches.subcommand() {
+            Some((command, given)) => wrong_value(alloc, command, given),
+            None => modeplan(alloc)?.render_help(),
+        },
+        Err(error) if error.kind() == ErrorKind::OutOfMemory => Err(AllocError),
+        Err(error) => format!(in alloc; "{error}"),
+    }
+}
+
+/// A value that does not read, with what it is a value of, and what it should be.
+#[derive(Clone, Copy)]
+struct Unread<'a> {
+    value: &'a str,
+    name: &'static str,
+    wanted: &'static str,
+}
+
+/// What is wrong with the words of a command that `clap` takes.
+fn wrong_value(alloc: Global, command: &str, given: &ArgMatches<'_>) -> Result<String, AllocError> {
+    let unread = match command {
+        "compile" => unread_days(alloc, given),
+        "contract" => unread_keep(given),
+        "sample" => unread_size(given),
+        _ => None,
+    };
+    match unread.or(unread_format(given)) {
+        Some(
+            Unread {
+                value,
+                name,
+                wanted,
+            },
+        ) => format!(in alloc;
+            "error: invalid value '{value}' for '{name}'\n\n  {wanted}\n\nFor more information, try 'modeplan {command} --help'.\n"
+        ),
+        None => format!(in alloc;
+            "error: the options stand behind the words of '{command}', in the order of its help, each as its name and its value\n\nFor more information, try 'modeplan {command} --help'.\n"
+        ),
+    }
+}
+
+/// A format that does not read.
+fn unread_format<'a>(given: &ArgMatches<'a>) -> Option<Unread<'a>> {
+    let value = given.get_str(FORMAT)?;
+    match format_of(value.as_bytes()) {
+        Some(_) => None,
+        None => Some(Unread {
+            value,
+            name: "--format <K>",
+            wanted: "1 or 2",
+        }),
+    }
+}
+
+/// A number of nodes to be kept that does not read.
+fn unread_keep<'a>(given: &ArgMatches<'a>) -> Option<Unread<'a>> {
+    let value = given.get_str(KEEP)?;
+    match read_keep(value.as_bytes()) {
+        Some(_) => None,
+        None => Some(Unread {
+            value,
+            name: "--keep <N>",
+            wanted: KEPT,
+        }),
+    }
+}
+
+/// The size of a sample city that does not read.
+fn unread_size<'a>(given: &ArgMatches<'a>) -> Option<Unread<'a>> {
+    let value = given.get_str(FIRST)?;
+    match read_size(value.as_bytes()) {
+        Some(_) => None,
+        None => Some(Unread {
+            value,
+            name: "<N>",
+            wanted: SIZE,
+        }),
+    }
+}
+
+/// A date, a number of days or a zone rule that does not read.
+fn unread_days<'a>(alloc: Global, given: &ArgMatches<'a>) -> Option<Unread<'a>> {
+    let (date, count) = (given.get_str(THIRD)?, given.get_str(FOURTH)?);
+    let fault = match (read_eight(date.as_bytes()), read_number(count.as_bytes())) {
+        (None, _) => RangeFault::BadDate,
+        (_, None) => RangeFault::BadCount,
+        (Some(first), Some(count)) => match given.get_str(ZONE) {
+            Some(rule) => Days::in_zone(alloc, first, count, rule.as_bytes()).err()?,
+            None => Days::new(alloc, first, count).err()?,
+        },
+    };
+    let (value, name, wanted) = match fault {
+        RangeFault::BadDate => (date, "<DATE>", DATE),
+        RangeFault::BadCount => (count, "<DAYS>", DAYS),
+        RangeFault::BadZone => (given.get_str(ZONE)?, "--zone <RULE>", RULE),
+        RangeFault::OutOfMemory => return None,
+    };
+    Some(Unread {
+        value,
+        name,
+        wanted,
+    })
+}
