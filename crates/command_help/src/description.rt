@@ -330,7 +330,8 @@ fn with_latest_commands<'a>(
 pub fn modeplan<'a>(alloc: Global) -> Result<Command<'a>, AllocError> {
     let about =
         "Plans journeys from door to door, by a regular expression over the means of transport";
-    let program = with_region_commands(alloc, named(alloc, "modeplan", about, MORE))?;
+    let program = named(alloc, "modeplan", about, MORE).bin_name("modeplan")?;
+    let program = with_region_commands(alloc, program)?;
     let program = with_earliest_commands(alloc, program)?;
     with_latest_commands(alloc, program)
 }
