@@ -1,5 +1,5 @@
 -- What a command line asks for, and which words ask for it.
-use Rattle.std.specs.Prelude.{◌≡◌, ℕ, ◌&&◌, nat_eq, nat_le, List, [], ◌∷◌, length, codes, Option, Some, None, option_and_then, option_map, if◌then◌else◌}
+use Rattle.std.specs.Prelude.{◌≡◌, ℕ, Bool, true, not, ◌&&◌, nat_eq, nat_le, List, [], ◌∷◌, length, codes, Option, Some, None, option_and_then, option_map, if◌then◌else◌}
 use Rattle.std.specs.Result.{result_ok}
 use Rattle.std.specs.Str.{bytes_eq}
 use Rattle.plain_texts.specs.FixedDecimal.{fixed_at}
@@ -122,21 +122,49 @@ abbrev pub two_over : List (List ℕ) → Option (List ℕ × List ℕ × Option
 two_over (first ∷ second ∷ options) = option_map (λ hierarchy. (first, second, hierarchy)) (hierarchy_of options)
 two_over _ = None
 
--- the words in the plain form: the command's words in their order, and then its options
-abbrev pub IsPlainForm : List (List ℕ) → Request → Type 0
-IsPlainForm words (compile map feed days format) =
+-- the words in order: the command's words, and then its options
+abbrev pub IsInOrder : List (List ℕ) → Request → Type 0
+IsInOrder words (compile map feed days format) =
     (given : List (List ℕ)) × AreWords words (codes "compile") given × (compiled_at given ≡ Some (map, feed, days, format))
-IsPlainForm words (migrate region format) = (given : List (List ℕ)) × AreWords words (codes "migrate") given × (migrated_at given ≡ Some (region, format))
-IsPlainForm words (contract region keep) = (given : List (List ℕ)) × AreWords words (codes "contract") given × (kept_at given ≡ Some (region, keep))
-IsPlainForm words (answer region queries hierarchy) = (given : List (List ℕ)) × AreWords words (codes "answer") given × (two_over given ≡ Some (region, queries, hierarchy))
-IsPlainForm words (certify region query hierarchy) = (given : List (List ℕ)) × AreWords words (codes "certify") given × (two_over given ≡ Some (region, query, hierarchy))
-IsPlainForm words (verify region certificate hierarchy) = (given : List (List ℕ)) × AreWords words (codes "verify") given × (two_over given ≡ Some (region, certificate, hierarchy))
-IsPlainForm words (check region hierarchy) = AreWords words (codes "check") (region ∷ hierarchy ∷ [])
-IsPlainForm words (sample size) = (word : List ℕ) × AreWords words (codes "sample") (word ∷ []) × (size_of word ≡ Some size)
-IsPlainForm words (latest region queries) = AreWords words (codes "latest") (region ∷ queries ∷ [])
-IsPlainForm words (certify_latest region query) = AreWords words (codes "certify-latest") (region ∷ query ∷ [])
-IsPlainForm words (verify_latest region certificate) = AreWords words (codes "verify-latest") (region ∷ certificate ∷ [])
-IsPlainForm words (few region queries) = AreWords words (codes "few") (region ∷ queries ∷ [])
+IsInOrder words (migrate region format) = (given : List (List ℕ)) × AreWords words (codes "migrate") given × (migrated_at given ≡ Some (region, format))
+IsInOrder words (contract region keep) = (given : List (List ℕ)) × AreWords words (codes "contract") given × (kept_at given ≡ Some (region, keep))
+IsInOrder words (answer region queries hierarchy) = (given : List (List ℕ)) × AreWords words (codes "answer") given × (two_over given ≡ Some (region, queries, hierarchy))
+IsInOrder words (certify region query hierarchy) = (given : List (List ℕ)) × AreWords words (codes "certify") given × (two_over given ≡ Some (region, query, hierarchy))
+IsInOrder words (verify region certificate hierarchy) = (given : List (List ℕ)) × AreWords words (codes "verify") given × (two_over given ≡ Some (region, certificate, hierarchy))
+IsInOrder words (check region hierarchy) = AreWords words (codes "check") (region ∷ hierarchy ∷ [])
+IsInOrder words (sample size) = (word : List ℕ) × AreWords words (codes "sample") (word ∷ []) × (size_of word ≡ Some size)
+IsInOrder words (latest region queries) = AreWords words (codes "latest") (region ∷ queries ∷ [])
+IsInOrder words (certify_latest region query) = AreWords words (codes "certify-latest") (region ∷ query ∷ [])
+IsInOrder words (verify_latest region certificate) = AreWords words (codes "verify-latest") (region ∷ certificate ∷ [])
+IsInOrder words (few region queries) = AreWords words (codes "few") (region ∷ queries ∷ [])
+
+-- the word begins with no "-", or is "-" alone
+abbrev pub is_plain : List ℕ → Bool
+is_plain (first ∷ second ∷ more) = not (nat_eq first 45)
+is_plain _ = true
+
+abbrev pub is_plain_or_none : Option (List ℕ) → Bool
+is_plain_or_none None = true
+is_plain_or_none (Some word) = is_plain word
+
+-- the names of files, and query lines, are plain
+abbrev pub has_plain_names : Request → Bool
+has_plain_names (compile map feed days format) = is_plain map && is_plain feed
+has_plain_names (migrate region format) = is_plain region
+has_plain_names (contract region keep) = is_plain region
+has_plain_names (answer region queries hierarchy) = is_plain region && (is_plain queries && is_plain_or_none hierarchy)
+has_plain_names (certify region query hierarchy) = is_plain region && (is_plain query && is_plain_or_none hierarchy)
+has_plain_names (verify region certificate hierarchy) = is_plain region && (is_plain certificate && is_plain_or_none hierarchy)
+has_plain_names (check region hierarchy) = is_plain region && is_plain hierarchy
+has_plain_names (sample size) = true
+has_plain_names (latest region queries) = is_plain region && is_plain queries
+has_plain_names (certify_latest region query) = is_plain region && is_plain query
+has_plain_names (verify_latest region certificate) = is_plain region && is_plain certificate
+has_plain_names (few region queries) = is_plain region && is_plain queries
+
+-- the words in the plain form: in order, and no name of a file or query line among them is taken for an option
+abbrev pub IsPlainForm : List (List ℕ) → Request → Type 0
+IsPlainForm words r = IsInOrder words r × (has_plain_names r ≡ true)
 
 -- the words ask for this
 abbrev pub AsksFor : List (List ℕ) → Request → Type 0

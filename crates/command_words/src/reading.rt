@@ -1,7 +1,7 @@
 //! Reading the words of a command line.
 
 ghost use Rattle.std.specs.Prelude.{◌≡◌, option_and_then, ℕ, List, [], ◌∷◌, Err, IfErr, IfOk, None, Some, map, option_map, string_bytes};
-ghost use Rattle.command_words.specs.Requests.{AreRefused, AsksFor, IsPlainForm, Request, compiled_at, date_of, days_and_format, days_of, format_and_zone, format_of, format_or, hierarchy_of, keep_of, kept_at, migrated_at, number_of, request_of, size_of, two_over};
+ghost use Rattle.command_words.specs.Requests.{AreRefused, AsksFor, IsInOrder, IsPlainForm, Request, compiled_at, date_of, days_and_format, days_of, format_and_zone, format_of, format_or, has_plain_names, hierarchy_of, is_plain, is_plain_or_none, keep_of, kept_at, migrated_at, number_of, request_of, size_of, two_over};
 ghost use Rattle.command_words.specs.declared.reading.WordsFault.TheVariants.{OutOfMemory, Refused};
 
 use crate::command::Command;
@@ -25,6 +25,85 @@ pub fn read_words<'a>(alloc: Global, words: &'a [String]) -> Result<Command<'a>,
     ensures refused { result ≡ Err Refused → AreRefused (map string_bytes words.now) }
     ensures plain { (r : Request) → IsPlainForm (map string_bytes words.now) r → IfOk result (λ command. request_of command ≡ r) × IfErr result (λ fault. fault ≡ OutOfMemory) }
 {
+    let command = in_order(alloc, words)?;
+    if !has_plain_names(&command) {
+        return Err(WordsFault::Refused);
+    }
+    Ok(command)
+}
+
+/// Whether the names of files, and query lines, are plain.
+fn has_plain_names(command: &Command<'_>) -> bool
+    ensures { result ≡ has_plain_names (request_of command.now) }
+{
+    match command {
+        Command::Compile { map, feed, .. } => is_plain(map) && is_plain(feed),
+        Command::Migrate { region, .. } | Command::Contract { region, .. } => is_plain(region),
+        Command::Answer {
+            region,
+            queries: word,
+            hierarchy,
+        }
+        | Command::Certify {
+            region,
+            query: word,
+            hierarchy,
+        }
+        | Command::Verify {
+            region,
+            certificate: word,
+            hierarchy,
+        } => { is_plain(region) && is_plain(word) && is_plain_or_none(*hierarchy) }
+        Command::Check {
+            region,
+            hierarchy: word,
+        }
+        | Command::Latest {
+            region,
+            queries: word,
+        }
+        | Command::CertifyLatest {
+            region,
+            query: word,
+        }
+        | Command::VerifyLatest {
+            region,
+            certificate: word,
+        }
+        | Command::Few {
+            region,
+            queries: word,
+        } => is_plain(region) && is_plain(word),
+        Command::Sample { .. } => true,
+    }
+}
+
+/// Whether a word, if there is one, is plain.
+fn is_plain_or_none(word: Option<&str>) -> bool
+    ensures { result ≡ is_plain_or_none (option_map (λ w. w.now) word.entry) }
+{
+    match word {
+        Some(word) => is_plain(word),
+        None => true,
+    }
+}
+
+/// Whether a word begins with no "-", or is "-" alone.
+fn is_plain(word: &str) -> bool
+    ensures { result ≡ is_plain word.now }
+{
+    match word.as_bytes() {
+        [first, _, ..] => *first != b'-',
+        _ => true,
+    }
+}
+
+/// The command that the words ask for, whose options stand last.
+fn in_order<'a>(alloc: Global, words: &'a [String]) -> Result<Command<'a>, WordsFault>
+    ensures ok { IfOk result (λ command. IsInOrder (map string_bytes words.now) (request_of command)) }
+    ensures refused { result ≡ Err Refused → (r : Request) → IsInOrder (map string_bytes words.now) r → ⊥ }
+    ensures plain { (r : Request) → IsInOrder (map string_bytes words.now) r → IfOk result (λ command. request_of command ≡ r) × IfErr result (λ fault. fault ≡ OutOfMemory) }
+{
     match words {
         [_, name, given @ ..] => named(alloc, name.as_str(), given),
         _ => Err(WordsFault::Refused),
@@ -33,9 +112,9 @@ pub fn read_words<'a>(alloc: Global, words: &'a [String]) -> Result<Command<'a>,
 
 /// The command of this name, with the words behind it.
 fn named<'a>(alloc: Global, name: &str, given: &'a [String]) -> Result<Command<'a>, WordsFault>
-    ensures ok { (program : List ℕ) → IfOk result (λ command. IsPlainForm (program ∷ name.now ∷ map string_bytes given.now) (request_of command)) }
-    ensures refused { result ≡ Err Refused → (program : List ℕ) → AreRefused (program ∷ name.now ∷ map string_bytes given.now) }
-    ensures plain { (program : List ℕ) (r : Request) → IsPlainForm (program ∷ name.now ∷ map string_bytes given.now) r → IfOk result (λ command. request_of command ≡ r) × IfErr result (λ fault. fault ≡ OutOfMemory) }
+    ensures ok { (program : List ℕ) → IfOk result (λ command. IsInOrder (program ∷ name.now ∷ map string_bytes given.now) (request_of command)) }
+    ensures refused { result ≡ Err Refused → (program : List ℕ) (r : Request) → IsInOrder (program ∷ name.now ∷ map string_bytes given.now) r → ⊥ }
+    ensures plain { (program : List ℕ) (r : Request) → IsInOrder (program ∷ name.now ∷ map string_bytes given.now) r → IfOk result (λ command. request_of command ≡ r) × IfErr result (λ fault. fault ≡ OutOfMemory) }
 {
     match name {
         "compile" => {
