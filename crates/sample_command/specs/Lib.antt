@@ -1,0 +1,4 @@
+pub mod Queries
+pub mod Times
+pub mod Texts
+pub mod Summary

@@ -1,0 +1,75 @@
+//! What is counted for the summary.
+
+ghost use Rattle.std.specs.Prelude.{◌≡◌, ◌<◌, ◌^◌, length};
+ghost use Rattle.sample_command.specs.Times as spec;
+
+use mode_network::Network;
+use plan_base::Time;
+
+/// How many stops there are: they stand behind the road nodes.
+pub(crate) fn stop_count(network: &Network) -> u32
+    ensures { result ≡ length network.now.stops }
+{
+    let roads = road_count(network);
+    network.known();
+    let mut v = roads;
+    while v < network.nodes() && network.stop_at(v).is_some() {
+        v += 1;
+    }
+    v - roads
+}
+
+/// How many road nodes there are.
+fn road_count(network: &Network) -> u32
+    ensures { result ≡ length network.now.roads }
+{
+    network.known();
+    let mut v = 0;
+    while v < network.nodes() && network.mode(v).is_some() {
+        v += 1;
+    }
+    v
+}
+
+/// How many queries have a journey.
+pub(crate) fn journeys(times: &[Option<Time>]) -> usize
+    ensures { result ≡ spec.journeys times.now }
+{
+    times.iter().filter(|time| time.is_some()).count()
+}
+
+/// How many queries have none.
+pub(crate) fn without(times: &[Option<Time>]) -> usize
+    ensures { result ≡ spec.without times.now }
+{
+    times.iter().filter(|time| time.is_none()).count()
+}
+
+/// How long all journeys take together, in milliseconds.
+pub(crate) fn total(times: &[Option<Time>]) -> Time
+    requires { spec.total times.now < 2 ^ 128 }
+    ensures { result ≡ spec.total times.now }
+{
+    times.iter().map(|time| time.unwrap_or(0)).sum()
+}
+
+fn is_same(a: Option<Time>, b: Option<Time>) -> bool
+    ensures { result ≡ spec.is_same a b }
+{
+    match (a, b) {
+        (Some(a), Some(b)) => a == b,
+        (None, None) => true,
+        _ => false,
+    }
+}
+
+/// How many queries take as long in both lists.
+pub(crate) fn equal(times: &[Option<Time>], others: &[Option<Time>]) -> usize
+    ensures { result ≡ spec.equal times.now others.now }
+{
+    times
+        .iter()
+        .zip(others.iter())
+        .filter(|(time, other)| is_same(**time, **other))
+        .count()
+}
