@@ -5,10 +5,10 @@ use Rattle.plan_base.specs.Shelves.{ShelfMeaning}
 use Rattle.plan_base.specs.Sinks.{SinkMeaning}
 use Rattle.run_steps.specs.declared.outcome.Outcome.{Outcome}
 use Rattle.run_steps.specs.declared.outcome.Outcome.TheVariants.{Done, Usage, Missing, ReadFault, TooLong, WriteFault, BadRegion, BadFeed, Invalid, BadCertificate, BadHierarchy, Unsound, OutOfMemory}
-use Rattle.run_steps.specs.Sayings.{Writes}
+use Rattle.run_steps.specs.Sayings.{HasWritten, Writes}
 use Rattle.run_steps.proofs.Steps.{rose_over}
 use Rattle.line_blocks.specs.QueryLines.{as_query, without_return, query_lines}
-use Rattle.line_blocks.specs.Blocks.{BlockRule, BeginsBlocks}
+use Rattle.line_blocks.specs.Blocks.{BlockRule, BeginsBlocks, WroteFront}
 use Rattle.line_blocks.specs.Working.{IsBlockOutcome, IsBlocksOutcome}
 use Rattle.line_blocks.proofs.WriteLemmas.{IsWriting, writing_fails, writing_stops}
 
@@ -32,19 +32,22 @@ block_fails IsBlock Counts old mid new text rest line after query sum writing le
 block_fails IsBlock Counts old mid new text rest line after query sum writing le e is (BadHierarchy fault) none = none
 block_fails IsBlock Counts old mid new text rest line after query sum writing le e is (Unsound clause at by) none = none
 
--- the blocks of the query lines were not all written, where what is written whole is no matter
-pub blocks_fail : (old new : ShelfMeaning) (before after : SinkMeaning) (IsBlock : BlockRule) (IsWhole : List ℕ → Type 0) (lines : List (List ℕ)) (outcome : Outcome)
-    → IsBlocksOutcome before after IsBlock lines outcome → Writes IsWhole (BeginsBlocks IsBlock lines) old new before after outcome
-blocks_fail old new before after IsBlock IsWhole lines WriteFault is = is
-blocks_fail old new before after IsBlock IsWhole lines OutOfMemory front = inr front
-blocks_fail old new before after IsBlock IsWhole lines Done none = absurd none
-blocks_fail old new before after IsBlock IsWhole lines Usage none = none
-blocks_fail old new before after IsBlock IsWhole lines (Missing file) none = none
-blocks_fail old new before after IsBlock IsWhole lines (ReadFault file) none = none
-blocks_fail old new before after IsBlock IsWhole lines (TooLong file) none = none
-blocks_fail old new before after IsBlock IsWhole lines (BadRegion fault) none = none
-blocks_fail old new before after IsBlock IsWhole lines (BadFeed fault) none = none
-blocks_fail old new before after IsBlock IsWhole lines (Invalid clause at) none = none
-blocks_fail old new before after IsBlock IsWhole lines (BadCertificate line) none = none
-blocks_fail old new before after IsBlock IsWhole lines (BadHierarchy fault) none = none
-blocks_fail old new before after IsBlock IsWhole lines (Unsound clause at by) none = none
+-- blocks were not all written, where a front of them is one of the whole output
+module _ (IsBlock : BlockRule) (lines : List (List ℕ)) (IsWhole IsFront : List ℕ → Type 0) (begins : (out : List ℕ) → BeginsBlocks IsBlock lines out → IsFront out) where
+  wrote_front : (before after : SinkMeaning) → WroteFront before after IsBlock lines → HasWritten IsFront before after
+  wrote_front before after front = record { out = front.out; is = begins front.out front.is; appended = front.appended }
+
+  pub blocks_fail : (old new : ShelfMeaning) (before after : SinkMeaning) (outcome : Outcome) → IsBlocksOutcome before after IsBlock lines outcome → Writes IsWhole IsFront old new before after outcome
+  blocks_fail old new before after WriteFault (rose, front) = (rose, wrote_front before after front)
+  blocks_fail old new before after OutOfMemory front = inr (wrote_front before after front)
+  blocks_fail old new before after Done none = absurd none
+  blocks_fail old new before after Usage none = none
+  blocks_fail old new before after (Missing file) none = none
+  blocks_fail old new before after (ReadFault file) none = none
+  blocks_fail old new before after (TooLong file) none = none
+  blocks_fail old new before after (BadRegion fault) none = none
+  blocks_fail old new before after (BadFeed fault) none = none
+  blocks_fail old new before after (Invalid clause at) none = none
+  blocks_fail old new before after (BadCertificate line) none = none
+  blocks_fail old new before after (BadHierarchy fault) none = none
+  blocks_fail old new before after (Unsound clause at by) none = none

@@ -15,6 +15,9 @@ use std::alloc::{AllocError, Global};
 
 /// What makes the block of a query line.
 pub trait LineBlocks {
+    /// When it may be asked for blocks.
+    ghost may: { Self → Type 0 } = { λ _. Unit {0} };
+
     /// Which blocks are right for a line.
     ghost is_block: { Self → List ℕ → List ℕ → Type 0 };
 
@@ -28,6 +31,7 @@ pub trait LineBlocks {
         workspace: &mut Workspace,
         line: &[u8],
     ) -> Result<(Vec<u8>, u64), AllocError>
+        requires { may self.now }
         ensures block { IfOk result (λ it. is_block self.now line.now it.0.items) }
         ensures count { IfOk result (λ it. counts self.now line.now it.1) };
 }
@@ -44,6 +48,7 @@ pub fn write_blocks<B: LineBlocks, O: Sink, E: Sink>(
     out: &mut O,
     notes: &mut E,
 ) -> Result<u128, Outcome>
+    requires { B.may blocks.now }
     ensures later { (O.meaning out.old).faults ≤ (O.meaning out.new).faults }
     ensures ok { OnOk result (WroteBlocks (O.meaning out.old) (O.meaning out.new) (B.is_block blocks.now) (query_lines text.now)) }
     ensures sum { IfOk result (AreCounted (B.counts blocks.now) (query_lines text.now)) }
@@ -74,6 +79,7 @@ fn write_block<B: LineBlocks, O: Sink>(
     line: &[u8],
     out: &mut O,
 ) -> Result<u64, Outcome>
+    requires { B.may blocks.now }
     ensures later { (O.meaning out.old).faults ≤ (O.meaning out.new).faults }
     ensures ok { OnOk result (WroteBlock (O.meaning out.old) (O.meaning out.new) (B.is_block blocks.now line.now)) }
     ensures count { IfOk result (B.counts blocks.now line.now) }

@@ -1,4 +1,4 @@
-use Rattle.std.proofs.Common.{ℕ, ◌+◌, ◌*◌, ◌≤◌, length}
+use Rattle.std.proofs.Common.{◌+◌, ◌*◌, ◌≤◌, length}
 use Rattle.line_blocks.proofs.WriteLemmas.{IsWriting}
 use Rattle.line_blocks.proofs.writing.write_blocks.Given as goal
 
