@@ -1,3 +1,2 @@
-pub mod OutcomeLemmas
 pub mod OutputLemmas
 pub mod CompleteLemmas

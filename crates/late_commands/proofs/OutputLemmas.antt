@@ -10,7 +10,7 @@ use Rattle.journey.proofs.CopyLemmas.{copy_in_range}
 use Rattle.latest_departure.specs.Blocks.{IsAnswerBlock, IsLateBlock}
 use Rattle.latest_departure.specs.ValidLate.{LateClaim, LateHolds, IsValidLate, IsLateResult, ProvesLate}
 use Rattle.late_certificate.specs.Texts.{FitsLateResult, IsLateText}
-use Rattle.late_commands.specs.Outputs.{IsLateVerified, TellsValid}
+use Rattle.late_commands.specs.Outputs.{IsLateShown}
 
 -- what a certificate proves is right to say
 proved_block : (n : NetworkLists) (line : List ℕ) (q : Asked) → Asks n line q → (result : Option Route) → IsLateResult n q result → (block : List ℕ) → IsAnswerBlock n line result block → IsLateBlock n line block
@@ -29,11 +29,6 @@ claimed_printable n network q (Some j) in_time fits = record {
 pub valid_printable : (n : NetworkLists) → IsNetwork n → (bytes : List ℕ) (c : LateClaim) → IsLateText bytes c → IsValidLate n c → IfSome c.result (IsPrintable n)
 valid_printable n network bytes c text valid = claimed_printable n network valid.setting.asked c.result valid.holds text.fits.result
 
-pub verified_text : (n : NetworkLists) (bytes : List ℕ) (c : LateClaim) (out : List ℕ) → IsLateText bytes c → IsValidLate n c → ProvesLate n c → TellsValid n c.line c.result out → IsLateVerified n bytes out
-verified_text n bytes c out text valid proves told = record {
-  claim = c;
-  text = text;
-  valid = valid;
-  told = told;
-  right = proved_block n c.line proves.asked proves.asks c.result proves.right told.block told.tells;
-}
+pub shown_block : (n : NetworkLists) (bytes : List ℕ) (c : LateClaim) (block : List ℕ) → IsLateText bytes c → IsValidLate n c → ProvesLate n c → IsAnswerBlock n c.line c.result block → IsLateShown n bytes block
+shown_block n bytes c block text valid proves tells =
+    record { claim = c; text = text; valid = valid; tells = tells; right = proved_block n c.line proves.asked proves.asks c.result proves.right block tells }

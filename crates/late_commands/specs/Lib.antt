@@ -1,4 +1,3 @@
 pub mod Outputs
-pub mod Working
 pub mod Commands
 pub mod Complete

@@ -19,16 +19,16 @@ use std::alloc::{AllocError, Global};
 pub fn certify_latest<F: Shelf, O: Sink, E: Sink>(
     alloc: Global,
     region: &str,
-    line: &[u8],
+    query: &str,
     shelf: &mut F,
     out: &mut O,
     notes: &mut E,
     caps: &Caps,
 ) -> Result<(), Outcome>
-    ensures { SaysCertifyLatest caps.now region.now line.now (F.meaning shelf.old) (F.meaning shelf.new) (O.meaning out.old) (O.meaning out.new) (end_of result) }
+    ensures { SaysCertifyLatest caps.now region.now query.now (F.meaning shelf.old) (F.meaning shelf.new) (O.meaning out.old) (O.meaning out.new) (end_of result) }
 {
     let network = read_region(alloc, shelf, region, caps, notes)?;
-    let Ok(text) = certified(alloc, &network, line) else {
+    let Ok(text) = certified(alloc, &network, query.as_bytes()) else {
         return Err(Outcome::OutOfMemory);
     };
     write_text(out, &text)?;

@@ -1,19 +1,50 @@
 //! The command `verify-latest`: what a late certificate shows.
 
-ghost use Rattle.std.specs.Prelude.{IfOk, IfErr, IfSome};
+ghost use Rattle.std.specs.Prelude.{IfOk, IfSome};
 ghost use Rattle.journey.specs.Blocks.{IsPrintable};
+ghost use Rattle.latest_departure.specs.Blocks.{IsAnswerBlock};
 ghost use Rattle.run_steps.specs.Sayings.{end_of};
-ghost use Rattle.late_commands.specs.Outputs.{IsLateVerified, TellsValid};
-ghost use Rattle.late_commands.specs.Working.{IsUnverified};
 ghost use Rattle.late_commands.specs.Commands.{SaysVerifyLatest};
 
-use fault_notes::{bad_certificate, invalid_certificate};
+use certificate_steps::{Certificates, write_verified};
 use late_certificate::{CertFault, CertVerdict, LateCertificate, read_late, verify_late};
 use latest_departure::answer_block;
 use mode_network::Network;
 use plan_base::{Caps, Shelf, Sink};
-use run_steps::{FileRole, Outcome, read_file, read_region, tell, write_text};
+use run_steps::{Outcome, read_region};
 use std::alloc::{AllocError, Global};
+
+/// Certificates of the latest departure.
+#[derive(Drop)]
+struct LateCertificates<'a> {
+    network: &'a Network,
+}
+
+impl Certificates for LateCertificates<'_> {
+    ghost use Rattle.late_commands.specs.Outputs.{late_certificates};
+
+    ghost kind = { λ it. late_certificates it.network.now };
+
+    fn shown(&self, alloc: Global, bytes: &[u8]) -> Result<Vec<u8>, Outcome> {
+        self.network.known();
+        let certificate = match read_late(alloc, bytes) {
+            Ok(certificate) => certificate,
+            Err(CertFault::BadLine { line }) => return Err(Outcome::BadCertificate { line }),
+            Err(CertFault::OutOfMemory) => return Err(Outcome::OutOfMemory),
+        };
+        match verify_late(alloc, self.network, &certificate) {
+            Ok(CertVerdict::Valid) => {}
+            Ok(CertVerdict::Invalid { clause, at }) => {
+                return Err(Outcome::Invalid { clause, at });
+            }
+            Err(_) => return Err(Outcome::OutOfMemory),
+        }
+        match claimed_block(alloc, self.network, certificate) {
+            Ok(block) => Ok(block),
+            Err(_) => Err(Outcome::OutOfMemory),
+        }
+    }
+}
 
 /// Reads the region and the late certificate's file of these names, and writes that it is valid and the late block of its line
 /// and result.
@@ -29,62 +60,23 @@ pub fn verify_latest<F: Shelf, O: Sink, E: Sink>(
     ensures { SaysVerifyLatest caps.now region.now certificate.now (F.meaning shelf.old) (F.meaning shelf.new) (O.meaning out.old) (O.meaning out.new) (end_of result) }
 {
     let network = read_region(alloc, shelf, region, caps, notes)?;
-    let bytes = read_file(alloc, shelf, certificate, FileRole::Certificate, notes)?;
-    let text = verified(alloc, &network, certificate, &bytes, notes)?;
-    write_text(out, &text)?;
-    Ok(())
+    let late = LateCertificates { network: &network };
+    write_verified(alloc, &late, certificate, shelf, out, notes)
 }
 
-/// What is written of the bytes of a valid late certificate; or why they are none, which `notes` is told too.
-fn verified<E: Sink>(
-    alloc: Global,
-    network: &Network,
-    path: &str,
-    bytes: &[u8],
-    notes: &mut E,
-) -> Result<Vec<u8>, Outcome>
-    ensures ok { IfOk result (λ text. IsLateVerified network.now bytes.now text.items) }
-    ensures err { IfErr result (IsUnverified network.now bytes.now) }
-{
-    network.known();
-    let certificate = match read_late(alloc, bytes) {
-        Ok(certificate) => certificate,
-        Err(CertFault::BadLine { line }) => {
-            tell(alloc, notes, bad_certificate(alloc, path, bytes, line));
-            return Err(Outcome::BadCertificate { line });
-        }
-        Err(CertFault::OutOfMemory) => return Err(Outcome::OutOfMemory),
-    };
-    match verify_late(alloc, network, &certificate) {
-        Ok(CertVerdict::Valid) => {}
-        Ok(CertVerdict::Invalid { clause, at }) => {
-            tell(alloc, notes, invalid_certificate(alloc, path, clause, at));
-            return Err(Outcome::Invalid { clause, at });
-        }
-        Err(_) => return Err(Outcome::OutOfMemory),
-    }
-    match valid_text(alloc, network, certificate) {
-        Ok(text) => Ok(text),
-        Err(_) => Err(Outcome::OutOfMemory),
-    }
-}
-
-/// `valid` and the late block of what a certificate claims.
-fn valid_text(
+/// The late block of what a certificate claims.
+fn claimed_block(
     alloc: Global,
     network: &Network,
     certificate: LateCertificate,
 ) -> Result<Vec<u8>, AllocError>
     requires { IfSome certificate.result (IsPrintable network.now) }
-    ensures { IfOk result (λ text. TellsValid network.now certificate.line certificate.result text.items) }
+    ensures { IfOk result (λ block. IsAnswerBlock network.now certificate.line certificate.result block.items) }
 {
     let LateCertificate {
         line,
         result,
         labels: _,
     } = certificate;
-    let block = answer_block(alloc, network, line.as_slice(), result)?;
-    let mut text = Vec::from_slice(alloc, b"valid\n")?;
-    text.extend_from_slice(&block)?;
-    Ok(text)
+    answer_block(alloc, network, line.as_slice(), result)
 }

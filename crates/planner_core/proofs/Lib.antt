@@ -1,4 +1,1 @@
-pub mod BlockLemmas
-pub mod WriteLemmas
-pub mod OutcomeLemmas
 pub mod CompleteLemmas

@@ -1,46 +1,26 @@
 -- What can be done: the files that a request names are there and without fault.
-use Rattle.std.specs.Prelude.{◌≡◌, ℕ, List, Option, Some, None, Ok}
+use Rattle.std.specs.Prelude.{◌≡◌, ℕ, List, Some}
 use Rattle.plan_base.specs.Counts.{Rose}
 use Rattle.plan_base.specs.Shelves.{ShelfMeaning}
 use Rattle.plan_base.specs.Sinks.{SinkMeaning}
 use Rattle.plan_base.specs.declared.limits.Caps.{Caps}
-use Rattle.mode_network.specs.NetworkLists.{NetworkLists}
-use Rattle.certificate.specs.Certificates.{Claim}
-use Rattle.certificate.specs.Texts.{IsCertText}
-use Rattle.certificate.specs.Valid.{IsValid}
-use Rattle.hierarchy.specs.Lists.{HierarchyLists}
-use Rattle.hierarchy.specs.Soundness.{IsSound}
-use Rattle.hierarchy_file.specs.Reading.{hierarchy_of}
 use Rattle.command_words.specs.Requests.{Request, IsPlainForm, compile, migrate, contract, answer, certify, verify, check, latest, certify_latest, verify_latest, few}
 use Rattle.run_steps.specs.declared.outcome.Outcome.{Outcome}
-use Rattle.compile_steps.specs.Complete.{GivesRegion, IsFeedHeld, SpellsObjects}
-use Rattle.late_commands.specs.Complete.{CanFew, CanLatest, CanCertifyLatest, CanVerifyLatest}
 use Rattle.run_steps.specs.Complete.{Files, IsHeld, SpellsNetwork, IsDoneOrMemory}
-
--- the bytes spell a hierarchy that is sound for the network and has P
-abbrev pub SpellsSound : NetworkLists → (HierarchyLists → Type 0) → List ℕ → Type 0
-SpellsSound n P bytes = (h : HierarchyLists) × (hierarchy_of bytes ≡ Ok h) × IsSound n h × P h
-
--- a hierarchy that is sound and has P is there, where its file is named
-abbrev pub IsSoundIfNamed : Files → NetworkLists → Option (List ℕ) → (Option HierarchyLists → Type 0) → Type 0
-IsSoundIfNamed files n None P = P None
-IsSoundIfNamed files n (Some name) P = IsHeld files name (SpellsSound n (λ h. P (Some h)))
-
--- the bytes spell a certificate that is valid
-abbrev pub SpellsValid : NetworkLists → Option HierarchyLists → List ℕ → Type 0
-SpellsValid n h bytes = (claim : Claim) × IsCertText bytes claim × IsValid n h claim
+use Rattle.compile_steps.specs.Complete.{GivesRegion, IsFeedHeld, SpellsObjects}
+use Rattle.hierarchy_commands.specs.Complete.{CanCheck, CanContract}
+use Rattle.answer_commands.specs.Complete.{CanAnswer, CanCertify, CanVerify}
+use Rattle.late_commands.specs.Complete.{CanFew, CanLatest, CanCertifyLatest, CanVerifyLatest}
 
 -- all that is asked for can be done: each file is there and without fault
 abbrev pub CanBeDone : Caps → Files → Request → Type 0
 CanBeDone caps files (compile map feed days format) = IsHeld files map (SpellsObjects caps (λ objects. IsFeedHeld caps files feed (GivesRegion caps objects days)))
 CanBeDone caps files (migrate region format) = IsHeld files region (SpellsNetwork caps (λ n. Unit {0}))
-CanBeDone caps files (contract region keep) = IsHeld files region (SpellsNetwork caps (λ n. Unit {0}))
-CanBeDone caps files (answer region queries hierarchy) =
-    IsHeld files region (SpellsNetwork caps (λ n. IsSoundIfNamed files n hierarchy (λ h. IsHeld files queries (λ text. Unit {0}))))
-CanBeDone caps files (certify region query hierarchy) = IsHeld files region (SpellsNetwork caps (λ n. IsSoundIfNamed files n hierarchy (λ h. Unit {0})))
-CanBeDone caps files (verify region certificate hierarchy) =
-    IsHeld files region (SpellsNetwork caps (λ n. IsSoundIfNamed files n hierarchy (λ h. IsHeld files certificate (SpellsValid n h))))
-CanBeDone caps files (check region hierarchy) = IsHeld files region (SpellsNetwork caps (λ n. IsHeld files hierarchy (SpellsSound n (λ h. Unit {0}))))
+CanBeDone caps files (contract region keep) = CanContract caps files region keep
+CanBeDone caps files (answer region queries hierarchy) = CanAnswer caps files region queries hierarchy
+CanBeDone caps files (certify region query hierarchy) = CanCertify caps files region query hierarchy
+CanBeDone caps files (verify region certificate hierarchy) = CanVerify caps files region certificate hierarchy
+CanBeDone caps files (check region hierarchy) = CanCheck caps files region hierarchy
 CanBeDone caps files (latest region queries) = CanLatest caps files region queries
 CanBeDone caps files (certify_latest region query) = CanCertifyLatest caps files region query
 CanBeDone caps files (verify_latest region certificate) = CanVerifyLatest caps files region certificate

@@ -1,6 +1,4 @@
-pub mod Written
 pub mod Outputs
 pub mod Commands
 pub mod Outcomes
 pub mod Complete
-pub mod Working

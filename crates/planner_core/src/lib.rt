@@ -1,13 +1,7 @@
 //! The planner: what a command writes.
 #![tactic(auto)]
 
-mod answering;
-mod broken;
-mod certifying;
-mod checking;
 mod compiling;
-mod contracting;
-mod hierarchies;
 mod running;
 
 pub use command_words::Command;

@@ -8,12 +8,10 @@ ghost use Rattle.planner_core.specs.Commands.{says};
 ghost use Rattle.planner_core.specs.Outcomes.{IsOutcome, AreFull};
 ghost use Rattle.planner_core.specs.Complete.{IsComplete};
 
-use crate::answering::answer;
-use crate::certifying::{certify, verify};
-use crate::checking::check;
 use crate::compiling::{compile, migrate};
-use crate::contracting::contract;
+use answer_commands::{answer, certify, verify};
 use command_words::{Command, WordsFault, read_words};
+use hierarchy_commands::{check, contract};
 use late_commands::{certify_latest, few, latest, verify_latest};
 use plan_base::{Caps, Shelf, Sink};
 use run_steps::{Outcome, tell};
@@ -52,30 +50,12 @@ fn carry_out<F: Shelf, O: Sink, E: Sink>(
             region,
             query,
             hierarchy,
-        } => certify(
-            alloc,
-            region,
-            query.as_bytes(),
-            hierarchy,
-            shelf,
-            out,
-            notes,
-            caps,
-        ),
+        } => certify(alloc, region, query, hierarchy, shelf, out, notes, caps),
         Command::Verify {
             region,
-            certificate,
+            certificate: file,
             hierarchy,
-        } => verify(
-            alloc,
-            region,
-            certificate,
-            hierarchy,
-            shelf,
-            out,
-            notes,
-            caps,
-        ),
+        } => verify(alloc, region, file, hierarchy, shelf, out, notes, caps),
         Command::Check { region, hierarchy } => {
             check(alloc, region, hierarchy, shelf, out, notes, caps)
         }
@@ -83,7 +63,7 @@ fn carry_out<F: Shelf, O: Sink, E: Sink>(
             latest(alloc, region, queries, shelf, out, notes, caps)
         }
         Command::CertifyLatest { region, query } => {
-            certify_latest(alloc, region, query.as_bytes(), shelf, out, notes, caps)
+            certify_latest(alloc, region, query, shelf, out, notes, caps)
         }
         Command::VerifyLatest {
             region,

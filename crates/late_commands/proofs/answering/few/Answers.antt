@@ -5,7 +5,7 @@ use Rattle.run_steps.specs.Sayings.{most_bytes}
 use Rattle.run_steps.proofs.Steps.{on_region}
 use Rattle.few_boardings.specs.Blocks.{IsFewBlock}
 use Rattle.line_blocks.specs.QueryLines.{query_lines}
-use Rattle.line_blocks.specs.Blocks.{AreBlocks}
+use Rattle.line_blocks.specs.Blocks.{AreBlocks, BeginsBlocks}
 use Rattle.line_blocks.proofs.OutcomeLemmas.{blocks_fail}
 use Rattle.late_commands.proofs.answering.few.Goals as goal
 
@@ -24,6 +24,8 @@ returns-in_err-write_blocks g c =
     let after = g.O.Sink.meaning c.write_blocks.new.out in
     let mid = g.F.Shelf.meaning c.read_region.new.shelf in
     let new = g.F.Shelf.meaning c.read_file.new.shelf in
+    let IsBlock = IsFewBlock c.in_ok-network.network in
+    let lines = query_lines c.deref.result.now in
     rw (p.1, p.2)
     (on_region (g.F.Shelf.meaning c.args.shelf.now) mid new before after c.args.region.now
     c.args.caps.now _ c.in_ok-network.network c.in_ok-network.ensures.ok c.in_ok-network.ensures.later _
@@ -32,5 +34,5 @@ returns-in_err-write_blocks g c =
       file = subst (HasRead mid c.args.queries.now most_bytes) (sym c.deref.ensures.value) c.in_ok-text.ensures.ok;
       mid = new;
       later = c.in_ok-text.ensures.later;
-      says = blocks_fail new new before after (IsFewBlock c.in_ok-network.network) (AreBlocks (IsFewBlock c.in_ok-network.network) (query_lines c.deref.result.now)) (query_lines c.deref.result.now) _ c.in_err-write_blocks.ensures.err;
+      says = blocks_fail IsBlock lines (AreBlocks IsBlock lines) (BeginsBlocks IsBlock lines) (λ out begins. begins) new new before after _ c.in_err-write_blocks.ensures.err;
     })))

@@ -18,7 +18,7 @@ table_blocks_fail : (old new : ShelfMeaning) (before after : SinkMeaning) (table
     → IsBlocksOutcome before after (IsLateBlock table) lines outcome
     → Writes (AreBlocks (IsLateBlock network) lines) (BeginsBlocks (IsLateBlock network) lines) old new before after outcome
 table_blocks_fail old new before after table network same lines outcome is =
-    blocks_fail old new before after (IsLateBlock network) (AreBlocks (IsLateBlock network) lines) lines outcome
+    blocks_fail (IsLateBlock network) lines (AreBlocks (IsLateBlock network) lines) (BeginsBlocks (IsLateBlock network) lines) (λ out begins. begins) old new before after outcome
     (subst (λ (n : NetworkLists). IsBlocksOutcome before after (IsLateBlock n) lines outcome) same is)
 
 pub returns-in_err-text : goal.returns-in_err-text

@@ -12,5 +12,5 @@ returns-in_err-write_text g c =
     rw (p.1, p.2)
     (on_region (g.F.Shelf.meaning c.args.shelf.now) new new before after c.args.region.now
     c.args.caps.now _ c.in_ok-network.network c.in_ok-network.ensures.ok c.in_ok-network.ensures.later _
-    (text_fails new new before after (IsLateCertified c.in_ok-network.network c.args.line.now) c.in-Ok.text.items c.in-Ok.ensures _
+    (text_fails new new before after (IsLateCertified c.in_ok-network.network c.args.query.now) c.in-Ok.text.items (rw c.as_bytes.ensures.value at c.in-Ok.ensures) _
     (rw (← c.deref.ensures.value) c.in_err-write_text.ensures.err)))

@@ -1,4 +1,3 @@
-use Rattle.std.proofs.Common.{inl, refl, sym}
 use Rattle.std.proofs.lemmas.Result.{err_from_is_err_and}
 use Rattle.run_steps.proofs.Steps.{on_region, region_within, text_fails}
 use Rattle.planner_core.specs.Outputs.{IsRegionFile}

@@ -1,0 +1,48 @@
+-- A run whose files are there and without fault ends with its work done: each other outcome has a cause that is not there.
+use Rattle.std.proofs.Common.{◌≡◌, ℕ, List, Option, Err, subst}
+use Rattle.mode_network.specs.NetworkLists.{NetworkLists}
+use Rattle.mode_network.specs.Rules.{IsNetwork}
+use Rattle.journey.specs.declared.verdict.CertFault.TheVariants.{BadLine}
+use Rattle.journey.specs.declared.verdict.CertVerdict.TheVariants as verdict
+use Rattle.certificate.specs.Certificates.{Claim}
+use Rattle.certificate.specs.Texts.{IsCertText}
+use Rattle.certificate.specs.Reading.{cert_of}
+use Rattle.certificate.specs.Verdicts.{IsCertVerdict}
+use Rattle.certificate.proofs.ReadLaws.{again}
+use Rattle.certificate.proofs.UniqueLemmas.{verdict_is_unique}
+use Rattle.certificate_steps.proofs.CompleteLemmas.{verified_completes}
+use Rattle.hierarchy.specs.Lists.{HierarchyLists}
+use Rattle.hierarchy_commands.proofs.CompleteLemmas.{named_completes}
+use Rattle.phase_graph.specs.InUse.{IsSoundIfGiven}
+use Rattle.run_steps.proofs.CompleteSteps.{file_completes, network_completes, writes_completes}
+use Rattle.answer_commands.specs.Outputs.{best_certificates}
+use Rattle.answer_commands.specs.Complete.{SpellsValid, AnswerCompletes, CertifyCompletes, VerifyCompletes}
+
+-- bytes that spell a valid certificate have no line that may not stand, and no clause that fails
+spells : (n : NetworkLists) (h : Option HierarchyLists) (bytes : List ℕ) → SpellsValid n h bytes → (line : ℕ) → cert_of bytes ≡ Err (BadLine line) → ⊥
+spells n h bytes (claim, text, valid) line bad = let good = again bytes claim text in cc
+
+same_claim : (bytes : List ℕ) (a b : Claim) → IsCertText bytes a → IsCertText bytes b → a ≡ b
+same_claim bytes a b p q = let x = again bytes a p in let y = again bytes b q in cc
+
+holds : (n : NetworkLists) → IsNetwork n → (h : Option HierarchyLists) → IsSoundIfGiven n h → (bytes : List ℕ) → SpellsValid n h bytes
+    → (clause at : ℕ) → (best_certificates n h).Fails bytes clause at → ⊥
+holds n rules h sound bytes (claim, text, valid) clause at (other, reads_so, fails) =
+    let fails_here = subst (λ (c : Claim). IsCertVerdict n h c (verdict.Invalid clause at)) (same_claim bytes other claim reads_so text) fails in
+    let both = verdict_is_unique n rules h sound claim verdict.Valid (verdict.Invalid clause at) valid fails_here in
+    cc
+
+-- what can be done is done
+pub answer_completes : AnswerCompletes
+answer_completes caps files region queries hierarchy =
+    file_completes files _ region _ _ (network_completes files caps _ _ (λ n rules. named_completes files n hierarchy _ _ (λ h sound.
+    file_completes files _ queries _ _ (λ text. writes_completes files _ _))))
+
+pub certify_completes : CertifyCompletes
+certify_completes caps files region query hierarchy =
+    file_completes files _ region _ _ (network_completes files caps _ _ (λ n rules. named_completes files n hierarchy _ _ (λ h sound. writes_completes files _ _)))
+
+pub verify_completes : VerifyCompletes
+verify_completes caps files region certificate hierarchy =
+    file_completes files _ region _ _ (network_completes files caps _ _ (λ n rules. named_completes files n hierarchy _ _ (λ h sound.
+    verified_completes files (best_certificates n h) (SpellsValid n h) (spells n h) (holds n rules h sound) certificate)))

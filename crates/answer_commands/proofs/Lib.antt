@@ -1,0 +1,4 @@
+pub mod LentLemmas
+pub mod SettledLemmas
+pub mod BlockLemmas
+pub mod CompleteLemmas

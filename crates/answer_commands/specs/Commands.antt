@@ -1,0 +1,24 @@
+-- What each command says of a run by its outcome.
+use Rattle.std.specs.Prelude.{ℕ, List, Option}
+use Rattle.plan_base.specs.declared.limits.Caps.{Caps}
+use Rattle.certificate_steps.specs.Kinds.{SaysVerified}
+use Rattle.hierarchy_commands.specs.Commands.{OnHierarchyIfNamed}
+use Rattle.line_blocks.specs.QueryLines.{query_lines}
+use Rattle.run_steps.specs.declared.outcome.FileRole.TheVariants.{Queries}
+use Rattle.run_steps.specs.Regions.{OnRegion}
+use Rattle.run_steps.specs.Sayings.{Saying, OnFile, Writes, WritesText}
+use Rattle.answer_commands.specs.Answers.{IsAnswer, BeginsAnswer}
+use Rattle.answer_commands.specs.Outputs.{IsCertified, best_certificates}
+
+-- `answer` writes a right block for each query line of a file, in order, and with a hierarchy how many labels its searches had
+abbrev pub SaysAnswer : Caps → List ℕ → List ℕ → Option (List ℕ) → Saying
+SaysAnswer caps region queries hierarchy =
+    OnRegion caps region (λ n. OnHierarchyIfNamed n hierarchy (λ h. OnFile Queries queries (λ text. Writes (IsAnswer n h (query_lines text)) (BeginsAnswer n h (query_lines text)))))
+
+-- `certify` writes a certificate for the query line, or the block of its refusal
+abbrev pub SaysCertify : Caps → List ℕ → List ℕ → Option (List ℕ) → Saying
+SaysCertify caps region query hierarchy = OnRegion caps region (λ n. OnHierarchyIfNamed n hierarchy (λ h. WritesText (IsCertified n h query)))
+
+-- `verify` writes what the certificate of a file shows
+abbrev pub SaysVerify : Caps → List ℕ → List ℕ → Option (List ℕ) → Saying
+SaysVerify caps region certificate hierarchy = OnRegion caps region (λ n. OnHierarchyIfNamed n hierarchy (λ h. SaysVerified (best_certificates n h) certificate))

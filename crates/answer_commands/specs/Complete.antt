@@ -1,0 +1,39 @@
+-- What can be done: the files that a command names are there and without fault.
+use Rattle.std.specs.Prelude.{ℕ, List, Option}
+use Rattle.plan_base.specs.declared.limits.Caps.{Caps}
+use Rattle.mode_network.specs.NetworkLists.{NetworkLists}
+use Rattle.certificate.specs.Certificates.{Claim}
+use Rattle.certificate.specs.Texts.{IsCertText}
+use Rattle.certificate.specs.Valid.{IsValid}
+use Rattle.hierarchy.specs.Lists.{HierarchyLists}
+use Rattle.hierarchy_commands.specs.Complete.{IsSoundIfNamed}
+use Rattle.run_steps.specs.Complete.{Files, IsHeld, SpellsNetwork, Completes}
+use Rattle.answer_commands.specs.Commands.{SaysAnswer, SaysCertify, SaysVerify}
+
+-- the bytes spell a certificate that is valid
+abbrev pub SpellsValid : NetworkLists → Option HierarchyLists → List ℕ → Type 0
+SpellsValid n h bytes = (claim : Claim) × IsCertText bytes claim × IsValid n h claim
+
+abbrev pub CanAnswer : Caps → Files → List ℕ → List ℕ → Option (List ℕ) → Type 0
+CanAnswer caps files region queries hierarchy =
+    IsHeld files region (SpellsNetwork caps (λ n. IsSoundIfNamed files n hierarchy (λ h. IsHeld files queries (λ text. Unit {0}))))
+
+abbrev pub CanCertify : Caps → Files → List ℕ → List ℕ → Option (List ℕ) → Type 0
+CanCertify caps files region query hierarchy = IsHeld files region (SpellsNetwork caps (λ n. IsSoundIfNamed files n hierarchy (λ h. Unit {0})))
+
+abbrev pub CanVerify : Caps → Files → List ℕ → List ℕ → Option (List ℕ) → Type 0
+CanVerify caps files region certificate hierarchy =
+    IsHeld files region (SpellsNetwork caps (λ n. IsSoundIfNamed files n hierarchy (λ h. IsHeld files certificate (SpellsValid n h))))
+
+-- where that can be done which is asked for, and no count of faults rose, all of it is done, unless memory ran out
+abbrev pub AnswerCompletes : Type 0
+AnswerCompletes = (caps : Caps) (files : Files) (region queries : List ℕ) (hierarchy : Option (List ℕ))
+    → Completes files (CanAnswer caps files region queries hierarchy) (SaysAnswer caps region queries hierarchy)
+
+abbrev pub CertifyCompletes : Type 0
+CertifyCompletes = (caps : Caps) (files : Files) (region query : List ℕ) (hierarchy : Option (List ℕ))
+    → Completes files (CanCertify caps files region query hierarchy) (SaysCertify caps region query hierarchy)
+
+abbrev pub VerifyCompletes : Type 0
+VerifyCompletes = (caps : Caps) (files : Files) (region certificate : List ℕ) (hierarchy : Option (List ℕ))
+    → Completes files (CanVerify caps files region certificate hierarchy) (SaysVerify caps region certificate hierarchy)

@@ -1,0 +1,4 @@
+pub mod Answers
+pub mod Outputs
+pub mod Commands
+pub mod Complete

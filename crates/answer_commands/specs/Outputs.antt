@@ -1,0 +1,52 @@
+-- What `certify` and `verify` write.
+use Rattle.std.specs.Prelude.{◌≡◌, ℕ, ◌⊎◌, List, Option, Some, None, Err}
+use Rattle.mode_network.specs.NetworkLists.{NetworkLists}
+use Rattle.mode_network.specs.Journeys.{Route}
+use Rattle.journey.specs.declared.answer.BlockBody.{BlockBody}
+use Rattle.journey.specs.declared.answer.BlockBody.TheVariants.{Journey, Nothing}
+use Rattle.journey.specs.declared.verdict.CertFault.TheVariants.{BadLine}
+use Rattle.journey.specs.declared.verdict.CertVerdict.TheVariants as verdict
+use Rattle.journey.specs.Blocks.{IsBlockText}
+use Rattle.journey.specs.Best.{IsBlock, IsRefusedBlock}
+use Rattle.certificate.specs.Certificates.{Claim}
+use Rattle.certificate.specs.Texts.{IsCertText}
+use Rattle.certificate.specs.Reading.{cert_of}
+use Rattle.certificate.specs.Valid.{IsValid, Proves}
+use Rattle.certificate.specs.Verdicts.{IsCertVerdict}
+use Rattle.certificate_steps.specs.Kinds.{CertificateKind}
+use Rattle.hierarchy.specs.Lists.{HierarchyLists}
+use Rattle.planning.specs.Plans.{AreTheLabels}
+
+-- the text of a valid certificate for the line, whose labels are those of the search over the graph in use; it proves what it claims
+pub record IsCertificateFor (n : NetworkLists) (h : Option HierarchyLists) (line out : List ℕ) : Type 0 where
+  pub claim : Claim
+  pub text : IsCertText out claim
+  pub line_is : claim.line ≡ line
+  pub valid : IsValid n h claim
+  pub labelled : AreTheLabels n h valid.setting.asked claim.labels
+  pub proves : Proves n claim
+
+-- the block of a line that is refused, or a certificate
+abbrev pub IsCertified : NetworkLists → Option HierarchyLists → List ℕ → List ℕ → Type 0
+IsCertified n h line out = IsRefusedBlock n line out ⊎ IsCertificateFor n h line out
+
+-- what a certificate claims, as the body of a block
+abbrev pub body_of : Option (ℕ × Route) → BlockBody
+body_of (Some claimed) = Journey claimed.1
+body_of None = Nothing
+
+-- the bytes are the text of a valid certificate, and the block is that of its line and its result, which is a right block
+pub record IsShown (n : NetworkLists) (h : Option HierarchyLists) (bytes block : List ℕ) : Type 0 where
+  pub claim : Claim
+  pub text : IsCertText bytes claim
+  pub valid : IsValid n h claim
+  pub tells : IsBlockText n claim.line (body_of claim.result) block
+  pub right : IsBlock n claim.line block
+
+-- certificates of earliest arrival, whose labels are over the graph in use
+abbrev pub best_certificates : NetworkLists → Option HierarchyLists → CertificateKind
+best_certificates n h = record {
+  IsBadLine = λ bytes line. cert_of bytes ≡ Err (BadLine line);
+  Fails = λ bytes clause at. (claim : Claim) × IsCertText bytes claim × IsCertVerdict n h claim (verdict.Invalid clause at);
+  Shows = IsShown n h;
+}

@@ -1,0 +1,113 @@
+//! The command `answer`: the block of each query line of a file, and with a hierarchy how many labels the searches had.
+
+ghost use Rattle.std.specs.Prelude.{◌≡◌, IfOk, IfSome, option_map};
+ghost use Rattle.hierarchy.specs.Soundness.{IsSound};
+ghost use Rattle.line_blocks.specs.QueryLines.{query_lines};
+ghost use Rattle.plan_base.specs.Shelves.{ShelfMeaning};
+ghost use Rattle.run_steps.specs.Sayings.{Writes, end_of};
+ghost use Rattle.answer_commands.specs.Answers.{IsAnswer, BeginsAnswer, settled_line};
+ghost use Rattle.answer_commands.specs.Commands.{SaysAnswer};
+
+use hierarchy::Hierarchy;
+use hierarchy_commands::read_if_named;
+use line_blocks::{LineBlocks, write_blocks};
+use mode_network::Network;
+use plain_texts::push_decimal;
+use plan_base::{Caps, Shelf, Sink};
+use planning::block_of;
+use product_search::Workspace;
+use run_steps::{FileRole, Outcome, read_file, read_region, write_text};
+use std::alloc::{AllocError, Global};
+
+/// The blocks of lines that ask for a best journey, by a hierarchy, if there is one. The labels of searches over it are counted.
+#[derive(Drop)]
+struct BestBlocks<'a> {
+    network: &'a Network,
+    hierarchy: Option<&'a Hierarchy>,
+}
+
+impl LineBlocks for BestBlocks<'_> {
+    ghost use Rattle.std.specs.Prelude.{IfSome, option_map};
+    ghost use Rattle.hierarchy.specs.Soundness.{IsSound};
+    ghost use Rattle.journey.specs.Best.{IsBlock};
+    ghost use Rattle.planning.specs.Settled.{IsSettledBy};
+
+    ghost may = { λ blocks. IfSome blocks.hierarchy (λ h. IsSound blocks.network.now h.now) };
+
+    ghost is_block = { λ blocks. IsBlock blocks.network.now };
+
+    ghost counts = { λ blocks. IsSettledBy blocks.network.now (option_map (λ h. h.now) blocks.hierarchy) };
+
+    fn block_of(
+        &self,
+        alloc: Global,
+        workspace: &mut Workspace,
+        line: &[u8],
+    ) -> Result<(Vec<u8>, u64), AllocError> {
+        block_of(alloc, workspace, self.network, self.hierarchy, line)
+    }
+}
+
+/// Reads the region of this name, the hierarchy, if one is named, and the queries file, and writes the block of each query
+/// line; with a hierarchy the line `settled` follows.
+pub fn answer<F: Shelf, O: Sink, E: Sink>(
+    alloc: Global,
+    region: &str,
+    queries: &str,
+    hierarchy: Option<&str>,
+    shelf: &mut F,
+    out: &mut O,
+    notes: &mut E,
+    caps: &Caps,
+) -> Result<(), Outcome>
+    ensures { SaysAnswer caps.now region.now queries.now (option_map (λ it. it.now) hierarchy.entry) (F.meaning shelf.old) (F.meaning shelf.new) (O.meaning out.old) (O.meaning out.new) (end_of result) }
+{
+    let network = read_region(alloc, shelf, region, caps, notes)?;
+    let hierarchy = read_if_named(alloc, shelf, hierarchy, &network, notes)?;
+    let text = read_file(alloc, shelf, queries, FileRole::Queries, notes)?;
+    write_answer(
+        alloc,
+        &network,
+        hierarchy.as_ref(),
+        queries,
+        &text,
+        out,
+        notes,
+    )
+}
+
+/// Writes the block of each query line of a queries file, and behind them, with a hierarchy, how many labels the searches
+/// had. `notes` is told how many lines were answered.
+fn write_answer<O: Sink, E: Sink>(
+    alloc: Global,
+    network: &Network,
+    hierarchy: Option<&Hierarchy>,
+    path: &str,
+    text: &[u8],
+    out: &mut O,
+    notes: &mut E,
+) -> Result<(), Outcome>
+    requires { IfSome hierarchy (λ h. IsSound network.now h.now) }
+    ensures { (old new : ShelfMeaning) → Writes (IsAnswer network.now (option_map (λ h. h.now) hierarchy.entry) (query_lines text.now))
+        (BeginsAnswer network.now (option_map (λ h. h.now) hierarchy.entry) (query_lines text.now)) old new (O.meaning out.old) (O.meaning out.new) (end_of result) }
+{
+    let best = BestBlocks { network, hierarchy };
+    let settled = write_blocks(alloc, &best, path, text, out, notes)?;
+    if hierarchy.is_some() {
+        let Ok(line) = settled_line(alloc, settled) else {
+            return Err(Outcome::OutOfMemory);
+        };
+        write_text(out, &line)?;
+    }
+    Ok(())
+}
+
+/// The line that tells how many labels searches had.
+fn settled_line(alloc: Global, settled: u128) -> Result<Vec<u8>, AllocError>
+    ensures { IfOk result (λ line. line.items ≡ settled_line settled) }
+{
+    let mut line = Vec::from_slice(alloc, b"settled ")?;
+    push_decimal(&mut line, settled)?;
+    line.push(b'\n')?;
+    Ok(line)
+}

@@ -1,0 +1,89 @@
+//! The command `certify`: a certificate for a query line.
+
+ghost use Rattle.std.specs.Prelude.{IfOk, IfSome, option_map};
+ghost use Rattle.plain_texts.specs.Lines.{IsLine};
+ghost use Rattle.hierarchy.specs.Soundness.{IsSound};
+ghost use Rattle.planning.specs.Plans.{IsRead};
+ghost use Rattle.run_steps.specs.Sayings.{end_of};
+ghost use Rattle.answer_commands.specs.Commands.{SaysCertify};
+ghost use Rattle.answer_commands.specs.Outputs.{IsCertificateFor, IsCertified};
+
+use certificate::{Certificate, print};
+use hierarchy::Hierarchy;
+use hierarchy_commands::read_if_named;
+use journey::{BlockBody, Query, QueryFault, block, read_query};
+use mode_network::Network;
+use plan_base::{Caps, Shelf, Sink};
+use planning::{FoundPlan, find_plan};
+use run_steps::{Outcome, read_region, write_text};
+use std::alloc::{AllocError, Global};
+
+/// Reads the region of this name, and the hierarchy, if one is named, and writes the certificate of a query line, or its
+/// block where the line is refused.
+pub fn certify<F: Shelf, O: Sink, E: Sink>(
+    alloc: Global,
+    region: &str,
+    query: &str,
+    hierarchy: Option<&str>,
+    shelf: &mut F,
+    out: &mut O,
+    notes: &mut E,
+    caps: &Caps,
+) -> Result<(), Outcome>
+    ensures { SaysCertify caps.now region.now query.now (option_map (λ it. it.now) hierarchy.entry) (F.meaning shelf.old) (F.meaning shelf.new) (O.meaning out.old) (O.meaning out.new) (end_of result) }
+{
+    let network = read_region(alloc, shelf, region, caps, notes)?;
+    let hierarchy = read_if_named(alloc, shelf, hierarchy, &network, notes)?;
+    let Ok(text) = certified(alloc, &network, hierarchy.as_ref(), query.as_bytes()) else {
+        return Err(Outcome::OutOfMemory);
+    };
+    write_text(out, &text)?;
+    Ok(())
+}
+
+/// The text of the certificate of a query line, or its block where the line is refused.
+fn certified(
+    alloc: Global,
+    network: &Network,
+    hierarchy: Option<&Hierarchy>,
+    line: &[u8],
+) -> Result<Vec<u8>, AllocError>
+    requires { IfSome hierarchy (λ h. IsSound network.now h.now) }
+    ensures { IfOk result (λ text. IsCertified network.now (option_map (λ h. h.now) hierarchy.entry) line.now text.items) }
+{
+    match read_query(alloc, network, line) {
+        Ok(query) => {
+            let text = certificate_text(alloc, network, hierarchy, query)?;
+            Ok(text)
+        }
+        Err(QueryFault::OutOfMemory) => Err(AllocError),
+        Err(fault) => {
+            let text = block(alloc, network, line, &BlockBody::Refused(fault))?;
+            Ok(text)
+        }
+    }
+}
+
+/// The text of a query's certificate.
+fn certificate_text(
+    alloc: Global,
+    network: &Network,
+    hierarchy: Option<&Hierarchy>,
+    query: Query,
+) -> Result<Vec<u8>, AllocError>
+    requires sound { IfSome hierarchy (λ h. IsSound network.now h.now) }
+    requires read { IsRead network.now query }
+    requires line { IsLine query.line }
+    ensures { IfOk result (λ text. IsCertificateFor network.now (option_map (λ h. h.now) hierarchy.entry) query.line text.items) }
+{
+    network.known();
+    let FoundPlan { best, labels } = find_plan(alloc, network, hierarchy, &query)?;
+    let certificate = Certificate {
+        line: query.line,
+        phases: hierarchy.is_some(),
+        result: best,
+        labels,
+    };
+    let text = print(alloc, &certificate)?;
+    Ok(text)
+}

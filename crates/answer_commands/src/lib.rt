@@ -1,0 +1,12 @@
+//! The commands `answer`, `certify` and `verify`, without a hierarchy and over one.
+#![tactic(auto)]
+
+mod answering;
+mod certifying;
+mod laws;
+mod verifying;
+
+pub use answering::answer;
+pub use certifying::certify;
+pub use laws::{answer_completes, certify_completes, verify_completes};
+pub use verifying::verify;

@@ -1,0 +1,130 @@
+//! The command `verify`: what a certificate shows.
+
+ghost use Rattle.std.specs.Prelude.{◌≡◌, IfOk, IfErr, IfSome, option_map};
+ghost use Rattle.certificate_steps.specs.Kinds.{SaysVerified};
+ghost use Rattle.hierarchy.specs.Soundness.{IsSound};
+ghost use Rattle.journey.specs.Blocks.{IsBlockText, IsPrintableBody};
+ghost use Rattle.run_steps.specs.Sayings.{end_of};
+ghost use Rattle.answer_commands.specs.Commands.{SaysVerify};
+ghost use Rattle.answer_commands.specs.Outputs.{best_certificates, body_of};
+
+use certificate::{CertFault, CertVerdict, Certificate, read};
+use certificate_steps::{Certificates, write_verified};
+use hierarchy::Hierarchy;
+use hierarchy_commands::read_if_named;
+use journey::{BlockBody, block};
+use mode_network::{Journey, Network};
+use plan_base::{Caps, Shelf, Sink, Time};
+use run_steps::{Outcome, read_region};
+use std::alloc::{AllocError, Global};
+
+/// Certificates of earliest arrival, whose labels are over a hierarchy, if there is one.
+#[derive(Drop)]
+struct BestCertificates<'a> {
+    network: &'a Network,
+    hierarchy: Option<&'a Hierarchy>,
+}
+
+impl Certificates for BestCertificates<'_> {
+    ghost use Rattle.std.specs.Prelude.{IfSome, option_map};
+    ghost use Rattle.hierarchy.specs.Soundness.{IsSound};
+    ghost use Rattle.answer_commands.specs.Outputs.{best_certificates};
+
+    ghost may = { λ it. IfSome it.hierarchy (λ h. IsSound it.network.now h.now) };
+
+    ghost kind = { λ it. best_certificates it.network.now (option_map (λ h. h.now) it.hierarchy) };
+
+    fn shown(&self, alloc: Global, bytes: &[u8]) -> Result<Vec<u8>, Outcome> {
+        self.network.known();
+        let certificate = match read(alloc, bytes) {
+            Ok(certificate) => certificate,
+            Err(CertFault::BadLine { line }) => return Err(Outcome::BadCertificate { line }),
+            Err(CertFault::OutOfMemory) => return Err(Outcome::OutOfMemory),
+        };
+        match certificate::verify(alloc, self.network, self.hierarchy, &certificate) {
+            Ok(CertVerdict::Valid) => {}
+            Ok(CertVerdict::Invalid { clause, at }) => {
+                return Err(Outcome::Invalid { clause, at });
+            }
+            Err(_) => return Err(Outcome::OutOfMemory),
+        }
+        match claimed_block(alloc, self.network, certificate) {
+            Ok(block) => Ok(block),
+            Err(_) => Err(Outcome::OutOfMemory),
+        }
+    }
+}
+
+/// Reads the region of this name, the hierarchy, if one is named, and the certificate file, and writes that it is valid and
+/// the block of its line and result.
+pub fn verify<F: Shelf, O: Sink, E: Sink>(
+    alloc: Global,
+    region: &str,
+    certificate: &str,
+    hierarchy: Option<&str>,
+    shelf: &mut F,
+    out: &mut O,
+    notes: &mut E,
+    caps: &Caps,
+) -> Result<(), Outcome>
+    ensures { SaysVerify caps.now region.now certificate.now (option_map (λ it. it.now) hierarchy.entry) (F.meaning shelf.old) (F.meaning shelf.new) (O.meaning out.old) (O.meaning out.new) (end_of result) }
+{
+    let network = read_region(alloc, shelf, region, caps, notes)?;
+    let hierarchy = read_if_named(alloc, shelf, hierarchy, &network, notes)?;
+    verify_over(
+        alloc,
+        &network,
+        hierarchy.as_ref(),
+        certificate,
+        shelf,
+        out,
+        notes,
+    )
+}
+
+/// Reads the certificate of the file of this path, whose labels are over the hierarchy, if there is one, and writes that it
+/// is valid and the block of its line and result.
+fn verify_over<F: Shelf, O: Sink, E: Sink>(
+    alloc: Global,
+    network: &Network,
+    hierarchy: Option<&Hierarchy>,
+    path: &str,
+    shelf: &mut F,
+    out: &mut O,
+    notes: &mut E,
+) -> Result<(), Outcome>
+    requires { IfSome hierarchy (λ h. IsSound network.now h.now) }
+    ensures { SaysVerified (best_certificates network.now (option_map (λ h. h.now) hierarchy.entry)) path.now (F.meaning shelf.old) (F.meaning shelf.new) (O.meaning out.old) (O.meaning out.new) (end_of result) }
+{
+    let best = BestCertificates { network, hierarchy };
+    write_verified(alloc, &best, path, shelf, out, notes)
+}
+
+/// The block of what a certificate claims.
+fn claimed_block(
+    alloc: Global,
+    network: &Network,
+    certificate: Certificate,
+) -> Result<Vec<u8>, AllocError>
+    requires { IsPrintableBody network.now (body_of certificate.result) }
+    ensures { IfOk result (λ block. IsBlockText network.now certificate.line (body_of certificate.result) block.items) }
+{
+    let Certificate {
+        line,
+        phases: _,
+        result,
+        labels: _,
+    } = certificate;
+    let body = body_of(result);
+    block(alloc, network, line.as_slice(), &body)
+}
+
+/// What a certificate claims, as the body of a block.
+fn body_of(claimed: Option<(Time, Journey)>) -> BlockBody
+    ensures { result ≡ body_of claimed }
+{
+    match claimed {
+        Some((_, journey)) => BlockBody::Journey(journey),
+        None => BlockBody::Nothing,
+    }
+}

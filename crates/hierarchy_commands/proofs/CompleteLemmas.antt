@@ -1,0 +1,44 @@
+-- A run whose files are there and without fault ends with its work done: each other outcome has a cause that is not there.
+use Rattle.std.proofs.Common.{ℕ, inl, inr, List, Option, Some, None, Ok, subst}
+use Rattle.std.specs.Prelude.{Result, IfSome}
+use Rattle.mode_network.specs.NetworkLists.{NetworkLists}
+use Rattle.hierarchy.specs.Lists.{HierarchyLists}
+use Rattle.hierarchy.specs.Rules.{IsHierarchy}
+use Rattle.hierarchy.specs.Soundness.{IsSound}
+use Rattle.hierarchy.specs.declared.verdict.Verdict.TheVariants.{Broken}
+use Rattle.hierarchy_check.proofs.VerdictLemmas.{sound_verdict}
+use Rattle.hierarchy_file.specs.declared.fault.HFileFault.{HFileFault}
+use Rattle.hierarchy_file.specs.Reading.{hierarchy_of}
+use Rattle.run_steps.specs.declared.outcome.FileRole.TheVariants.{Hierarchy}
+use Rattle.run_steps.specs.Sayings.{Saying}
+use Rattle.run_steps.specs.Complete.{Files, IsDoneOrMemory, Completes}
+use Rattle.run_steps.proofs.CompleteSteps.{file_completes, network_completes, writes_completes}
+use Rattle.hierarchy_commands.specs.Commands.{OnSound, OnHierarchyIfNamed}
+use Rattle.hierarchy_commands.specs.Complete.{SpellsSound, IsSoundIfNamed, CheckCompletes, ContractCompletes}
+
+module _ (files : Files) where
+  -- a hierarchy that is sound is read and checked
+  sound_completes : (n : NetworkLists) (P : HierarchyLists → Type 0) (rest : HierarchyLists → Saying) → ((h : HierarchyLists) → IsHierarchy h × IsSound n h → Completes files (P h) (rest h))
+      → (bytes : List ℕ) → Completes files (SpellsSound n P bytes) (OnSound n (hierarchy_of bytes) rest)
+  sound_completes n P rest more bytes (h, spells, sound, p) old new before after outcome tells reads writes said =
+      on (subst (λ (r : Result HierarchyLists HFileFault). OnSound n r rest old new before after outcome) spells said)
+    where
+      on : OnSound n (Ok h) rest old new before after outcome → IsDoneOrMemory outcome
+      on (inl (clause, at, by, broken, ends)) =
+          let verdict = sound_verdict n h (Broken clause at by) broken sound in
+          absurd (cc)
+      on (inr (rules, is, rests)) = more h (rules, is) p old new before after outcome tells reads writes rests
+
+  pub named_completes : (n : NetworkLists) (named : Option (List ℕ)) (P : Option HierarchyLists → Type 0) (rest : Option HierarchyLists → Saying)
+      → ((h : Option HierarchyLists) → IfSome h (λ k. IsHierarchy k × IsSound n k) → Completes files (P h) (rest h)) → Completes files (IsSoundIfNamed files n named P) (OnHierarchyIfNamed n named rest)
+  named_completes n None P rest more = more None tt
+  named_completes n (Some name) P rest more =
+      file_completes files Hierarchy name _ _ (sound_completes n (λ h. P (Some h)) (λ h. rest (Some h)) (λ h sound. more (Some h) sound))
+
+-- what can be done is done
+pub check_completes : CheckCompletes
+check_completes caps files region hierarchy =
+    file_completes files _ region _ _ (network_completes files caps _ _ (λ n rules. file_completes files _ hierarchy _ _ (sound_completes files n _ _ (λ h sound. writes_completes files _ _))))
+
+pub contract_completes : ContractCompletes
+contract_completes caps files region keep = file_completes files _ region _ _ (network_completes files caps _ _ (λ n rules. writes_completes files _ _))

@@ -1,0 +1,54 @@
+-- What reading a hierarchy answers: what its file and its bytes spell.
+use Rattle.std.specs.Prelude.{◌≡◌, ℕ, ◌⊎◌, List, Option, Some, None, Err, Ok}
+use Rattle.plan_base.specs.Shelves.{ShelfMeaning, IsLater, HasRead}
+use Rattle.mode_network.specs.NetworkLists.{NetworkLists}
+use Rattle.hierarchy.specs.Lists.{HierarchyLists}
+use Rattle.hierarchy.specs.Rules.{IsHierarchy}
+use Rattle.hierarchy.specs.Soundness.{IsSound}
+use Rattle.hierarchy.specs.FirstBroken.{IsFirstBroken}
+use Rattle.hierarchy_file.specs.Reading.{hierarchy_of}
+use Rattle.run_steps.specs.declared.outcome.FileRole.TheVariants.{Hierarchy}
+use Rattle.run_steps.specs.declared.outcome.Outcome.{Outcome}
+use Rattle.run_steps.specs.declared.outcome.Outcome.TheVariants.{BadHierarchy, Unsound, OutOfMemory}
+use Rattle.run_steps.specs.Sayings.{IsUnread, most_bytes}
+
+-- the bytes spell a hierarchy that is sound for the network
+abbrev pub AreSound : NetworkLists → List ℕ → HierarchyLists → Type 0
+AreSound n bytes h = (hierarchy_of bytes ≡ Ok h) × IsHierarchy h × IsSound n h
+
+-- why the bytes spell none
+abbrev pub AreUnsound : NetworkLists → List ℕ → Outcome → Type 0
+AreUnsound n bytes (BadHierarchy fault) = hierarchy_of bytes ≡ Err fault
+AreUnsound n bytes (Unsound clause at by) = (h : HierarchyLists) × (hierarchy_of bytes ≡ Ok h) × IsFirstBroken n h clause at by
+AreUnsound n bytes OutOfMemory = Unit {0}
+AreUnsound n bytes _ = ⊥
+
+-- the file was read, and spells a hierarchy that is sound for the network
+pub record HasSound (old new : ShelfMeaning) (n : NetworkLists) (name : List ℕ) (h : HierarchyLists) : Type 0 where
+  pub bytes : List ℕ
+  pub file : HasRead old name most_bytes bytes
+  pub later : IsLater old new
+  pub sound : AreSound n bytes h
+
+-- the file was read, and spells none
+pub record HasUnsound (old new : ShelfMeaning) (n : NetworkLists) (name : List ℕ) (outcome : Outcome) : Type 0 where
+  pub bytes : List ℕ
+  pub file : HasRead old name most_bytes bytes
+  pub later : IsLater old new
+  pub unsound : AreUnsound n bytes outcome
+
+-- why no hierarchy was found that is sound
+abbrev pub IsHierarchyOutcome : ShelfMeaning → ShelfMeaning → NetworkLists → List ℕ → Outcome → Type 0
+IsHierarchyOutcome old new n name outcome = IsUnread old new name Hierarchy outcome ⊎ HasUnsound old new n name outcome
+
+-- a hierarchy was found that is sound, where its file is named; where none is, nothing is read
+abbrev pub IsFoundSound : ShelfMeaning → ShelfMeaning → NetworkLists → Option (List ℕ) → Option HierarchyLists → Type 0
+IsFoundSound old new n None None = new ≡ old
+IsFoundSound old new n None (Some h) = ⊥
+IsFoundSound old new n (Some name) None = ⊥
+IsFoundSound old new n (Some name) (Some h) = HasSound old new n name h
+
+-- why none was found, though its file is named
+abbrev pub IsNamedOutcome : ShelfMeaning → ShelfMeaning → NetworkLists → Option (List ℕ) → Outcome → Type 0
+IsNamedOutcome old new n None outcome = ⊥
+IsNamedOutcome old new n (Some name) outcome = IsHierarchyOutcome old new n name outcome

@@ -1,0 +1,65 @@
+//! The command `contract`: a hierarchy of a region's road layers.
+
+ghost use Rattle.std.specs.Prelude.{IfOk};
+ghost use Rattle.run_steps.specs.Sayings.{end_of};
+ghost use Rattle.hierarchy_commands.specs.Commands.{IsContraction, SaysContract};
+
+use crate::progress::ContractionNotes;
+use hierarchy::Hierarchy;
+use hierarchy_file::encode;
+use mode_network::Network;
+use plan_base::{Caps, Shelf, Sink};
+use run_steps::{Outcome, read_region, tell, write_text};
+use std::alloc::{AllocError, Global};
+
+/// Reads the region of this name, contracts its road layers, and writes the hierarchy. `notes` is told how far it is.
+pub fn contract<F: Shelf, O: Sink, E: Sink>(
+    alloc: Global,
+    region: &str,
+    keep: u32,
+    shelf: &mut F,
+    out: &mut O,
+    notes: &mut E,
+    caps: &Caps,
+) -> Result<(), Outcome>
+    ensures { SaysContract caps.now region.now keep (F.meaning shelf.old) (F.meaning shelf.new) (O.meaning out.old) (O.meaning out.new) (end_of result) }
+{
+    let network = read_region(alloc, shelf, region, caps, notes)?;
+    let Ok(text) = contracted(alloc, &network, keep, notes) else {
+        return Err(Outcome::OutOfMemory);
+    };
+    write_text(out, &text)?;
+    Ok(())
+}
+
+/// The text of a hierarchy of the network.
+fn contracted<E: Sink>(
+    alloc: Global,
+    network: &Network,
+    keep: u32,
+    notes: &mut E,
+) -> Result<Vec<u8>, AllocError>
+    ensures { IfOk result (λ text. IsContraction network.now keep text.items) }
+{
+    let mut progress = ContractionNotes::new(alloc, &mut *notes);
+    let h = contractor::contract(alloc, network, keep, &mut progress)?;
+    let text = encode(alloc, &h)?;
+    tell(alloc, notes, told_at_end(alloc, network, &h, text.len()));
+    Ok(text)
+}
+
+/// What the hierarchy consists of.
+fn told_at_end(
+    alloc: Global,
+    network: &Network,
+    h: &Hierarchy,
+    bytes: usize,
+) -> Result<String, AllocError> {
+    let contracted = h.order().len() as u64;
+    let core = u64::from(network.nodes()).saturating_sub(contracted);
+    let entries = h.entries().len();
+    let witnesses = h.witnesses().len();
+    format!(in alloc;
+        "{contracted} nodes are contracted, and {core} are left as the core; {entries} entries and {witnesses} witnesses, in {bytes} bytes"
+    )
+}

@@ -1,0 +1,17 @@
+use Rattle.std.proofs.Common.{subst}
+use Rattle.late_certificate.specs.Verdicts.{IsLateVerdict}
+use Rattle.late_commands.proofs.OutputLemmas.{valid_printable, shown_block}
+use Rattle.late_commands.proofs.verifying.LateCertificatesCertificates.shown.Goals as goal
+
+pub claimed_block-requires : goal.claimed_block-requires
+claimed_block-requires c =
+    let n = c.args.self.now.network.now in
+    let claim = c.in-Ok.certificate in
+    valid_printable n c.known.ensures c.args.bytes.now claim c.in-Ok.ensures.found (subst (IsLateVerdict n claim) c.in-Ok-Valid.field-0-is c.in-Ok-Valid.ensures.verdict)
+
+pub returns-in-Ok-claimed_block-clause-ok : goal.returns-in-Ok-claimed_block-clause-ok
+returns-in-Ok-claimed_block-clause-ok c =
+    let n = c.args.self.now.network.now in
+    let claim = c.in-Ok.certificate in
+    shown_block n c.args.bytes.now claim c.in-Ok-claimed_block.block.items c.in-Ok.ensures.found
+    (subst (IsLateVerdict n claim) c.in-Ok-Valid.field-0-is c.in-Ok-Valid.ensures.verdict) (c.in-Ok-Valid.ensures.proves c.in-Ok-Valid.field-0-is) c.in-Ok-claimed_block.ensures
