@@ -4,11 +4,9 @@
 
 mod city;
 mod counts;
-pub mod progress;
 mod queries;
 mod summary;
 mod texts;
 mod times;
 
-pub use progress::ContractionNotes;
 pub use summary::sample;

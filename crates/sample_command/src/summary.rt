@@ -11,12 +11,12 @@ ghost use Rattle.sample_command.specs.Times.{AreTimes};
 ghost use Rattle.sample_command.specs.Summary as spec;
 
 use crate::city::city_read_back;
-use crate::progress::ContractionNotes;
 use crate::texts::text_of;
 use crate::times::times_of;
 use contractor::contract;
 use hierarchy::{Hierarchy, Verdict};
 use hierarchy_check::check;
+use hierarchy_commands::ContractionNotes;
 use mode_network::Network;
 use plan_base::{Caps, Sink, Time};
 use run_steps::{Outcome, tell, write_text};
