@@ -53,8 +53,12 @@ pub fn name(alloc: Global, script: &Script, words: &[u8]) -> Result<String, Allo
 /// `lines TEXT`: the lines of the text of this name, and whether each has a line feed; and the words of each.
 pub fn lines(alloc: Global, script: &Script, name: &[u8]) -> Result<String, AllocError> {
     let mut told = String::new(alloc);
-    let mut rest = script.text(name);
-    while let Some((line, behind)) = split_line(rest) {
+    let text = script.text(name);
+    let mut rest = text;
+    for _ in 0..text.len() {
+        let Some((line, behind)) = split_line(rest) else {
+            break;
+        };
         let ended = next_line(rest).is_some();
         told.push_str(&format!(in alloc; "ended {ended}:")?)?;
         for word in &words_of(alloc, line)? {
