@@ -1,6 +1,6 @@
 -- A run whose files are there and without fault ends with its work done: each other outcome has a cause that is not there.
 use Rattle.plan_base.specs.declared.limits.Caps.{Caps}
-use Rattle.command_words.specs.Requests.{Request, compile, migrate, contract, answer, certify, verify, check, latest, certify_latest, verify_latest, few}
+use Rattle.command_words.specs.Requests.{Request, compile, migrate, contract, answer, certify, verify, check, sample, latest, certify_latest, verify_latest, few}
 use Rattle.run_steps.specs.Complete.{Files, Completes}
 use Rattle.run_steps.proofs.CompleteSteps.{file_completes, network_completes, writes_completes}
 use Rattle.compile_steps.proofs.CompleteSteps.{map_completes, feed_completes, build_completes}
@@ -20,6 +20,7 @@ completes files caps (answer region queries hierarchy) = answer_completes caps f
 completes files caps (certify region query hierarchy) = certify_completes caps files region query hierarchy
 completes files caps (verify region certificate hierarchy) = verify_completes caps files region certificate hierarchy
 completes files caps (check region hierarchy) = check_completes caps files region hierarchy
+completes files caps (sample size) = writes_completes files _ _
 completes files caps (latest region queries) = latest_completes caps files region queries
 completes files caps (certify_latest region query) = certify_latest_completes caps files region query
 completes files caps (verify_latest region certificate) = verify_latest_completes caps files region certificate

@@ -1,6 +1,6 @@
 -- What each command says of a run by its outcome.
 use Rattle.plan_base.specs.declared.limits.Caps.{Caps}
-use Rattle.command_words.specs.Requests.{Request, compile, migrate, contract, answer, certify, verify, check, latest, certify_latest, verify_latest, few}
+use Rattle.command_words.specs.Requests.{Request, compile, migrate, contract, answer, certify, verify, check, sample, latest, certify_latest, verify_latest, few}
 use Rattle.run_steps.specs.Regions.{OnRegion}
 use Rattle.run_steps.specs.Sayings.{Saying, WritesText}
 use Rattle.compile_steps.specs.Maps.{OnMap}
@@ -8,12 +8,13 @@ use Rattle.compile_steps.specs.Feeds.{OnFeed}
 use Rattle.compile_steps.specs.Builds.{OnBuild}
 use Rattle.hierarchy_commands.specs.Commands.{SaysCheck, SaysContract}
 use Rattle.answer_commands.specs.Commands.{SaysAnswer, SaysCertify, SaysVerify}
+use Rattle.sample_command.specs.Summary.{SaysSample}
 use Rattle.late_commands.specs.Commands.{SaysFew, SaysLatest, SaysCertifyLatest, SaysVerifyLatest}
 use Rattle.planner_core.specs.Outputs.{IsRegionFile}
 
 -- What a run says that was asked for this: `compile` writes the region of a map and a feed over some days, in a format, and `migrate` a region in another one; `contract` writes a hierarchy of
 -- the region's road layers; `answer` writes a right block for each query line of a file, in order, and with a hierarchy how many labels its searches had; `certify` a certificate for a query
--- line; `verify` what the certificate of a file shows; `check` that the hierarchy of a file is sound.
+-- line; `verify` what the certificate of a file shows; `check` that the hierarchy of a file is sound; `sample` the summary of a made city.
 abbrev pub says : Caps → Request → Saying
 says caps (compile map feed days format) =
     OnMap caps map (λ objects. OnFeed caps feed (λ tables. OnBuild caps objects tables days (λ n. WritesText (IsRegionFile caps format n))))
@@ -23,6 +24,7 @@ says caps (answer region queries hierarchy) = SaysAnswer caps region queries hie
 says caps (certify region query hierarchy) = SaysCertify caps region query hierarchy
 says caps (verify region certificate hierarchy) = SaysVerify caps region certificate hierarchy
 says caps (check region hierarchy) = SaysCheck caps region hierarchy
+says caps (sample size) = SaysSample size
 says caps (latest region queries) = SaysLatest caps region queries
 says caps (certify_latest region query) = SaysCertifyLatest caps region query
 says caps (verify_latest region certificate) = SaysVerifyLatest caps region certificate

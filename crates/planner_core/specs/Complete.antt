@@ -4,7 +4,7 @@ use Rattle.plan_base.specs.Counts.{Rose}
 use Rattle.plan_base.specs.Shelves.{ShelfMeaning}
 use Rattle.plan_base.specs.Sinks.{SinkMeaning}
 use Rattle.plan_base.specs.declared.limits.Caps.{Caps}
-use Rattle.command_words.specs.Requests.{Request, IsPlainForm, compile, migrate, contract, answer, certify, verify, check, latest, certify_latest, verify_latest, few}
+use Rattle.command_words.specs.Requests.{Request, IsPlainForm, compile, migrate, contract, answer, certify, verify, check, sample, latest, certify_latest, verify_latest, few}
 use Rattle.run_steps.specs.declared.outcome.Outcome.{Outcome}
 use Rattle.run_steps.specs.Complete.{Files, IsHeld, SpellsNetwork, IsDoneOrMemory}
 use Rattle.compile_steps.specs.Complete.{GivesRegion, IsFeedHeld, SpellsObjects}
@@ -21,6 +21,7 @@ CanBeDone caps files (answer region queries hierarchy) = CanAnswer caps files re
 CanBeDone caps files (certify region query hierarchy) = CanCertify caps files region query hierarchy
 CanBeDone caps files (verify region certificate hierarchy) = CanVerify caps files region certificate hierarchy
 CanBeDone caps files (check region hierarchy) = CanCheck caps files region hierarchy
+CanBeDone caps files (sample size) = Unit {0}
 CanBeDone caps files (latest region queries) = CanLatest caps files region queries
 CanBeDone caps files (certify_latest region query) = CanCertifyLatest caps files region query
 CanBeDone caps files (verify_latest region certificate) = CanVerifyLatest caps files region certificate

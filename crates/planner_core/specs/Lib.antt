@@ -2,3 +2,4 @@ pub mod Outputs
 pub mod Commands
 pub mod Outcomes
 pub mod Complete
+pub mod Working

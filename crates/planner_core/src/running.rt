@@ -7,14 +7,17 @@ ghost use Rattle.run_steps.specs.Sayings.{end_of};
 ghost use Rattle.planner_core.specs.Commands.{says};
 ghost use Rattle.planner_core.specs.Outcomes.{IsOutcome, AreFull};
 ghost use Rattle.planner_core.specs.Complete.{IsComplete};
+ghost use Rattle.planner_core.specs.Working.{HasSize};
 
 use crate::compiling::{compile, migrate};
 use answer_commands::{answer, certify, verify};
+use command_help::help;
 use command_words::{Command, WordsFault, read_words};
 use hierarchy_commands::{check, contract};
 use late_commands::{certify_latest, few, latest, verify_latest};
 use plan_base::{Caps, Shelf, Sink};
 use run_steps::{Outcome, tell};
+use sample_command::sample;
 use std::alloc::Global;
 
 /// Does what a command asks for.
@@ -26,6 +29,7 @@ fn carry_out<F: Shelf, O: Sink, E: Sink>(
     notes: &mut E,
     caps: &Caps,
 ) -> Result<(), Outcome>
+    requires { HasSize (request_of command) }
     ensures { says caps.now (request_of command.entry) (F.meaning shelf.old) (F.meaning shelf.new) (O.meaning out.old) (O.meaning out.new) (end_of result) }
 {
     match command {
@@ -59,6 +63,7 @@ fn carry_out<F: Shelf, O: Sink, E: Sink>(
         Command::Check { region, hierarchy } => {
             check(alloc, region, hierarchy, shelf, out, notes, caps)
         }
+        Command::Sample { size } => sample(alloc, size, out, notes, caps),
         Command::Latest { region, queries } => {
             latest(alloc, region, queries, shelf, out, notes, caps)
         }
@@ -96,8 +101,8 @@ pub fn run_within<F: Shelf, O: Sink, E: Sink>(
     }
 }
 
-/// Does what a command with these words asks for. The first word is the program's name, and each command but `compile` reads
-/// the region file that the third names.
+/// Does what a command with these words asks for. The first word is the program's name, and each command but `compile` and
+/// `sample` reads the region file that the third names.
 ///
 /// `compile` with a map and the folder of a timetable feed writes the region of both over some days, and `migrate` writes a
 /// region anew, in the other format. `contract` writes a hierarchy of the region's road layers, which `check` accepts.
@@ -106,10 +111,11 @@ pub fn run_within<F: Shelf, O: Sink, E: Sink>(
 /// the certificate's line and result, which is the right block of that line. `check` with a hierarchy file writes `sound`
 /// where the hierarchy is sound for the region. With the option `--hierarchy` the commands `answer`, `certify` and `verify`
 /// go over a hierarchy, which is checked at once; `answer` then tells behind the blocks how many labels its searches had.
+/// `sample` with a size writes the summary of a made city.
 ///
 /// The outcome says how the run ended. Where the shelf tells that all files are there, they are without fault, and no count
-/// of faults rose, all of the work is done, unless memory ran out. One line on `notes` says the outcome to people. A fault
-/// of `notes` changes nothing.
+/// of faults rose, all of the work is done, unless memory ran out. `notes` is told the outcome, for people, and
+/// where the words ask for nothing, what they may be. A fault of `notes` changes nothing.
 pub fn run<F: Shelf, O: Sink, E: Sink>(
     alloc: Global,
     words: &[String],
@@ -121,8 +127,15 @@ pub fn run<F: Shelf, O: Sink, E: Sink>(
     ensures complete { (caps : Caps) × AreFull caps × IsComplete caps (map string_bytes words.now) (F.meaning shelf.old) (F.meaning shelf.new) (O.meaning out.old) (O.meaning out.new) result }
 {
     let outcome = run_within(alloc, words, shelf, out, notes, &Caps::FULL);
-    if let Some(note) = outcome.note() {
+    tell_end(alloc, words, outcome, notes);
+    outcome
+}
+
+/// Tells people how a run with these words ended; where they ask for nothing, what they may be.
+fn tell_end<E: Sink>(alloc: Global, words: &[String], outcome: Outcome, notes: &mut E) {
+    if let Outcome::Usage = outcome {
+        tell(alloc, notes, help(alloc, words));
+    } else if let Some(note) = outcome.note() {
         tell(alloc, notes, String::from_str(alloc, note));
     }
-    outcome
 }

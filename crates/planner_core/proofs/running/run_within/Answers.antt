@@ -2,6 +2,7 @@ use Rattle.std.proofs.Common.{subst}
 use Rattle.command_words.specs.Requests.{Request}
 use Rattle.planner_core.specs.Commands.{says}
 use Rattle.planner_core.proofs.CompleteLemmas.{completes}
+use Rattle.planner_core.proofs.SizeLemmas.{asked_size}
 use Rattle.planner_core.proofs.running.run_within.Goals as goal
 
 pub returns-in-Err-clause-complete : goal.returns-in-Err-clause-complete
@@ -12,3 +13,6 @@ returns-in-Err-clause-complete g c r files form tells can reads writes =
     let after = g.O.Sink.meaning c.carry_out.new.out in
     completes files c.args.caps.now r can old new before after c.in-Err.outcome tells reads writes
     (subst (λ (q : Request). says c.args.caps.now q old new before after c.in-Err.outcome) (c.in-Ok.ensures.plain r form).0 c.in-Err.ensures)
+
+pub carry_out-requires : goal.carry_out-requires
+carry_out-requires g c = asked_size _ _ c.in-Ok.ensures.ok
