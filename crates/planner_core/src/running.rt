@@ -15,7 +15,7 @@ use command_help::help;
 use command_words::{Command, WordsFault, read_words};
 use hierarchy_commands::{check, contract};
 use late_commands::{certify_latest, few, latest, verify_latest};
-use plan_base::{Caps, Shelf, Sink};
+use plan_base::{Caps, Shelf, Sink, write_all};
 use run_steps::{Outcome, tell};
 use sample_command::sample;
 use std::alloc::Global;
@@ -133,9 +133,16 @@ pub fn run<F: Shelf, O: Sink, E: Sink>(
 
 /// Tells people how a run with these words ended; where they ask for nothing, what they may be.
 fn tell_end<E: Sink>(alloc: Global, words: &[String], outcome: Outcome, notes: &mut E) {
-    if let Outcome::Usage = outcome {
-        tell(alloc, notes, help(alloc, words));
-    } else if let Some(note) = outcome.note() {
-        tell(alloc, notes, String::from_str(alloc, note));
+    match outcome {
+        Outcome::Usage => {
+            if let Ok(text) = help(alloc, words) {
+                let _ = write_all(notes, text.as_bytes());
+            }
+        }
+        _ => {
+            if let Some(note) = outcome.note() {
+                tell(alloc, notes, String::from_str(alloc, note));
+            }
+        }
     }
 }
