@@ -27,8 +27,28 @@ pub fn help(alloc: Global, words: &[String]) -> Result<String, AllocError> {
             None => modeplan(alloc)?.render_help(),
         },
         Err(error) if error.kind() == ErrorKind::OutOfMemory => Err(AllocError),
-        Err(error) => format!(in alloc; "{error}"),
+        Err(error) => without_tip(alloc, format!(in alloc; "{error}")?.as_bytes()),
     }
+}
+
+/// What `clap` says of a wrong word, but for its tip to put `--` before a word that begins with `-`, and the empty line behind
+/// that: `--` is not taken.
+fn without_tip(alloc: Global, said: &[u8]) -> Result<String, AllocError> {
+    let mut told = String::new(alloc);
+    let mut behind_tip = false;
+    for line in said
+        .strip_suffix(b"\n")
+        .unwrap_or(said)
+        .split(|byte| *byte == b'\n')
+    {
+        let is_tip = line.starts_with(b"  tip: to pass");
+        if !is_tip && !(behind_tip && line.is_empty()) {
+            told.push_str(&String::from_utf8_lossy(alloc, line)?)?;
+            told.push_str("\n")?;
+        }
+        behind_tip = is_tip;
+    }
+    Ok(told)
 }
 
 /// A value that does not read, with what it is a value of, and what it should be.
