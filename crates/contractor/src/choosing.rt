@@ -3,16 +3,19 @@
 ghost use Rattle.std.specs.Prelude.{◌≡◌, ◌<◌, ◌^◌, Some, true, length, count_by, slice_get};
 
 use crate::layer::Layer;
+use crate::trials::Trials;
 use std::alloc::{AllocError, Global};
 use std::cmp::Reverse;
 use std::collections::BinaryHeap;
 
-/// Nodes by how much their contraction is thought to add: the ways by them, and how many nodes below them were
-/// contracted one after the other. No contract speaks of it, since any order will do.
+/// Nodes by how much their contraction is thought to add: the shortcuts that it would need, less the entries that it takes
+/// out of what is left, and how many nodes below them were contracted one after the other. No contract speaks of it, since
+/// any order will do.
 #[derive(Drop)]
 pub(crate) struct Queue {
-    heap: BinaryHeap<Reverse<(u64, u32)>>,
+    heap: BinaryHeap<Reverse<(i64, u32)>>,
     depths: Vec<u32>,
+    trials: Trials,
 }
 
 impl Queue {
@@ -23,10 +26,11 @@ impl Queue {
         let mut queue = Queue {
             heap: BinaryHeap::new(alloc),
             depths: vec![in alloc; 0; waiting.len()]?,
+            trials: Trials::new(alloc, waiting.len())?,
         };
         for v in 0..waiting.len() {
             if waiting[v] {
-                let key = queue.key(layer, v as u32);
+                let key = queue.key(layer, v as u32)?;
                 queue.heap.push(Reverse((key, v as u32)))?;
             }
         }
@@ -39,7 +43,7 @@ impl Queue {
             let Some(Reverse((_, x))) = self.heap.pop() else {
                 break;
             };
-            let key = self.key(layer, x);
+            let key = self.key(layer, x)?;
             if self.is_least(key) {
                 return Ok(x);
             }
@@ -49,20 +53,24 @@ impl Queue {
     }
 
     /// Whether no node that waits has a lower key.
-    fn is_least(&self, key: u64) -> bool {
+    fn is_least(&self, key: i64) -> bool {
         match self.heap.peek() {
             Some(Reverse((least, _))) => key <= *least,
             None => true,
         }
     }
 
-    fn key(&self, layer: &Layer, v: u32) -> u64 {
+    fn key(&mut self, layer: &Layer, v: u32) -> Result<i64, AllocError> {
         let place = v as usize;
-        let after = layer.rows.get(place).map_or(0, |row| row.len()) as u64;
-        let before = layer.into.get(place).map_or(0, |nodes| nodes.len()) as u64;
-        after
-            .saturating_mul(before)
-            .saturating_add(u64::from(self.depth(v)))
+        let after = layer.rows.get(place).map_or(0, |row| row.len()) as i64;
+        let before = layer.into.get(place).map_or(0, |nodes| nodes.len()) as i64;
+        let shortcuts = i64::from(self.trials.shortcuts(layer, v)?);
+        Ok(
+            shortcuts
+                .saturating_sub(after)
+                .saturating_sub(before)
+                .saturating_add(i64::from(self.depth(v))),
+        )
     }
 
     fn depth(&self, v: u32) -> u32 {
