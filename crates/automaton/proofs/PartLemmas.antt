@@ -4,7 +4,7 @@ use Rattle.std.proofs.Math.Seq.{drop-length}
 use Rattle.mode_expression.specs.declared.expr.Expr.{Expr, Seq, Alt, Repeat}
 use Rattle.mode_expression.specs.Form.{form_of, in_turn, one_of}
 use Rattle.mode_expression.proofs.FormLemmas.{form_seq, form_alt}
-use Rattle.automaton.specs.Written.{written, copies, options, unbounded, repeat, sequence}
+use Rattle.automaton.specs.Written.{written, copies_in_turn, options, unbounded, repeat, sequence}
 
 pub written_seq : (expr : Expr) (parts : Vec Expr Global) (items : List Expr) → expr ≡ Seq parts → items ≡ parts.items
     → written (in_turn (map form_of items)) ≡ written (form_of expr)
@@ -22,7 +22,7 @@ written_unbounded expr part of least is same =
     ap (λ e. unbounded least (written (form_of e))) same ∙ sym (ap (λ e. written (form_of e)) is)
 
 pub written_bounded : (expr part : Expr) (of : Box Expr Global) (least most : ℕ) → expr ≡ Repeat of least (Some most) → part ≡ of.value
-    → sequence (copies least (written (form_of part))) (options (most - least) (written (form_of part))) ≡ written (form_of expr)
+    → sequence (copies_in_turn least (written (form_of part))) (options (most - least) (written (form_of part))) ≡ written (form_of expr)
 written_bounded expr part of least most is same =
     ap (λ e. repeat (written (form_of e)) least (Some most)) same ∙ sym (ap (λ e. written (form_of e)) is)
 

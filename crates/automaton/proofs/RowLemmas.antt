@@ -3,7 +3,7 @@ use Rattle.std.proofs.Common.{◌≡◌, ℕ, ◌+◌, ◌-◌, ◌<◌, ◌≤�
 use Rattle.std.proofs.lemmas.Bool.Decides.{nat_tests}
 use Rattle.std.proofs.lemmas.List.{map-append}
 use Rattle.std.proofs.Math.Seq.{get_or-append_seam}
-use Rattle.automaton.specs.Written.{Written, nothing, nowhere, letter, sequence, choice, optional, plus, size, nullable, first, last, follow, letters_of}
+use Rattle.automaton.specs.Written.{Written, nothing, nowhere, letter, sequence, choice, optional, plus, size, nullable, first, last, follow, letters_written}
 use Rattle.automaton.specs.Rows.{Row, entry, rows, row_at, no_row}
 use Rattle.automaton.proofs.LanguageLemmas.{Agrees}
 
@@ -17,18 +17,18 @@ length-rows (choice a b) o K = omega (arith, length-append (rows a o K) (rows b 
 length-rows (optional a) o K = length-rows a o K
 length-rows (plus a) o K = length-rows a o (λ q. first a o q || K q)
 
-pub letters-rows : (e : Written) (o : ℕ) (K : ℕ → Bool) → map (λ row. row.letters) (rows e o K) ≡ letters_of e
+pub letters-rows : (e : Written) (o : ℕ) (K : ℕ → Bool) → map (λ row. row.letters) (rows e o K) ≡ letters_written e
 letters-rows nothing o K = refl
 letters-rows nowhere o K = refl
 letters-rows (letter bits) o K = refl
 letters-rows (sequence a b) o K =
     map-append (λ row. row.letters) (rows a o (entry b (o + size a) K)) (rows b (o + size a) K)
     ∙ ap (λ xs. xs ++ map (λ row. row.letters) (rows b (o + size a) K)) (letters-rows a o (entry b (o + size a) K))
-    ∙ ap (λ xs. letters_of a ++ xs) (letters-rows b (o + size a) K)
+    ∙ ap (λ xs. letters_written a ++ xs) (letters-rows b (o + size a) K)
 letters-rows (choice a b) o K =
     map-append (λ row. row.letters) (rows a o K) (rows b (o + size a) K)
     ∙ ap (λ xs. xs ++ map (λ row. row.letters) (rows b (o + size a) K)) (letters-rows a o K)
-    ∙ ap (λ xs. letters_of a ++ xs) (letters-rows b (o + size a) K)
+    ∙ ap (λ xs. letters_written a ++ xs) (letters-rows b (o + size a) K)
 letters-rows (optional a) o K = letters-rows a o K
 letters-rows (plus a) o K = letters-rows a o (λ q. first a o q || K q)
 

@@ -2,7 +2,7 @@
 use Rattle.std.proofs.Common.{◌≡◌, ℕ, zero, suc, ◌+◌, ◌-◌, ◌*◌, ◌<◌, ◌≤◌, List, [], ◌∷◌, ◌++◌, Option, Some, None, IfSome, refl, sym, ap, ◌∙◌, subst, inl, inr, append_assoc, get_or, ◌^◌, lit<, arith}
 use Rattle.mode_expression.specs.Form.{Form, letters, empty, both, never, either, repeated, IsJoined, IsPower, IsWordOf, IsWellFormed, IsCount, places}
 use Rattle.mode_expression.specs.Form.{copies as copied}
-use Rattle.automaton.specs.Written.{Written, copies, options, repeat, written, size, letters_of, IsWritten}
+use Rattle.automaton.specs.Written.{Written, copies_in_turn, options, repeat, written, size, letters_written, IsWritten}
 use Rattle.automaton.specs.States.{letters_at}
 
 joined_map : (P Q R S : List ℕ → Type 0) → ((w : List ℕ) → P w → R w) → ((w : List ℕ) → Q w → S w) → (word : List ℕ) → IsJoined P Q word → IsJoined R S word
@@ -30,15 +30,15 @@ module _ (P : List ℕ → Type 0) where
       after (x, y, parts, in_x, in_y) = (u ++ x, y, split ∙ ap (λ w. u ++ w) parts ∙ sym (append_assoc u x y), (u, x, refl, in_u, in_x), in_y)
 
 module _ (e : Written) where
-  copies_power : (k : ℕ) (word : List ℕ) → IsWritten (copies k e) word → IsPower (IsWritten e) k word
+  copies_power : (k : ℕ) (word : List ℕ) → IsWritten (copies_in_turn k e) word → IsPower (IsWritten e) k word
   copies_power zero word none = none
   copies_power (suc k) word joined =
-      joined_map (IsWritten e) (IsWritten (copies k e)) (IsWritten e) (IsPower (IsWritten e) k) (λ w in_w. in_w) (copies_power k) word joined
+      joined_map (IsWritten e) (IsWritten (copies_in_turn k e)) (IsWritten e) (IsPower (IsWritten e) k) (λ w in_w. in_w) (copies_power k) word joined
 
-  power_copies : (k : ℕ) (word : List ℕ) → IsPower (IsWritten e) k word → IsWritten (copies k e) word
+  power_copies : (k : ℕ) (word : List ℕ) → IsPower (IsWritten e) k word → IsWritten (copies_in_turn k e) word
   power_copies zero word none = none
   power_copies (suc k) word joined =
-      joined_map (IsWritten e) (IsPower (IsWritten e) k) (IsWritten e) (IsWritten (copies k e)) (λ w in_w. in_w) (power_copies k) word joined
+      joined_map (IsWritten e) (IsPower (IsWritten e) k) (IsWritten e) (IsWritten (copies_in_turn k e)) (λ w in_w. in_w) (power_copies k) word joined
 
   abbrev UpTo : ℕ → List ℕ → Type 0
   UpTo n word = (k : ℕ) × (k ≤ n) × IsPower (IsWritten e) k word
@@ -111,7 +111,7 @@ written_of_denoted (repeated a least most) formed word in_word =
     repeat_in (written a) least most formed.1 word (repeats_map (IsWordOf a) (IsWritten (written a)) (written_of_denoted a formed.0) least most word in_word)
 
 -- the positions are the places that were counted
-size_copies : (k : ℕ) (e : Written) → size (copies k e) ≡ k * size e
+size_copies : (k : ℕ) (e : Written) → size (copies_in_turn k e) ≡ k * size e
 size_copies zero e = omega arith
 size_copies (suc k) e = omega (arith, size_copies k e)
 
@@ -147,26 +147,26 @@ below-append : (xs ys : List ℕ) → AllBelow xs → AllBelow ys → AllBelow (
 below-append [] ys none in_ys = in_ys
 below-append (x ∷ xs) ys in_xs in_ys = (in_xs.0, below-append xs ys in_xs.1 in_ys)
 
-copies_below : (k : ℕ) (e : Written) → AllBelow (letters_of e) → AllBelow (letters_of (copies k e))
+copies_below : (k : ℕ) (e : Written) → AllBelow (letters_written e) → AllBelow (letters_written (copies_in_turn k e))
 copies_below zero e below = tt
-copies_below (suc k) e below = below-append (letters_of e) (letters_of (copies k e)) below (copies_below k e below)
+copies_below (suc k) e below = below-append (letters_written e) (letters_written (copies_in_turn k e)) below (copies_below k e below)
 
-options_below : (k : ℕ) (e : Written) → AllBelow (letters_of e) → AllBelow (letters_of (options k e))
+options_below : (k : ℕ) (e : Written) → AllBelow (letters_written e) → AllBelow (letters_written (options k e))
 options_below zero e below = tt
-options_below (suc k) e below = below-append (letters_of e) (letters_of (options k e)) below (options_below k e below)
+options_below (suc k) e below = below-append (letters_written e) (letters_written (options k e)) below (options_below k e below)
 
-repeat_below : (e : Written) (least : ℕ) (most : Option ℕ) → AllBelow (letters_of e) → AllBelow (letters_of (repeat e least most))
+repeat_below : (e : Written) (least : ℕ) (most : Option ℕ) → AllBelow (letters_written e) → AllBelow (letters_written (repeat e least most))
 repeat_below e zero None below = below
 repeat_below e (suc least) None below = below
 repeat_below e least (Some most) below =
-    below-append (letters_of (copies least e)) (letters_of (options (most - least) e)) (copies_below least e below) (options_below (most - least) e below)
+    below-append (letters_written (copies_in_turn least e)) (letters_written (options (most - least) e)) (copies_below least e below) (options_below (most - least) e below)
 
-written_below : (f : Form) → IsWellFormed f → AllBelow (letters_of (written f))
+written_below : (f : Form) → IsWellFormed f → AllBelow (letters_written (written f))
 written_below (letters bits) formed = (formed, tt)
 written_below empty formed = tt
-written_below (both a b) formed = below-append (letters_of (written a)) (letters_of (written b)) (written_below a formed.0) (written_below b formed.1)
+written_below (both a b) formed = below-append (letters_written (written a)) (letters_written (written b)) (written_below a formed.0) (written_below b formed.1)
 written_below never formed = tt
-written_below (either a b) formed = below-append (letters_of (written a)) (letters_of (written b)) (written_below a formed.0) (written_below b formed.1)
+written_below (either a b) formed = below-append (letters_written (written a)) (letters_written (written b)) (written_below a formed.0) (written_below b formed.1)
 written_below (repeated a least most) formed = repeat_below (written a) least most (written_below a formed.0)
 
 at_below : (xs : List ℕ) (k : ℕ) → AllBelow xs → get_or xs k 0 < 2 ^ 14
@@ -175,4 +175,4 @@ at_below (x ∷ xs) zero below = below.0
 at_below (x ∷ xs) (suc k) below = at_below xs k below.1
 
 pub letters_below : (f : Form) → IsWellFormed f → (p : ℕ) → letters_at (written f) p < 2 ^ 14
-letters_below f formed p = at_below (letters_of (written f)) (p - 1) (written_below f formed)
+letters_below f formed p = at_below (letters_written (written f)) (p - 1) (written_below f formed)

@@ -3,7 +3,7 @@ use Rattle.std.specs.Prelude.{◌≡◌, ℕ, zero, suc, ◌+◌, ◌-◌, ◌<�
 use Rattle.search_laws.specs.declared.labels.Move.{Move}
 use Rattle.search_laws.specs.LabelLaws.{LabelsMeaning, HasMove}
 use Rattle.automaton.specs.declared.state.State.{State}
-use Rattle.automaton.specs.Written.{Written, size, nullable, first, last, follow, letters_of}
+use Rattle.automaton.specs.Written.{Written, size, nullable, first, last, follow, letters_written}
 use Rattle.automaton.specs.Rows.{Row, row_at}
 
 -- a state as contracts see it
@@ -58,7 +58,7 @@ may_end e zero = nullable e
 may_end e (suc q) = last e 0 (suc q)
 
 abbrev pub letters_at : Written → ℕ → ℕ
-letters_at e p = slice_index_or (letters_of e) (p - 1) 0
+letters_at e p = slice_index_or (letters_written e) (p - 1) 0
 
 -- State 0 is the start, and state p is "position p was read last". A move leads to each position that may be read next, by its letters.
 pub record IsPositionAutomaton (e : Written) (l : LabelsMeaning) : Type 0 where

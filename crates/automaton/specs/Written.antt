@@ -13,9 +13,9 @@ pub data Written : Type 0 where
   plus : Written → Written
 
 -- n copies, one after the other
-abbrev pub copies : ℕ → Written → Written
-copies zero part = nothing
-copies (suc n) part = sequence part (copies n part)
+abbrev pub copies_in_turn : ℕ → Written → Written
+copies_in_turn zero part = nothing
+copies_in_turn (suc n) part = sequence part (copies_in_turn n part)
 
 -- n nested options: `(e(e)?)?` is two
 abbrev pub options : ℕ → Written → Written
@@ -29,7 +29,7 @@ unbounded (suc _) part = plus part
 
 abbrev pub repeat : Written → ℕ → Option ℕ → Written
 repeat part least None = unbounded least part
-repeat part least (Some most) = sequence (copies least part) (options (most - least) part)
+repeat part least (Some most) = sequence (copies_in_turn least part) (options (most - least) part)
 
 -- an expression written out
 abbrev pub written : Form → Written
@@ -93,14 +93,14 @@ follow (optional a) o p q = follow a o p q
 follow (plus a) o p q = follow a o p q || (last a o p && first a o q)
 
 -- the letters of the positions, in order
-abbrev pub letters_of : Written → List ℕ
-letters_of nothing = []
-letters_of nowhere = []
-letters_of (letter bits) = bits ∷ []
-letters_of (sequence a b) = letters_of a ++ letters_of b
-letters_of (choice a b) = letters_of a ++ letters_of b
-letters_of (optional a) = letters_of a
-letters_of (plus a) = letters_of a
+abbrev pub letters_written : Written → List ℕ
+letters_written nothing = []
+letters_written nowhere = []
+letters_written (letter bits) = bits ∷ []
+letters_written (sequence a b) = letters_written a ++ letters_written b
+letters_written (choice a b) = letters_written a ++ letters_written b
+letters_written (optional a) = letters_written a
+letters_written (plus a) = letters_written a
 
 -- the words of what is written out
 abbrev pub IsWritten : Written → List ℕ → Type 0

@@ -1,6 +1,6 @@
 ghost use Rattle.std.specs.Prelude.{◌≡◌, ℕ, map, reverse, IfOk, OnOk, false, [], ◌∷◌, ◌-◌};
 ghost use Rattle.mode_expression.specs.Form.{form_of, in_turn, one_of};
-ghost use Rattle.automaton.specs.Written.{written, letter, plus, copies, options, repeat};
+ghost use Rattle.automaton.specs.Written.{written, letter, plus, copies_in_turn, options, repeat};
 
 use crate::position_set::PositionSet;
 use mode_expression::Expr;
@@ -114,7 +114,7 @@ impl Builder {
         count: u32,
         after: PositionSet,
     ) -> Result<PositionSet, AllocError>
-        ensures { IfOk result (AddsTo self.old self.new (copies count (written (form_of part.now))) after) }
+        ensures { IfOk result (AddsTo self.old self.new (copies_in_turn count (written (form_of part.now))) after) }
     {
         let mut next = after;
         for _ in 0..count {

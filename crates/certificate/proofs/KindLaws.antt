@@ -16,23 +16,23 @@ use Rattle.product_search.specs.declared.label.Label.{Label}
 use Rattle.certificate.specs.declared.lines.Line.{Line}
 use Rattle.certificate.specs.declared.lines.Line.TheVariants as line
 use Rattle.certificate.specs.Lines.{FitsLabel, FitsLine, FitsStep, IsTime, graph_name, label_words, spelled, step_words, words}
-use Rattle.certificate.specs.Kinds.{arrive_at, bare, behind_query, by_first_word, graph_at, head_at, kind_at, label_at, label_or_kind, labels_at, line_of, line_of_words, phases_at, query_or_words, query_word, ride_at, start_at, time_at, to_at, wait_at, word_at}
+use Rattle.certificate.specs.Kinds.{arrive_of_words, bare, behind_query, by_first_word, graph_of_words, head_of_words, line_of_kind, label_of_words, label_or_kind, labels_of_words, line_of, line_of_words, phases_of_word, query_or_words, query_word, ride_of_words, start_of_words, time_of_word, to_of_words, wait_of_words, number_of_word}
 
 pub mapped : {A B : Type 0} (f : A → B) (o : Option A) (y : B) → option_map f o ≡ Some y → (x : A) × (o ≡ Some x) × (f x ≡ y)
 mapped f None y e = absurd (none-some y e)
 mapped f (Some x) y e = (x, refl, same_Some (f x) y e)
 
 -- numbers and times
-word_takes : (text : List ℕ) (n : ℕ) → word_at text ≡ Some n → (n < 2 ^ 32) × (text ≡ decimal n)
+word_takes : (text : List ℕ) (n : ℕ) → number_of_word text ≡ Some n → (n < 2 ^ 32) × (text ≡ decimal n)
 word_takes text n e = number_takes text (2 ^ 32) n (omega arith) e
 
-word_again : (n : ℕ) → n < 2 ^ 32 → word_at (decimal n) ≡ Some n
+word_again : (n : ℕ) → n < 2 ^ 32 → number_of_word (decimal n) ≡ Some n
 word_again n h = number_again (2 ^ 32) n (omega arith) h
 
-pub time_takes : (text : List ℕ) (t : ℕ) → time_at text ≡ Some t → IsTime t × (text ≡ decimal t)
+pub time_takes : (text : List ℕ) (t : ℕ) → time_of_word text ≡ Some t → IsTime t × (text ≡ decimal t)
 time_takes text t e = number_takes text (10 ^ 30) t (omega arith) e
 
-pub time_again : (t : ℕ) → IsTime t → time_at (decimal t) ≡ Some t
+pub time_again : (t : ℕ) → IsTime t → time_of_word (decimal t) ≡ Some t
 time_again t h = number_again (10 ^ 30) t (omega arith) h
 
 -- bytes that are equal to a literal
@@ -40,16 +40,16 @@ pub same_bytes : (xs ys : List ℕ) → bytes_eq xs ys ≡ true → xs ≡ ys
 same_bytes xs ys e = (bytes_eq-Decides xs ys).0 e
 
 -- labels
-label_takes : (fields : List (List ℕ)) (l : Label) → label_at fields ≡ Some l → (label_words l ≡ fields) × FitsLabel l
-unfolding label_at
+label_takes : (fields : List (List ℕ)) (l : Label) → label_of_words fields ≡ Some l → (label_words l ≡ fields) × FitsLabel l
+unfolding label_of_words
 label_takes [] l e = absurd (none-some l e)
 label_takes (a ∷ []) l e = absurd (none-some l e)
 label_takes (a ∷ b ∷ []) l e = absurd (none-some l e)
 label_takes (a ∷ b ∷ c ∷ d ∷ more) l e = absurd (none-some l e)
 label_takes (a ∷ b ∷ c ∷ []) l e =
-    option_and_then_some _ (word_at a) l e (λ node is_node e.
-    option_and_then_some _ (word_at b) l e (λ state is_state e.
-    option_and_then_some _ (time_at c) l e (λ at is_at e.
+    option_and_then_some _ (number_of_word a) l e (λ node is_node e.
+    option_and_then_some _ (number_of_word b) l e (λ state is_state e.
+    option_and_then_some _ (time_of_word c) l e (λ at is_at e.
     let place = word_takes a node is_node in
     let automaton = word_takes b state is_state in
     let time = time_takes c at is_at in
@@ -57,8 +57,8 @@ label_takes (a ∷ b ∷ c ∷ []) l e =
     let same : label_words read ≡ a ∷ b ∷ c ∷ [] = cc (place.1, automaton.1, time.1) in
     subst (λ x. (label_words x ≡ a ∷ b ∷ c ∷ []) × FitsLabel x) (same_Some read l e) (same, record { node = place.0; state = automaton.0; at = time.0 }))))
 
-label_again : (l : Label) → FitsLabel l → label_at (label_words l) ≡ Some l
-unfolding label_at
+label_again : (l : Label) → FitsLabel l → label_of_words (label_words l) ≡ Some l
+unfolding label_of_words
 label_again l h = rw (word_again l.node h.node, word_again l.state h.state, time_again l.at h.at) refl
 
 -- The lines that begin with a word of their own: what stands behind it.
@@ -71,7 +71,7 @@ if_both true true l m e = (refl, refl, same_Some l m e)
 if_both true false l m e = absurd (none-some m e)
 if_both false b l m e = absurd (none-some m e)
 
-phases_takes : (graph : List ℕ) (phases : Bool) → phases_at graph ≡ Some phases → graph_name phases ≡ graph
+phases_takes : (graph : List ℕ) (phases : Bool) → phases_of_word graph ≡ Some phases → graph_name phases ≡ graph
 phases_takes graph phases e = by_plain (bytes_eq graph (codes "plain")) refl e
   where
     by_phases : (t : Bool) → bytes_eq graph (codes "phases") ≡ t → cond t (Some true) None ≡ Some phases → graph_name phases ≡ graph
@@ -82,8 +82,8 @@ phases_takes graph phases e = by_plain (bytes_eq graph (codes "plain")) refl e
     by_plain true is e = ap graph_name (sym (same_Some false phases e)) ∙ sym (same_bytes graph (codes "plain") is)
     by_plain false is e = by_phases (bytes_eq graph (codes "phases")) refl e
 
-head_takes : (fields : List (List ℕ)) (l : Line) → head_at fields ≡ Some l → (words l ≡ codes "modeplan" ∷ fields) × FitsLine l
-unfolding head_at
+head_takes : (fields : List (List ℕ)) (l : Line) → head_of_words fields ≡ Some l → (words l ≡ codes "modeplan" ∷ fields) × FitsLine l
+unfolding head_of_words
 head_takes [] l e = absurd (none-some l e)
 head_takes (a ∷ []) l e = absurd (none-some l e)
 head_takes (a ∷ b ∷ c ∷ more) l e = absurd (none-some l e)
@@ -92,64 +92,64 @@ head_takes (a ∷ b ∷ []) l e =
     subst (λ x. (words x ≡ codes "modeplan" ∷ a ∷ b ∷ []) × FitsLine x) found.2
     (ap₂ (λ x y. codes "modeplan" ∷ x ∷ y ∷ []) (sym (same_bytes a (codes "certificate") found.0)) (sym (same_bytes b (codes "1") found.1)), tt)
 
-graph_takes : (fields : List (List ℕ)) (l : Line) → graph_at fields ≡ Some l → (words l ≡ codes "graph" ∷ fields) × FitsLine l
-unfolding graph_at
+graph_takes : (fields : List (List ℕ)) (l : Line) → graph_of_words fields ≡ Some l → (words l ≡ codes "graph" ∷ fields) × FitsLine l
+unfolding graph_of_words
 graph_takes [] l e = absurd (none-some l e)
 graph_takes (a ∷ b ∷ more) l e = absurd (none-some l e)
 graph_takes (a ∷ []) l e =
-    option_and_then_some _ (phases_at a) l e (λ phases is e.
+    option_and_then_some _ (phases_of_word a) l e (λ phases is e.
     subst (λ x. (words x ≡ codes "graph" ∷ a ∷ []) × FitsLine x) (same_Some (line.Graph phases) l e) (ap (λ w. codes "graph" ∷ w ∷ []) (phases_takes a phases is), tt))
 
-arrive_takes : (fields : List (List ℕ)) (l : Line) → arrive_at fields ≡ Some l → (words l ≡ codes "arrive" ∷ fields) × FitsLine l
-unfolding arrive_at
+arrive_takes : (fields : List (List ℕ)) (l : Line) → arrive_of_words fields ≡ Some l → (words l ≡ codes "arrive" ∷ fields) × FitsLine l
+unfolding arrive_of_words
 arrive_takes [] l e = absurd (none-some l e)
 arrive_takes (a ∷ b ∷ more) l e = absurd (none-some l e)
 arrive_takes (a ∷ []) l e =
-    option_and_then_some _ (time_at a) l e (λ t is e.
+    option_and_then_some _ (time_of_word a) l e (λ t is e.
     let time = time_takes a t is in
     subst (λ x. (words x ≡ codes "arrive" ∷ a ∷ []) × FitsLine x) (same_Some (line.Arrive t) l e) (ap (λ w. codes "arrive" ∷ w ∷ []) (sym time.1), time.0))
 
-start_takes : (fields : List (List ℕ)) (l : Line) → start_at fields ≡ Some l → (words l ≡ codes "start" ∷ fields) × FitsLine l
-unfolding start_at
+start_takes : (fields : List (List ℕ)) (l : Line) → start_of_words fields ≡ Some l → (words l ≡ codes "start" ∷ fields) × FitsLine l
+unfolding start_of_words
 start_takes [] l e = absurd (none-some l e)
 start_takes (a ∷ []) l e = absurd (none-some l e)
 start_takes (a ∷ b ∷ c ∷ more) l e = absurd (none-some l e)
 start_takes (a ∷ b ∷ []) l e =
-    option_and_then_some _ (word_at a) l e (λ node is_node e.
-    option_and_then_some _ (time_at b) l e (λ t is_time e.
+    option_and_then_some _ (number_of_word a) l e (λ node is_node e.
+    option_and_then_some _ (time_of_word b) l e (λ t is_time e.
     let place = word_takes a node is_node in
     let time = time_takes b t is_time in
     subst (λ x. (words x ≡ codes "start" ∷ a ∷ b ∷ []) × FitsLine x) (same_Some (line.Start node t) l e) (ap₂ (λ x y. codes "start" ∷ x ∷ y ∷ []) (sym place.1) (sym time.1), (place.0, time.0))))
 
-wait_takes : (fields : List (List ℕ)) (l : Line) → wait_at fields ≡ Some l → (words l ≡ codes "wait" ∷ fields) × FitsLine l
-unfolding wait_at
+wait_takes : (fields : List (List ℕ)) (l : Line) → wait_of_words fields ≡ Some l → (words l ≡ codes "wait" ∷ fields) × FitsLine l
+unfolding wait_of_words
 wait_takes [] l e = absurd (none-some l e)
 wait_takes (a ∷ b ∷ more) l e = absurd (none-some l e)
 wait_takes (a ∷ []) l e =
-    option_and_then_some _ (time_at a) l e (λ t is e.
+    option_and_then_some _ (time_of_word a) l e (λ t is e.
     let time = time_takes a t is in
     subst (λ x. (words x ≡ codes "wait" ∷ a ∷ []) × FitsLine x) (same_Some (line.Step (Wait t)) l e) (ap (λ w. codes "wait" ∷ w ∷ []) (sym time.1), time.0))
 
-to_takes : (fields : List (List ℕ)) (to : ℕ) → to_at fields ≡ Some to → (decimal to ∷ [] ≡ fields) × (to < 2 ^ 32)
-unfolding to_at
+to_takes : (fields : List (List ℕ)) (to : ℕ) → to_of_words fields ≡ Some to → (decimal to ∷ [] ≡ fields) × (to < 2 ^ 32)
+unfolding to_of_words
 to_takes [] to e = absurd (none-some to e)
 to_takes (a ∷ b ∷ more) to e = absurd (none-some to e)
 to_takes (a ∷ []) to e =
     let node = word_takes a to e in
     (ap (λ w. w ∷ []) (sym node.1), node.0)
 
-ride_takes : (fields : List (List ℕ)) (l : Line) → ride_at fields ≡ Some l → (words l ≡ codes "ride" ∷ fields) × FitsLine l
-unfolding ride_at
+ride_takes : (fields : List (List ℕ)) (l : Line) → ride_of_words fields ≡ Some l → (words l ≡ codes "ride" ∷ fields) × FitsLine l
+unfolding ride_of_words
 ride_takes [] l e = absurd (none-some l e)
 ride_takes (a ∷ []) l e = absurd (none-some l e)
 ride_takes (a ∷ b ∷ []) l e = absurd (none-some l e)
 ride_takes (a ∷ b ∷ c ∷ []) l e = absurd (none-some l e)
 ride_takes (a ∷ b ∷ c ∷ d ∷ f ∷ more) l e = absurd (none-some l e)
 ride_takes (a ∷ b ∷ c ∷ d ∷ []) l e =
-    option_and_then_some _ (word_at a) l e (λ trip is_trip e.
-    option_and_then_some _ (word_at b) l e (λ day is_day e.
-    option_and_then_some _ (word_at c) l e (λ board is_board e.
-    option_and_then_some _ (word_at d) l e (λ alight is_alight e.
+    option_and_then_some _ (number_of_word a) l e (λ trip is_trip e.
+    option_and_then_some _ (number_of_word b) l e (λ day is_day e.
+    option_and_then_some _ (number_of_word c) l e (λ board is_board e.
+    option_and_then_some _ (number_of_word d) l e (λ alight is_alight e.
     let run = word_takes a trip is_trip in
     let date = word_takes b day is_day in
     let on = word_takes c board is_board in
@@ -158,8 +158,8 @@ ride_takes (a ∷ b ∷ c ∷ d ∷ []) l e =
     subst (λ x. (words x ≡ codes "ride" ∷ a ∷ b ∷ c ∷ d ∷ []) × FitsLine x) (same_Some (line.Step (Ride trip day board alight)) l e)
     (same, record { trip = run.0; day = date.0; board = on.0; alight = off.0 })))))
 
-labels_takes : (fields : List (List ℕ)) (l : Line) → labels_at fields ≡ Some l → (words l ≡ codes "labels" ∷ fields) × FitsLine l
-unfolding labels_at
+labels_takes : (fields : List (List ℕ)) (l : Line) → labels_of_words fields ≡ Some l → (words l ≡ codes "labels" ∷ fields) × FitsLine l
+unfolding labels_of_words
 labels_takes [] l e = absurd (none-some l e)
 labels_takes (a ∷ b ∷ more) l e = absurd (none-some l e)
 labels_takes (a ∷ []) l e =
@@ -175,12 +175,12 @@ by_kind {P} kind literal x y l e here later = by_test (bytes_eq kind literal) re
     by_test true is e = here (sym (same_bytes kind literal is)) e
     by_test false is e = later e
 
-kind_takes : (kind : List ℕ) (fields : List (List ℕ)) (l : Line) → kind_at kind fields ≡ Some l → (words l ≡ kind ∷ fields) × FitsLine l
-unfolding kind_at
+kind_takes : (kind : List ℕ) (fields : List (List ℕ)) (l : Line) → line_of_kind kind fields ≡ Some l → (words l ≡ kind ∷ fields) × FitsLine l
+unfolding line_of_kind
 kind_takes kind fields l e =
-    by_kind kind (codes "road") _ _ l e (λ is e. to_said Road (codes "road") (λ to. refl) (λ to h. h) is (mapped (λ to. line.Step (Road to)) (to_at fields) l e)) (λ e.
+    by_kind kind (codes "road") _ _ l e (λ is e. to_said Road (codes "road") (λ to. refl) (λ to h. h) is (mapped (λ to. line.Step (Road to)) (to_of_words fields) l e)) (λ e.
     by_kind kind (codes "ride") _ _ l e (λ is e. said (codes "ride") is (ride_takes fields l e)) (λ e.
-    by_kind kind (codes "link") _ _ l e (λ is e. to_said Link (codes "link") (λ to. refl) (λ to h. h) is (mapped (λ to. line.Step (Link to)) (to_at fields) l e)) (λ e.
+    by_kind kind (codes "link") _ _ l e (λ is e. to_said Link (codes "link") (λ to. refl) (λ to h. h) is (mapped (λ to. line.Step (Link to)) (to_of_words fields) l e)) (λ e.
     by_kind kind (codes "wait") _ _ l e (λ is e. said (codes "wait") is (wait_takes fields l e)) (λ e.
     by_kind kind (codes "stand") _ _ l e (λ is e. bare_said (line.Step Stand) (codes "stand") refl tt is (bare_takes (line.Step Stand) fields l e)) (λ e.
     by_kind kind (codes "modeplan") _ _ l e (λ is e. said (codes "modeplan") is (head_takes fields l e)) (λ e.
@@ -197,20 +197,20 @@ kind_takes kind fields l e =
     bare_said : (m : Line) (literal : List ℕ) → words m ≡ literal ∷ [] → FitsLine m → literal ≡ kind → (m ≡ l) × ([] ≡ fields) → (words l ≡ kind ∷ fields) × FitsLine l
     bare_said m literal spelled fits is h = subst (λ x. (words x ≡ kind ∷ fields) × FitsLine x) h.0 (spelled ∙ ap₂ (λ x y. x ∷ y) is h.1, fits)
 
-    to_said : (step : ℕ → Step) (literal : List ℕ) → ((to : ℕ) → step_words (step to) ≡ literal ∷ decimal to ∷ []) → ((to : ℕ) → to < 2 ^ 32 → FitsStep (step to)) → literal ≡ kind → (to : ℕ) × (to_at fields ≡ Some to) × (line.Step (step to) ≡ l) → (words l ≡ kind ∷ fields) × FitsLine l
+    to_said : (step : ℕ → Step) (literal : List ℕ) → ((to : ℕ) → step_words (step to) ≡ literal ∷ decimal to ∷ []) → ((to : ℕ) → to < 2 ^ 32 → FitsStep (step to)) → literal ≡ kind → (to : ℕ) × (to_of_words fields ≡ Some to) × (line.Step (step to) ≡ l) → (words l ≡ kind ∷ fields) × FitsLine l
     to_said step literal spelled fits is found =
         let read = to_takes fields found.0 found.1 in
         subst (λ x. (words x ≡ kind ∷ fields) × FitsLine x) found.2 (spelled found.0 ∙ ap₂ (λ x y. x ∷ y) is read.0, fits found.0 read.1)
 
 words_take : (text : List (List ℕ)) (l : Line) → line_of_words text ≡ Some l → (words l ≡ text) × FitsLine l
 unfolding line_of_words
-words_take text l e = by_label (label_at text) refl e
+words_take text l e = by_label (label_of_words text) refl e
   where
     by_words : (text : List (List ℕ)) → by_first_word text ≡ Some l → (words l ≡ text) × FitsLine l
     by_words [] e = absurd (none-some l e)
     by_words (kind ∷ fields) e = kind_takes kind fields l e
 
-    by_label : (o : Option Label) → label_at text ≡ o → label_or_kind o text ≡ Some l → (words l ≡ text) × FitsLine l
+    by_label : (o : Option Label) → label_of_words text ≡ o → label_or_kind o text ≡ Some l → (words l ≡ text) × FitsLine l
     by_label (Some label) is e = subst (λ x. (words x ≡ text) × FitsLine x) (same_Some (line.Label label) l e) (label_takes text label is)
     by_label None is e = by_words text e
 
@@ -258,7 +258,7 @@ words_are_words (line.Label label) in_words h = (decimal_is_word label.node (ome
 words_are_words line.End in_words h = (word_by_test (codes "end") refl, tt)
 
 step_again : (step : Step) → FitsStep step → line_of_words (step_words step) ≡ Some (line.Step step)
-unfolding line_of_words label_at kind_at number_at wait_at to_at ride_at
+unfolding line_of_words label_of_words line_of_kind number_at wait_of_words to_of_words ride_of_words
 step_again (Wait until) h = rw (time_again until h) refl
 step_again (Road to) h = rw (word_again to h) refl
 step_again (Link to) h = rw (word_again to h) refl
@@ -266,7 +266,7 @@ step_again Stand h = refl
 step_again (Ride trip day board alight) h = rw (word_again trip h.trip, word_again day h.day, word_again board h.board, word_again alight h.alight) refl
 
 said_again : (l : Line) → IsInWords l → FitsLine l → line_of_words (words l) ≡ Some l
-unfolding line_of_words label_at kind_at number_at head_at graph_at arrive_at start_at labels_at
+unfolding line_of_words label_of_words line_of_kind number_at head_of_words graph_of_words arrive_of_words start_of_words labels_of_words
 said_again line.Head in_words h = refl
 said_again (line.Query bytes) in_words h = absurd in_words
 said_again (line.Graph true) in_words h = refl

@@ -14,7 +14,7 @@ use Rattle.certificate.specs.declared.walked.Walked.{Walked}
 use Rattle.journey.specs.Best.{asked_by}
 use Rattle.certificate.specs.Verdicts.{AreDenoted, StartsWell, FailsFirst, IsFirstFailing, IsJourneyVerdict}
 use Rattle.certificate.specs.StateSets.{AreAfter}
-use Rattle.certificate.specs.Walked.{IsWalkedTo}
+use Rattle.certificate.specs.Walked.{IsTracedTo}
 
 -- the first of three facts fails where the first of three others does that hold exactly as they do
 pub fails_same : (P Q R P2 R2 : Type 0) → P ↔ P2 → R ↔ R2 → (at : ℕ) → FailsFirst P Q R at → FailsFirst P2 Q R2 at
@@ -31,7 +31,7 @@ module _ (n : NetworkLists) (q : Query) (l : LabelsMeaning) (starts targets : Li
   abbrev EndIs : Walked → Option ℕ → Type 0
   EndIs walked place = (letters : List ℕ) → AreAfter l letters walked.states → IsFirstFailing (Contains targets walked.node) (walked.at ≡ arrival) (Accepts l letters) place
 
-  pub end_fails : Contains starts j.start × (q.depart ≤ j.at) → (walked : Walked) → IsWalkedTo n l j.start j.at j.steps walked → (at : ℕ) → EndIs walked (Some at)
+  pub end_fails : Contains starts j.start × (q.depart ≤ j.at) → (walked : Walked) → IsTracedTo n l j.start j.at j.steps walked → (at : ℕ) → EndIs walked (Some at)
       → IsJourneyVerdict n (asked_by q) arrival j (Invalid 5 at)
   end_fails start walked is at fails = inr (inr (record {
     clause_is = refl;
@@ -44,7 +44,7 @@ module _ (n : NetworkLists) (q : Query) (l : LabelsMeaning) (starts targets : Li
         (to.are walked.node) (denotes is.letters) at (fails is.letters is.states);
   }))
 
-  pub answers : Contains starts j.start × (q.depart ≤ j.at) → (walked : Walked) → IsWalkedTo n l j.start j.at j.steps walked → EndIs walked None
+  pub answers : Contains starts j.start × (q.depart ≤ j.at) → (walked : Walked) → IsTracedTo n l j.start j.at j.steps walked → EndIs walked None
       → IsJourneyVerdict n (asked_by q) arrival j Valid
   answers (listed, later) walked is ends =
       let (at_target, in_time, accepts) = ends is.letters is.states in

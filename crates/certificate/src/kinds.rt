@@ -12,7 +12,7 @@ use std::alloc::{AllocError, Global};
 
 /// A number below 2^32.
 fn word_of(text: &[u8]) -> Option<u32>
-    ensures { result ≡ spec.word_at text.now }
+    ensures { result ≡ spec.number_of_word text.now }
 {
     let n = read_number(text, 1 << 32)?;
     Some(n as u32)
@@ -20,15 +20,15 @@ fn word_of(text: &[u8]) -> Option<u32>
 
 /// A time, of at most 30 digits.
 pub fn time_of(text: &[u8]) -> Option<Time>
-    ensures { result ≡ spec.time_at text.now }
+    ensures { result ≡ spec.time_of_word text.now }
 {
     read_number(text, 1_000_000_000_000_000_000_000_000_000_000)
 }
 
 /// A label, whose line begins with no word of its own.
-#[tactic(auto, unfolding(crate::specs::Kinds::label_at))]
+#[tactic(auto, unfolding(crate::specs::Kinds::label_of_words))]
 fn label_of(words: &[&[u8]]) -> Option<Label>
-    ensures { result ≡ spec.label_at (map (λ w. w.now) words.now) }
+    ensures { result ≡ spec.label_of_words (map (λ w. w.now) words.now) }
 {
     match words {
         [node, state, at] => {
@@ -58,9 +58,9 @@ fn is_head(what: &[u8], version: &[u8]) -> bool
     what == b"certificate".as_slice() && version == b"1".as_slice()
 }
 
-#[tactic(auto, unfolding(crate::specs::Kinds::head_at))]
+#[tactic(auto, unfolding(crate::specs::Kinds::head_of_words))]
 fn head_of(fields: &[&[u8]]) -> Option<Line>
-    ensures { result ≡ spec.head_at (map (λ w. w.now) fields.now) }
+    ensures { result ≡ spec.head_of_words (map (λ w. w.now) fields.now) }
 {
     match fields {
         [what, version] if is_head(what, version) => Some(Line::Head),
@@ -70,7 +70,7 @@ fn head_of(fields: &[&[u8]]) -> Option<Line>
 
 /// Whether the graph of this name is of phases.
 fn phases_of(graph: &[u8]) -> Option<bool>
-    ensures { result ≡ spec.phases_at graph.now }
+    ensures { result ≡ spec.phases_of_word graph.now }
 {
     if graph == b"plain".as_slice() {
         Some(false)
@@ -81,9 +81,9 @@ fn phases_of(graph: &[u8]) -> Option<bool>
     }
 }
 
-#[tactic(auto, unfolding(crate::specs::Kinds::graph_at))]
+#[tactic(auto, unfolding(crate::specs::Kinds::graph_of_words))]
 fn graph_of(fields: &[&[u8]]) -> Option<Line>
-    ensures { result ≡ spec.graph_at (map (λ w. w.now) fields.now) }
+    ensures { result ≡ spec.graph_of_words (map (λ w. w.now) fields.now) }
 {
     match fields {
         [graph] => {
@@ -94,9 +94,9 @@ fn graph_of(fields: &[&[u8]]) -> Option<Line>
     }
 }
 
-#[tactic(auto, unfolding(crate::specs::Kinds::arrive_at))]
+#[tactic(auto, unfolding(crate::specs::Kinds::arrive_of_words))]
 fn arrive_of(fields: &[&[u8]]) -> Option<Line>
-    ensures { result ≡ spec.arrive_at (map (λ w. w.now) fields.now) }
+    ensures { result ≡ spec.arrive_of_words (map (λ w. w.now) fields.now) }
 {
     match fields {
         [at] => Some(Line::Arrive(time_of(at)?)),
@@ -104,9 +104,9 @@ fn arrive_of(fields: &[&[u8]]) -> Option<Line>
     }
 }
 
-#[tactic(auto, unfolding(crate::specs::Kinds::start_at))]
+#[tactic(auto, unfolding(crate::specs::Kinds::start_of_words))]
 fn start_of(fields: &[&[u8]]) -> Option<Line>
-    ensures { result ≡ spec.start_at (map (λ w. w.now) fields.now) }
+    ensures { result ≡ spec.start_of_words (map (λ w. w.now) fields.now) }
 {
     match fields {
         [node, at] => {
@@ -118,9 +118,9 @@ fn start_of(fields: &[&[u8]]) -> Option<Line>
     }
 }
 
-#[tactic(auto, unfolding(crate::specs::Kinds::wait_at))]
+#[tactic(auto, unfolding(crate::specs::Kinds::wait_of_words))]
 fn wait_of(fields: &[&[u8]]) -> Option<Line>
-    ensures { result ≡ spec.wait_at (map (λ w. w.now) fields.now) }
+    ensures { result ≡ spec.wait_of_words (map (λ w. w.now) fields.now) }
 {
     match fields {
         [until] => {
@@ -132,9 +132,9 @@ fn wait_of(fields: &[&[u8]]) -> Option<Line>
 }
 
 /// The node that a road arc or a link is taken to.
-#[tactic(auto, unfolding(crate::specs::Kinds::to_at))]
+#[tactic(auto, unfolding(crate::specs::Kinds::to_of_words))]
 fn to_of(fields: &[&[u8]]) -> Option<u32>
-    ensures { result ≡ spec.to_at (map (λ w. w.now) fields.now) }
+    ensures { result ≡ spec.to_of_words (map (λ w. w.now) fields.now) }
 {
     match fields {
         [to] => word_of(to),
@@ -142,9 +142,9 @@ fn to_of(fields: &[&[u8]]) -> Option<u32>
     }
 }
 
-#[tactic(auto, unfolding(crate::specs::Kinds::ride_at))]
+#[tactic(auto, unfolding(crate::specs::Kinds::ride_of_words))]
 fn ride_of(fields: &[&[u8]]) -> Option<Line>
-    ensures { result ≡ spec.ride_at (map (λ w. w.now) fields.now) }
+    ensures { result ≡ spec.ride_of_words (map (λ w. w.now) fields.now) }
 {
     match fields {
         [trip, day, board, alight] => {
@@ -163,9 +163,9 @@ fn ride_of(fields: &[&[u8]]) -> Option<Line>
     }
 }
 
-#[tactic(auto, unfolding(crate::specs::Kinds::labels_at))]
+#[tactic(auto, unfolding(crate::specs::Kinds::labels_of_words))]
 fn labels_of(fields: &[&[u8]]) -> Option<Line>
-    ensures { result ≡ spec.labels_at (map (λ w. w.now) fields.now) }
+    ensures { result ≡ spec.labels_of_words (map (λ w. w.now) fields.now) }
 {
     match fields {
         [count] => {
@@ -176,9 +176,9 @@ fn labels_of(fields: &[&[u8]]) -> Option<Line>
     }
 }
 
-#[tactic(auto, unfolding(crate::specs::Kinds::kind_at))]
+#[tactic(auto, unfolding(crate::specs::Kinds::line_of_kind))]
 fn kind_of(kind: &[u8], fields: &[&[u8]]) -> Option<Line>
-    ensures { result ≡ spec.kind_at kind.now (map (λ w. w.now) fields.now) }
+    ensures { result ≡ spec.line_of_kind kind.now (map (λ w. w.now) fields.now) }
 {
     if kind == b"road".as_slice() {
         to_of(fields).map(|to| Line::Step(Step::Road { to }))

@@ -4,7 +4,7 @@ ghost use Rattle.std.specs.Prelude.{◌≡◌, ◌<◌, ◌^◌, ◌++◌, [], L
 ghost use Rattle.journey.specs.Ends.{HasTime, HasTimes};
 ghost use Rattle.journey.specs.Rides.{KeepsRules};
 ghost use Rattle.certificate.specs.StateSets.{AreAfter};
-ghost use Rattle.certificate.specs.Walked.{IsWalked};
+ghost use Rattle.certificate.specs.Walked.{IsTraced};
 
 use crate::state_sets::StateSets;
 use journey::{StepEnd, step_end};
@@ -56,7 +56,7 @@ pub fn walk<L: Labels>(
 ) -> Result<Walked, u64>
     requires times { HasTimes journey.now }
     requires states { AreAfter (L.automaton labels.now) [] states }
-    ensures { IsWalked network.now (L.automaton labels.now) journey.now.start journey.now.at journey.now.steps result }
+    ensures { IsTraced network.now (L.automaton labels.now) journey.now.start journey.now.at journey.now.steps result }
 {
     walk_steps(
         network,
@@ -80,7 +80,7 @@ fn walk_steps<L: Labels>(
     requires at { at < 10 ^ 30 }
     requires waits { All HasTime steps.now }
     requires states { AreAfter (L.automaton labels.now) [] states }
-    ensures { IsWalked network.now (L.automaton labels.now) start at steps.now result }
+    ensures { IsTraced network.now (L.automaton labels.now) start at steps.now result }
 {
     keeps_rules(network);
     let mut walked = Walked {

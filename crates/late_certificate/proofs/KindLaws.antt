@@ -7,14 +7,14 @@ use Rattle.plain_texts.specs.Lines.{words_of, spaced}
 use Rattle.plain_texts.specs.Numbers.{number_at}
 use Rattle.plain_texts.proofs.Spaced.{spaced-words_of, words_of-spaced, word_by_test, decimal_is_word}
 use Rattle.certificate.specs.declared.lines.Line.{Line as UsualLine}
-use Rattle.certificate.specs.Kinds.{behind_query, by_first_word, head_at, kind_at, label_at, label_or_kind, line_of_words, query_or_words, time_at, word_at}
+use Rattle.certificate.specs.Kinds.{behind_query, by_first_word, head_of_words, line_of_kind, label_of_words, label_or_kind, line_of_words, query_or_words, time_of_word, number_of_word}
 use Rattle.certificate.specs.Kinds as usual
 use Rattle.certificate.specs.Lines.{IsTime}
 use Rattle.certificate.proofs.KindLaws.{mapped, same_bytes, time_takes, time_again, line_takes as usual_takes, line_again as usual_again}
 use Rattle.late_certificate.specs.declared.lines.Line.{Line}
 use Rattle.late_certificate.specs.declared.lines.Line.TheVariants as line
 use Rattle.late_certificate.specs.Lines.{FitsLine, spelled, words}
-use Rattle.late_certificate.specs.Kinds.{depart_at, line_of, own_at, usual_or_own}
+use Rattle.late_certificate.specs.Kinds.{depart_of_words, line_of, own_of_words, usual_or_own}
 
 -- ---- the lines that only a late certificate has
 
@@ -24,19 +24,19 @@ if_all true true false l m e = absurd (none-some m e)
 if_all true false c l m e = absurd (none-some m e)
 if_all false b c l m e = absurd (none-some m e)
 
-depart_takes : (kind at : List ℕ) (l : Line) → depart_at kind at ≡ Some l → (words l ≡ kind ∷ at ∷ []) × FitsLine l
+depart_takes : (kind at : List ℕ) (l : Line) → depart_of_words kind at ≡ Some l → (words l ≡ kind ∷ at ∷ []) × FitsLine l
 depart_takes kind at l e = by_test (bytes_eq kind (codes "depart")) refl e
   where
-    by_test : (t : Bool) → bytes_eq kind (codes "depart") ≡ t → cond t (option_map (λ time. line.Depart time) (time_at at)) None ≡ Some l → (words l ≡ kind ∷ at ∷ []) × FitsLine l
+    by_test : (t : Bool) → bytes_eq kind (codes "depart") ≡ t → cond t (option_map (λ time. line.Depart time) (time_of_word at)) None ≡ Some l → (words l ≡ kind ∷ at ∷ []) × FitsLine l
     by_test true is e =
-        let found = mapped (λ time. line.Depart time) (time_at at) l e in
+        let found = mapped (λ time. line.Depart time) (time_of_word at) l e in
         let time = time_takes at found.0 found.1 in
         subst (λ (x : Line). (words x ≡ kind ∷ at ∷ []) × FitsLine x) found.2
         (ap₂ (λ x y. x ∷ y ∷ []) (sym (same_bytes kind (codes "depart") is)) (sym time.1), time.0)
     by_test false is e = absurd (none-some l e)
 
-own_takes : (text : List (List ℕ)) (l : Line) → own_at text ≡ Some l → (words l ≡ text) × FitsLine l
-unfolding own_at
+own_takes : (text : List (List ℕ)) (l : Line) → own_of_words text ≡ Some l → (words l ≡ text) × FitsLine l
+unfolding own_of_words
 own_takes [] l e = absurd (none-some l e)
 own_takes (a ∷ []) l e = absurd (none-some l e)
 own_takes (a ∷ b ∷ []) l e = depart_takes a b l e
@@ -67,17 +67,17 @@ no_usual : (l : Line) → behind_query (spelled l) ≡ None → words_of (spelle
 unfolding usual.line_of
 no_usual l query split none = ap (λ o. query_or_words o (spelled l)) query ∙ ap line_of_words split ∙ none
 
-own_again : (l : Line) → behind_query (spelled l) ≡ None → words_of (spelled l) ≡ words l → line_of_words (words l) ≡ None → own_at (words l) ≡ Some l → line_of (spelled l) ≡ Some l
+own_again : (l : Line) → behind_query (spelled l) ≡ None → words_of (spelled l) ≡ words l → line_of_words (words l) ≡ None → own_of_words (words l) ≡ Some l → line_of (spelled l) ≡ Some l
 unfolding line_of
-own_again l query split none own = ap (λ o. usual_or_own o (spelled l)) (no_usual l query split none) ∙ ap own_at split ∙ own
+own_again l query split none own = ap (λ o. usual_or_own o (spelled l)) (no_usual l query split none) ∙ ap own_of_words split ∙ own
 
 head_again : line_of (spelled line.Head) ≡ Some line.Head
-unfolding behind_query spaced line_of_words label_at kind_at head_at number_at own_at
+unfolding behind_query spaced line_of_words label_of_words line_of_kind head_of_words number_at own_of_words
 head_again = own_again line.Head refl (words_of-spaced (codes "modeplan") (codes "late" ∷ codes "1" ∷ [])
     (word_by_test (codes "modeplan") refl, (word_by_test (codes "late") refl, (word_by_test (codes "1") refl, tt)))) refl refl
 
 depart_again : (at : ℕ) → IsTime at → line_of (spelled (line.Depart at)) ≡ Some (line.Depart at)
-unfolding behind_query spaced line_of_words label_at kind_at own_at
+unfolding behind_query spaced line_of_words label_of_words line_of_kind own_of_words
 depart_again at h = own_again (line.Depart at) refl (words_of-spaced (codes "depart") (decimal at ∷ [])
     (word_by_test (codes "depart") refl, (decimal_is_word at (omega (arith, h)), tt))) refl (ap (option_map (λ time. line.Depart time)) (time_again at h))
 

@@ -17,7 +17,7 @@ fn is_head(program: &[u8], what: &[u8], version: &[u8]) -> bool
 
 /// The line of a departure, of which these are the words.
 fn depart_of(kind: &[u8], at: &[u8]) -> Option<Line>
-    ensures { result ≡ spec.depart_at kind.now at.now }
+    ensures { result ≡ spec.depart_of_words kind.now at.now }
 {
     if kind == b"depart".as_slice() {
         Some(Line::Depart(time_of(at)?))
@@ -27,9 +27,9 @@ fn depart_of(kind: &[u8], at: &[u8]) -> Option<Line>
 }
 
 /// The line of these words that only a late certificate has.
-#[tactic(auto, unfolding(crate::specs::Kinds::own_at))]
+#[tactic(auto, unfolding(crate::specs::Kinds::own_of_words))]
 fn own_of(words: &[&[u8]]) -> Option<Line>
-    ensures { result ≡ spec.own_at (map (λ w. w.now) words.now) }
+    ensures { result ≡ spec.own_of_words (map (λ w. w.now) words.now) }
 {
     match words {
         [program, what, version] if is_head(program, what, version) => Some(Line::Head),

@@ -19,7 +19,7 @@ use Rattle.timetable_arcs.proofs.TableLemmas.{rides_few}
 use Rattle.mode_network.specs.NetworkLists.{NetworkLists, mode_at, stop_at}
 use Rattle.plain_graph.specs.declared.plain.PlainArc.{PlainArc}
 use Rattle.plain_graph.specs.declared.plain.PlainArc.TheVariants.{Ride}
-use Rattle.plain_graph.specs.PlainArcs.{plain_arc, plain_meaning, graph_arc, arrival, count_from, rides_of, rides_from, no_ride, pattern_call}
+use Rattle.plain_graph.specs.PlainArcs.{plain_arc, plain_meaning, graph_arc, arrival, count_from, rides_of, rides_from_stop, no_ride, pattern_call}
 use Rattle.plain_graph.specs.BoardWays.{call_way, call_ways, ride_way, ride_ways, run_ways, board_ways, boards_ways}
 
 module _ (n : NetworkLists) (t : TableLists) (time letters v : ℕ) where
@@ -91,7 +91,7 @@ module _ (n : NetworkLists) (t : TableLists) (time letters v : ℕ) where
     at_ride : (j : ℕ) → plain_arc n t v (count_from n.arcs v + count_from n.links v + j) ≡ Ride (slice_index_or (rides_at t stop) j no_ride)
     at_ride j =
         let i = count_from n.arcs v + count_from n.links v + j in
-        let rides : rides_of n t v ≡ rides_at t stop = ap (rides_from t) found in
+        let rides : rides_of n t v ≡ rides_at t stop = ap (rides_from_stop t) found in
         let none : is_some (mode_at n.roads v) ≡ false = ap is_some no_road in
         let past_roads = le-ltb i (count_from n.arcs v) (omega arith) in
         let past_links = le-ltb (i - count_from n.arcs v) (count_from n.links v) (omega arith) in

@@ -12,7 +12,7 @@ use Rattle.mode_network.specs.NetworkLists.{NetworkLists, mode_at, stop_at}
 use Rattle.mode_network.specs.Indexes.{range_from}
 use Rattle.plain_graph.specs.declared.plain.PlainArc.{PlainArc}
 use Rattle.plain_graph.specs.declared.plain.PlainArc.TheVariants.{Road, Link, Stand}
-use Rattle.plain_graph.specs.PlainArcs.{plain_arc, plain_meaning, graph_arc, arrival, count_from, stands_at, rides_of, rides_from, inner_arcs_at, no_arc}
+use Rattle.plain_graph.specs.PlainArcs.{plain_arc, plain_meaning, graph_arc, arrival, count_from, stands_at, rides_of, rides_from_stop, inner_arcs_at, no_arc}
 use Rattle.plain_graph.specs.OutArcs.{stop_found, no_mode}
 use Rattle.plain_graph.specs.BoardWays.{boards_ways}
 use Rattle.plain_graph.proofs.BoardTies.{stop_ways}
@@ -83,7 +83,7 @@ module _ (n : NetworkLists) (t : TableLists) (time letters v : ℕ) where
       rw (past_roads, past_links, some) refl
 
   -- where one stands no ride begins
-  no_stop : (mode : ℕ) → mode_at n.roads v ≡ Some mode → (o : Option ℕ) → stop_at n v ≡ o → length (rides_from t o) ≡ 0
+  no_stop : (mode : ℕ) → mode_at n.roads v ≡ Some mode → (o : Option ℕ) → stop_at n v ≡ o → length (rides_from_stop t o) ≡ 0
   no_stop mode has None e = refl
   no_stop mode has (Some stop) e =
       let at = (stop_found n v stop e).1 in
@@ -111,7 +111,7 @@ module _ (n : NetworkLists) (t : TableLists) (time letters v : ℕ) where
       → from (roads + links) (inner_arcs_at n t v) ≡ boards_ways n t time letters (roads + links) (boards_at t stop)
   rides_ways stop none found =
       let stands : stands_at n v ≡ 0 = ap (λ (o : Option ℕ). cond (is_some o) 1 0) none in
-      let count : length (rides_of n t v) ≡ length (rides_at t stop) = ap (λ (o : Option ℕ). length (rides_from t o)) found in
+      let count : length (rides_of n t v) ≡ length (rides_at t stop) = ap (λ (o : Option ℕ). length (rides_from_stop t o)) found in
       let all : inner_arcs_at n t v ≡ length (rides_at t stop) = omega (arith, stands, count) in
       ap (from (roads + links)) all ∙ stop_ways n t time letters v stop found none
 

@@ -17,7 +17,7 @@ use Rattle.mode_network.proofs.IndexLemmas.{range_is_range, begins_in_range, in_
 use Rattle.mode_network.proofs.RuleLemmas.{both, some_is}
 use Rattle.plain_graph.specs.declared.plain.PlainArc.{PlainArc}
 use Rattle.plain_graph.specs.declared.plain.PlainArc.TheVariants.{Road, Link, Stand, Ride}
-use Rattle.plain_graph.specs.PlainArcs.{plain_arc, count_from, stands_at, rides_from, rides_of, arcs_at, no_arc, no_ride}
+use Rattle.plain_graph.specs.PlainArcs.{plain_arc, count_from, stands_at, rides_from_stop, rides_of, arcs_at, no_arc, no_ride}
 
 -- the arc stands at this place of the list, and begins at v
 pub record IsListed (arcs : List Arc) (v : ℕ) (arc : Arc) : Type 0 where
@@ -74,7 +74,7 @@ module _ (n : NetworkLists) (network : IsNetwork n) (t : TableLists) (table : Is
         begins = begins_in_range arcs ascend v _ no_arc (omega arith) (omega arith);
       }
 
-  ride_listed : (v k : ℕ) (stop : Option ℕ) → stop_at n v ≡ stop → k < length (rides_from t stop) → IsRideFrom n t v (slice_index_or (rides_from t stop) k no_ride)
+  ride_listed : (v k : ℕ) (stop : Option ℕ) → stop_at n v ≡ stop → k < length (rides_from_stop t stop) → IsRideFrom n t v (slice_index_or (rides_from_stop t stop) k no_ride)
   ride_listed v k None e h = absurd (omega arith)
   ride_listed v k (Some stop) e h =
       let found = stop_found n v stop e in
@@ -145,7 +145,7 @@ module _ (n : NetworkLists) (network : IsNetwork n) (t : TableLists) (table : Is
   place_of v (Ride ride) out =
       let at = ride_there t table out.stop ride out.ride_at in
       let i = count_from n.arcs v + count_from n.links v + at.0 in
-      let rides : rides_of n t v ≡ rides_at t out.stop = ap (rides_from t) (ap (stop_at n) out.at ∙ stop_is_found n out.stop out.is_stop) in
+      let rides : rides_of n t v ≡ rides_at t out.stop = ap (rides_from_stop t) (ap (stop_at n) out.at ∙ stop_is_found n out.stop out.is_stop) in
       let none : is_some (mode_at n.roads v) ≡ false = ap is_some (ap (mode_at n.roads) out.at ∙ no_mode n out.stop) in
       let stands : stands_at n v ≡ 0 = rw none refl in
       let past_roads = le-ltb i (count_from n.arcs v) (omega arith) in

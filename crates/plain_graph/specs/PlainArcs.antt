@@ -22,12 +22,12 @@ abbrev pub stands_at : NetworkLists → ℕ → ℕ
 stands_at n v = if is_some (mode_at n.roads v) then 1 else 0
 
 -- the rides that begin at a stop, and none elsewhere
-abbrev pub rides_from : TableLists → Option ℕ → List RideCalls
-rides_from t (Some stop) = rides_at t stop
-rides_from t None = []
+abbrev pub rides_from_stop : TableLists → Option ℕ → List RideCalls
+rides_from_stop t (Some stop) = rides_at t stop
+rides_from_stop t None = []
 
 abbrev pub rides_of : NetworkLists → TableLists → ℕ → List RideCalls
-rides_of n t v = rides_from t (stop_at n v)
+rides_of n t v = rides_from_stop t (stop_at n v)
 
 -- how many arcs are neither road arcs nor links, and how many there are
 abbrev pub inner_arcs_at : NetworkLists → TableLists → ℕ → ℕ

@@ -20,7 +20,7 @@ use Rattle.region_file.specs.declared.fault.RegionFault.TheVariants.{BadHead, Ba
 use Rattle.region_file.specs.declared.lines.Line.{Line}
 use Rattle.region_file.specs.Lines.{FitsLine, IsRegion, head_line, region_lines, region_text, spelled}
 use Rattle.region_file.specs.Sections.{is_end, line_at, progress_after, start}
-use Rattle.region_file.specs.Regions.{AreSpelling, Gives, HasCause, IsDecoded, behind_head, lists_by, lists_of, network_of, nothing, or_fault, put, put_all, region_of}
+use Rattle.region_file.specs.Regions.{AreSpelling, Gives, HasCause, IsDecoded, behind_head, lists_by, lists_in_text, network_of, nothing, or_fault, put, put_all, region_of}
 use Rattle.region_file.specs.Bytes.{region_bytes}
 use Rattle.region_file.proofs.FrontLaws.{IsBytes}
 use Rattle.region_file.proofs.RecordsDecoded.{lists_in_again, not_text, records_cause, records_found}
@@ -38,8 +38,8 @@ same_Err : {A E : Type 0} (x y : E) → ◌≡◌ {A = Result A E} (Err x) (Err 
 same_Err x y e = cc
 
 -- What is read is spelled so.
-pub lists_found : (text : List ℕ) (n : NetworkLists) → lists_of text ≡ Ok n → IsRegion n × (text ≡ lines_text (map spelled (region_lines n)))
-unfolding lists_of
+pub lists_found : (text : List ℕ) (n : NetworkLists) → lists_in_text text ≡ Ok n → IsRegion n × (text ≡ lines_text (map spelled (region_lines n)))
+unfolding lists_in_text
 lists_found text n e = by_course (lines_from line_at is_end start 2 (pieces text)) refl e
   where
     by_course : (c : Course Line) → lines_from line_at is_end start 2 (pieces text) ≡ c → put_all nothing c ≡ Ok n → IsRegion n × (text ≡ lines_text (map spelled (region_lines n)))
@@ -57,8 +57,8 @@ each_is_line [] h = tt
 each_is_line (l ∷ ls) h = (spaced_is_line _ (words_are_words l h.0), each_is_line ls h.1)
 
 -- What is spelled so is read.
-pub lists_again : (n : NetworkLists) → IsRegion n → lists_of (lines_text (map spelled (region_lines n))) ≡ Ok n
-unfolding lists_of
+pub lists_again : (n : NetworkLists) → IsRegion n → lists_in_text (lines_text (map spelled (region_lines n))) ≡ Ok n
+unfolding lists_in_text
 lists_again n h =
     ap (λ x. put_all nothing (lines_from line_at is_end start 2 x)) (pieces_lines (map spelled (region_lines n)) (each_is_line (region_lines n) h.fits))
     ∙ ap (put_all nothing) (course_again spelled FitsLine progress_after is_end line_at reads_lines (region_lines n) start behind_end 2 refl (runs_to_end n h.parts) refl h.fits)
@@ -76,8 +76,8 @@ unfolding behind_head
 head_again text = refl
 
 -- the course that a fault comes from
-text_cause : (caps : Caps) (bytes text : List ℕ) (fault : RegionFault) → bytes ≡ head_line ++ text → lists_of text ≡ Err fault → HasCause caps bytes fault
-unfolding lists_of
+text_cause : (caps : Caps) (bytes text : List ℕ) (fault : RegionFault) → bytes ≡ head_line ++ text → lists_in_text text ≡ Err fault → HasCause caps bytes fault
+unfolding lists_in_text
 text_cause caps bytes text fault head e = by_course (lines_from line_at is_end start 2 (pieces text)) refl e
   where
     by_course : (c : Course Line) → lines_from line_at is_end start 2 (pieces text) ≡ c → put_all nothing c ≡ Err fault → HasCause caps bytes fault
@@ -89,7 +89,7 @@ text_cause caps bytes text fault head e = by_course (lines_from line_at is_end s
         subst (λ f. HasCause caps bytes f) (same_Err {A = NetworkLists} (Trailing k) fault e)
         (inl (text, record { is = head }, course_trailing spelled FitsLine progress_after is_end line_at reads_lines (pieces text) start 2 k is))
 
-spelled_so : (bytes text : List ℕ) (n : NetworkLists) → bytes ≡ head_line ++ text → lists_of text ≡ Ok n → IsRegion n × (bytes ≡ region_text n)
+spelled_so : (bytes text : List ℕ) (n : NetworkLists) → bytes ≡ head_line ++ text → lists_in_text text ≡ Ok n → IsRegion n × (bytes ≡ region_text n)
 unfolding region_text
 spelled_so bytes text n head e =
     let found = lists_found text n e in

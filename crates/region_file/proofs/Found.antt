@@ -19,8 +19,8 @@ use Rattle.region_file.specs.declared.section.Progress.{Progress}
 use Rattle.region_file.specs.declared.section.Section.TheVariants as section
 use Rattle.region_file.specs.Lines.{node_line, stop_line, trip_lines, region_lines}
 use Rattle.region_file.specs.Sections.{behind, behind_days, due_behind, is_due, is_end, may_follow, may_stand, progress_after, rank, section_of, start}
-use Rattle.region_file.specs.Regions.{nothing, put, with_call}
-use Rattle.region_file.proofs.LastTrip.{length-with_call}
+use Rattle.region_file.specs.Regions.{nothing, put, with_last_call}
+use Rattle.region_file.proofs.LastTrip.{length-with_last_call}
 use Rattle.region_file.proofs.SectionLaws.{stops}
 
 -- the lines of trips so far, where so many calls of the last trip are due
@@ -76,7 +76,7 @@ trip_begins (trip ∷ next ∷ more) letter days calls name =
     ap (λ x. trip_lines trip ++ x) (trip_begins (next ∷ more) letter days calls name)
     ∙ sym (append_assoc (trip_lines trip) (trips_so_far 0 (next ∷ more)) (line.Trip letter days calls name ∷ []))
 
-call_follows : (trips : List TripLists) (due : ℕ) (call : Call) → 0 < length trips → trips_so_far due (with_call trips call) ≡ trips_so_far (suc due) trips ++ line.Call call ∷ []
+call_follows : (trips : List TripLists) (due : ℕ) (call : Call) → 0 < length trips → trips_so_far due (with_last_call trips call) ≡ trips_so_far (suc due) trips ++ line.Call call ∷ []
 call_follows [] due call some = absurd (omega (arith, some))
 call_follows (trip ∷ []) due call some =
     let count : length (trip.calls ++ call ∷ []) + due ≡ length trip.calls + suc due = omega (arith, length-append trip.calls (call ∷ [])) in
@@ -264,7 +264,7 @@ put_line p n (line.Trip letter days calls name) at h going =
 put_line p n (line.Call call) at h going =
     let due : suc (p.calls_due - 1) ≡ p.calls_due = is_some p.calls_due h.due in
     let some : 0 < length n.trips = at.begun (omega (arith, due)) in (
-      in_trips n (trips_so_far (suc (p.calls_due - 1)) n.trips) (trips_so_far (p.calls_due - 1) (with_call n.trips call)) (line.Call call) (call_follows n.trips (p.calls_due - 1) call some)
+      in_trips n (trips_so_far (suc (p.calls_due - 1)) n.trips) (trips_so_far (p.calls_due - 1) (with_last_call n.trips call)) (line.Call call) (call_follows n.trips (p.calls_due - 1) call some)
           ∙ ap (λ due. so_far due n ++ line.Call call ∷ []) due,
       record {
         roads = λ lt. absurd (omega (arith, lt));
@@ -275,7 +275,7 @@ put_line p n (line.Call call) at h going =
         links = λ lt. absurd (omega (arith, lt));
         trips = λ lt. absurd (omega (arith, lt));
         named = at.named;
-        begun = λ _. omega (arith, some, length-with_call n.trips call);
+        begun = λ _. omega (arith, some, length-with_last_call n.trips call);
       },
     )
 put_line p n line.End at h going = absurd (omega (arith, going))

@@ -34,17 +34,17 @@ use Rattle.region_file.specs.declared.lines.Line.{Line}
 use Rattle.region_file.specs.declared.lines.Line.TheVariants as line
 use Rattle.region_file.specs.Letters.{letter_at, letter_name, letter_names}
 use Rattle.region_file.specs.Lines.{FitsArc, FitsCall, FitsDays, FitsLine, FitsTrip, arc_words, call_words, flags_of, mode_name, place_words, rule_words, spelled, words}
-use Rattle.region_file.specs.Kinds.{arc_at, call_at, days_at, end_at, kind_at, line_of, line_of_words, made, mode_at, place_at, road_at, rule_at, stop_at, switch_at, trip_at, word_at}
+use Rattle.region_file.specs.Kinds.{arc_of_words, call_of_words, days_of_words, end_of_words, line_of_kind, line_of, line_of_words, made, mode_of_word, place_of_words, road_of_words, rule_of_words, stop_of_words, switch_of_words, trip_of_words, number_of_word}
 
 pub mapped : {A B : Type 0} (f : A → B) (o : Option A) (y : B) → option_map f o ≡ Some y → (x : A) × (o ≡ Some x) × (f x ≡ y)
 mapped f None y e = absurd (none-some y e)
 mapped f (Some x) y e = (x, refl, same_Some (f x) y e)
 
 -- numbers and ids
-word_takes : (text : List ℕ) (n : ℕ) → word_at text ≡ Some n → (n < 2 ^ 32) × (text ≡ decimal n)
+word_takes : (text : List ℕ) (n : ℕ) → number_of_word text ≡ Some n → (n < 2 ^ 32) × (text ≡ decimal n)
 word_takes text n e = number_takes text (2 ^ 32) n (omega arith) e
 
-word_again : (n : ℕ) → n < 2 ^ 32 → word_at (decimal n) ≡ Some n
+word_again : (n : ℕ) → n < 2 ^ 32 → number_of_word (decimal n) ≡ Some n
 word_again n h = number_again (2 ^ 32) n (omega arith) h
 
 id_takes : (text : List ℕ) (z : ℤ) → id_at text ≡ Some z → IsId z × (text ≡ signed_decimal z)
@@ -58,7 +58,7 @@ same_bytes : (xs ys : List ℕ) → bytes_eq xs ys ≡ true → xs ≡ ys
 same_bytes xs ys e = (bytes_eq-Decides xs ys).0 e
 
 -- names of modes
-mode_takes : (text : List ℕ) (mode : ℕ) → mode_at text ≡ Some mode → (text ≡ mode_name mode) × (mode < 3)
+mode_takes : (text : List ℕ) (mode : ℕ) → mode_of_word text ≡ Some mode → (text ≡ mode_name mode) × (mode < 3)
 mode_takes text mode e = by_foot (bytes_eq text (codes "foot")) refl e
   where
     by_car : (t : Bool) → bytes_eq text (codes "car") ≡ t → cond t (Some 2) None ≡ Some mode → (text ≡ mode_name mode) × (mode < 3)
@@ -73,7 +73,7 @@ mode_takes text mode e = by_foot (bytes_eq text (codes "foot")) refl e
     by_foot true is e = subst (λ m. (text ≡ mode_name m) × (m < 3)) (same_Some 0 mode e) (same_bytes text (codes "foot") is, omega arith)
     by_foot false is e = by_bike (bytes_eq text (codes "bike")) refl e
 
-mode_again : (mode : ℕ) → mode < 3 → mode_at (mode_name mode) ≡ Some mode
+mode_again : (mode : ℕ) → mode < 3 → mode_of_word (mode_name mode) ≡ Some mode
 mode_again zero h = refl
 mode_again (suc zero) h = refl
 mode_again (suc (suc zero)) h = refl
@@ -121,8 +121,8 @@ place_of_takes lat lon place e =
     let found = mapped _ (shown (int_le lon (pos 1800000000))) place e in
     (ap (λ (p : Place). p.lat) found.2, ap (λ (p : Place). p.lon) found.2))))
 
-place_takes : (lat lon : List ℕ) (place : Place) → place_at lat lon ≡ Some place → lat ∷ lon ∷ [] ≡ place_words place
-unfolding place_at
+place_takes : (lat lon : List ℕ) (place : Place) → place_of_words lat lon ≡ Some place → lat ∷ lon ∷ [] ≡ place_words place
+unfolding place_of_words
 place_takes lat lon place e =
     option_and_then_some _ (signed_at (2 * 10 ^ 9) lat) place e (λ north is_lat e.
     option_and_then_some _ (signed_at (2 * 10 ^ 9) lon) place e (λ east is_lon e.
@@ -134,23 +134,23 @@ place_takes lat lon place e =
 pub size_below : (z : ℤ) (n : ℕ) → neg_ℤ (pos n) ≤ℤ z → z ≤ℤ pos n → n < 2 * 10 ^ 9 → unsigned_abs z < 2 * 10 ^ 9
 size_below z n low high small = omega (arith, ints)
 
-place_is_read : (place : Place) → place_at (signed_decimal place.lat) (signed_decimal place.lon) ≡ Some place
-unfolding place_at
+place_is_read : (place : Place) → place_of_words (signed_decimal place.lat) (signed_decimal place.lon) ≡ Some place
+unfolding place_of_words
 place_is_read place =
     let range = place.in_range in
     rw (signed_again (2 * 10 ^ 9) place.lat (omega arith) (size_below place.lat 900000000 range.south range.north (omega arith)), signed_again (2 * 10 ^ 9) place.lon (omega arith) (size_below place.lon 1800000000 range.west range.east (omega arith))) (place_again place)
 
 -- arcs and links
-arc_takes : (fields : List (List ℕ)) (arc : Arc) → arc_at fields ≡ Some arc → (arc_words arc ≡ fields) × FitsArc arc
-unfolding arc_at
+arc_takes : (fields : List (List ℕ)) (arc : Arc) → arc_of_words fields ≡ Some arc → (arc_words arc ≡ fields) × FitsArc arc
+unfolding arc_of_words
 arc_takes [] arc e = absurd (none-some arc e)
 arc_takes (a ∷ []) arc e = absurd (none-some arc e)
 arc_takes (a ∷ b ∷ []) arc e = absurd (none-some arc e)
 arc_takes (a ∷ b ∷ c ∷ d ∷ more) arc e = absurd (none-some arc e)
 arc_takes (a ∷ b ∷ c ∷ []) arc e =
-    option_and_then_some _ (word_at a) arc e (λ from is_from e.
-    option_and_then_some _ (word_at b) arc e (λ to is_to e.
-    option_and_then_some _ (word_at c) arc e (λ ms is_ms e.
+    option_and_then_some _ (number_of_word a) arc e (λ from is_from e.
+    option_and_then_some _ (number_of_word b) arc e (λ to is_to e.
+    option_and_then_some _ (number_of_word c) arc e (λ ms is_ms e.
     let fits = cond_some (nat_lt 0 ms) (record { from = from; to = to; ms = ms }) arc e in
     let some : 0 < ms = grind (arith, nat_tests, fits.0) in
     let tail = word_takes a from is_from in
@@ -159,8 +159,8 @@ arc_takes (a ∷ b ∷ c ∷ []) arc e =
     let same : decimal from ∷ decimal to ∷ decimal ms ∷ [] ≡ a ∷ b ∷ c ∷ [] = cc (tail.1, head.1, time.1) in
     subst (λ x. (arc_words x ≡ a ∷ b ∷ c ∷ []) × FitsArc x) fits.1 (same, record { from = tail.0; to = head.0; some = some; ms = time.0 }))))
 
-arc_again : (arc : Arc) → FitsArc arc → arc_at (arc_words arc) ≡ Some arc
-unfolding arc_at
+arc_again : (arc : Arc) → FitsArc arc → arc_of_words (arc_words arc) ≡ Some arc
+unfolding arc_of_words
 arc_again arc h = rw (word_again arc.from h.from, word_again arc.to h.to, word_again arc.ms h.ms) (grind (arith, nat_tests, h.some))
 
 -- calls
@@ -182,17 +182,17 @@ flags_again true false = record { few = omega arith; boards = refl; alights = re
 flags_again false true = record { few = omega arith; boards = refl; alights = refl }
 flags_again false false = record { few = omega arith; boards = refl; alights = refl }
 
-call_takes : (fields : List (List ℕ)) (call : Call) → call_at fields ≡ Some call → (call_words call ≡ fields) × FitsCall call
-unfolding call_at
+call_takes : (fields : List (List ℕ)) (call : Call) → call_of_words fields ≡ Some call → (call_words call ≡ fields) × FitsCall call
+unfolding call_of_words
 call_takes [] call e = absurd (none-some call e)
 call_takes (a ∷ []) call e = absurd (none-some call e)
 call_takes (a ∷ b ∷ []) call e = absurd (none-some call e)
 call_takes (a ∷ b ∷ c ∷ []) call e = absurd (none-some call e)
 call_takes (a ∷ b ∷ c ∷ d ∷ f ∷ more) call e = absurd (none-some call e)
 call_takes (a ∷ b ∷ c ∷ d ∷ []) call e =
-    option_and_then_some _ (word_at a) call e (λ stop is_stop e.
-    option_and_then_some _ (word_at b) call e (λ arr is_arr e.
-    option_and_then_some _ (word_at c) call e (λ dep is_dep e.
+    option_and_then_some _ (number_of_word a) call e (λ stop is_stop e.
+    option_and_then_some _ (number_of_word b) call e (λ arr is_arr e.
+    option_and_then_some _ (number_of_word c) call e (λ dep is_dep e.
     option_and_then_some _ (number_at 4 d) call e (λ marks is_marks e.
     let place = word_takes a stop is_stop in
     let arrival = word_takes b arr is_arr in
@@ -202,16 +202,16 @@ call_takes (a ∷ b ∷ c ∷ d ∷ []) call e =
     let same : call_words read ≡ a ∷ b ∷ c ∷ d ∷ [] = cc (place.1, arrival.1, departure.1, flags.1, flags_read marks flags.0) in
     subst (λ x. (call_words x ≡ a ∷ b ∷ c ∷ d ∷ []) × FitsCall x) (same_Some read call e) (same, record { stop = place.0; arr = arrival.0; dep = departure.0 })))))
 
-call_again : (call : Call) → FitsCall call → call_at (call_words call) ≡ Some call
-unfolding call_at
+call_again : (call : Call) → FitsCall call → call_of_words (call_words call) ≡ Some call
+unfolding call_of_words
 call_again call h =
     let flags = flags_again call.board call.alight in
     rw (word_again call.stop h.stop, word_again call.arr h.arr, word_again call.dep h.dep, number_again 4 (flags_of call) (omega arith) flags.few)
     (ap₂ (λ board alight. Some (record { stop = call.stop; arr = call.arr; dep = call.dep; board = board; alight = alight })) flags.boards flags.alights)
 
 -- the lines of trips
-trip_takes : (fields : List (List ℕ)) (l : Line) → trip_at fields ≡ Some l → (words l ≡ codes "trip" ∷ fields) × FitsLine l
-unfolding trip_at
+trip_takes : (fields : List (List ℕ)) (l : Line) → trip_of_words fields ≡ Some l → (words l ≡ codes "trip" ∷ fields) × FitsLine l
+unfolding trip_of_words
 trip_takes [] l e = absurd (none-some l e)
 trip_takes (a ∷ []) l e = absurd (none-some l e)
 trip_takes (a ∷ b ∷ []) l e = absurd (none-some l e)
@@ -220,7 +220,7 @@ trip_takes (a ∷ b ∷ c ∷ d ∷ f ∷ more) l e = absurd (none-some l e)
 trip_takes (a ∷ b ∷ c ∷ d ∷ []) l e =
     option_and_then_some _ (letter_at a) l e (λ letter is_letter e.
     option_and_then_some _ (hexadecimal_at b) l e (λ set is_set e.
-    option_and_then_some _ (word_at c) l e (λ calls is_calls e.
+    option_and_then_some _ (number_of_word c) l e (λ calls is_calls e.
     option_and_then_some _ (name_of d) l e (λ name is_name_of e.
     let means = letter_takes a letter is_letter in
     let days = hexadecimal_takes b set is_set in
@@ -231,44 +231,44 @@ trip_takes (a ∷ b ∷ c ∷ d ∷ []) l e =
     subst (λ x. (words x ≡ codes "trip" ∷ a ∷ b ∷ c ∷ d ∷ []) × FitsLine x) (same_Some (line.Trip letter (record { 0 = set }) calls name) l e) (same, fits)))))
 
 -- the lines of nodes
-road_takes : (fields : List (List ℕ)) (l : Line) → road_at fields ≡ Some l → (words l ≡ codes "node" ∷ fields) × FitsLine l
-unfolding road_at
+road_takes : (fields : List (List ℕ)) (l : Line) → road_of_words fields ≡ Some l → (words l ≡ codes "node" ∷ fields) × FitsLine l
+unfolding road_of_words
 road_takes [] l e = absurd (none-some l e)
 road_takes (a ∷ []) l e = absurd (none-some l e)
 road_takes (a ∷ b ∷ []) l e = absurd (none-some l e)
 road_takes (a ∷ b ∷ c ∷ []) l e = absurd (none-some l e)
 road_takes (a ∷ b ∷ c ∷ d ∷ f ∷ more) l e = absurd (none-some l e)
 road_takes (a ∷ b ∷ c ∷ d ∷ []) l e =
-    option_and_then_some _ (mode_at a) l e (λ mode is_mode e.
+    option_and_then_some _ (mode_of_word a) l e (λ mode is_mode e.
     option_and_then_some _ (id_at b) l e (λ id is_id e.
-    option_and_then_some _ (place_at c d) l e (λ place is_place e.
+    option_and_then_some _ (place_of_words c d) l e (λ place is_place e.
     let name = mode_takes a mode is_mode in
     let key = id_takes b id is_id in
     let same : codes "node" ∷ mode_name mode ∷ signed_decimal id ∷ place_words place ≡ codes "node" ∷ a ∷ b ∷ c ∷ d ∷ [] = cc (name.0, key.1, place_takes c d place is_place) in
     subst (λ x. (words x ≡ codes "node" ∷ a ∷ b ∷ c ∷ d ∷ []) × FitsLine x) (same_Some (line.Road mode id place) l e) (same, (name.1, key.0)))))
 
-stop_takes : (fields : List (List ℕ)) (l : Line) → stop_at fields ≡ Some l → (words l ≡ codes "stop" ∷ fields) × FitsLine l
-unfolding stop_at
+stop_takes : (fields : List (List ℕ)) (l : Line) → stop_of_words fields ≡ Some l → (words l ≡ codes "stop" ∷ fields) × FitsLine l
+unfolding stop_of_words
 stop_takes [] l e = absurd (none-some l e)
 stop_takes (a ∷ []) l e = absurd (none-some l e)
 stop_takes (a ∷ b ∷ []) l e = absurd (none-some l e)
 stop_takes (a ∷ b ∷ c ∷ d ∷ more) l e = absurd (none-some l e)
 stop_takes (a ∷ b ∷ c ∷ []) l e =
     option_and_then_some _ (name_of a) l e (λ name is_name_of e.
-    option_and_then_some _ (place_at b c) l e (λ place is_place e.
+    option_and_then_some _ (place_of_words b c) l e (λ place is_place e.
     let named = cond_some (is_name a) a name is_name_of in
     let same : codes "stop" ∷ name ∷ place_words place ≡ codes "stop" ∷ a ∷ b ∷ c ∷ [] = cc (named.1, place_takes b c place is_place) in
     subst (λ x. (words x ≡ codes "stop" ∷ a ∷ b ∷ c ∷ []) × FitsLine x) (same_Some (line.Stop name place) l e) (same, subst (λ x. is_name x ≡ true) named.1 named.0)))
 
-switch_takes : (fields : List (List ℕ)) (l : Line) → switch_at fields ≡ Some l → (words l ≡ codes "switch" ∷ fields) × FitsLine l
-unfolding switch_at
+switch_takes : (fields : List (List ℕ)) (l : Line) → switch_of_words fields ≡ Some l → (words l ≡ codes "switch" ∷ fields) × FitsLine l
+unfolding switch_of_words
 switch_takes [] l e = absurd (none-some l e)
 switch_takes (a ∷ []) l e = absurd (none-some l e)
 switch_takes (a ∷ b ∷ []) l e = absurd (none-some l e)
 switch_takes (a ∷ b ∷ c ∷ d ∷ more) l e = absurd (none-some l e)
 switch_takes (a ∷ b ∷ c ∷ []) l e =
     option_and_then_some _ (id_at a) l e (λ id is_id e.
-    option_and_then_some _ (place_at b c) l e (λ place is_place e.
+    option_and_then_some _ (place_of_words b c) l e (λ place is_place e.
     let key = id_takes a id is_id in
     let same : codes "switch" ∷ signed_decimal id ∷ place_words place ≡ codes "switch" ∷ a ∷ b ∷ c ∷ [] = cc (key.1, place_takes b c place is_place) in
     subst (λ x. (words x ≡ codes "switch" ∷ a ∷ b ∷ c ∷ []) × FitsLine x) (same_Some (line.Switch id place) l e) (same, key.0)))
@@ -324,23 +324,23 @@ pub made_by : (first count : ℕ) (zone : Option (List ℕ)) (days : DaysMeaning
 made_by first count None days e = made_of first count days e
 made_by first count (Some rule) days e = (made_in first count rule days e).1
 
-rule_takes : (fields : List (List ℕ)) (read : Option (List ℕ)) → rule_at fields ≡ Some read → rule_words read ≡ fields
+rule_takes : (fields : List (List ℕ)) (read : Option (List ℕ)) → rule_of_words fields ≡ Some read → rule_words read ≡ fields
 rule_takes [] read e = ap rule_words (sym (same_Some None read e))
 rule_takes (rule ∷ []) read e = ap rule_words (sym (same_Some (Some rule) read e))
 rule_takes (rule ∷ next ∷ more) read e = absurd (none-some read e)
 
-rule_again : (zone : Option (List ℕ)) → rule_at (rule_words zone) ≡ Some zone
+rule_again : (zone : Option (List ℕ)) → rule_of_words (rule_words zone) ≡ Some zone
 rule_again None = refl
 rule_again (Some rule) = refl
 
-days_takes : (fields : List (List ℕ)) (l : Line) → days_at fields ≡ Some l → (words l ≡ codes "days" ∷ fields) × FitsLine l
-unfolding days_at
+days_takes : (fields : List (List ℕ)) (l : Line) → days_of_words fields ≡ Some l → (words l ≡ codes "days" ∷ fields) × FitsLine l
+unfolding days_of_words
 days_takes [] l e = absurd (none-some l e)
 days_takes (a ∷ []) l e = absurd (none-some l e)
 days_takes (a ∷ b ∷ rule) l e =
-    option_and_then_some _ (word_at a) l e (λ first is_first e.
-    option_and_then_some _ (word_at b) l e (λ count is_count e.
-    option_and_then_some _ (rule_at rule) l e (λ zone is_zone e.
+    option_and_then_some _ (number_of_word a) l e (λ first is_first e.
+    option_and_then_some _ (number_of_word b) l e (λ count is_count e.
+    option_and_then_some _ (rule_of_words rule) l e (λ zone is_zone e.
     let found = mapped line.Days (made (days_made first count zone)) l e in
     let days = found.0 in
     let new = made_takes (days_made first count zone) days found.1 in
@@ -351,8 +351,8 @@ days_takes (a ∷ b ∷ rule) l e =
     let same : codes "days" ∷ decimal days.first ∷ decimal days.count ∷ rule_words days.zone ≡ codes "days" ∷ a ∷ b ∷ rule = cc (of.first_is, of.count_is, date.1, number.1, named) in
     subst (λ x. (words x ≡ codes "days" ∷ a ∷ b ∷ rule) × FitsLine x) found.2 (same, fits_days first count zone days date.0 number.0 of new))))
 
-days_again : (days : DaysMeaning) → FitsDays days → days_at (decimal days.first ∷ decimal days.count ∷ rule_words days.zone) ≡ Some (line.Days days)
-unfolding days_at
+days_again : (days : DaysMeaning) → FitsDays days → days_of_words (decimal days.first ∷ decimal days.count ∷ rule_words days.zone) ≡ Some (line.Days days)
+unfolding days_of_words
 days_again days h = rw (word_again days.first h.first, word_again days.count h.count, rule_again days.zone, h.made) refl
 
 -- a rule is a word
@@ -369,8 +369,8 @@ zone_is_words : (zone : Option (List ℕ)) (days : DaysMeaning) → days_made da
 zone_is_words None days made = tt
 zone_is_words (Some rule) days made = (rule_is_word rule (made_in days.first days.count rule days made).0, tt)
 
-end_takes : (fields : List (List ℕ)) (l : Line) → end_at fields ≡ Some l → (words l ≡ codes "end" ∷ fields) × FitsLine l
-unfolding end_at
+end_takes : (fields : List (List ℕ)) (l : Line) → end_of_words fields ≡ Some l → (words l ≡ codes "end" ∷ fields) × FitsLine l
+unfolding end_of_words
 end_takes [] l e = subst (λ x. (words x ≡ codes "end" ∷ []) × FitsLine x) (same_Some line.End l e) (refl, tt)
 end_takes (a ∷ more) l e = absurd (none-some l e)
 
@@ -382,13 +382,13 @@ by_kind {P} kind literal x y l e here later = by_test (bytes_eq kind literal) re
     by_test true is e = here (sym (same_bytes kind literal is)) e
     by_test false is e = later e
 
-kind_takes : (kind : List ℕ) (fields : List (List ℕ)) (l : Line) → kind_at kind fields ≡ Some l → (words l ≡ kind ∷ fields) × FitsLine l
-unfolding kind_at
+kind_takes : (kind : List ℕ) (fields : List (List ℕ)) (l : Line) → line_of_kind kind fields ≡ Some l → (words l ≡ kind ∷ fields) × FitsLine l
+unfolding line_of_kind
 kind_takes kind fields l e =
-    by_kind kind (codes "call") _ _ l e (λ is e. call_said is (mapped line.Call (call_at fields) l e)) (λ e.
+    by_kind kind (codes "call") _ _ l e (λ is e. call_said is (mapped line.Call (call_of_words fields) l e)) (λ e.
     by_kind kind (codes "trip") _ _ l e (λ is e. said (codes "trip") is (trip_takes fields l e)) (λ e.
-    by_kind kind (codes "arc") _ _ l e (λ is e. arc_said is (mapped line.Arc (arc_at fields) l e)) (λ e.
-    by_kind kind (codes "link") _ _ l e (λ is e. link_said is (mapped line.Link (arc_at fields) l e)) (λ e.
+    by_kind kind (codes "arc") _ _ l e (λ is e. arc_said is (mapped line.Arc (arc_of_words fields) l e)) (λ e.
+    by_kind kind (codes "link") _ _ l e (λ is e. link_said is (mapped line.Link (arc_of_words fields) l e)) (λ e.
     by_kind kind (codes "node") _ _ l e (λ is e. said (codes "node") is (road_takes fields l e)) (λ e.
     by_kind kind (codes "stop") _ _ l e (λ is e. said (codes "stop") is (stop_takes fields l e)) (λ e.
     by_kind kind (codes "switch") _ _ l e (λ is e. said (codes "switch") is (switch_takes fields l e)) (λ e.
@@ -398,17 +398,17 @@ kind_takes kind fields l e =
     said : (literal : List ℕ) → literal ≡ kind → (words l ≡ literal ∷ fields) × FitsLine l → (words l ≡ kind ∷ fields) × FitsLine l
     said literal is h = (h.0 ∙ ap (λ x. x ∷ fields) is, h.1)
 
-    call_said : codes "call" ≡ kind → (call : Call) × (call_at fields ≡ Some call) × (line.Call call ≡ l) → (words l ≡ kind ∷ fields) × FitsLine l
+    call_said : codes "call" ≡ kind → (call : Call) × (call_of_words fields ≡ Some call) × (line.Call call ≡ l) → (words l ≡ kind ∷ fields) × FitsLine l
     call_said is found =
         let read = call_takes fields found.0 found.1 in
         subst (λ x. (words x ≡ kind ∷ fields) × FitsLine x) found.2 (ap₂ (λ x y. x ∷ y) is read.0, read.1)
 
-    arc_said : codes "arc" ≡ kind → (arc : Arc) × (arc_at fields ≡ Some arc) × (line.Arc arc ≡ l) → (words l ≡ kind ∷ fields) × FitsLine l
+    arc_said : codes "arc" ≡ kind → (arc : Arc) × (arc_of_words fields ≡ Some arc) × (line.Arc arc ≡ l) → (words l ≡ kind ∷ fields) × FitsLine l
     arc_said is found =
         let read = arc_takes fields found.0 found.1 in
         subst (λ x. (words x ≡ kind ∷ fields) × FitsLine x) found.2 (ap₂ (λ x y. x ∷ y) is read.0, read.1)
 
-    link_said : codes "link" ≡ kind → (arc : Arc) × (arc_at fields ≡ Some arc) × (line.Link arc ≡ l) → (words l ≡ kind ∷ fields) × FitsLine l
+    link_said : codes "link" ≡ kind → (arc : Arc) × (arc_of_words fields ≡ Some arc) × (line.Link arc ≡ l) → (words l ≡ kind ∷ fields) × FitsLine l
     link_said is found =
         let read = arc_takes fields found.0 found.1 in
         subst (λ x. (words x ≡ kind ∷ fields) × FitsLine x) found.2 (ap₂ (λ x y. x ∷ y) is read.0, read.1)
@@ -464,7 +464,7 @@ words_are_words (line.Call call) h = (word_by_test (codes "call") refl, call_is_
 words_are_words line.End h = (word_by_test (codes "end") refl, tt)
 
 said_again : (l : Line) → FitsLine l → line_of_words (words l) ≡ Some l
-unfolding kind_at road_at stop_at switch_at trip_at end_at
+unfolding line_of_kind road_of_words stop_of_words switch_of_words trip_of_words end_of_words
 said_again (line.Days days) h = days_again days h
 said_again (line.Road mode id place) h = rw (mode_again mode h.0, id_again id h.1, place_is_read place) refl
 said_again (line.Stop name place) h = rw (h, place_is_read place) refl

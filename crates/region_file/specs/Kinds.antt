@@ -21,18 +21,18 @@ abbrev pub ◌>>=◌ : {A B : Type 0} → Option A → (A → Option B) → Opti
 o >>= f = option_and_then f o
 
 -- a number below 2 ^ 32
-abbrev pub word_at : List ℕ → Option ℕ
-word_at text = number_at (2 ^ 32) text
+abbrev pub number_of_word : List ℕ → Option ℕ
+number_of_word text = number_at (2 ^ 32) text
 
-abbrev pub mode_at : List ℕ → Option ℕ
-mode_at text =
+abbrev pub mode_of_word : List ℕ → Option ℕ
+mode_of_word text =
     if bytes_eq text (codes "foot") then Some 0
     else (if bytes_eq text (codes "bike") then Some 1
     else (if bytes_eq text (codes "car") then Some 2 else None))
 
 -- a latitude and a longitude in range
-unfoldable pub place_at : List ℕ → List ℕ → Option Place
-place_at lat lon = do
+unfoldable pub place_of_words : List ℕ → List ℕ → Option Place
+place_of_words lat lon = do
   north ← signed_at (2 * 10 ^ 9) lat
   east ← signed_at (2 * 10 ^ 9) lon
   place_of north east
@@ -42,89 +42,89 @@ made (Ok days) = Some days
 made (Err fault) = None
 
 -- no word of a zone rule, or one
-abbrev pub rule_at : List (List ℕ) → Option (Option (List ℕ))
-rule_at [] = Some None
-rule_at (rule ∷ []) = Some (Some rule)
-rule_at (rule ∷ next ∷ more) = None
+abbrev pub rule_of_words : List (List ℕ) → Option (Option (List ℕ))
+rule_of_words [] = Some None
+rule_of_words (rule ∷ []) = Some (Some rule)
+rule_of_words (rule ∷ next ∷ more) = None
 
-unfoldable pub days_at : List (List ℕ) → Option Line
-days_at (first ∷ count ∷ rule) = do
-  date ← word_at first
-  days ← word_at count
-  zone ← rule_at rule
+unfoldable pub days_of_words : List (List ℕ) → Option Line
+days_of_words (first ∷ count ∷ rule) = do
+  date ← number_of_word first
+  days ← number_of_word count
+  zone ← rule_of_words rule
   option_map line.Days (made (days_made date days zone))
-days_at _ = None
+days_of_words _ = None
 
-unfoldable pub road_at : List (List ℕ) → Option Line
-road_at (mode ∷ id ∷ lat ∷ lon ∷ []) = do
-  layer ← mode_at mode
+unfoldable pub road_of_words : List (List ℕ) → Option Line
+road_of_words (mode ∷ id ∷ lat ∷ lon ∷ []) = do
+  layer ← mode_of_word mode
   key ← id_at id
-  place ← place_at lat lon
+  place ← place_of_words lat lon
   Some (line.Road layer key place)
-road_at _ = None
+road_of_words _ = None
 
-unfoldable pub stop_at : List (List ℕ) → Option Line
-stop_at (name ∷ lat ∷ lon ∷ []) = do
+unfoldable pub stop_of_words : List (List ℕ) → Option Line
+stop_of_words (name ∷ lat ∷ lon ∷ []) = do
   key ← name_of name
-  place ← place_at lat lon
+  place ← place_of_words lat lon
   Some (line.Stop key place)
-stop_at _ = None
+stop_of_words _ = None
 
-unfoldable pub switch_at : List (List ℕ) → Option Line
-switch_at (id ∷ lat ∷ lon ∷ []) = do
+unfoldable pub switch_of_words : List (List ℕ) → Option Line
+switch_of_words (id ∷ lat ∷ lon ∷ []) = do
   key ← id_at id
-  place ← place_at lat lon
+  place ← place_of_words lat lon
   Some (line.Switch key place)
-switch_at _ = None
+switch_of_words _ = None
 
 -- an arc takes some time
-unfoldable pub arc_at : List (List ℕ) → Option Arc
-arc_at (from ∷ to ∷ ms ∷ []) = do
-  tail ← word_at from
-  head ← word_at to
-  time ← word_at ms
+unfoldable pub arc_of_words : List (List ℕ) → Option Arc
+arc_of_words (from ∷ to ∷ ms ∷ []) = do
+  tail ← number_of_word from
+  head ← number_of_word to
+  time ← number_of_word ms
   if nat_lt 0 time then Some (record { from = tail; to = head; ms = time }) else None
-arc_at _ = None
+arc_of_words _ = None
 
 -- a set of days has at least one
-unfoldable pub trip_at : List (List ℕ) → Option Line
-trip_at (letter ∷ days ∷ calls ∷ name ∷ []) = do
+unfoldable pub trip_of_words : List (List ℕ) → Option Line
+trip_of_words (letter ∷ days ∷ calls ∷ name ∷ []) = do
   means ← letter_at letter
   set ← hexadecimal_at days
-  count ← word_at calls
+  count ← number_of_word calls
   key ← name_of name
   Some (line.Trip means (record { 0 = set }) count key)
-trip_at _ = None
+trip_of_words _ = None
 
 -- flags are 1 for boarding plus 2 for alighting
-unfoldable pub call_at : List (List ℕ) → Option Call
-call_at (stop ∷ arr ∷ dep ∷ flags ∷ []) = do
-  place ← word_at stop
-  arrival ← word_at arr
-  departure ← word_at dep
+unfoldable pub call_of_words : List (List ℕ) → Option Call
+call_of_words (stop ∷ arr ∷ dep ∷ flags ∷ []) = do
+  place ← number_of_word stop
+  arrival ← number_of_word arr
+  departure ← number_of_word dep
   marks ← number_at 4 flags
   Some (record { stop = place; arr = arrival; dep = departure; board = marks % 2 == 1; alight = nat_le 2 marks })
-call_at _ = None
+call_of_words _ = None
 
-unfoldable pub end_at : List (List ℕ) → Option Line
-end_at [] = Some line.End
-end_at _ = None
+unfoldable pub end_of_words : List (List ℕ) → Option Line
+end_of_words [] = Some line.End
+end_of_words _ = None
 
-unfoldable pub kind_at : List ℕ → List (List ℕ) → Option Line
-kind_at kind fields =
-    if bytes_eq kind (codes "call") then option_map line.Call (call_at fields)
-    else (if bytes_eq kind (codes "trip") then trip_at fields
-    else (if bytes_eq kind (codes "arc") then option_map line.Arc (arc_at fields)
-    else (if bytes_eq kind (codes "link") then option_map line.Link (arc_at fields)
-    else (if bytes_eq kind (codes "node") then road_at fields
-    else (if bytes_eq kind (codes "stop") then stop_at fields
-    else (if bytes_eq kind (codes "switch") then switch_at fields
-    else (if bytes_eq kind (codes "days") then days_at fields
-    else (if bytes_eq kind (codes "end") then end_at fields else None))))))))
+unfoldable pub line_of_kind : List ℕ → List (List ℕ) → Option Line
+line_of_kind kind fields =
+    if bytes_eq kind (codes "call") then option_map line.Call (call_of_words fields)
+    else (if bytes_eq kind (codes "trip") then trip_of_words fields
+    else (if bytes_eq kind (codes "arc") then option_map line.Arc (arc_of_words fields)
+    else (if bytes_eq kind (codes "link") then option_map line.Link (arc_of_words fields)
+    else (if bytes_eq kind (codes "node") then road_of_words fields
+    else (if bytes_eq kind (codes "stop") then stop_of_words fields
+    else (if bytes_eq kind (codes "switch") then switch_of_words fields
+    else (if bytes_eq kind (codes "days") then days_of_words fields
+    else (if bytes_eq kind (codes "end") then end_of_words fields else None))))))))
 
 abbrev pub line_of_words : List (List ℕ) → Option Line
 line_of_words [] = None
-line_of_words (kind ∷ fields) = kind_at kind fields
+line_of_words (kind ∷ fields) = line_of_kind kind fields
 
 -- the line that a text spells
 unfoldable pub line_of : List ℕ → Option Line

@@ -40,10 +40,10 @@ nothing = record {
 }
 
 -- the trips with one call more of the last
-abbrev pub with_call : List TripLists → Call → List TripLists
-with_call [] call = []
-with_call (trip ∷ []) call = record trip { calls = trip.calls ++ call ∷ [] } ∷ []
-with_call (trip ∷ next ∷ more) call = trip ∷ with_call (next ∷ more) call
+abbrev pub with_last_call : List TripLists → Call → List TripLists
+with_last_call [] call = []
+with_last_call (trip ∷ []) call = record trip { calls = trip.calls ++ call ∷ [] } ∷ []
+with_last_call (trip ∷ next ∷ more) call = trip ∷ with_last_call (next ∷ more) call
 
 -- the lists with one line more
 abbrev pub put : NetworkLists → Line → NetworkLists
@@ -54,7 +54,7 @@ put n (line.Switch id place) = record n { switches = n.switches ++ record { key 
 put n (line.Arc arc) = record n { arcs = n.arcs ++ arc ∷ [] }
 put n (line.Link arc) = record n { links = n.links ++ arc ∷ [] }
 put n (line.Trip letter days calls name) = record n { trips = n.trips ++ record { letter = letter; days = days; name = name; calls = [] } ∷ [] }
-put n (line.Call call) = record n { trips = with_call n.trips call }
+put n (line.Call call) = record n { trips = with_last_call n.trips call }
 put n line.End = n
 
 -- the lists with all lines of a course, or its fault
@@ -64,8 +64,8 @@ put_all n (bad at) = Err (BadRecord at)
 put_all n (trailing at) = Err (Trailing at)
 
 -- the lists that the text behind the head line spells
-unfoldable pub lists_of : List ℕ → Result NetworkLists RegionFault
-lists_of text = put_all nothing (lines_from line_at is_end start 2 (pieces text))
+unfoldable pub lists_in_text : List ℕ → Result NetworkLists RegionFault
+lists_in_text text = put_all nothing (lines_from line_at is_end start 2 (pieces text))
 
 -- the network of some lists, or the first rule that they break
 abbrev pub or_fault : NetworkLists → Option NetFault → Result NetworkLists RegionFault
@@ -82,7 +82,7 @@ behind_head bytes = if bytes_eq (take (length head_line) bytes) head_line then S
 
 -- the lists that bytes spell: as text where they begin with its head line, and else as records
 abbrev pub lists_by : List ℕ → Option (List ℕ) → Result NetworkLists RegionFault
-lists_by bytes (Some text) = lists_of text
+lists_by bytes (Some text) = lists_in_text text
 lists_by bytes None = lists_in bytes
 
 -- what the bytes of a region spell: a network, or the first fault

@@ -6,7 +6,7 @@ ghost use Rattle.plain_texts.specs.Lines.{pieces};
 ghost use Rattle.mode_network.specs.NetworkLists.{NetworkLists};
 ghost use Rattle.mode_network.specs.Rules.{AreParts, first_fault};
 ghost use Rattle.region_file.specs.Sections.{behind_days, is_end, line_at, start};
-ghost use Rattle.region_file.specs.Regions.{Gives, HasCause, IsDecoded, behind_head, lists_by, lists_of, or_fault, put_all, region_of};
+ghost use Rattle.region_file.specs.Regions.{Gives, HasCause, IsDecoded, behind_head, lists_by, lists_in_text, or_fault, put_all, region_of};
 ghost use Rattle.region_file.specs.Records.{lists_in};
 ghost use Rattle.region_file.specs.declared.lines.Line.TheVariants as line;
 
@@ -92,9 +92,9 @@ fn first_line(alloc: Global, text: &[u8]) -> Result<Option<Days>, AllocError>
 }
 
 /// The parts that the text behind the head line spells.
-#[tactic(auto, unfolding(crate::specs::Regions::lists_of))]
+#[tactic(auto, unfolding(crate::specs::Regions::lists_in_text))]
 fn read_parts(alloc: Global, text: &[u8]) -> Result<Parts, RegionFault>
-    ensures { Gives result (lists_of text.now) }
+    ensures { Gives result (lists_in_text text.now) }
 {
     let Some((line, rest)) = next_line(text) else {
         return Err(RegionFault::BadRecord { at: 2 });

@@ -16,14 +16,14 @@ use timetable_arcs::Call;
 
 /// A number below 2^32.
 fn word_of(text: &[u8]) -> Option<u32>
-    ensures { result ≡ spec.word_at text.now }
+    ensures { result ≡ spec.number_of_word text.now }
 {
     let n = read_short_number(text, 1 << 32)?;
     Some(n as u32)
 }
 
 fn mode_of(text: &[u8]) -> Option<u8>
-    ensures { result ≡ spec.mode_at text.now }
+    ensures { result ≡ spec.mode_of_word text.now }
 {
     if text == b"foot".as_slice() {
         Some(0)
@@ -36,18 +36,18 @@ fn mode_of(text: &[u8]) -> Option<u8>
     }
 }
 
-#[tactic(auto, unfolding(crate::specs::Kinds::place_at))]
+#[tactic(auto, unfolding(crate::specs::Kinds::place_of_words))]
 fn place_of(lat: &[u8], lon: &[u8]) -> Option<Place>
-    ensures { result ≡ spec.place_at lat.now lon.now }
+    ensures { result ≡ spec.place_of_words lat.now lon.now }
 {
     let lat = read_signed(lat, 2_000_000_000)?;
     let lon = read_signed(lon, 2_000_000_000)?;
     Place::new(lat, lon)
 }
 
-#[tactic(auto, unfolding(crate::specs::Kinds::road_at))]
+#[tactic(auto, unfolding(crate::specs::Kinds::road_of_words))]
 fn road_of(fields: &[&[u8]]) -> Option<Line>
-    ensures { result ≡ spec.road_at (map (λ w. w.now) fields.now) }
+    ensures { result ≡ spec.road_of_words (map (λ w. w.now) fields.now) }
 {
     match fields {
         [mode, id, lat, lon] => {
@@ -60,9 +60,9 @@ fn road_of(fields: &[&[u8]]) -> Option<Line>
     }
 }
 
-#[tactic(auto, unfolding(crate::specs::Kinds::switch_at))]
+#[tactic(auto, unfolding(crate::specs::Kinds::switch_of_words))]
 fn switch_of(fields: &[&[u8]]) -> Option<Line>
-    ensures { result ≡ spec.switch_at (map (λ w. w.now) fields.now) }
+    ensures { result ≡ spec.switch_of_words (map (λ w. w.now) fields.now) }
 {
     match fields {
         [id, lat, lon] => {
@@ -74,9 +74,9 @@ fn switch_of(fields: &[&[u8]]) -> Option<Line>
     }
 }
 
-#[tactic(auto, unfolding(crate::specs::Kinds::arc_at))]
+#[tactic(auto, unfolding(crate::specs::Kinds::arc_of_words))]
 fn arc_of(fields: &[&[u8]]) -> Option<Arc>
-    ensures { result ≡ spec.arc_at (map (λ w. w.now) fields.now) }
+    ensures { result ≡ spec.arc_of_words (map (λ w. w.now) fields.now) }
 {
     match fields {
         [from, to, ms] => {
@@ -94,9 +94,9 @@ fn arc_of(fields: &[&[u8]]) -> Option<Arc>
 }
 
 /// A call, whose last word is 1 for boarding plus 2 for alighting.
-#[tactic(auto, unfolding(crate::specs::Kinds::call_at))]
+#[tactic(auto, unfolding(crate::specs::Kinds::call_of_words))]
 fn call_of(fields: &[&[u8]]) -> Option<Call>
-    ensures { result ≡ spec.call_at (map (λ w. w.now) fields.now) }
+    ensures { result ≡ spec.call_of_words (map (λ w. w.now) fields.now) }
 {
     match fields {
         [stop, arr, dep, flags] => {
@@ -117,9 +117,9 @@ fn call_of(fields: &[&[u8]]) -> Option<Call>
     }
 }
 
-#[tactic(auto, unfolding(crate::specs::Kinds::trip_at))]
+#[tactic(auto, unfolding(crate::specs::Kinds::trip_of_words))]
 fn trip_of(alloc: Global, fields: &[&[u8]]) -> Result<Option<Line>, AllocError>
-    ensures { IfOk result (λ read. read ≡ spec.trip_at (map (λ w. w.now) fields.now)) }
+    ensures { IfOk result (λ read. read ≡ spec.trip_of_words (map (λ w. w.now) fields.now)) }
 {
     match fields {
         [letter, days, calls, name] => {
@@ -147,9 +147,9 @@ fn trip_of(alloc: Global, fields: &[&[u8]]) -> Result<Option<Line>, AllocError>
     }
 }
 
-#[tactic(auto, unfolding(crate::specs::Kinds::end_at))]
+#[tactic(auto, unfolding(crate::specs::Kinds::end_of_words))]
 fn end_of(fields: &[&[u8]]) -> Option<Line>
-    ensures { result ≡ spec.end_at (map (λ w. w.now) fields.now) }
+    ensures { result ≡ spec.end_of_words (map (λ w. w.now) fields.now) }
 {
     match fields {
         [] => Some(Line::End),
@@ -157,9 +157,9 @@ fn end_of(fields: &[&[u8]]) -> Option<Line>
     }
 }
 
-#[tactic(auto, unfolding(crate::specs::Kinds::stop_at))]
+#[tactic(auto, unfolding(crate::specs::Kinds::stop_of_words))]
 fn stop_of(alloc: Global, fields: &[&[u8]]) -> Result<Option<Line>, AllocError>
-    ensures { IfOk result (λ read. read ≡ spec.stop_at (map (λ w. w.now) fields.now)) }
+    ensures { IfOk result (λ read. read ≡ spec.stop_of_words (map (λ w. w.now) fields.now)) }
 {
     match fields {
         [name, lat, lon] => {
@@ -198,7 +198,7 @@ pub fn made_days(
 
 /// The zone rule that these fields are, where there is at most one.
 fn rule_of<'a>(fields: &[&'a [u8]]) -> Option<Option<&'a [u8]>>
-    ensures { option_map (option_map (λ r. r.now)) result ≡ spec.rule_at (map (λ w. w.now) fields.now) }
+    ensures { option_map (option_map (λ r. r.now)) result ≡ spec.rule_of_words (map (λ w. w.now) fields.now) }
 {
     match fields {
         [] => Some(None),
@@ -207,9 +207,9 @@ fn rule_of<'a>(fields: &[&'a [u8]]) -> Option<Option<&'a [u8]>>
     }
 }
 
-#[tactic(auto, unfolding(crate::specs::Kinds::days_at))]
+#[tactic(auto, unfolding(crate::specs::Kinds::days_of_words))]
 fn days_of(alloc: Global, fields: &[&[u8]]) -> Result<Option<Line>, AllocError>
-    ensures { IfOk result (λ read. read ≡ spec.days_at (map (λ w. w.now) fields.now)) }
+    ensures { IfOk result (λ read. read ≡ spec.days_of_words (map (λ w. w.now) fields.now)) }
 {
     match fields {
         [first, count, rule @ ..] => {
@@ -228,9 +228,9 @@ fn days_of(alloc: Global, fields: &[&[u8]]) -> Result<Option<Line>, AllocError>
     }
 }
 
-#[tactic(auto, unfolding(crate::specs::Kinds::kind_at))]
+#[tactic(auto, unfolding(crate::specs::Kinds::line_of_kind))]
 fn kind_of(alloc: Global, kind: &[u8], fields: &[&[u8]]) -> Result<Option<Line>, AllocError>
-    ensures { IfOk result (λ read. read ≡ spec.kind_at kind.now (map (λ w. w.now) fields.now)) }
+    ensures { IfOk result (λ read. read ≡ spec.line_of_kind kind.now (map (λ w. w.now) fields.now)) }
 {
     if kind == b"call".as_slice() {
         Ok(call_of(fields).map(Line::Call))

@@ -28,7 +28,7 @@ pub fn no_parts(alloc: Global, days: Days) -> Parts
 
 /// Puts a call at the end of those of the last trip, if there is a trip.
 fn put_call(trips: &mut Vec<Trip>, call: Call) -> Result<(), AllocError>
-    ensures { OnOk result (trips.new.items ≡ spec.with_call trips.old.items call) }
+    ensures { OnOk result (trips.new.items ≡ spec.with_last_call trips.old.items call) }
 {
     if let Some(trip) = trips.last_mut() {
         trip.calls.push(call)?;

@@ -1,10 +1,10 @@
 use Rattle.std.proofs.Common.{◌≡◌, ℕ, List, [], ◌∷◌, length, map, refl, sym, ◌<◌, arith, Bor}
 use Rattle.std.specs.Prelude.{None}
-use Rattle.region_file.specs.Kinds.{days_at}
+use Rattle.region_file.specs.Kinds.{days_of_words}
 use Rattle.region_file.proofs.kinds.days_of.Goals as goal
 
-too_few : (fields : List (Bor (List ℕ))) → length fields < 2 → days_at (map (λ w. w.now) fields) ≡ None
-unfolding days_at
+too_few : (fields : List (Bor (List ℕ))) → length fields < 2 → days_of_words (map (λ w. w.now) fields) ≡ None
+unfolding days_of_words
 too_few [] h = refl
 too_few (first ∷ []) h = refl
 too_few (first ∷ count ∷ rule) h = absurd (omega (arith, h))

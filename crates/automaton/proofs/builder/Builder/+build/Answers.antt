@@ -1,7 +1,7 @@
 use Rattle.std.proofs.Common.{◌-◌, map, IfOk, true, false, drop, None, refl, sym, ap, ◌∙◌, subst, add-one}
 use Rattle.std.proofs.lemmas.Result.{IfOk-weaker}
 use Rattle.mode_expression.specs.Form.{form_of, in_turn, one_of}
-use Rattle.automaton.specs.Written.{written, plus, copies, options, sequence, optional, repeat}
+use Rattle.automaton.specs.Written.{written, plus, copies_in_turn, options, sequence, optional, repeat}
 use Rattle.automaton.specs.Builds.{Adds, built_of, Built}
 use Rattle.automaton.specs.Sets.{has}
 use Rattle.automaton.proofs.AddLemmas.{adds_nothing, adds_nowhere, adds_sequence, adds_choice, adds_optional, adds_plus, adds_plus_dry, adds_same}
@@ -36,8 +36,8 @@ add_choice-loop-left-preserved t c =
 pub add_copies-loop-preserved : goal.add_copies-loop-preserved
 add_copies-loop-preserved t c =
     let part = written (form_of c.args.part.now) in
-    adds_same (built_of c.args.self.now) (built_of c.add.new.self) _ _ _ _ _ _ (ap (λ n. copies n part) (sym (add-one c.loop.counter))) refl refl
-    (adds_sequence part (copies c.loop.counter part) (built_of c.args.self.now) (built_of c.loop.self) (built_of c.add.new.self)
+    adds_same (built_of c.args.self.now) (built_of c.add.new.self) _ _ _ _ _ _ (ap (λ n. copies_in_turn n part) (sym (add-one c.loop.counter))) refl refl
+    (adds_sequence part (copies_in_turn c.loop.counter part) (built_of c.args.self.now) (built_of c.loop.self) (built_of c.add.new.self)
     (has c.args.after) (has c.loop.next) (has c.in_ok-next.next) c.loop.invariant c.in_ok-next.ensures)
 
 pub add_options-loop-preserved : goal.add_options-loop-preserved
@@ -103,6 +103,6 @@ add_repeat-returns-in_ok-next-in-Some t c =
     IfOk-weaker c.add_copies.result _ _
     (λ entered adds.
     adds_same (built_of c.args.self.now) (built_of c.add_copies.new.self) _ _ _ _ _ _ spelled refl refl
-    (adds_sequence (copies c.args.least part) (options (most - c.args.least) part) (built_of c.args.self.now) (built_of c.add_options.new.self)
+    (adds_sequence (copies_in_turn c.args.least part) (options (most - c.args.least) part) (built_of c.args.self.now) (built_of c.add_options.new.self)
     (built_of c.add_copies.new.self) (has c.args.after) (has next.next) (has entered) with_options adds))
     c.add_copies.ensures

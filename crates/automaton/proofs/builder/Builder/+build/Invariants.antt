@@ -1,6 +1,6 @@
 use Rattle.std.proofs.Common.{map, drop}
 use Rattle.mode_expression.specs.Form.{form_of, in_turn, one_of}
-use Rattle.automaton.specs.Written.{written, copies, options}
+use Rattle.automaton.specs.Written.{written, copies_in_turn, options}
 use Rattle.automaton.specs.Builds.{Adds, built_of}
 use Rattle.automaton.specs.Sets.{has}
 use Rattle.automaton.proofs.builder.Builder.+build.Given as goal
@@ -16,7 +16,7 @@ invariant-add_choice-loop-left l =
 
 abbrev pub invariant-add_copies-loop : goal.invariant-add_copies-loop
 invariant-add_copies-loop l =
-    Adds (built_of l.initial.self) (built_of l.self) (copies l.counter (written (form_of l.part))) (has l.fn.after) (has l.next)
+    Adds (built_of l.initial.self) (built_of l.self) (copies_in_turn l.counter (written (form_of l.part))) (has l.fn.after) (has l.next)
 
 abbrev pub invariant-add_options-loop : goal.invariant-add_options-loop
 invariant-add_options-loop l =
