@@ -70,13 +70,25 @@ fn push_witnesses(out: &mut Vec<u8>, witnesses: &[Witness]) -> Result<(), AllocE
     Ok(())
 }
 
+/// How many bytes the spelling has, for which room is made at once. No contract speaks of it.
+fn room_for(h: &Hierarchy) -> usize {
+    let mut room: usize = 32;
+    room = room.saturating_add(h.order().len().saturating_mul(4));
+    room = room.saturating_add(h.entries().len().saturating_mul(20));
+    for witness in h.witnesses() {
+        room = room.saturating_add(witness.nodes.len().saturating_mul(4));
+        room = room.saturating_add(12);
+    }
+    room
+}
+
 /// The one spelling of a hierarchy, which [`decode`](crate::decode) reads again.
 pub fn encode(alloc: Global, h: &Hierarchy) -> Result<Vec<u8>, AllocError>
     ensures text { IfOk result (λ bytes. bytes.items ≡ hierarchy_text h.now) }
     ensures again { IfOk result (λ bytes. hierarchy_of bytes.items ≡ Ok h.now) }
 {
     h.known();
-    let mut out = Vec::new(alloc);
+    let mut out = Vec::with_capacity(alloc, room_for(h))?;
     let counts = Counts {
         order: h.order().len() as u64,
         entries: h.entries().len() as u64,

@@ -6,9 +6,9 @@ use Rattle.hierarchy_file.proofs.encoding.encode.Goals as goal
 
 pub returns-clause-text : goal.returns-clause-text
 returns-clause-text c =
-    written c.args.h.now c.new-out.result.items c.push_head.new.out.items c.push_nodes.new.out.items c.push_entries.new.out.items c.push_witnesses.new.out.items
+    written c.args.h.now c.in_ok-out.out.items c.push_head.new.out.items c.push_nodes.new.out.items c.push_entries.new.out.items c.push_witnesses.new.out.items
     _ c.order-2.result.now c.entries-2.result.now c.witnesses-2.result.now c.order-2.ensures c.entries-2.ensures c.witnesses-2.ensures
-    (rw (c.order.ensures, c.entries.ensures, c.witnesses.ensures) refl) c.new-out.ensures.items
+    (rw (c.order.ensures, c.entries.ensures, c.witnesses.ensures) refl) c.in_ok-out.ensures.items
     c.in_ok-push_head.ensures c.in_ok-push_nodes.ensures c.in_ok-push_entries.ensures.text c.in_ok-push_witnesses.ensures.text
 
 pub returns-clause-again : goal.returns-clause-again
