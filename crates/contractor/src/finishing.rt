@@ -24,9 +24,11 @@ pub(crate) fn finish(
         order,
         entries,
         walks,
-        rows: _rows,
-        into: _into,
+        rows,
+        into,
     } = layer;
+    drop(rows);
+    drop(into);
     let entries = in_order(entries)?;
     let witnesses = witnesses(alloc, in_turn(walks)?)?;
     let hierarchy = Hierarchy::new(alloc, order, entries, witnesses)?;
