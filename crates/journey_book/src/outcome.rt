@@ -73,12 +73,10 @@ impl BookOutcome {
         }
     }
 
-    /// What people are told of the outcome at the end of a run. None where they have been told, or need not be.
+    /// What people are told of the outcome at the end of a run. None where they have been told, or need not be, and where
+    /// the words ask for nothing, of which there is more to say.
     pub fn note(self) -> Option<&'static str> {
         match self {
-            BookOutcome::Usage => Some(
-                "usage: planbook BOOK keep NAME REGION CERTIFICATE | drop NAME | list | show NAME | recheck REGION; BOOK is a database file, or - for one in memory; NAME is 1 to 64 small letters, digits, - and _, the first a letter or a digit",
-            ),
             BookOutcome::WriteFault => Some("standard output can't be written"),
             BookOutcome::KeepFault => Some("the book can't be read or written"),
             BookOutcome::Absent => Some(

@@ -13,7 +13,8 @@ use crate::outcome::BookOutcome;
 use crate::showing::{list, recheck_all, show};
 use crate::steps::tell;
 use crate::words::{BookCommand, read_words};
-use plan_base::{Caps, Shelf, Sink};
+use book_help::help;
+use plan_base::{Caps, Shelf, Sink, write_all};
 use std::alloc::Global;
 
 /// Does what a command asks for.
@@ -71,8 +72,8 @@ pub fn run_book_within<F: Shelf, K: Keeper, O: Sink, E: Sink>(
 /// `keep` keeps a certificate's bytes under a name, where it is valid in a region; `drop` removes a name; `list` writes all names and
 /// `show` what is kept under one; `recheck` writes what a region makes of all that is kept. The outcome says how the run ended. Where
 /// the shelf tells that all files are there, they are without fault, and no count of faults rose, all of the work is done, unless
-/// nothing is kept under the name or memory ran out. `notes` is told why a run did not end with its work done; a fault of `notes`
-/// changes nothing.
+/// nothing is kept under the name or memory ran out. `notes` is told why a run did not end with its work done, and where the words
+/// ask for nothing, what they may be; a fault of `notes` changes nothing.
 pub fn run_book<F: Shelf, K: Keeper, O: Sink, E: Sink>(
     alloc: Global,
     words: &[String],
@@ -85,8 +86,22 @@ pub fn run_book<F: Shelf, K: Keeper, O: Sink, E: Sink>(
     ensures complete { (caps : Caps) × AreFull caps × IsComplete caps (map string_bytes words.now) (scene (F.meaning shelf.old) (K.meaning keeper.old) (O.meaning out.old)) (scene (F.meaning shelf.new) (K.meaning keeper.new) (O.meaning out.new)) result }
 {
     let outcome = run_book_within(alloc, words, shelf, keeper, out, notes, &Caps::FULL);
-    if let Some(note) = outcome.note() {
-        tell(alloc, notes, String::from_str(alloc, note));
-    }
+    tell_end(alloc, words, outcome, notes);
     outcome
+}
+
+/// Tells people how a run with these words ended; where they ask for nothing, what they may be.
+fn tell_end<E: Sink>(alloc: Global, words: &[String], outcome: BookOutcome, notes: &mut E) {
+    match outcome {
+        BookOutcome::Usage => {
+            if let Ok(text) = help(alloc, words) {
+                let _ = write_all(notes, text.as_bytes());
+            }
+        }
+        _ => {
+            if let Some(note) = outcome.note() {
+                tell(alloc, notes, String::from_str(alloc, note));
+            }
+        }
+    }
 }
