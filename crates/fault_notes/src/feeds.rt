@@ -61,7 +61,7 @@ pub fn bad_feed(
 pub fn bad_build(alloc: Global, folder: &str, fault: BuildFault) -> Result<String, AllocError> {
     match fault {
         BuildFault::TimeGoesBack { row } => format!(in alloc;
-            "{folder}/trips.txt, row {row}: the times of this trip go back; each call departs no earlier than it arrives, and arrives no earlier than the one before departs"
+            "{folder}/trips.txt, row {row}: the times of this trip in stop_times.txt go back; each call departs no earlier than it arrives, and arrives no earlier than the one before departs"
         ),
         BuildFault::TooMany { kind } => {
             let (name, most) = (kind.name(), kind.most());
