@@ -1,9 +1,7 @@
 -- The arcs of the phase graph are its moves, and keep the laws of graphs.
-use Rattle.std.proofs.Common.{◌≡◌, ℕ, ◌+◌, ◌-◌, ◌*◌, ◌/◌, ◌%◌, ◌^◌, ◌<◌, ◌≤◌, ◌∙◌, cond, nat_lt, nat_eq, Bool, true, false, List, length, drop, get_or, Option, Some, None, refl, ap, arith, sym, subst}
-use Rattle.std.specs.Prelude.{All, IfSome}
-use Rattle.std.specs.List.Sorted.{IsNonDecreasingBy}
+use Rattle.std.proofs.Common.{◌≡◌, ℕ, ◌+◌, ◌-◌, ◌*◌, ◌/◌, ◌%◌, ◌^◌, ◌<◌, ◌≤◌, ◌∙◌, cond, nat_lt, nat_eq, Bool, true, false, List, length, get_or, Option, Some, None, refl, ap, arith}
+use Rattle.std.specs.Prelude.{IfSome}
 use Rattle.std.proofs.lemmas.Bool.{eqb-true, eqb-false, ltb-true, ltb-false}
-use Rattle.std.proofs.lemmas.List.{get_or-take, get_or-drop, length-take-le, length-drop}
 use Rattle.search_laws.specs.GraphLaws.{GraphMeaning, HasArc, IsLawfulGraph}
 use Rattle.timetable_arcs.specs.Patterns.{TableLists}
 use Rattle.timetable_arcs.specs.Table.{IsTable}
@@ -11,23 +9,22 @@ use Rattle.mode_network.specs.NetworkLists.{NetworkLists, nodes_of, mode_at}
 use Rattle.mode_network.specs.Rules.{IsNetwork}
 use Rattle.mode_network.specs.Timetables.{IsTimetableOf}
 use Rattle.mode_network.proofs.RuleLemmas.{some_is, mode_is_road, nodes_hold_roads}
-use Rattle.hierarchy.specs.Lists.{HierarchyLists, IsAbove}
+use Rattle.hierarchy.specs.Lists.{HierarchyLists}
 use Rattle.hierarchy.specs.Rules.{IsHierarchy}
 use Rattle.hierarchy.specs.Indexes.{AreBelow}
 use Rattle.hierarchy.specs.Rises.{is_rise}
 use Rattle.hierarchy.specs.Soundness.{IsSound, FitsLayer}
-use Rattle.hierarchy.specs.Lookups.{count_below}
+use Rattle.hierarchy.specs.Lookups.{from_of}
+use Rattle.hierarchy.proofs.LookupLemmas.{from_rises}
 use Rattle.hierarchy.proofs.RiseLists.{are_rises_from}
 use Rattle.hierarchy.proofs.OffsetLemmas.{count_most, key_in_range}
 use Rattle.plain_graph.specs.PlainArcs.{plain_meaning, arcs_at}
 use Rattle.plain_graph.specs.Lawful.{plain_lawful}
-use Rattle.phase_graph.specs.declared.falls.Fall.{Fall}
 use Rattle.phase_graph.specs.declared.phases.PhaseArc.{PhaseArc}
 use Rattle.phase_graph.specs.declared.phases.PhaseArc.TheVariants.{Up, Down, Other}
-use Rattle.phase_graph.specs.Moves.{IsMarked}
 use Rattle.phase_graph.specs.Arcs.{phase_node}
-use Rattle.phase_graph.specs.Falls.{AreFalls, BeginsThere, falls_of, fall_from}
-use Rattle.phase_graph.specs.PhaseArcs.{phase_meaning, phase_arc, phase_arcs_at, arc_of, arrival_of, entry_at, rises_at, others_at, first_other, no_rise, no_fall, no_entry, node_of, is_down, BeginsAt}
+use Rattle.phase_graph.specs.Marks.{is_fall}
+use Rattle.phase_graph.specs.PhaseArcs.{phase_meaning, phase_arc, phase_arcs_at, arc_of, arrival_of, entry_at, rises_at, first_entry, entries_at, others_at, first_other, no_rise, no_entry, node_of, is_down}
 
 -- ---- the numbers of nodes
 
@@ -65,47 +62,37 @@ module _ (n : NetworkLists) (h : HierarchyLists) (network : IsNetwork n) (sound 
   }
 
 -- what is known of an arc out of v
-abbrev pub IsArcAt : NetworkLists → HierarchyLists → List ℕ → TableLists → ℕ → Bool → PhaseArc → Type 0
-IsArcAt n h targets t v down (Up place) = (down ≡ false) × (place < length h.entries) × ((entry_at h place).from ≡ v) × (is_rise h.order (entry_at h place) ≡ true)
-IsArcAt n h targets t v down (Down place) =
-    (place < length h.entries) × ((entry_at h place).from ≡ v) × IsAbove h.order v (entry_at h place).to × IsMarked h targets (entry_at h place).to
-IsArcAt n h targets t v down (Other place) = (first_other n v down ≤ place) × (place < first_other n v down + others_at n t v down)
+abbrev pub IsArcAt : NetworkLists → HierarchyLists → TableLists → ℕ → Bool → PhaseArc → Type 0
+IsArcAt n h t v down (Up place) = (down ≡ false) × (place < length h.entries) × ((entry_at h place).from ≡ v) × (is_rise h.order (entry_at h place) ≡ true)
+IsArcAt n h t v down (Down place) = (place < length h.entries) × ((entry_at h place).from ≡ v)
+IsArcAt n h t v down (Other place) = (first_other n v down ≤ place) × (place < first_other n v down + others_at n t v down)
 
--- the falls of a node, read by place
-module _ (h : HierarchyLists) (falls : List Fall) (rising : IsNonDecreasingBy fall_from falls) where
-  pub falls_short : (v : ℕ) → length (falls_of falls v) ≡ count_below fall_from falls (v + 1) - count_below fall_from falls v
-  falls_short v =
-      length-take-le (count_below fall_from falls (v + 1) - count_below fall_from falls v) (drop (count_below fall_from falls v) falls)
-      (omega (arith, length-drop (count_below fall_from falls v) falls, count_most fall_from falls (v + 1)))
+-- each of the entries of a node leaves it
+pub entry_inside : (h : HierarchyLists) (v i : ℕ) → i < entries_at h v → first_entry h v + i < length h.entries
+entry_inside h v i lt = omega (arith, lt, count_most from_of h.entries (v + 1))
 
-  pub fall_read : (v i : ℕ) (d : Fall) → i < length (falls_of falls v) → get_or (falls_of falls v) i d ≡ get_or falls (count_below fall_from falls v + i) d
-  fall_read v i d lt =
-      get_or-take (count_below fall_from falls (v + 1) - count_below fall_from falls v) (drop (count_below fall_from falls v) falls) i d (omega (arith, lt, falls_short v))
-      ∙ get_or-drop (count_below fall_from falls v) falls i d
+pub entry_begins : (h : HierarchyLists) → IsHierarchy h → (v i : ℕ) → i < entries_at h v → (entry_at h (first_entry h v + i)).from ≡ v
+entry_begins h rules v i lt = key_in_range from_of h.entries (from_rises h.entries rules.entries_ascend) v (first_entry h v + i) no_entry (omega arith) (omega (arith, lt))
 
-  -- one of them begins at the node
-  pub fall_inside : (v i : ℕ) → i < length (falls_of falls v) → count_below fall_from falls v + i < length falls
-  fall_inside v i lt = omega (arith, lt, falls_short v, count_most fall_from falls (v + 1))
+-- what arrives if a test holds
+pub taken : (b : Bool) (x at : ℕ) → cond b (Some x) None ≡ Some at → (b ≡ true) × (x ≡ at)
+taken true x at e = (refl, some_is e)
+taken false x at e = cc
 
-  pub fall_begins : (v i : ℕ) (d : Fall) → i < length (falls_of falls v) → (get_or falls (count_below fall_from falls v + i) d).from ≡ v
-  fall_begins v i d lt = key_in_range fall_from falls rising v (count_below fall_from falls v + i) d (omega arith) (omega (arith, lt, falls_short v))
+shut : (b : Bool) (x y : ℕ) → cond b (Some x) None ≡ None → cond b (Some y) None ≡ None
+shut true x y e = cc
+shut false x y e = refl
 
-  pub falls_begin : All (BeginsThere h) falls → (v : ℕ) → All (λ fall. BeginsAt h v fall.place) (falls_of falls v)
-  falls_begin begun v i d lt =
-      let x = begun (count_below fall_from falls v + i) d (fall_inside v i lt) in
-      subst (λ (f : Fall). BeginsAt h v f.place) (sym (fall_read v i d lt)) (x.0, x.1 no_entry ∙ fall_begins v i d lt)
-
-module _ (n : NetworkLists) (h : HierarchyLists) (targets : List ℕ) (network : IsNetwork n) (rules : IsHierarchy h) (sound : IsSound n h) (t : TableLists) (table : IsTable t) (of : IsTimetableOf n t)
-    (falls : List Fall) (are : AreFalls h targets falls) where
+module _ (n : NetworkLists) (h : HierarchyLists) (network : IsNetwork n) (rules : IsHierarchy h) (sound : IsSound n h) (t : TableLists) (table : IsTable t) (of : IsTimetableOf n t) (marks : List Bool) where
   abbrev g : GraphMeaning
-  g = phase_meaning n t h falls
+  g = phase_meaning n t h marks
 
   abbrev plain : GraphMeaning
   plain = plain_meaning n t
 
   -- what is known of an arc out of v
   abbrev IsKnown : ℕ → Bool → PhaseArc → Type 0
-  IsKnown v down a = IsArcAt n h targets t v down a
+  IsKnown v down a = IsArcAt n h t v down a
 
   up_at : (v i : ℕ) (down : Bool) → i < length (rises_at h v down) → IsKnown v down (Up (get_or (rises_at h v down) i no_rise).place)
   up_at v i true lt = absurd (omega arith)
@@ -114,22 +101,14 @@ module _ (n : NetworkLists) (h : HierarchyLists) (targets : List ℕ) (network :
       let x = r.each i no_rise lt in
       (refl, x.within, x.begins no_entry ∙ r.from_u i no_rise lt, x.leads no_entry)
 
-  down_at : (v i : ℕ) (down : Bool) → i < length (falls_of falls v) → IsKnown v down (Down (get_or (falls_of falls v) i no_fall).place)
-  down_at v i down lt =
-      let k = count_below fall_from falls v + i in
-      let x = are.each k no_fall (fall_inside h falls are.rising v i lt) in
-      let from = fall_begins h falls are.rising v i no_fall lt in
-      subst (λ (f : Fall). IsKnown v down (Down f.place)) (sym (fall_read h falls are.rising v i no_fall lt))
-      (x.within, x.begins no_entry ∙ from, subst (λ u. IsAbove h.order u (entry_at h (get_or falls k no_fall).place).to) from (x.lower no_entry), x.marked no_entry)
-
-  pub arc_is : (v i : ℕ) (down : Bool) → i < phase_arcs_at n t h falls v down → IsKnown v down (phase_arc n h falls v down i)
-  arc_is v i down lt = by_kind (nat_lt i (length (rises_at h v down))) refl (nat_lt (i - length (rises_at h v down)) (length (falls_of falls v))) refl
+  pub arc_is : (v i : ℕ) (down : Bool) → i < phase_arcs_at n t h v down → IsKnown v down (phase_arc n h v down i)
+  arc_is v i down lt = by_kind (nat_lt i (length (rises_at h v down))) refl (nat_lt (i - length (rises_at h v down)) (entries_at h v)) refl
     where
-      by_kind : (b : Bool) → nat_lt i (length (rises_at h v down)) ≡ b → (c : Bool) → nat_lt (i - length (rises_at h v down)) (length (falls_of falls v)) ≡ c
+      by_kind : (b : Bool) → nat_lt i (length (rises_at h v down)) ≡ b → (c : Bool) → nat_lt (i - length (rises_at h v down)) (entries_at h v) ≡ c
           → IsKnown v down (cond b (Up (get_or (rises_at h v down) i no_rise).place)
-          (cond c (Down (get_or (falls_of falls v) (i - length (rises_at h v down)) no_fall).place) (Other (first_other n v down + (i - length (rises_at h v down) - length (falls_of falls v))))))
+          (cond c (Down (first_entry h v + (i - length (rises_at h v down)))) (Other (first_other n v down + (i - length (rises_at h v down) - entries_at h v)))))
       by_kind true e c f = up_at v i down (ltb-true _ _ e)
-      by_kind false e true f = down_at v (i - length (rises_at h v down)) down (ltb-true _ _ f)
+      by_kind false e true f = let inside = ltb-true _ _ f in (entry_inside h v (i - length (rises_at h v down)) inside, entry_begins h rules v (i - length (rises_at h v down)) inside)
       by_kind false e false f =
           let past = ltb-false _ _ e in
           let more = ltb-false _ _ f in
@@ -168,28 +147,34 @@ module _ (n : NetworkLists) (h : HierarchyLists) (targets : List ℕ) (network :
   letter_fits v down (Down place) node is = mode_fits v _ refl
   letter_fits v down (Other place) node is = laws.letter_in_range v place (plain_has v place down node is)
 
-  soon : (v time at : ℕ) (down : Bool) (a : PhaseArc) → v < length (nodes_of n) → IsKnown v down a → arrival_of n t h v time a ≡ Some at → (time ≤ at) × (at ≤ time + 2 ^ 57)
+  soon : (v time at : ℕ) (down : Bool) (a : PhaseArc) → v < length (nodes_of n) → IsKnown v down a → arrival_of n t h marks v time a ≡ Some at → (time ≤ at) × (at ≤ time + 2 ^ 57)
   soon v time at down (Up place) node is e = let light = (layer place is.1).light in let same = some_is e in (omega (arith, same), omega (arith, same, light))
-  soon v time at down (Down place) node is e = let light = (layer place is.0).light in let same = some_is e in (omega (arith, same), omega (arith, same, light))
+  soon v time at down (Down place) node is e =
+      let light = (layer place is.0).light in
+      let same = (taken (is_fall h marks (entry_at h place)) _ at e).1 in
+      (omega (arith, same), omega (arith, same, light))
   soon v time at down (Other place) node is e = (laws.not_before v place time at (plain_has v place down node is) e, laws.not_late v place time at (plain_has v place down node is) e)
 
-  later : (v s time a b : ℕ) (down : Bool) (arc : PhaseArc) → v < length (nodes_of n) → IsKnown v down arc → s ≤ time → arrival_of n t h v s arc ≡ Some a → arrival_of n t h v time arc ≡ Some b → a ≤ b
+  later : (v s time a b : ℕ) (down : Bool) (arc : PhaseArc) → v < length (nodes_of n) → IsKnown v down arc → s ≤ time → arrival_of n t h marks v s arc ≡ Some a → arrival_of n t h marks v time arc ≡ Some b → a ≤ b
   later v s time a b down (Up place) node is le e f = omega (arith, le, some_is e, some_is f)
-  later v s time a b down (Down place) node is le e f = omega (arith, le, some_is e, some_is f)
+  later v s time a b down (Down place) node is le e f =
+      let first = (taken (is_fall h marks (entry_at h place)) _ a e).1 in
+      let second = (taken (is_fall h marks (entry_at h place)) _ b f).1 in
+      omega (arith, le, first, second)
   later v s time a b down (Other place) node is le e f = laws.rises v place s time a b (plain_has v place down node is) le e f
 
-  never : (v s time : ℕ) (down : Bool) (arc : PhaseArc) → v < length (nodes_of n) → IsKnown v down arc → s ≤ time → arrival_of n t h v s arc ≡ None → arrival_of n t h v time arc ≡ None
+  never : (v s time : ℕ) (down : Bool) (arc : PhaseArc) → v < length (nodes_of n) → IsKnown v down arc → s ≤ time → arrival_of n t h marks v s arc ≡ None → arrival_of n t h marks v time arc ≡ None
   never v s time down (Up place) node is le e = cc
-  never v s time down (Down place) node is le e = cc
+  never v s time down (Down place) node is le e = shut (is_fall h marks (entry_at h place)) _ _ e
   never v s time down (Other place) node is le e = laws.stays_none v place s time (plain_has v place down node is) le e
 
   pub node_half : (p : ℕ) → p < 2 * length (nodes_of n) → node_of p < length (nodes_of n)
   node_half p lt = omega (arith, lt)
 
-  known : (p i : ℕ) → HasArc g p i → IsKnown (node_of p) (is_down p) (phase_arc n h falls (node_of p) (is_down p) i)
+  known : (p i : ℕ) → HasArc g p i → IsKnown (node_of p) (is_down p) (phase_arc n h (node_of p) (is_down p) i)
   known p i has = arc_is (node_of p) i (is_down p) has.arc
 
-  pub lawful : IsLawfulGraph (phase_meaning n t h falls)
+  pub lawful : IsLawfulGraph (phase_meaning n t h marks)
   lawful = record {
     few_nodes = few_double;
     to_in_range = λ p i has. to_fits (node_of p) (is_down p) _ (node_half p has.node) (known p i has);

@@ -21,11 +21,13 @@ use Rattle.mode_network.proofs.RuleLemmas.{some_is, both}
 use Rattle.hierarchy.specs.declared.entry.Entry.{Entry}
 use Rattle.hierarchy.specs.declared.rises.Rise.{Rise}
 use Rattle.hierarchy.specs.Hops.{Hop}
-use Rattle.hierarchy.specs.Lists.{HierarchyLists, height_in, IsAbove, IsCore}
+use Rattle.hierarchy.specs.Lists.{HierarchyLists, height_in, is_above, IsAbove, IsContracted, IsCore}
 use Rattle.hierarchy.specs.Rules.{IsHierarchy}
 use Rattle.hierarchy.specs.Rises.{is_rise, is_core, leads_up, rises_of}
 use Rattle.hierarchy.specs.Soundness.{HasEntry, IsSound}
-use Rattle.hierarchy.specs.Lookups.{count_below}
+use Rattle.hierarchy.specs.Lookups.{from_of}
+use Rattle.hierarchy.proofs.HeightLemmas.{height_most}
+use Rattle.hierarchy.proofs.LookupLemmas.{from_rises}
 use Rattle.hierarchy.proofs.RiseLists.{are_rises_from}
 use Rattle.hierarchy.proofs.SoundLemmas.{fits}
 use Rattle.hierarchy.proofs.OffsetLemmas.{in_range_of_key}
@@ -36,14 +38,13 @@ use Rattle.plain_graph.specs.OutArcs.{IsOut, IsListed, out_of, no_mode}
 use Rattle.plain_graph.specs.Simulation.{IsNoWait}
 use Rattle.plain_graph.proofs.PlaceTies.{stand_at}
 use Rattle.plain_graph.proofs.Same.{step_at, steps_are_arcs}
-use Rattle.phase_graph.specs.declared.falls.Fall.{Fall}
 use Rattle.phase_graph.specs.declared.phases.PhaseArc.{PhaseArc}
 use Rattle.phase_graph.specs.declared.phases.PhaseArc.TheVariants.{Up, Down, Other}
 use Rattle.phase_graph.specs.Moves.{PhaseMove, rest, rise, fall, cross, stand, IsMove, IsRise, IsCrossing, IsMarked}
 use Rattle.phase_graph.specs.Arcs.{phase_node, IsRest, IsArcBy, IsArcOfMove, IsPhaseGraph}
-use Rattle.phase_graph.specs.Falls.{AreFalls, falls_of, fall_from}
-use Rattle.phase_graph.specs.PhaseArcs.{phase_meaning, phase_arc, phase_arcs_at, arc_of, arrival_of, entry_at, rises_at, others_at, first_other, no_rise, no_fall, no_entry}
-use Rattle.phase_graph.proofs.GraphLemmas.{half, phase_of, in_nodes, road_inside, IsArcAt, arc_is, falls_short, fall_read, place_fits}
+use Rattle.phase_graph.specs.Marks.{AreMarksFor, has_mark, is_fall}
+use Rattle.phase_graph.specs.PhaseArcs.{phase_meaning, phase_arc, phase_arcs_at, arc_of, arrival_of, entry_at, rises_at, first_entry, entries_at, others_at, first_other, no_rise, no_entry}
+use Rattle.phase_graph.proofs.GraphLemmas.{half, phase_of, in_nodes, road_inside, IsArcAt, arc_is, taken, place_fits}
 use Rattle.phase_graph.proofs.PlaceLemmas.{up_is, down_is, other_is}
 use Rattle.phase_graph.proofs.JourneyLemmas.{link_leaves_core, stop_is_core}
 
@@ -75,9 +76,9 @@ only_stands n t v place low high = by_mode (mode_at n.roads v) refl
         ap (plain_arc n t v) here ∙ stand_at n t 0 0 v mode e
 
 module _ (n : NetworkLists) (h : HierarchyLists) (targets : List ℕ) (network : IsNetwork n) (rules : IsHierarchy h) (sound : IsSound n h) (t : TableLists) (table : IsTable t) (of : IsTimetableOf n t)
-    (falls : List Fall) (are : AreFalls h targets falls) where
+    (marks : List Bool) (are : AreMarksFor h targets marks) where
   abbrev g : GraphMeaning
-  g = phase_meaning n t h falls
+  g = phase_meaning n t h marks
 
   -- ---- arcs are moves
 
@@ -105,7 +106,7 @@ module _ (n : NetworkLists) (h : HierarchyLists) (targets : List ℕ) (network :
     is : IsMove n h targets v down time move to down2 u a.letter
     leads : a.to ≡ phase_node to down2
 
-  up_move : (v time u place : ℕ) (down : Bool) → IsArcAt n h targets t v down (Up place) → arrival_of n t h v time (Up place) ≡ Some u → IsMoveAlong v down time u (arc_of n t h v down (Up place))
+  up_move : (v time u place : ℕ) (down : Bool) → IsArcAt n h t v down (Up place) → arrival_of n t h marks v time (Up place) ≡ Some u → IsMoveAlong v down time u (arc_of n t h v down (Up place))
   up_move v time u place down (before, lt, from, up) e =
       let to = (entry_at h place).to in
       let weight = (entry_at h place).weight in
@@ -118,31 +119,34 @@ module _ (n : NetworkLists) (h : HierarchyLists) (targets : List ℕ) (network :
         leads = refl;
       }
 
-  down_move : (v time u place : ℕ) (down : Bool) → IsArcAt n h targets t v down (Down place) → arrival_of n t h v time (Down place) ≡ Some u
+  down_move : (v time u place : ℕ) (down : Bool) → IsArcAt n h t v down (Down place) → arrival_of n t h marks v time (Down place) ≡ Some u
       → IsMoveAlong v down time u (arc_of n t h v down (Down place))
-  down_move v time u place down (lt, from, lower, marked) e =
+  down_move v time u place down (lt, from) e =
       let to = (entry_at h place).to in
       let weight = (entry_at h place).weight in
+      let fell = taken (is_fall h marks (entry_at h place)) (time + weight) u e in
+      let tests = both (has_mark marks to) (is_above h.order (entry_at h place).from to) fell.0 in
+      let lower : IsAbove h.order v to = subst (λ x. IsAbove h.order x to) from (ltb-true _ _ tests.1) in
       record {
         move = fall (record { to = to; weight = weight });
         to = to;
         down2 = true;
         moves = λ x. x;
-        is = (entry_is v place lt from, lower, marked, refl, refl, sym (some_is e), refl);
+        is = (entry_is v place lt from, lower, are.each to tests.0, refl, refl, sym fell.1, refl);
         leads = refl;
       }
 
-  other_move : (v time u place : ℕ) (down : Bool) → v < length (nodes_of n) → IsArcAt n h targets t v down (Other place) → arrival_of n t h v time (Other place) ≡ Some u
+  other_move : (v time u place : ℕ) (down : Bool) → v < length (nodes_of n) → IsArcAt n h t v down (Other place) → arrival_of n t h marks v time (Other place) ≡ Some u
       → IsMoveAlong v down time u (arc_of n t h v down (Other place))
   other_move v time u place down node is e =
-      by_kind (plain_arc n t v place) refl (out_of n network t table v place (place_fits n h targets network rules sound t table of falls are v place down is)) e
+      by_kind (plain_arc n t v place) refl (out_of n network t table v place (place_fits n h network rules sound t table of marks v place down is)) e
     where
-      behind : (d : Bool) → IsArcAt n h targets t v d (Other place) → count_from n.arcs v ≤ place
+      behind : (d : Bool) → IsArcAt n h t v d (Other place) → count_from n.arcs v ≤ place
       behind false (low, high) = omega arith
       behind true (low, high) = omega arith
 
       -- what does not stand is before the descent
-      before : (d : Bool) → IsArcAt n h targets t v d (Other place) → (plain_arc n t v place ≡ Stand → ⊥) → d ≡ false
+      before : (d : Bool) → IsArcAt n h t v d (Other place) → (plain_arc n t v place ≡ Stand → ⊥) → d ≡ false
       before false at apart = refl
       before true (low, high) apart = absurd (apart (only_stands n t v place low high))
 
@@ -174,24 +178,24 @@ module _ (n : NetworkLists) (h : HierarchyLists) (targets : List ℕ) (network :
           let s = step_at n network t table of v time u (Ride ride) out arrives in
           crossed s.0 (Ride ride) (stop_is_core n h targets network sound v out.stop out.at) (ridden ride s.0 (run_at t time ride) s.1) s.2 (before down is (λ stands. let clash = sym at ∙ stands in cc))
 
-  along : (v : ℕ) (down : Bool) (i time u : ℕ) → v < length (nodes_of n) → i < phase_arcs_at n t h falls v down → arrival_of n t h v time (phase_arc n h falls v down i) ≡ Some u
-      → IsMoveAlong v down time u (arc_of n t h v down (phase_arc n h falls v down i))
-  along v down i time u node lt e = by_kind (phase_arc n h falls v down i) (arc_is n h targets network rules sound t table of falls are v i down lt) e
+  along : (v : ℕ) (down : Bool) (i time u : ℕ) → v < length (nodes_of n) → i < phase_arcs_at n t h v down → arrival_of n t h marks v time (phase_arc n h v down i) ≡ Some u
+      → IsMoveAlong v down time u (arc_of n t h v down (phase_arc n h v down i))
+  along v down i time u node lt e = by_kind (phase_arc n h v down i) (arc_is n h network rules sound t table of marks v i down lt) e
     where
-      by_kind : (a : PhaseArc) → IsArcAt n h targets t v down a → arrival_of n t h v time a ≡ Some u → IsMoveAlong v down time u (arc_of n t h v down a)
+      by_kind : (a : PhaseArc) → IsArcAt n h t v down a → arrival_of n t h marks v time a ≡ Some u → IsMoveAlong v down time u (arc_of n t h v down a)
       by_kind (Up place) is arrives = up_move v time u place down is arrives
       by_kind (Down place) is arrives = down_move v time u place down is arrives
       by_kind (Other place) is arrives = other_move v time u place down node is arrives
 
   -- what the graph says of a node's number it says of the node
-  arcs_same : (v : ℕ) (down : Bool) → g.arcs (phase_node v down) ≡ phase_arcs_at n t h falls v down
-  arcs_same v down = ap₂ (λ x d. phase_arcs_at n t h falls x d) (half v down) (phase_of v down)
+  arcs_same : (v : ℕ) (down : Bool) → g.arcs (phase_node v down) ≡ phase_arcs_at n t h v down
+  arcs_same v down = ap₂ (λ x d. phase_arcs_at n t h x d) (half v down) (phase_of v down)
 
-  arc_same : (v : ℕ) (down : Bool) (i : ℕ) → g.arc_at (phase_node v down) i ≡ arc_of n t h v down (phase_arc n h falls v down i)
-  arc_same v down i = ap₂ (λ x d. arc_of n t h x d (phase_arc n h falls x d i)) (half v down) (phase_of v down)
+  arc_same : (v : ℕ) (down : Bool) (i : ℕ) → g.arc_at (phase_node v down) i ≡ arc_of n t h v down (phase_arc n h v down i)
+  arc_same v down i = ap₂ (λ x d. arc_of n t h x d (phase_arc n h x d i)) (half v down) (phase_of v down)
 
-  arrive_same : (v : ℕ) (down : Bool) (i time : ℕ) → g.arrive (phase_node v down) i time ≡ arrival_of n t h v time (phase_arc n h falls v down i)
-  arrive_same v down i time = ap₂ (λ x d. arrival_of n t h x time (phase_arc n h falls x d i)) (half v down) (phase_of v down)
+  arrive_same : (v : ℕ) (down : Bool) (i time : ℕ) → g.arrive (phase_node v down) i time ≡ arrival_of n t h marks v time (phase_arc n h v down i)
+  arrive_same v down i time = ap₂ (λ x d. arrival_of n t h marks x time (phase_arc n h x d i)) (half v down) (phase_of v down)
 
   inside : (v : ℕ) (down : Bool) → phase_node v down < 2 * length (nodes_of n) → v < length (nodes_of n)
   inside v false lt = omega arith
@@ -211,8 +215,8 @@ module _ (n : NetworkLists) (h : HierarchyLists) (targets : List ℕ) (network :
 
   -- ---- moves have arcs
 
-  arc_there : (v : ℕ) (down : Bool) (time i q u a : ℕ) (letter : Option ℕ) (arc : PhaseArc) → v < length (nodes_of n) → i < phase_arcs_at n t h falls v down → phase_arc n h falls v down i ≡ arc
-      → arrival_of n t h v time arc ≡ Some a → a ≤ u → (arc_of n t h v down arc).to ≡ q → (arc_of n t h v down arc).letter ≡ letter
+  arc_there : (v : ℕ) (down : Bool) (time i q u a : ℕ) (letter : Option ℕ) (arc : PhaseArc) → v < length (nodes_of n) → i < phase_arcs_at n t h v down → phase_arc n h v down i ≡ arc
+      → arrival_of n t h marks v time arc ≡ Some a → a ≤ u → (arc_of n t h v down arc).to ≡ q → (arc_of n t h v down arc).letter ≡ letter
       → (i : ℕ) × (a : ℕ) × IsArcBy g (phase_node v down) time q u letter i a
   arc_there v down time i q u a letter arc node lt is arrives le to tells =
       let known = arc_same v down i ∙ ap (arc_of n t h v down) is in (
@@ -222,7 +226,7 @@ module _ (n : NetworkLists) (h : HierarchyLists) (targets : List ℕ) (network :
           has = record { node = in_nodes v down (length (nodes_of n)) node; arc = subst (λ k. i < k) (sym (arcs_same v down)) lt };
           to = ap (λ (x : GraphArc). x.to) known ∙ to;
           tells = ap (λ (x : GraphArc). x.letter) known ∙ tells;
-          arrives = arrive_same v down i time ∙ ap (arrival_of n t h v time) is ∙ arrives;
+          arrives = arrive_same v down i time ∙ ap (arrival_of n t h marks v time) is ∙ arrives;
           in_time = le;
         },
       )
@@ -247,34 +251,31 @@ module _ (n : NetworkLists) (h : HierarchyLists) (targets : List ℕ) (network :
       let place : (get_or (rises_of h v) i no_rise).place ≡ k = ap (λ (r : Rise). r.place) (get_or_default (rises_of h v) i no_rise row found.1 ∙ found.2) in
       let entry : entry_at h k ≡ e = get_or_default h.entries k no_entry e lt ∙ is in
       arc_there v false time i (phase_node hop.to false) (time + hop.weight) (time + hop.weight) (mode_at n.roads v) (Up k) (entry_node v hop.to hop.weight (via, (k, lt, is)))
-      (let within = found.1 in omega (arith, within)) (up_is n h falls v false i k found.1 place)
+      (let within = found.1 in omega (arith, within)) (up_is n h v false i k found.1 place)
       (ap (λ (x : Entry). Some (time + x.weight)) entry) (omega arith) (ap (λ (x : Entry). phase_node x.to false) entry) refl
 
   down_there : (v : ℕ) (down : Bool) (time : ℕ) (hop : Hop) → HasEntry h.entries v hop.to hop.weight → IsAbove h.order v hop.to → IsMarked h targets hop.to
       → (i : ℕ) × (a : ℕ) × IsArcBy g (phase_node v down) time (phase_node hop.to true) (time + hop.weight) (mode_at n.roads v) i a
   down_there v down time hop (via, (k, lt, is)) above marked =
       let e : Entry = record { from = v; to = hop.to; weight = hop.weight; via = via } in
-      let row : Fall = record { from = v; place = k } in
-      let found = are.all k e lt is above marked in
-      let j = found.0 in
-      let low = count_below fall_from falls v in
-      let range = in_range_of_key fall_from falls are.rising v j row found.1 (ap fall_from found.2) in
-      let i = j - low in
-      let within : i < length (falls_of falls v) = omega (arith, range.0, range.1, falls_short h falls are.rising v) in
-      let back : low + i ≡ j = omega (arith, range.0) in
-      let place : (get_or (falls_of falls v) i no_fall).place ≡ k =
-      ap (λ (f : Fall). f.place) (fall_read h falls are.rising v i no_fall within ∙ ap (λ x. get_or falls x no_fall) back ∙ get_or_default falls j no_fall row found.1 ∙ found.2) in
+      let range = in_range_of_key from_of h.entries (from_rises h.entries rules.entries_ascend) v k e lt (ap from_of is) in
+      let i = k - first_entry h v in
+      let back : first_entry h v + i ≡ k = omega (arith, range.0) in
+      let within : i < entries_at h v = omega (arith, range.0, range.1) in
       let entry : entry_at h k ≡ e = get_or_default h.entries k no_entry e lt ∙ is in
+      let low : IsContracted h.order hop.to = let most = height_most h.order v in omega (arith, above, most) in
+      let fell : is_fall h marks e ≡ true = rw (are.all hop.to low marked, lt-ltb _ _ above) refl in
       arc_there v down time (length (rises_at h v down) + i) (phase_node hop.to true) (time + hop.weight) (time + hop.weight) (mode_at n.roads v) (Down k) (entry_node v hop.to hop.weight (via, (k, lt, is)))
-      (omega (arith, within)) (down_is n h falls v down i k within place)
-      (ap (λ (x : Entry). Some (time + x.weight)) entry) (omega arith) (ap (λ (x : Entry). phase_node x.to true) entry) refl
+      (omega (arith, within)) (down_is n h v down i k within back)
+      (ap (λ (x : Entry). cond (is_fall h marks x) (Some (time + x.weight)) None) entry ∙ ap (λ b. cond b (Some (time + hop.weight)) None) fell)
+      (omega arith) (ap (λ (x : Entry). phase_node x.to true) entry) refl
 
   other_there : (v : ℕ) (down : Bool) (time place q u a : ℕ) (letter : Option ℕ) → v < length (nodes_of n) → first_other n v down ≤ place → place < first_other n v down + others_at n t v down
       → (plain_meaning n t).arrive v place time ≡ Some a → a ≤ u → phase_node ((plain_meaning n t).arc_at v place).to down ≡ q → ((plain_meaning n t).arc_at v place).letter ≡ letter
       → (i : ℕ) × (a : ℕ) × IsArcBy g (phase_node v down) time q u letter i a
   other_there v down time place q u a letter node low high arrives le to tells =
-      arc_there v down time (length (rises_at h v down) + length (falls_of falls v) + (place - first_other n v down)) q u a letter (Other place) node
-      (omega (arith, low, high)) (other_is n h falls v down place low) arrives le to tells
+      arc_there v down time (length (rises_at h v down) + entries_at h v + (place - first_other n v down)) q u a letter (Other place) node
+      (omega (arith, low, high)) (other_is n h v down place low) arrives le to tells
 
   -- a node that a road arc leaves has a mode
   arc_mode : (v : ℕ) (arc : Arc) → IsListed n.arcs v arc → (mode : ℕ) × (mode_at n.roads v ≡ Some mode)
@@ -363,5 +364,5 @@ module _ (n : NetworkLists) (h : HierarchyLists) (targets : List ℕ) (network :
       (renamed v false time w w false down2 u u letter letter refl ed refl refl (cross_there v time w u step letter crossing taken))
   has_arc v down time stand w down2 u letter (mode, has, ew, ed, eu, el) moves = renamed v down time v w down down2 time u (Some mode) letter ew ed eu el (stand_there v down time mode has)
 
-  pub is_phase_graph : IsPhaseGraph n h targets (phase_meaning n t h falls)
+  pub is_phase_graph : IsPhaseGraph n h targets (phase_meaning n t h marks)
   is_phase_graph = record { arc_of = has_arc; move_of = move_of }

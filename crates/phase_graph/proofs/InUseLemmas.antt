@@ -94,8 +94,8 @@ journeys_have_walks_in_use n network None sound origins targets g in_use steps v
       same_word = ap collapse walk.word;
     })
 journeys_have_walks_in_use n network (Some h) (rules, sound) origins targets g in_use steps v t w u letters real from to =
-    let is = is_phase_graph n h targets network rules sound in_use.table in_use.keeps in_use.of in_use.falls in_use.are in
-    let p = journeys_have_walks n h targets network sound (phase_meaning n in_use.table h in_use.falls) is steps v t w u letters real to in
+    let is = is_phase_graph n h targets network rules sound in_use.table in_use.keeps in_use.of in_use.marks in_use.are in
+    let p = journeys_have_walks n h targets network sound (phase_meaning n in_use.table h in_use.marks) is steps v t w u letters real to in
     let walk = p.walk in
     subst (λ (x : GraphMeaning). HasWalkInUse x (starts_in (Some h) origins) (ends_in (Some h) targets) t u letters) (sym in_use.is) (record {
       start = phase_node v false;
@@ -114,7 +114,7 @@ journeys_have_walks_in_use n network (Some h) (rules, sound) origins targets g i
 pub graphs_in_use_are_lawful : GraphsInUseAreLawful
 graphs_in_use_are_lawful n network None sound targets g in_use = subst IsLawfulGraph (sym in_use.is) (plain_lawful n network in_use.table in_use.keeps in_use.of)
 graphs_in_use_are_lawful n network (Some h) (rules, sound) targets g in_use =
-    subst IsLawfulGraph (sym in_use.is) (lawful n h targets network rules sound in_use.table in_use.keeps in_use.of in_use.falls in_use.are)
+    subst IsLawfulGraph (sym in_use.is) (lawful n h network rules sound in_use.table in_use.keeps in_use.of in_use.marks)
 
 -- ---- one graph
 
@@ -144,8 +144,8 @@ graphs_in_use_are_alike n network None sound targets one other first second = re
   back = plain_covers n network other one second first;
 }
 graphs_in_use_are_alike n network (Some h) (rules, sound) targets one other first second =
-    let a = subst (IsPhaseGraph n h targets) (sym first.is) (is_phase_graph n h targets network rules sound first.table first.keeps first.of first.falls first.are) in
-    let b = subst (IsPhaseGraph n h targets) (sym second.is) (is_phase_graph n h targets network rules sound second.table second.keeps second.of second.falls second.are) in
+    let a = subst (IsPhaseGraph n h targets) (sym first.is) (is_phase_graph n h targets network rules sound first.table first.keeps first.of first.marks first.are) in
+    let b = subst (IsPhaseGraph n h targets) (sym second.is) (is_phase_graph n h targets network rules sound second.table second.keeps second.of second.marks second.are) in
     record {
       nodes = ap (λ (x : GraphMeaning). x.nodes) first.is ∙ sym (ap (λ (x : GraphMeaning). x.nodes) second.is);
       forth = phases_cover n h targets one other a b;

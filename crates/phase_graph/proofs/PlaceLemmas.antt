@@ -1,40 +1,38 @@
 -- Where the arcs of each kind stand among those of a node of the phase graph.
-use Rattle.std.proofs.Common.{◌≡◌, ℕ, ◌+◌, ◌-◌, ◌<◌, ◌≤◌, ◌∙◌, Bool, true, false, List, length, get_or, refl, ap, arith}
+use Rattle.std.proofs.Common.{◌≡◌, ℕ, ◌+◌, ◌-◌, ◌<◌, ◌≤◌, ◌∙◌, Bool, true, false, length, get_or, refl, ap, arith}
 use Rattle.std.proofs.lemmas.Bool.{lt-ltb, le-ltb}
 use Rattle.timetable_arcs.specs.Patterns.{TableLists}
 use Rattle.mode_network.specs.NetworkLists.{NetworkLists}
 use Rattle.hierarchy.specs.Lists.{HierarchyLists}
 use Rattle.plain_graph.specs.PlainArcs.{arcs_at}
-use Rattle.phase_graph.specs.declared.falls.Fall.{Fall}
 use Rattle.phase_graph.specs.declared.phases.PhaseArc.TheVariants.{Up, Down, Other}
-use Rattle.phase_graph.specs.Falls.{falls_of}
-use Rattle.phase_graph.specs.PhaseArcs.{phase_arc, rises_at, first_other, others_at, no_rise, no_fall}
+use Rattle.phase_graph.specs.PhaseArcs.{phase_arc, rises_at, first_entry, entries_at, first_other, others_at, no_rise}
 
-module _ (n : NetworkLists) (h : HierarchyLists) (falls : List Fall) (v : ℕ) (down : Bool) where
+module _ (n : NetworkLists) (h : HierarchyLists) (v : ℕ) (down : Bool) where
   abbrev ups : ℕ
   ups = length (rises_at h v down)
 
   abbrev downs : ℕ
-  downs = length (falls_of falls v)
+  downs = entries_at h v
 
-  pub up_known : (i : ℕ) → i < ups → phase_arc n h falls v down i ≡ Up (get_or (rises_at h v down) i no_rise).place
+  pub up_known : (i : ℕ) → i < ups → phase_arc n h v down i ≡ Up (get_or (rises_at h v down) i no_rise).place
   up_known i lt = rw (lt-ltb i ups lt) refl
 
-  pub down_known : (i : ℕ) → ups ≤ i → i - ups < downs → phase_arc n h falls v down i ≡ Down (get_or (falls_of falls v) (i - ups) no_fall).place
+  pub down_known : (i : ℕ) → ups ≤ i → i - ups < downs → phase_arc n h v down i ≡ Down (first_entry h v + (i - ups))
   down_known i past lt = rw (le-ltb i ups past, lt-ltb (i - ups) downs lt) refl
 
-  pub other_known : (i : ℕ) → ups ≤ i → downs ≤ i - ups → phase_arc n h falls v down i ≡ Other (first_other n v down + (i - ups - downs))
+  pub other_known : (i : ℕ) → ups ≤ i → downs ≤ i - ups → phase_arc n h v down i ≡ Other (first_other n v down + (i - ups - downs))
   other_known i past behind = rw (le-ltb i ups past, le-ltb (i - ups) downs behind) refl
 
-  pub up_is : (i place : ℕ) → i < ups → (get_or (rises_at h v down) i no_rise).place ≡ place → phase_arc n h falls v down i ≡ Up place
+  pub up_is : (i place : ℕ) → i < ups → (get_or (rises_at h v down) i no_rise).place ≡ place → phase_arc n h v down i ≡ Up place
   up_is i place lt e = up_known i lt ∙ ap Up e
 
-  pub down_is : (i place : ℕ) → i < downs → (get_or (falls_of falls v) i no_fall).place ≡ place → phase_arc n h falls v down (ups + i) ≡ Down place
+  pub down_is : (i place : ℕ) → i < downs → first_entry h v + i ≡ place → phase_arc n h v down (ups + i) ≡ Down place
   down_is i place lt e =
       let back : ups + i - ups ≡ i = omega arith in
-      down_known (ups + i) (omega arith) (omega (arith, lt)) ∙ ap (λ k. Down (get_or (falls_of falls v) k no_fall).place) back ∙ ap Down e
+      down_known (ups + i) (omega arith) (omega (arith, lt)) ∙ ap (λ k. Down (first_entry h v + k)) back ∙ ap Down e
 
-  pub other_is : (place : ℕ) → first_other n v down ≤ place → phase_arc n h falls v down (ups + downs + (place - first_other n v down)) ≡ Other place
+  pub other_is : (place : ℕ) → first_other n v down ≤ place → phase_arc n h v down (ups + downs + (place - first_other n v down)) ≡ Other place
   other_is place le =
       let i = ups + downs + (place - first_other n v down) in
       let back : first_other n v down + (i - ups - downs) ≡ place = omega (arith, le) in

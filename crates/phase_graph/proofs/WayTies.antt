@@ -21,18 +21,17 @@ use Rattle.plain_graph.specs.PlainArcs.{plain_meaning, count_from, inner_arcs_at
 use Rattle.plain_graph.specs.Lawful.{plain_lawful}
 use Rattle.plain_graph.specs.declared.plain.PlainArc.{PlainArc}
 use Rattle.plain_graph.proofs.PlaceTies.{stand_at}
-use Rattle.phase_graph.specs.declared.falls.Fall.{Fall}
 use Rattle.phase_graph.specs.declared.phases.PhaseArc.{PhaseArc}
 use Rattle.phase_graph.specs.declared.phases.PhaseArc.TheVariants.{Up, Down, Other}
 use Rattle.phase_graph.specs.Arcs.{phase_node}
-use Rattle.phase_graph.specs.Falls.{falls_of}
-use Rattle.phase_graph.specs.PhaseArcs.{phase_meaning, phase_arc, arc_of, arrival_of, rises_at, others_at, first_other, no_rise, no_fall, node_of, is_down, renumbered, entry_way, FitsAnew}
+use Rattle.phase_graph.specs.Marks.{is_fall}
+use Rattle.phase_graph.specs.PhaseArcs.{phase_meaning, phase_arc, arc_of, arrival_of, rises_at, first_entry, entries_at, entry_at, others_at, first_other, no_rise, node_of, is_down, renumbered, entry_way, fall_ways, FitsAnew}
 use Rattle.phase_graph.proofs.GraphLemmas.{whole}
 use Rattle.phase_graph.proofs.PlaceLemmas.{up_is, down_is, other_is}
 
-module _ (n : NetworkLists) (h : HierarchyLists) (t : TableLists) (falls : List Fall) (p time letters : ℕ) where
+module _ (n : NetworkLists) (h : HierarchyLists) (t : TableLists) (marks : List Bool) (p time letters : ℕ) where
   abbrev g : GraphMeaning
-  g = phase_meaning n t h falls
+  g = phase_meaning n t h marks
 
   abbrev plain : GraphMeaning
   plain = plain_meaning n t
@@ -47,20 +46,19 @@ module _ (n : NetworkLists) (h : HierarchyLists) (t : TableLists) (falls : List 
   ups = length (rises_at h (node_of p) (is_down p))
 
   abbrev downs : ℕ
-  downs = length (falls_of falls (node_of p))
+  downs = entries_at h (node_of p)
 
   abbrev arc_there : ℕ → PhaseArc
-  arc_there i = phase_arc n h falls (node_of p) (is_down p) i
+  arc_there i = phase_arc n h (node_of p) (is_down p) i
 
   -- a known arc at a place
-  way_is : (i : ℕ) (a : PhaseArc) → arc_there i ≡ a → way_at g p time letters i ≡ open_way letters i (arc_of n t h (node_of p) (is_down p) a) (arrival_of n t h (node_of p) time a)
-  way_is i a is = ap (λ (x : PhaseArc). open_way letters i (arc_of n t h (node_of p) (is_down p) x) (arrival_of n t h (node_of p) time x)) is
+  way_is : (i : ℕ) (a : PhaseArc) → arc_there i ≡ a → way_at g p time letters i ≡ open_way letters i (arc_of n t h (node_of p) (is_down p) a) (arrival_of n t h marks (node_of p) time a)
+  way_is i a is = ap (λ (x : PhaseArc). open_way letters i (arc_of n t h (node_of p) (is_down p) x) (arrival_of n t h marks (node_of p) time x)) is
 
-  -- one way more
-  pushed : (start i : ℕ) (way : Way) (before now next : List Way) → now ≡ before ++ from start i → way_at g p time letters (start + i) ≡ way ∷ [] → next ≡ now ++ way ∷ []
-      → next ≡ before ++ from start (i + 1)
-  pushed start i way before now next first is push =
-      push ∙ ap (λ (ws : List Way). ws ++ way ∷ []) first ∙ append_assoc before (from start i) (way ∷ [])
+  -- one arc more
+  pushed : (start i : ℕ) (one before now next : List Way) → now ≡ before ++ from start i → way_at g p time letters (start + i) ≡ one → next ≡ now ++ one → next ≡ before ++ from start (i + 1)
+  pushed start i one before now next first is push =
+      push ∙ ap (λ (ws : List Way). ws ++ one) first ∙ append_assoc before (from start i) one
       ∙ ap (λ (ws : List Way). before ++ (from start i ++ ws)) (sym is) ∙ ap (λ (ws : List Way). before ++ ws) (sym (ways_more g p time letters start i))
 
   -- ---- entries
@@ -69,34 +67,40 @@ module _ (n : NetworkLists) (h : HierarchyLists) (t : TableLists) (falls : List 
       → next ≡ now ++ entry_way h letter false time i place ∷ [] → next ≡ before ++ from 0 (i + 1)
   up_pushed i place before now next lt at opens first push =
       let here : 0 + i ≡ i = omega arith in
-      let is : way_at g p time letters i ≡ entry_way h letter false time i place ∷ [] = way_is i (Up place) (up_is n h falls (node_of p) (is_down p) i place lt at) ∙ rw opens refl in
-      pushed 0 i (entry_way h letter false time i place) before now next first (ap (way_at g p time letters) here ∙ is) push
+      let is : way_at g p time letters i ≡ entry_way h letter false time i place ∷ [] = way_is i (Up place) (up_is n h (node_of p) (is_down p) i place lt at) ∙ rw opens refl in
+      pushed 0 i (entry_way h letter false time i place ∷ []) before now next first (ap (way_at g p time letters) here ∙ is) push
 
-  pub down_pushed : (i place : ℕ) (before now next : List Way) → i < downs → (get_or (falls_of falls (node_of p)) i no_fall).place ≡ place → is_open letters letter ≡ true → now ≡ before ++ from ups i
-      → next ≡ now ++ entry_way h letter true time (ups + i) place ∷ [] → next ≡ before ++ from ups (i + 1)
-  down_pushed i place before now next lt at opens first push =
-      let is : way_at g p time letters (ups + i) ≡ entry_way h letter true time (ups + i) place ∷ [] =
-      way_is (ups + i) (Down place) (down_is n h falls (node_of p) (is_down p) i place lt at) ∙ rw opens refl in
-      pushed ups i (entry_way h letter true time (ups + i) place) before now next first is push
+  pub fall_pushed : (i : ℕ) (before now next : List Way) → i < downs → is_open letters letter ≡ true → now ≡ before ++ from ups i
+      → next ≡ now ++ fall_ways h marks letter time (ups + i) (first_entry h (node_of p) + i) → next ≡ before ++ from ups (i + 1)
+  fall_pushed i before now next lt opens first push =
+      let place = first_entry h (node_of p) + i in
+      let is : way_at g p time letters (ups + i) ≡ fall_ways h marks letter time (ups + i) place =
+      way_is (ups + i) (Down place) (down_is n h (node_of p) (is_down p) i place lt refl) ∙ rw opens (by_test place (is_fall h marks (entry_at h place))) in
+      pushed ups i (fall_ways h marks letter time (ups + i) place) before now next first is push
+    where
+      by_test : (place : ℕ) (b : Bool) → way_if (ups + i) (arc_of n t h (node_of p) (is_down p) (Down place)) (cond b (Some (time + (entry_at h place).weight)) None)
+          ≡ cond b (entry_way h letter true time (ups + i) place ∷ []) []
+      by_test place true = refl
+      by_test place false = refl
 
   -- where their letter is not in the set there are none
   entry_closed : is_open letters letter ≡ false → (i : ℕ) (a : PhaseArc) → arc_there i ≡ a → (arc_of n t h (node_of p) (is_down p) a).letter ≡ letter → way_at g p time letters i ≡ []
   entry_closed closed i a is tells = way_is i a is ∙ shut (is_open letters (arc_of n t h (node_of p) (is_down p) a).letter) (ap (is_open letters) tells ∙ closed)
     where
-      shut : (b : Bool) → b ≡ false → cond b (way_if i (arc_of n t h (node_of p) (is_down p) a) (arrival_of n t h (node_of p) time a)) [] ≡ []
+      shut : (b : Bool) → b ≡ false → cond b (way_if i (arc_of n t h (node_of p) (is_down p) a) (arrival_of n t h marks (node_of p) time a)) [] ≡ []
       shut true e = cc
       shut false e = refl
 
   ups_closed : is_open letters letter ≡ false → (i k : ℕ) → i + k ≤ ups → from i k ≡ []
   ups_closed closed i zero within = refl
   ups_closed closed i (suc k) within =
-      let is = entry_closed closed i (Up (get_or (rises_at h (node_of p) (is_down p)) i no_rise).place) (up_is n h falls (node_of p) (is_down p) i _ (omega arith) refl) refl in
+      let is = entry_closed closed i (Up (get_or (rises_at h (node_of p) (is_down p)) i no_rise).place) (up_is n h (node_of p) (is_down p) i _ (omega arith) refl) refl in
       ap (λ (ws : List Way). ws ++ from (i + 1) k) is ∙ ups_closed closed (i + 1) k (omega arith)
 
   downs_closed : is_open letters letter ≡ false → (i k : ℕ) → i + k ≤ downs → from (ups + i) k ≡ []
   downs_closed closed i zero within = refl
   downs_closed closed i (suc k) within =
-      let is = entry_closed closed (ups + i) (Down (get_or (falls_of falls (node_of p)) i no_fall).place) (down_is n h falls (node_of p) (is_down p) i _ (omega arith) refl) refl in
+      let is = entry_closed closed (ups + i) (Down (first_entry h (node_of p) + i)) (down_is n h (node_of p) (is_down p) i _ (omega arith) refl) refl in
       let next : ups + i + 1 ≡ ups + (i + 1) = omega arith in
       ap (λ (ws : List Way). ws ++ from (ups + i + 1) k) is ∙ ap (λ x. from x k) next ∙ downs_closed closed (i + 1) k (omega arith)
 
@@ -122,7 +126,7 @@ module _ (n : NetworkLists) (h : HierarchyLists) (t : TableLists) (falls : List 
       let place = count_from n.arcs (node_of p) + k in
       let low : first_other n (node_of p) (is_down p) ≡ count_from n.arcs (node_of p) + 0 = ap (λ d. first_other n (node_of p) d) first in
       let at : ups + downs + k ≡ ups + downs + (place - first_other n (node_of p) (is_down p)) = omega (arith, low) in
-      ap arc_there at ∙ other_is n h falls (node_of p) (is_down p) place (omega (arith, low))
+      ap arc_there at ∙ other_is n h (node_of p) (is_down p) place (omega (arith, low))
 
   one_renumbered : is_down p ≡ false → (k : ℕ)
       → map (renumbered (count_from n.arcs (node_of p)) (ups + downs)) (way_at plain (node_of p) time letters (count_from n.arcs (node_of p) + k)) ≡ way_at g p time letters (ups + downs + k)
@@ -183,7 +187,7 @@ module _ (n : NetworkLists) (h : HierarchyLists) (t : TableLists) (falls : List 
       let first : first_other n (node_of p) (is_down p) ≡ place = ap (λ d. first_other n (node_of p) d) low in
       let one : others_at n t (node_of p) (is_down p) ≡ 1 = ap (λ d. others_at n t (node_of p) d) low ∙ ap (λ (o : Option ℕ). cond (is_some o) 1 0) has in
       let at : ups + downs ≡ ups + downs + (place - first_other n (node_of p) (is_down p)) = omega (arith, first) in
-      let is = ap arc_there at ∙ other_is n h falls (node_of p) (is_down p) place (omega (arith, first)) in
+      let is = ap arc_there at ∙ other_is n h (node_of p) (is_down p) place (omega (arith, first)) in
       let stands = stand_at n t 0 0 (node_of p) mode has in
       ap (from (ups + downs)) one ∙ append-nil (way_at g p time letters (ups + downs)) ∙ way_is (ups + downs) (Other place) is
       ∙ ap (λ (a : PlainArc). open_way letters (ups + downs) (record { to = phase_node (graph_arc n t (node_of p) a).to (is_down p); letter = (graph_arc n t (node_of p) a).letter }) (arrival t time a)) stands

@@ -1,5 +1,5 @@
 -- The graph that a query is answered over: that of the network, or, where a hierarchy is given, its phase graph for the targets.
-use Rattle.std.specs.Prelude.{◌≡◌, ℕ, ◌≤◌, false, true, List, [], ◌∷◌, map, Option, Some, None, IfSome, Contains, if◌then◌else◌}
+use Rattle.std.specs.Prelude.{◌≡◌, ℕ, ◌≤◌, Bool, false, true, List, [], ◌∷◌, map, Option, Some, None, IfSome, Contains, if◌then◌else◌}
 use Rattle.std.specs.List.{flat_map}
 use Rattle.search_laws.specs.Collapse.{collapse}
 use Rattle.search_laws.specs.GraphLaws.{GraphMeaning, HasArc, IsLawfulGraph}
@@ -15,9 +15,8 @@ use Rattle.hierarchy.specs.Lists.{HierarchyLists, is_contracted}
 use Rattle.hierarchy.specs.Rules.{IsHierarchy}
 use Rattle.hierarchy.specs.Soundness.{IsSound}
 use Rattle.plain_graph.specs.PlainArcs.{plain_meaning}
-use Rattle.phase_graph.specs.declared.falls.Fall.{Fall}
 use Rattle.phase_graph.specs.Arcs.{phase_node, IsArcBy}
-use Rattle.phase_graph.specs.Falls.{AreFalls}
+use Rattle.phase_graph.specs.Marks.{AreMarksFor}
 use Rattle.phase_graph.specs.PhaseArcs.{phase_meaning, node_of}
 
 -- the graph of the network; how its timetable sorts runs into patterns is left free
@@ -32,9 +31,9 @@ pub record IsOfPhases (n : NetworkLists) (h : HierarchyLists) (targets : List �
   pub table : TableLists
   pub of : IsTimetableOf n table
   pub keeps : IsTable table
-  pub falls : List Fall
-  pub are : AreFalls h targets falls
-  pub is : g ≡ phase_meaning n table h falls
+  pub marks : List Bool
+  pub are : AreMarksFor h targets marks
+  pub is : g ≡ phase_meaning n table h marks
 
 abbrev pub IsInUse : NetworkLists → Option HierarchyLists → List ℕ → GraphMeaning → Type 0
 IsInUse n None targets g = IsPlain n g

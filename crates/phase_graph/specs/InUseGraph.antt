@@ -10,7 +10,7 @@ use Rattle.phase_graph.specs.PhaseArcs.{phase_meaning}
 
 abbrev pub meaning_in_use : GraphInUse → GraphMeaning
 meaning_in_use (Plain p) = plain_meaning p.network.now p.timetable.now
-meaning_in_use (Phases p) = phase_meaning p.plain.network.now p.plain.timetable.now p.hierarchy.now p.falls.items
+meaning_in_use (Phases p) = phase_meaning p.plain.network.now p.plain.timetable.now p.hierarchy.now p.marks.items
 
 abbrev pub network_in : GraphInUse → NetworkLists
 network_in (Plain p) = p.network.now

@@ -1,7 +1,7 @@
 pub mod Moves
 pub mod Laws
 pub mod Arcs
-pub mod Falls
+pub mod Marks
 pub mod Marking
 pub mod PhaseArcs
 pub mod Walked

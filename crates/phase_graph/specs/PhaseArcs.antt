@@ -1,6 +1,7 @@
--- The arcs of the phase graph: out of each node, before the descent, its entries up and along the core; then the entries down to
--- marked nodes; and then the arcs of the network that are no road arcs, of which in the descent there is one that stands at most.
-use Rattle.std.specs.Prelude.{◌≡◌, ℕ, ◌+◌, ◌-◌, ◌*◌, ◌/◌, ◌%◌, ◌^◌, ◌==◌, ◌<◌, ◌≤◌, nat_lt, Bool, true, false, List, [], length, Option, Some, None, if◌then◌else◌, slice_index_or}
+-- The arcs of the phase graph: out of each node, before the descent, its entries up and along the core; then all its entries, of which
+-- those arrive that lead down to a node with a mark; and then the arcs of the network that are no road arcs, of which in the descent
+-- there is one that stands at most.
+use Rattle.std.specs.Prelude.{◌≡◌, ℕ, ◌+◌, ◌-◌, ◌*◌, ◌/◌, ◌%◌, ◌^◌, ◌==◌, ◌<◌, ◌≤◌, nat_lt, Bool, true, false, List, [], ◌∷◌, length, Option, Some, None, if◌then◌else◌, slice_index_or}
 use Rattle.search_laws.specs.GraphLaws.{GraphMeaning}
 use Rattle.search_laws.specs.declared.graph.GraphArc.{GraphArc}
 use Rattle.search_laws.specs.declared.graph.Way.{Way}
@@ -9,23 +10,20 @@ use Rattle.mode_network.specs.NetworkLists.{NetworkLists, nodes_of, mode_at}
 use Rattle.hierarchy.specs.declared.entry.Entry.{Entry}
 use Rattle.hierarchy.specs.declared.rises.Rise.{Rise}
 use Rattle.hierarchy.specs.Lists.{HierarchyLists}
+use Rattle.hierarchy.specs.Lookups.{range_of, from_of}
 use Rattle.hierarchy.specs.Rises.{rises_of}
 use Rattle.plain_graph.specs.PlainArcs.{plain_meaning, count_from, stands_at, inner_arcs_at, arcs_at, plain_arc}
 use Rattle.plain_graph.specs.declared.plain.PlainArc.{PlainArc}
 use Rattle.plain_graph.specs.declared.plain.PlainArc.TheVariants as plain
-use Rattle.phase_graph.specs.declared.falls.Fall.{Fall}
 use Rattle.phase_graph.specs.declared.phases.PhaseArc.{PhaseArc}
 use Rattle.phase_graph.specs.declared.phases.PhaseArc.TheVariants.{Up, Down, Other}
 use Rattle.phase_graph.specs.declared.phases.PhaseStep.{PhaseStep}
 use Rattle.phase_graph.specs.declared.phases.PhaseStep.TheVariants as step
 use Rattle.phase_graph.specs.Arcs.{phase_node}
-use Rattle.phase_graph.specs.Falls.{falls_of}
+use Rattle.phase_graph.specs.Marks.{is_fall}
 
 abbrev pub no_rise : Rise
 no_rise = record { from = 0; place = 0 }
-
-abbrev pub no_fall : Fall
-no_fall = record { from = 0; place = 0 }
 
 abbrev pub no_entry : Entry
 no_entry = record { from = 0; to = 0; weight = 0; via = None }
@@ -37,6 +35,13 @@ entry_at h place = slice_index_or h.entries place no_entry
 abbrev pub rises_at : HierarchyLists → ℕ → Bool → List Rise
 rises_at h v down = if down then [] else rises_of h v
 
+-- the entries out of a node stand side by side: where they begin, and how many they are
+abbrev pub first_entry : HierarchyLists → ℕ → ℕ
+first_entry h v = (range_of from_of h.entries v).0
+
+abbrev pub entries_at : HierarchyLists → ℕ → ℕ
+entries_at h v = (range_of from_of h.entries v).1 - (range_of from_of h.entries v).0
+
 -- the first arc of the plain graph that counts, and how many do: all but the road arcs, or in the descent the one that stands
 abbrev pub first_other : NetworkLists → ℕ → Bool → ℕ
 first_other n v down = count_from n.arcs v + (if down then count_from n.links v else 0)
@@ -44,15 +49,15 @@ first_other n v down = count_from n.arcs v + (if down then count_from n.links v 
 abbrev pub others_at : NetworkLists → TableLists → ℕ → Bool → ℕ
 others_at n t v down = if down then stands_at n v else count_from n.links v + inner_arcs_at n t v
 
-abbrev pub phase_arc : NetworkLists → HierarchyLists → List Fall → ℕ → Bool → ℕ → PhaseArc
-phase_arc n h falls v down i =
+abbrev pub phase_arc : NetworkLists → HierarchyLists → ℕ → Bool → ℕ → PhaseArc
+phase_arc n h v down i =
     if nat_lt i (length (rises_at h v down)) then Up (slice_index_or (rises_at h v down) i no_rise).place
-    else (if nat_lt (i - length (rises_at h v down)) (length (falls_of falls v))
-    then Down (slice_index_or (falls_of falls v) (i - length (rises_at h v down)) no_fall).place
-    else Other (first_other n v down + (i - length (rises_at h v down) - length (falls_of falls v))))
+    else (if nat_lt (i - length (rises_at h v down)) (entries_at h v)
+    then Down (first_entry h v + (i - length (rises_at h v down)))
+    else Other (first_other n v down + (i - length (rises_at h v down) - entries_at h v)))
 
-abbrev pub phase_arcs_at : NetworkLists → TableLists → HierarchyLists → List Fall → ℕ → Bool → ℕ
-phase_arcs_at n t h falls v down = length (rises_at h v down) + length (falls_of falls v) + others_at n t v down
+abbrev pub phase_arcs_at : NetworkLists → TableLists → HierarchyLists → ℕ → Bool → ℕ
+phase_arcs_at n t h v down = length (rises_at h v down) + entries_at h v + others_at n t v down
 
 -- the entry at this place leaves v
 abbrev pub BeginsAt : HierarchyLists → ℕ → ℕ → Type 0
@@ -70,15 +75,23 @@ arc_of n t h v down (Up place) = record { to = phase_node (entry_at h place).to 
 arc_of n t h v down (Down place) = record { to = phase_node (entry_at h place).to true; letter = mode_at n.roads v }
 arc_of n t h v down (Other place) = record { to = phase_node ((plain_meaning n t).arc_at v place).to down; letter = ((plain_meaning n t).arc_at v place).letter }
 
+-- an entry down is taken to a node with a mark alone
+abbrev pub fall_arrival : HierarchyLists → List Bool → ℕ → ℕ → Option ℕ
+fall_arrival h marks place time = if is_fall h marks (entry_at h place) then Some (time + (entry_at h place).weight) else None
+
 -- when it arrives, taken at a time
-abbrev pub arrival_of : NetworkLists → TableLists → HierarchyLists → ℕ → ℕ → PhaseArc → Option ℕ
-arrival_of n t h v time (Up place) = Some (time + (entry_at h place).weight)
-arrival_of n t h v time (Down place) = Some (time + (entry_at h place).weight)
-arrival_of n t h v time (Other place) = (plain_meaning n t).arrive v place time
+abbrev pub arrival_of : NetworkLists → TableLists → HierarchyLists → List Bool → ℕ → ℕ → PhaseArc → Option ℕ
+arrival_of n t h marks v time (Up place) = Some (time + (entry_at h place).weight)
+arrival_of n t h marks v time (Down place) = fall_arrival h marks place time
+arrival_of n t h marks v time (Other place) = (plain_meaning n t).arrive v place time
 
 -- an entry as a way, at a place among the arcs of its node
 abbrev pub entry_way : HierarchyLists → Option ℕ → Bool → ℕ → ℕ → ℕ → Way
 entry_way h letter down time i place = record { place = i; arc = record { to = phase_node (entry_at h place).to down; letter = letter }; at = time + (entry_at h place).weight }
+
+-- the same, if it leads down to a node with a mark
+abbrev pub fall_ways : HierarchyLists → List Bool → Option ℕ → ℕ → ℕ → ℕ → List Way
+fall_ways h marks letter time i place = if is_fall h marks (entry_at h place) then entry_way h letter true time i place ∷ [] else []
 
 -- a way of the plain graph as one before the descent, where the places that began at `first` begin at `now`
 abbrev pub renumbered : ℕ → ℕ → Way → Way
@@ -96,12 +109,12 @@ node_of p = p / 2
 abbrev pub is_down : ℕ → Bool
 is_down p = p % 2 == 1
 
-abbrev pub phase_meaning : NetworkLists → TableLists → HierarchyLists → List Fall → GraphMeaning
-phase_meaning n t h falls = record {
+abbrev pub phase_meaning : NetworkLists → TableLists → HierarchyLists → List Bool → GraphMeaning
+phase_meaning n t h marks = record {
   nodes = 2 * length (nodes_of n);
-  arcs = λ p. phase_arcs_at n t h falls (node_of p) (is_down p);
-  arc_at = λ p i. arc_of n t h (node_of p) (is_down p) (phase_arc n h falls (node_of p) (is_down p) i);
-  arrive = λ p i time. arrival_of n t h (node_of p) time (phase_arc n h falls (node_of p) (is_down p) i);
+  arcs = λ p. phase_arcs_at n t h (node_of p) (is_down p);
+  arc_at = λ p i. arc_of n t h (node_of p) (is_down p) (phase_arc n h (node_of p) (is_down p) i);
+  arrive = λ p i time. arrival_of n t h marks (node_of p) time (phase_arc n h (node_of p) (is_down p) i);
 }
 
 -- what is done along an arc of the plain graph, and along one of the phase graph

@@ -2,14 +2,13 @@
 //! and down, and the laws that tie this to journeys.
 #![tactic(auto)]
 
-pub mod falls;
 pub mod in_use;
+mod marks;
 pub mod phases;
 
 ghost use Rattle.phase_graph.specs.Arcs.{PhaseGraphsHaveMoves, PhaseGraphsHaveNoOthers};
 ghost use Rattle.phase_graph.specs.Laws.{JourneysHavePhaseWalks, PhaseWalksHaveJourneys};
 
-pub use falls::Fall;
 pub use in_use::{GraphInUse, ends_in, starts_in};
 pub use phases::{PhaseArc, PhaseStep, Phases};
 

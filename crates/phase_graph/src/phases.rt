@@ -7,11 +7,9 @@ ghost use Rattle.hierarchy.specs.declared.entry.Entry.{Entry};
 ghost use Rattle.hierarchy.specs.Soundness.{IsSound};
 ghost use Rattle.plain_graph.specs.Lawful.{IsLawfulGraph-prop};
 ghost use Rattle.phase_graph.specs.Arcs.{phase_node};
-ghost use Rattle.phase_graph.specs.Falls.{fall_from, BeginsThere};
 ghost use Rattle.phase_graph.specs.PhaseArcs.{phase_meaning, node_of, is_down, renumbered, FitsAnew};
-ghost use Rattle.std.specs.List.Sorted.{IsNonDecreasingBy};
 
-use crate::falls::{Fall, falls};
+use crate::marks::marks;
 use hierarchy::{Entry, Hierarchy, Rise};
 use mode_network::Network;
 use plain_graph::{Plain, PlainArc};
@@ -23,7 +21,7 @@ use std::alloc::{AllocError, Global};
 pub enum PhaseArc {
     /// The entry at this place, to a node above or along the core.
     Up(u64),
-    /// The entry at this place, to a marked node below.
+    /// The entry at this place, which arrives where it leads down to a node with a mark.
     Down(u64),
     /// The arc at this place of those of the plain graph: a link, a ride, or one that stands.
     Other(u64),
@@ -49,11 +47,9 @@ pub enum PhaseStep {
 pub struct Phases<'a> {
     plain: Plain<'a>,
     hierarchy: &'a Hierarchy,
-    falls: Vec<Fall>,
+    marks: Vec<bool>,
     pub ghost sound: { ∥ IsSound plain.network.now hierarchy.now ∥₁ },
-    pub ghost begun: { All (BeginsThere hierarchy.now) falls.items },
-    pub ghost rising: { IsNonDecreasingBy fall_from falls.items },
-    pub ghost lawful: { IsLawfulGraph (phase_meaning plain.network.now plain.timetable.now hierarchy.now falls.items) } by { IsLawfulGraph-prop (phase_meaning plain.network.now plain.timetable.now hierarchy.now falls.items) },
+    pub ghost lawful: { IsLawfulGraph (phase_meaning plain.network.now plain.timetable.now hierarchy.now marks.items) } by { IsLawfulGraph-prop (phase_meaning plain.network.now plain.timetable.now hierarchy.now marks.items) },
 }
 
 impl<'a> Phases<'a> {
@@ -62,11 +58,11 @@ impl<'a> Phases<'a> {
     ghost use Rattle.search_laws.specs.Ways.{ways_from, is_open};
     ghost use Rattle.mode_network.specs.NetworkLists.{nodes_of, mode_at};
     ghost use Rattle.phase_graph.specs.Arcs.{IsPhaseGraph, phase_node};
-    ghost use Rattle.phase_graph.specs.Falls.{AreFalls, falls_of};
-    ghost use Rattle.hierarchy.specs.Lookups.{count_below};
+    ghost use Rattle.phase_graph.specs.Marks.{AreMarksFor, has_mark, is_fall};
+    ghost use Rattle.hierarchy.specs.Lookups.{AreFrom};
     ghost use Rattle.timetable_arcs.specs.Table.{IsTable};
     ghost use Rattle.phase_graph.specs.Walked.{JourneysHaveWalks, WalksHaveJourneys};
-    ghost use Rattle.phase_graph.specs.PhaseArcs.{phase_meaning, rises_at, others_at, first_other, phase_arc, phase_arcs_at, FitsArc, BeginsAt, entry_at, phase_step, node_of, is_down};
+    ghost use Rattle.phase_graph.specs.PhaseArcs.{phase_meaning, rises_at, first_entry, entries_at, others_at, first_other, phase_arc, phase_arcs_at, FitsArc, BeginsAt, entry_at, fall_arrival, fall_ways, phase_step, node_of, is_down};
     ghost use Rattle.plain_graph.specs.PlainArcs.{plain_meaning, arcs_at};
 
     /// The phase graph of a sound hierarchy for these targets, which are nodes of the network. For each journey to a
@@ -82,22 +78,22 @@ impl<'a> Phases<'a> {
         ensures network { IfOk result (λ p. p.plain.network.now ≡ network.now) }
         ensures hierarchy { IfOk result (λ p. p.hierarchy.now ≡ hierarchy.now) }
         ensures keeps { IfOk result (λ p. IsTable p.plain.timetable.now) }
-        ensures falls { IfOk result (λ p. AreFalls hierarchy.now targets.now p.falls.items) }
+        ensures marks { IfOk result (λ p. AreMarksFor hierarchy.now targets.now p.marks.items) }
         ensures is { IfOk result (λ p. IsPhaseGraph network.now hierarchy.now targets.now
-            (phase_meaning network.now p.plain.timetable.now hierarchy.now p.falls.items)) }
+            (phase_meaning network.now p.plain.timetable.now hierarchy.now p.marks.items)) }
         ensures journeys { IfOk result (λ p. JourneysHaveWalks network.now hierarchy.now targets.now
-            (phase_meaning network.now p.plain.timetable.now hierarchy.now p.falls.items)) }
+            (phase_meaning network.now p.plain.timetable.now hierarchy.now p.marks.items)) }
         ensures walks { IfOk result (λ p. WalksHaveJourneys network.now
-            (phase_meaning network.now p.plain.timetable.now hierarchy.now p.falls.items)) }
+            (phase_meaning network.now p.plain.timetable.now hierarchy.now p.marks.items)) }
     {
         network.known();
         hierarchy.known();
-        let falls = falls(alloc, network.nodes(), hierarchy, targets)?;
+        let marks = marks(alloc, network.nodes(), hierarchy, targets)?;
         let plain = Plain::new(network);
         Ok(Phases {
             plain,
             hierarchy,
-            falls,
+            marks,
         })
     }
 
@@ -134,24 +130,34 @@ impl<'a> Phases<'a> {
         }
     }
 
-    /// The entries that lead down from a node of the network to marked nodes.
-    fn falls_at(&self, v: u32) -> &[Fall]
-        ensures list { result.now ≡ falls_of self.now.falls.items v }
-        ensures each { All (λ fall. BeginsAt self.now.hierarchy.now v fall.place) result.now }
+    /// The place of the first entry that leaves a node of the network, and how many there are, side by side.
+    fn entries_at(&self, v: u32) -> (u64, u64)
+        ensures first { result.0 ≡ first_entry self.now.hierarchy.now v }
+        ensures count { result.1 ≡ entries_at self.now.hierarchy.now v }
+        ensures are { AreFrom self.now.hierarchy.now.entries v result.0 (result.0 + result.1) }
+        ensures few { result.0 + result.1 < 2 ^ 60 }
     {
-        let first = self.first_from(u64::from(v));
-        let end = self.first_from(u64::from(v) + 1);
-        &self.falls[first..end]
+        let _entries = self.hierarchy.entries();
+        let (first, past) = self.hierarchy.entries_from(v);
+        (first, past - first)
     }
 
-    /// The place of the first fall from this node or a later one.
-    fn first_from(&self, v: u64) -> usize
-        ensures { result ≡ count_below fall_from self.now.falls.items v }
+    /// Whether an entry leads down to a node with a mark.
+    fn is_fall(&self, entry: Entry) -> bool
+        ensures { result ≡ is_fall self.now.hierarchy.now self.now.marks.items entry }
     {
-        self.falls.partition_point(|fall| u64::from(fall.from) < v)
+        self.has_mark(entry.to) && self.hierarchy.above(entry.from, entry.to)
     }
 
-    /// How many arcs out of a node lead along neither rises nor falls: the plain graph's but its road arcs, or in the
+    /// Whether a node has a mark.
+    fn has_mark(&self, v: u32) -> bool
+        ensures { result ≡ has_mark self.now.marks.items v }
+    {
+        let v = v as usize;
+        v < self.marks.len() && self.marks[v]
+    }
+
+    /// How many arcs out of a node lead along no entry: the plain graph's but its road arcs, or in the
     /// descent the one that stands.
     fn others(&self, v: u32, down: bool) -> u64
         requires { v < length (nodes_of self.now.plain.network.now) }
@@ -181,25 +187,25 @@ impl<'a> Phases<'a> {
         (past - first) as u64 + links as u64
     }
 
-    /// The arc at place `i` of those out of the node `p`: first come the entries up and along the core, then those down to
-    /// marked nodes, and then what the plain graph has in common with this one.
+    /// The arc at place `i` of those out of the node `p`: first come the entries up and along the core, then all entries, of
+    /// which those arrive that lead down to a node with a mark, and then what the plain graph has in common with this one.
     pub fn phase_arc(&self, p: u32, i: u64) -> PhaseArc
-        requires node { p < (phase_meaning self.now.plain.network.now self.now.plain.timetable.now self.now.hierarchy.now self.now.falls.items).nodes }
-        requires arc { i < (phase_meaning self.now.plain.network.now self.now.plain.timetable.now self.now.hierarchy.now self.now.falls.items).arcs p }
-        ensures value { result ≡ phase_arc self.now.plain.network.now self.now.hierarchy.now self.now.falls.items (node_of p) (is_down p) i }
+        requires node { p < (phase_meaning self.now.plain.network.now self.now.plain.timetable.now self.now.hierarchy.now self.now.marks.items).nodes }
+        requires arc { i < (phase_meaning self.now.plain.network.now self.now.plain.timetable.now self.now.hierarchy.now self.now.marks.items).arcs p }
+        ensures value { result ≡ phase_arc self.now.plain.network.now self.now.hierarchy.now (node_of p) (is_down p) i }
         ensures fits { FitsArc self.now.plain.network.now self.now.plain.timetable.now self.now.hierarchy.now (node_of p) result }
     {
         self.plain.timetable().known();
         let (v, down) = split(p);
         let rises = self.rises_at(v, down);
-        let falls = self.falls_at(v);
-        let (ups, downs) = (rises.len() as u64, falls.len() as u64);
+        let ups = rises.len() as u64;
+        let (first, entries) = self.entries_at(v);
         if i < ups {
             PhaseArc::Up(rises[i as usize].place)
-        } else if i - ups < downs {
-            PhaseArc::Down(falls[(i - ups) as usize].place)
+        } else if i - ups < entries {
+            PhaseArc::Down(first + (i - ups))
         } else {
-            PhaseArc::Other(self.first_other(v, down) + (i - ups - downs))
+            PhaseArc::Other(self.first_other(v, down) + (i - ups - entries))
         }
     }
 
@@ -224,6 +230,19 @@ impl<'a> Phases<'a> {
         Time::from(self.hierarchy.entries()[place as usize].weight)
     }
 
+    /// When one arrives that takes an entry at a time, if it leads down to a node with a mark.
+    fn fall_arrival(&self, place: u64, t: Time) -> Option<Time>
+        requires place { place < length self.now.hierarchy.now.entries }
+        requires time { t < 2 ^ 127 }
+        ensures { result ≡ fall_arrival self.now.hierarchy.now self.now.marks.items place t }
+    {
+        if self.is_fall(self.hierarchy.entries()[place as usize]) {
+            Some(t + self.weight(place))
+        } else {
+            None
+        }
+    }
+
     /// Where an arc of the plain graph leads, which keeps to the descent or to what is before it, and its letter.
     fn other_arc(&self, v: u32, place: u64, down: bool) -> GraphArc
         requires node { v < length (nodes_of self.now.plain.network.now) }
@@ -242,10 +261,10 @@ impl<'a> Phases<'a> {
 
     /// What is done along the arc at place `i` of those out of the node `p`. The numbering of arcs has no other use.
     pub fn step(&self, p: u32, i: u64) -> PhaseStep
-        requires node { p < (phase_meaning self.now.plain.network.now self.now.plain.timetable.now self.now.hierarchy.now self.now.falls.items).nodes }
-        requires arc { i < (phase_meaning self.now.plain.network.now self.now.plain.timetable.now self.now.hierarchy.now self.now.falls.items).arcs p }
+        requires node { p < (phase_meaning self.now.plain.network.now self.now.plain.timetable.now self.now.hierarchy.now self.now.marks.items).nodes }
+        requires arc { i < (phase_meaning self.now.plain.network.now self.now.plain.timetable.now self.now.hierarchy.now self.now.marks.items).arcs p }
         ensures { result ≡ phase_step self.now.plain.network.now self.now.plain.timetable.now self.now.hierarchy.now (node_of p)
-            (phase_arc self.now.plain.network.now self.now.hierarchy.now self.now.falls.items (node_of p) (is_down p) i) }
+            (phase_arc self.now.plain.network.now self.now.hierarchy.now (node_of p) (is_down p) i) }
     {
         match self.phase_arc(p, i) {
             PhaseArc::Up(place) | PhaseArc::Down(place) => {
@@ -269,7 +288,7 @@ impl<'a> Phases<'a> {
         requires time { t < 2 ^ 127 }
         requires opens { is_open letters (mode_at self.now.plain.network.now.roads (node_of p)) ≡ true }
         ensures { OnOk result (ways.new.items ≡ ways.old.items
-            ++ ways_from (phase_meaning self.now.plain.network.now self.now.plain.timetable.now self.now.hierarchy.now self.now.falls.items) p t letters 0
+            ++ ways_from (phase_meaning self.now.plain.network.now self.now.plain.timetable.now self.now.hierarchy.now self.now.marks.items) p t letters 0
             (length (rises_at self.now.hierarchy.now (node_of p) (is_down p)))) }
     {
         let (v, down) = split(p);
@@ -286,9 +305,9 @@ impl<'a> Phases<'a> {
         Ok(())
     }
 
-    /// Appends the entries down to marked nodes that leave the node `p`, whose letter is in the set. They stand behind
-    /// the entries up and along the core.
-    fn push_downs(
+    /// Appends those of the entries that leave the node `p` that lead down to a node with a mark, if their letter is in the
+    /// set. The places of all entries stand behind those of the entries up and along the core.
+    fn push_falls(
         &self,
         p: u32,
         t: Time,
@@ -298,19 +317,44 @@ impl<'a> Phases<'a> {
         requires time { t < 2 ^ 127 }
         requires opens { is_open letters (mode_at self.now.plain.network.now.roads (node_of p)) ≡ true }
         ensures { OnOk result (ways.new.items ≡ ways.old.items
-            ++ ways_from (phase_meaning self.now.plain.network.now self.now.plain.timetable.now self.now.hierarchy.now self.now.falls.items) p t letters
-            (length (rises_at self.now.hierarchy.now (node_of p) (is_down p))) (length (falls_of self.now.falls.items (node_of p)))) }
+            ++ ways_from (phase_meaning self.now.plain.network.now self.now.plain.timetable.now self.now.hierarchy.now self.now.marks.items) p t letters
+            (length (rises_at self.now.hierarchy.now (node_of p) (is_down p))) (entries_at self.now.hierarchy.now (node_of p))) }
     {
         let (v, down) = split(p);
         let letter = self.network().mode(v);
-        let first = self.rises_at(v, down).len() as u64;
-        let falls = self.falls_at(v);
-        for i in 0..falls.len() {
-            let place = falls[i].place;
+        let ups = self.rises_at(v, down).len() as u64;
+        let (first, count) = self.entries_at(v);
+        for i in 0..count {
+            self.push_fall(letter, first + i, ups + i, t, ways)?;
+        }
+        Ok(())
+    }
+
+    /// Appends the entry at a place as the arc at place `i` of its node, if it leads down to a node with a mark.
+    #[inline(always)]
+    fn push_fall(
+        &self,
+        letter: Option<u8>,
+        place: u64,
+        i: u64,
+        t: Time,
+        ways: &mut Vec<Way>,
+    ) -> Result<(), AllocError>
+        requires place { place < length self.now.hierarchy.now.entries }
+        requires time { t < 2 ^ 127 }
+        ensures { OnOk result (ways.new.items ≡ ways.old.items
+            ++ fall_ways self.now.hierarchy.now self.now.marks.items letter t i place) }
+    {
+        self.hierarchy.known();
+        let entry = self.hierarchy.entries()[place as usize];
+        if self.is_fall(entry) {
             ways.push(Way {
-                place: first + i as u64,
-                arc: self.entry_arc(letter, place, true),
-                at: t + self.weight(place),
+                place: i,
+                arc: GraphArc {
+                    to: number_of(entry.to, true),
+                    letter,
+                },
+                at: t + Time::from(entry.weight),
             })?;
         }
         Ok(())
@@ -326,12 +370,12 @@ impl<'a> Phases<'a> {
     ) -> Result<(), AllocError>
         requires time { t < 2 ^ 127 }
         ensures { OnOk result (ways.new.items ≡ ways.old.items
-            ++ ways_from (phase_meaning self.now.plain.network.now self.now.plain.timetable.now self.now.hierarchy.now self.now.falls.items) p t letters 0
-            (length (rises_at self.now.hierarchy.now (node_of p) (is_down p)) + length (falls_of self.now.falls.items (node_of p)))) }
+            ++ ways_from (phase_meaning self.now.plain.network.now self.now.plain.timetable.now self.now.hierarchy.now self.now.marks.items) p t letters 0
+            (length (rises_at self.now.hierarchy.now (node_of p) (is_down p)) + entries_at self.now.hierarchy.now (node_of p))) }
     {
         if is_open(letters, self.network().mode(p / 2)) {
             self.push_ups(p, t, letters, ways)?;
-            self.push_downs(p, t, letters, ways)?;
+            self.push_falls(p, t, letters, ways)?;
         }
         Ok(())
     }
@@ -347,12 +391,12 @@ impl<'a> Phases<'a> {
         requires node { node_of p < length (nodes_of self.now.plain.network.now) }
         requires time { t < 2 ^ 127 }
         ensures { OnOk result (ways.new.items ≡ ways.old.items
-            ++ ways_from (phase_meaning self.now.plain.network.now self.now.plain.timetable.now self.now.hierarchy.now self.now.falls.items) p t letters
-            (length (rises_at self.now.hierarchy.now (node_of p) (is_down p)) + length (falls_of self.now.falls.items (node_of p)))
+            ++ ways_from (phase_meaning self.now.plain.network.now self.now.plain.timetable.now self.now.hierarchy.now self.now.marks.items) p t letters
+            (length (rises_at self.now.hierarchy.now (node_of p) (is_down p)) + entries_at self.now.hierarchy.now (node_of p))
             (others_at self.now.plain.network.now self.now.plain.timetable.now (node_of p) (is_down p))) }
     {
         let (v, down) = split(p);
-        let first = self.rises_at(v, down).len() as u64 + self.falls_at(v).len() as u64;
+        let first = self.rises_at(v, down).len() as u64 + self.entries_at(v).1;
         if down {
             self.push_stand(p, first, t, letters, ways)
         } else {
@@ -371,11 +415,11 @@ impl<'a> Phases<'a> {
     ) -> Result<(), AllocError>
         requires node { node_of p < length (nodes_of self.now.plain.network.now) }
         requires phase { is_down p ≡ false }
-        requires first { first ≡ length (rises_at self.now.hierarchy.now (node_of p) (is_down p)) + length (falls_of self.now.falls.items (node_of p)) }
+        requires first { first ≡ length (rises_at self.now.hierarchy.now (node_of p) (is_down p)) + entries_at self.now.hierarchy.now (node_of p) }
         requires few { first < 2 ^ 62 }
         requires time { t < 2 ^ 127 }
         ensures { OnOk result (ways.new.items ≡ ways.old.items
-            ++ ways_from (phase_meaning self.now.plain.network.now self.now.plain.timetable.now self.now.hierarchy.now self.now.falls.items) p t letters first
+            ++ ways_from (phase_meaning self.now.plain.network.now self.now.plain.timetable.now self.now.hierarchy.now self.now.marks.items) p t letters first
             (others_at self.now.plain.network.now self.now.plain.timetable.now (node_of p) (is_down p))) }
     {
         self.plain.timetable().known();
@@ -397,9 +441,9 @@ impl<'a> Phases<'a> {
         ways: &mut Vec<Way>,
     ) -> Result<(), AllocError>
         requires phase { is_down p ≡ true }
-        requires first { first ≡ length (rises_at self.now.hierarchy.now (node_of p) (is_down p)) + length (falls_of self.now.falls.items (node_of p)) }
+        requires first { first ≡ length (rises_at self.now.hierarchy.now (node_of p) (is_down p)) + entries_at self.now.hierarchy.now (node_of p) }
         ensures { OnOk result (ways.new.items ≡ ways.old.items
-            ++ ways_from (phase_meaning self.now.plain.network.now self.now.plain.timetable.now self.now.hierarchy.now self.now.falls.items) p t letters first
+            ++ ways_from (phase_meaning self.now.plain.network.now self.now.plain.timetable.now self.now.hierarchy.now self.now.marks.items) p t letters first
             (others_at self.now.plain.network.now self.now.plain.timetable.now (node_of p) (is_down p))) }
     {
         if let Some(mode) = self.network().mode(p / 2) {
@@ -421,7 +465,7 @@ impl<'a> Phases<'a> {
 impl Graph for Phases<'_> {
     ghost use Rattle.phase_graph.specs.PhaseArcs.{phase_meaning};
 
-    ghost meaning = { λ g. phase_meaning g.plain.network.now g.plain.timetable.now g.hierarchy.now g.falls.items };
+    ghost meaning = { λ g. phase_meaning g.plain.network.now g.plain.timetable.now g.hierarchy.now g.marks.items };
 
     fn nodes(&self) -> u32 {
         2 * self.network().nodes()
@@ -430,7 +474,7 @@ impl Graph for Phases<'_> {
     fn arcs(&self, p: u32) -> u64 {
         self.plain.timetable().known();
         let (v, down) = split(p);
-        self.rises_at(v, down).len() as u64 + self.falls_at(v).len() as u64 + self.others(v, down)
+        self.rises_at(v, down).len() as u64 + self.entries_at(v).1 + self.others(v, down)
     }
 
     fn arc_at(&self, p: u32, i: u64) -> GraphArc {
@@ -445,7 +489,8 @@ impl Graph for Phases<'_> {
     fn arrive(&self, p: u32, i: u64, t: Time) -> Option<Time> {
         let (v, down) = split(p);
         match self.phase_arc(p, i) {
-            PhaseArc::Up(place) | PhaseArc::Down(place) => Some(t + self.weight(place)),
+            PhaseArc::Up(place) => Some(t + self.weight(place)),
+            PhaseArc::Down(place) => self.fall_arrival(place, t),
             PhaseArc::Other(place) => self.plain.arrive(v, place, t),
         }
     }

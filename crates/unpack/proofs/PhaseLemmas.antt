@@ -33,7 +33,6 @@ use Rattle.plain_graph.specs.PlainArcs.{plain_meaning, plain_arc, arcs_at, arriv
 use Rattle.plain_graph.specs.OutArcs.{out_of}
 use Rattle.plain_graph.specs.Simulation.{step_of}
 use Rattle.plain_graph.proofs.Same.{step_at}
-use Rattle.phase_graph.specs.declared.falls.Fall.{Fall}
 use Rattle.phase_graph.specs.declared.phases.PhaseArc.{PhaseArc}
 use Rattle.phase_graph.specs.declared.phases.PhaseArc.TheVariants.{Other}
 use Rattle.phase_graph.specs.Arcs.{phase_node}
@@ -336,18 +335,18 @@ module _ (n : NetworkLists) (network : IsNetwork n) (table : TableLists) (keeps 
 
 -- ---- an arc of the phase graph as steps
 
-module _ (n : NetworkLists) (network : IsNetwork n) (table : TableLists) (h : HierarchyLists) (falls : List Fall) (p i t : ℕ) (old new : List Step) where
+module _ (n : NetworkLists) (network : IsNetwork n) (table : TableLists) (h : HierarchyLists) (marks : List Bool) (p i t : ℕ) (old new : List Step) where
   abbrev arc_there : PhaseArc
-  arc_there = phase_arc n h falls (node_of p) (is_down p) i
+  arc_there = phase_arc n h (node_of p) (is_down p) i
 
   -- along an entry
   pub by_entry : (a : PhaseArc) (down : Bool) (place : ℕ) → a ≡ arc_there → arc_of n table h (node_of p) (is_down p) a ≡ record { to = phase_node (entry_at h place).to down; letter = mode_at n.roads (node_of p) }
-      → arrives_along n table h (node_of p) t a ≡ Some (t + (entry_at h place).weight) → (entry_at h place).from ≡ node_of p → (entry_at h place).from ≢ (entry_at h place).to
-      → GoesOnByRoads n (entry_at h place).from (entry_at h place).to (entry_at h place).weight old new → GoesOnByArc n table h falls p i t old new
+      → ((u : ℕ) → arrives_along n table h marks (node_of p) t a ≡ Some u → t + (entry_at h place).weight ≡ u) → (entry_at h place).from ≡ node_of p → (entry_at h place).from ≢ (entry_at h place).to
+      → GoesOnByRoads n (entry_at h place).from (entry_at h place).to (entry_at h place).weight old new → GoesOnByArc n table h marks p i t old new
   by_entry a down place at leads takes from differ roads u arrives =
       let e = entry_at h place in
       let is : arc_of n table h (node_of p) (is_down p) arc_there ≡ record { to = phase_node e.to down; letter = mode_at n.roads (node_of p) } = sym (ap (arc_of n table h (node_of p) (is_down p)) at) ∙ leads in
-      let ends : u ≡ t + e.weight = some_is (sym arrives ∙ sym (ap (arrives_along n table h (node_of p) t) at) ∙ takes) in
+      let ends : u ≡ t + e.weight = sym (takes u (ap (arrives_along n table h marks (node_of p) t) at ∙ arrives)) in
       let to : e.to ≡ node_of (arc_of n table h (node_of p) (is_down p) arc_there).to = sym (half e.to down) ∙ sym (ap (λ (x : GraphArc). node_of x.to) is) in
       let letter = ap (λ (x : GraphArc). x.letter) is in
       let on = by_roads n network (node_of p) e.to e.weight t u (arc_of n table h (node_of p) (is_down p) arc_there).letter old new (subst (λ x. GoesOnByRoads n x e.to e.weight old new) from roads)
@@ -356,12 +355,12 @@ module _ (n : NetworkLists) (network : IsNetwork n) (table : TableLists) (h : Hi
 
   -- along an arc of the plain graph
   pub by_other : IsTable table → IsTimetableOf n table → (place : ℕ) → Other place ≡ arc_there → place < arcs_at n table (node_of p)
-      → new ≡ old ++ with_wait table t (step_of table t (plain_arc n table (node_of p) place)) → GoesOnByArc n table h falls p i t old new
+      → new ≡ old ++ with_wait table t (step_of table t (plain_arc n table (node_of p) place)) → GoesOnByArc n table h marks p i t old new
   by_other keeps of place at within list u arrives =
       let v = node_of p in
       let arc = graph_arc n table v (plain_arc n table v place) in
       let is : arc_of n table h v (is_down p) arc_there ≡ record { to = phase_node arc.to (is_down p); letter = arc.letter } = sym (ap (arc_of n table h v (is_down p)) at) in
-      let on = by_plain_arc n network table keeps of v place t u old new within (ap (arrives_along n table h v t) at ∙ arrives) list in
+      let on = by_plain_arc n network table keeps of v place t u old new within (ap (arrives_along n table h marks v t) at ∙ arrives) list in
       let to : arc.to ≡ node_of (arc_of n table h v (is_down p) arc_there).to = sym (half arc.to (is_down p)) ∙ sym (ap (λ (x : GraphArc). node_of x.to) is) in
       let letter : arc.letter ≡ (arc_of n table h v (is_down p) arc_there).letter = sym (ap (λ (x : GraphArc). x.letter) is) in
       subst (λ x. GoesOn n v t x u (option_to_list (arc_of n table h v (is_down p) arc_there).letter) old new) to (subst (λ o. GoesOn n v t arc.to u (option_to_list o) old new) letter on)

@@ -1,5 +1,5 @@
 -- The journey under a walk through the phase graph.
-use Rattle.std.specs.Prelude.{◌≡◌, ℕ, ◌+◌, List, [], ◌∷◌, ◌++◌, map, Some, All, Contains, option_to_list}
+use Rattle.std.specs.Prelude.{◌≡◌, ℕ, ◌+◌, Bool, List, [], ◌∷◌, ◌++◌, map, Some, All, Contains, option_to_list}
 use Rattle.search_laws.specs.Collapse.{collapse}
 use Rattle.search_laws.specs.GraphLaws.{GraphMeaning}
 use Rattle.timetable_arcs.specs.Patterns.{TableLists}
@@ -11,7 +11,6 @@ use Rattle.hierarchy.specs.declared.entry.Entry.{Entry}
 use Rattle.hierarchy.specs.Hops.{Hop as RoadHop, AreHops, total}
 use Rattle.hierarchy.specs.Lists.{HierarchyLists}
 use Rattle.product_search.specs.declared.label.Hop.{Hop}
-use Rattle.phase_graph.specs.declared.falls.Fall.{Fall}
 use Rattle.phase_graph.specs.PhaseArcs.{phase_meaning, node_of}
 use Rattle.unpack.specs.Unpacking.{AreOnTime, IsSoon}
 
@@ -37,10 +36,10 @@ pub record GoesOn (n : NetworkLists) (v t w u : ℕ) (told : List ℕ) (old new 
   pub soon : All IsSoon more
 
 -- where the arc at this place of p arrives at some time, the list goes on by it
-abbrev pub GoesOnByArc : NetworkLists → TableLists → HierarchyLists → List Fall → ℕ → ℕ → ℕ → List Step → List Step → Type 0
-GoesOnByArc n table h falls p i t old new =
-    (u : ℕ) → (phase_meaning n table h falls).arrive p i t ≡ Some u
-    → GoesOn n (node_of p) t (node_of ((phase_meaning n table h falls).arc_at p i).to) u (option_to_list ((phase_meaning n table h falls).arc_at p i).letter) old new
+abbrev pub GoesOnByArc : NetworkLists → TableLists → HierarchyLists → List Bool → ℕ → ℕ → ℕ → List Step → List Step → Type 0
+GoesOnByArc n table h marks p i t old new =
+    (u : ℕ) → (phase_meaning n table h marks).arrive p i t ≡ Some u
+    → GoesOn n (node_of p) t (node_of ((phase_meaning n table h marks).arc_at p i).to) u (option_to_list ((phase_meaning n table h marks).arc_at p i).letter) old new
 
 -- ---- under an entry
 

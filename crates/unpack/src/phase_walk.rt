@@ -99,10 +99,10 @@ fn push_arc(
     stack: &mut Vec<Entry>,
     steps: &mut Vec<Step>,
 ) -> Result<(), AllocError>
-    requires has { HasArc (phase_meaning phases.now.plain.network.now phases.now.plain.timetable.now phases.now.hierarchy.now phases.now.falls.items) p i }
+    requires has { HasArc (phase_meaning phases.now.plain.network.now phases.now.plain.timetable.now phases.now.hierarchy.now phases.now.marks.items) p i }
     requires none { stack.old.items ≡ [] }
     ensures none { OnOk result (stack.new.items ≡ []) }
-    ensures steps { OnOk result (GoesOnByArc phases.now.plain.network.now phases.now.plain.timetable.now phases.now.hierarchy.now phases.now.falls.items p i t steps.old.items steps.new.items) }
+    ensures steps { OnOk result (GoesOnByArc phases.now.plain.network.now phases.now.plain.timetable.now phases.now.hierarchy.now phases.now.marks.items p i t steps.old.items steps.new.items) }
 {
     match phases.phase_arc(p, i) {
         PhaseArc::Up(place) => push_entry_at(phases, place, stack, steps)?,
@@ -124,9 +124,9 @@ fn steps(
     at: Time,
     hops: &[Hop],
 ) -> Result<Vec<Step>, AllocError>
-    requires { AreHopsIn (phase_meaning phases.now.plain.network.now phases.now.plain.timetable.now phases.now.hierarchy.now phases.now.falls.items) start at hops.now }
+    requires { AreHopsIn (phase_meaning phases.now.plain.network.now phases.now.plain.timetable.now phases.now.hierarchy.now phases.now.marks.items) start at hops.now }
     ensures { IfOk result (λ steps. GoesOn phases.now.plain.network.now (node_of start) at (node_of (end_of start hops.now)) (arrival_of at hops.now)
-        (letters_in (phase_meaning phases.now.plain.network.now phases.now.plain.timetable.now phases.now.hierarchy.now phases.now.falls.items) start hops.now) [] steps.items) }
+        (letters_in (phase_meaning phases.now.plain.network.now phases.now.plain.timetable.now phases.now.hierarchy.now phases.now.marks.items) start hops.now) [] steps.items) }
 {
     let mut steps = Vec::with_capacity(alloc, hops.len())?;
     let mut stack = Vec::new(alloc);
@@ -142,13 +142,13 @@ fn steps(
 /// length zero. It is real, with the walk's ends in the network, departure and arrival, and its word collapses to the same.
 /// Each ride is boarded when it departs, as in [`from_plain`](crate::from_plain).
 pub fn from_phases(alloc: Global, phases: &Phases<'_>, walk: &Walk) -> Result<Journey, AllocError>
-    requires { AreHopsIn (phase_meaning phases.now.plain.network.now phases.now.plain.timetable.now phases.now.hierarchy.now phases.now.falls.items)
+    requires { AreHopsIn (phase_meaning phases.now.plain.network.now phases.now.plain.timetable.now phases.now.hierarchy.now phases.now.marks.items)
         walk.now.node walk.now.at walk.now.hops.items }
     ensures start { IfOk result (λ j. j.start ≡ node_of walk.now.node) }
     ensures at { IfOk result (λ j. j.at ≡ walk.now.at) }
     ensures unpacked { IfOk result (λ j. IsUnpacked phases.now.plain.network.now j.start j.at j.steps (node_of (end_of walk.now.node walk.now.hops.items))
         (arrival_of walk.now.at walk.now.hops.items)
-        (letters_in (phase_meaning phases.now.plain.network.now phases.now.plain.timetable.now phases.now.hierarchy.now phases.now.falls.items) walk.now.node walk.now.hops.items)) }
+        (letters_in (phase_meaning phases.now.plain.network.now phases.now.plain.timetable.now phases.now.hierarchy.now phases.now.marks.items) walk.now.node walk.now.hops.items)) }
     ensures soon { IfOk result (λ j. All IsSoon j.steps) }
 {
     phases.plain().timetable().known();

@@ -16,4 +16,4 @@ returns-clause-unpacked c =
     let hops = walk.hops.items in
     let keeps = subst (λ (x : Plain). IsTable x.timetable.now) c.plain.ensures (subst IsTable c.timetable.ensures.same c.timetable.ensures.keeps) in
     is_unpacked n p.plain.kept table keeps p.plain.of (node_of walk.node) walk.at (node_of (end_of walk.node hops)) (arrival_of walk.at hops)
-    (letters_in (phase_meaning n table p.hierarchy.now p.falls.items) walk.node hops) c.in_ok-steps.field-0.items (rw c.deref.ensures.value at c.in_ok-steps.ensures)
+    (letters_in (phase_meaning n table p.hierarchy.now p.marks.items) walk.node hops) c.in_ok-steps.field-0.items (rw c.deref.ensures.value at c.in_ok-steps.ensures)

@@ -9,7 +9,7 @@ pub loop-hop-preserved : goal.loop-hop-preserved
 loop-hop-preserved c =
     let p = c.args.phases.now in
     let n = p.plain.network.now in
-    let g = phase_meaning n p.plain.timetable.now p.hierarchy.now p.falls.items in
+    let g = phase_meaning n p.plain.timetable.now p.hierarchy.now p.marks.items in
     let hops = c.args.hops.now in
     let k = c.loop-hop.hop-index in
     let zero : Hop = record { arc = 0; to = 0; state = 0; at = 0 } in

@@ -5,7 +5,7 @@ use Rattle.unpack.proofs.phase_walk.steps.Given as goal
 
 abbrev pub invariant-loop-hop : goal.invariant-loop-hop
 invariant-loop-hop l = record {
-  way : IsUnderWay l.phases.plain.network.now (phase_meaning l.phases.plain.network.now l.phases.plain.timetable.now l.phases.hierarchy.now l.phases.falls.items)
+  way : IsUnderWay l.phases.plain.network.now (phase_meaning l.phases.plain.network.now l.phases.plain.timetable.now l.phases.hierarchy.now l.phases.marks.items)
       l.start l.at l.hops l.hop-index l.p l.time l.steps.items;
   none : l.stack.items ≡ [];
 }

@@ -13,7 +13,7 @@ returns-in_ok-phases-in-Some-clause-is c =
       table = p.plain.timetable.now;
       of = subst (λ (n : NetworkLists). IsTimetableOf n p.plain.timetable.now) is.network p.plain.of;
       keeps = is.keeps;
-      falls = p.falls.items;
-      are = is.falls;
-      is = ap₂ (λ (n : NetworkLists) (h : HierarchyLists). phase_meaning n p.plain.timetable.now h p.falls.items) is.network is.hierarchy;
+      marks = p.marks.items;
+      are = is.marks;
+      is = ap₂ (λ (n : NetworkLists) (h : HierarchyLists). phase_meaning n p.plain.timetable.now h p.marks.items) is.network is.hierarchy;
     })

@@ -9,25 +9,23 @@ use Rattle.phase_graph.proofs.GraphMoves.{is_phase_graph}
 use Rattle.phase_graph.proofs.WalkedLemmas.{journeys_have_walks, walks_have_journeys}
 use Rattle.phase_graph.proofs.phases.Phases.new.Goals as goal
 
-pub falls-requires : goal.falls-requires
-falls-requires c = record { below = subst (AreBelow c.args.hierarchy.now) (sym c.nodes.ensures) (below_nodes c.args.network.now c.args.hierarchy.now c.known.ensures c.requires) }
+pub marks-requires : goal.marks-requires
+marks-requires c = record { below = subst (AreBelow c.args.hierarchy.now) (sym c.nodes.ensures) (below_nodes c.args.network.now c.args.hierarchy.now c.known.ensures c.requires) }
 
 pub invariant_of-result : goal.invariant_of-result
 invariant_of-result c =
-    let are = c.in_ok-falls.ensures in
     let table = c.new-plain.result.timetable.now in
-    let laws = lawful c.args.network.now c.args.hierarchy.now c.args.targets.now c.known.ensures c.known-2.ensures c.requires table c.new-plain.ensures.keeps c.new-plain.ensures.of c.in_ok-falls.falls.items are in
+    let marks = c.in_ok-marks.marks.items in
+    let laws = lawful c.args.network.now c.args.hierarchy.now c.known.ensures c.known-2.ensures c.requires table c.new-plain.ensures.keeps c.new-plain.ensures.of marks in
     record {
       sound = ∣ subst (λ (n : NetworkLists). IsSound n c.args.hierarchy.now) (sym c.new-plain.ensures.network) c.requires ∣₁;
-      begun = λ k d lt. (let x = are.each k d lt in (x.within, x.begins));
-      rising = are.rising;
-      lawful = subst (λ (n : NetworkLists). IsLawfulGraph (phase_meaning n table c.args.hierarchy.now c.in_ok-falls.falls.items)) (sym c.new-plain.ensures.network) laws;
+      lawful = subst (λ (n : NetworkLists). IsLawfulGraph (phase_meaning n table c.args.hierarchy.now marks)) (sym c.new-plain.ensures.network) laws;
     }
 
 pub returns-clause-is : goal.returns-clause-is
 returns-clause-is c =
     is_phase_graph c.args.network.now c.args.hierarchy.now c.args.targets.now c.known.ensures c.known-2.ensures c.requires c.new-plain.result.timetable.now c.new-plain.ensures.keeps
-    c.new-plain.ensures.of c.in_ok-falls.falls.items c.in_ok-falls.ensures
+    c.new-plain.ensures.of c.in_ok-marks.marks.items c.in_ok-marks.ensures
 
 pub returns-clause-journeys : goal.returns-clause-journeys
 returns-clause-journeys c = journeys_have_walks c.args.network.now c.args.hierarchy.now c.args.targets.now c.known.ensures c.requires _ (returns-clause-is c)

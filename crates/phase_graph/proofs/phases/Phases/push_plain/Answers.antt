@@ -35,5 +35,5 @@ returns c =
     let long : c.len-before.result ≡ length c.args.ways.now.items = omega (arith, c.len-before.ensures) in
     let done = rw (long, c.arcs_from-first_arc.ensures.range, c.network.ensures, c.requires.first) at c.renumber.ensures in
     rw c.requires.first
-    (put_behind n self.hierarchy.now table self.falls.items c.args.p c.args.t c.args.letters c.requires.phase c.args.ways.now.items c.push_past_roads.new.ways.items c.renumber.new.ways.items
+    (put_behind n self.hierarchy.now table self.marks.items c.args.p c.args.t c.args.letters c.requires.phase c.args.ways.now.items c.push_past_roads.new.ways.items c.renumber.new.ways.items
     c.in_ok-push_past_roads.ensures done)

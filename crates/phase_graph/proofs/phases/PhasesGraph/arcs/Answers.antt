@@ -10,12 +10,11 @@ overflow_add-result-2 c =
     let few = few_others self.plain.network.now self.plain.kept self.plain.timetable.now (subst IsTable c.timetable.ensures.same c.timetable.ensures.keeps) (node_of c.args.p) (is_down c.args.p) in
     let others = rw c.split-v.ensures at c.others.ensures in
     let ups : length c.rises_at.result.now * 16 < 2 ^ 63 = c.rises_at.type_inv.1 in
-    let downs : length c.falls_at.result.now * 16 < 2 ^ 63 = c.falls_at.type_inv.1 in
-    omega (arith, others, few, ups, downs)
+    omega (arith, others, few, ups, c.entries_at.ensures.few)
 
 pub returns : goal.returns
 returns c =
     let rises = rw c.split-v.ensures at c.rises_at.ensures.list in
-    let falls = rw c.split-v.ensures at c.falls_at.ensures.list in
+    let entries = rw c.split-v.ensures at c.entries_at.ensures.count in
     let others = rw c.split-v.ensures at c.others.ensures in
-    rw (rises, falls, others) refl
+    rw (rises, entries, others) refl

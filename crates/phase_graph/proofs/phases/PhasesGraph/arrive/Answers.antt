@@ -8,4 +8,4 @@ arrive-requires-clause-arc c = rw c.split-v.ensures c.in-Other.ensures.fits
 pub returns-in-Other : goal.returns-in-Other
 returns-in-Other c =
     let self = c.args.self.now in
-    (rw c.split-v.ensures at c.arrive.ensures) ∙ ap (arrival_of self.plain.network.now self.plain.timetable.now self.hierarchy.now (node_of c.args.p) c.args.t) c.in-Other.ensures.value
+    (rw c.split-v.ensures at c.arrive.ensures) ∙ ap (arrival_of self.plain.network.now self.plain.timetable.now self.hierarchy.now self.marks.items (node_of c.args.p) c.args.t) c.in-Other.ensures.value

@@ -5,8 +5,8 @@ use Rattle.std.proofs.lemmas.Option.{slice_get-get_or}
 use Rattle.hierarchy.specs.declared.entry.Entry.{Entry}
 use Rattle.hierarchy.specs.Lists.{IsAbove}
 use Rattle.phase_graph.proofs.MarkLemmas.{following_pass, following_more, followed_all}
-use Rattle.phase_graph.proofs.falls.follow.Goals as goal
-use Rattle.phase_graph.proofs.falls.follow.Goals.{then-above+in_ok-push+in_ok-mark, else-above}
+use Rattle.phase_graph.proofs.marks.follow.Goals as goal
+use Rattle.phase_graph.proofs.marks.follow.Goals.{then-above+in_ok-mark, else-above}
 
 pub loop-place-preserved : goal.loop-place-preserved
 loop-place-preserved c =
@@ -22,20 +22,19 @@ loop-place-preserved c =
     let e_is = λ (d : Entry). get_or_default h.entries k d zero lt in
     let to_x : e.to ≡ c.args.x = into.to_x k e (n, c.loop-place-test.true, k_is k) (slice_get-get_or h.entries k zero lt) in
     elim c.if-above.branch [
-      | then-above+in_ok-push+in_ok-mark w ↦ (
+      | then-above+in_ok-mark w ↦ (
           let above : IsAbove h.order e.from c.args.x = ltb-true _ _ (sym (rw c.entries.ensures at c.above.ensures) ∙ w.if-above.true) in
           let done = rw c.entries.ensures at w.in_ok-mark.ensures in
-          let pushed = rw c.entries.ensures at w.in_ok-push.ensures.items in
-          let more = following_more h c.args.targets.now c.args.nodes c.args.x places c.loop-place.marks.items c.loop-place.queue.items c.loop-place.falls.items c.args.queue.now.items c.args.falls.now.items n
-          c.loop-place.invariant c.loop-place-test.true k k_is e lt e_is to_x above c.requires.marked w.mark.new.marks.items w.mark.new.queue.items w.push.new.self.items pushed done.marks done.here done.kept done.only in
-          rw (w.marks-is, w.queue-is, w.falls-is) more
+          let more = following_more h c.args.targets.now c.args.nodes c.args.x places c.loop-place.marks.items c.loop-place.queue.items c.args.queue.now.items n
+          c.loop-place.invariant c.loop-place-test.true k k_is e lt e_is to_x above c.requires.marked w.mark.new.marks.items w.mark.new.queue.items done.marks done.here done.kept done.only in
+          rw (w.marks-is, w.queue-is) more
           )
       | else-above w ↦ (
           let level : (IsAbove h.order e.from c.args.x → ⊥) = λ above. (let high = ltb-false _ _ (sym (rw c.entries.ensures at c.above.ensures) ∙ w.if-above.false) in omega (arith, above, high)) in
-          rw (w.marks-is, w.queue-is, w.falls-is) (following_pass h c.args.targets.now c.args.nodes c.args.x places c.loop-place.marks.items c.loop-place.queue.items c.loop-place.falls.items
-          c.args.queue.now.items c.args.falls.now.items n c.loop-place.invariant c.loop-place-test.true k k_is e lt e_is to_x level)
+          rw (w.marks-is, w.queue-is) (following_pass h c.args.targets.now c.args.nodes c.args.x places c.loop-place.marks.items c.loop-place.queue.items
+          c.args.queue.now.items n c.loop-place.invariant c.loop-place-test.true k k_is e lt e_is to_x level)
           )
     ]
 
 pub returns-clause-followed : goal.returns-clause-followed
-returns-clause-followed c = followed_all c.args.h.now c.loop-place.queue.items c.loop-place.falls.items c.args.x c.entries_into-place-items.result.now c.entries_into-place-items.ensures c.loop-place.place-index c.loop-place-test.false c.loop-place.invariant.followed
+returns-clause-followed c = followed_all c.args.h.now c.loop-place.queue.items c.args.x c.entries_into-place-items.result.now c.entries_into-place-items.ensures c.loop-place.place-index c.loop-place-test.false c.loop-place.invariant.followed

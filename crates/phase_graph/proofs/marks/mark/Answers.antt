@@ -1,8 +1,8 @@
 use Rattle.std.proofs.Common.{◌≡◌, ◌∙◌, true, false, get_or, sym, arith}
 use Rattle.std.proofs.lemmas.List.{get_or_default}
 use Rattle.phase_graph.proofs.MarkLemmas.{inside, marked_more, not_contracted}
-use Rattle.phase_graph.proofs.falls.mark.Goals as goal
-use Rattle.phase_graph.proofs.falls.mark.Goals.{else-contracted-via-then-contracted+else-not-index, else-contracted-via-else-contracted}
+use Rattle.phase_graph.proofs.marks.mark.Goals as goal
+use Rattle.phase_graph.proofs.marks.mark.Goals.{else-contracted-via-then-contracted+else-not-index, else-contracted-via-else-contracted}
 
 pub index-requires : goal.index-requires
 index-requires c =

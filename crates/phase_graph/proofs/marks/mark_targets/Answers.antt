@@ -4,7 +4,7 @@ use Rattle.std.proofs.lemmas.Bool.{eqb-true, eqb-false}
 use Rattle.std.proofs.lemmas.List.{get_or_default}
 use Rattle.hierarchy.specs.Lists.{IsContracted}
 use Rattle.phase_graph.proofs.MarkLemmas.{marked_or, extends_contains}
-use Rattle.phase_graph.proofs.falls.mark_targets.Goals as goal
+use Rattle.phase_graph.proofs.marks.mark_targets.Goals as goal
 
 pub loop-v-preserved : goal.loop-v-preserved
 loop-v-preserved c =

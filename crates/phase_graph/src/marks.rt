@@ -1,45 +1,35 @@
-//! The entries that lead down to marked nodes: those from which a chain of entries, each to a lower node, leads to a
-//! target.
+//! The marks of nodes: of those contracted ones from which a chain of entries, each to a lower node, leads to a target.
 
 ghost use Rattle.std.specs.Prelude.{◌≡◌, [], All, Contains, IfOk, OnOk};
 ghost use Rattle.hierarchy.specs.Lists.{IsContracted};
 ghost use Rattle.hierarchy.specs.Indexes.{AreBelow};
-ghost use Rattle.phase_graph.specs.Falls.{AreFalls, IsFallOf};
+ghost use Rattle.phase_graph.specs.Marks.{AreMarksFor};
 ghost use Rattle.phase_graph.specs.Moves.{IsMarked};
-ghost use Rattle.phase_graph.specs.Marking.{AreMarks, IsMarking, IsFollowed, Extends, HoldsAll, AreOldOr};
+ghost use Rattle.phase_graph.specs.Marking.{AreMarks, IsMarking, IsFollowed, Extends, AreOldOr};
 
 use hierarchy::Hierarchy;
 use std::alloc::{AllocError, Global};
 
-/// An entry that leads down to a marked node: where it begins, and its place among the entries.
-#[derive(Clone, Copy, Debug, PartialEq, Eq, PartialOrd, Ord)]
-pub struct Fall {
-    pub from: u32,
-    pub place: u64,
-}
-
-/// The falls of a hierarchy for these targets, by the nodes that they leave. All its nodes are below `nodes`.
-pub(crate) fn falls(
+/// For each node whether it has a mark for these targets. All nodes of the hierarchy are below `nodes`.
+pub(crate) fn marks(
     alloc: Global,
     nodes: u32,
     h: &Hierarchy,
     targets: &[u32],
-) -> Result<Vec<Fall>, AllocError>
+) -> Result<Vec<bool>, AllocError>
     requires below { AreBelow h.now nodes }
-    ensures { IfOk result (λ falls. AreFalls h.now targets.now falls.items) }
+    ensures { IfOk result (λ marks. AreMarksFor h.now targets.now marks.items) }
 {
     let mut marks = vec![in alloc; false; nodes as usize]?;
     let mut queue = Vec::new(alloc);
-    let mut falls = Vec::new(alloc);
     mark_targets(h, nodes, targets, &mut marks, &mut queue)?;
     let mut next = 0;
     while next < queue.len() {
         let x = queue[next];
-        follow(h, nodes, targets, x, &mut marks, &mut queue, &mut falls)?;
+        follow(h, nodes, targets, x, &mut marks, &mut queue)?;
         next += 1;
     }
-    falls.sort_unstable_by_key(|fall| fall.from);
-    Ok(falls)
+    Ok(marks)
 }
 
 /// Marks the targets that are contracted.
@@ -62,7 +52,7 @@ fn mark_targets(
     Ok(())
 }
 
-/// Marks a node, if it is contracted and not yet marked; it then waits to be followed.
+/// Marks a node, if it is contracted and has no mark yet; it then waits to be followed.
 fn mark(
     h: &Hierarchy,
     nodes: u32,
@@ -84,7 +74,7 @@ fn mark(
     Ok(())
 }
 
-/// Finds the entries that lead down to a marked node, and marks the nodes that they come from.
+/// Marks the nodes from which entries lead down to a marked node.
 fn follow(
     h: &Hierarchy,
     nodes: u32,
@@ -92,25 +82,17 @@ fn follow(
     x: u32,
     marks: &mut Vec<bool>,
     queue: &mut Vec<u32>,
-    falls: &mut Vec<Fall>,
 ) -> Result<(), AllocError>
     requires below { AreBelow h.now nodes }
     requires marked { IsMarked h.now targets.now x }
     requires marking { IsMarking h.now targets.now nodes marks.old.items queue.old.items }
-    requires falls { All (IsFallOf h.now targets.now) falls.old.items }
     ensures marking { OnOk result (IsMarking h.now targets.now nodes marks.new.items queue.new.items) }
-    ensures falls { OnOk result (All (IsFallOf h.now targets.now) falls.new.items) }
-    ensures followed { OnOk result (IsFollowed h.now queue.new.items falls.new.items x) }
+    ensures followed { OnOk result (IsFollowed h.now queue.new.items x) }
     ensures kept { OnOk result (Extends queue.old.items queue.new.items) }
-    ensures found { OnOk result (HoldsAll falls.old.items falls.new.items) }
 {
     for place in h.entries_into(x) {
         let from = h.entries()[*place as usize].from;
         if h.above(from, x) {
-            falls.push(Fall {
-                from,
-                place: *place,
-            })?;
             mark(h, nodes, from, marks, queue)?;
         }
     }

@@ -1,7 +1,7 @@
 use Rattle.std.specs.Prelude.{ℕ, ◌<◌, Contains, slice_index_or}
 use Rattle.hierarchy.specs.Lists.{IsContracted}
 use Rattle.phase_graph.specs.Marking.{IsMarking}
-use Rattle.phase_graph.proofs.falls.mark_targets.Given as goal
+use Rattle.phase_graph.proofs.marks.mark_targets.Given as goal
 
 abbrev pub invariant-loop-v : goal.invariant-loop-v
 invariant-loop-v l = record {

@@ -1,0 +1,18 @@
+-- The marks of nodes: a contracted node has one where a chain of entries, each to a lower node, leads from it to a target.
+use Rattle.std.specs.Prelude.{◌≡◌, ℕ, Bool, true, false, ◌&&◌, List, slice_index_or}
+use Rattle.hierarchy.specs.declared.entry.Entry.{Entry}
+use Rattle.hierarchy.specs.Lists.{HierarchyLists, is_above, IsContracted}
+use Rattle.phase_graph.specs.Moves.{IsMarked}
+
+-- the marks are listed by node; nodes past the end have none
+abbrev pub has_mark : List Bool → ℕ → Bool
+has_mark marks v = slice_index_or marks v false
+
+-- these are the marks for the targets
+pub record AreMarksFor (h : HierarchyLists) (targets : List ℕ) (marks : List Bool) : Type 0 where
+  pub each : (v : ℕ) → has_mark marks v ≡ true → IsMarked h targets v
+  pub all : (v : ℕ) → IsContracted h.order v → IsMarked h targets v → has_mark marks v ≡ true
+
+-- the entry leads down to a node with a mark
+abbrev pub is_fall : HierarchyLists → List Bool → Entry → Bool
+is_fall h marks e = has_mark marks e.to && is_above h.order e.from e.to
