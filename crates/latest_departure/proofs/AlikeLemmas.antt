@@ -1,12 +1,9 @@
 -- However a timetable sorts the runs into patterns, and however the rows list what leads to a node, the network in mirrored time is the same graph.
-use Rattle.std.proofs.Common.{◌≡◌, ℕ, ◌-◌, ◌<◌, ◌≤◌, ◌^◌, ◌⊎◌, inl, inr, List, length, Option, Some, None, refl, sym, ap, ◌∙◌, subst, arith}
-use Rattle.std.specs.Prelude.{All, option_map}
-use Rattle.std.proofs.lemmas.List.Elements.{All-from_get_or}
+use Rattle.std.proofs.Common.{◌≡◌, ℕ, ◌-◌, ◌<◌, ◌≤◌, ◌⊎◌, inl, inr, length, Option, Some, None, refl, sym, ap, ◌∙◌, subst, arith}
+use Rattle.std.specs.Prelude.{option_map}
 use Rattle.search_laws.specs.LabelLaws.{LabelsMeaning, IsLawfulLabels, HasMove}
-use Rattle.search_laws.specs.GraphLaws.{HasArc}
 use Rattle.timetable_arcs.specs.declared.trips.Instance.{Instance}
-use Rattle.timetable_arcs.specs.declared.rides.Ride.{Ride as RideCalls}
-use Rattle.timetable_arcs.specs.Patterns.{TableLists, departs}
+use Rattle.timetable_arcs.specs.Patterns.{departs}
 use Rattle.mode_network.specs.declared.steps.Step.{Step}
 use Rattle.mode_network.specs.declared.steps.Step.TheVariants.{Wait, Road as TakeRoad, Link as TakeLink, Stand as StandStill, Ride as TakeRide}
 use Rattle.mode_network.specs.NetworkLists.{NetworkLists, nodes_of}
@@ -29,7 +26,7 @@ use Rattle.latest_departure.proofs.MirrorLaws.{begins_rise, none_later}
 use Rattle.latest_departure.proofs.OrderLemmas.{le_or_above}
 use Rattle.latest_departure.proofs.ReversedLemmas.{to_below}
 use Rattle.latest_departure.specs.MirrorArcs.{arc_into, mirror_arc, begins, run_by}
-use Rattle.latest_departure.proofs.ArcLemmas.{IsInto, IsRunBy, HasStep, HasBack, HasPlace, all_into, place_into, run_is_by, arc_steps, step_back}
+use Rattle.latest_departure.proofs.ArcLemmas.{IsInto, HasStep, all_into, place_into, run_is_by, arc_steps, step_back}
 
 -- a step with a letter is no wait
 no_wait : (n : NetworkLists) (v t : ℕ) (step : Step) (w u c : ℕ) → IsStep n v t step w u (Some c) → IsNoWait step

@@ -156,68 +156,83 @@ module _ (n : NetworkLists) (network : IsNetwork n) (t : TableLists) (table : Is
       let joins = All-contains (λ (a : Arc). joins_modes n.roads a ≡ true) n.arcs arc network.arcs_join there in
       same_of (mode_at n.roads arc.from) (mode_at n.roads arc.to) (both (is_same_mode (mode_at n.roads arc.from) (mode_at n.roads arc.to)) (not (arc.from == arc.to)) joins).0
 
-  -- an arc of mirrored time is a step that begins when the arc says, and ends by the deadline less the moment at which it is taken
-  pub arc_steps : (deadline v s s2 : ℕ) (a : PlainArc) → IsInto n t v a → begins t deadline s a ≡ Some s2 → s2 ≤ deadline
-      → HasStep (mirror_arc n t v a).to (deadline - s2) v (deadline - s) (mirror_arc n t v a).letter
-  arc_steps deadline v s s2 (Road arc) (there, to) e le =
+  -- an arc out of v that is taken at t0 is at w by u, and this is its letter
+  pub record IsTakenBy (v t0 w u : ℕ) (letter : Option ℕ) (a : PlainArc) : Type 0 where
+    pub at : ℕ
+    pub out : IsOut n t v a
+    pub arrives : arrival t t0 a ≡ Some at
+    pub soon : at ≤ u
+    pub to : (graph_arc n t v a).to ≡ w
+    pub same : (graph_arc n t v a).letter ≡ letter
+
+  -- an arc of mirrored time that is taken by when it says arrives by the deadline less the moment at which it is taken
+  pub arc_taken : (deadline v s s2 t0 : ℕ) (a : PlainArc) → IsInto n t v a → begins t deadline s a ≡ Some s2 → s2 ≤ deadline → t0 ≤ deadline - s2
+      → IsTakenBy (mirror_arc n t v a).to t0 v (deadline - s) (mirror_arc n t v a).letter a
+  arc_taken deadline v s s2 t0 (Road arc) (there, to) e le early =
       let is = some_is e in
-      let step = step_at n network t table of arc.from (deadline - s2) (deadline - s) (Road arc) (listed_from n.arcs arc there) (ap Some (omega arith)) in
       record {
-        step = step.0;
-        at = deadline - s;
-        is = subst (λ (c : Option ℕ). IsStep n arc.from (deadline - s2) step.0 v (deadline - s) c) (one_mode arc there ∙ ap (mode_at n.roads) to)
-            (subst (λ w. IsStep n arc.from (deadline - s2) step.0 w (deadline - s) (mode_at n.roads arc.from)) to step.2);
+        at = t0 + arc.ms;
+        out = listed_from n.arcs arc there;
+        arrives = refl;
         soon = omega arith;
+        to = to;
+        same = one_mode arc there ∙ ap (mode_at n.roads) to;
       }
-  arc_steps deadline v s s2 (Link link) (there, to) e le =
+  arc_taken deadline v s s2 t0 (Link link) (there, to) e le early =
       let is = some_is e in
-      let step = step_at n network t table of link.from (deadline - s2) (deadline - s) (Link link) (listed_from n.links link there) (ap Some (omega arith)) in
-      record {
-        step = step.0;
-        at = deadline - s;
-        is = subst (λ w. IsStep n link.from (deadline - s2) step.0 w (deadline - s) None) to step.2;
-        soon = omega arith;
-      }
-  arc_steps deadline v s s2 Stand into e le =
+      record { at = t0 + link.ms; out = listed_from n.links link there; arrives = refl; soon = omega arith; to = to; same = refl }
+  arc_taken deadline v s s2 t0 Stand into e le early =
       let is = some_is e in
-      let step = step_at n network t table of v (deadline - s2) (deadline - s) Stand into (ap Some (omega arith)) in
-      record { step = step.0; at = deadline - s; is = step.2; soon = omega arith }
-  arc_steps deadline v s s2 (Ride ride) into e le = on_run (run_by t deadline s ride) refl e
+      record { at = t0; out = into; arrives = refl; soon = omega arith; to = refl; same = refl }
+  arc_taken deadline v s s2 t0 (Ride ride) into e le early = on_run (run_by t deadline s ride) refl e
     where
       from : ℕ
       from = stop_node n (pattern_call t ride.pattern ride.board).stop
 
-      on_next : (run : Instance) → IsRunBy deadline s ride run → deadline - departs t run ride.board ≡ s2 → (o : Option Instance) → next_run t ride.pattern ride.board (departs t run ride.board) ≡ o
-          → HasStep from (deadline - s2) v (deadline - s) (Some (pattern_trip t ride.pattern).letter)
+      on_next : (run : Instance) → IsRunBy deadline s ride run → deadline - departs t run ride.board ≡ s2 → (o : Option Instance) → next_run t ride.pattern ride.board t0 ≡ o
+          → IsTakenBy from t0 v (deadline - s) (Some (pattern_trip t ride.pattern).letter) (Ride ride)
       on_next run by is None none =
           let later = into.later in let within = into.alights.within in
-          let never = next_in_words t table ride.pattern ride.board (departs t run ride.board) None (omega arith) none in
-          absurd (omega (arith, never run by.is_in))
+          let never = next_in_words t table ride.pattern ride.board t0 None (omega arith) none run by.is_in in
+          let over = by.over in
+          let on = rides_on t table ride into.later within run by.is_in in
+          absurd (omega arith)
       on_next run by is (Some other) some =
           let later = into.later in let within = into.alights.within in
-          let time = departs t run ride.board in
-          let first = next_in_words t table ride.pattern ride.board time (Some other) (omega arith) some in
+          let over = by.over in
+          let on = rides_on t table ride into.later within run by.is_in in
+          let first = next_in_words t table ride.pattern ride.board t0 (Some other) (omega arith) some in
           let no_more = first.first run by.is_in (omega arith) in
           let order = no_later t table ride.pattern other run first.is_in by.is_in ride.board (omega arith) no_more ride.alight within in
           let arrives_by = order.arrives in
-          let over = by.over in
-          let early = by.early in
-          let on = rides_on t table ride into.later within run by.is_in in
-          let now : time ≡ deadline - s2 = omega arith in
-          let step = step_at n network t table of from time (arrives t other ride.alight) (Ride ride) (ride_out v ride into by.boards)
-          (ap (option_map (λ (r : Instance). arrives t r ride.alight)) some) in
           record {
-            step = step.0;
             at = arrives t other ride.alight;
-            is = subst (λ x. IsStep n from x step.0 v (arrives t other ride.alight) (Some (pattern_trip t ride.pattern).letter)) now
-                (subst (λ w. IsStep n from time step.0 w (arrives t other ride.alight) (Some (pattern_trip t ride.pattern).letter)) (sym into.alights.at) step.2);
+            out = ride_out v ride into by.boards;
+            arrives = ap (option_map (λ (r : Instance). arrives t r ride.alight)) some;
             soon = omega arith;
+            to = sym into.alights.at;
+            same = refl;
           }
 
       on_run : (o : Option Instance) → run_by t deadline s ride ≡ o → option_map (λ (run : Instance). deadline - departs t run ride.board) o ≡ Some s2
-          → HasStep from (deadline - s2) v (deadline - s) (Some (pattern_trip t ride.pattern).letter)
+          → IsTakenBy from t0 v (deadline - s) (Some (pattern_trip t ride.pattern).letter) (Ride ride)
       on_run None by none = cc
-      on_run (Some run) by some = on_next run (run_is_by deadline s ride into.alights.within run by) (some_is some) (next_run t ride.pattern ride.board (departs t run ride.board)) refl
+      on_run (Some run) by some = on_next run (run_is_by deadline s ride into.alights.within run by) (some_is some) (next_run t ride.pattern ride.board t0) refl
+
+  -- so it is a step that begins when the arc says
+  pub arc_steps : (deadline v s s2 : ℕ) (a : PlainArc) → IsInto n t v a → begins t deadline s a ≡ Some s2 → s2 ≤ deadline
+      → HasStep (mirror_arc n t v a).to (deadline - s2) v (deadline - s) (mirror_arc n t v a).letter
+  arc_steps deadline v s s2 a into e le =
+      let from = (mirror_arc n t v a).to in
+      let taken = arc_taken deadline v s s2 (deadline - s2) a into e le (omega arith) in
+      let step = step_at n network t table of from (deadline - s2) taken.at a taken.out taken.arrives in
+      record {
+        step = step.0;
+        at = taken.at;
+        is = subst (λ (c : Option ℕ). IsStep n from (deadline - s2) step.0 v taken.at c) taken.same
+            (subst (λ w. IsStep n from (deadline - s2) step.0 w taken.at (graph_arc n t from a).letter) taken.to step.2);
+        soon = taken.soon;
+      }
 
   -- an arc into w that is taken at the deadline less u begins no earlier than t, at v and with this letter
   pub record HasBack (deadline v t0 w u : ℕ) (letter : Option ℕ) : Type 0 where

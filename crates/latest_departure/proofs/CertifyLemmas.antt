@@ -1,5 +1,5 @@
 -- What the search for a deadline finds can be certified.
-use Rattle.std.proofs.Common.{◌≡◌, ℕ, ◌+◌, ◌-◌, ◌≤◌, List, Option, Some, None, refl, subst, arith}
+use Rattle.std.proofs.Common.{◌≡◌, ℕ, ◌-◌, ◌≤◌, List, Option, Some, None, refl, subst, arith}
 use Rattle.mode_expression.specs.Form.{IsUsable}
 use Rattle.mode_expression.proofs.ParseLemmas.{expressions_are_usable}
 use Rattle.search_laws.specs.Walks.{ArrivesAt}
@@ -12,9 +12,9 @@ use Rattle.mode_network.specs.Journeys.{Route}
 use Rattle.mode_network.proofs.RuleLemmas.{some_is}
 use Rattle.journey.specs.Best.{Asked, Asks}
 use Rattle.journey.specs.Rides.{KeepsRules}
-use Rattle.latest_departure.specs.Late.{deadline, first_moment, IsInTime, HasNoneInTime}
+use Rattle.latest_departure.specs.Late.{deadline, first_moment, IsInTime}
 use Rattle.latest_departure.specs.Latest.{IsLate, AreLateLabels, span, Mirroring, graph_of, labels_of}
-use Rattle.latest_departure.specs.ValidLate.{LateClaim, LateHolds, late_bound, IsValidLate}
+use Rattle.latest_departure.specs.ValidLate.{LateHolds, late_bound, IsValidLate}
 use Rattle.latest_departure.proofs.ClosedLemmas.{closed_before, search_closed}
 use Rattle.latest_departure.proofs.DeadlineLemmas.{deadline_is_late}
 use Rattle.latest_departure.proofs.LateLemmas.{arrives, in_time_of}
@@ -36,24 +36,8 @@ module _ (n : NetworkLists) (rules : KeepsRules n) (line : List ℕ) (q : Asked)
       let there = in_time_of n q (graph_of n q m) (labels_of n q m) m.starts m.targets (reads_of q usable m.reversed m.reads)
       (over_walks n rules.network q small m) (over_journeys n rules.network q small m) m.ends.destination m.ends.origin late
       (steps_rise n rules.network m.table m.keeps m.of) moment least.0.reached least.1 in
-      let answers = there.2 in
-      let from = answers.not_before in
-      let within = least.1 in
-      let first = late in (
-        there.0,
-        record {
-          end = answers.end;
-          arrival = there.1;
-          word = answers.word;
-          starts_at_copy = answers.starts_at_copy;
-          not_before = omega arith;
-          real = answers.real;
-          ends_at_copy = answers.ends_at_copy;
-          by_deadline = there.3;
-          denoted = answers.denoted;
-        },
-        from,
-      )
+      let at = there.2 in
+      (there.0, there.1, omega arith)
 
   -- and a journey that is in time is such a moment
   is_moment : (k : Route) → IsInTime n q k → (moment : Option ℕ) → IsArrival (graph_of n q m) (labels_of n q m) m.starts m.targets 0 (Some (span n q)) moment

@@ -1,18 +1,16 @@
 -- A deadline that a query line says is not before the region's first date, and small.
-use Rattle.std.proofs.Common.{◌≡◌, ℕ, ◌+◌, ◌*◌, ◌^◌, ◌<◌, ◌≤◌, ◌⊎◌, ◌==◌, ◌&&◌, nat_le, nat_lt, nat_eq, Bool, true, false, cond, List, [], ◌∷◌, length, Option, Some, None, Result, Ok, Err, inl, inr, refl, sym, ap, ◌∙◌, subst, arith}
-use Rattle.std.specs.Prelude.{option_and_then, option_map, ok_or, slice_index}
+use Rattle.std.proofs.Common.{◌≡◌, ℕ, ◌+◌, ◌^◌, ◌<◌, ◌≤◌, ◌⊎◌, ◌==◌, ◌&&◌, nat_le, nat_lt, nat_eq, Bool, true, false, cond, List, [], ◌∷◌, length, Option, Some, None, Ok, inl, inr, refl, subst, arith}
+use Rattle.std.specs.Prelude.{option_and_then, option_map, ok_or}
 use Rattle.std.proofs.lemmas.Bool.{ltb-true, leb-true}
 use Rattle.std.proofs.lemmas.Bool.Decides.{nat_tests}
 use Rattle.std.proofs.lemmas.List.Quantifiers.{position-Some}
 use Rattle.plain_texts.specs.FixedDecimal.{fixed_at}
 use Rattle.plain_texts.proofs.FixedDecimal.{fixed_takes}
-use Rattle.service_days.specs.DaysMeaning.{DaysMeaning}
 use Rattle.service_days.specs.Days.{AreDays, AreInOrder, base_of, day_with_date}
 use Rattle.mode_expression.specs.Form.{Form}
 use Rattle.mode_network.specs.declared.endpoints.Endpoint.{Endpoint}
 use Rattle.mode_network.specs.NetworkLists.{NetworkLists}
 use Rattle.mode_network.proofs.RuleLemmas.{both, some_is}
-use Rattle.journey.specs.declared.fault.QueryFault.{QueryFault}
 use Rattle.journey.specs.declared.fault.QueryFault.TheVariants.{OutOfRange}
 use Rattle.service_days.specs.Dates.{date_at}
 use Rattle.journey.specs.Shapes.{part_at, millis_at, time_at, departure_on, departs_on}

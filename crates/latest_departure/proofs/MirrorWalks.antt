@@ -29,7 +29,7 @@ one_letter : (letter : Option ℕ) → reverse (option_to_list letter) ≡ optio
 one_letter None = refl
 one_letter (Some c) = refl
 
-turned : (letter : Option ℕ) (word : List ℕ) → reverse (option_to_list letter ++ word) ≡ reverse word ++ option_to_list letter
+pub turned : (letter : Option ℕ) (word : List ℕ) → reverse (option_to_list letter ++ word) ≡ reverse word ++ option_to_list letter
 turned letter word = reverse-append (option_to_list letter) word ∙ ap (λ (x : List ℕ). reverse word ++ x) (one_letter letter)
 
 -- steps with one step more at their end

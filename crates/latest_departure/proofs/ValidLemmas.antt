@@ -16,8 +16,8 @@ use Rattle.mode_network.specs.Journeys.{Route, AreSteps}
 use Rattle.journey.specs.Rides.{KeepsRules}
 use Rattle.journey.specs.Best.{Asked, Asks}
 use Rattle.journey.specs.CopyLists.{AreTheCopies}
-use Rattle.latest_departure.specs.Late.{deadline, IsInTime}
-use Rattle.latest_departure.specs.Latest.{span, ReadsFromEnds, Mirroring, graph_of, labels_of}
+use Rattle.latest_departure.specs.Late.{deadline}
+use Rattle.latest_departure.specs.Latest.{ReadsFromEnds, Mirroring, graph_of, labels_of}
 use Rattle.latest_departure.specs.Mirrored.{JourneysAreMirrors, MirrorsAreJourneys}
 use Rattle.latest_departure.specs.ValidLate.{LateHolds, late_bound, IsLateResult, ValidLateProves}
 use Rattle.latest_departure.proofs.DeadlineLemmas.{deadline_is_small}

@@ -6,7 +6,6 @@ use Rattle.std.proofs.lemmas.Grind.{flat_map-append}
 use Rattle.std.proofs.lemmas.List.{take-append-drop, map-append, get_or-append-add}
 use Rattle.search_laws.specs.Ways.{is_open, way_if, open_way, way_at, ways_from, ways_of}
 use Rattle.search_laws.specs.declared.graph.Way.{Way}
-use Rattle.search_laws.specs.declared.graph.GraphArc.{GraphArc}
 use Rattle.search_laws.proofs.WayLemmas.{ways_more, ways_split}
 use Rattle.timetable_arcs.specs.declared.trips.Instance.{Instance}
 use Rattle.timetable_arcs.specs.Patterns.{TableLists, pattern_trip, last_run, departs}

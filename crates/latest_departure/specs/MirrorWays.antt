@@ -1,5 +1,5 @@
 -- The arcs out of a node in mirrored time that can be taken, source by source.
-use Rattle.std.specs.Prelude.{ℕ, ◌+◌, ◌-◌, ◌*◌, List, [], ◌∷◌, Option, Some, None, nat_le, ◌&&◌, if◌then◌else◌}
+use Rattle.std.specs.Prelude.{ℕ, ◌+◌, ◌-◌, List, [], ◌∷◌, Option, Some, None, nat_le, ◌&&◌, if◌then◌else◌}
 use Rattle.std.specs.List.{flat_map, range_with_len}
 use Rattle.search_laws.specs.Ways.{is_open, open_way}
 use Rattle.search_laws.specs.declared.graph.Way.{Way}

@@ -6,13 +6,14 @@ mod blocks;
 mod departing;
 mod laws;
 mod mirror;
+mod mirror_walk;
 mod reversed;
 mod search;
 mod source;
 
 pub use backwards::Backwards;
 pub use blocks::{answer_block, late_block};
-pub use departing::{Late, find_latest, late_labels, latest};
+pub use departing::{Late, find_latest, latest};
 pub use laws::valid_late_proves;
 pub use mirror::Mirror;
 pub use reversed::Reversed;

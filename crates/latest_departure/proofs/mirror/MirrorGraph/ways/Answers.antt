@@ -5,7 +5,6 @@ use Rattle.std.proofs.lemmas.List.Sums.{sum_by_more, sum_by_more_le}
 use Rattle.search_laws.specs.Ways.{ways_from}
 use Rattle.latest_departure.specs.declared.source.Entry.{Entry}
 use Rattle.latest_departure.specs.BackLists.{mirrored}
-use Rattle.latest_departure.specs.Entries.{row_entries}
 use Rattle.latest_departure.specs.MirrorArcs.{LeadsInto}
 use Rattle.latest_departure.specs.Known.{entry_count, source_of, no_entry}
 use Rattle.latest_departure.proofs.RowLemmas.{entry_leads}

@@ -1,10 +1,9 @@
-use Rattle.std.proofs.Common.{◌≡◌, ◌-◌, ◌<◌, ◌^◌, ◌∙◌, ap, sym, subst, arith}
+use Rattle.std.proofs.Common.{◌≡◌, ◌-◌, ◌∙◌, ap, sym, subst, arith}
 use Rattle.service_days.specs.DaysMeaning.{DaysMeaning}
 use Rattle.service_days.specs.Days.{AreDays, AreInOrder, base_of}
 use Rattle.automaton.specs.Collapsed.{FitsCollapsed}
 use Rattle.automaton.specs.Meanings.{position_meaning}
 use Rattle.mode_expression.specs.Form.{form_of}
-use Rattle.journey.specs.Best.{asked_by}
 use Rattle.latest_departure.specs.declared.reversed.Reversed.{Reversed}
 use Rattle.latest_departure.specs.Late.{first_moment}
 use Rattle.latest_departure.specs.Meanings.{reversed_meaning}
