@@ -15,8 +15,8 @@ use Rattle.gtfs_tables.specs.declared.faults.FeedFault.TheVariants.{MissingFile,
 use Rattle.gtfs_tables.specs.Answers.{◌>>=◌, faultless, IsFaultOf, IsWantOr}
 use Rattle.gtfs_tables.specs.Columns.{Row}
 use Rattle.gtfs_tables.specs.TableRows.{TableRow}
-use Rattle.gtfs_tables.specs.Tables.{IsWithin, Table, limit_fault, first_dangling, has_first_zone, row_fault, judged, rows_behind, given, header_in, rows_below, missing_column, records_of, rows_of}
-use Rattle.gtfs_tables.specs.Holding.{Holds, HoldsListed, IsTaken, AreTaken, IsOnTheWay, IsRead, AreRead}
+use Rattle.gtfs_tables.specs.Tables.{IsWithin, Table, limit_fault, first_dangling, has_first_zone, row_fault, judged, rows_behind}
+use Rattle.gtfs_tables.specs.Holding.{Holds, IsTaken, IsOnTheWay}
 use Rattle.gtfs_tables.proofs.ListLemmas.{list_any-map}
 
 past_limit : (limit : Option (Kind × ℕ)) (kind : Kind) (most count : ℕ) → limit ≡ Some (kind, most) → most < count → limit_fault limit count ≡ Some (TooMany kind)
@@ -49,9 +49,6 @@ is_fault (TooMany kind) P p = p
 
 -- the faults of a row in turn
 module _ {F R : Type 0} (t : Table F R) (earlier : List F) (row : TableRow) where
-  pub unread : (fault : FeedFault) → t.reads row ≡ Err fault → IsFaultOf (judged t earlier row) fault
-  unread fault is = is_fault fault _ (ap (λ r. r >>= (λ f. faultless (row_fault t row earlier f) f)) is)
-
   module _ (f : F) (is : t.reads row ≡ Ok f) where
     is_judged : judged t earlier row ≡ faultless (row_fault t row earlier f) f
     is_judged = ap (λ r. r >>= (λ f. faultless (row_fault t row earlier f) f)) is
@@ -149,42 +146,6 @@ module _ {F R : Type 0} (t : Table F R) (header : Row) (rows : List Row) where
 
     pub halts : (fault : FeedFault) → ((earlier : List F) → Old earlier → IsFaultOf (judged t earlier row) fault) → IsFaultOf (rows_behind t header [] rows) fault
     halts fault faults = want_map fault _ _ (λ e. next_row ∙ ap (λ r. r >>= (λ f. rows_behind t header (way.so_far ++ f ∷ []) rest)) e) (faults way.so_far way.kept)
-
-  pub arrives : (left : List Row) (number : ℕ) (Kept : List F → Type 0) → IsOnTheWay t header rows left number Kept → left ≡ [] → AreTaken t header rows Kept
-  arrives left number Kept way is = record { all = way.so_far; are = way.goes ∙ ap (rows_behind t header way.so_far) is; kept = way.kept }
-
--- a file
-module _ {F R : Type 0} (t : Table F R) where
-  module _ (text : List ℕ) (header : Row) (rows : List Row) (named : missing_column t.file t.needed (header_in (rows_of text)) ≡ None)
-      (heads : header ≡ header_in (rows_of text)) (below : rows ≡ rows_below (rows_of text)) where
-    opened : records_of t (Some text) ≡ given t (rows_behind t header [] rows)
-    opened = ap (λ o. faultless o (header_in (rows_of text)) >>= (λ header. given t (rows_behind t header [] (rows_below (rows_of text))))) named
-        ∙ ap (λ header. given t (rows_behind t header [] (rows_below (rows_of text)))) (sym heads) ∙ ap (λ rows. given t (rows_behind t header [] rows)) (sym below)
-
-    pub is_read : (Kept : List F → Type 0) → AreTaken t header rows Kept → IsRead t (Some text) Kept
-    is_read Kept taken = record { all = taken.all; are = opened ∙ ap (given t) taken.are; kept = taken.kept }
-
-    pub faulty_rows : (fault : FeedFault) → IsFaultOf (rows_behind t header [] rows) fault → IsFaultOf (records_of t (Some text)) fault
-    faulty_rows fault h = want_map fault _ _ (λ e. opened ∙ ap (given t) e) h
-
-  pub faulty_header : (text : List ℕ) (fault : FeedFault) → IsWantOr fault (missing_column t.file t.needed (header_in (rows_of text)) ≡ Some fault) → IsFaultOf (records_of t (Some text)) fault
-  faulty_header text fault h = want_map fault _ _ (λ e. ap (λ o. faultless o (header_in (rows_of text)) >>= (λ header. given t (rows_behind t header [] (rows_below (rows_of text))))) e) h
-
-  -- the records that were kept are those of the file
-  pub are_read : (text : Option (List ℕ)) (Kept : List F → Type 0) (rows : List R) → ((all : List F) → Kept all → (rows ≡ filter_map t.gives all) × IsWithin t.limit (length rows)) → IsRead t text Kept → AreRead t text rows
-  are_read text Kept rows keeps read = let (rows_are, few) = keeps read.all read.kept in record { are = read.are ∙ ap Ok (sym rows_are); few = few }
-
-within_none : (limit : Option (Kind × ℕ)) (count : ℕ) → count ≡ 0 → IsWithin limit count
-within_none None count none = tt
-within_none (Some limit) count none = omega arith
-
--- nothing is kept of no rows
-pub holds_nothing : {F R K : Type 0} (t : Table F R) (key : F → K) (keys : List K) (rows : List R) → keys ≡ [] → rows ≡ [] → Holds t key keys rows []
-holds_nothing t key keys rows no_keys no_rows = record { keys_are = no_keys; rows_are = no_rows; few = within_none t.limit _ (ap length no_rows) }
-
-module _ {F R K L : Type 0} (t : Table F R) (key : F → K) (name : R → L) (keys : List K) (names : List L) (rows : List R) where
-  pub lists_nothing : keys ≡ [] → names ≡ [] → rows ≡ [] → HoldsListed t key name keys names rows []
-  lists_nothing no_keys no_names no_rows = record { holds = holds_nothing t key keys rows no_keys no_rows; listed = no_names ∙ sym (ap (map name) no_rows) }
 
 -- a key that no row has is that of no record
 pub no_record : {F R K : Type 0} (gives : F → Option R) (key : F → K) (name : R → K) → ((f : F) (r : R) → gives f ≡ Some r → name r ≡ key f)

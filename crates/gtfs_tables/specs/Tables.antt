@@ -1,6 +1,6 @@
 -- A table of a feed is a file of comma-separated values whose first row, the header, names the columns. What is
 -- told here holds of every table; the tables differ in their columns, their keys and what they refer to.
-use Rattle.std.specs.Prelude.{ℕ, ◌+◌, ◌≤◌, List, [], ◌∷◌, ◌++◌, length, filter_map, Bool, true, nat_lt, Option, None, Some, option_map, Result, Ok, Err, if◌then◌else◌}
+use Rattle.std.specs.Prelude.{ℕ, ◌+◌, ◌≤◌, List, [], ◌∷◌, ◌++◌, length, filter_map, Bool, true, nat_lt, Option, None, Some, option_map, Result, Ok, if◌then◌else◌}
 use Rattle.std.specs.Option.{option_or}
 use Rattle.std.specs.List.{list_any}
 use Rattle.csv.specs.Reading.{default_config, records, strip_bom}

@@ -70,6 +70,13 @@ pub(crate) fn check_agencies(alloc: Global, text: Option<&[u8]>) -> Result<(), F
     ensures fault { IfErr result (IsFaultOf (records_of spec.agencies (bytes_of text.entry))) }
 {
     let needed = [Column::AgencyTimezone];
-    read_table(alloc, Zones::new(alloc), FeedFile::Agency, &needed, &[], text)?;
+    read_table(
+        alloc,
+        Zones::new(alloc),
+        FeedFile::Agency,
+        &needed,
+        &[],
+        text,
+    )?;
     Ok(())
 }

@@ -112,6 +112,7 @@ fn read_visit(row: &TableRow<'_>) -> Result<Visit, FeedFault>
     })
 }
 
+/// What a row says, or the fault of the first field that is not of its form.
 fn read<'a>(row: &TableRow<'a>) -> Result<Line<'a>, FeedFault>
     ensures { MatchResult result
         (λ line. spec.stop_time_in row.now ≡ Ok (record { row = line.row; trip = line.trip.now; stop = line.stop.now; visit = line.visit }))
@@ -129,11 +130,7 @@ fn read<'a>(row: &TableRow<'a>) -> Result<Line<'a>, FeedFault>
 }
 
 /// Notes that a trip has a row of this sequence number, and says whether it had none.
-fn note(
-    keys: &mut IndexSet<(u32, u32)>,
-    trip: u32,
-    sequence: u32,
-) -> Result<bool, AllocError>
+fn note(keys: &mut IndexSet<(u32, u32)>, trip: u32, sequence: u32) -> Result<bool, AllocError>
     ensures new { IfOk result (λ new. new ≡ not (list_any (spec.is_same_key (trip, sequence)) keys.old.keys)) }
     ensures keys { IfOk result (λ new. IsTrue new → keys.new.keys ≡ keys.old.keys ++ (trip, sequence) ∷ []) }
 {

@@ -89,6 +89,7 @@ pub(crate) struct Dates {
     rows: Vec<DateRow>,
 }
 
+/// What a row says, or the fault of the first field that is not of its form.
 fn read<'a>(row: &TableRow<'a>) -> Result<Line<'a>, FeedFault>
     ensures { MatchResult result
         (λ line. spec.date_in row.now ≡ Ok (record { row = line.row; id = line.id.now; date = line.date; added = line.added }))

@@ -72,6 +72,7 @@ fn read_span(row: &TableRow<'_>) -> Result<Span, FeedFault>
     })
 }
 
+/// What a row says, or the fault of the first field that is not of its form.
 fn read<'a>(row: &TableRow<'a>) -> Result<Line<'a>, FeedFault>
     ensures { MatchResult result
         (λ line. spec.frequency_in row.now ≡ Ok (record { row = line.row; trip = line.trip.now; span = line.span }))
@@ -138,7 +139,10 @@ impl<'a> TakesRows for Frequencies<'a> {
         let Some(trip) = self.trips.place(line.trip) else {
             return Err(row.dangling_key(Column::TripId));
         };
-        put(&mut self.rows, Some(line.span.to_row(line.row, trip as u32)))?;
+        put(
+            &mut self.rows,
+            Some(line.span.to_row(line.row, trip as u32)),
+        )?;
         Ok(())
     }
 }

@@ -45,6 +45,7 @@ pub(crate) struct Routes {
     rows: Vec<RouteRow>,
 }
 
+/// What a row says, or the fault of the first field that is not of its form.
 fn read<'a>(row: &TableRow<'a>) -> Result<Line<'a>, FeedFault>
     ensures { MatchResult result
         (λ line. spec.route_in row.now ≡ Ok (record { row = line.row; id = line.id.now; letter = line.letter }))
@@ -119,7 +120,14 @@ pub(crate) fn read_routes(
     ensures fault { IfErr result (IsFaultOf (records_of (spec.routes caps.now) (bytes_of text.entry))) }
 {
     let needed = [Column::RouteId, Column::RouteType];
-    let routes = read_table(alloc, Routes::new(alloc, caps), FeedFile::Routes, &needed, &[], text)?;
+    let routes = read_table(
+        alloc,
+        Routes::new(alloc, caps),
+        FeedFile::Routes,
+        &needed,
+        &[],
+        text,
+    )?;
     Ok(Listed {
         ids: routes.ids,
         rows: routes.rows,

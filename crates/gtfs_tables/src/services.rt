@@ -75,6 +75,7 @@ fn read_rule(row: &TableRow<'_>) -> Result<ServiceRule, FeedFault>
     })
 }
 
+/// What a row says, or the fault of the first field that is not of its form.
 fn read<'a>(row: &TableRow<'a>) -> Result<Line<'a>, FeedFault>
     ensures { MatchResult result
         (λ line. spec.service_in row.now ≡ Ok (record { row = line.row; id = line.id.now; rule = line.rule }))
@@ -134,7 +135,12 @@ impl TakesRows for Services {
             return Err(row.repeated_key());
         }
         let service = line.to_row(self.alloc)?;
-        push_row(&mut self.rows, Some(service), Kind::Services, self.caps.services)
+        push_row(
+            &mut self.rows,
+            Some(service),
+            Kind::Services,
+            self.caps.services,
+        )
     }
 }
 

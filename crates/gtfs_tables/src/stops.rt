@@ -58,6 +58,7 @@ fn read_place(row: &TableRow<'_>, is_stop: bool) -> Result<Option<Place>, FeedFa
     Ok(Place::new(lat, lon))
 }
 
+/// What a row says, or the fault of the first field that is not of its form.
 fn read<'a>(row: &TableRow<'a>) -> Result<Line<'a>, FeedFault>
     ensures { MatchResult result
         (λ line. spec.station_in row.now ≡ Ok (record { row = line.row; id = line.id.now; place = line.place }))
@@ -151,7 +152,14 @@ pub(crate) fn read_stops(
 {
     let needed = [Column::StopId, Column::StopLat, Column::StopLon];
     let optional = [Column::LocationType];
-    let stops = read_table(alloc, Stops::new(alloc, caps), FeedFile::Stops, &needed, &optional, text)?;
+    let stops = read_table(
+        alloc,
+        Stops::new(alloc, caps),
+        FeedFile::Stops,
+        &needed,
+        &optional,
+        text,
+    )?;
     Ok(Listed {
         ids: stops.ids,
         rows: stops.rows,

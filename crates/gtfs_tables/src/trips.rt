@@ -49,6 +49,7 @@ pub(crate) struct Trips<'a> {
     ghost few: { length routes.now ≤ 2 ^ 32 },
 }
 
+/// What a row says, or the fault of the first field that is not of its form.
 fn read<'a>(row: &TableRow<'a>) -> Result<Line<'a>, FeedFault>
     ensures { MatchResult result
         (λ line. spec.journey_in row.now ≡ Ok (record { row = line.row; id = line.id.now; route = line.route.now; service = line.service.now }))

@@ -1,4 +1,4 @@
-use Rattle.std.proofs.Common.{sym, ap, ◌∙◌, refl, Some}
+use Rattle.std.proofs.Common.{ap, ◌∙◌, refl, Some}
 use Rattle.gtfs_tables.specs.declared.dates.DateRow.{DateRow}
 use Rattle.gtfs_tables.specs.ServiceDates.{dates, is_same_pair, pair_of}
 use Rattle.gtfs_tables.proofs.ListLemmas.{was_new, was_known}

@@ -20,7 +20,7 @@ returns-clause-row c earlier kept =
     let frequency : Frequency = record { row = c.in_ok-line.line.row; trip = c.in_ok-line.line.trip.now; span = c.in_ok-line.line.span } in
     let known = ap (λ (place : Option ℕ). first_dangling ((TripId, is_some place) ∷ [])) (sym c.in-Some.ensures.value) in
     let gave : Some c.to_row.result ≡ frequency_of c.args.self.now.trips.now frequency = ap Some c.to_row.ensures ∙ ap (option_map (frequency_over frequency)) c.in-Some.ensures.value in
-    let pushed = c.in_ok-put.ensures ∙ ap (λ (last : Option FrequencyRow). c.args.self.now.rows.items ++ option_to_list last) gave in
+    let pushed : c.put.new.rows.items ≡ c.args.self.now.rows.items ++ option_to_list (frequency_of c.args.self.now.trips.now frequency) = c.in_ok-put.ensures ∙ ap (λ (last : Option FrequencyRow). c.args.self.now.rows.items ++ option_to_list last) gave in
     record {
       said = frequency;
       is = faultless_row table earlier c.args.row.now frequency c.in_ok-line.ensures (without_key earlier) known (without_zones table earlier frequency (λ _. refl)) tt;
