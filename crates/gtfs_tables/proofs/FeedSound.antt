@@ -3,7 +3,6 @@ use Rattle.std.proofs.Common.{◌≡◌, ℕ, ◌+◌, ◌-◌, ◌*◌, ◌<◌
 use Rattle.std.specs.Prelude.{bytes_eq, nat_lt, option_and_then, option_map, IfSome}
 use Rattle.std.specs.Cmp.{IsEquivalence}
 use Rattle.std.specs.List.{AllByRecursion, IsDistinct}
-use Rattle.std.specs.Option.{ok_or}
 use Rattle.std.proofs.lemmas.Bool.Decides.{nat_tests}
 use Rattle.std.proofs.lemmas.Cmp.{and_equiv, nat_eq_equiv, nat_list_eq_equiv, on_equiv}
 use Rattle.std.proofs.lemmas.List.Quantifiers.{position-Some}
@@ -24,27 +23,27 @@ use Rattle.gtfs_tables.specs.declared.routes.RouteRow.{RouteRow}
 use Rattle.gtfs_tables.specs.declared.services.ServiceRow.{ServiceRow}
 use Rattle.gtfs_tables.specs.declared.stops.StopRow.{StopRow}
 use Rattle.gtfs_tables.specs.declared.trips.TripRow.{TripRow}
-use Rattle.gtfs_tables.specs.Calls.{StopTime, call_at, call_columns, call_between, call_of, calls, times_in, times_of, visit_in}
-use Rattle.gtfs_tables.specs.Columns.{field_in}
-use Rattle.gtfs_tables.specs.Forms.{added_at, digits_at, hours_and_part, id_at, is_id, is_usual_at, letter_of, optional_time_at, part_at, time_at, trimmed}
-use Rattle.gtfs_tables.specs.Frequencies.{Frequency, frequencies, frequency_columns, frequency_of, frequency_over, headway_at, positive, span_in}
+use Rattle.gtfs_tables.specs.Calls.{StopTime, call_at, call_between, call_of, calls, times_in, times_of, visit_in}
+use Rattle.gtfs_tables.specs.Forms.{added_at, digits_at, headway_at, hours_and_part, id_at, is_id, is_usual_at, letter_of, optional_time_at, part_at, positive, time_at, trimmed}
+use Rattle.gtfs_tables.specs.Frequencies.{Frequency, frequencies, frequency_of, frequency_over, span_in}
 use Rattle.gtfs_tables.specs.Holding.{AreRead}
-use Rattle.gtfs_tables.specs.Routes.{route_columns, routes}
-use Rattle.gtfs_tables.specs.ServiceDates.{date_columns, dates}
-use Rattle.gtfs_tables.specs.Services.{rule_in, service_columns, services}
+use Rattle.gtfs_tables.specs.Routes.{routes}
+use Rattle.gtfs_tables.specs.ServiceDates.{dates}
+use Rattle.gtfs_tables.specs.Services.{rule_in, services}
 use Rattle.gtfs_tables.specs.Sound.{IsCall, IsFrequency, IsId, IsRoute, IsTrip, is_same_call}
-use Rattle.gtfs_tables.specs.Stops.{Station, place_in, stop_columns, stops}
-use Rattle.gtfs_tables.specs.Trips.{Journey, place_among, trip_columns, trip_of, trip_over, trips}
+use Rattle.gtfs_tables.specs.Stops.{Station, place_in, stops}
+use Rattle.gtfs_tables.specs.TableRows.{TableRow, field_in, id_in, value_in}
+use Rattle.gtfs_tables.specs.Trips.{Journey, place_among, trip_of, trip_over, trips}
 use Rattle.gtfs_tables.proofs.CallLemmas.{same_place}
 use Rattle.gtfs_tables.proofs.SoundLemmas.{behind, distinct_keys, each_keeps, has_value, no_two}
 use Rattle.gtfs_tables.proofs.StopLemmas.{has_id_of}
 
-id_is : (text : List ℕ) (column : Column) (id : List ℕ) → ok_or (id_at text) column ≡ Ok id → IsId id
-id_is text column id e = by_test (is_id text) refl (has_value (id_at text) column id e)
+id_is : (row : TableRow) (column : Column) (id : List ℕ) → id_in row column ≡ Ok id → IsId id
+id_is row column id e = by_test (field_in row column) (is_id (field_in row column)) refl (has_value (id_at (field_in row column)) _ id e)
   where
-    by_test : (t : Bool) → is_id text ≡ t → cond t (Some text) None ≡ Some id → is_id id ≡ true
-    by_test true is e = subst (λ id. is_id id ≡ true) (same_Some text id e) is
-    by_test false is e = absurd (none-some id e)
+    by_test : (text : List ℕ) (t : Bool) → is_id text ≡ t → cond t (Some text) None ≡ Some id → is_id id ≡ true
+    by_test text true is e = subst (λ id. is_id id ≡ true) (same_Some text id e) is
+    by_test text false is e = absurd (none-some id e)
 
 same_ids : {F : Type 0} (id : F → List ℕ) → IsEquivalence (λ (f g : F). bytes_eq (id f) (id g))
 same_ids id = on_equiv id nat_list_eq_equiv
@@ -80,12 +79,11 @@ module _ (caps : Caps) (text : Option (List ℕ)) where
   module _ (rows : List StopRow) (read : AreRead (stops caps) text rows) where
     pub stops_keep : AllByRecursion (λ (stop : StopRow). IsId stop.id) rows
     stops_keep = each_keeps (stops caps) text rows read (λ station. IsId station.id) (λ stop. IsId stop.id)
-        (λ header n row.
-        let at = stop_columns header in
-        behind (ok_or (id_at (field_in row at.id)) column.StopId) _ _ (λ id is.
-        behind (ok_or (is_usual_at 4 (trimmed (field_in row at.location_type))) column.LocationType) _ _ (λ is_stop _.
-        behind (place_in at row is_stop) _ _ (λ place _.
-        id_is (field_in row at.id) column.StopId id is))))
+        (λ row.
+        behind (id_in row column.StopId) _ _ (λ id is.
+        behind (value_in (is_usual_at 4) row column.LocationType) _ _ (λ is_stop _.
+        behind (place_in row is_stop) _ _ (λ place _.
+        id_is row column.StopId id is))))
         (λ station stop kept gave. subst IsId (sym (has_id_of station stop gave)) kept)
 
     pub stop_ids : IsDistinct bytes_eq (map (λ (stop : StopRow). stop.id) rows)
@@ -102,18 +100,12 @@ module _ (caps : Caps) (text : Option (List ℕ)) where
         by_tests false _ true is = (grind (arith, nat_tests, is), grind (arith, nat_tests, is))
         by_tests false _ false _ = (omega arith, omega arith)
 
-    letter_is : (o : Option ℕ) (letter : ℕ) → option_map letter_of o ≡ Some letter → (3 ≤ letter) × (letter ≤ 13)
-    letter_is None letter e = absurd (none-some letter e)
-    letter_is (Some n) letter e = subst (λ letter. (3 ≤ letter) × (letter ≤ 13)) (same_Some (letter_of n) letter e) (letters n)
-
     pub routes_keep : AllByRecursion IsRoute rows
     routes_keep = each_keeps (routes caps) text rows read IsRoute IsRoute
-        (λ header n row.
-        let at = route_columns header in
-        behind (ok_or (id_at (field_in row at.id)) column.RouteId) _ _ (λ id is.
-        behind (ok_or (option_map letter_of (digits_at (trimmed (field_in row at.type_)))) column.RouteType) _ _ (λ letter also.
-        let within = letter_is (digits_at (trimmed (field_in row at.type_))) letter (has_value _ column.RouteType letter also) in
-        record { id = id_is (field_in row at.id) column.RouteId id is; above_road = within.0; letter = within.1 })))
+        (λ row.
+        behind (id_in row column.RouteId) _ _ (λ id is.
+        behind (value_in digits_at row column.RouteType) _ _ (λ type _.
+        record { id = id_is row column.RouteId id is; above_road = (letters type).0; letter = (letters type).1 })))
         (λ route row kept gave. subst IsRoute (same_Some route row gave) kept)
 
     pub route_ids : IsDistinct bytes_eq (map (λ (route : RouteRow). route.id) rows)
@@ -124,11 +116,10 @@ module _ (caps : Caps) (text : Option (List ℕ)) where
   module _ (rows : List ServiceRow) (read : AreRead (services caps) text rows) where
     pub services_keep : AllByRecursion (λ (service : ServiceRow). IsId service.id) rows
     services_keep = each_keeps (services caps) text rows read (λ service. IsId service.id) (λ service. IsId service.id)
-        (λ header n row.
-        let at = service_columns header in
-        behind (ok_or (id_at (field_in row at.id)) column.ServiceId) _ _ (λ id is.
-        behind (rule_in at row) _ _ (λ rule _.
-        id_is (field_in row at.id) column.ServiceId id is)))
+        (λ row.
+        behind (id_in row column.ServiceId) _ _ (λ id is.
+        behind (rule_in row) _ _ (λ rule _.
+        id_is row column.ServiceId id is)))
         (λ service row kept gave. subst (λ (service : ServiceRow). IsId service.id) (same_Some service row gave) kept)
 
     pub service_ids : IsDistinct bytes_eq (map (λ (service : ServiceRow). service.id) rows)
@@ -139,12 +130,11 @@ module _ (caps : Caps) (text : Option (List ℕ)) where
   module _ (rows : List DateRow) (read : AreRead (dates caps) text rows) where
     pub dates_keep : AllByRecursion (λ (date : DateRow). IsId date.id) rows
     dates_keep = each_keeps (dates caps) text rows read (λ date. IsId date.id) (λ date. IsId date.id)
-        (λ header n row.
-        let at = date_columns header in
-        behind (ok_or (id_at (field_in row at.id)) column.ServiceId) _ _ (λ id is.
-        behind (ok_or (date_at (trimmed (field_in row at.date))) column.Date) _ _ (λ date _.
-        behind (ok_or (added_at (trimmed (field_in row at.exception))) column.ExceptionType) _ _ (λ added _.
-        id_is (field_in row at.id) column.ServiceId id is))))
+        (λ row.
+        behind (id_in row column.ServiceId) _ _ (λ id is.
+        behind (value_in date_at row column.Date) _ _ (λ date _.
+        behind (value_in added_at row column.ExceptionType) _ _ (λ added _.
+        id_is row column.ServiceId id is))))
         (λ date row kept gave. subst (λ (date : DateRow). IsId date.id) (same_Some date row gave) kept)
 
   -- trips
@@ -165,12 +155,11 @@ module _ (caps : Caps) (text : Option (List ℕ)) where
 
     pub trips_keep : AllByRecursion (IsTrip (length route_ids)) rows
     trips_keep = each_keeps (trips caps route_ids) text rows read (λ journey. IsId journey.id × IsId journey.service) (IsTrip (length route_ids))
-        (λ header n row.
-        let at = trip_columns header in
-        behind (ok_or (id_at (field_in row at.id)) column.TripId) _ _ (λ id is.
-        behind (ok_or (id_at (field_in row at.route)) column.RouteId) _ _ (λ route _.
-        behind (ok_or (id_at (field_in row at.service)) column.ServiceId) _ _ (λ service also.
-        (id_is (field_in row at.id) column.TripId id is, id_is (field_in row at.service) column.ServiceId service also)))))
+        (λ row.
+        behind (id_in row column.TripId) _ _ (λ id is.
+        behind (id_in row column.RouteId) _ _ (λ route _.
+        behind (id_in row column.ServiceId) _ _ (λ service also.
+        (id_is row column.TripId id is, id_is row column.ServiceId service also)))))
         (λ journey trip kept gave.
         let over = is_over journey trip gave in
         record { id = subst IsId (sym (ap (λ (trip : TripRow). trip.id) over.is)) kept.0; service = subst IsId (sym (ap (λ (trip : TripRow). trip.service) over.is)) kept.1; route = over.there })
@@ -201,19 +190,18 @@ module _ (caps : Caps) (text : Option (List ℕ)) where
 
     pub frequencies_keep : AllByRecursion (IsFrequency (length trip_ids)) rows
     frequencies_keep = each_keeps (frequencies trip_ids) text rows read (λ frequency. IsSpan frequency.span) (IsFrequency (length trip_ids))
-        (λ header n row.
-        let at = frequency_columns header in
-        behind (ok_or (id_at (field_in row at.trip)) column.TripId) _ _ (λ trip _.
-        behind (span_in at row) _ _ (λ span is.
+        (λ row.
+        behind (id_in row column.TripId) _ _ (λ trip _.
+        behind (span_in row) _ _ (λ span is.
         IfOk-at_ok IsSpan is
-        (behind (ok_or (time_at (trimmed (field_in row at.start))) column.StartTime) _ _ (λ start begins.
-        behind (ok_or (time_at (trimmed (field_in row at.end))) column.EndTime) _ _ (λ end ends.
-        behind (ok_or (headway_at (trimmed (field_in row at.headway))) column.HeadwaySecs) _ _ (λ headway steady.
-        behind (ok_or (is_usual_at 1 (trimmed (field_in row at.exact))) column.ExactTimes) _ _ (λ inexact _.
+        (behind (value_in time_at row column.StartTime) _ _ (λ start begins.
+        behind (value_in time_at row column.EndTime) _ _ (λ end ends.
+        behind (value_in headway_at row column.HeadwaySecs) _ _ (λ headway steady.
+        behind (value_in (is_usual_at 1) row column.ExactTimes) _ _ (λ inexact _.
         record {
-          start = time_within (trimmed (field_in row at.start)) start (has_value _ column.StartTime start begins);
-          end = time_within (trimmed (field_in row at.end)) end (has_value _ column.EndTime end ends);
-          headway = headway_is (digits_at (trimmed (field_in row at.headway))) headway (has_value _ column.HeadwaySecs headway steady);
+          start = time_within (trimmed (field_in row column.StartTime)) start (has_value _ _ start begins);
+          end = time_within (trimmed (field_in row column.EndTime)) end (has_value _ _ end ends);
+          headway = headway_is (digits_at (trimmed (field_in row column.HeadwaySecs))) headway (has_value _ _ headway steady);
         }))))))))
         (λ frequency row kept gave. over frequency row kept gave)
 
@@ -251,20 +239,19 @@ module _ (caps : Caps) (text : Option (List ℕ)) where
 
     pub calls_keep : AllByRecursion (IsCall (length trip_ids) (length stop_ids)) rows
     calls_keep = each_keeps (calls caps trip_ids stop_ids) text rows read (λ time. IfSome time.visit.times AreTimes) (IsCall (length trip_ids) (length stop_ids))
-        (λ header n row.
-        let at = call_columns header in
-        behind (ok_or (id_at (field_in row at.trip)) column.TripId) _ _ (λ trip _.
-        behind (ok_or (id_at (field_in row at.stop)) column.StopId) _ _ (λ stop _.
-        behind (visit_in at row) _ _ (λ visit is.
+        (λ row.
+        behind (id_in row column.TripId) _ _ (λ trip _.
+        behind (id_in row column.StopId) _ _ (λ stop _.
+        behind (visit_in row) _ _ (λ visit is.
         IfOk-at_ok (λ (visit : Visit). IfSome visit.times AreTimes) is
-        (behind (ok_or (digits_at (trimmed (field_in row at.sequence))) column.StopSequence) _ _ (λ sequence _.
-        behind (times_in at row) _ _ (λ times timed.
-        behind (ok_or (is_usual_at 3 (trimmed (field_in row at.pickup))) column.PickupType) _ _ (λ board _.
-        behind (ok_or (is_usual_at 3 (trimmed (field_in row at.drop_off))) column.DropOffType) _ _ (λ alight _.
+        (behind (value_in digits_at row column.StopSequence) _ _ (λ sequence _.
+        behind (times_in row) _ _ (λ times timed.
+        behind (value_in (is_usual_at 3) row column.PickupType) _ _ (λ board _.
+        behind (value_in (is_usual_at 3) row column.DropOffType) _ _ (λ alight _.
         IfOk-at_ok (λ times. IfSome times AreTimes) timed
-        (behind (ok_or (optional_time_at (trimmed (field_in row at.arrival))) column.ArrivalTime) _ _ (λ arr arrives.
-        behind (ok_or (optional_time_at (trimmed (field_in row at.departure))) column.DepartureTime) _ _ (λ dep departs.
-        times_within arr dep (within_a_week (trimmed (field_in row at.arrival)) arr (has_value _ column.ArrivalTime arr arrives)) (within_a_week (trimmed (field_in row at.departure)) dep (has_value _ column.DepartureTime dep departs))))))))))))))
+        (behind (value_in optional_time_at row column.ArrivalTime) _ _ (λ arr arrives.
+        behind (value_in optional_time_at row column.DepartureTime) _ _ (λ dep departs.
+        times_within arr dep (within_a_week (trimmed (field_in row column.ArrivalTime)) arr (has_value _ _ arr arrives)) (within_a_week (trimmed (field_in row column.DepartureTime)) dep (has_value _ _ dep departs))))))))))))))
         (λ time call kept gave.
         let between = is_between time call gave in
         let within = subst (λ (times : Option Times). IfSome times AreTimes) between.times kept in

@@ -1,14 +1,14 @@
 -- What the rows of a table keep where none has a fault.
-use Rattle.std.proofs.Common.{◌≡◌, ℕ, ◌+◌, List, [], ◌∷◌, ◌++◌, map, length, filter_map, refl, ap, subst, ◌∙◌, Bool, true, false, cond, Option, None, Some, Result, Ok, Err}
+use Rattle.std.proofs.Common.{◌≡◌, ℕ, List, [], ◌∷◌, ◌++◌, map, length, filter_map, refl, ap, subst, ◌∙◌, Bool, true, false, cond, Option, None, Some, Result, Ok, Err}
 use Rattle.std.specs.Prelude.{IfOk, option_map}
 use Rattle.std.specs.Cmp.{IsEquivalence}
 use Rattle.std.specs.List.{list_any, cons_option, AllByRecursion, IsDistinct}
 use Rattle.std.specs.Option.{ok_or, option_or}
 use Rattle.std.proofs.lemmas.Result.{IfOk-at_ok}
 use Rattle.std.proofs.lemmas.Map.Keys.{IsDistinct-push}
-use Rattle.gtfs_tables.specs.declared.columns.Column.{Column}
 use Rattle.gtfs_tables.specs.Answers.{◌>>=◌, faultless}
 use Rattle.gtfs_tables.specs.Columns.{Row}
+use Rattle.gtfs_tables.specs.TableRows.{TableRow}
 use Rattle.gtfs_tables.specs.Holding.{AreRead}
 use Rattle.gtfs_tables.specs.Tables.{Table, first_dangling, row_fault, judged, row_of, rows_behind, header_in, rows_below, missing_column, rows_of}
 use Rattle.gtfs_tables.proofs.CallLemmas.{one_more_known}
@@ -51,41 +51,38 @@ unmapped : {A B : Type 0} (f : A → B) (o : Option A) → option_map f o ≡ No
 unmapped f None e = refl
 unmapped f (Some a) e = absurd cc
 
-module _ {F R : Type 0} (t : Table F R) (header : Row) where
+module _ {F R : Type 0} (t : Table F R) where
   -- a row without a fault
-  pub record Passes (earlier : List F) (row : Row) (f : F) : Type 0 where
-    pub number : ℕ
-    pub reads : t.reads header number row ≡ Ok f
+  pub record Passes (earlier : List F) (f : F) : Type 0 where
+    pub row : TableRow
+    pub reads : t.reads row ≡ Ok f
     pub new : list_any (t.has_key_of f) earlier ≡ false
     pub known : first_dangling (t.refers f) ≡ None
 
-  passes : (earlier : List F) (row : Row) (f : F) → row_of t header earlier row ≡ Ok f → Passes earlier row f
-  passes earlier row f e = by_reading (t.reads header (length earlier + 2) row) refl e
-    where
-      by_reading : (r : Result F Column) → t.reads header (length earlier + 2) row ≡ r → judged t (length earlier + 2) earlier r ≡ Ok f → Passes earlier row f
-      by_reading (Err column) is e = absurd cc
-      by_reading (Ok g) is e =
-          let (none, same) = no_fault (row_fault t (length earlier + 2) earlier g) g f e in
-          let (new, others) = neither _ _ none in
-          subst (Passes earlier row) same (record { number = length earlier + 2; reads = is; new = untrue _ _ new; known = unmapped _ _ (neither _ _ others).0 })
+  passes : (earlier : List F) (row : TableRow) (f : F) → judged t earlier row ≡ Ok f → Passes earlier f
+  passes earlier row f e =
+      let read = bound (t.reads row) _ f e in
+      let (none, same) = no_fault (row_fault t row earlier read.value) read.value f read.then in
+      let (new, others) = neither _ _ none in
+      subst (Passes earlier) same (record { row = row; reads = read.is; new = untrue _ _ new; known = unmapped _ _ (neither _ _ others).0 })
 
   -- what each row keeps, all rows keep
-  pub kept_by_all : (Kept : List F → Type 0) → ((earlier : List F) (row : Row) (f : F) → Passes earlier row f → Kept earlier → Kept (earlier ++ f ∷ []))
-      → (earlier : List F) (rows : List Row) (all : List F) → Kept earlier → rows_behind t header earlier rows ≡ Ok all → Kept all
-  kept_by_all Kept keeps earlier [] all kept e = subst Kept (same_Ok earlier all e) kept
-  kept_by_all Kept keeps earlier (row ∷ rows) all kept e =
-      let row_is = bound (row_of t header earlier row) _ all e in
-      kept_by_all Kept keeps (earlier ++ row_is.value ∷ []) rows all (keeps earlier row row_is.value (passes earlier row row_is.value row_is.is) kept) row_is.then
+  pub kept_by_all : (Kept : List F → Type 0) → ((earlier : List F) (f : F) → Passes earlier f → Kept earlier → Kept (earlier ++ f ∷ []))
+      → (header : Row) (earlier : List F) (rows : List Row) (all : List F) → Kept earlier → rows_behind t header earlier rows ≡ Ok all → Kept all
+  kept_by_all Kept keeps header earlier [] all kept e = subst Kept (same_Ok earlier all e) kept
+  kept_by_all Kept keeps header earlier (row ∷ rows) all kept e =
+      let row_is = bound (judged t earlier (row_of t header (length earlier) row)) _ all e in
+      kept_by_all Kept keeps header (earlier ++ row_is.value ∷ []) rows all (keeps earlier row_is.value (passes earlier (row_of t header (length earlier) row) row_is.value row_is.is) kept) row_is.then
 
 -- the records of a table that was read keep what each row keeps
 pub kept_by_records : {F R : Type 0} (t : Table F R) (Kept : List F → Type 0) (KeptToo : List R → Type 0) → Kept []
-    → ((header : Row) (earlier : List F) (row : Row) (f : F) → Passes t header earlier row f → Kept earlier → Kept (earlier ++ f ∷ []))
+    → ((earlier : List F) (f : F) → Passes t earlier f → Kept earlier → Kept (earlier ++ f ∷ []))
     → ((all : List F) → Kept all → KeptToo (filter_map t.gives all)) → (text : Option (List ℕ)) (rows : List R) → AreRead t text rows → KeptToo rows
 kept_by_records t Kept KeptToo none keeps gives None rows read = subst KeptToo (same_Ok [] rows read.are) (gives [] none)
 kept_by_records t Kept KeptToo none keeps gives (Some text) rows read =
     let heads = bound (faultless (missing_column t.file t.needed (header_in (rows_of text))) (header_in (rows_of text))) _ rows read.are in
     let all = bound (rows_behind t heads.value [] (rows_below (rows_of text))) _ rows heads.then in
-    subst KeptToo (same_Ok _ rows all.then) (gives all.value (kept_by_all t heads.value Kept (keeps heads.value) [] (rows_below (rows_of text)) all.value none all.is))
+    subst KeptToo (same_Ok _ rows all.then) (gives all.value (kept_by_all t Kept keeps heads.value [] (rows_below (rows_of text)) all.value none all.is))
 
 -- what the records of rows keep, one by one
 module _ {F R : Type 0} (gives : F → Option R) where
@@ -124,10 +121,10 @@ nothing_distinct eq = tt
 
 -- the records of a table that was read: each keeps what its row keeps, and no two have one key
 module _ {F R : Type 0} (t : Table F R) (text : Option (List ℕ)) (rows : List R) (read : AreRead t text rows) where
-  pub each_keeps : (P : F → Type 0) (Q : R → Type 0) → ((header : Row) (n : ℕ) (row : Row) → IfOk (t.reads header n row) P) → ((f : F) (r : R) → P f → t.gives f ≡ Some r → Q r) → AllByRecursion Q rows
+  pub each_keeps : (P : F → Type 0) (Q : R → Type 0) → ((row : TableRow) → IfOk (t.reads row) P) → ((f : F) (r : R) → P f → t.gives f ≡ Some r → Q r) → AllByRecursion Q rows
   each_keeps P Q reads keeps =
-      kept_by_records t (AllByRecursion P) (AllByRecursion Q) tt (λ header earlier row f passed kept. one_more_known P earlier f kept (IfOk-at_ok P passed.reads (reads header passed.number row))) (each_record t.gives P Q keeps) text rows read
+      kept_by_records t (AllByRecursion P) (AllByRecursion Q) tt (λ earlier f passed kept. one_more_known P earlier f kept (IfOk-at_ok P passed.reads (reads passed.row))) (each_record t.gives P Q keeps) text rows read
 
   pub no_two : IsEquivalence t.has_key_of → (same_record : R → R → Bool) → ((f g : F) (r s : R) → t.gives f ≡ Some r → t.gives g ≡ Some s → same_record r s ≡ t.has_key_of f g) → IsDistinct same_record rows
   no_two laws same_record agree =
-      kept_by_records t (IsDistinct t.has_key_of) (IsDistinct same_record) (nothing_distinct t.has_key_of) (λ header earlier row f passed kept. IsDistinct-push laws earlier f kept passed.new) (distinct_records t.gives t.has_key_of same_record agree) text rows read
+      kept_by_records t (IsDistinct t.has_key_of) (IsDistinct same_record) (nothing_distinct t.has_key_of) (λ earlier f passed kept. IsDistinct-push laws earlier f kept passed.new) (distinct_records t.gives t.has_key_of same_record agree) text rows read

@@ -1,6 +1,6 @@
 -- Stops have the ids of their rows.
-use Rattle.std.proofs.Common.{◌≡◌, sym, ap, Option, None, Some}
-use Rattle.std.specs.Prelude.{option_map}
+use Rattle.std.proofs.Common.{◌≡◌, map, refl, sym, ap, Option, None, Some}
+use Rattle.std.specs.Prelude.{option_map, option_to_list}
 use Rattle.std.proofs.lemmas.Option.{none-some, same_Some}
 use Rattle.plan_base.specs.declared.places.Place.{Place}
 use Rattle.gtfs_tables.specs.declared.stops.StopRow.{StopRow}
@@ -12,3 +12,11 @@ has_id_of station stop e = by_place station.place e
     by_place : (o : Option Place) → option_map (λ (place : Place). (let row : StopRow = record { row = station.row; id = station.id; place = place } in row)) o ≡ Some stop → stop.id ≡ station.id
     by_place None e = absurd (none-some stop e)
     by_place (Some place) e = ap (λ (stop : StopRow). stop.id) (sym (same_Some _ stop e))
+
+-- the id of a row is listed where the row is that of a stop
+pub listed_id : (station : Station) → option_to_list (option_map (λ (place : Place). station.id) station.place) ≡ map (λ (stop : StopRow). stop.id) (option_to_list (stop_of station))
+listed_id station = by_place station.place
+  where
+    by_place : (o : Option Place) → option_to_list (option_map (λ (place : Place). station.id) o) ≡ map (λ (stop : StopRow). stop.id) (option_to_list (option_map (λ (place : Place). (let row : StopRow = record { row = station.row; id = station.id; place = place } in row)) o))
+    by_place None = refl
+    by_place (Some place) = refl

@@ -1,21 +1,19 @@
 -- stop_times.txt
 use Rattle.std.specs.Prelude.{◌≡◌, unwrap_or, ℕ, List, [], ◌∷◌, Bool, true, bytes_eq, nat_eq, ◌&&◌, is_some, Option, None, Some, option_and_then, option_map, Result, Ok}
 use Rattle.std.specs.List.{AllByRecursion}
-use Rattle.std.specs.Option.{ok_or}
 use Rattle.plan_base.specs.declared.limits.Caps.{Caps}
 use Rattle.plan_base.specs.declared.limits.Kind.TheVariants as kind
 use Rattle.gtfs_tables.specs.declared.columns.Column.{Column}
 use Rattle.gtfs_tables.specs.declared.columns.Column.TheVariants.{TripId, StopId, StopSequence, ArrivalTime, DepartureTime, PickupType, DropOffType}
+use Rattle.gtfs_tables.specs.declared.faults.FeedFault.{FeedFault}
 use Rattle.gtfs_tables.specs.declared.files.FeedFile.TheVariants as file
-use Rattle.gtfs_tables.specs.declared.calls.CallColumns.{CallColumns}
 use Rattle.gtfs_tables.specs.declared.calls.CallRow.{CallRow}
-use Rattle.gtfs_tables.specs.declared.calls.Calls.{Calls}
 use Rattle.gtfs_tables.specs.declared.calls.Visit.{Visit}
 use Rattle.gtfs_tables.specs.declared.calls.Times.{Times}
 use Rattle.gtfs_tables.specs.Answers.{◌>>=◌}
-use Rattle.gtfs_tables.specs.Columns.{Row, place_of, field_in}
-use Rattle.gtfs_tables.specs.Forms.{id_at, trimmed, digits_at, optional_time_at, is_usual_at}
+use Rattle.gtfs_tables.specs.Forms.{digits_at, optional_time_at, is_usual_at}
 use Rattle.gtfs_tables.specs.Holding.{Holds}
+use Rattle.gtfs_tables.specs.TableRows.{TableRow, id_in, value_in}
 use Rattle.gtfs_tables.specs.Tables.{Table}
 use Rattle.gtfs_tables.specs.Trips.{place_among}
 
@@ -26,17 +24,6 @@ pub record StopTime : Type 0 where
   pub stop : List ℕ
   pub visit : Visit
 
-abbrev pub call_columns : Row → CallColumns
-call_columns header = record {
-  trip = place_of header TripId;
-  stop = place_of header StopId;
-  sequence = place_of header StopSequence;
-  arrival = place_of header ArrivalTime;
-  departure = place_of header DepartureTime;
-  pickup = place_of header PickupType;
-  drop_off = place_of header DropOffType;
-}
-
 -- Where one of arrival and departure is given it serves for both. A row with neither is no call.
 abbrev pub times_of : Option ℕ → Option ℕ → Option Times
 times_of None None = None
@@ -44,27 +31,27 @@ times_of (Some arr) None = Some (record { arr = arr; dep = arr })
 times_of None (Some dep) = Some (record { arr = dep; dep = dep })
 times_of (Some arr) (Some dep) = Some (record { arr = arr; dep = dep })
 
-abbrev pub times_in : CallColumns → Row → Result (Option Times) Column
-times_in at row = do
-  arrival ← ok_or (optional_time_at (trimmed (field_in row at.arrival))) ArrivalTime
-  departure ← ok_or (optional_time_at (trimmed (field_in row at.departure))) DepartureTime
+abbrev pub times_in : TableRow → Result (Option Times) FeedFault
+times_in row = do
+  arrival ← value_in optional_time_at row ArrivalTime
+  departure ← value_in optional_time_at row DepartureTime
   Ok (times_of arrival departure)
 
 -- Boarding and alighting are allowed where the field is empty or 0.
-abbrev pub visit_in : CallColumns → Row → Result Visit Column
-visit_in at row = do
-  sequence ← ok_or (digits_at (trimmed (field_in row at.sequence))) StopSequence
-  times ← times_in at row
-  board ← ok_or (is_usual_at 3 (trimmed (field_in row at.pickup))) PickupType
-  alight ← ok_or (is_usual_at 3 (trimmed (field_in row at.drop_off))) DropOffType
+abbrev pub visit_in : TableRow → Result Visit FeedFault
+visit_in row = do
+  sequence ← value_in digits_at row StopSequence
+  times ← times_in row
+  board ← value_in (is_usual_at 3) row PickupType
+  alight ← value_in (is_usual_at 3) row DropOffType
   Ok (record { sequence = sequence; times = times; board = board; alight = alight })
 
-abbrev pub stop_time_in : CallColumns → ℕ → Row → Result StopTime Column
-stop_time_in at n row = do
-  trip ← ok_or (id_at (field_in row at.trip)) TripId
-  stop ← ok_or (id_at (field_in row at.stop)) StopId
-  visit ← visit_in at row
-  Ok (record { row = n; trip = trip; stop = stop; visit = visit })
+abbrev pub stop_time_in : TableRow → Result StopTime FeedFault
+stop_time_in row = do
+  trip ← id_in row TripId
+  stop ← id_in row StopId
+  visit ← visit_in row
+  Ok (record { row = row.number; trip = trip; stop = stop; visit = visit })
 
 abbrev pub call_at : ℕ → ℕ → ℕ → Visit → Option CallRow
 call_at n trip stop visit = option_map (λ times. record {
@@ -94,7 +81,7 @@ abbrev pub calls : Caps → List (List ℕ) → List (List ℕ) → Table StopTi
 calls caps trips stops = record {
   file = file.StopTimes;
   needed = TripId ∷ StopId ∷ StopSequence ∷ ArrivalTime ∷ DepartureTime ∷ [];
-  reads = λ header n row. stop_time_in (call_columns header) n row;
+  reads = stop_time_in;
   has_key_of = λ time earlier. bytes_eq time.trip earlier.trip && nat_eq time.visit.sequence earlier.visit.sequence;
   refers = λ time. references (place_among trips time.trip) (place_among stops time.stop);
   has_zone_of = λ time first. true;
@@ -112,7 +99,7 @@ is_same_key key other = nat_eq key.0 other.0 && nat_eq key.1 other.1
 abbrev pub HasTrip : List (List ℕ) → StopTime → Type 0
 HasTrip trips time = is_some (place_among trips time.trip) ≡ true
 
--- the calls of the earlier rows are kept, which are all of trips
-pub record KeepsCalls (caps : Caps) (trips stops : List (List ℕ)) (kept : Calls) (earlier : List StopTime) : Type 0 where
-  pub holds : Holds (calls caps trips stops) (key_of trips) kept.keys.keys kept.rows.items earlier
+-- the keys and the calls of the earlier rows are kept, which are all of trips
+pub record KeepsCalls (caps : Caps) (trips stops : List (List ℕ)) (keys : List (ℕ × ℕ)) (rows : List CallRow) (earlier : List StopTime) : Type 0 where
+  pub holds : Holds (calls caps trips stops) (key_of trips) keys rows earlier
   pub known : AllByRecursion (HasTrip trips) earlier

@@ -1,6 +1,5 @@
--- The columns of tables: their names, where a header names them, and the fields of a row.
-use Rattle.std.specs.Prelude.{ℕ, List, [], ◌∷◌, position, codes, bytes_eq, is_some, unwrap_or, Option, None, Some, option_and_then, if◌then◌else◌}
-use Rattle.csv.specs.Records.{field_at}
+-- The columns of tables: their names, and where a header names them.
+use Rattle.std.specs.Prelude.{ℕ, List, [], ◌∷◌, position, codes, bytes_eq, is_some, Option, None, Some, if◌then◌else◌}
 use Rattle.gtfs_tables.specs.declared.columns.Column.{Column}
 use Rattle.gtfs_tables.specs.declared.columns.Column.TheVariants as column
 
@@ -48,8 +47,3 @@ place_of header column = position (bytes_eq (column_name column)) header
 abbrev pub first_missing : Row → List Column → Option Column
 first_missing header [] = None
 first_missing header (column ∷ columns) = if is_some (place_of header column) then first_missing header columns else Some column
-
--- The field of a row at the place of a column. It is empty where the header does not name the column, and
--- where the row ends before it.
-unfoldable pub field_in : Row → Option ℕ → List ℕ
-field_in row place = unwrap_or (option_and_then (field_at row) place) []

@@ -33,6 +33,13 @@ trimmed text = without_end_spaces (without_front_spaces text)
 unfoldable pub digits_at : List ℕ → Option ℕ
 digits_at text = if nat_lt 0 (length text) && nat_le (length text) 9 then fixed_at text else None
 
+-- 1 to 9 digits that do not spell 0
+abbrev pub positive : ℕ → Option ℕ
+positive n = if nat_lt 0 n then Some n else None
+
+abbrev pub headway_at : List ℕ → Option ℕ
+headway_at text = option_and_then positive (digits_at text)
+
 -- 0 or 1
 abbrev pub flag_at : List ℕ → Option Bool
 flag_at text =

@@ -1,9 +1,10 @@
 -- What is kept of the rows of a table while they are read.
-use Rattle.std.specs.Prelude.{◌≡◌, ℕ, List, [], ◌∷◌, ◌++◌, length, map, filter_map, Option, Result, Ok, MatchResult}
+use Rattle.std.specs.Prelude.{◌≡◌, ◌+◌, ℕ, List, [], ◌∷◌, ◌++◌, length, map, filter_map, Option, Result, Ok, MatchResult}
 use Rattle.gtfs_tables.specs.declared.faults.FeedFault.{FeedFault}
 use Rattle.gtfs_tables.specs.Answers.{IsFaultOf}
 use Rattle.gtfs_tables.specs.Columns.{Row}
-use Rattle.gtfs_tables.specs.Tables.{IsWithin, Table, row_of, rows_behind, records_of}
+use Rattle.gtfs_tables.specs.TableRows.{TableRow}
+use Rattle.gtfs_tables.specs.Tables.{IsWithin, Table, judged, rows_behind, records_of}
 
 -- the keys and the records of the earlier rows, which are within the limit
 pub record Holds {F R K : Type 0} (t : Table F R) (key : F → K) (keys : List K) (rows : List R) (earlier : List F) : Type 0 where
@@ -17,34 +18,35 @@ pub record HoldsListed {F R K L : Type 0} (t : Table F R) (key : F → K) (name 
   pub listed : names ≡ map name rows
 
 -- the row joins the earlier ones
-pub record IsTaken {F R : Type 0} (t : Table F R) (header : Row) (earlier : List F) (row : Row) (Kept : List F → Type 0) : Type 0 where
+pub record IsTaken {F R : Type 0} (t : Table F R) (earlier : List F) (row : TableRow) (Kept : List F → Type 0) : Type 0 where
   pub said : F
-  pub is : row_of t header earlier row ≡ Ok said
+  pub is : judged t earlier row ≡ Ok said
   pub kept : Kept (earlier ++ said ∷ [])
 
 -- what was kept of the earlier rows is kept with this row, or its fault is answered
-abbrev pub TakesRow : {F R : Type 0} → Table F R → Row → Row → (List F → Type 0) → (List F → Type 0) → Result (Unit {0}) FeedFault → Type 0
-TakesRow {F} t header row Old New result =
-    (earlier : List F) → Old earlier → MatchResult result (λ _. IsTaken t header earlier row New) (IsFaultOf (row_of t header earlier row))
+abbrev pub TakesRow : {F R : Type 0} → Table F R → TableRow → (List F → Type 0) → (List F → Type 0) → Result (Unit {0}) FeedFault → Type 0
+TakesRow {F} t row Old New result = (earlier : List F) → Old earlier → MatchResult result (λ _. IsTaken t earlier row New) (IsFaultOf (judged t earlier row))
 
--- all rows join the earlier ones
-pub record AreTaken {F R : Type 0} (t : Table F R) (header : Row) (earlier : List F) (rows : List Row) (Kept : List F → Type 0) : Type 0 where
-  pub all : List F
-  pub are : rows_behind t header earlier rows ≡ Ok all
-  pub kept : Kept all
-
--- what was kept of the earlier rows is kept with these rows, or the first fault is answered
-abbrev pub TakesRows : {F R : Type 0} → Table F R → Row → List Row → (List F → Type 0) → (List F → Type 0) → Result (Unit {0}) FeedFault → Type 0
-TakesRows {F} t header rows Old New result =
-    (earlier : List F) → Old earlier → MatchResult result (λ _. AreTaken t header earlier rows New) (IsFaultOf (rows_behind t header earlier rows))
-
--- on the way: some rows have joined the earlier ones, and others are left
-pub record IsOnTheWay {F R : Type 0} (t : Table F R) (header : Row) (earlier : List F) (rows left : List Row) (Kept : List F → Type 0) : Type 0 where
+-- so many rows were taken, the header among them, and others are left
+pub record IsOnTheWay {F R : Type 0} (t : Table F R) (header : Row) (rows left : List Row) (number : ℕ) (Kept : List F → Type 0) : Type 0 where
   pub so_far : List F
-  pub goes : rows_behind t header earlier rows ≡ rows_behind t header so_far left
+  pub counted : number ≡ length so_far + 1
+  pub goes : rows_behind t header [] rows ≡ rows_behind t header so_far left
   pub kept : Kept so_far
 
--- all rows of a file were taken, and give the records
+-- all rows of a table were taken, and this is kept of them
+pub record AreTaken {F R : Type 0} (t : Table F R) (header : Row) (rows : List Row) (Kept : List F → Type 0) : Type 0 where
+  pub all : List F
+  pub are : rows_behind t header [] rows ≡ Ok all
+  pub kept : Kept all
+
+-- all rows of a file were taken, and this is kept of them
+pub record IsRead {F R : Type 0} (t : Table F R) (text : Option (List ℕ)) (Kept : List F → Type 0) : Type 0 where
+  pub all : List F
+  pub are : records_of t text ≡ Ok (filter_map t.gives all)
+  pub kept : Kept all
+
+-- the records of a file
 pub record AreRead {F R : Type 0} (t : Table F R) (text : Option (List ℕ)) (rows : List R) : Type 0 where
   pub are : records_of t text ≡ Ok rows
   pub few : IsWithin t.limit (length rows)

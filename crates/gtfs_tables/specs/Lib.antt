@@ -1,8 +1,9 @@
--- What a feed means: Feeds, with a page for each table, and Sound. RowsLeft and Holding tell what is kept while rows are read.
+-- What a feed means: Feeds, with a page for each table, and Sound. RowsLeft, Finding and Holding tell what is kept while rows are read.
 pub mod Answers
 pub mod Columns
 pub mod Files
 pub mod Forms
+pub mod TableRows
 pub mod Tables
 pub mod FeedLists
 pub mod Agencies
@@ -16,4 +17,5 @@ pub mod Calls
 pub mod Feeds
 pub mod Sound
 pub mod RowsLeft
+pub mod Finding
 pub mod Holding

@@ -1,6 +1,6 @@
 -- A table of a feed is a file of comma-separated values whose first row, the header, names the columns. What is
 -- told here holds of every table; the tables differ in their columns, their keys and what they refer to.
-use Rattle.std.specs.Prelude.{ℕ, ◌+◌, ◌≤◌, List, [], ◌∷◌, ◌++◌, length, filter_map, Bool, true, nat_lt, Option, None, Some, option_map, Result, Ok, Err, if◌then◌else◌}
+use Rattle.std.specs.Prelude.{ℕ, ◌+◌, ◌≤◌, List, [], ◌∷◌, ◌++◌, length, filter_map, Bool, true, nat_lt, Option, None, Some, option_map, Result, Ok, if◌then◌else◌}
 use Rattle.std.specs.Option.{option_or}
 use Rattle.std.specs.List.{list_any}
 use Rattle.csv.specs.Reading.{default_config, records, strip_bom}
@@ -8,17 +8,18 @@ use Rattle.plan_base.specs.declared.limits.Kind.{Kind}
 use Rattle.gtfs_tables.specs.declared.columns.Column.{Column}
 use Rattle.gtfs_tables.specs.declared.files.FeedFile.{FeedFile}
 use Rattle.gtfs_tables.specs.declared.faults.FeedFault.{FeedFault}
-use Rattle.gtfs_tables.specs.declared.faults.FeedFault.TheVariants.{MissingColumn, BadField, RepeatedKey, DanglingKey, MixedZones, TooMany}
+use Rattle.gtfs_tables.specs.declared.faults.FeedFault.TheVariants.{MissingColumn, RepeatedKey, DanglingKey, MixedZones, TooMany}
 use Rattle.gtfs_tables.specs.Answers.{◌>>=◌, faultless}
 use Rattle.gtfs_tables.specs.Columns.{Row, first_missing}
+use Rattle.gtfs_tables.specs.TableRows.{TableRow}
 
 -- the rules of a table whose rows say an F each, and give a record R or nothing
 pub record Table (F R : Type 0) : Type 0 where
   pub file : FeedFile
   -- the columns that the header must name, in the order in which they are missed
   pub needed : List Column
-  -- what the row of this number says under a header, or the first column whose field is not of its form
-  pub reads : Row → ℕ → Row → Result F Column
+  -- what a row says, or the fault of the first column whose field is not of its form
+  pub reads : TableRow → Result F FeedFault
   -- the rows have one key
   pub has_key_of : F → F → Bool
   -- the columns that have ids of other tables, and whether the row's id is a key there
@@ -48,27 +49,26 @@ abbrev pub limit_fault : Option (Kind × ℕ) → ℕ → Option FeedFault
 limit_fault None count = None
 limit_fault (Some limit) count = if nat_lt limit.1 count then Some (TooMany limit.0) else None
 
--- the fault of the row of this number behind the earlier rows of its table
-abbrev pub row_fault : {F R : Type 0} → Table F R → ℕ → List F → F → Option FeedFault
-row_fault t n earlier f =
-    option_or (if list_any (t.has_key_of f) earlier then Some (RepeatedKey t.file n) else None)
-    (option_or (option_map (DanglingKey t.file n) (first_dangling (t.refers f)))
-    (option_or (if has_first_zone t earlier f then None else Some (MixedZones n))
+-- the fault of what a row says behind the earlier rows of its table
+abbrev pub row_fault : {F R : Type 0} → Table F R → TableRow → List F → F → Option FeedFault
+row_fault t row earlier f =
+    option_or (if list_any (t.has_key_of f) earlier then Some (RepeatedKey row.file row.number) else None)
+    (option_or (option_map (DanglingKey row.file row.number) (first_dangling (t.refers f)))
+    (option_or (if has_first_zone t earlier f then None else Some (MixedZones row.number))
     (limit_fault t.limit (length (filter_map t.gives (earlier ++ f ∷ []))))))
 
--- what the row of this number says, or its fault
-abbrev pub judged : {F R : Type 0} → Table F R → ℕ → List F → Result F Column → Result F FeedFault
-judged t n earlier (Ok f) = faultless (row_fault t n earlier f) f
-judged t n earlier (Err column) = Err (BadField t.file n column)
+-- what a row says behind the earlier rows, or its fault
+abbrev pub judged : {F R : Type 0} → Table F R → List F → TableRow → Result F FeedFault
+judged t earlier row = t.reads row >>= (λ f. faultless (row_fault t row earlier f) f)
 
--- a row behind the earlier rows; the header is row 1
-abbrev pub row_of : {F R : Type 0} → Table F R → Row → List F → Row → Result F FeedFault
-row_of t header earlier row = judged t (length earlier + 2) earlier (t.reads header (length earlier + 2) row)
+-- the row of these fields behind so many earlier rows; the header is row 1
+abbrev pub row_of : {F R : Type 0} → Table F R → Row → ℕ → Row → TableRow
+row_of t header earlier fields = record { file = t.file; number = earlier + 2; header = header; fields = fields }
 
 -- what all rows say, in turn, or the first fault
 abbrev pub rows_behind : {F R : Type 0} → Table F R → Row → List F → List Row → Result (List F) FeedFault
 rows_behind t header earlier [] = Ok earlier
-rows_behind t header earlier (row ∷ rows) = row_of t header earlier row >>= (λ f. rows_behind t header (earlier ++ f ∷ []) rows)
+rows_behind t header earlier (row ∷ rows) = judged t earlier (row_of t header (length earlier) row) >>= (λ f. rows_behind t header (earlier ++ f ∷ []) rows)
 
 -- the records of these rows
 abbrev pub given : {F R : Type 0} → Table F R → Result (List F) FeedFault → Result (List R) FeedFault

@@ -1,18 +1,13 @@
 -- trips.txt
 use Rattle.std.specs.Prelude.{ℕ, List, [], ◌∷◌, true, bytes_eq, position, is_some, Option, option_map, Result, Ok, Some}
-use Rattle.std.specs.Option.{ok_or}
 use Rattle.plan_base.specs.declared.limits.Caps.{Caps}
 use Rattle.plan_base.specs.declared.limits.Kind.TheVariants as kind
-use Rattle.gtfs_tables.specs.declared.columns.Column.{Column}
 use Rattle.gtfs_tables.specs.declared.columns.Column.TheVariants.{TripId, RouteId, ServiceId}
+use Rattle.gtfs_tables.specs.declared.faults.FeedFault.{FeedFault}
 use Rattle.gtfs_tables.specs.declared.files.FeedFile.TheVariants as file
-use Rattle.gtfs_tables.specs.declared.trips.TripColumns.{TripColumns}
 use Rattle.gtfs_tables.specs.declared.trips.TripRow.{TripRow}
-use Rattle.gtfs_tables.specs.declared.trips.Trips.{Trips}
 use Rattle.gtfs_tables.specs.Answers.{◌>>=◌}
-use Rattle.gtfs_tables.specs.Columns.{Row, place_of, field_in}
-use Rattle.gtfs_tables.specs.Forms.{id_at}
-use Rattle.gtfs_tables.specs.Holding.{HoldsListed}
+use Rattle.gtfs_tables.specs.TableRows.{TableRow, id_in}
 use Rattle.gtfs_tables.specs.Tables.{Table}
 
 -- the place of an id in a list of ids
@@ -26,15 +21,12 @@ pub record Journey : Type 0 where
   pub route : List ℕ
   pub service : List ℕ
 
-abbrev pub trip_columns : Row → TripColumns
-trip_columns header = record { id = place_of header TripId; route = place_of header RouteId; service = place_of header ServiceId }
-
-abbrev pub journey_in : TripColumns → ℕ → Row → Result Journey Column
-journey_in at n row = do
-  id ← ok_or (id_at (field_in row at.id)) TripId
-  route ← ok_or (id_at (field_in row at.route)) RouteId
-  service ← ok_or (id_at (field_in row at.service)) ServiceId
-  Ok (record { row = n; id = id; route = route; service = service })
+abbrev pub journey_in : TableRow → Result Journey FeedFault
+journey_in row = do
+  id ← id_in row TripId
+  route ← id_in row RouteId
+  service ← id_in row ServiceId
+  Ok (record { row = row.number; id = id; route = route; service = service })
 
 -- a trip with the place of its route
 abbrev pub trip_over : Journey → ℕ → TripRow
@@ -48,14 +40,10 @@ abbrev pub trips : Caps → List (List ℕ) → Table Journey TripRow
 trips caps routes = record {
   file = file.Trips;
   needed = TripId ∷ RouteId ∷ ServiceId ∷ [];
-  reads = λ header n row. journey_in (trip_columns header) n row;
+  reads = journey_in;
   has_key_of = λ journey earlier. bytes_eq journey.id earlier.id;
   refers = λ journey. (RouteId, is_some (place_among routes journey.route)) ∷ [];
   has_zone_of = λ journey first. true;
   gives = trip_of routes;
   limit = Some (kind.Trips, caps.trips);
 }
-
--- the trips of the earlier rows are kept
-abbrev pub KeepsTrips : Caps → List (List ℕ) → Trips → List Journey → Type 0
-KeepsTrips caps routes kept earlier = HoldsListed (trips caps routes) (λ journey. journey.id) (λ trip. trip.id) kept.ids kept.ids kept.rows.items earlier

@@ -2,7 +2,7 @@
 
 ghost use Rattle.std.specs.Prelude.{◌≡◌, ◌<◌, [], length, bytes_eq, slice_index_or};
 ghost use Rattle.csv.specs.Records.{fields_of};
-ghost use Rattle.gtfs_tables.specs.Columns.{column_name, field_in, first_missing, place_of};
+ghost use Rattle.gtfs_tables.specs.Columns.{column_name, first_missing, place_of};
 
 use csv::ByteRecord;
 
@@ -177,14 +177,4 @@ pub(crate) fn first_missing(header: &ByteRecord, columns: &[Column]) -> Option<C
         }
     }
     None
-}
-
-/// The field of a row at a column's place; empty where the column is absent or the row ends before it.
-pub(crate) fn field_in(row: &ByteRecord, place: Option<usize>) -> &[u8]
-    ensures { result.now ≡ field_in (fields_of row.now) place }
-{
-    match place {
-        Some(place) => row.get(place).unwrap_or(b""),
-        None => b"",
-    }
 }

@@ -1,24 +1,20 @@
 //! calendar_dates.txt
 
-ghost use Rattle.std.specs.Prelude.{◌≡◌, ℕ, List, [], ◌∷◌, ◌++◌, Ok, Err, IfErr, IfOk, MatchResult, OnOk};
-ghost use Rattle.csv.specs.Records.{fields_of};
+ghost use Rattle.std.specs.Prelude.{◌≡◌, [], ◌∷◌, ◌++◌, Ok, Err, IfErr, IfOk, MatchResult, OnOk};
 ghost use Rattle.gtfs_tables.specs.Answers.{IsFaultOf};
-ghost use Rattle.gtfs_tables.specs.Columns.{Row};
 ghost use Rattle.gtfs_tables.specs.FeedLists.{bytes_of};
-ghost use Rattle.gtfs_tables.specs.Holding.{AreRead, TakesRow, TakesRows};
+ghost use Rattle.gtfs_tables.specs.Holding.{AreRead, Holds};
 ghost use Rattle.gtfs_tables.specs.ServiceDates as spec;
 ghost use Rattle.gtfs_tables.specs.Tables.{records_of};
 
-use crate::columns::{Column, field_in, place_of};
+use crate::columns::Column;
 use crate::faults::FeedFault;
 use crate::files::FeedFile;
 use crate::ids::Id;
-use crate::records::{Rows, open};
-use crate::texts::{read_added, read_id, trimmed};
-use csv::ByteRecord;
+use crate::table_rows::TableRow;
+use crate::tables::{TakesRows, push_row, read_table};
 use indexmap::IndexSet;
 use plan_base::{Caps, Kind};
-use service_days::read_date;
 use std::alloc::{AllocError, Global};
 use std::marker::Model;
 
@@ -35,17 +31,10 @@ pub struct DateRow {
     pub added: bool,
 }
 
-/// Where the columns of calendar_dates.txt stand.
-#[derive(Clone, Copy)]
-pub(crate) struct DateColumns {
-    id: Option<usize>,
-    date: Option<usize>,
-    exception: Option<usize>,
-}
-
 /// What a row says.
 #[derive(Clone, Copy)]
 struct Line<'a> {
+    row: u64,
     id: &'a [u8],
     date: u32,
     added: bool,
@@ -67,7 +56,7 @@ impl Model for Pairs {
 }
 
 impl Pairs {
-    ghost use Rattle.std.specs.Prelude.{◌≡◌, ◌∷◌, [], ◌++◌, ◌<◌, ◌^◌, length, not, IfOk, IsTrue};
+    ghost use Rattle.std.specs.Prelude.{◌≡◌, ◌∷◌, [], ◌++◌, not, IfOk, IsTrue};
     ghost use Rattle.std.specs.List.{list_any};
     ghost use Rattle.gtfs_tables.specs.ServiceDates.{is_same_pair};
 
@@ -78,13 +67,6 @@ impl Pairs {
             alloc,
             pairs: IndexSet::new(alloc),
         }
-    }
-
-    fn len(&self) -> usize
-        ensures value { result ≡ length self.now }
-        ensures small { result < 2 ^ 63 }
-    {
-        self.pairs.len()
     }
 
     /// Puts a pair to the others, and says whether it is new.
@@ -102,107 +84,75 @@ impl Pairs {
 #[derive(Drop)]
 pub(crate) struct Dates {
     alloc: Global,
+    caps: Caps,
     pairs: Pairs,
     rows: Vec<DateRow>,
 }
 
-impl DateColumns {
-    fn of(header: &ByteRecord) -> DateColumns
-        ensures { result ≡ spec.date_columns (fields_of header.now) }
-    {
-        DateColumns {
-            id: place_of(header, Column::ServiceId),
-            date: place_of(header, Column::Date),
-            exception: place_of(header, Column::ExceptionType),
-        }
-    }
+/// What a row says, or the fault of the first field that is not of its form.
+fn read<'a>(row: &TableRow<'a>) -> Result<Line<'a>, FeedFault>
+    ensures { MatchResult result
+        (λ line. spec.date_in row.now ≡ Ok (record { row = line.row; id = line.id.now; date = line.date; added = line.added }))
+        (λ fault. spec.date_in row.now ≡ Err fault) }
+{
+    let id = row.id(Column::ServiceId)?;
+    let date = row.date(Column::Date)?;
+    let added = row.added(Column::ExceptionType)?;
+    Ok(Line {
+        row: row.number(),
+        id,
+        date,
+        added,
+    })
+}
 
-    fn read<'a>(&self, row: &'a ByteRecord) -> Result<Line<'a>, Column>
-        ensures { (n : ℕ) → MatchResult result
-            (λ line. spec.date_in self.now n (fields_of row.now) ≡ Ok (record { row = n; id = line.id.now; date = line.date; added = line.added }))
-            (λ column. spec.date_in self.now n (fields_of row.now) ≡ Err column) }
+impl Line<'_> {
+    fn to_row(&self, alloc: Global) -> Result<DateRow, AllocError>
+        ensures { IfOk result (λ date. date ≡ record { row = self.now.row; id = self.now.id.now; date = self.now.date; added = self.now.added }) }
     {
-        let id = read_id(field_in(row, self.id)).ok_or(Column::ServiceId)?;
-        let date = read_date(trimmed(field_in(row, self.date))).ok_or(Column::Date)?;
-        let added = read_added(trimmed(field_in(row, self.exception))).ok_or(
-            Column::ExceptionType,
-        )?;
-        Ok(Line { id, date, added })
+        let id = Id::from_slice(alloc, self.id)?;
+        Ok(DateRow {
+            row: self.row,
+            id,
+            date: self.date,
+            added: self.added,
+        })
     }
 }
 
 impl Dates {
-    fn new(alloc: Global) -> Dates
+    fn new(alloc: Global, caps: &Caps) -> Dates
+        ensures caps { result.caps ≡ caps.now }
         ensures pairs { result.pairs ≡ [] }
         ensures rows { result.rows.items ≡ [] }
     {
         Dates {
             alloc,
+            caps: *caps,
             pairs: Pairs::new(alloc),
             rows: Vec::new(alloc),
         }
     }
+}
 
-    fn push(&mut self, number: u64, line: &Line<'_>) -> Result<(), AllocError>
-        ensures rows { OnOk result (self.new.rows.items ≡ self.old.rows.items ++ record { row = number; id = line.now.id.now; date = line.now.date; added = line.now.added } ∷ []) }
-        ensures pairs { OnOk result (self.new.pairs ≡ self.old.pairs) }
-    {
-        let id = Id::from_slice(self.alloc, line.id)?;
-        self.rows.push(DateRow {
-            row: number,
-            id,
-            date: line.date,
-            added: line.added,
-        })?;
-        Ok(())
-    }
+impl TakesRows for Dates {
+    ghost use Rattle.gtfs_tables.specs.declared.dates.DateRow.{DateRow};
 
-    fn take(
-        &mut self,
-        caps: &Caps,
-        columns: &DateColumns,
-        row: &ByteRecord,
-    ) -> Result<(), FeedFault>
-        ensures { (header : Row) → columns.now ≡ spec.date_columns header
-            → TakesRow (spec.dates caps.now) header (fields_of row.now) (spec.KeepsDates caps.now self.old) (spec.KeepsDates caps.now self.new) result }
-    {
-        let number = self.pairs.len() as u64 + 2;
-        let line = match columns.read(row) {
-            Ok(line) => line,
-            Err(column) => {
-                return Err(FeedFault::BadField {
-                    file: FeedFile::CalendarDates,
-                    row: number,
-                    column,
-                });
-            }
-        };
+    ghost Said = { DateRow };
+
+    ghost Given = { DateRow };
+
+    ghost table = { λ kept. spec.dates kept.caps };
+
+    ghost keeps = { λ kept. Holds (spec.dates kept.caps) spec.pair_of kept.pairs kept.rows.items };
+
+    fn take(&mut self, row: &TableRow<'_>) -> Result<(), FeedFault> {
+        let line = read(row)?;
         if !self.pairs.insert(line.id, line.date)? {
-            return Err(FeedFault::RepeatedKey {
-                file: FeedFile::CalendarDates,
-                row: number,
-            });
+            return Err(row.repeated_key());
         }
-        self.push(number, &line)?;
-        if self.rows.len() as u64 > caps.dates {
-            return Err(FeedFault::TooMany { kind: Kind::Dates });
-        }
-        Ok(())
-    }
-
-    fn take_rows(
-        &mut self,
-        caps: &Caps,
-        columns: &DateColumns,
-        mut rows: Rows<'_>,
-    ) -> Result<(), FeedFault>
-        ensures { (header : Row) → columns.now ≡ spec.date_columns header
-            → TakesRows (spec.dates caps.now) header rows.entry (spec.KeepsDates caps.now self.old) (spec.KeepsDates caps.now self.new) result }
-    {
-        while let Some(row) = rows.take()? {
-            self.take(caps, columns, &row)?;
-        }
-        Ok(())
+        let date = line.to_row(self.alloc)?;
+        push_row(&mut self.rows, Some(date), Kind::Dates, self.caps.dates)
     }
 }
 
@@ -215,12 +165,8 @@ pub(crate) fn read_dates(
     ensures dates { IfOk result (λ dates. AreRead (spec.dates caps.now) (bytes_of text.entry) dates.items) }
     ensures fault { IfErr result (IsFaultOf (records_of (spec.dates caps.now) (bytes_of text.entry))) }
 {
-    let mut dates = Dates::new(alloc);
-    let Some(text) = text else {
-        return Ok(dates.rows);
-    };
     let needed = [Column::ServiceId, Column::Date, Column::ExceptionType];
-    let (header, rows) = open(alloc, FeedFile::CalendarDates, &needed, text)?;
-    dates.take_rows(caps, &DateColumns::of(&header), rows)?;
+    let dates = Dates::new(alloc, caps);
+    let dates = read_table(alloc, dates, FeedFile::CalendarDates, &needed, &[], text)?;
     Ok(dates.rows)
 }

@@ -14,6 +14,7 @@ use crate::frequencies::{FrequencyRow, read_frequencies};
 use crate::routes::{RouteRow, read_routes};
 use crate::services::{ServiceRow, read_services};
 use crate::stops::{StopRow, read_stops};
+use crate::tables::Listed;
 use crate::trips::{TripRow, read_trips};
 use plan_base::Caps;
 use std::alloc::Global;
@@ -67,6 +68,29 @@ fn first_absent(files: &FeedFiles<'_>) -> Option<FeedFile>
     }
 }
 
+/// The rows of all tables, without the ids.
+fn gathered(
+    stops: Listed<StopRow>,
+    routes: Listed<RouteRow>,
+    services: Vec<ServiceRow>,
+    dates: Vec<DateRow>,
+    trips: Listed<TripRow>,
+    frequencies: Vec<FrequencyRow>,
+    calls: Vec<CallRow>,
+) -> Feed
+    ensures { result ≡ record { stops = stops.rows.items; routes = routes.rows.items; services = services.items; dates = dates.items; trips = trips.rows.items; frequencies = frequencies.items; calls = calls.items } }
+{
+    Feed {
+        stops: stops.rows,
+        routes: routes.rows,
+        services,
+        dates,
+        trips: trips.rows,
+        frequencies,
+        calls,
+    }
+}
+
 /// Reads the files of a feed: the rows of its tables, or the first fault.
 ///
 /// The limits are those of stops, routes, services, dates, trips and calls. Nothing is read where a required file
@@ -87,13 +111,5 @@ pub fn read_feed(alloc: Global, files: &FeedFiles<'_>, caps: &Caps) -> Result<Fe
     let trips = read_trips(alloc, caps, &routes.ids, files.trips)?;
     let frequencies = read_frequencies(alloc, &trips.ids, files.frequencies)?;
     let calls = read_calls(alloc, caps, &trips.ids, &stops.ids, files.stop_times)?;
-    Ok(Feed {
-        stops: stops.rows,
-        routes: routes.rows,
-        services,
-        dates,
-        trips: trips.rows,
-        frequencies,
-        calls,
-    })
+    Ok(gathered(stops, routes, services, dates, trips, frequencies, calls))
 }

@@ -81,14 +81,6 @@ impl Ids {
         }
     }
 
-    /// How many ids there are.
-    pub(crate) fn len(&self) -> usize
-        ensures value { result ≡ length self.now }
-        ensures small { result < 2 ^ 63 }
-    {
-        self.ids.len()
-    }
-
     /// Puts an id to the others, and says whether it is new.
     pub(crate) fn insert(&mut self, id: &[u8]) -> Result<bool, AllocError>
         ensures new { IfOk result (λ new. new ≡ not (list_any (bytes_eq id.now) self.old)) }

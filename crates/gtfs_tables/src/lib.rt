@@ -41,11 +41,14 @@ mod faults;
 mod feeds;
 mod files;
 mod frequencies;
+mod header;
 mod ids;
 mod records;
 mod routes;
 mod services;
 mod stops;
+mod table_rows;
+mod tables;
 mod texts;
 mod trips;
 

@@ -1,23 +1,19 @@
 //! stops.txt
 
-ghost use Rattle.std.specs.Prelude.{◌≡◌, ◌≤◌, ℕ, [], ◌∷◌, ◌++◌, map, false, bytes_eq, option_to_list, Ok, Err, IfErr, IfOk, MatchResult, OnOk};
+ghost use Rattle.std.specs.Prelude.{◌≡◌, [], ◌∷◌, ◌++◌, map, false, bytes_eq, option_map, option_to_list, Ok, Err, IfErr, IfOk, MatchResult, OnOk};
 ghost use Rattle.std.specs.List.{list_any};
-ghost use Rattle.csv.specs.Records.{fields_of};
 ghost use Rattle.gtfs_tables.specs.Answers.{IsFaultOf};
-ghost use Rattle.gtfs_tables.specs.Columns.{Row};
 ghost use Rattle.gtfs_tables.specs.FeedLists.{bytes_of};
-ghost use Rattle.gtfs_tables.specs.Holding.{AreRead, TakesRow, TakesRows};
+ghost use Rattle.gtfs_tables.specs.Holding.{AreRead, HoldsListed};
 ghost use Rattle.gtfs_tables.specs.Stops as spec;
 ghost use Rattle.gtfs_tables.specs.Tables.{records_of};
 
-use crate::columns::{Column, field_in, place_of};
+use crate::columns::Column;
 use crate::faults::FeedFault;
 use crate::files::FeedFile;
 use crate::ids::{Id, Ids};
-use crate::records::{Rows, open};
-use crate::texts::{read_id, read_is_usual, trimmed};
-use csv::ByteRecord;
-use geo_length::read_degrees;
+use crate::table_rows::TableRow;
+use crate::tables::{Listed, TakesRows, push_row, read_table};
 use plan_base::{Caps, Kind, Place};
 use std::alloc::{AllocError, Global};
 
@@ -32,18 +28,10 @@ pub struct StopRow {
     pub place: Place,
 }
 
-/// Where the columns of stops.txt stand.
-#[derive(Clone, Copy)]
-pub(crate) struct StopColumns {
-    id: Option<usize>,
-    location_type: Option<usize>,
-    lat: Option<usize>,
-    lon: Option<usize>,
-}
-
 /// What a row says: a stop has a place.
 #[derive(Clone, Copy)]
 struct Line<'a> {
+    row: u64,
     id: &'a [u8],
     place: Option<Place>,
 }
@@ -52,138 +40,103 @@ struct Line<'a> {
 #[derive(Drop)]
 pub(crate) struct Stops {
     alloc: Global,
+    caps: Caps,
     seen: Ids,
-    pub(crate) ids: Ids,
-    pub(crate) rows: Vec<StopRow>,
+    ids: Ids,
+    rows: Vec<StopRow>,
 }
 
-fn coordinate_in(
-    row: &ByteRecord,
-    place: Option<usize>,
-    most: u32,
-    column: Column,
-) -> Result<i64, Column>
-    requires { most ≤ 180 }
-    ensures { result ≡ spec.coordinate_in (fields_of row.now) place most column }
+/// The place of a stop; that of another location is not looked at.
+fn read_place(row: &TableRow<'_>, is_stop: bool) -> Result<Option<Place>, FeedFault>
+    ensures { result ≡ spec.place_in row.now is_stop }
 {
-    read_degrees(trimmed(field_in(row, place)), most).ok_or(column)
+    if !is_stop {
+        return Ok(None);
+    }
+    let lat = row.degrees(Column::StopLat, 90)?;
+    let lon = row.degrees(Column::StopLon, 180)?;
+    Ok(Place::new(lat, lon))
 }
 
-impl StopColumns {
-    fn of(header: &ByteRecord) -> StopColumns
-        ensures { result ≡ spec.stop_columns (fields_of header.now) }
-    {
-        StopColumns {
-            id: place_of(header, Column::StopId),
-            location_type: place_of(header, Column::LocationType),
-            lat: place_of(header, Column::StopLat),
-            lon: place_of(header, Column::StopLon),
-        }
-    }
+/// What a row says, or the fault of the first field that is not of its form.
+fn read<'a>(row: &TableRow<'a>) -> Result<Line<'a>, FeedFault>
+    ensures { MatchResult result
+        (λ line. spec.station_in row.now ≡ Ok (record { row = line.row; id = line.id.now; place = line.place }))
+        (λ fault. spec.station_in row.now ≡ Err fault) }
+{
+    let id = row.id(Column::StopId)?;
+    let is_stop = row.is_usual(Column::LocationType, 4)?;
+    let place = read_place(row, is_stop)?;
+    Ok(Line {
+        row: row.number(),
+        id,
+        place,
+    })
+}
 
-    fn place(&self, row: &ByteRecord, is_stop: bool) -> Result<Option<Place>, Column>
-        ensures { result ≡ spec.place_in self.now (fields_of row.now) is_stop }
+impl Line<'_> {
+    /// The stop that a row is, if it is one.
+    fn to_row(&self, alloc: Global) -> Result<Option<StopRow>, AllocError>
+        ensures { IfOk result (λ stop. stop ≡ spec.stop_of (record { row = self.now.row; id = self.now.id.now; place = self.now.place })) }
     {
-        if !is_stop {
+        let Some(place) = self.place else {
             return Ok(None);
-        }
-        let lat = coordinate_in(row, self.lat, 90, Column::StopLat)?;
-        let lon = coordinate_in(row, self.lon, 180, Column::StopLon)?;
-        Ok(Place::new(lat, lon))
+        };
+        let id = Id::from_slice(alloc, self.id)?;
+        Ok(Some(StopRow {
+            row: self.row,
+            id,
+            place,
+        }))
     }
 
-    fn read<'a>(&self, row: &'a ByteRecord) -> Result<Line<'a>, Column>
-        ensures { (n : ℕ) → MatchResult result
-            (λ line. spec.station_in self.now n (fields_of row.now) ≡ Ok (record { row = n; id = line.id.now; place = line.place }))
-            (λ column. spec.station_in self.now n (fields_of row.now) ≡ Err column) }
+    /// Puts the id of a stop to the others, among which it is not.
+    fn note(&self, ids: &mut Ids) -> Result<(), AllocError>
+        ensures { list_any (bytes_eq self.now.id.now) ids.old ≡ false → OnOk result (ids.new ≡ ids.old ++ option_to_list (option_map (λ _. self.now.id.now) self.now.place)) }
     {
-        let id = read_id(field_in(row, self.id)).ok_or(Column::StopId)?;
-        let location_type = trimmed(field_in(row, self.location_type));
-        let is_stop = read_is_usual(location_type, 4).ok_or(Column::LocationType)?;
-        let place = self.place(row, is_stop)?;
-        Ok(Line { id, place })
+        if self.place.is_some() {
+            ids.insert(self.id)?;
+        }
+        Ok(())
     }
 }
 
 impl Stops {
-    fn new(alloc: Global) -> Stops
+    fn new(alloc: Global, caps: &Caps) -> Stops
+        ensures caps { result.caps ≡ caps.now }
         ensures seen { result.seen ≡ [] }
         ensures ids { result.ids ≡ [] }
         ensures rows { result.rows.items ≡ [] }
     {
         Stops {
             alloc,
+            caps: *caps,
             seen: Ids::new(alloc),
             ids: Ids::new(alloc),
             rows: Vec::new(alloc),
         }
     }
+}
 
-    /// Keeps a row, if it is that of a stop.
-    fn push(&mut self, number: u64, line: &Line<'_>) -> Result<(), AllocError>
-        ensures rows { OnOk result (self.new.rows.items ≡ self.old.rows.items ++ option_to_list (spec.stop_of (record { row = number; id = line.now.id.now; place = line.now.place }))) }
-        ensures ids { self.old.ids ≡ map (λ stop. stop.id) self.old.rows.items → list_any (bytes_eq line.now.id.now) self.old.ids ≡ false → OnOk result (self.new.ids ≡ map (λ stop. stop.id) self.new.rows.items) }
-        ensures seen { OnOk result (self.new.seen ≡ self.old.seen) }
-    {
-        let Some(place) = line.place else {
-            return Ok(());
-        };
-        self.ids.insert(line.id)?;
-        let id = Id::from_slice(self.alloc, line.id)?;
-        self.rows.push(StopRow {
-            row: number,
-            id,
-            place,
-        })?;
-        Ok(())
-    }
+impl TakesRows for Stops {
+    ghost use Rattle.gtfs_tables.specs.declared.stops.StopRow.{StopRow};
 
-    fn take(
-        &mut self,
-        caps: &Caps,
-        columns: &StopColumns,
-        row: &ByteRecord,
-    ) -> Result<(), FeedFault>
-        ensures { (header : Row) → columns.now ≡ spec.stop_columns header
-            → TakesRow (spec.stops caps.now) header (fields_of row.now) (spec.KeepsStops caps.now self.old) (spec.KeepsStops caps.now self.new) result }
-    {
-        let number = self.seen.len() as u64 + 2;
-        let line = match columns.read(row) {
-            Ok(line) => line,
-            Err(column) => {
-                return Err(FeedFault::BadField {
-                    file: FeedFile::Stops,
-                    row: number,
-                    column,
-                });
-            }
-        };
+    ghost Said = { spec.Station };
+
+    ghost Given = { StopRow };
+
+    ghost table = { λ kept. spec.stops kept.caps };
+
+    ghost keeps = { λ kept. HoldsListed (spec.stops kept.caps) (λ station. station.id) (λ stop. stop.id) kept.seen kept.ids kept.rows.items };
+
+    fn take(&mut self, row: &TableRow<'_>) -> Result<(), FeedFault> {
+        let line = read(row)?;
         if !self.seen.insert(line.id)? {
-            return Err(FeedFault::RepeatedKey {
-                file: FeedFile::Stops,
-                row: number,
-            });
+            return Err(row.repeated_key());
         }
-        self.push(number, &line)?;
-        if self.rows.len() as u64 > caps.stops {
-            return Err(FeedFault::TooMany { kind: Kind::Stops });
-        }
-        Ok(())
-    }
-
-    fn take_rows(
-        &mut self,
-        caps: &Caps,
-        columns: &StopColumns,
-        mut rows: Rows<'_>,
-    ) -> Result<(), FeedFault>
-        ensures { (header : Row) → columns.now ≡ spec.stop_columns header
-            → TakesRows (spec.stops caps.now) header rows.entry (spec.KeepsStops caps.now self.old) (spec.KeepsStops caps.now self.new) result }
-    {
-        while let Some(row) = rows.take()? {
-            self.take(caps, columns, &row)?;
-        }
-        Ok(())
+        line.note(&mut self.ids)?;
+        let stop = line.to_row(self.alloc)?;
+        push_row(&mut self.rows, stop, Kind::Stops, self.caps.stops)
     }
 }
 
@@ -192,17 +145,23 @@ pub(crate) fn read_stops(
     alloc: Global,
     caps: &Caps,
     text: Option<&[u8]>,
-) -> Result<Stops, FeedFault>
+) -> Result<Listed<StopRow>, FeedFault>
     ensures stops { IfOk result (λ stops. AreRead (spec.stops caps.now) (bytes_of text.entry) stops.rows.items) }
     ensures ids { IfOk result (λ stops. stops.ids ≡ map (λ stop. stop.id) stops.rows.items) }
     ensures fault { IfErr result (IsFaultOf (records_of (spec.stops caps.now) (bytes_of text.entry))) }
 {
-    let mut stops = Stops::new(alloc);
-    let Some(text) = text else {
-        return Ok(stops);
-    };
     let needed = [Column::StopId, Column::StopLat, Column::StopLon];
-    let (header, rows) = open(alloc, FeedFile::Stops, &needed, text)?;
-    stops.take_rows(caps, &StopColumns::of(&header), rows)?;
-    Ok(stops)
+    let optional = [Column::LocationType];
+    let stops = read_table(
+        alloc,
+        Stops::new(alloc, caps),
+        FeedFile::Stops,
+        &needed,
+        &optional,
+        text,
+    )?;
+    Ok(Listed {
+        ids: stops.ids,
+        rows: stops.rows,
+    })
 }

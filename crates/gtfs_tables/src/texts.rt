@@ -71,6 +71,14 @@ pub(crate) fn read_digits(text: &[u8]) -> Option<u32>
     read_fixed(text)
 }
 
+/// The number that 1 to 9 digits spell, which is not 0.
+pub(crate) fn read_headway(text: &[u8]) -> Option<u32>
+    ensures { result ≡ spec.headway_at text.now }
+{
+    let headway = read_digits(text)?;
+    if headway > 0 { Some(headway) } else { None }
+}
+
 /// 0 or 1.
 pub(crate) fn read_flag(text: &[u8]) -> Option<bool>
     ensures { result ≡ spec.flag_at text.now }

@@ -1,21 +1,18 @@
 //! trips.txt
 
-ghost use Rattle.std.specs.Prelude.{◌≡◌, ◌≤◌, ◌^◌, ℕ, [], ◌∷◌, ◌++◌, length, map, Ok, Err, IfErr, IfOk, MatchResult, OnOk};
-ghost use Rattle.csv.specs.Records.{fields_of};
+ghost use Rattle.std.specs.Prelude.{◌≡◌, ◌≤◌, ◌^◌, [], ◌∷◌, ◌++◌, length, map, Ok, Err, IfErr, IfOk, MatchResult, OnOk};
 ghost use Rattle.gtfs_tables.specs.Answers.{IsFaultOf};
-ghost use Rattle.gtfs_tables.specs.Columns.{Row};
 ghost use Rattle.gtfs_tables.specs.FeedLists.{bytes_of};
-ghost use Rattle.gtfs_tables.specs.Holding.{AreRead, TakesRow, TakesRows};
+ghost use Rattle.gtfs_tables.specs.Holding.{AreRead, HoldsListed};
 ghost use Rattle.gtfs_tables.specs.Tables.{records_of};
 ghost use Rattle.gtfs_tables.specs.Trips as spec;
 
-use crate::columns::{Column, field_in, place_of};
+use crate::columns::Column;
 use crate::faults::FeedFault;
 use crate::files::FeedFile;
 use crate::ids::{Id, Ids};
-use crate::records::{Rows, open};
-use crate::texts::read_id;
-use csv::ByteRecord;
+use crate::table_rows::TableRow;
+use crate::tables::{Listed, TakesRows, push_row, read_table};
 use plan_base::{Caps, Kind};
 use std::alloc::{AllocError, Global};
 
@@ -32,138 +29,98 @@ pub struct TripRow {
     pub service: Id,
 }
 
-/// Where the columns of trips.txt stand.
-#[derive(Clone, Copy)]
-pub(crate) struct TripColumns {
-    id: Option<usize>,
-    route: Option<usize>,
-    service: Option<usize>,
-}
-
 /// What a row says.
 #[derive(Clone, Copy)]
 struct Line<'a> {
+    row: u64,
     id: &'a [u8],
     route: &'a [u8],
     service: &'a [u8],
 }
 
-/// The trips so far, and their ids.
+/// The trips so far over routes of these ids, and their own ids.
 #[derive(Drop)]
-pub(crate) struct Trips {
+pub(crate) struct Trips<'a> {
     alloc: Global,
-    pub(crate) ids: Ids,
-    pub(crate) rows: Vec<TripRow>,
+    caps: Caps,
+    routes: &'a Ids,
+    ids: Ids,
+    rows: Vec<TripRow>,
+    ghost few: { length routes.now ≤ 2 ^ 32 },
 }
 
-impl TripColumns {
-    fn of(header: &ByteRecord) -> TripColumns
-        ensures { result ≡ spec.trip_columns (fields_of header.now) }
-    {
-        TripColumns {
-            id: place_of(header, Column::TripId),
-            route: place_of(header, Column::RouteId),
-            service: place_of(header, Column::ServiceId),
-        }
-    }
+/// What a row says, or the fault of the first field that is not of its form.
+fn read<'a>(row: &TableRow<'a>) -> Result<Line<'a>, FeedFault>
+    ensures { MatchResult result
+        (λ line. spec.journey_in row.now ≡ Ok (record { row = line.row; id = line.id.now; route = line.route.now; service = line.service.now }))
+        (λ fault. spec.journey_in row.now ≡ Err fault) }
+{
+    let id = row.id(Column::TripId)?;
+    let route = row.id(Column::RouteId)?;
+    let service = row.id(Column::ServiceId)?;
+    Ok(Line {
+        row: row.number(),
+        id,
+        route,
+        service,
+    })
+}
 
-    fn read<'a>(&self, row: &'a ByteRecord) -> Result<Line<'a>, Column>
-        ensures { (n : ℕ) → MatchResult result
-            (λ line. spec.journey_in self.now n (fields_of row.now) ≡ Ok (record { row = n; id = line.id.now; route = line.route.now; service = line.service.now }))
-            (λ column. spec.journey_in self.now n (fields_of row.now) ≡ Err column) }
+impl Line<'_> {
+    /// The trip over the route at this place.
+    fn to_row(&self, alloc: Global, route: u32) -> Result<TripRow, AllocError>
+        ensures { IfOk result (λ trip. trip ≡ record { row = self.now.row; id = self.now.id.now; route = route; service = self.now.service.now }) }
     {
-        let id = read_id(field_in(row, self.id)).ok_or(Column::TripId)?;
-        let route = read_id(field_in(row, self.route)).ok_or(Column::RouteId)?;
-        let service = read_id(field_in(row, self.service)).ok_or(Column::ServiceId)?;
-        Ok(Line { id, route, service })
+        let id = Id::from_slice(alloc, self.id)?;
+        let service = Id::from_slice(alloc, self.service)?;
+        Ok(TripRow {
+            row: self.row,
+            id,
+            route,
+            service,
+        })
     }
 }
 
-impl Trips {
-    fn new(alloc: Global) -> Trips
+impl<'a> Trips<'a> {
+    fn new(alloc: Global, caps: &Caps, routes: &'a Ids) -> Trips<'a>
+        requires { length routes.now ≤ 2 ^ 32 }
+        ensures caps { result.caps ≡ caps.now }
+        ensures routes { result.routes.now ≡ routes.now }
         ensures ids { result.ids ≡ [] }
         ensures rows { result.rows.items ≡ [] }
     {
         Trips {
             alloc,
+            caps: *caps,
+            routes,
             ids: Ids::new(alloc),
             rows: Vec::new(alloc),
         }
     }
+}
 
-    /// Keeps a row with the place of its route.
-    fn push(&mut self, number: u64, line: &Line<'_>, route: u32) -> Result<(), AllocError>
-        ensures rows { OnOk result (self.new.rows.items ≡ self.old.rows.items ++ record { row = number; id = line.now.id.now; route = route; service = line.now.service.now } ∷ []) }
-        ensures ids { OnOk result (self.new.ids ≡ self.old.ids) }
-    {
-        let id = Id::from_slice(self.alloc, line.id)?;
-        let service = Id::from_slice(self.alloc, line.service)?;
-        self.rows.push(TripRow {
-            row: number,
-            id,
-            route,
-            service,
-        })?;
-        Ok(())
-    }
+impl<'a> TakesRows for Trips<'a> {
+    ghost use Rattle.gtfs_tables.specs.declared.trips.TripRow.{TripRow};
 
-    fn take(
-        &mut self,
-        caps: &Caps,
-        routes: &Ids,
-        columns: &TripColumns,
-        row: &ByteRecord,
-    ) -> Result<(), FeedFault>
-        requires { length routes.now ≤ 2 ^ 32 }
-        ensures { (header : Row) → columns.now ≡ spec.trip_columns header
-            → TakesRow (spec.trips caps.now routes.now) header (fields_of row.now) (spec.KeepsTrips caps.now routes.now self.old) (spec.KeepsTrips caps.now routes.now self.new) result }
-    {
-        let number = self.ids.len() as u64 + 2;
-        let line = match columns.read(row) {
-            Ok(line) => line,
-            Err(column) => {
-                return Err(FeedFault::BadField {
-                    file: FeedFile::Trips,
-                    row: number,
-                    column,
-                });
-            }
-        };
+    ghost Said = { spec.Journey };
+
+    ghost Given = { TripRow };
+
+    ghost table = { λ kept. spec.trips kept.caps kept.routes.now };
+
+    ghost keeps = { λ kept. HoldsListed (spec.trips kept.caps kept.routes.now) (λ journey. journey.id) (λ trip. trip.id) kept.ids kept.ids kept.rows.items };
+
+    fn take(&mut self, row: &TableRow<'_>) -> Result<(), FeedFault> {
+        let line = read(row)?;
         if !self.ids.insert(line.id)? {
-            return Err(FeedFault::RepeatedKey {
-                file: FeedFile::Trips,
-                row: number,
-            });
+            return Err(row.repeated_key());
         }
-        let Some(route) = routes.place(line.route) else {
-            return Err(FeedFault::DanglingKey {
-                file: FeedFile::Trips,
-                row: number,
-                column: Column::RouteId,
-            });
+        let Some(route) = self.routes.place(line.route) else {
+            return Err(row.dangling_key(Column::RouteId));
         };
-        self.push(number, &line, route as u32)?;
-        if self.rows.len() as u64 > caps.trips {
-            return Err(FeedFault::TooMany { kind: Kind::Trips });
-        }
-        Ok(())
-    }
-
-    fn take_rows(
-        &mut self,
-        caps: &Caps,
-        routes: &Ids,
-        columns: &TripColumns,
-        mut rows: Rows<'_>,
-    ) -> Result<(), FeedFault>
-        requires { length routes.now ≤ 2 ^ 32 }
-        ensures { (header : Row) → columns.now ≡ spec.trip_columns header
-            → TakesRows (spec.trips caps.now routes.now) header rows.entry (spec.KeepsTrips caps.now routes.now self.old) (spec.KeepsTrips caps.now routes.now self.new) result }
-    {
-        while let Some(row) = rows.take()? {
-            self.take(caps, routes, columns, &row)?;
-        }
-        Ok(())
+        let trip = line.to_row(self.alloc, route as u32)?;
+        push_row(&mut self.rows, Some(trip), Kind::Trips, self.caps.trips)
     }
 }
 
@@ -173,18 +130,17 @@ pub(crate) fn read_trips(
     caps: &Caps,
     routes: &Ids,
     text: Option<&[u8]>,
-) -> Result<Trips, FeedFault>
+) -> Result<Listed<TripRow>, FeedFault>
     requires { length routes.now ≤ 2 ^ 32 }
     ensures trips { IfOk result (λ trips. AreRead (spec.trips caps.now routes.now) (bytes_of text.entry) trips.rows.items) }
     ensures ids { IfOk result (λ trips. trips.ids ≡ map (λ trip. trip.id) trips.rows.items) }
     ensures fault { IfErr result (IsFaultOf (records_of (spec.trips caps.now routes.now) (bytes_of text.entry))) }
 {
-    let mut trips = Trips::new(alloc);
-    let Some(text) = text else {
-        return Ok(trips);
-    };
     let needed = [Column::TripId, Column::RouteId, Column::ServiceId];
-    let (header, rows) = open(alloc, FeedFile::Trips, &needed, text)?;
-    trips.take_rows(caps, routes, &TripColumns::of(&header), rows)?;
-    Ok(trips)
+    let trips = Trips::new(alloc, caps, routes);
+    let trips = read_table(alloc, trips, FeedFile::Trips, &needed, &[], text)?;
+    Ok(Listed {
+        ids: trips.ids,
+        rows: trips.rows,
+    })
 }

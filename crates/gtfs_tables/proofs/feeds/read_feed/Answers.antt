@@ -1,4 +1,4 @@
-use Rattle.std.proofs.Common.{ℕ, [], length, sym, ap, subst, ◌∙◌}
+use Rattle.std.proofs.Common.{ℕ, [], length, sym, ap, subst, ◌∙◌, Ok}
 use Rattle.std.specs.Prelude.{option_map}
 use Rattle.std.specs.List.{AllByRecursion}
 use Rattle.std.proofs.lemmas.List.{length-map}
@@ -7,7 +7,7 @@ use Rattle.gtfs_tables.specs.declared.faults.FeedFault.TheVariants.{MissingFile}
 use Rattle.gtfs_tables.specs.declared.routes.RouteRow.{RouteRow}
 use Rattle.gtfs_tables.specs.declared.stops.StopRow.{StopRow}
 use Rattle.gtfs_tables.specs.declared.trips.TripRow.{TripRow}
-use Rattle.gtfs_tables.specs.Sound.{IsCall, IsFrequency, IsTrip}
+use Rattle.gtfs_tables.specs.Sound.{IsCall, IsFeed, IsFrequency, IsTrip}
 use Rattle.gtfs_tables.proofs.FeedLemmas.{absent_file, all_read, faulty_agencies, faulty_calls, faulty_dates, faulty_frequencies, faulty_routes, faulty_services, faulty_stops, faulty_trips}
 use Rattle.gtfs_tables.proofs.FeedSound.{calls_keep, dates_keep, frequencies_keep, route_ids, routes_keep, sequences, service_ids, services_keep, stop_ids, stops_keep, trip_ids, trips_keep}
 use Rattle.gtfs_tables.proofs.feeds.read_feed.Goals as goal
@@ -70,7 +70,7 @@ pub returns-clause-feed : goal.returns-clause-feed
 returns-clause-feed c =
     let present = ap (option_map MissingFile) (sym c.first_absent.ensures ∙ c.in_default.is) in
     all_read c.args.caps.now c.args.files.now present [] c.in_ok-check_agencies.ensures.agencies _ c.in_ok-stops.ensures.stops _ c.in_ok-routes.ensures.routes _ c.in_ok-services.ensures.services _ c.in_ok-dates.ensures.dates
-    c.in_ok-routes.routes.ids c.in_ok-routes.ensures.ids _ c.in_ok-trips.ensures.trips c.in_ok-trips.trips.ids c.in_ok-trips.ensures.ids _ c.in_ok-frequencies.ensures.frequencies c.in_ok-stops.stops.ids c.in_ok-stops.ensures.ids _ c.in_ok-calls.ensures.calls
+    c.in_ok-routes.routes.ids c.in_ok-routes.ensures.ids _ c.in_ok-trips.ensures.trips c.in_ok-trips.trips.ids c.in_ok-trips.ensures.ids _ c.in_ok-frequencies.ensures.frequencies c.in_ok-stops.stops.ids c.in_ok-stops.ensures.ids _ c.in_ok-calls.ensures.calls ∙ ap Ok (sym c.gathered.ensures)
 
 pub returns-clause-sound : goal.returns-clause-sound
 returns-clause-sound c =
@@ -83,7 +83,7 @@ returns-clause-sound c =
     let count_stops = ap length stops.ids ∙ length-map c.in_ok-stops.stops.rows.items (λ (stop : StopRow). stop.id) in
     let count_routes = ap length routes.ids ∙ length-map c.in_ok-routes.routes.rows.items (λ (route : RouteRow). route.id) in
     let count_trips = ap length trips.ids ∙ length-map c.in_ok-trips.trips.rows.items (λ (trip : TripRow). trip.id) in
-    record {
+    subst IsFeed (sym c.gathered.ensures) (record {
       stops = stops_keep caps _ _ stops.stops;
       stop_ids = stop_ids caps _ _ stops.stops;
       routes = routes_keep caps _ _ routes.routes;
@@ -97,4 +97,4 @@ returns-clause-sound c =
       calls = subst (λ (n : ℕ). AllByRecursion (IsCall n (length c.in_ok-stops.stops.rows.items)) c.in_ok-calls.calls.items) count_trips
           (subst (λ (n : ℕ). AllByRecursion (IsCall (length c.in_ok-trips.trips.ids) n) c.in_ok-calls.calls.items) count_stops (calls_keep caps _ _ _ _ calls));
       sequences = sequences caps _ _ _ _ calls;
-    }
+    })

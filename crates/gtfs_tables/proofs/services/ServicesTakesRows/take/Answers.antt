@@ -1,0 +1,20 @@
+use Rattle.std.proofs.Common.{ap, ◌∙◌, refl, Some}
+use Rattle.std.specs.Prelude.{bytes_eq}
+use Rattle.gtfs_tables.specs.declared.services.ServiceRow.{ServiceRow}
+use Rattle.gtfs_tables.specs.Services.{services}
+use Rattle.gtfs_tables.proofs.ListLemmas.{was_new, was_known}
+use Rattle.gtfs_tables.proofs.TableLemmas.{repeated, known_key, joins}
+use Rattle.gtfs_tables.proofs.services.ServicesTakesRows.take.Goals as goal
+
+pub returns-then-not-branch-clause-row : goal.returns-then-not-branch-clause-row
+returns-then-not-branch-clause-row c earlier kept =
+    let service : ServiceRow = record { row = c.in_ok-line.line.row; id = c.in_ok-line.line.id.now; rule = c.in_ok-line.line.rule } in
+    let known = known_key _ _ _ _ earlier kept bytes_eq service.id ∙ was_known _ _ c.in_ok-insert.ensures.new c.if-not-branch.true in
+    repeated (services c.args.self.now.caps) earlier c.args.row.now service c.in_ok-line.ensures known c.repeated_key.result c.repeated_key.ensures
+
+pub returns-clause-row : goal.returns-clause-row
+returns-clause-row c earlier kept =
+    let service : ServiceRow = record { row = c.in_ok-line.line.row; id = c.in_ok-line.line.id.now; rule = c.in_ok-line.line.rule } in
+    let new = known_key _ _ _ _ earlier kept bytes_eq service.id ∙ was_new _ _ c.in_ok-insert.ensures.new c.if-not-branch.false in
+    joins _ _ _ _ earlier kept c.args.row.now service c.in_ok-line.ensures new refl (λ _. refl) _ (ap Some c.in_ok-service.ensures) _ _ refl
+    c.push_row.result c.push_row.new.rows.items c.push_row.ensures.rows c.push_row.ensures.few c.push_row.ensures.fault _ (c.in_ok-insert.ensures.ids c.if-not-branch.false) _ (λ _ holds. holds)

@@ -1,0 +1,119 @@
+//! Reading a table row by row.
+
+ghost use Rattle.std.specs.Prelude.{◌≡◌, ◌<◌, ◌≤◌, [], ◌++◌, List, length, option_to_list, IfErr, IfOk, MatchResult, OnOk};
+ghost use Rattle.gtfs_tables.specs.Answers.{IsFaultOf, IsWantOr};
+ghost use Rattle.gtfs_tables.specs.FeedLists.{bytes_of};
+ghost use Rattle.gtfs_tables.specs.Holding.{AreTaken, IsRead, TakesRow};
+ghost use Rattle.gtfs_tables.specs.Tables.{Table, records_of, rows_behind};
+ghost use Rattle.gtfs_tables.specs.declared.faults.FeedFault.TheVariants.{TooMany};
+
+use crate::columns::Column;
+use crate::faults::FeedFault;
+use crate::files::FeedFile;
+use crate::header::Header;
+use crate::ids::Ids;
+use crate::records::{Rows, open};
+use crate::table_rows::TableRow;
+use plan_base::Kind;
+use std::alloc::{AllocError, Global};
+
+/// What takes the rows of a table, one after the other.
+pub(crate) trait TakesRows: Drop {
+    /// What a row says.
+    ghost Said: { Type 0 };
+
+    /// What the table gives for a row.
+    ghost Given: { Type 0 };
+
+    /// The rules of the table.
+    ghost table: { Self → Table Said Given };
+
+    /// What is kept of the rows that said so.
+    ghost keeps: { Self → List Said → Type 0 };
+
+    /// Takes the next row, or answers its fault.
+    fn take(&mut self, row: &TableRow<'_>) -> Result<(), FeedFault>
+        ensures table { OnOk result (table self.new ≡ table self.old) }
+        ensures row { TakesRow (table self.old) row.now (keeps self.old) (keeps self.new) result };
+}
+
+/// The records of a table that was read, and their ids in order.
+#[derive(Drop)]
+pub(crate) struct Listed<R> {
+    pub(crate) ids: Ids,
+    pub(crate) rows: Vec<R>,
+}
+
+/// Puts a record to the others, if there is one.
+pub(crate) fn put<R: Drop>(rows: &mut Vec<R>, row: Option<R>) -> Result<(), AllocError>
+    ensures { OnOk result (rows.new.items ≡ rows.old.items ++ option_to_list row) }
+{
+    if let Some(row) = row {
+        rows.push(row)?;
+    }
+    Ok(())
+}
+
+/// Puts a record to the others, if there is one. There may be `most` of its kind.
+pub(crate) fn push_row<R: Drop>(
+    rows: &mut Vec<R>,
+    row: Option<R>,
+    kind: Kind,
+    most: u64,
+) -> Result<(), FeedFault>
+    ensures rows { OnOk result (rows.new.items ≡ rows.old.items ++ option_to_list row) }
+    ensures few { OnOk result (length rows.new.items ≤ most) }
+    ensures fault { IfErr result (λ fault. IsWantOr fault ((fault ≡ TooMany kind) × (most < length (rows.old.items ++ option_to_list row)))) }
+{
+    put(rows, row)?;
+    if rows.len() as u64 > most {
+        return Err(FeedFault::TooMany { kind });
+    }
+    Ok(())
+}
+
+fn take_rows<T: TakesRows>(
+    table: &mut T,
+    file: FeedFile,
+    header: &Header,
+    mut rows: Rows<'_>,
+) -> Result<(), FeedFault>
+    requires file { file ≡ (T.table table.old).file }
+    requires nothing { T.keeps table.old [] }
+    ensures table { OnOk result (T.table table.new ≡ T.table table.old) }
+    ensures rows { MatchResult result (λ _. AreTaken (T.table table.old) header.now rows.entry (T.keeps table.new)) (IsFaultOf (rows_behind (T.table table.old) header.now [] rows.entry)) }
+{
+    let mut number: u64 = 1;
+    while let Some(fields) = rows.take()? {
+        number = number.checked_add(1).ok_or(FeedFault::OutOfMemory)?;
+        let row = TableRow::new(file, number, header, &fields);
+        table.take(&row)?;
+    }
+    Ok(())
+}
+
+/// Reads a table: all its rows are taken, or the first fault is answered. Its header must name the `needed` columns, and
+/// may name the `optional` ones. A file that is not there has no rows.
+pub(crate) fn read_table<T: TakesRows>(
+    alloc: Global,
+    mut table: T,
+    file: FeedFile,
+    needed: &[Column],
+    optional: &[Column],
+    text: Option<&[u8]>,
+) -> Result<T, FeedFault>
+    requires file { file ≡ (T.table table).file }
+    requires needed { needed.now ≡ (T.table table).needed }
+    requires nothing { T.keeps table [] }
+    ensures table { IfOk result (λ read. T.table read ≡ T.table table) }
+    ensures rows { IfOk result (λ read. IsRead (T.table table) (bytes_of text.entry) (T.keeps read)) }
+    ensures fault { IfErr result (IsFaultOf (records_of (T.table table) (bytes_of text.entry))) }
+{
+    let Some(text) = text else {
+        return Ok(table);
+    };
+    let (fields, rows) = open(alloc, file, needed, text)?;
+    let header = Header::new(alloc, fields, needed, optional)?;
+    take_rows(&mut table, file, &header, rows)?;
+    Ok(table)
+}
