@@ -33,15 +33,20 @@ const FORMAT_1: &str = "How the region is written: 1, lines of text, or 2, bytes
 
 const FORMAT_2: &str = "How the region is written: 1, lines of text, or 2, bytes [default: 2]";
 
+/// What people read of a date.
 pub const DATE: &str = "The first day: 8 digits, as 20240304, of the years 1900 to 2199";
 
+/// What they read of a number of days.
 pub const DAYS: &str = "How many days, from 1 to 60";
 
+/// What they read of a zone rule.
 pub const RULE: &str = "The rule of local time, a POSIX TZ text [default: each day has 24 hours]";
 
+/// What they read of a number of nodes to be kept.
 pub const KEPT: &str =
     "How many road nodes to keep in the core besides those that must be there, from 0 to 16777216 [default: 0]";
 
+/// What they read of the size of a sample city.
 pub const SIZE: &str = "How many rows and columns the city has, from 1 to 300";
 
 const CLAIM: &str = "The certificate file";

@@ -12,8 +12,10 @@ use Rattle.command_words.specs.Requests.{AsksFor, IsPlainForm, Request, compile,
 asks_for : (words : List Text) (program name : Text) (given : List Text) (rows : List Row) (r : Request) → words ≡ program ∷ name ∷ given
     → IsFoundAt (program ∷ name ∷ given) name rows → request_at name rows ≡ Some r → AsksFor words r
 asks_for words program name given rows r are at is =
-    subst (λ (ws : List Text). AsksFor ws r) (sym are)
-    (at.faultless, ap (option_and_then (λ (it : Text × List Row). request_at it.0 it.1)) at.finds ∙ is)
+    subst (λ (ws : List Text). AsksFor ws r) (sym are) (record {
+      taken = at.faultless;
+      asks = ap (option_and_then (λ (it : Text × List Row). request_at it.0 it.1)) at.finds ∙ is;
+    })
 
 -- ---- what is found is what was said
 

@@ -155,8 +155,9 @@ request_at name rows = option_and_then (λ command. command.1 rows) (find (λ co
 -- ---- what words ask for
 
 -- the words ask for this: `clap` takes them, and this is what the command asks for that it finds in them
-abbrev pub AsksFor : List (List ℕ) → Request → Type 0
-AsksFor words r = (fault_of modeplan words ≡ []) × (option_and_then (λ found. request_at found.0 found.1) (subcommand_of modeplan words) ≡ Some r)
+pub record AsksFor (words : List (List ℕ)) (r : Request) : Type 0 where
+  pub taken : fault_of modeplan words ≡ []
+  pub asks : option_and_then (λ found. request_at found.0 found.1) (subcommand_of modeplan words) ≡ Some r
 
 -- the words ask for nothing that there is
 abbrev pub AreRefused : List (List ℕ) → Type 0
