@@ -2,7 +2,6 @@
 //! what it says.
 #![tactic(auto)]
 
-mod description;
 mod usage;
 
 pub use usage::{VERSION, help};

@@ -1,10 +1,10 @@
 //! What people are told whose words ask for no command.
 
-use crate::description::{
-    DATE, DAYS, FIRST, FORMAT, FOURTH, KEEP, KEPT, RULE, SIZE, THIRD, ZONE, modeplan,
-};
 use clap::ArgMatches;
 use clap::error::ErrorKind;
+use command_line::{
+    DATE, DAYS, FIRST, FORMAT, FOURTH, KEEP, KEPT, RULE, SIZE, THIRD, ZONE, match_words, modeplan,
+};
 use command_words::{format_of, read_eight, read_keep, read_number, read_size};
 use service_days::{Days, RangeFault};
 use std::alloc::{AllocError, Global};
@@ -21,34 +21,14 @@ pub fn help(alloc: Global, words: &[String]) -> Result<String, AllocError> {
         }
         _ => {}
     }
-    match modeplan(alloc)?.try_get_matches_from(words) {
+    match match_words(alloc, words) {
         Ok(matches) => match matches.subcommand() {
             Some((command, given)) => wrong_value(alloc, command, given),
             None => modeplan(alloc)?.render_help(),
         },
         Err(error) if error.kind() == ErrorKind::OutOfMemory => Err(AllocError),
-        Err(error) => without_tip(alloc, format!(in alloc; "{error}")?.as_bytes()),
+        Err(error) => format!(in alloc; "{error}"),
     }
-}
-
-/// What `clap` says of a wrong word, but for its tip to put `--` before a word that begins with `-`, and the empty line behind
-/// that: `--` is not taken.
-fn without_tip(alloc: Global, said: &[u8]) -> Result<String, AllocError> {
-    let mut told = String::new(alloc);
-    let mut behind_tip = false;
-    for line in said
-        .strip_suffix(b"\n")
-        .unwrap_or(said)
-        .split(|byte| *byte == b'\n')
-    {
-        let is_tip = line.starts_with(b"  tip: to pass");
-        if !is_tip && !(behind_tip && line.is_empty()) {
-            told.push_str(&String::from_utf8_lossy(alloc, line)?)?;
-            told.push_str("\n")?;
-        }
-        behind_tip = is_tip;
-    }
-    Ok(told)
 }
 
 /// A value that does not read, with what it is a value of, and what it should be.
@@ -77,9 +57,7 @@ fn wrong_value(alloc: Global, command: &str, given: &ArgMatches<'_>) -> Result<S
         ) => format!(in alloc;
             "error: invalid value '{value}' for '{name}'\n\n  {wanted}\n\nFor more information, try 'modeplan {command} --help'.\n"
         ),
-        None => format!(in alloc;
-            "error: the options stand behind the words of '{command}', in the order of its help, each as its name and its value\n\nFor more information, try 'modeplan {command} --help'.\n"
-        ),
+        None => modeplan(alloc)?.render_help(),
     }
 }
 

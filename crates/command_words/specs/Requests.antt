@@ -1,12 +1,15 @@
 -- What a command line asks for, and which words ask for it.
-use Rattle.std.specs.Prelude.{◌≡◌, ℕ, Bool, true, not, ◌&&◌, nat_eq, nat_le, List, [], ◌∷◌, length, codes, Option, Some, None, option_and_then, option_map, if◌then◌else◌}
+use Rattle.std.specs.Prelude.{◌≡◌, ℕ, ◌&&◌, nat_eq, nat_le, List, [], ◌∷◌, length, codes, find, Option, Some, None, option_and_then, option_map, if◌then◌else◌}
 use Rattle.std.specs.Result.{result_ok}
 use Rattle.std.specs.Str.{bytes_eq}
+use Rattle.clap.specs.Words.{Row, fault_of, first_of, subcommand_of}
 use Rattle.plain_texts.specs.FixedDecimal.{fixed_at}
 use Rattle.service_days.specs.DaysMeaning.{DaysMeaning}
 use Rattle.service_days.specs.Zones.{days_made}
 use Rattle.region_file.specs.declared.format.Format.{Format}
 use Rattle.region_file.specs.declared.format.Format.TheVariants.{Text, Binary}
+use Rattle.command_line.specs.Description.{modeplan}
+use Rattle.command_line.specs.PlainWords.{IsInForm}
 use Rattle.command_words.specs.declared.command.Command.{Command}
 use Rattle.command_words.specs.declared.command.Command.TheVariants as command
 
@@ -40,11 +43,6 @@ request_of (command.CertifyLatest region query) = certify_latest region.now quer
 request_of (command.VerifyLatest region certificate) = verify_latest region.now certificate.now
 request_of (command.Few region queries) = few region.now queries.now
 
--- the words are the program's name, which may be any, a command's name, and then these
-pub record AreWords (words : List (List ℕ)) (name : List ℕ) (given : List (List ℕ)) : Type 0 where
-  pub program : List ℕ
-  pub are : words ≡ program ∷ name ∷ given
-
 -- a number is 1 to 8 digits
 abbrev pub number_of : List ℕ → Option ℕ
 number_of word = if nat_le 1 (length word) && nat_le (length word) 8 then fixed_at word else None
@@ -66,110 +64,121 @@ abbrev pub format_or : Format → Option (List ℕ) → Option Format
 format_or other None = Some other
 format_or other (Some word) = format_of word
 
--- what the options --format and --zone say, of which each may be there, in this order
-abbrev pub format_and_zone : List (List ℕ) → Option (Option (List ℕ) × Option (List ℕ))
-format_and_zone [] = Some (None, None)
-format_and_zone (option ∷ []) = None
-format_and_zone (option ∷ value ∷ []) =
-    if bytes_eq option (codes "--format") then Some (Some value, None) else (if bytes_eq option (codes "--zone") then Some (None, Some value) else None)
-format_and_zone (option ∷ value ∷ next ∷ []) = None
-format_and_zone (option ∷ value ∷ next ∷ rule ∷ []) =
-    if bytes_eq option (codes "--format") && bytes_eq next (codes "--zone") then Some (Some value, Some rule) else None
-format_and_zone (option ∷ value ∷ next ∷ rule ∷ one ∷ more) = None
-
 -- the days and the format of a region to be compiled, in format 1 where no option says another
 abbrev pub days_and_format : List ℕ → List ℕ → Option (List ℕ) × Option (List ℕ) → Option (DaysMeaning × Format)
 days_and_format date count said =
     option_and_then (λ format. option_map (λ days. (days, format)) (days_of date count said.1)) (format_or Text said.0)
 
--- a map, a feed, a first date and a count of days, and then the options
-abbrev pub compiled_at : List (List ℕ) → Option (List ℕ × List ℕ × DaysMeaning × Format)
-compiled_at (map ∷ feed ∷ date ∷ count ∷ options) =
-    option_map (λ said. (map, feed, said.0, said.1)) (option_and_then (days_and_format date count) (format_and_zone options))
-compiled_at _ = None
-
--- a region, and the format in which it is to be written, which is 2 where no option says another
-abbrev pub migrated_at : List (List ℕ) → Option (List ℕ × Format)
-migrated_at (region ∷ []) = Some (region, Binary)
-migrated_at (region ∷ option ∷ value ∷ []) = if bytes_eq option (codes "--format") then option_map (λ format. (region, format)) (format_of value) else None
-migrated_at _ = None
-
 -- how many nodes are to be kept: a number up to 16,777,216
 abbrev pub keep_of : List ℕ → Option ℕ
 keep_of word = option_and_then (λ keep. if nat_le keep 16777216 then Some keep else None) (number_of word)
 
--- a region, and how many nodes are to be kept, where an option says it, else none
-abbrev pub kept_at : List (List ℕ) → Option (List ℕ × ℕ)
-kept_at [] = None
-kept_at (region ∷ []) = Some (region, 0)
-kept_at (region ∷ option ∷ []) = None
-kept_at (region ∷ option ∷ value ∷ []) = if bytes_eq option (codes "--keep") then option_map (λ keep. (region, keep)) (keep_of value) else None
-kept_at (region ∷ option ∷ value ∷ next ∷ more) = None
+-- and none where no option says it
+abbrev pub keep_or_none : Option (List ℕ) → Option ℕ
+keep_or_none None = Some 0
+keep_or_none (Some word) = keep_of word
 
 -- the size of a sample city: a number from 1 to 300
 abbrev pub size_of : List ℕ → Option ℕ
 size_of word = option_and_then (λ size. if nat_le 1 size && nat_le size 300 then Some size else None) (number_of word)
 
--- the file of a hierarchy, where an option says it
-abbrev pub hierarchy_of : List (List ℕ) → Option (Option (List ℕ))
-hierarchy_of [] = Some None
-hierarchy_of (option ∷ []) = None
-hierarchy_of (option ∷ value ∷ []) = if bytes_eq option (codes "--hierarchy") then Some (Some value) else None
-hierarchy_of (option ∷ value ∷ next ∷ more) = None
+-- ---- what a command asks for, by what was found for its words and options
 
--- two words, and the file of a hierarchy, where an option says it
-abbrev pub two_over : List (List ℕ) → Option (List ℕ × List ℕ × Option (List ℕ))
-two_over (first ∷ second ∷ options) = option_map (λ hierarchy. (first, second, hierarchy)) (hierarchy_of options)
-two_over _ = None
+-- its first two words
+abbrev pub two_at : List Row → Option (List ℕ × List ℕ)
+two_at rows = option_and_then (λ first. option_map (λ second. (first, second)) (first_of (codes "second") rows)) (first_of (codes "first") rows)
 
--- the words in order: the command's words, and then its options
-abbrev pub IsInOrder : List (List ℕ) → Request → Type 0
-IsInOrder words (compile map feed days format) =
-    (given : List (List ℕ)) × AreWords words (codes "compile") given × (compiled_at given ≡ Some (map, feed, days, format))
-IsInOrder words (migrate region format) = (given : List (List ℕ)) × AreWords words (codes "migrate") given × (migrated_at given ≡ Some (region, format))
-IsInOrder words (contract region keep) = (given : List (List ℕ)) × AreWords words (codes "contract") given × (kept_at given ≡ Some (region, keep))
-IsInOrder words (answer region queries hierarchy) = (given : List (List ℕ)) × AreWords words (codes "answer") given × (two_over given ≡ Some (region, queries, hierarchy))
-IsInOrder words (certify region query hierarchy) = (given : List (List ℕ)) × AreWords words (codes "certify") given × (two_over given ≡ Some (region, query, hierarchy))
-IsInOrder words (verify region certificate hierarchy) = (given : List (List ℕ)) × AreWords words (codes "verify") given × (two_over given ≡ Some (region, certificate, hierarchy))
-IsInOrder words (check region hierarchy) = AreWords words (codes "check") (region ∷ hierarchy ∷ [])
-IsInOrder words (sample size) = (word : List ℕ) × AreWords words (codes "sample") (word ∷ []) × (size_of word ≡ Some size)
-IsInOrder words (latest region queries) = AreWords words (codes "latest") (region ∷ queries ∷ [])
-IsInOrder words (certify_latest region query) = AreWords words (codes "certify-latest") (region ∷ query ∷ [])
-IsInOrder words (verify_latest region certificate) = AreWords words (codes "verify-latest") (region ∷ certificate ∷ [])
-IsInOrder words (few region queries) = AreWords words (codes "few") (region ∷ queries ∷ [])
+-- the days and the format of a region to be compiled
+abbrev pub days_and_format_at : List Row → Option (DaysMeaning × Format)
+days_and_format_at rows =
+    option_and_then (λ date. option_and_then (λ count. days_and_format date count (first_of (codes "format") rows, first_of (codes "zone") rows))
+    (first_of (codes "fourth") rows)) (first_of (codes "third") rows)
 
--- the word begins with no "-", or is "-" alone
-abbrev pub is_plain : List ℕ → Bool
-is_plain (first ∷ second ∷ more) = not (nat_eq first 45)
-is_plain _ = true
+abbrev pub compile_at : List Row → Option Request
+compile_at rows = option_and_then (λ two. option_map (λ it. compile two.0 two.1 it.0 it.1) (days_and_format_at rows)) (two_at rows)
 
-abbrev pub is_plain_or_none : Option (List ℕ) → Bool
-is_plain_or_none None = true
-is_plain_or_none (Some word) = is_plain word
+-- a region is written in format 2 where no option says another
+abbrev pub migrate_at : List Row → Option Request
+migrate_at rows = option_and_then (λ region. option_map (λ format. migrate region format) (format_or Binary (first_of (codes "format") rows))) (first_of (codes "first") rows)
 
--- the names of files, and query lines, are plain
-abbrev pub has_plain_names : Request → Bool
-has_plain_names (compile map feed days format) = is_plain map && is_plain feed
-has_plain_names (migrate region format) = is_plain region
-has_plain_names (contract region keep) = is_plain region
-has_plain_names (answer region queries hierarchy) = is_plain region && (is_plain queries && is_plain_or_none hierarchy)
-has_plain_names (certify region query hierarchy) = is_plain region && (is_plain query && is_plain_or_none hierarchy)
-has_plain_names (verify region certificate hierarchy) = is_plain region && (is_plain certificate && is_plain_or_none hierarchy)
-has_plain_names (check region hierarchy) = is_plain region && is_plain hierarchy
-has_plain_names (sample size) = true
-has_plain_names (latest region queries) = is_plain region && is_plain queries
-has_plain_names (certify_latest region query) = is_plain region && is_plain query
-has_plain_names (verify_latest region certificate) = is_plain region && is_plain certificate
-has_plain_names (few region queries) = is_plain region && is_plain queries
+abbrev pub contract_at : List Row → Option Request
+contract_at rows = option_and_then (λ region. option_map (λ keep. contract region keep) (keep_or_none (first_of (codes "keep") rows))) (first_of (codes "first") rows)
 
--- the words in the plain form: in order, and no name of a file or query line among them is taken for an option
-abbrev pub IsPlainForm : List (List ℕ) → Request → Type 0
-IsPlainForm words r = IsInOrder words r × (has_plain_names r ≡ true)
+abbrev pub check_at : List Row → Option Request
+check_at rows = option_map (λ two. check two.0 two.1) (two_at rows)
 
--- the words ask for this
-abbrev pub AsksFor : List (List ℕ) → Request → Type 0
-AsksFor words r = IsPlainForm words r
+abbrev pub sample_at : List Row → Option Request
+sample_at rows = option_and_then (λ word. option_map (λ size. sample size) (size_of word)) (first_of (codes "first") rows)
+
+abbrev pub answer_at : List Row → Option Request
+answer_at rows = option_map (λ two. answer two.0 two.1 (first_of (codes "hierarchy") rows)) (two_at rows)
+
+abbrev pub certify_at : List Row → Option Request
+certify_at rows = option_map (λ two. certify two.0 two.1 (first_of (codes "hierarchy") rows)) (two_at rows)
+
+abbrev pub verify_at : List Row → Option Request
+verify_at rows = option_map (λ two. verify two.0 two.1 (first_of (codes "hierarchy") rows)) (two_at rows)
+
+abbrev pub few_at : List Row → Option Request
+few_at rows = option_map (λ two. few two.0 two.1) (two_at rows)
+
+abbrev pub latest_at : List Row → Option Request
+latest_at rows = option_map (λ two. latest two.0 two.1) (two_at rows)
+
+abbrev pub certify_latest_at : List Row → Option Request
+certify_latest_at rows = option_map (λ two. certify_latest two.0 two.1) (two_at rows)
+
+abbrev pub verify_latest_at : List Row → Option Request
+verify_latest_at rows = option_map (λ two. verify_latest two.0 two.1) (two_at rows)
+
+-- the commands by their names
+abbrev pub commands : List (List ℕ × (List Row → Option Request))
+commands =
+    (codes "compile", compile_at)
+    ∷ (codes "migrate", migrate_at)
+    ∷ (codes "contract", contract_at)
+    ∷ (codes "check", check_at)
+    ∷ (codes "sample", sample_at)
+    ∷ (codes "answer", answer_at)
+    ∷ (codes "certify", certify_at)
+    ∷ (codes "verify", verify_at)
+    ∷ (codes "few", few_at)
+    ∷ (codes "latest", latest_at)
+    ∷ (codes "certify-latest", certify_latest_at)
+    ∷ (codes "verify-latest", verify_latest_at)
+    ∷ []
+
+-- what the command of this name asks for
+abbrev pub request_at : List ℕ → List Row → Option Request
+request_at name rows = option_and_then (λ command. command.1 rows) (find (λ command. bytes_eq command.0 name) commands)
+
+-- ---- what words ask for
+
+-- the words ask for this: `clap` takes them, and this is what the command asks for that it finds in them
+pub record AsksFor (words : List (List ℕ)) (r : Request) : Type 0 where
+  pub taken : fault_of modeplan words ≡ []
+  pub asks : option_and_then (λ found. request_at found.0 found.1) (subcommand_of modeplan words) ≡ Some r
 
 -- the words ask for nothing that there is
 abbrev pub AreRefused : List (List ℕ) → Type 0
 AreRefused words = (r : Request) → AsksFor words r → ⊥
+
+-- the words that ask for it in the plain form: the program's name, which may be any, the command's name, its words, and then its options
+abbrev pub IsPlainForm : List (List ℕ) → Request → Type 0
+IsPlainForm words (compile map feed days format) =
+    (date count : List ℕ) × (named rule : Option (List ℕ))
+    × IsInForm words (codes "compile") (map ∷ feed ∷ date ∷ count ∷ []) ((codes "--format", named) ∷ (codes "--zone", rule) ∷ [])
+    × (days_and_format date count (named, rule) ≡ Some (days, format))
+IsPlainForm words (migrate region format) =
+    (named : Option (List ℕ)) × IsInForm words (codes "migrate") (region ∷ []) ((codes "--format", named) ∷ []) × (format_or Binary named ≡ Some format)
+IsPlainForm words (contract region keep) =
+    (number : Option (List ℕ)) × IsInForm words (codes "contract") (region ∷ []) ((codes "--keep", number) ∷ []) × (keep_or_none number ≡ Some keep)
+IsPlainForm words (answer region queries hierarchy) = IsInForm words (codes "answer") (region ∷ queries ∷ []) ((codes "--hierarchy", hierarchy) ∷ [])
+IsPlainForm words (certify region query hierarchy) = IsInForm words (codes "certify") (region ∷ query ∷ []) ((codes "--hierarchy", hierarchy) ∷ [])
+IsPlainForm words (verify region certificate hierarchy) = IsInForm words (codes "verify") (region ∷ certificate ∷ []) ((codes "--hierarchy", hierarchy) ∷ [])
+IsPlainForm words (check region hierarchy) = IsInForm words (codes "check") (region ∷ hierarchy ∷ []) []
+IsPlainForm words (sample size) = (word : List ℕ) × IsInForm words (codes "sample") (word ∷ []) [] × (size_of word ≡ Some size)
+IsPlainForm words (latest region queries) = IsInForm words (codes "latest") (region ∷ queries ∷ []) []
+IsPlainForm words (certify_latest region query) = IsInForm words (codes "certify-latest") (region ∷ query ∷ []) []
+IsPlainForm words (verify_latest region certificate) = IsInForm words (codes "verify-latest") (region ∷ certificate ∷ []) []
+IsPlainForm words (few region queries) = IsInForm words (codes "few") (region ∷ queries ∷ []) []

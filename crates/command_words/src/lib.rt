@@ -2,9 +2,12 @@
 #![tactic(auto)]
 
 pub mod command;
+mod fault;
+mod found;
 mod reading;
+mod values;
 
 pub use command::Command;
-pub use reading::{
-    WordsFault, format_of, read_eight, read_keep, read_number, read_size, read_words,
-};
+pub use fault::WordsFault;
+pub use reading::read_words;
+pub use values::{format_of, read_eight, read_keep, read_number, read_size};

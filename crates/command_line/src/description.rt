@@ -1,5 +1,10 @@
 //! The command line of `modeplan`, as `clap` and people are told of it.
 
+ghost use Rattle.std.specs.Prelude.{◌≡◌, ◌++◌, ◌∷◌, [], IfOk, codes, false, fold};
+ghost use Rattle.clap.specs.Words.{Shape, Text, app_of, new_app, rule_of, with_subcommand};
+ghost use Rattle.clap.specs.declared.builder.command.Command.TheViews.{out-Command as fields_of};
+ghost use Rattle.command_line.specs.Description.{IsTold, command_of, earliest_commands, four, latest_commands, modeplan, one, option, region_commands, two, word};
+
 use clap::{Arg, ArgAction, Command};
 use std::alloc::{AllocError, Global};
 
@@ -28,15 +33,20 @@ const FORMAT_1: &str = "How the region is written: 1, lines of text, or 2, bytes
 
 const FORMAT_2: &str = "How the region is written: 1, lines of text, or 2, bytes [default: 2]";
 
+/// What people read of a date.
 pub const DATE: &str = "The first day: 8 digits, as 20240304, of the years 1900 to 2199";
 
+/// What they read of a number of days.
 pub const DAYS: &str = "How many days, from 1 to 60";
 
+/// What they read of a zone rule.
 pub const RULE: &str = "The rule of local time, a POSIX TZ text [default: each day has 24 hours]";
 
+/// What they read of a number of nodes to be kept.
 pub const KEPT: &str =
     "How many road nodes to keep in the core besides those that must be there, from 0 to 16777216 [default: 0]";
 
+/// What they read of the size of a sample city.
 pub const SIZE: &str = "How many rows and columns the city has, from 1 to 300";
 
 const CLAIM: &str = "The certificate file";
@@ -52,12 +62,17 @@ where the words are not those of a command. `modeplan COMMAND --help` says more 
 which version this is, and docs/COMMANDS.md all of it: what is written, and each exit status.";
 
 /// A command with no words yet. `example` is said at the end of its help.
-fn named<'a>(alloc: Global, name: &'a str, about: &'a str, example: &'a str) -> Command<'a> {
+fn named<'a>(alloc: Global, name: &'a str, about: &'a str, example: &'a str) -> Command<'a>
+    ensures { IsTold result (new_app name.entry.now).top }
+{
     Command::new(alloc, name).about(about).after_help(example)
 }
 
 /// A word that must be given. People read of it as `name`.
-fn word<'a>(alloc: Global, id: &'a str, name: &'a str, help: &'a str) -> Arg<'a> {
+fn word<'a>(alloc: Global, id: &'a str, name: &'a str, help: &'a str) -> Arg<'a>
+    ensures rule { rule_of result ≡ word id.entry.now }
+    ensures local { result.global ≡ false }
+{
     Arg::new(alloc, id)
         .value_name(name)
         .help(help)
@@ -66,7 +81,10 @@ fn word<'a>(alloc: Global, id: &'a str, name: &'a str, help: &'a str) -> Arg<'a>
 }
 
 /// An option, which has one value. People read of that as `value`.
-fn option<'a>(alloc: Global, name: &'a str, value: &'a str, help: &'a str) -> Arg<'a> {
+fn option<'a>(alloc: Global, name: &'a str, value: &'a str, help: &'a str) -> Arg<'a>
+    ensures rule { rule_of result ≡ option name.entry.now }
+    ensures local { result.global ≡ false }
+{
     Arg::new(alloc, name)
         .long(name)
         .value_name(value)
@@ -81,7 +99,9 @@ fn with_word<'a>(
     id: &'a str,
     name: &'a str,
     help: &'a str,
-) -> Result<Command<'a>, AllocError> {
+) -> Result<Command<'a>, AllocError>
+    ensures { (s : Shape) → IsTold command.entry s → IfOk result (λ c. IsTold c (record s { rules = s.rules ++ word id.entry.now ∷ [] })) }
+{
     command.arg(word(alloc, id, name, help))
 }
 
@@ -92,28 +112,36 @@ fn with_option<'a>(
     name: &'a str,
     value: &'a str,
     help: &'a str,
-) -> Result<Command<'a>, AllocError> {
+) -> Result<Command<'a>, AllocError>
+    ensures { (s : Shape) → IsTold command.entry s → IfOk result (λ c. IsTold c (record s { rules = s.rules ++ option name.entry.now ∷ [] })) }
+{
     command.arg(option(alloc, name, value, help))
 }
 
-/// A command on a region.
-fn over_region<'a>(
+/// A command on one thing. People read of that as `first`.
+fn over_one<'a>(
     alloc: Global,
     name: &'a str,
     about: &'a str,
     example: &'a str,
-) -> Result<Command<'a>, AllocError> {
+    first: &'a str,
+    help: &'a str,
+) -> Result<Command<'a>, AllocError>
+    ensures { IfOk result (λ c. IsTold c (command_of name.entry.now one [])) }
+{
     with_word(
         alloc,
         named(alloc, name, about, example),
         FIRST,
-        "REGION",
-        REGION,
+        first,
+        help,
     )
 }
 
 /// The command with the option `--hierarchy`.
-fn with_hierarchy<'a>(alloc: Global, command: Command<'a>) -> Result<Command<'a>, AllocError> {
+fn with_hierarchy<'a>(alloc: Global, command: Command<'a>) -> Result<Command<'a>, AllocError>
+    ensures { (name : Text) → IsTold command.entry (command_of name two []) → IfOk result (λ c. IsTold c (command_of name two (codes "hierarchy" ∷ []))) }
+{
     let help =
         "A hierarchy of the region's roads, as `contract` writes it; it is checked before it is used [default: none]";
     with_option(alloc, command, HIERARCHY, "FILE", help)
@@ -127,13 +155,17 @@ fn over_two<'a>(
     example: &'a str,
     second: &'a str,
     help: &'a str,
-) -> Result<Command<'a>, AllocError> {
-    let command = over_region(alloc, name, about, example)?;
+) -> Result<Command<'a>, AllocError>
+    ensures { IfOk result (λ c. IsTold c (command_of name.entry.now two [])) }
+{
+    let command = over_one(alloc, name, about, example, "REGION", REGION)?;
     with_word(alloc, command, SECOND, second, help)
 }
 
 /// The command that compiles a region.
-fn compile<'a>(alloc: Global) -> Result<Command<'a>, AllocError> {
+fn compile<'a>(alloc: Global) -> Result<Command<'a>, AllocError>
+    ensures { IfOk result (λ c. IsTold c (command_of (codes "compile") four (codes "format" ∷ codes "zone" ∷ []))) }
+{
     let about = "Make the region of a map and a timetable feed, over some days";
     let example =
         "Example: modeplan compile town.opl feed 20240304 7 --zone CET-1CEST,M3.5.0,M10.5.0/3 > town";
@@ -159,31 +191,29 @@ fn compile<'a>(alloc: Global) -> Result<Command<'a>, AllocError> {
 }
 
 /// The command that writes a region in another format.
-fn migrate<'a>(alloc: Global) -> Result<Command<'a>, AllocError> {
+fn migrate<'a>(alloc: Global) -> Result<Command<'a>, AllocError>
+    ensures { IfOk result (λ c. IsTold c (command_of (codes "migrate") one (codes "format" ∷ []))) }
+{
     let about = "Write a region anew, in another format";
-    let command = over_region(
-        alloc,
-        "migrate",
-        about,
-        "Example: modeplan migrate town --format 1 > town.txt",
-    )?;
+    let example = "Example: modeplan migrate town --format 1 > town.txt";
+    let command = over_one(alloc, "migrate", about, example, "REGION", REGION)?;
     with_option(alloc, command, FORMAT, "K", FORMAT_2)
 }
 
 /// The command that makes a hierarchy.
-fn contract<'a>(alloc: Global) -> Result<Command<'a>, AllocError> {
+fn contract<'a>(alloc: Global) -> Result<Command<'a>, AllocError>
+    ensures { IfOk result (λ c. IsTold c (command_of (codes "contract") one (codes "keep" ∷ []))) }
+{
     let about = "Make a hierarchy of a region's roads, with which answers come quicker";
-    let command = over_region(
-        alloc,
-        "contract",
-        about,
-        "Example: modeplan contract town --keep 2000 > town.h",
-    )?;
+    let example = "Example: modeplan contract town --keep 2000 > town.h";
+    let command = over_one(alloc, "contract", about, example, "REGION", REGION)?;
     with_option(alloc, command, KEEP, "N", KEPT)
 }
 
 /// The command that checks a hierarchy.
-fn check<'a>(alloc: Global) -> Result<Command<'a>, AllocError> {
+fn check<'a>(alloc: Global) -> Result<Command<'a>, AllocError>
+    ensures { IfOk result (λ c. IsTold c (command_of (codes "check") two [])) }
+{
     let about = "Check that a hierarchy is sound for a region";
     over_two(
         alloc,
@@ -196,14 +226,24 @@ fn check<'a>(alloc: Global) -> Result<Command<'a>, AllocError> {
 }
 
 /// The command that makes a sample city.
-fn sample<'a>(alloc: Global) -> Result<Command<'a>, AllocError> {
+fn sample<'a>(alloc: Global) -> Result<Command<'a>, AllocError>
+    ensures { IfOk result (λ c. IsTold c (command_of (codes "sample") one [])) }
+{
     let about = "Make a sample city, answer fifty queries in it, and print a summary";
-    let command = named(alloc, "sample", about, "Example: modeplan sample 7");
-    with_word(alloc, command, FIRST, "N", SIZE)
+    over_one(
+        alloc,
+        "sample",
+        about,
+        "Example: modeplan sample 7",
+        "N",
+        SIZE,
+    )
 }
 
 /// The command that answers query lines.
-fn answer<'a>(alloc: Global) -> Result<Command<'a>, AllocError> {
+fn answer<'a>(alloc: Global) -> Result<Command<'a>, AllocError>
+    ensures { IfOk result (λ c. IsTold c (command_of (codes "answer") two (codes "hierarchy" ∷ []))) }
+{
     let about = "Find a best journey for each query line of a file";
     let example = "Example: modeplan answer town queries --hierarchy town.h > journeys";
     with_hierarchy(
@@ -213,7 +253,9 @@ fn answer<'a>(alloc: Global) -> Result<Command<'a>, AllocError> {
 }
 
 /// The command that writes a certificate.
-fn certify<'a>(alloc: Global) -> Result<Command<'a>, AllocError> {
+fn certify<'a>(alloc: Global) -> Result<Command<'a>, AllocError>
+    ensures { IfOk result (λ c. IsTold c (command_of (codes "certify") two (codes "hierarchy" ∷ []))) }
+{
     let about = "Print a certificate of a best journey for a query line";
     let example =
         "Example: modeplan certify town \"n101 n103 20240304 08:00:00 foot (transit foot)*\" > claim";
@@ -224,7 +266,9 @@ fn certify<'a>(alloc: Global) -> Result<Command<'a>, AllocError> {
 }
 
 /// The command that checks a certificate.
-fn verify<'a>(alloc: Global) -> Result<Command<'a>, AllocError> {
+fn verify<'a>(alloc: Global) -> Result<Command<'a>, AllocError>
+    ensures { IfOk result (λ c. IsTold c (command_of (codes "verify") two (codes "hierarchy" ∷ []))) }
+{
     let about = "Check a certificate, and print the journey that it proves best";
     with_hierarchy(
         alloc,
@@ -240,7 +284,9 @@ fn verify<'a>(alloc: Global) -> Result<Command<'a>, AllocError> {
 }
 
 /// The command that finds the earliest arrival by the number of rides.
-fn few<'a>(alloc: Global) -> Result<Command<'a>, AllocError> {
+fn few<'a>(alloc: Global) -> Result<Command<'a>, AllocError>
+    ensures { IfOk result (λ c. IsTold c (command_of (codes "few") two [])) }
+{
     let about =
         "Find, for each query line, the journeys that more rides, up to 8, make arrive earlier";
     over_two(
@@ -254,7 +300,9 @@ fn few<'a>(alloc: Global) -> Result<Command<'a>, AllocError> {
 }
 
 /// The command that finds the latest departures of query lines.
-fn latest<'a>(alloc: Global) -> Result<Command<'a>, AllocError> {
+fn latest<'a>(alloc: Global) -> Result<Command<'a>, AllocError>
+    ensures { IfOk result (λ c. IsTold c (command_of (codes "latest") two [])) }
+{
     let about =
         "Find the latest departure for each query line, whose date and time are the latest arrival";
     over_two(
@@ -268,7 +316,9 @@ fn latest<'a>(alloc: Global) -> Result<Command<'a>, AllocError> {
 }
 
 /// The command that writes a certificate of a latest departure.
-fn certify_latest<'a>(alloc: Global) -> Result<Command<'a>, AllocError> {
+fn certify_latest<'a>(alloc: Global) -> Result<Command<'a>, AllocError>
+    ensures { IfOk result (λ c. IsTold c (command_of (codes "certify-latest") two [])) }
+{
     let about = "Print a certificate of the latest departure for a query line";
     let example =
         "Example: modeplan certify-latest town \"n101 n103 20240304 09:00:00 foot (transit foot)*\" > claim";
@@ -276,7 +326,9 @@ fn certify_latest<'a>(alloc: Global) -> Result<Command<'a>, AllocError> {
 }
 
 /// The command that checks a certificate of a latest departure.
-fn verify_latest<'a>(alloc: Global) -> Result<Command<'a>, AllocError> {
+fn verify_latest<'a>(alloc: Global) -> Result<Command<'a>, AllocError>
+    ensures { IfOk result (λ c. IsTold c (command_of (codes "verify-latest") two [])) }
+{
     let about = "Check a certificate of a latest departure, and print its journey";
     over_two(
         alloc,
@@ -289,45 +341,61 @@ fn verify_latest<'a>(alloc: Global) -> Result<Command<'a>, AllocError> {
 }
 
 /// The program with one more command.
-fn with_command<'a>(program: Command<'a>, command: Command<'a>) -> Result<Command<'a>, AllocError> {
+fn with_command<'a>(program: Command<'a>, command: Command<'a>) -> Result<Command<'a>, AllocError>
+    ensures { (s : Shape) → IsTold command.entry s → IfOk result (λ p. app_of p ≡ with_subcommand (app_of program.entry) s) }
+{
     program.subcommand(command)
 }
 
 /// The program with the commands that work on a map, a region as a whole, or a sample.
-fn with_region_commands<'a>(
-    alloc: Global,
-    program: Command<'a>,
-) -> Result<Command<'a>, AllocError> {
-    let program = with_command(program, compile(alloc)?)?;
-    let program = with_command(program, migrate(alloc)?)?;
-    let program = with_command(program, contract(alloc)?)?;
-    let program = with_command(program, check(alloc)?)?;
-    with_command(program, sample(alloc)?)
+fn with_region_commands<'a>(alloc: Global, program: Command<'a>) -> Result<Command<'a>, AllocError>
+    ensures { IfOk result (λ p. app_of p ≡ fold with_subcommand (app_of program.entry) region_commands) }
+{
+    let compile = compile(alloc)?;
+    let program = with_command(program, compile)?;
+    let migrate = migrate(alloc)?;
+    let program = with_command(program, migrate)?;
+    let contract = contract(alloc)?;
+    let program = with_command(program, contract)?;
+    let check = check(alloc)?;
+    let program = with_command(program, check)?;
+    let sample = sample(alloc)?;
+    with_command(program, sample)
 }
 
 /// The program with the commands that ask for journeys that arrive earliest.
 fn with_earliest_commands<'a>(
     alloc: Global,
     program: Command<'a>,
-) -> Result<Command<'a>, AllocError> {
-    let program = with_command(program, answer(alloc)?)?;
-    let program = with_command(program, certify(alloc)?)?;
-    let program = with_command(program, verify(alloc)?)?;
-    with_command(program, few(alloc)?)
+) -> Result<Command<'a>, AllocError>
+    ensures { IfOk result (λ p. app_of p ≡ fold with_subcommand (app_of program.entry) earliest_commands) }
+{
+    let answer = answer(alloc)?;
+    let program = with_command(program, answer)?;
+    let certify = certify(alloc)?;
+    let program = with_command(program, certify)?;
+    let verify = verify(alloc)?;
+    let program = with_command(program, verify)?;
+    let few = few(alloc)?;
+    with_command(program, few)
 }
 
 /// The program with the commands that ask for journeys that depart latest.
-fn with_latest_commands<'a>(
-    alloc: Global,
-    program: Command<'a>,
-) -> Result<Command<'a>, AllocError> {
-    let program = with_command(program, latest(alloc)?)?;
-    let program = with_command(program, certify_latest(alloc)?)?;
-    with_command(program, verify_latest(alloc)?)
+fn with_latest_commands<'a>(alloc: Global, program: Command<'a>) -> Result<Command<'a>, AllocError>
+    ensures { IfOk result (λ p. app_of p ≡ fold with_subcommand (app_of program.entry) latest_commands) }
+{
+    let latest = latest(alloc)?;
+    let program = with_command(program, latest)?;
+    let certify_latest = certify_latest(alloc)?;
+    let program = with_command(program, certify_latest)?;
+    let verify_latest = verify_latest(alloc)?;
+    with_command(program, verify_latest)
 }
 
 /// The program.
-pub fn modeplan<'a>(alloc: Global) -> Result<Command<'a>, AllocError> {
+pub fn modeplan<'a>(alloc: Global) -> Result<Command<'a>, AllocError>
+    ensures { IfOk result (λ p. app_of p ≡ modeplan) }
+{
     let about =
         "Plans journeys from door to door, by a regular expression over the means of transport";
     let program = named(alloc, "modeplan", about, MORE).bin_name("modeplan")?;

@@ -1,0 +1,3 @@
+pub mod WordSteps
+pub mod PlainLemmas
+pub mod NameLemmas

@@ -1,0 +1,6 @@
+use Rattle.std.proofs.Common.{[]}
+use Rattle.command_line.specs.Description.{command_of, one}
+use Rattle.command_line.proofs.description.over_two.Goals as goal
+
+pub returns : goal.returns
+returns c = c.with_word.ensures (command_of c.args.name.now one []) c.in_ok-command.ensures

@@ -1,0 +1,63 @@
+-- The program as `clap` is told of it: its commands, and the words and options of each.
+use Rattle.std.specs.Prelude.{◌≡◌, true, false, List, [], ◌∷◌, ◌++◌, fold, map, Some, codes}
+use Rattle.clap.specs.Words.{App, Rule, Shape, Text, app_of, new_app, new_rule, with_subcommand}
+use Rattle.clap.specs.declared.builder.action.ArgAction.TheVariants.{Set}
+use Rattle.clap.specs.declared.builder.command.Command.{Command}
+use Rattle.clap.specs.declared.builder.command.Command.TheViews.{out-Command as fields_of}
+
+-- a word that must be given
+abbrev pub word : Text → Rule
+word id = record (new_rule id) { action = Some Set; value_names = 1; required = true }
+
+-- an option with one value
+abbrev pub option : Text → Rule
+option name = record (new_rule name) { long = Some name; action = Some Set; value_names = 1 }
+
+-- a command with these words, in this order, and these options
+abbrev pub command_of : Text → List Text → List Text → Shape
+command_of name words options = record (new_app name).top { rules = map word words ++ map option options }
+
+-- one word; two; four
+abbrev pub one : List Text
+one = codes "first" ∷ []
+
+abbrev pub two : List Text
+two = codes "first" ∷ codes "second" ∷ []
+
+abbrev pub four : List Text
+four = codes "first" ∷ codes "second" ∷ codes "third" ∷ codes "fourth" ∷ []
+
+-- the commands that work on a map, a region as a whole, or a sample
+abbrev pub region_commands : List Shape
+region_commands =
+    command_of (codes "compile") four (codes "format" ∷ codes "zone" ∷ [])
+    ∷ command_of (codes "migrate") one (codes "format" ∷ [])
+    ∷ command_of (codes "contract") one (codes "keep" ∷ [])
+    ∷ command_of (codes "check") two []
+    ∷ command_of (codes "sample") one []
+    ∷ []
+
+-- the commands that ask for journeys that arrive earliest
+abbrev pub earliest_commands : List Shape
+earliest_commands =
+    command_of (codes "answer") two (codes "hierarchy" ∷ [])
+    ∷ command_of (codes "certify") two (codes "hierarchy" ∷ [])
+    ∷ command_of (codes "verify") two (codes "hierarchy" ∷ [])
+    ∷ command_of (codes "few") two []
+    ∷ []
+
+-- the commands that ask for journeys that depart latest
+abbrev pub latest_commands : List Shape
+latest_commands =
+    command_of (codes "latest") two []
+    ∷ command_of (codes "certify-latest") two []
+    ∷ command_of (codes "verify-latest") two []
+    ∷ []
+
+-- the program, with these commands
+abbrev pub modeplan : App
+modeplan = fold with_subcommand (new_app (codes "modeplan")) (region_commands ++ earliest_commands ++ latest_commands)
+
+-- what `clap` is told of is this command, which has no command below it
+abbrev pub IsTold : Command → Shape → Type 0
+IsTold c s = (app_of c ≡ record { top = s; subs = [] }) × ((fields_of c).has_globals ≡ false)

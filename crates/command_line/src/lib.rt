@@ -1,0 +1,11 @@
+//! The command line of `modeplan`, as `clap` and people are told of it: its commands, and the words and options of each.
+#![tactic(auto)]
+
+mod description;
+mod matching;
+
+pub use description::{
+    DATE, DAYS, FIRST, FORMAT, FOURTH, HIERARCHY, KEEP, KEPT, RULE, SECOND, SIZE, THIRD, ZONE,
+    modeplan,
+};
+pub use matching::match_words;

@@ -1,0 +1,195 @@
+//! The command that is asked for by what `clap` found.
+
+ghost use Rattle.std.specs.Prelude.{◌≡◌, Err, IfOk, None, Some, option_map};
+ghost use Rattle.clap.specs.Words.{first_of, found_of, rows_of};
+ghost use Rattle.command_words.specs.Requests.{answer_at, certify_at, certify_latest_at, check_at, compile_at, contract_at, days_and_format_at, few_at, latest_at, migrate_at, request_at, request_of, sample_at, two_at, verify_at, verify_latest_at};
+ghost use Rattle.command_words.specs.declared.fault.WordsFault.TheVariants.{Refused};
+
+use crate::command::Command;
+use crate::fault::WordsFault;
+use crate::values::{days_of, format_or, keep_or_none, read_size};
+use clap::ArgMatches;
+use command_line::{FIRST, FORMAT, FOURTH, HIERARCHY, KEEP, SECOND, THIRD, ZONE};
+use region_file::Format;
+use service_days::Days;
+use std::alloc::Global;
+
+/// The command of this name, by what was found for its words and options; refused exactly where it asks for nothing.
+pub fn named<'a>(
+    alloc: Global,
+    name: &str,
+    given: &ArgMatches<'a>,
+) -> Result<Command<'a>, WordsFault>
+    ensures ok { IfOk result (λ command. request_at name.now (rows_of (found_of given.now)) ≡ Some (request_of command)) }
+    ensures refused { result ≡ Err Refused → request_at name.now (rows_of (found_of given.now)) ≡ None }
+{
+    match name {
+        "compile" => compile(alloc, given),
+        "migrate" => migrate(given).ok_or(WordsFault::Refused),
+        "contract" => contract(given).ok_or(WordsFault::Refused),
+        "check" => check(given).ok_or(WordsFault::Refused),
+        "sample" => sample(given).ok_or(WordsFault::Refused),
+        "answer" => answer(given).ok_or(WordsFault::Refused),
+        "certify" => certify(given).ok_or(WordsFault::Refused),
+        "verify" => verify(given).ok_or(WordsFault::Refused),
+        "few" => few(given).ok_or(WordsFault::Refused),
+        "latest" => latest(given).ok_or(WordsFault::Refused),
+        "certify-latest" => certify_latest(given).ok_or(WordsFault::Refused),
+        "verify-latest" => verify_latest(given).ok_or(WordsFault::Refused),
+        _ => Err(WordsFault::Refused),
+    }
+}
+
+/// What was found for a word or an option.
+fn said<'a>(given: &ArgMatches<'a>, id: &str) -> Option<&'a str>
+    ensures { option_map (λ word. word.now) result ≡ first_of id.now (rows_of (found_of given.now)) }
+{
+    given.get_str(id)
+}
+
+/// Two words.
+fn two<'a>(given: &ArgMatches<'a>) -> Option<(&'a str, &'a str)>
+    ensures { option_map (λ it. (it.0.now, it.1.now)) result ≡ two_at (rows_of (found_of given.now)) }
+{
+    let first = said(given, FIRST)?;
+    let second = said(given, SECOND)?;
+    Some((first, second))
+}
+
+/// A map and a feed, to be compiled.
+fn compile<'a>(alloc: Global, given: &ArgMatches<'a>) -> Result<Command<'a>, WordsFault>
+    ensures ok { IfOk result (λ command. compile_at (rows_of (found_of given.now)) ≡ Some (request_of command)) }
+    ensures refused { result ≡ Err Refused → compile_at (rows_of (found_of given.now)) ≡ None }
+{
+    let Some((map, feed)) = two(given) else {
+        return Err(WordsFault::Refused);
+    };
+    let (days, format) = days_and_format(alloc, given)?;
+    Ok(Command::Compile {
+        map,
+        feed,
+        days,
+        format,
+    })
+}
+
+/// The days and the format of a region to be compiled.
+fn days_and_format(alloc: Global, given: &ArgMatches<'_>) -> Result<(Days, Format), WordsFault>
+    ensures ok { IfOk result (λ it. days_and_format_at (rows_of (found_of given.now)) ≡ Some (it.0, it.1)) }
+    ensures refused { result ≡ Err Refused → days_and_format_at (rows_of (found_of given.now)) ≡ None }
+{
+    let (Some(date), Some(count)) = (said(given, THIRD), said(given, FOURTH)) else {
+        return Err(WordsFault::Refused);
+    };
+    let Some(format) = format_or(Format::Text, said(given, FORMAT)) else {
+        return Err(WordsFault::Refused);
+    };
+    let days = days_of(alloc, date.as_bytes(), count.as_bytes(), said(given, ZONE))?;
+    Ok((days, format))
+}
+
+/// A region, to be written in another format.
+fn migrate<'a>(given: &ArgMatches<'a>) -> Option<Command<'a>>
+    ensures { option_map request_of result ≡ migrate_at (rows_of (found_of given.now)) }
+{
+    let region = said(given, FIRST)?;
+    let format = format_or(Format::Binary, said(given, FORMAT))?;
+    Some(Command::Migrate { region, format })
+}
+
+/// A region, of which a hierarchy is to be made.
+fn contract<'a>(given: &ArgMatches<'a>) -> Option<Command<'a>>
+    ensures { option_map request_of result ≡ contract_at (rows_of (found_of given.now)) }
+{
+    let region = said(given, FIRST)?;
+    let keep = keep_or_none(said(given, KEEP))?;
+    Some(Command::Contract { region, keep })
+}
+
+/// A hierarchy, to be checked.
+fn check<'a>(given: &ArgMatches<'a>) -> Option<Command<'a>>
+    ensures { option_map request_of result ≡ check_at (rows_of (found_of given.now)) }
+{
+    let (region, hierarchy) = two(given)?;
+    Some(Command::Check { region, hierarchy })
+}
+
+/// A sample city, to be made.
+fn sample<'a>(given: &ArgMatches<'a>) -> Option<Command<'a>>
+    ensures { option_map request_of result ≡ sample_at (rows_of (found_of given.now)) }
+{
+    let word = said(given, FIRST)?;
+    let size = read_size(word.as_bytes())?;
+    Some(Command::Sample { size })
+}
+
+/// Query lines, to be answered.
+fn answer<'a>(given: &ArgMatches<'a>) -> Option<Command<'a>>
+    ensures { option_map request_of result ≡ answer_at (rows_of (found_of given.now)) }
+{
+    let (region, queries) = two(given)?;
+    Some(Command::Answer {
+        region,
+        queries,
+        hierarchy: said(given, HIERARCHY),
+    })
+}
+
+/// A query line, to be certified.
+fn certify<'a>(given: &ArgMatches<'a>) -> Option<Command<'a>>
+    ensures { option_map request_of result ≡ certify_at (rows_of (found_of given.now)) }
+{
+    let (region, query) = two(given)?;
+    Some(Command::Certify {
+        region,
+        query,
+        hierarchy: said(given, HIERARCHY),
+    })
+}
+
+/// A certificate, to be checked.
+fn verify<'a>(given: &ArgMatches<'a>) -> Option<Command<'a>>
+    ensures { option_map request_of result ≡ verify_at (rows_of (found_of given.now)) }
+{
+    let (region, certificate) = two(given)?;
+    Some(Command::Verify {
+        region,
+        certificate,
+        hierarchy: said(given, HIERARCHY),
+    })
+}
+
+/// Query lines, to be answered by the number of boardings.
+fn few<'a>(given: &ArgMatches<'a>) -> Option<Command<'a>>
+    ensures { option_map request_of result ≡ few_at (rows_of (found_of given.now)) }
+{
+    let (region, queries) = two(given)?;
+    Some(Command::Few { region, queries })
+}
+
+/// Query lines, to be answered with the latest departure.
+fn latest<'a>(given: &ArgMatches<'a>) -> Option<Command<'a>>
+    ensures { option_map request_of result ≡ latest_at (rows_of (found_of given.now)) }
+{
+    let (region, queries) = two(given)?;
+    Some(Command::Latest { region, queries })
+}
+
+/// A query line, whose latest departure is to be certified.
+fn certify_latest<'a>(given: &ArgMatches<'a>) -> Option<Command<'a>>
+    ensures { option_map request_of result ≡ certify_latest_at (rows_of (found_of given.now)) }
+{
+    let (region, query) = two(given)?;
+    Some(Command::CertifyLatest { region, query })
+}
+
+/// A certificate of a latest departure, to be checked.
+fn verify_latest<'a>(given: &ArgMatches<'a>) -> Option<Command<'a>>
+    ensures { option_map request_of result ≡ verify_latest_at (rows_of (found_of given.now)) }
+{
+    let (region, certificate) = two(given)?;
+    Some(Command::VerifyLatest {
+        region,
+        certificate,
+    })
+}

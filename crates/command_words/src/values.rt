@@ -1,0 +1,106 @@
+//! The values that words spell: formats, days and numbers.
+
+ghost use Rattle.std.specs.Prelude.{◌≡◌, Err, IfOk, None, Some, option_map};
+ghost use Rattle.command_words.specs.Requests.{date_of, days_of, format_of, format_or, keep_of, keep_or_none, number_of, size_of};
+ghost use Rattle.command_words.specs.declared.fault.WordsFault.TheVariants.{Refused};
+
+use crate::fault::WordsFault;
+use plain_texts::read_fixed;
+use region_file::Format;
+use service_days::{Days, RangeFault};
+use std::alloc::Global;
+
+/// The format of this number.
+pub fn format_of(word: &[u8]) -> Option<Format>
+    ensures { result ≡ format_of word.now }
+{
+    match word {
+        b"1" => Some(Format::Text),
+        b"2" => Some(Format::Binary),
+        _ => None,
+    }
+}
+
+/// The format that an option says, or this one where none does.
+pub fn format_or(other: Format, word: Option<&str>) -> Option<Format>
+    ensures { result ≡ format_or other (option_map (λ w. w.now) word.entry) }
+{
+    match word {
+        Some(word) => format_of(word.as_bytes()),
+        None => Some(other),
+    }
+}
+
+/// The days of a date, a count and a zone rule; refused exactly where they give none.
+pub fn days_of(
+    alloc: Global,
+    date: &[u8],
+    count: &[u8],
+    rule: Option<&str>,
+) -> Result<Days, WordsFault>
+    ensures ok { IfOk result (λ days. days_of date.now count.now (option_map (λ r. r.now) rule.entry) ≡ Some days) }
+    ensures refused { result ≡ Err Refused → days_of date.now count.now (option_map (λ r. r.now) rule.entry) ≡ None }
+{
+    let (Some(first), Some(count)) = (read_eight(date), read_number(count)) else {
+        return Err(WordsFault::Refused);
+    };
+    let made = match rule {
+        Some(rule) => Days::in_zone(alloc, first, count, rule.as_bytes()),
+        None => Days::new(alloc, first, count),
+    };
+    match made {
+        Ok(days) => Ok(days),
+        Err(RangeFault::OutOfMemory) => Err(WordsFault::OutOfMemory),
+        Err(_) => Err(WordsFault::Refused),
+    }
+}
+
+/// How many nodes are to be kept, as an option says, or none where none does.
+pub fn keep_or_none(word: Option<&str>) -> Option<u32>
+    ensures { result ≡ keep_or_none (option_map (λ w. w.now) word.entry) }
+{
+    match word {
+        Some(word) => read_keep(word.as_bytes()),
+        None => Some(0),
+    }
+}
+
+/// How many nodes are to be kept, as a word says; None exactly where it is no number up to 16,777,216.
+pub fn read_keep(word: &[u8]) -> Option<u32>
+    ensures { result ≡ keep_of word.now }
+{
+    let keep = read_number(word)?;
+    if keep <= 16_777_216 { Some(keep) } else { None }
+}
+
+/// The size of a sample city, as a word says; None exactly where it is no number from 1 to 300.
+pub fn read_size(word: &[u8]) -> Option<u32>
+    ensures { result ≡ size_of word.now }
+{
+    let size = read_number(word)?;
+    if (1..=300).contains(&size) {
+        Some(size)
+    } else {
+        None
+    }
+}
+
+/// A number of 1 to 8 digits.
+pub fn read_number(word: &[u8]) -> Option<u32>
+    ensures { result ≡ number_of word.now }
+{
+    if word.is_empty() || word.len() > 8 {
+        return None;
+    }
+    read_fixed(word)
+}
+
+/// The number that a date of 8 digits is.
+pub fn read_eight(word: &[u8]) -> Option<u32>
+    ensures { result ≡ date_of word.now }
+{
+    if word.len() != 8 {
+        return None;
+    }
+    read_fixed(word)
+}
