@@ -17,7 +17,7 @@ use Rattle.mode_network.specs.Rules.{IsNetwork}
 use Rattle.mode_network.specs.Timetables.{IsTimetableOf}
 use Rattle.mode_network.proofs.IndexLemmas.{range_is_range}
 use Rattle.hierarchy.specs.Lists.{HierarchyLists}
-use Rattle.plain_graph.specs.PlainArcs.{plain_meaning, count_from, inner_arcs_at, rides_from, graph_arc, arrival}
+use Rattle.plain_graph.specs.PlainArcs.{plain_meaning, count_from, inner_arcs_at, rides_from_stop, graph_arc, arrival}
 use Rattle.plain_graph.specs.Lawful.{plain_lawful}
 use Rattle.plain_graph.specs.declared.plain.PlainArc.{PlainArc}
 use Rattle.plain_graph.proofs.PlaceTies.{stand_at}
@@ -261,7 +261,7 @@ module _ (f : Way → Way) (old : List Way) (b : ℕ) where
 
 -- ---- how many there are
 
-few_rides : (t : TableLists) → IsTable t → (o : Option ℕ) → length (rides_from t o) < 2 ^ 63
+few_rides : (t : TableLists) → IsTable t → (o : Option ℕ) → length (rides_from_stop t o) < 2 ^ 63
 few_rides t table None = omega arith
 few_rides t table (Some stop) = rides_few t table stop
 
