@@ -21,12 +21,12 @@ use Rattle.mode_network.proofs.RuleLemmas.{some_is, both}
 use Rattle.hierarchy.specs.declared.entry.Entry.{Entry}
 use Rattle.hierarchy.specs.declared.rises.Rise.{Rise}
 use Rattle.hierarchy.specs.Hops.{Hop}
-use Rattle.hierarchy.specs.Lists.{HierarchyLists, height_in, is_above, IsAbove, IsContracted, IsCore}
+use Rattle.hierarchy.specs.Lists.{HierarchyLists, height_in, is_above, IsAbove, IsCore}
 use Rattle.hierarchy.specs.Rules.{IsHierarchy}
 use Rattle.hierarchy.specs.Rises.{is_rise, is_core, leads_up, rises_of}
 use Rattle.hierarchy.specs.Soundness.{HasEntry, IsSound}
 use Rattle.hierarchy.specs.Lookups.{from_of}
-use Rattle.hierarchy.proofs.HeightLemmas.{height_most}
+use Rattle.hierarchy.specs.Indexes.{AreEndsBelow}
 use Rattle.hierarchy.proofs.LookupLemmas.{from_rises}
 use Rattle.hierarchy.proofs.RiseLists.{are_rises_from}
 use Rattle.hierarchy.proofs.SoundLemmas.{fits}
@@ -45,6 +45,7 @@ use Rattle.phase_graph.specs.Arcs.{phase_node, IsRest, IsArcBy, IsArcOfMove, IsP
 use Rattle.phase_graph.specs.Marks.{AreMarksFor, has_mark, is_fall}
 use Rattle.phase_graph.specs.PhaseArcs.{phase_meaning, phase_arc, phase_arcs_at, arc_of, arrival_of, entry_at, rises_at, first_entry, entries_at, others_at, first_other, no_rise, no_entry}
 use Rattle.phase_graph.proofs.GraphLemmas.{half, phase_of, in_nodes, road_inside, IsArcAt, arc_is, taken, place_fits}
+use Rattle.phase_graph.proofs.MarkLemmas.{marked_by_fall}
 use Rattle.phase_graph.proofs.PlaceLemmas.{up_is, down_is, other_is}
 use Rattle.phase_graph.proofs.JourneyLemmas.{link_leaves_core, stop_is_core}
 
@@ -125,8 +126,9 @@ module _ (n : NetworkLists) (h : HierarchyLists) (targets : List ℕ) (network :
       let to = (entry_at h place).to in
       let weight = (entry_at h place).weight in
       let fell = taken (is_fall h marks (entry_at h place)) (time + weight) u e in
-      let tests = both (has_mark marks to) (is_above h.order (entry_at h place).from to) fell.0 in
-      let lower : IsAbove h.order v to = subst (λ x. IsAbove h.order x to) from (ltb-true _ _ tests.1) in
+      let tests = both (has_mark marks to) (has_mark marks (entry_at h place).from && is_above h.order (entry_at h place).from to) fell.0 in
+      let above = both (has_mark marks (entry_at h place).from) (is_above h.order (entry_at h place).from to) tests.1 in
+      let lower : IsAbove h.order v to = subst (λ x. IsAbove h.order x to) from (ltb-true _ _ above.1) in
       record {
         move = fall (record { to = to; weight = weight });
         to = to;
@@ -263,8 +265,8 @@ module _ (n : NetworkLists) (h : HierarchyLists) (targets : List ℕ) (network :
       let back : first_entry h v + i ≡ k = omega (arith, range.0) in
       let within : i < entries_at h v = omega (arith, range.0, range.1) in
       let entry : entry_at h k ≡ e = get_or_default h.entries k no_entry e lt ∙ is in
-      let low : IsContracted h.order hop.to = let most = height_most h.order v in omega (arith, above, most) in
-      let fell : is_fall h marks e ≡ true = rw (are.all hop.to low marked, lt-ltb _ _ above) refl in
+      let ends = subst (AreEndsBelow (length marks)) is (are.long.entries k e lt) in
+      let fell : is_fall h marks e ≡ true = rw (are.all hop.to ends.1 marked, are.all v ends.0 (marked_by_fall h targets k e lt is above marked), lt-ltb _ _ above) refl in
       arc_there v down time (length (rises_at h v down) + i) (phase_node hop.to true) (time + hop.weight) (time + hop.weight) (mode_at n.roads v) (Down k) (entry_node v hop.to hop.weight (via, (k, lt, is)))
       (omega (arith, within)) (down_is n h v down i k within back)
       (ap (λ (x : Entry). cond (is_fall h marks x) (Some (time + x.weight)) None) entry ∙ ap (λ b. cond b (Some (time + hop.weight)) None) fell)

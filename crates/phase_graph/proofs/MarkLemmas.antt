@@ -1,34 +1,23 @@
 -- How marks are set, and that the marked nodes are all from which a chain of entries leads down to a target.
-use Rattle.std.proofs.Common.{◌≡◌, ℕ, ◌+◌, ◌<◌, ◌≤◌, ◌⊎◌, inl, inr, ◌∙◌, nat_eq, nat_lt, cond, Some, Bool, true, false, not, List, [], ◌∷◌, ◌++◌, length, set, get_or, refl, ap, arith, sym, subst}
+use Rattle.std.proofs.Common.{◌≡◌, ℕ, ◌+◌, ◌<◌, ◌≤◌, ◌⊎◌, inl, inr, ◌∙◌, nat_eq, cond, Some, Bool, true, false, not, List, [], ◌∷◌, ◌++◌, length, set, get_or, refl, ap, arith, sym, subst}
 use Rattle.std.specs.Prelude.{All, Contains}
-use Rattle.std.proofs.lemmas.Bool.{eqb-true, eqb-false, ltb-true, ltb-false}
+use Rattle.std.proofs.lemmas.Bool.{eqb-true, eqb-false, ltb-false}
 use Rattle.std.proofs.lemmas.List.{length_push, get_or_default, get_or-set_same, get_or-set_other, length-set}
 use Rattle.std.proofs.lemmas.List.Elements.{Contains-append_left, Contains-append_right, Contains-append_cases, All-contains}
 use Rattle.std.proofs.lemmas.List.Sums.{sum_by-set}
 use Rattle.hierarchy.specs.declared.entry.Entry.{Entry}
 use Rattle.hierarchy.specs.Hops.{Hop, AreHops, IsDescent}
-use Rattle.hierarchy.specs.Lists.{HierarchyLists, height_in, is_contracted, IsContracted, IsAbove}
+use Rattle.hierarchy.specs.Lists.{HierarchyLists, height_in, is_contracted, IsAbove}
 use Rattle.hierarchy.specs.Soundness.{HasEntry}
 use Rattle.std.proofs.lemmas.Option.{slice_get-get_or}
-use Rattle.hierarchy.specs.Indexes.{AreBelow}
+use Rattle.hierarchy.specs.Indexes.{AreBelow, AreEndsBelow}
 use Rattle.hierarchy.specs.Lookups.{AreInto}
-use Rattle.hierarchy.proofs.HeightLemmas.{height_past}
+use Rattle.hierarchy.proofs.HeightLemmas.{height_most}
 use Rattle.phase_graph.specs.Moves.{IsMarked}
 use Rattle.phase_graph.specs.Marks.{AreMarksFor}
 use Rattle.phase_graph.specs.Marking.{AreMarks, IsMarking, Extends, AreOldOr, IsFollowedAt, IsFollowed}
 
 -- ---- one mark
-
--- a contracted node is below the number of nodes
-pub inside : (h : HierarchyLists) (nodes v : ℕ) → AreBelow h nodes → is_contracted h.order v ≡ true → v < nodes
-inside h nodes v below is = by_test (nat_lt v nodes) refl
-  where
-    by_test : (b : Bool) → nat_lt v nodes ≡ b → v < nodes
-    by_test true e = ltb-true _ _ e
-    by_test false e =
-        let past = height_past h.order v nodes below.order (ltb-false _ _ e) in
-        let low = ltb-true _ _ is in
-        absurd (omega (arith, past, low))
 
 last : (queue : List ℕ) (v : ℕ) → Contains (queue ++ v ∷ []) v
 last queue v = Contains-append_right queue (v ∷ []) v (0, omega arith, refl)
@@ -58,9 +47,6 @@ marked_more nodes v marks queue are low unset = record {
   by_origin u true e origin = subst (λ w. get_or (set marks v true) w false ≡ true) (sym (eqb-true u v e)) here
   by_origin u false e (inl before) = get_or-set_other marks v u true false (eqb-false u v e) ∙ are.set u before
   by_origin u false e (inr (i, lt, is)) = absurd (eqb-false u v e (sym is ∙ only i u lt))
-
-pub not_contracted : (order : List ℕ) (v : ℕ) → is_contracted order v ≡ false → IsContracted order v → ⊥
-not_contracted order v is low = let high = ltb-false _ _ is in absurd (omega (arith, low, high))
 
 -- ---- all that a marked node leads from
 
@@ -93,31 +79,34 @@ marked_by_fall h targets k e lt is above marked = record {
   falls = (above, marked.falls);
 }
 
--- where all in the list are followed and the contracted targets are in it, each contracted node that is marked is in it
-module _ (h : HierarchyLists) (targets queue : List ℕ) (followed : (x : ℕ) → Contains queue x → IsFollowed h queue x)
-    (started : (v : ℕ) → Contains targets v → IsContracted h.order v → Contains queue v) where
-  by_chain : (hops : List Hop) (v end : ℕ) → Contains targets end → AreHops (HasEntry h.entries) v hops end → IsDescent (height_in h.order) v hops → IsContracted h.order v → Contains queue v
+-- where all in the list are followed and the targets are in it, each node that is marked is in it
+module _ (h : HierarchyLists) (targets queue : List ℕ) (nodes : ℕ) (below : AreBelow h nodes) (followed : (x : ℕ) → Contains queue x → IsFollowed h queue x)
+    (started : (v : ℕ) → Contains targets v → v < nodes → Contains queue v) where
+  by_chain : (hops : List Hop) (v end : ℕ) → Contains targets end → AreHops (HasEntry h.entries) v hops end → IsDescent (height_in h.order) v hops → v < nodes → Contains queue v
   by_chain [] v end target same down low = started v (subst (Contains targets) same target) low
   by_chain (hop ∷ hops) v end target ((via, (k, lt, is)), chain) (down, more) low =
       let entry : Entry = record { from = v; to = hop.to; weight = hop.weight; via = via } in
-      let next = by_chain hops hop.to end target chain more (omega (arith, down, low)) in
-      followed hop.to next k entry lt is refl down low
-
-  marked_listed : (v : ℕ) → IsMarked h targets v → IsContracted h.order v → Contains queue v
-  marked_listed v m low = by_chain m.hops v m.end m.ends_there m.chain m.falls low
+      let ends = subst (AreEndsBelow nodes) is (below.entries k entry lt) in
+      let next = by_chain hops hop.to end target chain more ends.1 in
+      followed hop.to next k entry lt is refl down
 
   -- so the marks are those for the targets
-  pub are_marks : (nodes : ℕ) (marks : List Bool) → IsMarking h targets nodes marks queue → AreMarksFor h targets marks
-  are_marks nodes marks far = record {
+  pub are_marks : (marks : List Bool) → IsMarking h targets nodes marks queue → AreMarksFor h targets marks
+  are_marks marks far = record {
+    long = subst (AreBelow h) (sym far.are.one_each) below;
     each = λ v is. All-contains (IsMarked h targets) queue v far.each (far.are.listed v is);
-    all = λ v low marked. far.are.set v (marked_listed v marked low);
+    all = λ v low marked. far.are.set v (by_chain marked.hops v marked.end marked.ends_there marked.chain marked.falls (omega (arith, low, far.are.one_each)));
   }
+
+-- to a core node nothing leads down
+pub core_followed : (h : HierarchyLists) (queue : List ℕ) (x : ℕ) → is_contracted h.order x ≡ false → IsFollowed h queue x
+core_followed h queue x core k e lt is to above = let high = ltb-false _ _ core in let most = height_most h.order e.from in absurd (omega (arith, above, high, most))
 
 -- ---- one entry more is followed
 
 -- what is followed stays so
 pub still_followed : (h : HierarchyLists) (queue queue2 : List ℕ) (x k : ℕ) → ((v : ℕ) → Contains queue v → Contains queue2 v) → IsFollowedAt h queue x k → IsFollowedAt h queue2 x k
-still_followed h queue queue2 x k more at e lt is to above low = more e.from (at e lt is to above low)
+still_followed h queue queue2 x k more at e lt is to above = more e.from (at e lt is to above)
 
 -- how far the places of the entries into x have been followed
 pub record IsFollowing (h : HierarchyLists) (targets : List ℕ) (nodes x : ℕ) (places : List ℕ) (marks : List Bool) (queue queue0 : List ℕ) (n : ℕ) : Type 0 where
@@ -138,10 +127,10 @@ module _ (h : HierarchyLists) (targets : List ℕ) (nodes x : ℕ) (places : Lis
   following_pass level = record { marking = far.marking; kept = far.kept; followed = λ j d lt. by_place j d lt (nat_eq j n) refl } where
     by_place : (j d : ℕ) → j < n + 1 → (b : Bool) → nat_eq j n ≡ b → IsFollowedAt h queue x (get_or places j d)
     by_place j d lt false apart = far.followed j d (omega (arith, eqb-false j n apart))
-    by_place j d lt true same = λ e2 lt2 is to above low. absurd (level (subst (λ (y : Entry). IsAbove h.order y.from x) (sym (one_is j d same e2 is)) above))
+    by_place j d lt true same = λ e2 lt2 is to above. absurd (level (subst (λ (y : Entry). IsAbove h.order y.from x) (sym (one_is j d same e2 is)) above))
 
   -- an entry from a node above, which gets a mark
-  pub following_more : IsAbove h.order e.from x → IsMarked h targets x → (marks2 : List Bool) (queue2 : List ℕ) → AreMarks nodes marks2 queue2 → (IsContracted h.order e.from → Contains queue2 e.from)
+  pub following_more : IsAbove h.order e.from x → IsMarked h targets x → (marks2 : List Bool) (queue2 : List ℕ) → AreMarks nodes marks2 queue2 → Contains queue2 e.from
       → Extends queue queue2 → AreOldOr e.from queue queue2 → IsFollowing h targets nodes x places marks2 queue2 queue0 (n + 1)
   following_more above marked marks2 queue2 are here kept only = record {
     marking = record { are = are; each = marked_or h targets queue queue2 e.from far.marking.each only (marked_by_fall h targets k e inside_k (e_is e) (subst (IsAbove h.order e.from) (sym to_x) above) (subst (IsMarked h targets) (sym to_x) marked)) };
@@ -150,11 +139,11 @@ module _ (h : HierarchyLists) (targets : List ℕ) (nodes x : ℕ) (places : Lis
   } where
     by_place : (j d : ℕ) → j < n + 1 → (b : Bool) → nat_eq j n ≡ b → IsFollowedAt h queue2 x (get_or places j d)
     by_place j d lt false apart = still_followed h queue queue2 x (get_or places j d) (extends_contains queue queue2 kept) (far.followed j d (omega (arith, eqb-false j n apart)))
-    by_place j d lt true same = λ e2 lt2 is to above2. subst (λ (y : Entry). IsContracted h.order y.from → Contains queue2 y.from) (one_is j d same e2 is) here
+    by_place j d lt true same = λ e2 lt2 is to above2. subst (λ (y : Entry). Contains queue2 y.from) (one_is j d same e2 is) here
 
 -- where all places into x are followed x is
 pub followed_all : (h : HierarchyLists) (queue : List ℕ) (x : ℕ) (places : List ℕ) → AreInto h.entries x places → (n : ℕ) → length places ≤ n → ((j d : ℕ) → j < n → IsFollowedAt h queue x (get_or places j d))
     → IsFollowed h queue x
-followed_all h queue x places into n past far k e lt is to above low =
+followed_all h queue x places into n past far k e lt is to above =
     let there = into.all k e (slice_get-get_or h.entries k e lt ∙ ap Some is) to in
-    far there.0 k (omega (arith, there.1)) e (subst (λ i. i < length h.entries) (sym there.2) lt) (ap (λ i. get_or h.entries i e) there.2 ∙ is) to above low
+    far there.0 k (omega (arith, there.1)) e (subst (λ i. i < length h.entries) (sym there.2) lt) (ap (λ i. get_or h.entries i e) there.2 ∙ is) to above

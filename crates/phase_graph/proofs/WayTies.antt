@@ -1,5 +1,5 @@
 -- The ways out of a node of the phase graph: along entries, and those that the plain graph has too.
-use Rattle.std.proofs.Common.{◌≡◌, ℕ, ◌+◌, ◌-◌, ◌^◌, ◌<◌, ◌≤◌, Bool, true, false, cond, List, [], ◌∷◌, ◌++◌, length, take, drop, set, get_or, zero, suc, Option, Some, None, refl, sym, ◌∙◌, ap, subst, append_assoc, append-nil, arith}
+use Rattle.std.proofs.Common.{◌≡◌, ℕ, ◌+◌, ◌-◌, ◌^◌, ◌<◌, ◌≤◌, Bool, true, false, cond, ◌&&◌, List, [], ◌∷◌, ◌++◌, length, take, drop, set, get_or, zero, suc, Option, Some, None, refl, sym, ◌∙◌, ap, subst, append_assoc, append-nil, arith}
 use Rattle.std.specs.Prelude.{All, map, is_some}
 use Rattle.std.proofs.Math.Seq.{set-append_seam, get_or-append_seam, drop-append_seam, take-append_seam}
 use Rattle.std.proofs.lemmas.List.{drop_more, drop_all, take_more, take_all, take-append-drop, length-append, length-map, length-take-le, length-drop, get_or-drop, map-append}
@@ -16,7 +16,8 @@ use Rattle.mode_network.specs.NetworkLists.{NetworkLists, nodes_of, mode_at, sto
 use Rattle.mode_network.specs.Rules.{IsNetwork}
 use Rattle.mode_network.specs.Timetables.{IsTimetableOf}
 use Rattle.mode_network.proofs.IndexLemmas.{range_is_range}
-use Rattle.hierarchy.specs.Lists.{HierarchyLists}
+use Rattle.hierarchy.specs.Lists.{HierarchyLists, is_above}
+use Rattle.hierarchy.specs.Rules.{IsHierarchy}
 use Rattle.plain_graph.specs.PlainArcs.{plain_meaning, count_from, inner_arcs_at, rides_from_stop, graph_arc, arrival}
 use Rattle.plain_graph.specs.Lawful.{plain_lawful}
 use Rattle.plain_graph.specs.declared.plain.PlainArc.{PlainArc}
@@ -24,9 +25,9 @@ use Rattle.plain_graph.proofs.PlaceTies.{stand_at}
 use Rattle.phase_graph.specs.declared.phases.PhaseArc.{PhaseArc}
 use Rattle.phase_graph.specs.declared.phases.PhaseArc.TheVariants.{Up, Down, Other}
 use Rattle.phase_graph.specs.Arcs.{phase_node}
-use Rattle.phase_graph.specs.Marks.{is_fall}
+use Rattle.phase_graph.specs.Marks.{has_mark, is_fall}
 use Rattle.phase_graph.specs.PhaseArcs.{phase_meaning, phase_arc, arc_of, arrival_of, rises_at, first_entry, entries_at, entry_at, others_at, first_other, no_rise, node_of, is_down, renumbered, entry_way, fall_ways, FitsAnew}
-use Rattle.phase_graph.proofs.GraphLemmas.{whole}
+use Rattle.phase_graph.proofs.GraphLemmas.{whole, entry_begins}
 use Rattle.phase_graph.proofs.PlaceLemmas.{up_is, down_is, other_is}
 
 module _ (n : NetworkLists) (h : HierarchyLists) (t : TableLists) (marks : List Bool) (p time letters : ℕ) where
@@ -82,6 +83,32 @@ module _ (n : NetworkLists) (h : HierarchyLists) (t : TableLists) (marks : List 
           ≡ cond b (entry_way h letter true time (ups + i) place ∷ []) []
       by_test place true = refl
       by_test place false = refl
+
+  -- from a node without a mark nothing falls
+  no_fall : IsHierarchy h → has_mark marks (node_of p) ≡ false → (i : ℕ) → i < downs → way_at g p time letters (ups + i) ≡ []
+  no_fall rules bare i lt =
+      let place = first_entry h (node_of p) + i in
+      let from = ap (has_mark marks) (entry_begins h rules (node_of p) i lt) ∙ bare in
+      way_is (ups + i) (Down place) (down_is n h (node_of p) (is_down p) i place lt refl) ∙ by_tests place (is_open letters letter) (has_mark marks (entry_at h place).to) (has_mark marks (entry_at h place).from) from
+    where
+      by_tests : (place : ℕ) (b to from : Bool) → from ≡ false
+          → cond b (way_if (ups + i) (arc_of n t h (node_of p) (is_down p) (Down place)) (cond (to && (from && is_above h.order (entry_at h place).from (entry_at h place).to)) (Some (time + (entry_at h place).weight)) None)) [] ≡ []
+      by_tests place b to true e = cc
+      by_tests place false to false e = refl
+      by_tests place true false false e = refl
+      by_tests place true true false e = refl
+
+  no_falls : IsHierarchy h → has_mark marks (node_of p) ≡ false → (i k : ℕ) → i + k ≤ downs → from (ups + i) k ≡ []
+  no_falls rules bare i zero within = refl
+  no_falls rules bare i (suc k) within =
+      let is = no_fall rules bare i (omega arith) in
+      let next : ups + i + 1 ≡ ups + (i + 1) = omega arith in
+      ap (λ (ws : List Way). ws ++ from (ups + i + 1) k) is ∙ ap (λ x. from x k) next ∙ no_falls rules bare (i + 1) k (omega arith)
+
+  pub none_falls : IsHierarchy h → has_mark marks (node_of p) ≡ false → (before : List Way) → before ≡ before ++ from ups downs
+  none_falls rules bare before =
+      let none : ups + 0 ≡ ups = omega arith in
+      sym (append-nil before) ∙ ap (λ (ws : List Way). before ++ ws) (sym (ap (λ x. from x downs) (sym none) ∙ no_falls rules bare 0 downs (omega arith)))
 
   -- where their letter is not in the set there are none
   entry_closed : is_open letters letter ≡ false → (i : ℕ) (a : PhaseArc) → arc_there i ≡ a → (arc_of n t h (node_of p) (is_down p) a).letter ≡ letter → way_at g p time letters i ≡ []

@@ -1,7 +1,7 @@
 -- How far the marking of nodes has come: the nodes that have a mark wait in a list, and are followed one after the other.
 use Rattle.std.specs.Prelude.{◌≡◌, ℕ, ◌+◌, ◌<◌, ◌≤◌, ◌⊎◌, Bool, true, not, List, length, All, Contains, slice_index_or, count_by}
 use Rattle.hierarchy.specs.declared.entry.Entry.{Entry}
-use Rattle.hierarchy.specs.Lists.{HierarchyLists, IsAbove, IsContracted}
+use Rattle.hierarchy.specs.Lists.{HierarchyLists, IsAbove}
 use Rattle.phase_graph.specs.Moves.{IsMarked}
 use Rattle.phase_graph.specs.Marks.{has_mark}
 
@@ -25,9 +25,9 @@ Extends old new = (i d : ℕ) → i < length old → (i < length new) × (slice_
 abbrev pub AreOldOr : ℕ → List ℕ → List ℕ → Type 0
 AreOldOr v old new = (u : ℕ) → Contains new u → Contains old u ⊎ (u ≡ v)
 
--- where the entry at this place leads down to x, the node that it comes from is in the list if it is contracted
+-- where the entry at this place leads down to x, the node that it comes from is in the list
 abbrev pub IsFollowedAt : HierarchyLists → List ℕ → ℕ → ℕ → Type 0
-IsFollowedAt h queue x k = (e : Entry) → k < length h.entries → slice_index_or h.entries k e ≡ e → e.to ≡ x → IsAbove h.order e.from x → IsContracted h.order e.from → Contains queue e.from
+IsFollowedAt h queue x k = (e : Entry) → k < length h.entries → slice_index_or h.entries k e ≡ e → e.to ≡ x → IsAbove h.order e.from x → Contains queue e.from
 
 abbrev pub IsFollowed : HierarchyLists → List ℕ → ℕ → Type 0
 IsFollowed h queue x = (k : ℕ) → IsFollowedAt h queue x k

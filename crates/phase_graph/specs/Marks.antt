@@ -1,7 +1,8 @@
--- The marks of nodes: a contracted node has one where a chain of entries, each to a lower node, leads from it to a target.
-use Rattle.std.specs.Prelude.{◌≡◌, ℕ, Bool, true, false, ◌&&◌, List, slice_index_or}
+-- The marks of nodes: one has a mark where a chain of entries, each to a lower node, leads from it to a target.
+use Rattle.std.specs.Prelude.{◌≡◌, ℕ, Bool, true, false, ◌&&◌, ◌<◌, List, length, slice_index_or}
 use Rattle.hierarchy.specs.declared.entry.Entry.{Entry}
-use Rattle.hierarchy.specs.Lists.{HierarchyLists, is_above, IsContracted}
+use Rattle.hierarchy.specs.Lists.{HierarchyLists, is_above}
+use Rattle.hierarchy.specs.Indexes.{AreBelow}
 use Rattle.phase_graph.specs.Moves.{IsMarked}
 
 -- the marks are listed by node; nodes past the end have none
@@ -10,9 +11,10 @@ has_mark marks v = slice_index_or marks v false
 
 -- these are the marks for the targets
 pub record AreMarksFor (h : HierarchyLists) (targets : List ℕ) (marks : List Bool) : Type 0 where
+  pub long : AreBelow h (length marks)
   pub each : (v : ℕ) → has_mark marks v ≡ true → IsMarked h targets v
-  pub all : (v : ℕ) → IsContracted h.order v → IsMarked h targets v → has_mark marks v ≡ true
+  pub all : (v : ℕ) → v < length marks → IsMarked h targets v → has_mark marks v ≡ true
 
--- the entry leads down to a node with a mark
+-- the entry leads down from a node with a mark to another
 abbrev pub is_fall : HierarchyLists → List Bool → Entry → Bool
-is_fall h marks e = has_mark marks e.to && is_above h.order e.from e.to
+is_fall h marks e = has_mark marks e.to && (has_mark marks e.from && is_above h.order e.from e.to)

@@ -1,5 +1,5 @@
 -- The arcs of the phase graph: out of each node, before the descent, its entries up and along the core; then all its entries, of which
--- those arrive that lead down to a node with a mark; and then the arcs of the network that are no road arcs, of which in the descent
+-- those arrive that lead down from a node with a mark to another; and then the arcs of the network that are no road arcs, of which in the descent
 -- there is one that stands at most.
 use Rattle.std.specs.Prelude.{◌≡◌, ℕ, ◌+◌, ◌-◌, ◌*◌, ◌/◌, ◌%◌, ◌^◌, ◌==◌, ◌<◌, ◌≤◌, nat_lt, Bool, true, false, List, [], ◌∷◌, length, Option, Some, None, if◌then◌else◌, slice_index_or}
 use Rattle.search_laws.specs.GraphLaws.{GraphMeaning}
@@ -75,7 +75,7 @@ arc_of n t h v down (Up place) = record { to = phase_node (entry_at h place).to 
 arc_of n t h v down (Down place) = record { to = phase_node (entry_at h place).to true; letter = mode_at n.roads v }
 arc_of n t h v down (Other place) = record { to = phase_node ((plain_meaning n t).arc_at v place).to down; letter = ((plain_meaning n t).arc_at v place).letter }
 
--- an entry down is taken to a node with a mark alone
+-- an entry down is taken from a node with a mark to another alone
 abbrev pub fall_arrival : HierarchyLists → List Bool → ℕ → ℕ → Option ℕ
 fall_arrival h marks place time = if is_fall h marks (entry_at h place) then Some (time + (entry_at h place).weight) else None
 
@@ -89,7 +89,7 @@ arrival_of n t h marks v time (Other place) = (plain_meaning n t).arrive v place
 abbrev pub entry_way : HierarchyLists → Option ℕ → Bool → ℕ → ℕ → ℕ → Way
 entry_way h letter down time i place = record { place = i; arc = record { to = phase_node (entry_at h place).to down; letter = letter }; at = time + (entry_at h place).weight }
 
--- the same, if it leads down to a node with a mark
+-- the same, if it leads down from a node with a mark to another
 abbrev pub fall_ways : HierarchyLists → List Bool → Option ℕ → ℕ → ℕ → ℕ → List Way
 fall_ways h marks letter time i place = if is_fall h marks (entry_at h place) then entry_way h letter true time i place ∷ [] else []
 

@@ -1,7 +1,6 @@
-//! The marks of nodes: of those contracted ones from which a chain of entries, each to a lower node, leads to a target.
+//! The marks of nodes: of those from which a chain of entries, each to a lower node, leads to a target.
 
-ghost use Rattle.std.specs.Prelude.{◌≡◌, [], All, Contains, IfOk, OnOk};
-ghost use Rattle.hierarchy.specs.Lists.{IsContracted};
+ghost use Rattle.std.specs.Prelude.{◌≡◌, ◌<◌, [], All, Contains, IfOk, OnOk};
 ghost use Rattle.hierarchy.specs.Indexes.{AreBelow};
 ghost use Rattle.phase_graph.specs.Marks.{AreMarksFor};
 ghost use Rattle.phase_graph.specs.Moves.{IsMarked};
@@ -32,7 +31,7 @@ pub(crate) fn marks(
     Ok(marks)
 }
 
-/// Marks the targets that are contracted.
+/// Marks the targets.
 fn mark_targets(
     h: &Hierarchy,
     nodes: u32,
@@ -40,42 +39,57 @@ fn mark_targets(
     marks: &mut Vec<bool>,
     queue: &mut Vec<u32>,
 ) -> Result<(), AllocError>
-    requires below { AreBelow h.now nodes }
     requires marks { AreMarks nodes marks.old.items queue.old.items }
     requires none { queue.old.items ≡ [] }
     ensures marks { OnOk result (IsMarking h.now targets.now nodes marks.new.items queue.new.items) }
-    ensures all { OnOk result (All (λ v. IsContracted h.now.order v → Contains queue.new.items v) targets.now) }
+    ensures all { OnOk result (All (λ v. v < nodes → Contains queue.new.items v) targets.now) }
 {
+    let _ = h;
     for v in targets {
-        mark(h, nodes, *v, marks, queue)?;
+        mark(nodes, *v, marks, queue)?;
     }
     Ok(())
 }
 
-/// Marks a node, if it is contracted and has no mark yet; it then waits to be followed.
-fn mark(
-    h: &Hierarchy,
-    nodes: u32,
-    v: u32,
-    marks: &mut Vec<bool>,
-    queue: &mut Vec<u32>,
-) -> Result<(), AllocError>
-    requires below { AreBelow h.now nodes }
+/// Marks a node, if it has no mark yet; it then waits to be followed.
+fn mark(nodes: u32, v: u32, marks: &mut Vec<bool>, queue: &mut Vec<u32>) -> Result<(), AllocError>
     requires marks { AreMarks nodes marks.old.items queue.old.items }
     ensures marks { OnOk result (AreMarks nodes marks.new.items queue.new.items) }
-    ensures here { OnOk result (IsContracted h.now.order v → Contains queue.new.items v) }
+    ensures here { OnOk result (v < nodes → Contains queue.new.items v) }
     ensures kept { OnOk result (Extends queue.old.items queue.new.items) }
     ensures only { OnOk result (AreOldOr v queue.old.items queue.new.items) }
 {
-    if h.contracted(v) && !marks[v as usize] {
+    if v < nodes && !marks[v as usize] {
         marks[v as usize] = true;
         queue.push(v)?;
     }
     Ok(())
 }
 
-/// Marks the nodes from which entries lead down to a marked node.
+/// Marks the nodes from which entries lead down to a marked node. To a core node none does.
 fn follow(
+    h: &Hierarchy,
+    nodes: u32,
+    targets: &[u32],
+    x: u32,
+    marks: &mut Vec<bool>,
+    queue: &mut Vec<u32>,
+) -> Result<(), AllocError>
+    requires below { AreBelow h.now nodes }
+    requires marked { IsMarked h.now targets.now x }
+    requires marking { IsMarking h.now targets.now nodes marks.old.items queue.old.items }
+    ensures marking { OnOk result (IsMarking h.now targets.now nodes marks.new.items queue.new.items) }
+    ensures followed { OnOk result (IsFollowed h.now queue.new.items x) }
+    ensures kept { OnOk result (Extends queue.old.items queue.new.items) }
+{
+    if h.contracted(x) {
+        mark_above(h, nodes, targets, x, marks, queue)?;
+    }
+    Ok(())
+}
+
+/// Marks the nodes from which entries lead down to a marked node.
+fn mark_above(
     h: &Hierarchy,
     nodes: u32,
     targets: &[u32],
@@ -93,7 +107,7 @@ fn follow(
     for place in h.entries_into(x) {
         let from = h.entries()[*place as usize].from;
         if h.above(from, x) {
-            mark(h, nodes, from, marks, queue)?;
+            mark(nodes, from, marks, queue)?;
         }
     }
     Ok(())

@@ -21,7 +21,7 @@ use std::alloc::{AllocError, Global};
 pub enum PhaseArc {
     /// The entry at this place, to a node above or along the core.
     Up(u64),
-    /// The entry at this place, which arrives where it leads down to a node with a mark.
+    /// The entry at this place, which arrives where it leads down from a node with a mark to another.
     Down(u64),
     /// The arc at this place of those of the plain graph: a link, a ride, or one that stands.
     Other(u64),
@@ -142,14 +142,18 @@ impl<'a> Phases<'a> {
         (first, past - first)
     }
 
-    /// Whether an entry leads down to a node with a mark.
-    fn is_fall(&self, entry: Entry) -> bool
-        ensures { result ≡ is_fall self.now.hierarchy.now self.now.marks.items entry }
+    /// Whether an entry leads down from a node with a mark to another.
+    #[inline(always)]
+    fn is_fall(&self, entry: &Entry) -> bool
+        ensures { result ≡ is_fall self.now.hierarchy.now self.now.marks.items entry.now }
     {
-        self.has_mark(entry.to) && self.hierarchy.above(entry.from, entry.to)
+        self.has_mark(entry.to)
+            && self.has_mark(entry.from)
+            && self.hierarchy.above(entry.from, entry.to)
     }
 
     /// Whether a node has a mark.
+    #[inline(always)]
     fn has_mark(&self, v: u32) -> bool
         ensures { result ≡ has_mark self.now.marks.items v }
     {
@@ -188,7 +192,7 @@ impl<'a> Phases<'a> {
     }
 
     /// The arc at place `i` of those out of the node `p`: first come the entries up and along the core, then all entries, of
-    /// which those arrive that lead down to a node with a mark, and then what the plain graph has in common with this one.
+    /// which those arrive that lead down from a node with a mark to another, and then what the plain graph has in common with this one.
     pub fn phase_arc(&self, p: u32, i: u64) -> PhaseArc
         requires node { p < (phase_meaning self.now.plain.network.now self.now.plain.timetable.now self.now.hierarchy.now self.now.marks.items).nodes }
         requires arc { i < (phase_meaning self.now.plain.network.now self.now.plain.timetable.now self.now.hierarchy.now self.now.marks.items).arcs p }
@@ -230,13 +234,13 @@ impl<'a> Phases<'a> {
         Time::from(self.hierarchy.entries()[place as usize].weight)
     }
 
-    /// When one arrives that takes an entry at a time, if it leads down to a node with a mark.
+    /// When one arrives that takes an entry at a time, if it leads down from a node with a mark to another.
     fn fall_arrival(&self, place: u64, t: Time) -> Option<Time>
         requires place { place < length self.now.hierarchy.now.entries }
         requires time { t < 2 ^ 127 }
         ensures { result ≡ fall_arrival self.now.hierarchy.now self.now.marks.items place t }
     {
-        if self.is_fall(self.hierarchy.entries()[place as usize]) {
+        if self.is_fall(&self.hierarchy.entries()[place as usize]) {
             Some(t + self.weight(place))
         } else {
             None
@@ -305,8 +309,8 @@ impl<'a> Phases<'a> {
         Ok(())
     }
 
-    /// Appends those of the entries that leave the node `p` that lead down to a node with a mark, if their letter is in the
-    /// set. The places of all entries stand behind those of the entries up and along the core.
+    /// Appends those of the entries that leave the node `p` that lead down from a node with a mark to another, if their
+    /// letter is in the set. The places of all entries stand behind those of the entries up and along the core.
     fn push_falls(
         &self,
         p: u32,
@@ -320,17 +324,20 @@ impl<'a> Phases<'a> {
             ++ ways_from (phase_meaning self.now.plain.network.now self.now.plain.timetable.now self.now.hierarchy.now self.now.marks.items) p t letters
             (length (rises_at self.now.hierarchy.now (node_of p) (is_down p))) (entries_at self.now.hierarchy.now (node_of p))) }
     {
+        self.hierarchy.known();
         let (v, down) = split(p);
         let letter = self.network().mode(v);
         let ups = self.rises_at(v, down).len() as u64;
         let (first, count) = self.entries_at(v);
-        for i in 0..count {
-            self.push_fall(letter, first + i, ups + i, t, ways)?;
+        if self.has_mark(v) {
+            for i in 0..count {
+                self.push_fall(letter, first + i, ups + i, t, ways)?;
+            }
         }
         Ok(())
     }
 
-    /// Appends the entry at a place as the arc at place `i` of its node, if it leads down to a node with a mark.
+    /// Appends the entry at a place as the arc at place `i` of its node, if it leads down from a node with a mark to another.
     #[inline(always)]
     fn push_fall(
         &self,
@@ -346,7 +353,7 @@ impl<'a> Phases<'a> {
             ++ fall_ways self.now.hierarchy.now self.now.marks.items letter t i place) }
     {
         self.hierarchy.known();
-        let entry = self.hierarchy.entries()[place as usize];
+        let entry = &self.hierarchy.entries()[place as usize];
         if self.is_fall(entry) {
             ways.push(Way {
                 place: i,

@@ -2,7 +2,6 @@ use Rattle.std.proofs.Common.{◌≡◌, ℕ, ◌+◌, ◌<◌, ◌∙◌, nat_e
 use Rattle.std.specs.Prelude.{Contains}
 use Rattle.std.proofs.lemmas.Bool.{eqb-true, eqb-false}
 use Rattle.std.proofs.lemmas.List.{get_or_default}
-use Rattle.hierarchy.specs.Lists.{IsContracted}
 use Rattle.phase_graph.proofs.MarkLemmas.{marked_or, extends_contains}
 use Rattle.phase_graph.proofs.marks.mark_targets.Goals as goal
 
@@ -24,11 +23,11 @@ loop-v-preserved c =
       so_far = λ j d lt. by_place j d lt (nat_eq j n) refl;
     }
   where
-    by_place : (j d : ℕ) → j < c.loop-v.v-index + 1 → (b : Bool) → nat_eq j c.loop-v.v-index ≡ b → IsContracted c.args.h.now.order (get_or c.args.targets.now j d)
+    by_place : (j d : ℕ) → j < c.loop-v.v-index + 1 → (b : Bool) → nat_eq j c.loop-v.v-index ≡ b → get_or c.args.targets.now j d < c.args.nodes
         → Contains c.mark.new.queue.items (get_or c.args.targets.now j d)
     by_place j d lt false apart low =
         extends_contains c.loop-v.queue.items c.mark.new.queue.items c.in_ok-mark.ensures.kept (get_or c.args.targets.now j d)
         (c.loop-v.invariant.so_far j d (omega (arith, eqb-false j c.loop-v.v-index apart)) low)
     by_place j d lt true same low =
         let at : get_or c.args.targets.now j d ≡ get_or c.args.targets.now c.loop-v.v-index 0 = ap (λ i. get_or c.args.targets.now i d) (eqb-true j c.loop-v.v-index same) ∙ get_or_default c.args.targets.now c.loop-v.v-index d 0 c.loop-v-test.true in
-        subst (Contains c.mark.new.queue.items) (sym at) (c.in_ok-mark.ensures.here (subst (IsContracted c.args.h.now.order) at low))
+        subst (Contains c.mark.new.queue.items) (sym at) (c.in_ok-mark.ensures.here (omega (arith, at, low)))

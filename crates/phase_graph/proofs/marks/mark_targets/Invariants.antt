@@ -1,10 +1,9 @@
 use Rattle.std.specs.Prelude.{ℕ, ◌<◌, Contains, slice_index_or}
-use Rattle.hierarchy.specs.Lists.{IsContracted}
 use Rattle.phase_graph.specs.Marking.{IsMarking}
 use Rattle.phase_graph.proofs.marks.mark_targets.Given as goal
 
 abbrev pub invariant-loop-v : goal.invariant-loop-v
 invariant-loop-v l = record {
   marking : IsMarking l.h l.targets l.nodes l.marks.items l.queue.items;
-  so_far : (j d : ℕ) → j < l.v-index → IsContracted l.h.order (slice_index_or l.targets j d) → Contains l.queue.items (slice_index_or l.targets j d);
+  so_far : (j d : ℕ) → j < l.v-index → slice_index_or l.targets j d < l.nodes → Contains l.queue.items (slice_index_or l.targets j d);
 }

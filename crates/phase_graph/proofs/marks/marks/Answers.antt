@@ -3,7 +3,6 @@ use Rattle.std.specs.Prelude.{Contains}
 use Rattle.std.proofs.lemmas.Bool.{eqb-true, eqb-false}
 use Rattle.std.proofs.lemmas.List.{get_or_default}
 use Rattle.std.proofs.lemmas.List.Elements.{All-contains}
-use Rattle.hierarchy.specs.Lists.{IsContracted}
 use Rattle.phase_graph.specs.Marking.{IsFollowed}
 use Rattle.phase_graph.proofs.MarkLemmas.{extends_contains, still_followed, are_marks}
 use Rattle.phase_graph.proofs.marks.marks.Goals as goal
@@ -31,9 +30,9 @@ loop-next-preserved c = record {
 
 pub returns : goal.returns
 returns c =
-    are_marks c.args.h.now c.args.targets.now c.loop-next.queue.items all_followed
-    (λ v there. All-contains (λ u. IsContracted c.args.h.now.order u → Contains c.loop-next.queue.items u) c.args.targets.now v c.loop-next.invariant.started there)
-    c.args.nodes c.loop-next.marks.items c.loop-next.invariant.marking
+    are_marks c.args.h.now c.args.targets.now c.loop-next.queue.items c.args.nodes c.requires.below all_followed
+    (λ v there. All-contains (λ u. u < c.args.nodes → Contains c.loop-next.queue.items u) c.args.targets.now v c.loop-next.invariant.started there)
+    c.loop-next.marks.items c.loop-next.invariant.marking
   where
     all_followed : (x : ℕ) → Contains c.loop-next.queue.items x → IsFollowed c.args.h.now c.loop-next.queue.items x
     all_followed x (i, lt, is) = subst (IsFollowed c.args.h.now c.loop-next.queue.items) is (c.loop-next.invariant.followed i x (omega (arith, lt, c.loop-next-test.false, c.len.ensures)))

@@ -1,12 +1,11 @@
 use Rattle.std.specs.Prelude.{ℕ, ◌-◌, ◌<◌, All, Contains, slice_index_or}
-use Rattle.hierarchy.specs.Lists.{IsContracted}
 use Rattle.phase_graph.specs.Marking.{IsMarking, IsFollowed}
 use Rattle.phase_graph.proofs.marks.marks.Given as goal
 
 abbrev pub invariant-loop-next : goal.invariant-loop-next
 invariant-loop-next l = record {
   marking : IsMarking l.h l.targets l.nodes l.marks.items l.queue.items;
-  started : All (λ v. IsContracted l.h.order v → Contains l.queue.items v) l.targets;
+  started : All (λ v. v < l.nodes → Contains l.queue.items v) l.targets;
   followed : (j d : ℕ) → j < l.next → IsFollowed l.h l.queue.items (slice_index_or l.queue.items j d);
 }
 

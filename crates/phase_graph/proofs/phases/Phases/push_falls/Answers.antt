@@ -1,7 +1,7 @@
-use Rattle.std.proofs.Common.{◌≡◌, ◌∙◌, ◌*◌, ◌^◌, ◌<◌, ◌++◌, ℕ, length, subst, arith}
+use Rattle.std.proofs.Common.{◌≡◌, ◌∙◌, ◌*◌, ◌^◌, ◌<◌, ◌++◌, ℕ, length, sym, subst, arith}
 use Rattle.search_laws.specs.Ways.{ways_from}
 use Rattle.phase_graph.specs.PhaseArcs.{phase_meaning, rises_at, node_of, is_down}
-use Rattle.phase_graph.proofs.WayTies.{fall_pushed}
+use Rattle.phase_graph.proofs.WayTies.{fall_pushed, none_falls}
 use Rattle.phase_graph.proofs.phases.Phases.push_falls.Goals as goal
 
 pub overflow_add-first : goal.overflow_add-first
@@ -30,11 +30,18 @@ loop-i-preserved c =
       within = (let test = c.loop-i-test.true in omega (arith, test));
     }
 
-pub returns : goal.returns
-returns c =
+pub returns-after-loop-i : goal.returns-after-loop-i
+returns-after-loop-i c =
     let self = c.args.self.now in
     let rises = rw c.split-v.ensures at c.rises_at.ensures.list in
     let count = rw c.split-v.ensures at c.entries_at-first.ensures.count in
     let ended : c.loop-i.i ≡ c.entries_at-first.result.1 = omega (arith, c.loop-i-test.false, c.loop-i.invariant.within) in
     subst (λ (k : ℕ). c.loop-i.ways.items ≡ c.args.ways.now.items ++ ways_from (phase_meaning self.plain.network.now self.plain.timetable.now self.hierarchy.now self.marks.items) c.args.p c.args.t c.args.letters (length (rises_at self.hierarchy.now (node_of c.args.p) (is_down c.args.p))) k)
     (ended ∙ count) (rw rises at c.loop-i.invariant.far)
+
+pub returns-else-has_mark : goal.returns-else-has_mark
+returns-else-has_mark c =
+    let self = c.args.self.now in
+    let rises = rw c.split-v.ensures at c.rises_at.ensures.list in
+    let bare = rw c.split-v.ensures at (sym c.has_mark.ensures ∙ c.if-has_mark.false) in
+    none_falls self.plain.network.now self.hierarchy.now self.plain.timetable.now self.marks.items c.args.p c.args.t c.args.letters c.known.ensures bare c.args.ways.now.items
