@@ -1,6 +1,6 @@
 //! What the files of a feed give.
 
-ghost use Rattle.std.specs.Prelude.{◌≡◌, Ok, IfOk, IfErr};
+ghost use Rattle.std.specs.Prelude.{◌≡◌, None, Ok, IfOk, IfErr};
 ghost use Rattle.gtfs_tables.specs.Answers.{IsFaultOf};
 ghost use Rattle.gtfs_tables.specs.Feeds.{feed_of, first_absent, required};
 ghost use Rattle.gtfs_tables.specs.Sound.{IsFeed};
@@ -91,6 +91,24 @@ fn gathered(
     }
 }
 
+/// Reads the files of a feed, of which all that are required are there.
+fn read_present(alloc: Global, files: &FeedFiles<'_>, caps: &Caps) -> Result<Feed, FeedFault>
+    requires { first_absent (required files.now) ≡ None }
+    ensures feed { IfOk result (λ feed. feed_of caps.now files.now ≡ Ok feed) }
+    ensures sound { IfOk result IsFeed }
+    ensures fault { IfErr result (IsFaultOf (feed_of caps.now files.now)) }
+{
+    check_agencies(alloc, files.agency)?;
+    let stops = read_stops(alloc, caps, files.stops)?;
+    let routes = read_routes(alloc, caps, files.routes)?;
+    let services = read_services(alloc, caps, files.calendar)?;
+    let dates = read_dates(alloc, caps, files.calendar_dates)?;
+    let trips = read_trips(alloc, caps, &routes.ids, files.trips)?;
+    let frequencies = read_frequencies(alloc, &trips.ids, files.frequencies)?;
+    let calls = read_calls(alloc, caps, &trips.ids, &stops.ids, files.stop_times)?;
+    Ok(gathered(stops, routes, services, dates, trips, frequencies, calls))
+}
+
 /// Reads the files of a feed: the rows of its tables, or the first fault.
 ///
 /// The limits are those of stops, routes, services, dates, trips and calls. Nothing is read where a required file
@@ -103,13 +121,5 @@ pub fn read_feed(alloc: Global, files: &FeedFiles<'_>, caps: &Caps) -> Result<Fe
     if let Some(file) = first_absent(files) {
         return Err(FeedFault::MissingFile { file });
     }
-    check_agencies(alloc, files.agency)?;
-    let stops = read_stops(alloc, caps, files.stops)?;
-    let routes = read_routes(alloc, caps, files.routes)?;
-    let services = read_services(alloc, caps, files.calendar)?;
-    let dates = read_dates(alloc, caps, files.calendar_dates)?;
-    let trips = read_trips(alloc, caps, &routes.ids, files.trips)?;
-    let frequencies = read_frequencies(alloc, &trips.ids, files.frequencies)?;
-    let calls = read_calls(alloc, caps, &trips.ids, &stops.ids, files.stop_times)?;
-    Ok(gathered(stops, routes, services, dates, trips, frequencies, calls))
+    read_present(alloc, files, caps)
 }
