@@ -1,8 +1,12 @@
 -- Words that ask for a sample city give it a size.
-use Rattle.std.proofs.Common.{◌≡◌, ℕ, ◌≤◌, Bool, true, false, ◌&&◌, nat_le, if◌then◌else◌, List, Option, Some, None, refl, subst, leb-true}
-use Rattle.std.specs.Prelude.{option_and_then}
+use Rattle.std.proofs.Common.{◌≡◌, ℕ, ◌≤◌, Bool, true, false, ◌&&◌, cond, nat_le, if◌then◌else◌, List, [], ◌∷◌, Option, Some, None, refl, subst, leb-true, codes}
+use Rattle.std.specs.Prelude.{⊤, find, option_and_then, option_map}
+use Rattle.std.specs.Str.{bytes_eq}
+use Rattle.clap.specs.Words.{Row, first_of, subcommand_of}
 use Rattle.mode_network.proofs.RuleLemmas.{both}
-use Rattle.command_words.specs.Requests.{Request, AsksFor, number_of, compile, migrate, contract, answer, certify, verify, check, sample, latest, certify_latest, verify_latest, few}
+use Rattle.region_file.specs.declared.format.Format.TheVariants.{Binary}
+use Rattle.command_line.specs.Description.{modeplan}
+use Rattle.command_words.specs.Requests.{Request, AsksFor, number_of, size_of, format_or, keep_or_none, commands, request_at, two_at, days_and_format_at, compile, migrate, contract, answer, certify, verify, check, sample, latest, certify_latest, verify_latest, few}
 use Rattle.planner_core.specs.Working.{HasSize}
 
 in_range : (n size : ℕ) (fits : Bool) → nat_le 1 n && nat_le n 300 ≡ fits → (if fits then Some n else None) ≡ Some size → (1 ≤ size) × (size ≤ 300)
@@ -16,16 +20,74 @@ read_in_range : (number : Option ℕ) (size : ℕ) → option_and_then (λ n. if
 read_in_range None size e = absurd (cc)
 read_in_range (Some n) size e = in_range n size (nat_le 1 n && nat_le n 300) refl e
 
+-- ---- what a command asks for has a size
+
+abbrev GivesSize : Option Request → Type 0
+GivesSize asked = (r : Request) → asked ≡ Some r → HasSize r
+
+made : {A : Type 0} (f : A → Request) (o : Option A) → ((a : A) → o ≡ Some a → HasSize (f a)) → GivesSize (option_map f o)
+made f None sizes r e = absurd (cc)
+made f (Some a) sizes r e = let same : f a ≡ r = cc in subst HasSize same (sizes a refl)
+
+made_of : {A : Type 0} (f : A → Option Request) (o : Option A) → ((a : A) → GivesSize (f a)) → GivesSize (option_and_then f o)
+made_of f None sizes r e = absurd (cc)
+made_of f (Some a) sizes r e = sizes a r e
+
+abbrev GiveSizes : List (List ℕ × (List Row → Option Request)) → Type 0
+GiveSizes [] = ⊤
+GiveSizes (command ∷ more) = ((rows : List Row) → GivesSize (command.1 rows)) × GiveSizes more
+
+all_give : GiveSizes commands
+all_give = (
+  λ rows. made_of (λ two. option_map (λ it. compile two.0 two.1 it.0 it.1) (days_and_format_at rows)) (two_at rows) (λ two. made (λ it. compile two.0 two.1 it.0 it.1) (days_and_format_at rows) (λ it is. tt)),
+  (
+    λ rows. made_of (λ region. option_map (λ format. migrate region format) (format_or Binary (first_of (codes "format") rows))) (first_of (codes "first") rows) (λ region. made (λ format. migrate region format) (format_or Binary (first_of (codes "format") rows)) (λ format is. tt)),
+    (
+      λ rows. made_of (λ region. option_map (λ keep. contract region keep) (keep_or_none (first_of (codes "keep") rows))) (first_of (codes "first") rows) (λ region. made (λ keep. contract region keep) (keep_or_none (first_of (codes "keep") rows)) (λ keep is. tt)),
+      (
+        λ rows. made (λ two. check two.0 two.1) (two_at rows) (λ two is. tt),
+        (
+          λ rows. made_of (λ word. option_map (λ size. sample size) (size_of word)) (first_of (codes "first") rows) (λ word. made (λ size. sample size) (size_of word) (λ size is. read_in_range (number_of word) size is)),
+          (
+            λ rows. made (λ two. answer two.0 two.1 (first_of (codes "hierarchy") rows)) (two_at rows) (λ two is. tt),
+            (
+              λ rows. made (λ two. certify two.0 two.1 (first_of (codes "hierarchy") rows)) (two_at rows) (λ two is. tt),
+              (
+                λ rows. made (λ two. verify two.0 two.1 (first_of (codes "hierarchy") rows)) (two_at rows) (λ two is. tt),
+                (
+                  λ rows. made (λ two. few two.0 two.1) (two_at rows) (λ two is. tt),
+                  (
+                    λ rows. made (λ two. latest two.0 two.1) (two_at rows) (λ two is. tt),
+                    (
+                      λ rows. made (λ two. certify_latest two.0 two.1) (two_at rows) (λ two is. tt),
+                      (
+                        λ rows. made (λ two. verify_latest two.0 two.1) (two_at rows) (λ two is. tt),
+                        tt,
+                      ),
+                    ),
+                  ),
+                ),
+              ),
+            ),
+          ),
+        ),
+      ),
+    ),
+  ),
+)
+
+-- ---- so too the one of a name
+
+found_gives : (commands : List (List ℕ × (List Row → Option Request))) → GiveSizes commands → (name : List ℕ) (rows : List Row)
+    → GivesSize (option_and_then (λ command. command.1 rows) (find (λ command. bytes_eq command.0 name) commands))
+found_gives [] sizes name rows = λ r e. absurd (cc)
+found_gives (command ∷ more) sizes name rows = go (bytes_eq command.0 name) (found_gives more sizes.1 name rows)
+  where
+    go : (b : Bool) → GivesSize (option_and_then (λ command. command.1 rows) (find (λ command. bytes_eq command.0 name) more))
+        → GivesSize (option_and_then (λ command. command.1 rows) (cond b (Some command) (find (λ command. bytes_eq command.0 name) more)))
+    go true rest = sizes.0 rows
+    go false rest = rest
+
 pub asked_size : (words : List (List ℕ)) (r : Request) → AsksFor words r → HasSize r
-asked_size words (sample size) ((word, are, reads), plain) = read_in_range (number_of word) size reads
-asked_size words (compile map feed days format) asks = tt
-asked_size words (migrate region format) asks = tt
-asked_size words (contract region keep) asks = tt
-asked_size words (answer region queries hierarchy) asks = tt
-asked_size words (certify region query hierarchy) asks = tt
-asked_size words (verify region certificate hierarchy) asks = tt
-asked_size words (check region hierarchy) asks = tt
-asked_size words (latest region queries) asks = tt
-asked_size words (certify_latest region query) asks = tt
-asked_size words (verify_latest region certificate) asks = tt
-asked_size words (few region queries) asks = tt
+asked_size words r asks =
+    made_of (λ found. request_at found.0 found.1) (subcommand_of modeplan words) (λ found. found_gives commands all_give found.0 found.1) r asks.asks

@@ -4,7 +4,7 @@ use Rattle.plan_base.specs.Counts.{Rose}
 use Rattle.plan_base.specs.Shelves.{ShelfMeaning}
 use Rattle.plan_base.specs.Sinks.{SinkMeaning}
 use Rattle.plan_base.specs.declared.limits.Caps.{Caps}
-use Rattle.command_words.specs.Requests.{Request, IsPlainForm, compile, migrate, contract, answer, certify, verify, check, sample, latest, certify_latest, verify_latest, few}
+use Rattle.command_words.specs.Requests.{Request, AsksFor, compile, migrate, contract, answer, certify, verify, check, sample, latest, certify_latest, verify_latest, few}
 use Rattle.run_steps.specs.declared.outcome.Outcome.{Outcome}
 use Rattle.run_steps.specs.Complete.{Files, IsHeld, SpellsNetwork, IsDoneOrMemory}
 use Rattle.compile_steps.specs.Complete.{GivesRegion, IsFeedHeld, SpellsObjects}
@@ -27,7 +27,7 @@ CanBeDone caps files (certify_latest region query) = CanCertifyLatest caps files
 CanBeDone caps files (verify_latest region certificate) = CanVerifyLatest caps files region certificate
 CanBeDone caps files (few region queries) = CanFew caps files region queries
 
--- where the words are of the plain form, all that they ask for can be done, and no count of faults rose, all of it is done, unless memory ran out
+-- where the words ask for something, all of it can be done, and no count of faults rose, all of it is done, unless memory ran out
 abbrev pub IsComplete : Caps → List (List ℕ) → ShelfMeaning → ShelfMeaning → SinkMeaning → SinkMeaning → Outcome → Type 0
-IsComplete caps words old new before after outcome = (r : Request) (files : Files) → IsPlainForm words r → old.files ≡ Some files → CanBeDone caps files r
+IsComplete caps words old new before after outcome = (r : Request) (files : Files) → AsksFor words r → old.files ≡ Some files → CanBeDone caps files r
     → (Rose old.faults new.faults → ⊥) → (Rose before.faults after.faults → ⊥) → IsDoneOrMemory outcome

@@ -2,7 +2,7 @@
 
 ghost use Rattle.std.specs.Prelude.{map, string_bytes};
 ghost use Rattle.plan_base.specs.declared.limits.Caps.{Caps};
-ghost use Rattle.command_words.specs.Requests.{request_of};
+ghost use Rattle.command_words.specs.Requests.{AsksFor, IsPlainForm, Request, request_of};
 ghost use Rattle.run_steps.specs.Sayings.{end_of};
 ghost use Rattle.planner_core.specs.Commands.{says};
 ghost use Rattle.planner_core.specs.Outcomes.{IsOutcome, AreFull};
@@ -102,7 +102,8 @@ pub fn run_within<F: Shelf, O: Sink, E: Sink>(
 }
 
 /// Does what a command with these words asks for. The first word is the program's name, and each command but `compile` and
-/// `sample` reads the region file that the third names.
+/// `sample` reads the region file that the command's first word names. Words ask for what `clap` finds in them, and those of the plain
+/// form, whose options stand last, for what they say.
 ///
 /// `compile` with a map and the folder of a timetable feed writes the region of both over some days, and `migrate` writes a
 /// region anew, in the other format. `contract` writes a hierarchy of the region's road layers, which `check` accepts.
@@ -125,6 +126,7 @@ pub fn run<F: Shelf, O: Sink, E: Sink>(
 ) -> Outcome
     ensures outcome { (caps : Caps) × AreFull caps × IsOutcome caps (map string_bytes words.now) (F.meaning shelf.old) (F.meaning shelf.new) (O.meaning out.old) (O.meaning out.new) result }
     ensures complete { (caps : Caps) × AreFull caps × IsComplete caps (map string_bytes words.now) (F.meaning shelf.old) (F.meaning shelf.new) (O.meaning out.old) (O.meaning out.new) result }
+    ensures plain { (r : Request) → IsPlainForm (map string_bytes words.now) r → AsksFor (map string_bytes words.now) r }
 {
     let outcome = run_within(alloc, words, shelf, out, notes, &Caps::FULL);
     tell_end(alloc, words, outcome, notes);

@@ -1,0 +1,7 @@
+use Rattle.std.proofs.Common.{map}
+use Rattle.std.specs.Prelude.{string_bytes}
+use Rattle.command_words.proofs.PlainForms.{plain_asks}
+use Rattle.planner_core.proofs.running.run.Goals as goal
+
+pub returns-clause-plain : goal.returns-clause-plain
+returns-clause-plain g c = plain_asks (map string_bytes c.args.words.now)
