@@ -1,12 +1,12 @@
 -- Words that ask for a sample city give it a size.
 use Rattle.std.proofs.Common.{◌≡◌, ℕ, ◌≤◌, Bool, true, false, ◌&&◌, cond, nat_le, if◌then◌else◌, List, [], ◌∷◌, Option, Some, None, refl, subst, leb-true, codes}
-use Rattle.std.specs.Prelude.{⊤, find, option_and_then, option_map}
+use Rattle.std.specs.Prelude.{⊤, drop, find, option_and_then, option_map}
 use Rattle.std.specs.Str.{bytes_eq}
 use Rattle.clap.specs.Words.{Row, first_of, subcommand_of}
 use Rattle.mode_network.proofs.RuleLemmas.{both}
 use Rattle.region_file.specs.declared.format.Format.TheVariants.{Binary}
 use Rattle.command_line.specs.Description.{modeplan}
-use Rattle.command_words.specs.Requests.{Request, AsksFor, number_of, size_of, format_or, keep_or_none, commands, request_at, two_at, days_and_format_at, compile, migrate, contract, answer, certify, verify, check, sample, latest, certify_latest, verify_latest, few}
+use Rattle.command_words.specs.Requests.{Request, AsksFor, number_of, size_of, format_or, keep_or_none, commands, request_at, two_at, days_and_format_at, compile_at, migrate_at, contract_at, check_at, sample_at, answer_at, certify_at, verify_at, few_at, latest_at, certify_latest_at, verify_latest_at, compile, migrate, contract, answer, certify, verify, check, sample, latest, certify_latest, verify_latest, few}
 use Rattle.planner_core.specs.Working.{HasSize}
 
 in_range : (n size : ℕ) (fits : Bool) → nat_le 1 n && nat_le n 300 ≡ fits → (if fits then Some n else None) ≡ Some size → (1 ≤ size) × (size ≤ 300)
@@ -33,48 +33,59 @@ made_of : {A : Type 0} (f : A → Option Request) (o : Option A) → ((a : A) �
 made_of f None sizes r e = absurd (cc)
 made_of f (Some a) sizes r e = sizes a r e
 
+compile_gives : (rows : List Row) → GivesSize (compile_at rows)
+compile_gives rows =
+    made_of (λ two. option_map (λ it. compile two.0 two.1 it.0 it.1) (days_and_format_at rows)) (two_at rows)
+    (λ two. made (λ it. compile two.0 two.1 it.0 it.1) (days_and_format_at rows) (λ it is. tt))
+
+migrate_gives : (rows : List Row) → GivesSize (migrate_at rows)
+migrate_gives rows =
+    made_of (λ region. option_map (λ format. migrate region format) (format_or Binary (first_of (codes "format") rows))) (first_of (codes "first") rows)
+    (λ region. made (λ format. migrate region format) (format_or Binary (first_of (codes "format") rows)) (λ format is. tt))
+
+contract_gives : (rows : List Row) → GivesSize (contract_at rows)
+contract_gives rows =
+    made_of (λ region. option_map (λ keep. contract region keep) (keep_or_none (first_of (codes "keep") rows))) (first_of (codes "first") rows)
+    (λ region. made (λ keep. contract region keep) (keep_or_none (first_of (codes "keep") rows)) (λ keep is. tt))
+
+check_gives : (rows : List Row) → GivesSize (check_at rows)
+check_gives rows = made (λ two. check two.0 two.1) (two_at rows) (λ two is. tt)
+
+sample_gives : (rows : List Row) → GivesSize (sample_at rows)
+sample_gives rows =
+    made_of (λ word. option_map (λ size. sample size) (size_of word)) (first_of (codes "first") rows)
+    (λ word. made (λ size. sample size) (size_of word) (λ size is. read_in_range (number_of word) size is))
+
+answer_gives : (rows : List Row) → GivesSize (answer_at rows)
+answer_gives rows = made (λ two. answer two.0 two.1 (first_of (codes "hierarchy") rows)) (two_at rows) (λ two is. tt)
+
+certify_gives : (rows : List Row) → GivesSize (certify_at rows)
+certify_gives rows = made (λ two. certify two.0 two.1 (first_of (codes "hierarchy") rows)) (two_at rows) (λ two is. tt)
+
+verify_gives : (rows : List Row) → GivesSize (verify_at rows)
+verify_gives rows = made (λ two. verify two.0 two.1 (first_of (codes "hierarchy") rows)) (two_at rows) (λ two is. tt)
+
+few_gives : (rows : List Row) → GivesSize (few_at rows)
+few_gives rows = made (λ two. few two.0 two.1) (two_at rows) (λ two is. tt)
+
+latest_gives : (rows : List Row) → GivesSize (latest_at rows)
+latest_gives rows = made (λ two. latest two.0 two.1) (two_at rows) (λ two is. tt)
+
+certify_latest_gives : (rows : List Row) → GivesSize (certify_latest_at rows)
+certify_latest_gives rows = made (λ two. certify_latest two.0 two.1) (two_at rows) (λ two is. tt)
+
+verify_latest_gives : (rows : List Row) → GivesSize (verify_latest_at rows)
+verify_latest_gives rows = made (λ two. verify_latest two.0 two.1) (two_at rows) (λ two is. tt)
+
 abbrev GiveSizes : List (List ℕ × (List Row → Option Request)) → Type 0
 GiveSizes [] = ⊤
 GiveSizes (command ∷ more) = ((rows : List Row) → GivesSize (command.1 rows)) × GiveSizes more
 
+late_give : GiveSizes (drop 6 commands)
+late_give = (certify_gives, (verify_gives, (few_gives, (latest_gives, (certify_latest_gives, (verify_latest_gives, tt))))))
+
 all_give : GiveSizes commands
-all_give = (
-  λ rows. made_of (λ two. option_map (λ it. compile two.0 two.1 it.0 it.1) (days_and_format_at rows)) (two_at rows) (λ two. made (λ it. compile two.0 two.1 it.0 it.1) (days_and_format_at rows) (λ it is. tt)),
-  (
-    λ rows. made_of (λ region. option_map (λ format. migrate region format) (format_or Binary (first_of (codes "format") rows))) (first_of (codes "first") rows) (λ region. made (λ format. migrate region format) (format_or Binary (first_of (codes "format") rows)) (λ format is. tt)),
-    (
-      λ rows. made_of (λ region. option_map (λ keep. contract region keep) (keep_or_none (first_of (codes "keep") rows))) (first_of (codes "first") rows) (λ region. made (λ keep. contract region keep) (keep_or_none (first_of (codes "keep") rows)) (λ keep is. tt)),
-      (
-        λ rows. made (λ two. check two.0 two.1) (two_at rows) (λ two is. tt),
-        (
-          λ rows. made_of (λ word. option_map (λ size. sample size) (size_of word)) (first_of (codes "first") rows) (λ word. made (λ size. sample size) (size_of word) (λ size is. read_in_range (number_of word) size is)),
-          (
-            λ rows. made (λ two. answer two.0 two.1 (first_of (codes "hierarchy") rows)) (two_at rows) (λ two is. tt),
-            (
-              λ rows. made (λ two. certify two.0 two.1 (first_of (codes "hierarchy") rows)) (two_at rows) (λ two is. tt),
-              (
-                λ rows. made (λ two. verify two.0 two.1 (first_of (codes "hierarchy") rows)) (two_at rows) (λ two is. tt),
-                (
-                  λ rows. made (λ two. few two.0 two.1) (two_at rows) (λ two is. tt),
-                  (
-                    λ rows. made (λ two. latest two.0 two.1) (two_at rows) (λ two is. tt),
-                    (
-                      λ rows. made (λ two. certify_latest two.0 two.1) (two_at rows) (λ two is. tt),
-                      (
-                        λ rows. made (λ two. verify_latest two.0 two.1) (two_at rows) (λ two is. tt),
-                        tt,
-                      ),
-                    ),
-                  ),
-                ),
-              ),
-            ),
-          ),
-        ),
-      ),
-    ),
-  ),
-)
+all_give = (compile_gives, (migrate_gives, (contract_gives, (check_gives, (sample_gives, (answer_gives, late_give))))))
 
 -- ---- so too the one of a name
 
