@@ -31,9 +31,9 @@ use Rattle.gtfs_tables.specs.Routes.{routes}
 use Rattle.gtfs_tables.specs.ServiceDates.{dates}
 use Rattle.gtfs_tables.specs.Services.{rule_in, services}
 use Rattle.gtfs_tables.specs.Sound.{IsCall, IsFrequency, IsId, IsRoute, IsTrip, is_same_call}
-use Rattle.gtfs_tables.specs.Stops.{Station, place_in, stops}
+use Rattle.gtfs_tables.specs.Stops.{Location, place_in, stops}
 use Rattle.gtfs_tables.specs.TableRows.{TableRow, field_in, id_in, value_in}
-use Rattle.gtfs_tables.specs.Trips.{Journey, place_among, trip_of, trip_over, trips}
+use Rattle.gtfs_tables.specs.Trips.{TripLine, place_among, trip_of, trip_over, trips}
 use Rattle.gtfs_tables.proofs.CallLemmas.{same_place}
 use Rattle.gtfs_tables.proofs.SoundLemmas.{behind, distinct_keys, each_keeps, has_value, no_two}
 use Rattle.gtfs_tables.proofs.StopLemmas.{has_id_of}
@@ -78,17 +78,17 @@ module _ (caps : Caps) (text : Option (List ℕ)) where
   -- stops
   module _ (rows : List StopRow) (read : AreRead (stops caps) text rows) where
     pub stops_keep : AllByRecursion (λ (stop : StopRow). IsId stop.id) rows
-    stops_keep = each_keeps (stops caps) text rows read (λ station. IsId station.id) (λ stop. IsId stop.id)
+    stops_keep = each_keeps (stops caps) text rows read (λ location. IsId location.id) (λ stop. IsId stop.id)
         (λ row.
         behind (id_in row column.StopId) _ _ (λ id is.
         behind (value_in (is_usual_at 4) row column.LocationType) _ _ (λ is_stop _.
         behind (place_in row is_stop) _ _ (λ place _.
         id_is row column.StopId id is))))
-        (λ station stop kept gave. subst IsId (sym (has_id_of station stop gave)) kept)
+        (λ location stop kept gave. subst IsId (sym (has_id_of location stop gave)) kept)
 
     pub stop_ids : IsDistinct bytes_eq (map (λ (stop : StopRow). stop.id) rows)
-    stop_ids = distinct_keys (λ stop. stop.id) bytes_eq rows (no_two (stops caps) text rows read (same_ids (λ (station : Station). station.id)) (λ stop other. bytes_eq stop.id other.id)
-        (λ station other stop another gave also. ap₂ bytes_eq (has_id_of station stop gave) (has_id_of other another also)))
+    stop_ids = distinct_keys (λ stop. stop.id) bytes_eq rows (no_two (stops caps) text rows read (same_ids (λ (location : Location). location.id)) (λ stop other. bytes_eq stop.id other.id)
+        (λ location other stop another gave also. ap₂ bytes_eq (has_id_of location stop gave) (has_id_of other another also)))
 
   -- routes
   module _ (rows : List RouteRow) (read : AreRead (routes caps) text rows) where
@@ -140,33 +140,33 @@ module _ (caps : Caps) (text : Option (List ℕ)) where
   -- trips
   module _ (route_ids : List (List ℕ)) (rows : List TripRow) (read : AreRead (trips caps route_ids) text rows) where
     -- a trip is that of its row, over a route that is there
-    record IsOver (journey : Journey) (trip : TripRow) : Type 0 where
-      is : trip ≡ trip_over journey trip.route
+    record IsOver (line : TripLine) (trip : TripRow) : Type 0 where
+      is : trip ≡ trip_over line trip.route
       there : trip.route < length route_ids
 
-    is_over : (journey : Journey) (trip : TripRow) → trip_of route_ids journey ≡ Some trip → IsOver journey trip
-    is_over journey trip e = by_place (place_among route_ids journey.route) refl e
+    is_over : (line : TripLine) (trip : TripRow) → trip_of route_ids line ≡ Some trip → IsOver line trip
+    is_over line trip e = by_place (place_among route_ids line.route) refl e
       where
-        by_place : (o : Option ℕ) → place_among route_ids journey.route ≡ o → option_map (trip_over journey) o ≡ Some trip → IsOver journey trip
+        by_place : (o : Option ℕ) → place_among route_ids line.route ≡ o → option_map (trip_over line) o ≡ Some trip → IsOver line trip
         by_place None at e = absurd (none-some trip e)
         by_place (Some place) at e =
-            let same = same_Some (trip_over journey place) trip e in
-            subst (IsOver journey) same (record { is = refl; there = (position-Some (bytes_eq journey.route) route_ids place [] at).0 })
+            let same = same_Some (trip_over line place) trip e in
+            subst (IsOver line) same (record { is = refl; there = (position-Some (bytes_eq line.route) route_ids place [] at).0 })
 
     pub trips_keep : AllByRecursion (IsTrip (length route_ids)) rows
-    trips_keep = each_keeps (trips caps route_ids) text rows read (λ journey. IsId journey.id × IsId journey.service) (IsTrip (length route_ids))
+    trips_keep = each_keeps (trips caps route_ids) text rows read (λ line. IsId line.id × IsId line.service) (IsTrip (length route_ids))
         (λ row.
         behind (id_in row column.TripId) _ _ (λ id is.
         behind (id_in row column.RouteId) _ _ (λ route _.
         behind (id_in row column.ServiceId) _ _ (λ service also.
         (id_is row column.TripId id is, id_is row column.ServiceId service also)))))
-        (λ journey trip kept gave.
-        let over = is_over journey trip gave in
+        (λ line trip kept gave.
+        let over = is_over line trip gave in
         record { id = subst IsId (sym (ap (λ (trip : TripRow). trip.id) over.is)) kept.0; service = subst IsId (sym (ap (λ (trip : TripRow). trip.service) over.is)) kept.1; route = over.there })
 
     pub trip_ids : IsDistinct bytes_eq (map (λ (trip : TripRow). trip.id) rows)
-    trip_ids = distinct_keys (λ trip. trip.id) bytes_eq rows (no_two (trips caps route_ids) text rows read (same_ids (λ (journey : Journey). journey.id)) (λ trip other. bytes_eq trip.id other.id)
-        (λ journey other trip another gave also. ap₂ bytes_eq (ap (λ (trip : TripRow). trip.id) (is_over journey trip gave).is) (ap (λ (trip : TripRow). trip.id) (is_over other another also).is)))
+    trip_ids = distinct_keys (λ trip. trip.id) bytes_eq rows (no_two (trips caps route_ids) text rows read (same_ids (λ (line : TripLine). line.id)) (λ trip other. bytes_eq trip.id other.id)
+        (λ line other trip another gave also. ap₂ bytes_eq (ap (λ (trip : TripRow). trip.id) (is_over line trip gave).is) (ap (λ (trip : TripRow). trip.id) (is_over other another also).is)))
 
   -- headways
   module _ (trip_ids : List (List ℕ)) (rows : List FrequencyRow) (read : AreRead (frequencies trip_ids) text rows) where

@@ -4,19 +4,19 @@ use Rattle.std.specs.Prelude.{option_map, option_to_list}
 use Rattle.std.proofs.lemmas.Option.{none-some, same_Some}
 use Rattle.plan_base.specs.declared.places.Place.{Place}
 use Rattle.gtfs_tables.specs.declared.stops.StopRow.{StopRow}
-use Rattle.gtfs_tables.specs.Stops.{Station, stop_of}
+use Rattle.gtfs_tables.specs.Stops.{Location, stop_of}
 
-pub has_id_of : (station : Station) (stop : StopRow) → stop_of station ≡ Some stop → stop.id ≡ station.id
-has_id_of station stop e = by_place station.place e
+pub has_id_of : (location : Location) (stop : StopRow) → stop_of location ≡ Some stop → stop.id ≡ location.id
+has_id_of location stop e = by_place location.place e
   where
-    by_place : (o : Option Place) → option_map (λ (place : Place). (let row : StopRow = record { row = station.row; id = station.id; place = place } in row)) o ≡ Some stop → stop.id ≡ station.id
+    by_place : (o : Option Place) → option_map (λ (place : Place). (let row : StopRow = record { row = location.row; id = location.id; place = place } in row)) o ≡ Some stop → stop.id ≡ location.id
     by_place None e = absurd (none-some stop e)
     by_place (Some place) e = ap (λ (stop : StopRow). stop.id) (sym (same_Some _ stop e))
 
 -- the id of a row is listed where the row is that of a stop
-pub listed_id : (station : Station) → option_to_list (option_map (λ (place : Place). station.id) station.place) ≡ map (λ (stop : StopRow). stop.id) (option_to_list (stop_of station))
-listed_id station = by_place station.place
+pub listed_id : (location : Location) → option_to_list (option_map (λ (place : Place). location.id) location.place) ≡ map (λ (stop : StopRow). stop.id) (option_to_list (stop_of location))
+listed_id location = by_place location.place
   where
-    by_place : (o : Option Place) → option_to_list (option_map (λ (place : Place). station.id) o) ≡ map (λ (stop : StopRow). stop.id) (option_to_list (option_map (λ (place : Place). (let row : StopRow = record { row = station.row; id = station.id; place = place } in row)) o))
+    by_place : (o : Option Place) → option_to_list (option_map (λ (place : Place). location.id) o) ≡ map (λ (stop : StopRow). stop.id) (option_to_list (option_map (λ (place : Place). (let row : StopRow = record { row = location.row; id = location.id; place = place } in row)) o))
     by_place None = refl
     by_place (Some place) = refl

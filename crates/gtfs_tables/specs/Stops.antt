@@ -15,7 +15,7 @@ use Rattle.gtfs_tables.specs.TableRows.{TableRow, id_in, value_in}
 use Rattle.gtfs_tables.specs.Tables.{Table}
 
 -- what a row says: a stop has a place
-pub record Station : Type 0 where
+pub record Location : Type 0 where
   pub row : ℕ
   pub id : List ℕ
   pub place : Option Place
@@ -31,24 +31,24 @@ abbrev pub place_in : TableRow → Bool → Result (Option Place) FeedFault
 place_in row is_stop = if is_stop then place_at row else Ok None
 
 -- A row is that of a stop where its location type is empty or 0.
-abbrev pub station_in : TableRow → Result Station FeedFault
-station_in row = do
+abbrev pub location_in : TableRow → Result Location FeedFault
+location_in row = do
   id ← id_in row StopId
   is_stop ← value_in (is_usual_at 4) row LocationType
   place ← place_in row is_stop
   Ok (record { row = row.number; id = id; place = place })
 
-abbrev pub stop_of : Station → Option StopRow
-stop_of station = option_map (λ place. record { row = station.row; id = station.id; place = place }) station.place
+abbrev pub stop_of : Location → Option StopRow
+stop_of location = option_map (λ place. record { row = location.row; id = location.id; place = place }) location.place
 
-abbrev pub stops : Caps → Table Station StopRow
+abbrev pub stops : Caps → Table Location StopRow
 stops caps = record {
   file = file.Stops;
   needed = StopId ∷ StopLat ∷ StopLon ∷ [];
-  reads = station_in;
-  has_key_of = λ station earlier. bytes_eq station.id earlier.id;
-  refers = λ station. [];
-  has_zone_of = λ station first. true;
+  reads = location_in;
+  has_key_of = λ location earlier. bytes_eq location.id earlier.id;
+  refers = λ location. [];
+  has_zone_of = λ location first. true;
   gives = stop_of;
   limit = Some (kind.Stops, caps.stops);
 }

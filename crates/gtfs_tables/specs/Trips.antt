@@ -15,35 +15,35 @@ abbrev pub place_among : List (List ℕ) → List ℕ → Option ℕ
 place_among ids id = position (bytes_eq id) ids
 
 -- what a row says
-pub record Journey : Type 0 where
+pub record TripLine : Type 0 where
   pub row : ℕ
   pub id : List ℕ
   pub route : List ℕ
   pub service : List ℕ
 
-abbrev pub journey_in : TableRow → Result Journey FeedFault
-journey_in row = do
+abbrev pub trip_line_in : TableRow → Result TripLine FeedFault
+trip_line_in row = do
   id ← id_in row TripId
   route ← id_in row RouteId
   service ← id_in row ServiceId
   Ok (record { row = row.number; id = id; route = route; service = service })
 
 -- a trip with the place of its route
-abbrev pub trip_over : Journey → ℕ → TripRow
-trip_over journey route = record { row = journey.row; id = journey.id; route = route; service = journey.service }
+abbrev pub trip_over : TripLine → ℕ → TripRow
+trip_over line route = record { row = line.row; id = line.id; route = route; service = line.service }
 
-abbrev pub trip_of : List (List ℕ) → Journey → Option TripRow
-trip_of routes journey = option_map (trip_over journey) (place_among routes journey.route)
+abbrev pub trip_of : List (List ℕ) → TripLine → Option TripRow
+trip_of routes line = option_map (trip_over line) (place_among routes line.route)
 
 -- the trips over routes of these ids
-abbrev pub trips : Caps → List (List ℕ) → Table Journey TripRow
+abbrev pub trips : Caps → List (List ℕ) → Table TripLine TripRow
 trips caps routes = record {
   file = file.Trips;
   needed = TripId ∷ RouteId ∷ ServiceId ∷ [];
-  reads = journey_in;
-  has_key_of = λ journey earlier. bytes_eq journey.id earlier.id;
-  refers = λ journey. (RouteId, is_some (place_among routes journey.route)) ∷ [];
-  has_zone_of = λ journey first. true;
+  reads = trip_line_in;
+  has_key_of = λ line earlier. bytes_eq line.id earlier.id;
+  refers = λ line. (RouteId, is_some (place_among routes line.route)) ∷ [];
+  has_zone_of = λ line first. true;
   gives = trip_of routes;
   limit = Some (kind.Trips, caps.trips);
 }

@@ -61,8 +61,8 @@ fn read_place(row: &TableRow<'_>, is_stop: bool) -> Result<Option<Place>, FeedFa
 /// What a row says, or the fault of the first field that is not of its form.
 fn read<'a>(row: &TableRow<'a>) -> Result<Line<'a>, FeedFault>
     ensures { MatchResult result
-        (λ line. spec.station_in row.now ≡ Ok (record { row = line.row; id = line.id.now; place = line.place }))
-        (λ fault. spec.station_in row.now ≡ Err fault) }
+        (λ line. spec.location_in row.now ≡ Ok (record { row = line.row; id = line.id.now; place = line.place }))
+        (λ fault. spec.location_in row.now ≡ Err fault) }
 {
     let id = row.id(Column::StopId)?;
     let is_stop = row.is_usual(Column::LocationType, 4)?;
@@ -121,13 +121,13 @@ impl Stops {
 impl TakesRows for Stops {
     ghost use Rattle.gtfs_tables.specs.declared.stops.StopRow.{StopRow};
 
-    ghost Said = { spec.Station };
+    ghost Said = { spec.Location };
 
     ghost Given = { StopRow };
 
     ghost table = { λ kept. spec.stops kept.caps };
 
-    ghost keeps = { λ kept. HoldsListed (spec.stops kept.caps) (λ station. station.id) (λ stop. stop.id) kept.seen kept.ids kept.rows.items };
+    ghost keeps = { λ kept. HoldsListed (spec.stops kept.caps) (λ location. location.id) (λ stop. stop.id) kept.seen kept.ids kept.rows.items };
 
     fn take(&mut self, row: &TableRow<'_>) -> Result<(), FeedFault> {
         let line = read(row)?;

@@ -52,8 +52,8 @@ pub(crate) struct Trips<'a> {
 /// What a row says, or the fault of the first field that is not of its form.
 fn read<'a>(row: &TableRow<'a>) -> Result<Line<'a>, FeedFault>
     ensures { MatchResult result
-        (λ line. spec.journey_in row.now ≡ Ok (record { row = line.row; id = line.id.now; route = line.route.now; service = line.service.now }))
-        (λ fault. spec.journey_in row.now ≡ Err fault) }
+        (λ line. spec.trip_line_in row.now ≡ Ok (record { row = line.row; id = line.id.now; route = line.route.now; service = line.service.now }))
+        (λ fault. spec.trip_line_in row.now ≡ Err fault) }
 {
     let id = row.id(Column::TripId)?;
     let route = row.id(Column::RouteId)?;
@@ -103,13 +103,13 @@ impl<'a> Trips<'a> {
 impl<'a> TakesRows for Trips<'a> {
     ghost use Rattle.gtfs_tables.specs.declared.trips.TripRow.{TripRow};
 
-    ghost Said = { spec.Journey };
+    ghost Said = { spec.TripLine };
 
     ghost Given = { TripRow };
 
     ghost table = { λ kept. spec.trips kept.caps kept.routes.now };
 
-    ghost keeps = { λ kept. HoldsListed (spec.trips kept.caps kept.routes.now) (λ journey. journey.id) (λ trip. trip.id) kept.ids kept.ids kept.rows.items };
+    ghost keeps = { λ kept. HoldsListed (spec.trips kept.caps kept.routes.now) (λ line. line.id) (λ trip. trip.id) kept.ids kept.ids kept.rows.items };
 
     fn take(&mut self, row: &TableRow<'_>) -> Result<(), FeedFault> {
         let line = read(row)?;
