@@ -100,13 +100,10 @@ impl Outcome {
     }
 
     /// What people are told of the outcome at the end of a run. None where they have been told, where it was known what
-    /// is wrong with which file.
+    /// is wrong with which file; and where the words ask for nothing, of which there is more to say.
     pub fn note(self) -> Option<&'static str> {
         match self {
             Outcome::Done => Some("all is written"),
-            Outcome::Usage => Some(
-                "usage: modeplan compile OPL FEED DATE DAYS [--format K] [--zone RULE] | migrate REGION [--format K] | contract REGION [--keep N] | answer REGION QUERIES [--hierarchy FILE] | certify REGION QUERY [--hierarchy FILE] | verify REGION CERTIFICATE [--hierarchy FILE] | check REGION HIERARCHY | few REGION QUERIES | latest REGION QUERIES | certify-latest REGION QUERY | verify-latest REGION CERTIFICATE",
-            ),
             Outcome::WriteFault => Some("standard output can't be written"),
             Outcome::OutOfMemory => Some("memory ran out"),
             _ => None,
