@@ -14,7 +14,7 @@ use Rattle.hierarchy.specs.Indexes.{AreBelow, AreEndsBelow}
 use Rattle.hierarchy.specs.Lookups.{AreInto}
 use Rattle.hierarchy.proofs.HeightLemmas.{height_most}
 use Rattle.phase_graph.specs.Moves.{IsMarked}
-use Rattle.phase_graph.specs.Marks.{AreMarksFor}
+use Rattle.phase_graph.specs.Marks.{AreMarksFor, has_mark}
 use Rattle.phase_graph.specs.Marking.{AreMarks, IsMarking, Extends, AreOldOr, IsFollowedAt, IsFollowed}
 
 -- ---- one mark
@@ -128,6 +128,13 @@ module _ (h : HierarchyLists) (targets : List ℕ) (nodes x : ℕ) (places : Lis
     by_place : (j d : ℕ) → j < n + 1 → (b : Bool) → nat_eq j n ≡ b → IsFollowedAt h queue x (get_or places j d)
     by_place j d lt false apart = far.followed j d (omega (arith, eqb-false j n apart))
     by_place j d lt true same = λ e2 lt2 is to above. absurd (level (subst (λ (y : Entry). IsAbove h.order y.from x) (sym (one_is j d same e2 is)) above))
+
+  -- an entry from a node that has its mark
+  pub following_known : has_mark marks e.from ≡ true → IsFollowing h targets nodes x places marks queue queue0 (n + 1)
+  following_known set = record { marking = far.marking; kept = far.kept; followed = λ j d lt. by_place j d lt (nat_eq j n) refl } where
+    by_place : (j d : ℕ) → j < n + 1 → (b : Bool) → nat_eq j n ≡ b → IsFollowedAt h queue x (get_or places j d)
+    by_place j d lt false apart = far.followed j d (omega (arith, eqb-false j n apart))
+    by_place j d lt true same = λ e2 lt2 is to above. subst (λ (y : Entry). Contains queue y.from) (one_is j d same e2 is) (far.marking.are.listed e.from set)
 
   -- an entry from a node above, which gets a mark
   pub following_more : IsAbove h.order e.from x → IsMarked h targets x → (marks2 : List Bool) (queue2 : List ℕ) → AreMarks nodes marks2 queue2 → Contains queue2 e.from

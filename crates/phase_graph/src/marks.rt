@@ -106,7 +106,7 @@ fn mark_above(
 {
     for place in h.entries_into(x) {
         let from = h.entries()[*place as usize].from;
-        if h.above(from, x) {
+        if !marks[from as usize] && h.above(from, x) {
             mark(nodes, from, marks, queue)?;
         }
     }
