@@ -32,7 +32,8 @@ use Rattle.timetable_arcs.specs.declared.trips.Call.{Call}
 use Rattle.mode_network.specs.declared.nodes.Arc.{Arc}
 use Rattle.region_file.specs.declared.lines.Line.{Line}
 use Rattle.region_file.specs.declared.lines.Line.TheVariants as line
-use Rattle.region_file.specs.Letters.{letter_at, letter_name, letter_names}
+use Rattle.plan_base.specs.LetterNames.{transit_names}
+use Rattle.region_file.specs.Letters.{letter_at, letter_name}
 use Rattle.region_file.specs.Lines.{FitsArc, FitsCall, FitsDays, FitsLine, FitsTrip, arc_words, call_words, flags_of, mode_name, place_words, rule_words, spelled, words}
 use Rattle.region_file.specs.Kinds.{arc_of_words, call_of_words, days_of_words, end_of_words, line_of_kind, line_of, line_of_words, made, mode_of_word, place_of_words, road_of_words, rule_of_words, stop_of_words, switch_of_words, trip_of_words, number_of_word}
 
@@ -80,7 +81,7 @@ mode_again (suc (suc zero)) h = refl
 mode_again (suc (suc (suc n))) h = absurd (omega (arith, h))
 
 -- names of letters
-place_laws : (k : ℕ) → k < 11 → (position (λ known. bytes_eq known (get_or letter_names k [])) letter_names ≡ Some k) × IsWord (get_or letter_names k [])
+place_laws : (k : ℕ) → k < 11 → (position (λ known. bytes_eq known (get_or transit_names k [])) transit_names ≡ Some k) × IsWord (get_or transit_names k [])
 place_laws zero h = (refl, word_by_test (codes "tram") refl)
 place_laws (suc zero) h = (refl, word_by_test (codes "metro") refl)
 place_laws (suc (suc zero)) h = (refl, word_by_test (codes "rail") refl)
@@ -97,11 +98,11 @@ place_laws (suc (suc (suc (suc (suc (suc (suc (suc (suc (suc (suc k))))))))))) h
 letter_takes : (name : List ℕ) (letter : ℕ) → letter_at name ≡ Some letter → (letter_name letter ≡ name) × (3 ≤ letter) × (letter < 14)
 unfolding letter_at
 letter_takes name letter e =
-    let found = mapped (λ place. 3 + place) (position (λ known. bytes_eq known name) letter_names) letter e in
-    let at = position-Some (λ known. bytes_eq known name) letter_names found.0 [] found.1 in
+    let found = mapped (λ place. 3 + place) (position (λ known. bytes_eq known name) transit_names) letter e in
+    let at = position-Some (λ known. bytes_eq known name) transit_names found.0 [] found.1 in
     let few : found.0 < 11 = at.0 in
     let place : letter - 3 ≡ found.0 = omega (arith, found.2) in
-    (ap (λ k. get_or letter_names k []) place ∙ same_bytes (get_or letter_names found.0 []) name at.1, omega (arith, found.2), omega (arith, found.2, few))
+    (ap (λ k. get_or transit_names k []) place ∙ same_bytes (get_or transit_names found.0 []) name at.1, omega (arith, found.2), omega (arith, found.2, few))
 
 letter_again : (letter : ℕ) → 3 ≤ letter → letter < 14 → letter_at (letter_name letter) ≡ Some letter
 unfolding letter_at
