@@ -14,7 +14,7 @@ use Rattle.journey.specs.Best.{asked_by}
 use Rattle.certificate.specs.declared.walked.Walked.{Walked}
 use Rattle.certificate.specs.Verdicts.{AreDenoted, IsFirstFailing}
 use Rattle.certificate.specs.StateSets.{AreAfter}
-use Rattle.certificate.specs.Walked.{IsWalkedTo}
+use Rattle.certificate.specs.Walked.{IsTracedTo}
 use Rattle.certificate.proofs.VerdictLemmas.{fails_same}
 use Rattle.latest_departure.specs.Late.{first_moment}
 use Rattle.late_certificate.specs.Verdicts.{StartsWell, IsJourneyVerdict}
@@ -28,7 +28,7 @@ module _ (n : NetworkLists) (q : Query) (l : LabelsMeaning) (origins destination
   abbrev EndIs : Walked → Option ℕ → Type 0
   EndIs walked place = (letters : List ℕ) → AreAfter l letters walked.states → IsFirstFailing (Contains destinations walked.node) (walked.at ≤ q.depart) (Accepts l letters) place
 
-  pub end_fails : Contains origins j.start × (first_moment n ≤ j.at) → (walked : Walked) → IsWalkedTo n l j.start j.at j.steps walked → (at : ℕ) → EndIs walked (Some at)
+  pub end_fails : Contains origins j.start × (first_moment n ≤ j.at) → (walked : Walked) → IsTracedTo n l j.start j.at j.steps walked → (at : ℕ) → EndIs walked (Some at)
       → IsJourneyVerdict n (asked_by q) j (Invalid 5 at)
   end_fails start walked is at fails = inr (inr (record {
     clause_is = refl;
@@ -41,7 +41,7 @@ module _ (n : NetworkLists) (q : Query) (l : LabelsMeaning) (origins destination
         (to.are walked.node) (denotes is.letters) at (fails is.letters is.states);
   }))
 
-  pub is_in_time : Contains origins j.start × (first_moment n ≤ j.at) → (walked : Walked) → IsWalkedTo n l j.start j.at j.steps walked → EndIs walked None
+  pub is_in_time : Contains origins j.start × (first_moment n ≤ j.at) → (walked : Walked) → IsTracedTo n l j.start j.at j.steps walked → EndIs walked None
       → IsJourneyVerdict n (asked_by q) j Valid
   is_in_time (listed, later) walked is ends =
       let (at_target, in_time, accepts) = ends is.letters is.states in
