@@ -11,23 +11,18 @@ pub const VERSION: &str = "1.0";
 pub fn help(alloc: Global, words: &[String]) -> Result<String, AllocError> {
     match words {
         [_, word] if word.as_str() == "--version" => format!(in alloc; "planbook {VERSION}\n"),
-        [program, _, command, given @ ..] => {
-            let words = behind_book(alloc, program, command, given)?;
+        [_, _, command, given @ ..] => {
+            let words = behind_book(alloc, command, given)?;
             wrong_word(alloc, &words)
         }
         _ => planbook(alloc)?.render_help(),
     }
 }
 
-/// The words without the book's.
-fn behind_book(
-    alloc: Global,
-    program: &str,
-    command: &str,
-    given: &[String],
-) -> Result<Vec<String>, AllocError> {
+/// The command's words behind one for the program and the book, which help repeats.
+fn behind_book(alloc: Global, command: &str, given: &[String]) -> Result<Vec<String>, AllocError> {
     let mut words = Vec::with_capacity(alloc, 2)?;
-    words.push(String::from_str(alloc, program)?)?;
+    words.push(String::from_str(alloc, "planbook BOOK")?)?;
     words.push(String::from_str(alloc, command)?)?;
     for word in given {
         words.push(String::from_str(alloc, word.as_str())?)?;
