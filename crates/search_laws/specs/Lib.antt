@@ -3,3 +3,4 @@ pub mod LabelLaws
 pub mod Walks
 pub mod Collapse
 pub mod Ways
+pub mod Fresh

@@ -1,10 +1,12 @@
 //! Time-dependent graphs that never let a later start arrive earlier.
 
-ghost use Rattle.std.specs.Prelude.{◌≡◌, ◌<◌, ◌^◌, ◌++◌, OnOk, IfSome};
+ghost use Rattle.std.specs.Prelude.{◌≡◌, ◌<◌, ◌^◌, ◌++◌, [], OnOk, IfSome};
 ghost use Rattle.search_laws.specs.GraphLaws.{GraphMeaning, IsLawfulGraph};
 ghost use Rattle.search_laws.specs.Ways.{is_open, open_way, ways_of};
+ghost use Rattle.search_laws.specs.Fresh.{RunRides, AddsFresh};
 
 use crate::Time;
+use crate::given::GivenRuns;
 use std::alloc::AllocError;
 
 /// An arc as its node lists it: the node that it leads to, and the letter that it adds to the word, if any.
@@ -95,6 +97,29 @@ pub trait Graph {
         for i in 0..self.arcs(v) {
             push_way(ways, letters, i, self.arc_at(v, i), self.arrive(v, i, t))?;
         }
+        Ok(())
+    }
+
+    /// The rides of a trip on a day to the calls behind one, wherever they stand. A graph may have none.
+    ghost rides: { Self → RunRides } = { λ _ _ _ _. [] };
+
+    /// Appends what [`ways`](Self::ways) does, for a search that has come to `v` in this state of its automaton; but it may
+    /// leave out rides where the state was given rides as good, and it notes the runs whose rides it appends.
+    fn fresh_ways(
+        &self,
+        v: u32,
+        t: Time,
+        letters: u32,
+        state: u32,
+        given: &mut GivenRuns,
+        ways: &mut Vec<Way>,
+    ) -> Result<(), AllocError>
+        requires node { v < (meaning self.now).nodes }
+        requires time { t < 2 ^ 127 }
+        ensures { OnOk result (AddsFresh (rides self.now) state given.old given.new (ways_of (meaning self.now) v t letters) ways.old.items ways.new.items) }
+    {
+        let _ = (state, given.cells.len());
+        self.ways(v, t, letters, ways)?;
         Ok(())
     }
 

@@ -2,9 +2,11 @@
 //! and what a walk, its word and a least arrival are. Everything above is proved once over these laws.
 #![tactic(auto)]
 
+mod given;
 mod graph;
 mod labels;
 
+pub use given::{GivenRun, GivenRuns};
 pub use graph::{Graph, GraphArc, Way, is_open, push_way};
 pub use labels::{Labels, Move, RoadLabels};
 

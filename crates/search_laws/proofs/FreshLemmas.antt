@@ -1,0 +1,168 @@
+-- Laws of what a search is given where it was given rides of the same runs before.
+use Rattle.std.proofs.Common.{◌≡◌, ℕ, inl, inr, List, [], ◌∷◌, ◌++◌, map, zero, suc, refl, sym, ◌∙◌, ap, subst, append_assoc, arith}
+use Rattle.std.specs.Prelude.{All, Contains}
+use Rattle.std.proofs.lemmas.List.{length-map, get_or-map}
+use Rattle.std.proofs.lemmas.List.Elements.{All-append, All-nil, All-map, All-contains, All-contains_itself, All-weaker, Contains-append_left, Contains-append_right, Contains-append_cases}
+use Rattle.search_laws.specs.declared.graph.GraphArc.{GraphArc}
+use Rattle.search_laws.specs.declared.graph.Way.{Way}
+use Rattle.search_laws.specs.declared.given.GivenRun.{GivenRun}
+use Rattle.search_laws.specs.declared.given.GivenRuns.{GivenRuns}
+use Rattle.search_laws.specs.Fresh.{IsNoted, IsAsGood, HasAsGood, RunRides, WasGiven, IsCovered, AreFresh, AddsFresh}
+
+-- ---- as good
+
+pub as_good_itself : (ways : List Way) (way : Way) → Contains ways way → HasAsGood ways way
+as_good_itself ways way has = (way, has, record { arc = refl; soon = omega arith })
+
+pub as_good_through : (ways : List Way) (x way : Way) → HasAsGood ways x → IsAsGood x way → HasAsGood ways way
+as_good_through ways x way (y, has, good) next = (y, has, record { arc = good.arc ∙ next.arc; soon = omega (arith, good.soon, next.soon) })
+
+pub as_good_left : (xs ys : List Way) (way : Way) → HasAsGood xs way → HasAsGood (xs ++ ys) way
+as_good_left xs ys way (x, has, good) = (x, Contains-append_left xs ys x has, good)
+
+pub as_good_right : (xs ys : List Way) (way : Way) → HasAsGood ys way → HasAsGood (xs ++ ys) way
+as_good_right xs ys way (x, has, good) = (x, Contains-append_right xs ys x has, good)
+
+-- ---- fresh ways
+
+-- from what holds of each element
+pub all_from : (P : Way → Type 0) (ways : List Way) → ((way : Way) → Contains ways way → P way) → All P ways
+all_from P ways each = All-weaker (Contains ways) P each ways (All-contains_itself ways)
+
+module _ (rides : RunRides) (state : ℕ) where
+  -- all of them, where no run is noted
+  pub fresh_all : (given : GivenRuns) (ways : List Way) → AreFresh rides state given given ways ways
+  fresh_all given ways = record {
+    are = All-contains_itself ways;
+    rest = all_from (IsCovered rides state given ways) ways (λ way has. inl (as_good_itself ways way has));
+    noted = λ other way was. inl was;
+  }
+
+  -- none of them, where the state was given as good ones
+  pub fresh_none : (given : GivenRuns) (ways : List Way) → ((way : Way) → Contains ways way → WasGiven rides given state way) → AreFresh rides state given given ways []
+  fresh_none given ways was = record {
+    are = All-nil (Contains ways);
+    rest = all_from (IsCovered rides state given []) ways (λ way has. inr (was way has));
+    noted = λ other way known. inl known;
+  }
+
+  -- some of them, where the state was given as good ones for the others; of a run that is noted they have all rides, or the state was given as good ones
+  pub fresh_noted : (old new : GivenRuns) (run : GivenRun) (ways fresh : List Way) → IsNoted old new run → run.state ≡ state → All (Contains ways) fresh
+      → ((way : Way) → Contains ways way → IsCovered rides state old fresh way)
+      → ((way : Way) → Contains (rides run.trip run.day run.call) way → IsCovered rides state old fresh way)
+      → AreFresh rides state old new ways fresh
+  fresh_noted old new run ways fresh noted here are rest all = record {
+    are = are;
+    rest = all_from (IsCovered rides state old fresh) ways rest;
+    noted = λ other way was. elim (noted was.run was.known) [
+      | inl known ↦ inl (record { run = was.run; known = known; to_state = was.to_state; as_good = was.as_good })
+      | inr same ↦ (let (x, has, good) = subst (λ (r : GivenRun). HasAsGood (rides r.trip r.day r.call) way) same was.as_good in
+          let to : other ≡ state = sym was.to_state ∙ ap (λ (r : GivenRun). r.state) same ∙ here in
+          elim (all x has) [
+            | inl found ↦ inr (to, as_good_through fresh x way found good)
+            | inr before ↦ inl (record { run = before.run; known = before.known; to_state = before.to_state ∙ sym to; as_good = as_good_through (rides before.run.trip before.run.day before.run.call) x way before.as_good good })
+          ])
+    ];
+  }
+
+  -- of one list and then of another
+  pub fresh_append : (old mid new : GivenRuns) (xs ys fresh more : List Way) → AreFresh rides state old mid xs fresh → AreFresh rides state mid new ys more
+      → AreFresh rides state old new (xs ++ ys) (fresh ++ more)
+  fresh_append old mid new xs ys fresh more first second = record {
+    are = All-append (Contains (xs ++ ys)) fresh more
+        (all_from (Contains (xs ++ ys)) fresh (λ way has. Contains-append_left xs ys way (All-contains (Contains xs) fresh way first.are has)))
+        (all_from (Contains (xs ++ ys)) more (λ way has. Contains-append_right xs ys way (All-contains (Contains ys) more way second.are has)));
+    rest = all_from (IsCovered rides state old (fresh ++ more)) (xs ++ ys) (λ way has. elim (Contains-append_cases xs ys way has) [
+      | inl here ↦ (elim (All-contains (IsCovered rides state old fresh) xs way first.rest here) [
+        | inl found ↦ inl (as_good_left fresh more way found)
+        | inr was ↦ inr was
+      ])
+      | inr here ↦ (elim (All-contains (IsCovered rides state mid more) ys way second.rest here) [
+        | inl found ↦ inl (as_good_right fresh more way found)
+        | inr was ↦ (elim (first.noted state way was) [
+          | inl before ↦ inr before
+          | inr found ↦ inl (as_good_left fresh more way found.1)
+        ])
+      ])
+    ]);
+    noted = λ other way was. elim (second.noted other way was) [
+      | inl before ↦ (elim (first.noted other way before) [
+        | inl long ↦ inl long
+        | inr found ↦ inr (found.0, as_good_left fresh more way found.1)
+      ])
+      | inr found ↦ inr (found.0, as_good_right fresh more way found.1)
+    ];
+  }
+
+  pub adds_all : (given : GivenRuns) (ways before after : List Way) → after ≡ before ++ ways → AddsFresh rides state given given ways before after
+  adds_all given ways before after is = (ways, is, fresh_all given ways)
+
+  pub adds_more : (old mid new : GivenRuns) (xs ys before between after : List Way) → AddsFresh rides state old mid xs before between → AddsFresh rides state mid new ys between after
+      → AddsFresh rides state old new (xs ++ ys) before after
+  adds_more old mid new xs ys before between after (fresh, first, are) (more, second, are_more) =
+      (fresh ++ more, second ∙ ap (λ (ways : List Way). ways ++ more) first ∙ append_assoc before fresh more, fresh_append old mid new xs ys fresh more are are_more)
+
+-- ---- the same ways elsewhere
+
+-- what leads elsewhere, and arrives as before
+pub record LeadsElsewhere (to : GraphArc → GraphArc) (f : Way → Way) : Type 0 where
+  pub arc : (x : Way) → (f x).arc ≡ to x.arc
+  pub at : (x : Way) → (f x).at ≡ x.at
+
+-- the element of a list that one of the mapped list comes from
+pub mapped_from : (f : Way → Way) (ways : List Way) (y : Way) → Contains (map f ways) y → (x : Way) × Contains ways x × (f x ≡ y)
+mapped_from f [] y (k, lt, is) = absurd (omega (arith, lt))
+mapped_from f (x ∷ ways) y (zero, lt, is) = (x, (0, omega arith, refl), is)
+mapped_from f (x ∷ ways) y (suc k, lt, is) =
+    let (w, (j, within, at), same) = mapped_from f ways y (k, omega (arith, lt), is) in
+    (w, (suc j, omega (arith, within), at), same)
+
+pub mapped_to : (f : Way → Way) (ways : List Way) (x : Way) → Contains ways x → Contains (map f ways) (f x)
+mapped_to f ways x (k, within, is) = (k, omega (arith, within, length-map ways f), get_or-map f ways k x (f x) within ∙ ap f is)
+
+module _ (to : GraphArc → GraphArc) (f h : Way → Way) (by_f : LeadsElsewhere to f) (by_h : LeadsElsewhere to h) where
+  good_elsewhere : (x way : Way) → IsAsGood x way → IsAsGood (f x) (h way)
+  good_elsewhere x way good = record {
+    arc = by_f.arc x ∙ ap to good.arc ∙ sym (by_h.arc way);
+    soon = omega (arith, by_f.at x, by_h.at way, good.soon);
+  }
+
+  as_good_elsewhere : (ways : List Way) (way : Way) → HasAsGood ways way → HasAsGood (map f ways) (h way)
+  as_good_elsewhere ways way (x, has, good) = (f x, mapped_to f ways x has, good_elsewhere x way good)
+
+-- the rides, and the fresh ways, lead elsewhere
+module _ (to : GraphArc → GraphArc) (f h : Way → Way) (by_f : LeadsElsewhere to f) (by_h : LeadsElsewhere to h) (rides : RunRides) where
+  abbrev pub rides_elsewhere : RunRides
+  rides_elsewhere trip day call = map h (rides trip day call)
+
+  given_elsewhere : (given : GivenRuns) (state : ℕ) (way : Way) → WasGiven rides given state way → WasGiven rides_elsewhere given state (f way)
+  given_elsewhere given state way was = record {
+    run = was.run;
+    known = was.known;
+    to_state = was.to_state;
+    as_good = as_good_elsewhere to h f by_h by_f (rides was.run.trip was.run.day was.run.call) way was.as_good;
+  }
+
+  pub fresh_elsewhere : (state : ℕ) (old new : GivenRuns) (ways fresh : List Way) → AreFresh rides state old new ways fresh → AreFresh rides_elsewhere state old new (map f ways) (map f fresh)
+  fresh_elsewhere state old new ways fresh are = record {
+    are = All-map (Contains (map f ways)) f fresh (all_from (λ way. Contains (map f ways) (f way)) fresh (λ way has. mapped_to f ways way (All-contains (Contains ways) fresh way are.are has)));
+    rest = All-map (IsCovered rides_elsewhere state old (map f fresh)) f ways (all_from (λ way. IsCovered rides_elsewhere state old (map f fresh) (f way)) ways (λ way has.
+        elim (All-contains (IsCovered rides state old fresh) ways way are.rest has) [
+          | inl found ↦ inl (as_good_elsewhere to f f by_f by_f fresh way found)
+          | inr was ↦ inr (given_elsewhere old state way was)
+        ]));
+    noted = λ other way was.
+        let (y, has, good) = was.as_good in
+        let (x, there, same) = mapped_from h (rides was.run.trip was.run.day was.run.call) y has in
+        let good_x : IsAsGood (h x) way = subst (λ (z : Way). IsAsGood z way) (sym same) good in
+        elim (are.noted other x (record { run = was.run; known = was.known; to_state = was.to_state; as_good = as_good_itself (rides was.run.trip was.run.day was.run.call) x there })) [
+          | inl before ↦ inl (record {
+            run = before.run;
+            known = before.known;
+            to_state = before.to_state;
+            as_good = as_good_through (rides_elsewhere before.run.trip before.run.day before.run.call) (h x) way
+                (as_good_elsewhere to h h by_h by_h (rides before.run.trip before.run.day before.run.call) x before.as_good) good_x;
+          })
+          | inr found ↦ inr (found.0, as_good_through (map f fresh) (h x) way (as_good_elsewhere to f h by_f by_h fresh x found.1) good_x)
+        ];
+  }

@@ -1,0 +1,49 @@
+-- What a search is given of the arcs of a node where it was given rides of the same runs before.
+use Rattle.std.specs.Prelude.{◌≡◌, ℕ, ◌≤◌, ◌⊎◌, ◌++◌, List, Some, All, Contains}
+use Rattle.search_laws.specs.declared.graph.Way.{Way}
+use Rattle.search_laws.specs.declared.given.GivenRun.{GivenRun}
+use Rattle.search_laws.specs.declared.given.GivenRuns.{GivenRuns}
+
+-- ---- runs that were given
+
+abbrev pub Knows : GivenRuns → GivenRun → Type 0
+Knows given run = Contains given.cells.items (Some run)
+
+-- nothing is known now but what was, and this run
+abbrev pub IsNoted : GivenRuns → GivenRuns → GivenRun → Type 0
+IsNoted old new run = (other : GivenRun) → Knows new other → Knows old other ⊎ (other ≡ run)
+
+-- ---- ways
+
+-- a way by the same arc, wherever it stands, which arrives no later
+pub record IsAsGood (x way : Way) : Type 0 where
+  pub arc : x.arc ≡ way.arc
+  pub soon : x.at ≤ way.at
+
+abbrev pub HasAsGood : List Way → Way → Type 0
+HasAsGood ways way = (x : Way) × Contains ways x × IsAsGood x way
+
+-- the rides of a trip on a day to the calls behind one
+abbrev pub RunRides : Type 0
+RunRides = ℕ → ℕ → ℕ → List Way
+
+-- the state was given a way as good, by a run that is known
+pub record WasGiven (rides : RunRides) (given : GivenRuns) (state : ℕ) (way : Way) : Type 0 where
+  pub run : GivenRun
+  pub known : Knows given run
+  pub to_state : run.state ≡ state
+  pub as_good : HasAsGood (rides run.trip run.day run.call) way
+
+-- one of these is as good, or one that the state was given
+abbrev pub IsCovered : RunRides → ℕ → GivenRuns → List Way → Way → Type 0
+IsCovered rides state given fresh way = HasAsGood fresh way ⊎ WasGiven rides given state way
+
+-- some of these ways, which lack none but for what the state was given; and of these alone runs are noted
+pub record AreFresh (rides : RunRides) (state : ℕ) (old new : GivenRuns) (ways fresh : List Way) : Type 0 where
+  pub are : All (Contains ways) fresh
+  pub rest : All (IsCovered rides state old fresh) ways
+  pub noted : (other : ℕ) (way : Way) → WasGiven rides new other way → WasGiven rides old other way ⊎ ((other ≡ state) × HasAsGood fresh way)
+
+-- a list goes on with them
+abbrev pub AddsFresh : RunRides → ℕ → GivenRuns → GivenRuns → List Way → List Way → List Way → Type 0
+AddsFresh rides state old new ways before after = (fresh : List Way) × (after ≡ before ++ fresh) × AreFresh rides state old new ways fresh
