@@ -1,9 +1,12 @@
 -- The road arcs, the links and the arc that stands, as the ways at their places.
-use Rattle.std.proofs.Common.{◌≡◌, ℕ, ◌+◌, ◌-◌, ◌<◌, ◌≤◌, List, [], ◌∷◌, ◌++◌, length, true, false, cond, zero, suc, Some, None, refl, sym, ◌∙◌, ap, append_assoc, append-nil, arith}
+use Rattle.std.proofs.Common.{◌≡◌, ℕ, ◌+◌, ◌-◌, ◌<◌, ◌≤◌, List, [], ◌∷◌, ◌++◌, length, true, false, cond, zero, suc, Some, None, refl, sym, subst, ◌∙◌, ap, append_assoc, append-nil, arith}
 use Rattle.std.specs.Prelude.{Option, slice_index_or, is_some}
 use Rattle.std.proofs.lemmas.Bool.{le-ltb, lt-ltb}
 use Rattle.search_laws.specs.Ways.{is_open, open_way, way_at, ways_from, ways_of}
+use Rattle.search_laws.specs.declared.given.GivenRuns.{GivenRuns}
 use Rattle.search_laws.specs.declared.graph.Way.{Way}
+use Rattle.search_laws.specs.Fresh.{AddsFresh}
+use Rattle.search_laws.proofs.FreshLemmas.{adds_all, adds_more}
 use Rattle.search_laws.proofs.WayLemmas.{ways_more, ways_split}
 use Rattle.timetable_arcs.specs.Patterns.{TableLists}
 use Rattle.timetable_arcs.specs.Rides.{rides_at, boards_at}
@@ -14,7 +17,7 @@ use Rattle.plain_graph.specs.declared.plain.PlainArc.{PlainArc}
 use Rattle.plain_graph.specs.declared.plain.PlainArc.TheVariants.{Road, Link, Stand}
 use Rattle.plain_graph.specs.PlainArcs.{plain_arc, plain_meaning, graph_arc, arrival, count_from, stands_at, rides_of, rides_from_stop, inner_arcs_at, no_arc}
 use Rattle.plain_graph.specs.OutArcs.{stop_found, no_mode}
-use Rattle.plain_graph.specs.BoardWays.{boards_ways}
+use Rattle.plain_graph.specs.BoardWays.{boards_ways, plain_rides}
 use Rattle.plain_graph.proofs.BoardTies.{stop_ways}
 
 module _ (n : NetworkLists) (t : TableLists) (time letters v : ℕ) where
@@ -115,16 +118,26 @@ module _ (n : NetworkLists) (t : TableLists) (time letters v : ℕ) where
       let all : inner_arcs_at n t v ≡ length (rides_at t stop) = omega (arith, stands, count) in
       ap (from (roads + links)) all ∙ stop_ways n t time letters v stop found none
 
+  pub parts : ways_of (plain_meaning n t) v time letters ≡ from 0 roads ++ from roads (links + inner_arcs_at n t v)
+  parts =
+      let here : 0 + roads ≡ roads = omega arith in
+      let count : roads + links + inner_arcs_at n t v ≡ roads + (links + inner_arcs_at n t v) = omega arith in
+      ap (from 0) count ∙ ways_split (plain_meaning n t) v time letters 0 roads (links + inner_arcs_at n t v) ∙ ap (λ (i : ℕ). from 0 roads ++ from i (links + inner_arcs_at n t v)) here
+
   -- all of them
   pub all_ways : (before first second : List Way) → first ≡ before ++ from 0 roads → second ≡ first ++ from roads (links + inner_arcs_at n t v)
       → second ≡ before ++ ways_of (plain_meaning n t) v time letters
   all_ways before first second e f =
-      let here : 0 + roads ≡ roads = omega arith in
-      let count : roads + links + inner_arcs_at n t v ≡ roads + (links + inner_arcs_at n t v) = omega arith in
-      let all : ways_of (plain_meaning n t) v time letters ≡ from 0 roads ++ from roads (links + inner_arcs_at n t v) =
-      ap (from 0) count ∙ ways_split (plain_meaning n t) v time letters 0 roads (links + inner_arcs_at n t v) ∙ ap (λ (i : ℕ). from 0 roads ++ from i (links + inner_arcs_at n t v)) here in
       f ∙ ap (λ (ws : List Way). ws ++ from roads (links + inner_arcs_at n t v)) e
-      ∙ append_assoc before (from 0 roads) (from roads (links + inner_arcs_at n t v)) ∙ ap (λ (ws : List Way). before ++ ws) (sym all)
+      ∙ append_assoc before (from 0 roads) (from roads (links + inner_arcs_at n t v)) ∙ ap (λ (ws : List Way). before ++ ws) (sym parts)
+
+  -- all road arcs, and what is fresh of the others
+  pub fresh_parts : (state : ℕ) (old new : GivenRuns) (before first second : List Way) → first ≡ before ++ from 0 roads
+      → AddsFresh (plain_rides n t) state old new (from roads (links + inner_arcs_at n t v)) first second
+      → AddsFresh (plain_rides n t) state old new (ways_of (plain_meaning n t) v time letters) before second
+  fresh_parts state old new before first second e f =
+      subst (λ (ws : List Way). AddsFresh (plain_rides n t) state old new ws before second) (sym parts)
+      (adds_more (plain_rides n t) state old old new (from 0 roads) (from roads (links + inner_arcs_at n t v)) before first second (adds_all (plain_rides n t) state old (from 0 roads) before first e) f)
 
 pub nothing_more : (before more : List Way) → more ≡ [] → before ≡ before ++ more
 nothing_more before more none = sym (append-nil before) ∙ ap (λ (ws : List Way). before ++ ws) (sym none)

@@ -1,12 +1,13 @@
 -- The arcs out of a stop that can be taken at a time, board by board.
-use Rattle.std.specs.Prelude.{ℕ, ◌+◌, ◌*◌, List, [], ◌∷◌, Option, Some, None, drop, if◌then◌else◌}
+use Rattle.std.specs.Prelude.{ℕ, ◌+◌, ◌*◌, List, [], ◌∷◌, Option, Some, None, drop, slice_index, if◌then◌else◌}
 use Rattle.std.specs.List.{flat_map}
+use Rattle.search_laws.specs.Fresh.{RunRides}
 use Rattle.search_laws.specs.Ways.{is_open}
 use Rattle.search_laws.specs.declared.graph.Way.{Way}
 use Rattle.timetable_arcs.specs.declared.trips.Call.{Call}
 use Rattle.timetable_arcs.specs.declared.trips.Instance.{Instance}
 use Rattle.timetable_arcs.specs.declared.rides.Board.{Board}
-use Rattle.timetable_arcs.specs.Patterns.{TableLists, pattern_trip, next_run, arrives}
+use Rattle.timetable_arcs.specs.Patterns.{TableLists, trip_at, pattern_trip, next_run, arrives}
 use Rattle.timetable_arcs.specs.Rides.{alights}
 use Rattle.mode_network.specs.NetworkLists.{NetworkLists, stop_node}
 use Rattle.plain_graph.specs.PlainArcs.{pattern_call}
@@ -53,3 +54,7 @@ abbrev pub call_ways : NetworkLists → ℕ → ℕ → ℕ → List Call → Li
 call_ways n base letter place [] = []
 call_ways n base letter place (call ∷ calls) =
     if call.alight then call_way n base letter place call ∷ call_ways n base letter (place + 1) calls else call_ways n base letter place calls
+
+-- the rides of a trip on a day to each call behind one at which one may alight, wherever they stand
+abbrev pub plain_rides : NetworkLists → TableLists → RunRides
+plain_rides n t trip day call = call_ways n (slice_index t.bases day) (trip_at t trip).letter 0 (drop (call + 1) (trip_at t trip).calls)

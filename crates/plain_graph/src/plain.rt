@@ -10,7 +10,7 @@ ghost use Rattle.plain_graph.specs.PlainArcs.{plain_meaning};
 ghost use Rattle.plain_graph.specs.Lawful.{IsLawfulGraph-prop};
 
 use mode_network::{Arc, Network};
-use search_laws::{Graph, GraphArc, Time, Way, is_open};
+use search_laws::{GivenRuns, Graph, GraphArc, Time, Way, is_open};
 use std::alloc::AllocError;
 use timetable_arcs::{Board, Call, Instance, Ride, Timetable};
 
@@ -44,7 +44,8 @@ impl<'a> Plain<'a> {
     ghost use Rattle.timetable_arcs.specs.Rides.{boards_at};
     ghost use Rattle.timetable_arcs.proofs.RideLemmas.{IsBoardOf};
     ghost use Rattle.search_laws.specs.Ways.{ways_from};
-    ghost use Rattle.plain_graph.specs.BoardWays.{call_way, run_ways, board_ways, boards_ways};
+    ghost use Rattle.search_laws.specs.Fresh.{AddsFresh};
+    ghost use Rattle.plain_graph.specs.BoardWays.{call_way, run_ways, board_ways, boards_ways, plain_rides};
     ghost use Rattle.timetable_arcs.specs.Patterns.{pattern_trip, arrives};
     ghost use Rattle.timetable_arcs.specs.Table.{IsTable};
     ghost use Rattle.plain_graph.specs.Rides.{IsRideOf, IsKnownRide};
@@ -318,6 +319,29 @@ impl<'a> Plain<'a> {
         Ok(())
     }
 
+    /// Appends what [`push_past_roads`](Self::push_past_roads) does, but it may leave out rides where the state was given rides
+    /// as good, and it notes the runs whose rides it appends. Fails where memory runs out.
+    pub fn push_fresh_past_roads(
+        &self,
+        v: u32,
+        t: Time,
+        letters: u32,
+        state: u32,
+        given: &mut GivenRuns,
+        ways: &mut Vec<Way>,
+    ) -> Result<(), AllocError>
+        requires node { v < length (nodes_of self.now.network.now) }
+        requires time { t < 2 ^ 127 }
+        ensures { OnOk result (AddsFresh (plain_rides self.now.network.now self.now.timetable.now) state given.old given.new
+            (ways_from (plain_meaning self.now.network.now self.now.timetable.now) v t letters (count_from self.now.network.now.arcs v)
+            (count_from self.now.network.now.links v + inner_arcs_at self.now.network.now self.now.timetable.now v))
+            ways.old.items ways.new.items) }
+    {
+        let _ = (state, given.cells.len());
+        self.push_past_roads(v, t, letters, ways)?;
+        Ok(())
+    }
+
     /// Appends the links out of `v`, the first of which is the arc at this place.
     fn push_links(
         &self,
@@ -401,6 +425,7 @@ fn rides_at(timetable: &Timetable, stop: u32) -> u64
 
 impl Graph for Plain<'_> {
     ghost use Rattle.plain_graph.specs.PlainArcs.{plain_meaning};
+    ghost use Rattle.plain_graph.specs.BoardWays.{plain_rides};
 
     ghost meaning = { λ g. plain_meaning g.network.now g.timetable.now };
 
@@ -438,6 +463,22 @@ impl Graph for Plain<'_> {
     fn ways(&self, v: u32, t: Time, letters: u32, ways: &mut Vec<Way>) -> Result<(), AllocError> {
         self.push_roads(v, t, letters, ways)?;
         self.push_past_roads(v, t, letters, ways)?;
+        Ok(())
+    }
+
+    ghost rides = { λ g. plain_rides g.network.now g.timetable.now };
+
+    fn fresh_ways(
+        &self,
+        v: u32,
+        t: Time,
+        letters: u32,
+        state: u32,
+        given: &mut GivenRuns,
+        ways: &mut Vec<Way>,
+    ) -> Result<(), AllocError> {
+        self.push_roads(v, t, letters, ways)?;
+        self.push_fresh_past_roads(v, t, letters, state, given, ways)?;
         Ok(())
     }
 
