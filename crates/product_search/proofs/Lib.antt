@@ -4,6 +4,7 @@ mod HeapLemmas
 mod QueueLemmas
 mod OfferLemmas
 mod SumLemmas
+mod GivenLemmas
 mod TakenLemmas
 mod StepLemmas
 mod ReachLemmas

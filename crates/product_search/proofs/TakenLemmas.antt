@@ -1,27 +1,33 @@
--- The arcs that a graph says can be taken, and what they lead to.
-use Rattle.std.proofs.Common.{◌≡◌, ℕ, ◌<◌, ◌≤◌, ◌^◌, Bool, true, false, not, nat_eq, List, Some, None, refl, sym, ◌∙◌, ap, subst}
+-- The arcs that a graph says can be taken, but for what was given before, and what they lead to.
+use Rattle.std.proofs.Common.{◌≡◌, ℕ, ◌<◌, ◌≤◌, ◌^◌, inl, inr, Bool, true, false, not, nat_eq, List, Some, None, refl, sym, ◌∙◌, ap, subst}
 use Rattle.std.specs.Prelude.{Option, All, Contains, IfSome, IsBitSet}
 use Rattle.std.specs.Int.Bits.{bit_and}
 use Rattle.std.proofs.lemmas.Bool.{false≢true, eqb-true}
-use Rattle.std.proofs.lemmas.List.Elements.{All-weaker}
+use Rattle.std.proofs.lemmas.List.Elements.{All-weaker, All-contains}
 use Rattle.search_laws.specs.GraphLaws.{GraphMeaning, IsLawfulGraph}
 use Rattle.search_laws.specs.LabelLaws.{LabelsMeaning, AllAfter, Follows}
 use Rattle.search_laws.specs.Ways.{is_open, ways_of, IsWay}
+use Rattle.search_laws.specs.Fresh.{RunRides, IsCovered, AreFresh}
+use Rattle.search_laws.specs.declared.given.GivenRuns.{GivenRuns}
 use Rattle.search_laws.specs.declared.graph.GraphArc.{GraphArc}
 use Rattle.search_laws.specs.declared.graph.Way.{Way}
 use Rattle.search_laws.proofs.WayLemmas.{ways_are, ways_there}
 use Rattle.product_search.specs.declared.frontier.Reached.{Reached}
 use Rattle.product_search.specs.declared.frontier.Settled.{Settled}
 use Rattle.product_search.specs.declared.frontier.Frontier.{Frontier}
-use Rattle.product_search.specs.Exploring.{IsReachedBy, IsByWays, WayIsReached, IsSuccessor, ArcIsReached, way_by}
+use Rattle.product_search.specs.Exploring.{IsReachedBy, IsByWays, WayIsReached, IsSuccessor, ArcIsReached, AreGivenReached, way_by}
+use Rattle.product_search.proofs.GivenLemmas.{among_reached}
 
 not_false : (b : Bool) → not b ≡ false → b ≡ true
 not_false true h = refl
 not_false false h = absurd (false≢true (sym h))
 
-module _ (g : GraphMeaning) (l : LabelsMeaning) (bound : Option ℕ) (s : Settled) (letters : ℕ) (ways : List Way) (are : ways ≡ ways_of g s.node s.at letters) where
+module _ (g : GraphMeaning) (l : LabelsMeaning) (bound : Option ℕ) (s : Settled) (letters : ℕ) {rides : RunRides} {old new : GivenRuns} {ways : List Way}
+    (are : AreFresh rides s.state old new (ways_of g s.node s.at letters) ways) where
   each_is : s.node < g.nodes → All (IsWay g s.node s.at) ways
-  each_is node = subst (All (IsWay g s.node s.at)) (sym are) (ways_are g s.node s.at letters node)
+  each_is node =
+      All-weaker (Contains (ways_of g s.node s.at letters)) (IsWay g s.node s.at)
+      (λ way has. All-contains (IsWay g s.node s.at) (ways_of g s.node s.at letters) way (ways_are g s.node s.at letters node) has) ways are.are
 
   pub ways_letters : IsLawfulGraph g → s.node < g.nodes → All (λ (way : Way). IfSome way.arc.letter (λ c. c < 14)) ways
   ways_letters lawful node =
@@ -53,15 +59,18 @@ module _ (g : GraphMeaning) (l : LabelsMeaning) (bound : Option ℕ) (s : Settle
     none_after None P h = absurd (false≢true (sym h))
     none_after (Some c) P h = λ j lt by. absurd (has j c lt by (eqb-true (bit_and letters (2 ^ c)) 0 (not_false (nat_eq (bit_and letters (2 ^ c)) 0) h)))
 
-    -- what all arcs lead to is reached, if it is by those
-    pub arcs_reached : All (WayIsReached l bound f s.state) ways → (i : ℕ) → i < g.arcs s.node → ArcIsReached g l bound f s.node s.state s.at i
-    arcs_reached all i lt u e within = by_letter (is_open letters (g.arc_at s.node i).letter) refl
+    -- what all arcs lead to is reached, if it is by those and by what was given before
+    pub arcs_reached : AreGivenReached rides l bound f old → All (WayIsReached l bound f s.state) ways → (i : ℕ) → i < g.arcs s.node → ArcIsReached g l bound f s.node s.state s.at i
+    arcs_reached given all i lt u e within = by_letter (is_open letters (g.arc_at s.node i).letter) refl
       where
         way : Way
         way = record { place = i; arc = g.arc_at s.node i; at = u }
 
         by_letter : (b : Bool) → is_open letters (g.arc_at s.node i).letter ≡ b → AllAfter l s.state (g.arc_at s.node i).letter (λ r. IsReachedBy f (g.arc_at s.node i).to r u)
         by_letter true h =
-            let there : Contains ways way = subst (λ (xs : List Way). Contains xs way) (sym are) (ways_there g s.node s.at letters i u lt e h) in
-            subst (WayIsReached l bound f s.state) there.2 (all there.0 way there.1) within
+            let there : Contains (ways_of g s.node s.at letters) way = ways_there g s.node s.at letters i u lt e h in
+            elim (All-contains (IsCovered rides s.state old ways) (ways_of g s.node s.at letters) way are.rest there) [
+              | inl found ↦ among_reached l bound f s.state ways way all found within
+              | inr was ↦ given s.state way was within
+            ]
         by_letter false h = none_after (g.arc_at s.node i).letter (λ r. IsReachedBy f (g.arc_at s.node i).to r u) h

@@ -3,6 +3,8 @@ use Rattle.std.specs.Prelude.{◌≡◌, ℕ, ◌+◌, ◌<◌, ◌≤◌, true,
 use Rattle.search_laws.specs.GraphLaws.{GraphMeaning, HasArc}
 use Rattle.search_laws.specs.declared.graph.Way.{Way}
 use Rattle.search_laws.specs.LabelLaws.{LabelsMeaning, Follows, AllAfter}
+use Rattle.search_laws.specs.Fresh.{RunRides, WasGiven}
+use Rattle.search_laws.specs.declared.given.GivenRuns.{GivenRuns}
 use Rattle.product_search.specs.declared.frontier.Reached.{Reached}
 use Rattle.product_search.specs.declared.frontier.Settled.{Settled}
 use Rattle.product_search.specs.declared.frontier.Frontier.{Frontier}
@@ -55,6 +57,10 @@ IsByWays l bound s ways w r x = (way : Way) × Contains ways way × IsByWay l bo
 -- what the arc leads to from q, within the bound, is reached by then
 abbrev pub WayIsReached : LabelsMeaning → Option ℕ → Frontier → ℕ → Way → Type 0
 WayIsReached l bound f q way = IsWithin bound way.at → AllAfter l q way.arc.letter (λ r. IsReachedBy f way.arc.to r way.at)
+
+-- what the ways that any state was given lead to, within the bound, is reached by then
+abbrev pub AreGivenReached : RunRides → LabelsMeaning → Option ℕ → Frontier → GivenRuns → Type 0
+AreGivenReached rides l bound f given = (q : ℕ) (way : Way) → WasGiven rides given q way → WayIsReached l bound f q way
 
 -- x is the way to w and r by some arc of s, within the bound
 pub record IsSuccessor (g : GraphMeaning) (l : LabelsMeaning) (bound : Option ℕ) (s : Settled) (w r : ℕ) (x : Reached) : Type 0 where

@@ -4,17 +4,19 @@ ghost use Rattle.std.specs.Prelude.{◌≡◌, ℕ, ◌+◌, ◌<◌, ◌≤◌,
 ghost use Rattle.search_laws.specs.LabelLaws.{AllAfter};
 ghost use Rattle.product_search.specs.Reach.{IsWithin};
 ghost use Rattle.product_search.specs.Waiting.{IsQueueRight};
-ghost use Rattle.product_search.specs.Exploring.{IsReachedBy, IsSettledBy, Offers, LeadsTo, IsByWay, IsByWays, WayIsReached, IsSuccessor, ArcIsReached, IsGiven};
+ghost use Rattle.product_search.specs.Exploring.{IsReachedBy, IsSettledBy, Offers, LeadsTo, IsByWay, IsByWays, WayIsReached, IsSuccessor, ArcIsReached, AreGivenReached, IsGiven};
 ghost use Rattle.product_search.specs.MoveTables.{IsTableOf};
 
 use crate::frontier::{Frontier, Parent, Reached, Settled};
 use crate::moves::MoveTable;
-use search_laws::{Graph, GraphArc, Labels, Time, Way};
+use search_laws::{GivenRuns, Graph, GraphArc, Labels, Time, Way};
 use std::alloc::AllocError;
 
-/// Offers what each arc out of a settled product state leads to within the bound. What `ways` holds is lost.
+/// Offers what each arc out of a settled product state leads to within the bound, but for rides as good as those that its
+/// state was given, which are reached already. Notes the runs whose rides it offers. What `ways` holds is lost.
 pub(crate) fn explore<G: Graph, L: Labels>(
     frontier: &mut Frontier,
+    given: &mut GivenRuns,
     ways: &mut Vec<Way>,
     graph: &G,
     labels: &L,
@@ -29,14 +31,17 @@ pub(crate) fn explore<G: Graph, L: Labels>(
     requires arcs { from.arcs + 1 < 2 ^ 64 }
     requires right { IsQueueRight frontier.old }
     requires settled { IsSettledBy frontier.old from.at }
+    requires given { AreGivenReached (G.rides graph.now) (L.automaton labels.now) bound frontier.old given.old }
     ensures right { OnOk result (IsQueueRight frontier.new) }
     ensures offers { OnOk result (Offers frontier.old frontier.new
         (IsSuccessor (G.meaning graph.now) (L.automaton labels.now) bound from)) }
     ensures reached { OnOk result ((i : ℕ) → i < (G.meaning graph.now).arcs from.node
         → ArcIsReached (G.meaning graph.now) (L.automaton labels.now) bound frontier.new from.node from.state from.at i) }
+    ensures given { OnOk result (AreGivenReached (G.rides graph.now) (L.automaton labels.now) bound frontier.new given.new) }
 {
     ways.clear();
-    graph.ways(from.node, from.at, moves.letters_of(from.state), ways)?;
+    let letters = moves.letters_of(from.state);
+    graph.fresh_ways(from.node, from.at, letters, from.state, given, ways)?;
     explore_ways(frontier, labels, moves, bound, from, ways)?;
     Ok(())
 }

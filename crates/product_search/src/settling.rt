@@ -11,7 +11,7 @@ use crate::frontier::{Frontier, Settled};
 use crate::moves::MoveTable;
 use crate::start::offer_starts;
 use crate::workspace::Workspace;
-use search_laws::{Graph, Labels, Time};
+use search_laws::{GivenRuns, Graph, Labels, Time};
 use std::alloc::{AllocError, Global};
 use std::collections::BTreeSet;
 
@@ -43,6 +43,7 @@ pub(crate) fn settle_all<G: Graph, L: Labels>(
     let mut frontier = Frontier::new(alloc, workspace);
     offer_starts(&mut frontier, labels, starts, dep)?;
     let moves = MoveTable::new(alloc, labels)?;
+    let mut given = GivenRuns::new(alloc);
     let mut ways = Vec::new(alloc);
     while let Some(settled) = frontier.settle_least() {
         if is_end(labels, &ends, settled) {
@@ -53,6 +54,7 @@ pub(crate) fn settle_all<G: Graph, L: Labels>(
         }
         explore(
             &mut frontier,
+            &mut given,
             &mut ways,
             graph,
             labels,

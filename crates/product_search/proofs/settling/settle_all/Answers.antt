@@ -1,13 +1,18 @@
 use Rattle.std.proofs.Common.{arith}
-use Rattle.product_search.proofs.StepLemmas.{searching_on, one_less}
+use Rattle.product_search.proofs.GivenLemmas.{none_given, given_stays}
+use Rattle.product_search.proofs.StepLemmas.{searching_on, one_less, reached_stays}
 use Rattle.product_search.proofs.EndLemmas.{searching_begins, searched_to, ended, searched_all, end_parts, no_end, settled_by}
 use Rattle.product_search.proofs.settling.settle_all.Goals as goal
 
 pub loop-settled-init : goal.loop-settled-init
 loop-settled-init g c =
-    searching_begins (g.G.Graph.meaning c.args.graph.now) (g.L.Labels.automaton c.args.labels.now) c.args.starts.now c.args.targets.now c.args.dep c.args.bound
-    c.new-frontier.result c.offer_starts.new.frontier c.new-frontier.ensures.empty c.requires.starts c.requires.bound
-    c.in_ok-offer_starts.ensures.right c.in_ok-offer_starts.ensures.offers c.in_ok-offer_starts.ensures.reached
+    let labels = g.L.Labels.automaton c.args.labels.now in
+    record {
+      searching = searching_begins (g.G.Graph.meaning c.args.graph.now) labels c.args.starts.now c.args.targets.now c.args.dep c.args.bound
+          c.new-frontier.result c.offer_starts.new.frontier c.new-frontier.ensures.empty c.requires.starts c.requires.bound
+          c.in_ok-offer_starts.ensures.right c.in_ok-offer_starts.ensures.offers c.in_ok-offer_starts.ensures.reached;
+      given = none_given labels c.args.bound (g.G.Graph.rides c.args.graph.now) c.offer_starts.new.frontier c.new-given.result c.new-given.ensures;
+    }
 
 pub returns-then-is_end : goal.returns-then-is_end
 returns-then-is_end g c =
@@ -17,15 +22,20 @@ returns-then-is_end g c =
     let least = c.in-Some.ensures.least in
     let end = end_parts c.args.targets.now c.in_ok-ends.ends s.node (labels.accepts s.state) c.in_ok-ends.ensures c.if-is_end.ensures in (
       searched_to graph (g.met.G.Graph.lawful c.args.graph.now) labels (g.met.L.Labels.lawful c.args.labels.now) c.args.starts.now c.args.targets.now c.args.dep c.args.bound
-          c.loop-settled.frontier c.settle_least.new.self s c.loop-settled.invariant c.in-Some.ensures.right least,
+          c.loop-settled.frontier c.settle_least.new.self s c.loop-settled.invariant.searching c.in-Some.ensures.right least,
       ended graph (g.met.G.Graph.lawful c.args.graph.now) labels (g.met.L.Labels.lawful c.args.labels.now) c.args.starts.now c.args.targets.now c.args.dep c.args.bound
-          c.loop-settled.frontier c.settle_least.new.self s c.loop-settled.invariant c.in-Some.ensures.right least end.0 end.1,
+          c.loop-settled.frontier c.settle_least.new.self s c.loop-settled.invariant.searching c.in-Some.ensures.right least end.0 end.1,
     )
 
 pub explore-requires-clause-settled : goal.explore-requires-clause-settled
 explore-requires-clause-settled g c =
     settled_by (g.G.Graph.meaning c.args.graph.now) (g.L.Labels.automaton c.args.labels.now) c.args.starts.now c.args.targets.now c.args.dep c.args.bound
-    c.loop-settled.frontier c.settle_least.new.self c.in-Some.settled c.loop-settled.invariant c.in-Some.ensures.least
+    c.loop-settled.frontier c.settle_least.new.self c.in-Some.settled c.loop-settled.invariant.searching c.in-Some.ensures.least
+
+pub explore-requires-clause-given : goal.explore-requires-clause-given
+explore-requires-clause-given g c =
+    given_stays (g.L.Labels.automaton c.args.labels.now) c.args.bound (g.G.Graph.rides c.args.graph.now) c.loop-settled.frontier c.settle_least.new.self c.loop-settled.given
+    (reached_stays c.loop-settled.frontier c.settle_least.new.self c.in-Some.settled c.in-Some.ensures.least) c.loop-settled.invariant.given
 
 pub loop-settled-smaller : goal.loop-settled-smaller
 loop-settled-smaller g c =
@@ -33,20 +43,23 @@ loop-settled-smaller g c =
       arith,
       one_less (g.G.Graph.meaning c.args.graph.now) (g.met.G.Graph.lawful c.args.graph.now) (g.L.Labels.automaton c.args.labels.now) (g.met.L.Labels.lawful c.args.labels.now)
           c.args.starts.now c.args.targets.now c.args.dep c.args.bound c.loop-settled.frontier c.settle_least.new.self c.explore.new.frontier c.in-Some.settled
-          c.loop-settled.invariant c.in-Some.ensures.least c.in_ok-explore.ensures.offers,
+          c.loop-settled.invariant.searching c.in-Some.ensures.least c.in_ok-explore.ensures.offers,
     )
 
 pub loop-settled-preserved : goal.loop-settled-preserved
 loop-settled-preserved g c =
     let labels = g.L.Labels.automaton c.args.labels.now in
     let s = c.in-Some.settled in
-    searching_on (g.G.Graph.meaning c.args.graph.now) (g.met.G.Graph.lawful c.args.graph.now) labels (g.met.L.Labels.lawful c.args.labels.now)
-    c.args.starts.now c.args.targets.now c.args.dep c.args.bound c.loop-settled.frontier c.settle_least.new.self c.explore.new.frontier s
-    c.loop-settled.invariant c.in-Some.ensures.least c.in_ok-explore.ensures.offers c.in_ok-explore.ensures.right c.in_ok-explore.ensures.reached
-    (no_end c.args.targets.now c.in_ok-ends.ends s.node (labels.accepts s.state) c.in_ok-ends.ensures c.if-is_end.ensures)
+    record {
+      searching = searching_on (g.G.Graph.meaning c.args.graph.now) (g.met.G.Graph.lawful c.args.graph.now) labels (g.met.L.Labels.lawful c.args.labels.now)
+          c.args.starts.now c.args.targets.now c.args.dep c.args.bound c.loop-settled.frontier c.settle_least.new.self c.explore.new.frontier s
+          c.loop-settled.invariant.searching c.in-Some.ensures.least c.in_ok-explore.ensures.offers c.in_ok-explore.ensures.right c.in_ok-explore.ensures.reached
+          (no_end c.args.targets.now c.in_ok-ends.ends s.node (labels.accepts s.state) c.in_ok-ends.ensures c.if-is_end.ensures);
+      given = c.in_ok-explore.ensures.given;
+    }
 
 pub returns : goal.returns
 returns g c =
     searched_all (g.G.Graph.meaning c.args.graph.now) (g.met.G.Graph.lawful c.args.graph.now) (g.L.Labels.automaton c.args.labels.now) (g.met.L.Labels.lawful c.args.labels.now)
     c.args.starts.now c.args.targets.now c.args.dep c.args.bound c.loop-settled.frontier c.settle_least.new.self
-    c.loop-settled.invariant c.in_default.ensures.right c.in_default.ensures.none c.in_default.ensures.same
+    c.loop-settled.invariant.searching c.in_default.ensures.right c.in_default.ensures.none c.in_default.ensures.same
