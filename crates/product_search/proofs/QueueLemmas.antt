@@ -1,20 +1,21 @@
 -- The entries and the queue of a frontier, change by change.
 use Rattle.std.proofs.Common.{◌≡◌, ◌≢◌, ℕ, ◌+◌, ◌-◌, ◌<◌, ◌≤◌, Bool, true, false, not, ◌==◌, cond, List, [], ◌∷◌, ◌++◌, length, get_or, map, Some, None, zero, suc, inl, inr, refl, sym, ◌∙◌, ap, subst, arith}
-use Rattle.std.specs.Prelude.{Option, slice_get, slice_index, slice_set, if◌then◌else◌}
+use Rattle.std.specs.Prelude.{◌^◌, Option, option_map, slice_get, slice_index, slice_set, if◌then◌else◌}
 use Rattle.std.specs.List.{AllByRecursion, IsDistinct}
 use Rattle.std.specs.Map.{keys_of}
 use Rattle.std.specs.declared.cmp.Reverse.{Reverse}
 use Rattle.std.proofs.lemmas.Bool.{cases_lt, eqb-true, and_parts, not-true, false≢true, cases_eq}
 use Rattle.std.proofs.lemmas.Bool.Decides.{nat_tests}
-use Rattle.std.proofs.lemmas.List.{length-set}
-use Rattle.std.proofs.lemmas.Option.{slice_get_within, get_or_from_slice_get}
+use Rattle.std.proofs.lemmas.List.{length-set, length-map, map-append, map-set}
+use Rattle.std.proofs.lemmas.Option.{slice_get_within, get_or_from_slice_get, slice_get-map}
 use Rattle.std.proofs.lemmas.Map.Keys.{IsDistinct-cons}
 use Rattle.product_search.specs.declared.frontier.Reached.{Reached}
 use Rattle.product_search.specs.declared.frontier.Entry.{Entry}
 use Rattle.product_search.specs.declared.frontier.Settled.{Settled}
 use Rattle.product_search.specs.declared.frontier.Frontier.{Frontier}
+use Rattle.product_search.specs.declared.key.Key.{Key}
 use Rattle.product_search.specs.Queued.{entry_of, Queued, TakesIn, GivesLeast, GivesNone}
-use Rattle.product_search.specs.Waiting.{state_eq, seen, made, settled_now, keyed, reached_in, reached_at, waits_at, IsAt, IsNowhere, IsApart, IsIndexed, IsClear, IsBehind, IsLast, Waits, IsQueueRight, is_same, offered, IsOffered, IsSetAt, NobodyWaits, SameReached, SettlesLeast}
+use Rattle.product_search.specs.Waiting.{state_eq, seen, made, settled_now, keyed, reached_in, reached_at, waits_at, IsAt, IsNowhere, IsApart, IsIndexed, IsClear, IsBehind, IsLast, Waits, IsQueueRight, is_same, offered, IsOffered, IsSetAt, NobodyWaits, SameReached, SettlesLeast, AreKeys, bar_of, key_of}
 
 -- ---- equal keys
 
@@ -262,12 +263,13 @@ module _ (old new : Frontier) (n v q c : ℕ) (way : Reached) (right : IsQueueRi
         subst (λ u. Queued new.queue u k) at (subst (λ j. Queued new.queue way.at j) (sym same) put.there))
   ]
 
-  pub right_put : IsIndexed new → IsQueueRight new
-  right_put indexed = record {
+  pub right_put : IsIndexed new → AreKeys new.keys.items new.entries.items → IsQueueRight new
+  right_put indexed keys = record {
     queue = put.right;
     waits = put_waits;
     apart = apart_still old.entries.items new.entries.items n v q c way changes right.apart;
     indexed = indexed;
+    keys = keys;
   }
 
 -- ---- the chains
@@ -405,13 +407,15 @@ module _ (old new : Frontier) (t n : ℕ) (right : IsQueueRight old) (popped : G
   still k u e waits other = popped.stays u k (right.waits k u e waits) other
 
   -- by a stale entry nobody waits
-  pub right_stale : new.first.items ≡ old.first.items → new.entries.items ≡ old.entries.items → ((e : Entry) → Waits old.entries.items n t e → ⊥) → IsQueueRight new
-  right_stale first same stale = record {
+  pub right_stale : new.first.items ≡ old.first.items → new.entries.items ≡ old.entries.items → AreKeys new.keys.items new.entries.items
+      → ((e : Entry) → Waits old.entries.items n t e → ⊥) → IsQueueRight new
+  right_stale first same keys stale = record {
     queue = popped.right;
     waits = λ k u e waits. (let was : Waits old.entries.items k u e = subst (λ es. Waits es k u e) same waits in
         still k u e was (λ is. let p = entry_parts t n u k is in stale e (subst (λ j. Waits old.entries.items j t e) (sym p.1) (subst (λ s. Waits old.entries.items k s e) (sym p.0) was))));
     apart = subst (λ es. IsApart es) (sym same) right.apart;
     indexed = indexed_links old new right.indexed first (ap length same) (subst (λ es. SameLinks old.entries.items es) (sym same) (same_links old.entries.items));
+    keys = keys;
   }
 
   pub same_stale : new.entries.items ≡ old.entries.items → SameReached old new
@@ -434,14 +438,15 @@ module _ (old new : Frontier) (t n : ℕ) (right : IsQueueRight old) (popped : G
           (λ is. let p = entry_parts t n u k is in other (sym p.1))
     ]
 
-    pub right_settled : new.first.items ≡ old.first.items → IsQueueRight new
+    pub right_settled : new.first.items ≡ old.first.items → AreKeys new.keys.items new.entries.items → IsQueueRight new
     unfolding at_entry
-    right_settled first = record {
+    right_settled first keys = record {
       queue = popped.right;
       waits = settled_waits;
       apart = apart_still old.entries.items new.entries.items n e.node e.state e.next (record (seen e) { settled = true }) changes right.apart;
       indexed = indexed_links old new right.indexed first (ap length set ∙ length-set old.entries.items n (settled_now e))
           (links_set old.entries.items new.entries.items n e.node e.state e.next (record (seen e) { settled = true }) at_entry refl changes);
+      keys = keys;
     }
 
     pub settles : (first : Frontier) → SameReached first old → (s : Settled) → s.node ≡ e.node → s.state ≡ e.state → s.at ≡ t → s.arcs ≡ e.arcs → SettlesLeast first new s
@@ -467,12 +472,14 @@ nobody first f right same empty w r u = go (waits_at (reached_at first w r) u) r
       absurd (empty u by.0 (right.waits by.0 u by.1 by.2))
 
 -- the queue is empty
-pub right_same : (old new : Frontier) → IsQueueRight old → new.entries.items ≡ old.entries.items → new.first.items ≡ old.first.items → GivesNone old.queue new.queue → IsQueueRight new
-right_same old new right same first empty = record {
+pub right_same : (old new : Frontier) → IsQueueRight old → new.entries.items ≡ old.entries.items → new.first.items ≡ old.first.items
+    → AreKeys new.keys.items new.entries.items → GivesNone old.queue new.queue → IsQueueRight new
+right_same old new right same first keys empty = record {
   queue = empty.right;
   waits = λ k t e waits. absurd (empty.none t k (right.waits k t e (subst (λ es. Waits es k t e) same waits)));
   apart = subst (λ es. IsApart es) (sym same) right.apart;
   indexed = indexed_links old new right.indexed first (ap length same) (subst (λ es. SameLinks old.entries.items es) (sym same) (same_links old.entries.items));
+  keys = keys;
 }
 
 -- the entry that was read is the one with that number
@@ -485,6 +492,45 @@ within es v q k at = slice_get_within es k (at.entry) at.known
 -- what is known of a product state whose entry was read
 pub read_known : (es : List Entry) → IsApart es → (v q k : ℕ) (x : Entry) → IsAt es v q k → x ≡ get_or es k x → reached_in es v q ≡ Some (seen x)
 read_known es apart v q k x at is = at_known es apart v q k at ∙ ap (λ y. Some (seen y)) (sym (read_is es k x (at.entry) is at.known))
+
+-- ---- keys
+
+pub keys_length : (ks : List Key) (es : List Entry) → AreKeys ks es → length ks ≡ length es
+keys_length ks es keys = ap length keys ∙ length-map es key_of
+
+pub keys_push : (ks : List Key) (es : List Entry) (e : Entry) → AreKeys ks es → AreKeys (ks ++ key_of e ∷ []) (es ++ e ∷ [])
+keys_push ks es e keys = ap (λ l. l ++ key_of e ∷ []) keys ∙ sym (map-append key_of es (e ∷ []))
+
+pub keys_set : (ks : List Key) (es : List Entry) (k : ℕ) (e : Entry) → AreKeys ks es → AreKeys (slice_set ks k (key_of e)) (slice_set es k e)
+keys_set ks es k e keys = ap (λ l. slice_set l k (key_of e)) keys ∙ sym (map-set key_of es k e)
+
+-- the key that was read is that of the entry with that number
+pub key_read : (ks : List Key) (es : List Entry) (k : ℕ) (x : Key) (e : Entry) → AreKeys ks es → x ≡ get_or ks k x → slice_get es k ≡ Some e → x ≡ key_of e
+key_read ks es k x e keys is known =
+    is ∙ get_or_from_slice_get ks k (key_of e) x (ap (λ l. slice_get l k) keys ∙ slice_get-map key_of es k ∙ ap (λ o. option_map key_of o) known)
+
+-- a way before the bar is better
+before_bar : (e : Entry) (way : Reached) → way.at < bar_of e → offered (Some (seen e)) way ≡ Some way
+before_bar e way before = grind (arith, nat_tests)
+
+-- a way from the bar on isn't, unless that is the greatest number
+from_bar : (e : Entry) (way : Reached) → bar_of e ≤ way.at → (bar_of e ≡ 2 ^ 64 - 1 → ⊥) → offered (Some (seen e)) way ≡ Some (seen e)
+from_bar e way from other = grind (arith, nat_tests)
+
+-- what the bar says of the product state whose key was read
+module _ (f : Frontier) (right : IsQueueRight f) (v q k : ℕ) (there : IsAt f.entries.items v q k) (x : Key) (read : x ≡ get_or f.keys.items k x) (way : Reached) where
+  known_here : reached_at f v q ≡ Some (seen (there.entry))
+  known_here = at_known f.entries.items right.apart v q k there
+
+  bar_here : x.bar ≡ bar_of (there.entry)
+  bar_here = ap (λ (y : Key). y.bar) (key_read f.keys.items f.entries.items k x (there.entry) right.keys read there.known)
+
+  pub better_here : way.at < x.bar → offered (reached_at f v q) way ≡ Some way
+  better_here before = ap (λ o. offered o way) known_here ∙ before_bar (there.entry) way (omega (arith, before, bar_here))
+
+  pub kept_here : (x.bar ≡ 2 ^ 64 - 1 → ⊥) → x.bar ≤ way.at → offered (reached_at f v q) way ≡ reached_at f v q
+  kept_here other from =
+      ap (λ o. offered o way) known_here ∙ from_bar (there.entry) way (omega (arith, from, bar_here)) (λ e. other (bar_here ∙ e)) ∙ sym known_here
 
 -- ---- a node's chain
 
@@ -499,24 +545,28 @@ sought_first f indexed v q c is = rw is (let last = indexed.first v in record {
   there = λ k at. (let p = last.there k at in (p.1, p.2, p.3));
 })
 
-module _ (f : Frontier) (indexed : IsIndexed f) (v q c : ℕ) (x : Entry) (some : c ≢ 0) (sought : IsSought f.entries.items v q c) (read : x ≡ get_or f.entries.items (c - 1) x) where
-  sought_entry : (slice_get f.entries.items (c - 1) ≡ Some x) × (x.node ≡ v)
+module _ (f : Frontier) (right : IsQueueRight f) (v q c : ℕ) (x : Key) (some : c ≢ 0) (sought : IsSought f.entries.items v q c) (read : x ≡ get_or f.keys.items (c - 1) x) where
+  -- the entry whose key was read
+  sought_entry : (e : Entry) × (slice_get f.entries.items (c - 1) ≡ Some e) × (e.node ≡ v) × (key_of e ≡ x)
   sought_entry =
       let p = sought.there (c - 1) (omega (arith, some)) in
-      let same = read_is f.entries.items (c - 1) x p.0 read p.1 in
-      (p.1 ∙ ap (λ y. Some y) (sym same), ap (λ (y : Entry). y.node) same ∙ p.2)
+      (p.0, p.1, p.2, sym (key_read f.keys.items f.entries.items (c - 1) x p.0 right.keys read p.1))
+
+  same_state : (sought_entry.0).state ≡ x.state
+  same_state = ap (λ (y : Key). y.state) sought_entry.3
 
   pub sought_found : x.state ≡ q → IsAt f.entries.items v q (c - 1)
-  sought_found state = record { entry = x; known = sought_entry.0; node = sought_entry.1; state = state }
+  sought_found state = record { entry = sought_entry.0; known = sought_entry.1; node = sought_entry.2; state = same_state ∙ state }
 
   sought_last : IsLast f.entries.items v (c - 1) x.next
-  sought_last = subst (λ w. IsLast f.entries.items w (c - 1) x.next) sought_entry.1 (indexed.next (c - 1) x sought_entry.0)
+  sought_last = subst (λ n. IsLast f.entries.items v (c - 1) n) (ap (λ (y : Key). y.next) sought_entry.3)
+      (subst (λ w. IsLast f.entries.items w (c - 1) (sought_entry.0).next) sought_entry.2 (right.indexed.next (c - 1) sought_entry.0 sought_entry.1))
 
   pub sought_next : (x.state ≡ q → ⊥) → IsSought f.entries.items v q x.next
   sought_next differs = record {
     none_after = λ k e known from node state. elim (cases_eq k (c - 1)) [
-      | inl same ↦ (let h : Some x ≡ Some e = sym sought_entry.0 ∙ subst (λ j. slice_get f.entries.items j ≡ Some e) same known in
-          let p : x ≡ e = cc in differs (ap (λ (y : Entry). y.state) p ∙ state))
+      | inl same ↦ (let h : Some (sought_entry.0) ≡ Some e = sym sought_entry.1 ∙ subst (λ j. slice_get f.entries.items j ≡ Some e) same known in
+          let p : sought_entry.0 ≡ e = cc in differs (sym same_state ∙ ap (λ (y : Entry). y.state) p ∙ state))
       | inr other ↦ elim (cases_lt k (c - 1)) [
         | inl lt ↦ sought_last.none_after k e known from lt node
         | inr ge ↦ sought.none_after k e known (omega (arith, ge, other)) node state

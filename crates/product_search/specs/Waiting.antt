@@ -1,10 +1,11 @@
 -- What is known of the product states, and who waits in the queue.
-use Rattle.std.specs.Prelude.{◌≡◌, ℕ, ◌≤◌, Bool, true, false, not, ◌&&◌, ◌||◌, ◌==◌, suc, ◌<◌, List, map, length, slice_index, slice_get, Option, Some, None, nat_le, if◌then◌else◌}
+use Rattle.std.specs.Prelude.{◌≡◌, ℕ, ◌≤◌, Bool, true, false, not, ◌&&◌, ◌||◌, ◌==◌, suc, ◌<◌, List, map, length, slice_index, slice_get, Option, Some, None, nat_le, if◌then◌else◌, min, ◌-◌, ◌^◌}
 use Rattle.std.specs.Map.{lookup}
 use Rattle.product_search.specs.Queued.{Queued, IsQueue}
 use Rattle.product_search.specs.declared.frontier.Reached.{Reached}
 use Rattle.product_search.specs.declared.frontier.Entry.{Entry}
 use Rattle.product_search.specs.declared.frontier.Settled.{Settled}
+use Rattle.product_search.specs.declared.key.Key.{Key}
 use Rattle.product_search.specs.declared.frontier.Frontier.{Frontier}
 
 -- product states are compared part by part
@@ -37,6 +38,16 @@ reached_in es v q = lookup (state_eq (v, q)) (map keyed es)
 
 abbrev pub reached_at : Frontier → ℕ → ℕ → Option Reached
 reached_at f v q = reached_in f.entries.items v q
+
+-- no way of this time or a later one is better than the entry, unless it is the greatest number
+abbrev pub bar_of : Entry → ℕ
+bar_of e = if e.settled then 0 else min e.at (2 ^ 64 - 1)
+
+abbrev pub key_of : Entry → Key
+key_of e = record { state = e.state; next = e.next; bar = bar_of e }
+
+abbrev pub AreKeys : List Key → List Entry → Type 0
+AreKeys ks es = ks ≡ map key_of es
 
 -- the entry with that number is the one of v and q
 pub record IsAt (es : List Entry) (v q k : ℕ) : Type 0 where
@@ -83,12 +94,13 @@ abbrev pub waits_at : Option Reached → ℕ → Bool
 waits_at None t = false
 waits_at (Some x) t = not x.settled && (x.at == t)
 
--- the queue has each that waits, and the entries are apart and found
+-- the queue has each that waits, and the entries are apart and found, each with its key
 pub record IsQueueRight (f : Frontier) : Type 0 where
   pub queue : IsQueue f.queue
   pub waits : (k t : ℕ) (e : Entry) → Waits f.entries.items k t e → Queued f.queue t k
   pub apart : IsApart f.entries.items
   pub indexed : IsIndexed f
+  pub keys : AreKeys f.keys.items f.entries.items
 
 abbrev pub is_same : ℕ → ℕ → ℕ → ℕ → Bool
 is_same v q w r = (v == w) && (q == r)

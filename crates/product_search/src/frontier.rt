@@ -1,8 +1,9 @@
 //! What a search has reached, and the queue of those product states that it has not settled.
 
 ghost use Rattle.std.specs.Prelude.{◌≡◌, ◌≢◌, ℕ, ◌<◌, ◌^◌, ◌++◌, false, true, None, Some, IfSome, IfNone, IfOk, OnOk, IsTrue, IsFalse, IsPermutation, MatchOption, ◌∷◌, [], slice_get, slice_index, slice_set, ◌+◌, if◌then◌else◌, length};
-ghost use Rattle.product_search.specs.Waiting.{IsQueueRight, IsOffered, SettlesLeast, NobodyWaits, SameReached, reached_at, state_eq, offered, IsSetAt, IsAt, IsNowhere, IsIndexed, IsClear, IsBehind, seen, made, settled_now, Waits};
+ghost use Rattle.product_search.specs.Waiting.{IsQueueRight, IsOffered, SettlesLeast, NobodyWaits, SameReached, reached_at, state_eq, offered, IsSetAt, IsAt, IsNowhere, IsIndexed, IsClear, IsBehind, seen, made, settled_now, Waits, AreKeys};
 
+use crate::key::Key;
 use crate::queue::Queue;
 use crate::workspace::Workspace;
 use search_laws::Time;
@@ -56,20 +57,27 @@ pub(crate) struct Settled {
 #[derive(Drop)]
 pub(crate) struct Frontier {
     pub entries: Vec<Entry>,
+    /// For each entry its key.
+    pub keys: Vec<Key>,
     /// For each node the number of its last entry, and 1; or 0. Nodes past its end have none.
     pub first: Vec<u32>,
     pub queue: Queue,
 }
 
 impl Frontier {
-    /// A frontier with nothing reached, which uses the list and the table of a workspace.
+    /// A frontier with nothing reached, which uses the lists and the table of a workspace.
     pub fn new(alloc: Global, workspace: Workspace) -> Frontier
         ensures right { IsQueueRight result }
         ensures empty { (v q : ℕ) → reached_at result v q ≡ None }
     {
-        let Workspace { entries, first } = workspace;
+        let Workspace {
+            entries,
+            keys,
+            first,
+        } = workspace;
         Frontier {
             entries,
+            keys,
             first,
             queue: Queue::new(alloc),
         }
@@ -78,16 +86,16 @@ impl Frontier {
     /// The number of a product state that is reached.
     #[inline(always)]
     fn find(&self, node: u32, state: u32) -> Option<u32>
-        requires { IsIndexed self.now }
+        requires { IsQueueRight self.now }
         ensures { MatchOption result (IsNowhere self.now.entries.items node state) (IsAt self.now.entries.items node state) }
     {
         let mut cursor = self.head(node);
         'chain: while cursor != 0 {
-            let entry = self.entries[(cursor - 1) as usize];
-            if entry.state == state {
+            let key = self.keys[(cursor - 1) as usize];
+            if key.state == state {
                 return Some(cursor - 1);
             }
-            cursor = entry.next;
+            cursor = key.next;
         }
         None
     }
@@ -137,7 +145,11 @@ impl Frontier {
         let number = number_of(self.entries.len())?;
         let next = self.head(node);
         grow(&mut self.first, node)?;
-        self.entries.push(entry_with(node, state, next, way))?;
+        push(
+            &mut self.entries,
+            &mut self.keys,
+            entry_with(node, state, next, way),
+        )?;
         self.first[node as usize] = number + 1;
         self.queue.push(way.at, number)?;
         Ok(())
@@ -157,12 +169,29 @@ impl Frontier {
         ensures right { OnOk result (IsQueueRight self.new) }
         ensures offered { OnOk result (IsOffered self.old self.new node state way) }
     {
-        if is_better(way, self.entries[number as usize]) {
-            let next = self.entries[number as usize].next;
-            self.entries[number as usize] = entry_with(node, state, next, way);
+        if self.is_improved(node, state, number, way) {
+            let next = self.keys[number as usize].next;
+            let entry = entry_with(node, state, next, way);
+            write(&mut self.entries, &mut self.keys, number, entry);
             self.queue.push(way.at, number)?;
         }
         Ok(())
+    }
+
+    /// Whether a way is better than what is known. The entry is read only where its key doesn't tell.
+    #[inline(always)]
+    fn is_improved(&self, node: u32, state: u32, number: u32, way: Reached) -> bool
+        requires right { IsQueueRight self.now }
+        requires there { IsAt self.now.entries.items node state number }
+        ensures better { IsTrue result → offered (reached_at self.now node state) way ≡ Some way }
+        ensures kept { IsFalse result → offered (reached_at self.now node state) way ≡ reached_at self.now node state }
+    {
+        let bar = self.keys[number as usize].bar;
+        if bar == u64::MAX {
+            is_better(way, self.entries[number as usize])
+        } else {
+            way.at < Time::from(bar)
+        }
     }
 
     /// Takes one with the least time from the queue, and settles it.
@@ -174,7 +203,7 @@ impl Frontier {
         ensures same { IfNone result (SameReached self.old self.new) }
     {
         while let Some((at, number)) = self.queue.pop() {
-            if let Some(entry) = settle(&mut self.entries, number, at) {
+            if let Some(entry) = settle(&mut self.entries, &mut self.keys, number, at) {
                 return Some(Settled {
                     node: entry.node,
                     state: entry.state,
@@ -267,8 +296,32 @@ fn is_better(way: Reached, known: Entry) -> bool
     !known.settled && way.at < known.at
 }
 
+/// Puts an entry and its key behind the others.
+fn push(entries: &mut Vec<Entry>, keys: &mut Vec<Key>, entry: Entry) -> Result<(), AllocError>
+    requires { AreKeys keys.old.items entries.old.items }
+    ensures keys { OnOk result (AreKeys keys.new.items entries.new.items) }
+    ensures entries { OnOk result (entries.new.items ≡ entries.old.items ++ entry ∷ []) }
+{
+    keys.push(Key::of(entry))?;
+    entries.push(entry)?;
+    Ok(())
+}
+
+/// Writes an entry and its key.
+fn write(entries: &mut Vec<Entry>, keys: &mut Vec<Key>, number: u32, entry: Entry)
+    requires keys { AreKeys keys.old.items entries.old.items }
+    requires there { number < length entries.old.items }
+    ensures keys { AreKeys keys.new.items entries.new.items }
+    ensures entries { entries.new.items ≡ slice_set entries.old.items number entry }
+{
+    entries[number as usize] = entry;
+    keys[number as usize] = Key::of(entry);
+}
+
 /// Marks a product state as settled, if it waits for that time, and answers its entry as it was.
-fn settle(entries: &mut Vec<Entry>, number: u32, at: Time) -> Option<Entry>
+fn settle(entries: &mut Vec<Entry>, keys: &mut Vec<Key>, number: u32, at: Time) -> Option<Entry>
+    requires { AreKeys keys.old.items entries.old.items }
+    ensures keys { AreKeys keys.new.items entries.new.items }
     ensures known { IfSome result (λ e. Waits entries.old.items number at e) }
     ensures settled { IfSome result (λ e. entries.new.items ≡ slice_set entries.old.items number (settled_now e)) }
     ensures stale { IfNone result ((e : _) → Waits entries.old.items number at e → ⊥) }
@@ -282,9 +335,10 @@ fn settle(entries: &mut Vec<Entry>, number: u32, at: Time) -> Option<Entry>
     if entry.settled || entry.at != at {
         return None;
     }
-    entries[place] = Entry {
+    let settled = Entry {
         settled: true,
         ..entry
     };
+    write(entries, keys, number, settled);
     Some(entry)
 }

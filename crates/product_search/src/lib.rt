@@ -7,6 +7,7 @@ mod checking;
 mod end_check;
 mod explore;
 mod frontier;
+mod key;
 mod label;
 mod listing;
 mod lookup;

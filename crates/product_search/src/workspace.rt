@@ -4,15 +4,18 @@ ghost use Rattle.std.specs.Prelude.{◌≡◌, []};
 ghost use Rattle.product_search.specs.Waiting.{IsClear, IsQueueRight};
 
 use crate::frontier::{Entry, Frontier, cleared};
+use crate::key::Key;
 use std::alloc::Global;
 use std::mem;
 
-/// A list and a table by node that searches use again. They are empty, and have room for what was reached so far.
+/// Two lists and a table by node that searches use again. They are empty, and have room for what was reached so far.
 #[derive(Drop)]
 pub struct Workspace {
     pub(crate) entries: Vec<Entry>,
+    pub(crate) keys: Vec<Key>,
     pub(crate) first: Vec<u32>,
     ghost empty: { entries.items ≡ [] },
+    ghost keyless: { keys.items ≡ [] },
     ghost clear: { IsClear first.items },
 }
 
@@ -20,6 +23,7 @@ impl Workspace {
     pub fn new(alloc: Global) -> Workspace {
         Workspace {
             entries: Vec::new(alloc),
+            keys: Vec::new(alloc),
             first: Vec::new(alloc),
         }
     }
@@ -29,17 +33,23 @@ impl Workspace {
         mem::replace(self, Workspace::new(alloc))
     }
 
-    /// Puts back the list and the table of a search.
+    /// Puts back the lists and the table of a search.
     pub(crate) fn put(&mut self, frontier: Frontier)
         requires { IsQueueRight frontier }
     {
         let Frontier {
             mut entries,
+            mut keys,
             first,
             queue: _queue,
         } = frontier;
         let first = cleared(&entries, first);
         entries.clear();
-        *self = Workspace { entries, first };
+        keys.clear();
+        *self = Workspace {
+            entries,
+            keys,
+            first,
+        };
     }
 }

@@ -2,7 +2,7 @@ use Rattle.std.proofs.Common.{Some, None}
 use Rattle.product_search.proofs.EndLemmas.{arrives}
 use Rattle.product_search.proofs.ListLemmas.{least_labels, reached_listed, labels_in_time}
 use Rattle.product_search.proofs.ClosureLemmas.{labels_closed}
-use Rattle.product_search.proofs.TrailLemmas.{walk_of, walk_in_time, end_in_time}
+use Rattle.product_search.proofs.TrailLemmas.{has_parents, walk_of, walk_in_time, end_in_time}
 use Rattle.product_search.proofs.searching.search_with.Goals as goal
 
 pub returns-in_ok-labels-in-None-clause-arrival : goal.returns-in_ok-labels-in-None-clause-arrival
@@ -37,6 +37,12 @@ returns-in_ok-labels-in-None-clause-times g c =
           c.in_ok-labels-in-None.labels.items listed.sorted listed.labels;
       walk = tt;
     }
+
+pub retrace-requires-clause-parents : goal.retrace-requires-clause-parents
+retrace-requires-clause-parents g c =
+    let found = rw c.in-Some.is at c.in_ok-explored.ensures in
+    has_parents (g.G.Graph.meaning c.args.graph.now) (g.L.Labels.automaton c.args.labels.now) c.args.starts.now c.args.dep
+    c.in_ok-explored.explored.frontier (found.0).traced
 
 pub returns-in_ok-walk-in-Some-clause-arrival : goal.returns-in_ok-walk-in-Some-clause-arrival
 returns-in_ok-walk-in-Some-clause-arrival g c =

@@ -1,22 +1,27 @@
 use Rattle.std.proofs.Common.{arith}
-use Rattle.product_search.proofs.QueueLemmas.{sought_first, sought_found, sought_next, sought_smaller, sought_within}
+use Rattle.product_search.proofs.QueueLemmas.{sought_first, sought_found, sought_next, sought_smaller, sought_within, keys_length}
 use Rattle.product_search.proofs.frontier.Frontier.find.Goals as goal
 
 pub chain-init : goal.chain-init
-chain-init c = sought_first c.args.self.now c.requires c.args.node c.args.state c.head-cursor.result c.head-cursor.ensures
+chain-init c = sought_first c.args.self.now c.requires.indexed c.args.node c.args.state c.head-cursor.result c.head-cursor.ensures
 
-pub index-entry-requires : goal.index-entry-requires
-index-entry-requires c =
-    omega (arith, sought_within c.args.self.now.entries.items c.args.node c.args.state c.chain.cursor c.chain-test.true c.chain.invariant, (c.args.self.now.entries.ok).0)
+pub index-key-requires : goal.index-key-requires
+index-key-requires c =
+    omega (
+      arith,
+      sought_within c.args.self.now.entries.items c.args.node c.args.state c.chain.cursor c.chain-test.true c.chain.invariant,
+      keys_length c.args.self.now.keys.items c.args.self.now.entries.items c.requires.keys,
+      (c.args.self.now.keys.ok).0,
+    )
 
-pub returns-then-entry-state : goal.returns-then-entry-state
-returns-then-entry-state c =
-    sought_found c.args.self.now c.requires c.args.node c.args.state c.chain.cursor c.index-entry.result.now c.chain-test.true c.chain.invariant c.index-entry.ensures c.if-entry-state.true
+pub returns-then-key-state : goal.returns-then-key-state
+returns-then-key-state c =
+    sought_found c.args.self.now c.requires c.args.node c.args.state c.chain.cursor c.index-key.result.now c.chain-test.true c.chain.invariant c.index-key.ensures c.if-key-state.true
 
 pub chain-smaller : goal.chain-smaller
 chain-smaller c =
-    sought_smaller c.args.self.now c.requires c.args.node c.args.state c.chain.cursor c.index-entry.result.now c.chain-test.true c.chain.invariant c.index-entry.ensures
+    sought_smaller c.args.self.now c.requires c.args.node c.args.state c.chain.cursor c.index-key.result.now c.chain-test.true c.chain.invariant c.index-key.ensures
 
 pub chain-preserved : goal.chain-preserved
 chain-preserved c =
-    sought_next c.args.self.now c.requires c.args.node c.args.state c.chain.cursor c.index-entry.result.now c.chain-test.true c.chain.invariant c.index-entry.ensures c.if-entry-state.false
+    sought_next c.args.self.now c.requires c.args.node c.args.state c.chain.cursor c.index-key.result.now c.chain-test.true c.chain.invariant c.index-key.ensures c.if-key-state.false
