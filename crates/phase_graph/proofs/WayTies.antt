@@ -1,13 +1,16 @@
 -- The ways out of a node of the phase graph: along entries, and those that the plain graph has too.
 use Rattle.std.proofs.Common.{◌≡◌, ℕ, ◌+◌, ◌-◌, ◌^◌, ◌<◌, ◌≤◌, Bool, true, false, cond, ◌&&◌, List, [], ◌∷◌, ◌++◌, length, take, drop, set, get_or, zero, suc, Option, Some, None, refl, sym, ◌∙◌, ap, subst, append_assoc, append-nil, arith}
-use Rattle.std.specs.Prelude.{All, map, is_some}
+use Rattle.std.specs.Prelude.{All, Contains, map, is_some}
 use Rattle.std.proofs.Math.Seq.{set-append_seam, get_or-append_seam, drop-append_seam, take-append_seam}
 use Rattle.std.proofs.lemmas.List.{drop_more, drop_all, take_more, take_all, take-append-drop, length-append, length-map, length-take-le, length-drop, get_or-drop, map-append}
-use Rattle.std.proofs.lemmas.List.Elements.{All-cons, All-nil, All-append}
+use Rattle.std.proofs.lemmas.List.Elements.{All-cons, All-nil, All-append, All-contains, All-weaker}
 use Rattle.search_laws.specs.GraphLaws.{GraphMeaning}
-use Rattle.search_laws.specs.Ways.{is_open, way_if, open_way, way_at, ways_from}
+use Rattle.search_laws.specs.Fresh.{AreFresh, AddsFresh}
+use Rattle.search_laws.specs.Ways.{is_open, way_if, open_way, way_at, ways_from, ways_of}
+use Rattle.search_laws.specs.declared.given.GivenRuns.{GivenRuns}
 use Rattle.search_laws.specs.declared.graph.GraphArc.{GraphArc}
 use Rattle.search_laws.specs.declared.graph.Way.{Way}
+use Rattle.search_laws.proofs.FreshLemmas.{LeadsElsewhere, adds_all, adds_more, fresh_elsewhere}
 use Rattle.search_laws.proofs.WayLemmas.{ways_more, ways_split}
 use Rattle.timetable_arcs.specs.Patterns.{TableLists}
 use Rattle.timetable_arcs.specs.Table.{IsTable}
@@ -18,6 +21,7 @@ use Rattle.mode_network.specs.Timetables.{IsTimetableOf}
 use Rattle.mode_network.proofs.IndexLemmas.{range_is_range}
 use Rattle.hierarchy.specs.Lists.{HierarchyLists, is_above}
 use Rattle.hierarchy.specs.Rules.{IsHierarchy}
+use Rattle.plain_graph.specs.BoardWays.{plain_rides}
 use Rattle.plain_graph.specs.PlainArcs.{plain_meaning, count_from, inner_arcs_at, rides_from_stop, graph_arc, arrival}
 use Rattle.plain_graph.specs.Lawful.{plain_lawful}
 use Rattle.plain_graph.specs.declared.plain.PlainArc.{PlainArc}
@@ -26,9 +30,21 @@ use Rattle.phase_graph.specs.declared.phases.PhaseArc.{PhaseArc}
 use Rattle.phase_graph.specs.declared.phases.PhaseArc.TheVariants.{Up, Down, Other}
 use Rattle.phase_graph.specs.Arcs.{phase_node}
 use Rattle.phase_graph.specs.Marks.{has_mark, is_fall}
-use Rattle.phase_graph.specs.PhaseArcs.{phase_meaning, phase_arc, arc_of, arrival_of, rises_at, first_entry, entries_at, entry_at, others_at, first_other, no_rise, node_of, is_down, renumbered, entry_way, fall_ways, FitsAnew}
+use Rattle.phase_graph.specs.PhaseArcs.{phase_meaning, phase_arc, arc_of, arrival_of, rises_at, first_entry, entries_at, entry_at, others_at, first_other, no_rise, node_of, is_down, before_descent, renumbered, phase_rides, entry_way, fall_ways, FitsAnew}
 use Rattle.phase_graph.proofs.GraphLemmas.{whole, entry_begins}
 use Rattle.phase_graph.proofs.PlaceLemmas.{up_is, down_is, other_is}
+
+-- ---- what is put behind a list
+
+-- where it is changed there
+behind_seam : (f : Way → Way) (before more mid after : List Way) → mid ≡ before ++ more → after ≡ take (length before) mid ++ map f (drop (length before) mid) → after ≡ before ++ map f more
+behind_seam f before more mid after e done =
+    done ∙ ap (λ (ws : List Way). take (length before) ws ++ map f (drop (length before) ws)) e
+    ∙ ap (λ (ws : List Way). ws ++ map f (drop (length before) (before ++ more))) (take-append_seam before more)
+    ∙ ap (λ (ws : List Way). before ++ map f ws) (drop-append_seam before more)
+
+leads_before : (first now : ℕ) → LeadsElsewhere before_descent (renumbered first now)
+leads_before first now = record { arc = λ way. refl; at = λ way. refl }
 
 module _ (n : NetworkLists) (h : HierarchyLists) (t : TableLists) (marks : List Bool) (p time letters : ℕ) where
   abbrev g : GraphMeaning
@@ -190,22 +206,45 @@ module _ (n : NetworkLists) (h : HierarchyLists) (t : TableLists) (marks : List 
       ∙ ap (λ x. way_at g p time letters (ups + downs + k) ++ map f (ways_from plain (node_of p) time letters x m)) next
       ∙ ap (λ (ws : List Way). way_at g p time letters (ups + downs + k) ++ ws) (more ∙ ap (λ x. from x m) there)
 
-  -- what was put behind a list is numbered anew there
-  pub put_behind : is_down p ≡ false → (before mid after : List Way)
-      → mid ≡ before ++ ways_from plain (node_of p) time letters (count_from n.arcs (node_of p)) (count_from n.links (node_of p) + inner_arcs_at n t (node_of p))
-      → after ≡ take (length before) mid ++ map (renumbered (count_from n.arcs (node_of p)) (ups + downs)) (drop (length before) mid)
-      → after ≡ before ++ from (ups + downs) (others_at n t (node_of p) (is_down p))
-  put_behind first before mid after e done =
-      let f = renumbered (count_from n.arcs (node_of p)) (ups + downs) in
+  -- the plain graph's ways behind the road arcs, and how they are numbered anew
+  abbrev past_roads : List Way
+  past_roads = ways_from plain (node_of p) time letters (count_from n.arcs (node_of p)) (count_from n.links (node_of p) + inner_arcs_at n t (node_of p))
+
+  abbrev anew : Way → Way
+  anew = renumbered (count_from n.arcs (node_of p)) (ups + downs)
+
+  all_renumbered : is_down p ≡ false → map anew past_roads ≡ from (ups + downs) (others_at n t (node_of p) (is_down p))
+  all_renumbered first =
       let m = count_from n.links (node_of p) + inner_arcs_at n t (node_of p) in
-      let there = ways_from plain (node_of p) time letters (count_from n.arcs (node_of p)) m in
       let here : count_from n.arcs (node_of p) ≡ count_from n.arcs (node_of p) + 0 = omega arith in
       let now : ups + downs + 0 ≡ ups + downs = omega arith in
-      done ∙ ap (λ (ws : List Way). take (length before) ws ++ map f (drop (length before) ws)) e
-      ∙ ap (λ (ws : List Way). ws ++ map f (drop (length before) (before ++ there))) (take-append_seam before there)
-      ∙ ap (λ (ws : List Way). before ++ map f ws) (drop-append_seam before there)
-      ∙ ap (λ k. before ++ map f (ways_from plain (node_of p) time letters k m)) here
-      ∙ ap (λ (ws : List Way). before ++ ws) (others_renumbered first m 0 ∙ ap (λ k. from k m) now ∙ ap (λ d. from (ups + downs) (others_at n t (node_of p) d)) (sym first))
+      ap (λ k. map anew (ways_from plain (node_of p) time letters k m)) here
+      ∙ others_renumbered first m 0 ∙ ap (λ k. from k m) now ∙ ap (λ d. from (ups + downs) (others_at n t (node_of p) d)) (sym first)
+
+  -- what was put behind a list is numbered anew there
+  pub put_behind : is_down p ≡ false → (before mid after : List Way) → mid ≡ before ++ past_roads → after ≡ take (length before) mid ++ map anew (drop (length before) mid)
+      → after ≡ before ++ from (ups + downs) (others_at n t (node_of p) (is_down p))
+  put_behind first before mid after e done = behind_seam anew before past_roads mid after e done ∙ ap (λ (ws : List Way). before ++ ws) (all_renumbered first)
+
+  -- and so are the fresh ones of them
+  pub put_fresh_behind : is_down p ≡ false → (state : ℕ) (old new : GivenRuns) (before mid after : List Way)
+      → AddsFresh (plain_rides n t) state old new past_roads before mid → after ≡ take (length before) mid ++ map anew (drop (length before) mid)
+      → AddsFresh (phase_rides n t) state old new (from (ups + downs) (others_at n t (node_of p) (is_down p))) before after
+  put_fresh_behind first state old new before mid after (fresh, e, are) done = (
+    map anew fresh,
+    behind_seam anew before fresh mid after e done,
+    subst (λ (ws : List Way). AreFresh (phase_rides n t) state old new ws (map anew fresh)) (all_renumbered first)
+        (fresh_elsewhere before_descent anew (renumbered 0 0) (leads_before (count_from n.arcs (node_of p)) (ups + downs)) (leads_before 0 0) (plain_rides n t) state old new past_roads fresh are),
+  )
+
+  -- all entries, and what is fresh of the others
+  pub fresh_joined : (state : ℕ) (old new : GivenRuns) (before first second : List Way) → first ≡ before ++ from 0 (ups + downs)
+      → AddsFresh (phase_rides n t) state old new (from (ups + downs) (others_at n t (node_of p) (is_down p))) first second
+      → AddsFresh (phase_rides n t) state old new (ways_of g p time letters) before second
+  fresh_joined state old new before first second e f =
+      let others = others_at n t (node_of p) (is_down p) in
+      subst (λ (ws : List Way). AddsFresh (phase_rides n t) state old new ws before second) (sym (both (ups + downs) others))
+      (adds_more (phase_rides n t) state old old new (from 0 (ups + downs)) (from (ups + downs) others) before first second (adds_all (phase_rides n t) state old (from 0 (ups + downs)) before first e) f)
 
   -- in the descent: the one that stands
   stand_is : is_down p ≡ true → (mode : ℕ) → letter ≡ Some mode → from (ups + downs) (others_at n t (node_of p) (is_down p)) ≡ open_way letters (ups + downs) (record { to = p; letter = Some mode }) (Some time)
@@ -329,13 +368,26 @@ module _ (n : NetworkLists) (network : IsNetwork n) (t : TableLists) (table : Is
           All-cons (FitsAnew (count_from n.arcs v)) (record { place = place; arc = arc; at = at }) []
           (record { behind = omega arith; few = (let all = few_arcs n network t table v in omega (arith, lt, all)); node = low }) (All-nil (FitsAnew (count_from n.arcs v)))
 
-  pub fit_anew : (m k : ℕ) → k + m ≤ count_from n.links v + inner_arcs_at n t v → All (FitsAnew (count_from n.arcs v)) (ways_from (plain_meaning n t) v time letters (count_from n.arcs v + k) m)
+  fit_anew : (m k : ℕ) → k + m ≤ count_from n.links v + inner_arcs_at n t v → All (FitsAnew (count_from n.arcs v)) (ways_from (plain_meaning n t) v time letters (count_from n.arcs v + k) m)
   fit_anew zero k within = All-nil (FitsAnew (count_from n.arcs v))
   fit_anew (suc m) k within =
       let next : count_from n.arcs v + k + 1 ≡ count_from n.arcs v + (k + 1) = omega arith in
       All-append (FitsAnew (count_from n.arcs v)) (way_at (plain_meaning n t) v time letters (count_from n.arcs v + k)) (ways_from (plain_meaning n t) v time letters (count_from n.arcs v + k + 1) m)
       (one_fits k (omega (arith, within)))
       (subst (λ x. All (FitsAnew (count_from n.arcs v)) (ways_from (plain_meaning n t) v time letters x m)) (sym next) (fit_anew m (k + 1) (omega (arith, within))))
+
+  -- and so can those of them that are put behind a list
+  pub some_fit : (before more mid : List Way) → mid ≡ before ++ more
+      → All (Contains (ways_from (plain_meaning n t) v time letters (count_from n.arcs v) (count_from n.links v + inner_arcs_at n t v))) more
+      → All (FitsAnew (count_from n.arcs v)) (drop (length before) mid)
+  some_fit before more mid e are =
+      let roads = count_from n.arcs v in
+      let m = count_from n.links v + inner_arcs_at n t v in
+      let past = ways_from (plain_meaning n t) v time letters roads m in
+      let here : roads + 0 ≡ roads = omega arith in
+      let all : All (FitsAnew roads) past = subst (λ k. All (FitsAnew roads) (ways_from (plain_meaning n t) v time letters k m)) here (fit_anew m 0 (omega arith)) in
+      subst (All (FitsAnew roads)) (sym (ap (drop (length before)) e ∙ drop-append_seam before more))
+      (All-weaker (Contains past) (FitsAnew roads) (λ way has. All-contains (FitsAnew roads) past way all has) more are)
 
 pub few_others : (n : NetworkLists) → IsNetwork n → (t : TableLists) → IsTable t → (v : ℕ) (down : Bool) → others_at n t v down < 2 ^ 63 + 2 ^ 34
 few_others n network t table v false = few_arcs n network t table v

@@ -1,16 +1,22 @@
 -- What the graph in use answers, and what it is made of.
 use Rattle.std.specs.Prelude.{Option, Some, None}
+use Rattle.search_laws.specs.Fresh.{RunRides}
 use Rattle.search_laws.specs.GraphLaws.{GraphMeaning, IsLawfulGraph}
 use Rattle.mode_network.specs.NetworkLists.{NetworkLists}
 use Rattle.hierarchy.specs.Lists.{HierarchyLists}
+use Rattle.plain_graph.specs.BoardWays.{plain_rides}
 use Rattle.plain_graph.specs.PlainArcs.{plain_meaning}
 use Rattle.phase_graph.specs.declared.in_use.GraphInUse.{GraphInUse}
 use Rattle.phase_graph.specs.declared.in_use.GraphInUse.TheVariants.{Plain, Phases}
-use Rattle.phase_graph.specs.PhaseArcs.{phase_meaning}
+use Rattle.phase_graph.specs.PhaseArcs.{phase_meaning, phase_rides}
 
 abbrev pub meaning_in_use : GraphInUse → GraphMeaning
 meaning_in_use (Plain p) = plain_meaning p.network.now p.timetable.now
 meaning_in_use (Phases p) = phase_meaning p.plain.network.now p.plain.timetable.now p.hierarchy.now p.marks.items
+
+abbrev pub rides_in_use : GraphInUse → RunRides
+rides_in_use (Plain p) = plain_rides p.network.now p.timetable.now
+rides_in_use (Phases p) = phase_rides p.plain.network.now p.plain.timetable.now
 
 abbrev pub network_in : GraphInUse → NetworkLists
 network_in (Plain p) = p.network.now

@@ -1,7 +1,8 @@
 -- The arcs of the phase graph: out of each node, before the descent, its entries up and along the core; then all its entries, of which
 -- those arrive that lead down from a node with a mark to another; and then the arcs of the network that are no road arcs, of which in the descent
 -- there is one that stands at most.
-use Rattle.std.specs.Prelude.{◌≡◌, ℕ, ◌+◌, ◌-◌, ◌*◌, ◌/◌, ◌%◌, ◌^◌, ◌==◌, ◌<◌, ◌≤◌, nat_lt, Bool, true, false, List, [], ◌∷◌, length, Option, Some, None, if◌then◌else◌, slice_index_or}
+use Rattle.std.specs.Prelude.{◌≡◌, ℕ, ◌+◌, ◌-◌, ◌*◌, ◌/◌, ◌%◌, ◌^◌, ◌==◌, ◌<◌, ◌≤◌, nat_lt, Bool, true, false, List, [], ◌∷◌, length, map, Option, Some, None, if◌then◌else◌, slice_index_or}
+use Rattle.search_laws.specs.Fresh.{RunRides}
 use Rattle.search_laws.specs.GraphLaws.{GraphMeaning}
 use Rattle.search_laws.specs.declared.graph.GraphArc.{GraphArc}
 use Rattle.search_laws.specs.declared.graph.Way.{Way}
@@ -12,6 +13,7 @@ use Rattle.hierarchy.specs.declared.rises.Rise.{Rise}
 use Rattle.hierarchy.specs.Lists.{HierarchyLists}
 use Rattle.hierarchy.specs.Lookups.{range_of, from_of}
 use Rattle.hierarchy.specs.Rises.{rises_of}
+use Rattle.plain_graph.specs.BoardWays.{plain_rides}
 use Rattle.plain_graph.specs.PlainArcs.{plain_meaning, count_from, stands_at, inner_arcs_at, arcs_at, plain_arc}
 use Rattle.plain_graph.specs.declared.plain.PlainArc.{PlainArc}
 use Rattle.plain_graph.specs.declared.plain.PlainArc.TheVariants as plain
@@ -93,9 +95,17 @@ entry_way h letter down time i place = record { place = i; arc = record { to = p
 abbrev pub fall_ways : HierarchyLists → List Bool → Option ℕ → ℕ → ℕ → ℕ → List Way
 fall_ways h marks letter time i place = if is_fall h marks (entry_at h place) then entry_way h letter true time i place ∷ [] else []
 
+-- an arc of the plain graph as one before the descent
+abbrev pub before_descent : GraphArc → GraphArc
+before_descent arc = record { to = phase_node arc.to false; letter = arc.letter }
+
 -- a way of the plain graph as one before the descent, where the places that began at `first` begin at `now`
 abbrev pub renumbered : ℕ → ℕ → Way → Way
-renumbered first now way = record { place = way.place - first + now; arc = record { to = phase_node way.arc.to false; letter = way.arc.letter }; at = way.at }
+renumbered first now way = record { place = way.place - first + now; arc = before_descent way.arc; at = way.at }
+
+-- the rides of a trip on a day, which lead to nodes before the descent
+abbrev pub phase_rides : NetworkLists → TableLists → RunRides
+phase_rides n t trip day call = map (renumbered 0 0) (plain_rides n t trip day call)
 
 -- the way may be numbered so: its place is not before the first, nor so far behind that a number runs over
 pub record FitsAnew (first : ℕ) (way : Way) : Type 0 where

@@ -10,7 +10,7 @@ use crate::phases::{Phases, number_of};
 use hierarchy::Hierarchy;
 use mode_network::Network;
 use plain_graph::Plain;
-use search_laws::{Graph, GraphArc, Time, Way};
+use search_laws::{GivenRuns, Graph, GraphArc, Time, Way};
 use std::alloc::{AllocError, Global};
 
 /// The graph of a network, or the phase graph of a hierarchy for some targets.
@@ -49,7 +49,7 @@ impl<'a> GraphInUse<'a> {
 }
 
 impl Graph for GraphInUse<'_> {
-    ghost use Rattle.phase_graph.specs.InUseGraph.{meaning_in_use, lawful_in_use};
+    ghost use Rattle.phase_graph.specs.InUseGraph.{meaning_in_use, rides_in_use, lawful_in_use};
 
     ghost meaning = { meaning_in_use };
 
@@ -85,6 +85,23 @@ impl Graph for GraphInUse<'_> {
         match self {
             GraphInUse::Plain(plain) => plain.ways(v, t, letters, ways),
             GraphInUse::Phases(phases) => phases.ways(v, t, letters, ways),
+        }
+    }
+
+    ghost rides = { rides_in_use };
+
+    fn fresh_ways(
+        &self,
+        v: u32,
+        t: Time,
+        letters: u32,
+        state: u32,
+        given: &mut GivenRuns,
+        ways: &mut Vec<Way>,
+    ) -> Result<(), AllocError> {
+        match self {
+            GraphInUse::Plain(plain) => plain.fresh_ways(v, t, letters, state, given, ways),
+            GraphInUse::Phases(phases) => phases.fresh_ways(v, t, letters, state, given, ways),
         }
     }
 

@@ -13,7 +13,7 @@ use crate::marks::marks;
 use hierarchy::{Entry, Hierarchy, Rise};
 use mode_network::Network;
 use plain_graph::{Plain, PlainArc};
-use search_laws::{Graph, GraphArc, Time, Way, is_open};
+use search_laws::{GivenRuns, Graph, GraphArc, Time, Way, is_open};
 use std::alloc::{AllocError, Global};
 
 /// An arc out of a node of the phase graph.
@@ -55,6 +55,7 @@ pub struct Phases<'a> {
 impl<'a> Phases<'a> {
     ghost use Rattle.std.specs.Prelude.{◌≡◌, ◌<◌, ◌+◌, ◌*◌, ◌^◌, ◌++◌, Bool, true, false, All, IfOk, OnOk, length};
     ghost use Rattle.hierarchy.specs.declared.rises.Rise.{Rise};
+    ghost use Rattle.search_laws.specs.Fresh.{AddsFresh};
     ghost use Rattle.search_laws.specs.Ways.{ways_from, is_open};
     ghost use Rattle.mode_network.specs.NetworkLists.{nodes_of, mode_at};
     ghost use Rattle.phase_graph.specs.Arcs.{IsPhaseGraph, phase_node};
@@ -62,7 +63,7 @@ impl<'a> Phases<'a> {
     ghost use Rattle.hierarchy.specs.Lookups.{AreFrom};
     ghost use Rattle.timetable_arcs.specs.Table.{IsTable};
     ghost use Rattle.phase_graph.specs.Walked.{JourneysHaveWalks, WalksHaveJourneys};
-    ghost use Rattle.phase_graph.specs.PhaseArcs.{phase_meaning, rises_at, first_entry, entries_at, others_at, first_other, phase_arc, phase_arcs_at, FitsArc, BeginsAt, entry_at, fall_arrival, fall_ways, phase_step, node_of, is_down};
+    ghost use Rattle.phase_graph.specs.PhaseArcs.{phase_meaning, rises_at, first_entry, entries_at, others_at, first_other, phase_arc, phase_arcs_at, FitsArc, BeginsAt, entry_at, fall_arrival, fall_ways, phase_step, phase_rides, node_of, is_down};
     ghost use Rattle.plain_graph.specs.PlainArcs.{plain_meaning, arcs_at};
 
     /// The phase graph of a sound hierarchy for these targets, which are nodes of the network. For each journey to a
@@ -438,6 +439,66 @@ impl<'a> Phases<'a> {
         Ok(())
     }
 
+    /// Appends what [`push_others`](Self::push_others) does, but it may leave out rides where the state was given rides as
+    /// good, and it notes the runs whose rides it appends.
+    fn push_fresh_others(
+        &self,
+        p: u32,
+        t: Time,
+        letters: u32,
+        state: u32,
+        given: &mut GivenRuns,
+        ways: &mut Vec<Way>,
+    ) -> Result<(), AllocError>
+        requires node { node_of p < length (nodes_of self.now.plain.network.now) }
+        requires time { t < 2 ^ 127 }
+        ensures { OnOk result (AddsFresh (phase_rides self.now.plain.network.now self.now.plain.timetable.now) state given.old given.new
+            (ways_from (phase_meaning self.now.plain.network.now self.now.plain.timetable.now self.now.hierarchy.now self.now.marks.items) p t letters
+            (length (rises_at self.now.hierarchy.now (node_of p) (is_down p)) + entries_at self.now.hierarchy.now (node_of p))
+            (others_at self.now.plain.network.now self.now.plain.timetable.now (node_of p) (is_down p)))
+            ways.old.items ways.new.items) }
+    {
+        let (v, down) = split(p);
+        let first = self.rises_at(v, down).len() as u64 + self.entries_at(v).1;
+        if down {
+            self.push_stand(p, first, t, letters, ways)
+        } else {
+            self.push_fresh_plain(p, first, t, letters, state, given, ways)
+        }
+    }
+
+    /// Appends what [`push_plain`](Self::push_plain) does, but it may leave out rides where the state was given rides as good,
+    /// and it notes the runs whose rides it appends.
+    fn push_fresh_plain(
+        &self,
+        p: u32,
+        first: u64,
+        t: Time,
+        letters: u32,
+        state: u32,
+        given: &mut GivenRuns,
+        ways: &mut Vec<Way>,
+    ) -> Result<(), AllocError>
+        requires node { node_of p < length (nodes_of self.now.plain.network.now) }
+        requires phase { is_down p ≡ false }
+        requires first { first ≡ length (rises_at self.now.hierarchy.now (node_of p) (is_down p)) + entries_at self.now.hierarchy.now (node_of p) }
+        requires few { first < 2 ^ 62 }
+        requires time { t < 2 ^ 127 }
+        ensures { OnOk result (AddsFresh (phase_rides self.now.plain.network.now self.now.plain.timetable.now) state given.old given.new
+            (ways_from (phase_meaning self.now.plain.network.now self.now.plain.timetable.now self.now.hierarchy.now self.now.marks.items) p t letters first
+            (others_at self.now.plain.network.now self.now.plain.timetable.now (node_of p) (is_down p)))
+            ways.old.items ways.new.items) }
+    {
+        self.plain.timetable().known();
+        let v = p / 2;
+        let before = ways.len();
+        let (first_arc, past_arc) = self.network().arcs_from(v);
+        self.plain
+            .push_fresh_past_roads(v, t, letters, state, given, ways)?;
+        renumber(ways, before, (past_arc - first_arc) as u64, first);
+        Ok(())
+    }
+
     /// Appends what leaves the node `p` in the descent along no entry: the arc that stands, if it is a road node's.
     fn push_stand(
         &self,
@@ -470,7 +531,7 @@ impl<'a> Phases<'a> {
 }
 
 impl Graph for Phases<'_> {
-    ghost use Rattle.phase_graph.specs.PhaseArcs.{phase_meaning};
+    ghost use Rattle.phase_graph.specs.PhaseArcs.{phase_meaning, phase_rides};
 
     ghost meaning = { λ g. phase_meaning g.plain.network.now g.plain.timetable.now g.hierarchy.now g.marks.items };
 
@@ -505,6 +566,22 @@ impl Graph for Phases<'_> {
     fn ways(&self, p: u32, t: Time, letters: u32, ways: &mut Vec<Way>) -> Result<(), AllocError> {
         self.push_entries(p, t, letters, ways)?;
         self.push_others(p, t, letters, ways)?;
+        Ok(())
+    }
+
+    ghost rides = { λ g. phase_rides g.plain.network.now g.plain.timetable.now };
+
+    fn fresh_ways(
+        &self,
+        p: u32,
+        t: Time,
+        letters: u32,
+        state: u32,
+        given: &mut GivenRuns,
+        ways: &mut Vec<Way>,
+    ) -> Result<(), AllocError> {
+        self.push_entries(p, t, letters, ways)?;
+        self.push_fresh_others(p, t, letters, state, given, ways)?;
         Ok(())
     }
 
