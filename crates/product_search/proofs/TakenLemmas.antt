@@ -7,7 +7,7 @@ use Rattle.std.proofs.lemmas.List.Elements.{All-weaker, All-contains}
 use Rattle.search_laws.specs.GraphLaws.{GraphMeaning, IsLawfulGraph}
 use Rattle.search_laws.specs.LabelLaws.{LabelsMeaning, AllAfter, Follows}
 use Rattle.search_laws.specs.Ways.{is_open, ways_of, IsWay}
-use Rattle.search_laws.specs.Fresh.{RunRides, IsCovered, AreFresh}
+use Rattle.search_laws.specs.Fresh.{RunRides, IsCovered}
 use Rattle.search_laws.specs.declared.given.GivenRuns.{GivenRuns}
 use Rattle.search_laws.specs.declared.graph.GraphArc.{GraphArc}
 use Rattle.search_laws.specs.declared.graph.Way.{Way}
@@ -22,12 +22,12 @@ not_false : (b : Bool) → not b ≡ false → b ≡ true
 not_false true h = refl
 not_false false h = absurd (false≢true (sym h))
 
-module _ (g : GraphMeaning) (l : LabelsMeaning) (bound : Option ℕ) (s : Settled) (letters : ℕ) {rides : RunRides} {old new : GivenRuns} {ways : List Way}
-    (are : AreFresh rides s.state old new (ways_of g s.node s.at letters) ways) where
+-- some of the arcs that can be taken
+module _ (g : GraphMeaning) (l : LabelsMeaning) (bound : Option ℕ) (s : Settled) (letters : ℕ) (ways : List Way) (are : All (Contains (ways_of g s.node s.at letters)) ways) where
   each_is : s.node < g.nodes → All (IsWay g s.node s.at) ways
   each_is node =
       All-weaker (Contains (ways_of g s.node s.at letters)) (IsWay g s.node s.at)
-      (λ way has. All-contains (IsWay g s.node s.at) (ways_of g s.node s.at letters) way (ways_are g s.node s.at letters node) has) ways are.are
+      (λ way has. All-contains (IsWay g s.node s.at) (ways_of g s.node s.at letters) way (ways_are g s.node s.at letters node) has) ways are
 
   pub ways_letters : IsLawfulGraph g → s.node < g.nodes → All (λ (way : Way). IfSome way.arc.letter (λ c. c < 14)) ways
   ways_letters lawful node =
@@ -53,24 +53,26 @@ module _ (g : GraphMeaning) (l : LabelsMeaning) (bound : Option ℕ) (s : Settle
         as_made = by.leads.as_given ∙ ap (λ (u : ℕ). way_by s way.place u) (sym at);
       }
 
-  module _ (f : Frontier) (has : (j c : ℕ) → j < l.moves s.state → IsBitSet (l.move_at s.state j).letters c → IsBitSet letters c) where
-    -- a letter outside the set leads nowhere
-    none_after : (letter : Option ℕ) (P : ℕ → Type 0) → is_open letters letter ≡ false → AllAfter l s.state letter P
-    none_after None P h = absurd (false≢true (sym h))
-    none_after (Some c) P h = λ j lt by. absurd (has j c lt by (eqb-true (bit_and letters (2 ^ c)) 0 (not_false (nat_eq (bit_and letters (2 ^ c)) 0) h)))
+module _ (g : GraphMeaning) (l : LabelsMeaning) (bound : Option ℕ) (s : Settled) (letters : ℕ) (f : Frontier)
+    (has : (j c : ℕ) → j < l.moves s.state → IsBitSet (l.move_at s.state j).letters c → IsBitSet letters c) where
+  -- a letter outside the set leads nowhere
+  none_after : (letter : Option ℕ) (P : ℕ → Type 0) → is_open letters letter ≡ false → AllAfter l s.state letter P
+  none_after None P h = absurd (false≢true (sym h))
+  none_after (Some c) P h = λ j lt by. absurd (has j c lt by (eqb-true (bit_and letters (2 ^ c)) 0 (not_false (nat_eq (bit_and letters (2 ^ c)) 0) h)))
 
-    -- what all arcs lead to is reached, if it is by those and by what was given before
-    pub arcs_reached : AreGivenReached rides l bound f old → All (WayIsReached l bound f s.state) ways → (i : ℕ) → i < g.arcs s.node → ArcIsReached g l bound f s.node s.state s.at i
-    arcs_reached given all i lt u e within = by_letter (is_open letters (g.arc_at s.node i).letter) refl
-      where
-        way : Way
-        way = record { place = i; arc = g.arc_at s.node i; at = u }
+  -- what all arcs lead to is reached, if it is by these ways and by what was given before
+  pub arcs_reached : (rides : RunRides) (given : GivenRuns) (ways : List Way) → All (IsCovered rides s.state given ways) (ways_of g s.node s.at letters)
+      → AreGivenReached rides l bound f given → All (WayIsReached l bound f s.state) ways → (i : ℕ) → i < g.arcs s.node → ArcIsReached g l bound f s.node s.state s.at i
+  arcs_reached rides given ways covered before all i lt u e within = by_letter (is_open letters (g.arc_at s.node i).letter) refl
+    where
+      way : Way
+      way = record { place = i; arc = g.arc_at s.node i; at = u }
 
-        by_letter : (b : Bool) → is_open letters (g.arc_at s.node i).letter ≡ b → AllAfter l s.state (g.arc_at s.node i).letter (λ r. IsReachedBy f (g.arc_at s.node i).to r u)
-        by_letter true h =
-            let there : Contains (ways_of g s.node s.at letters) way = ways_there g s.node s.at letters i u lt e h in
-            elim (All-contains (IsCovered rides s.state old ways) (ways_of g s.node s.at letters) way are.rest there) [
-              | inl found ↦ among_reached l bound f s.state ways way all found within
-              | inr was ↦ given s.state way was within
-            ]
-        by_letter false h = none_after (g.arc_at s.node i).letter (λ r. IsReachedBy f (g.arc_at s.node i).to r u) h
+      by_letter : (b : Bool) → is_open letters (g.arc_at s.node i).letter ≡ b → AllAfter l s.state (g.arc_at s.node i).letter (λ r. IsReachedBy f (g.arc_at s.node i).to r u)
+      by_letter true h =
+          let there : Contains (ways_of g s.node s.at letters) way = ways_there g s.node s.at letters i u lt e h in
+          elim (All-contains (IsCovered rides s.state given ways) (ways_of g s.node s.at letters) way covered there) [
+            | inl found ↦ among_reached l bound f s.state ways way all found within
+            | inr was ↦ before s.state way was within
+          ]
+      by_letter false h = none_after (g.arc_at s.node i).letter (λ r. IsReachedBy f (g.arc_at s.node i).to r u) h

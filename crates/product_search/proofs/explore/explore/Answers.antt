@@ -8,13 +8,13 @@ use Rattle.product_search.proofs.explore.explore.Goals as goal
 
 pub explore_ways-requires-clause-letters : goal.explore_ways-requires-clause-letters
 explore_ways-requires-clause-letters g c =
-    ways_letters (g.G.Graph.meaning c.args.graph.now) (g.L.Labels.automaton c.args.labels.now) c.args.bound c.args.from _
-    (fresh_alone c.in_ok-fresh_ways.ensures c.clear.ensures.items c.deref.ensures.value) (g.met.G.Graph.lawful c.args.graph.now) c.requires.node
+    ways_letters (g.G.Graph.meaning c.args.graph.now) (g.L.Labels.automaton c.args.labels.now) c.args.bound c.args.from _ _
+    (fresh_alone c.in_ok-fresh_ways.ensures c.clear.ensures.items c.deref.ensures.value).are (g.met.G.Graph.lawful c.args.graph.now) c.requires.node
 
 pub explore_ways-requires-clause-times : goal.explore_ways-requires-clause-times
 explore_ways-requires-clause-times g c =
-    ways_times (g.G.Graph.meaning c.args.graph.now) (g.L.Labels.automaton c.args.labels.now) c.args.bound c.args.from _
-    (fresh_alone c.in_ok-fresh_ways.ensures c.clear.ensures.items c.deref.ensures.value) (g.met.G.Graph.lawful c.args.graph.now) c.requires.node
+    ways_times (g.G.Graph.meaning c.args.graph.now) (g.L.Labels.automaton c.args.labels.now) c.args.bound c.args.from _ _
+    (fresh_alone c.in_ok-fresh_ways.ensures c.clear.ensures.items c.deref.ensures.value).are (g.met.G.Graph.lawful c.args.graph.now) c.requires.node
 
 pub returns-clause-offers : goal.returns-clause-offers
 returns-clause-offers g c =
@@ -22,15 +22,16 @@ returns-clause-offers g c =
     let labels = g.L.Labels.automaton c.args.labels.now in
     let s = c.args.from in
     offers_weaker c.args.frontier.now c.explore_ways.new.frontier (IsByWays labels c.args.bound s c.deref.result.now) (IsSuccessor graph labels c.args.bound s)
-    (by_ways graph labels c.args.bound s _ (fresh_alone c.in_ok-fresh_ways.ensures c.clear.ensures.items c.deref.ensures.value) c.requires.node) c.in_ok-explore_ways.ensures.offers
+    (by_ways graph labels c.args.bound s _ _ (fresh_alone c.in_ok-fresh_ways.ensures c.clear.ensures.items c.deref.ensures.value).are c.requires.node) c.in_ok-explore_ways.ensures.offers
 
 pub returns-clause-reached : goal.returns-clause-reached
 returns-clause-reached g c =
     let graph = g.G.Graph.meaning c.args.graph.now in
     let labels = g.L.Labels.automaton c.args.labels.now in
     let s = c.args.from in
-    arcs_reached graph labels c.args.bound s _ (fresh_alone c.in_ok-fresh_ways.ensures c.clear.ensures.items c.deref.ensures.value) c.explore_ways.new.frontier
+    arcs_reached graph labels c.args.bound s _ c.explore_ways.new.frontier
     (subst (HasLetters labels s.state) (sym c.letters_of-letters.ensures) (c.requires.table.letters.are s.state c.requires.state))
+    _ _ _ (fresh_alone c.in_ok-fresh_ways.ensures c.clear.ensures.items c.deref.ensures.value).rest
     (given_keeps labels c.args.bound (g.G.Graph.rides c.args.graph.now) c.args.frontier.now c.explore_ways.new.frontier c.args.given.now
     (IsByWays labels c.args.bound s c.deref.result.now) c.in_ok-explore_ways.ensures.offers c.requires.given)
     c.in_ok-explore_ways.ensures.reached
