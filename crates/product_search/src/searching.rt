@@ -61,7 +61,7 @@ pub fn search<G: Graph, L: Labels>(
     Ok(found)
 }
 
-/// The same, with a list and a table that are kept for the next search. Where a search fails, the next one makes new ones.
+/// The same, with lists and a table that are kept for the next search. Where a search fails, the next one makes new ones.
 pub fn search_with<G: Graph, L: Labels>(
     alloc: Global,
     workspace: &mut Workspace,
