@@ -10,7 +10,7 @@ use Rattle.hierarchy.specs.declared.rises.Rise.{Rise}
 use Rattle.hierarchy.specs.Lists.{HierarchyLists}
 use Rattle.hierarchy.specs.Lookups.{count_below, from_of}
 use Rattle.hierarchy.specs.Indexes.{AreEndsBelow, AreOffsets}
-use Rattle.hierarchy.specs.Rises.{AreRisesUpTo, AreRiseTables, AreRisesFrom, IsRiseRange, IsRiseOf, is_rise, rise_from, rises_among, all_rises, rises_of}
+use Rattle.hierarchy.specs.Rises.{AreRisesUpTo, AreRiseTables, AreRisesFrom, IsRiseRange, IsRiseOf, is_rise, rise_at, rise_from, rises_among, all_rises, rises_of}
 use Rattle.hierarchy.proofs.OffsetLemmas.{count_rises, count_most, count_all, key_in_range, in_range_of_key}
 
 module _ (order : List ℕ) (entries : List Entry) where
@@ -35,7 +35,7 @@ module _ (order : List ℕ) (entries : List Entry) where
       rising = far.rising;
     } where
       by_place : (k : ℕ) (d : Entry) → k < n + 1 → is_rise order (get_or entries k d) ≡ true → (b : Bool) → nat_eq k n ≡ b
-          → Contains rises (record { from = (get_or entries k d).from; place = k })
+          → Contains rises (rise_at k (get_or entries k d))
       by_place k d lt up true at =
           let same : k ≡ n = eqb-true k n at in
           let also = subst (λ i. is_rise order (get_or entries i d) ≡ true) same up in
@@ -44,10 +44,10 @@ module _ (order : List ℕ) (entries : List Entry) where
       by_place k d lt up false apart = far.all k d (omega (arith, eqb-false k n apart)) up
 
     last : Rise
-    last = record { from = e.from; place = n }
+    last = rise_at n e
 
     -- an entry more that is one
-    pub rises_more : is_rise order e ≡ true → IsNonDecreasingBy from_of entries → AreRisesUpTo order entries (n + 1) (rises ++ record { from = e.from; place = n } ∷ [])
+    pub rises_more : is_rise order e ≡ true → IsNonDecreasingBy from_of entries → AreRisesUpTo order entries (n + 1) (rises ++ rise_at n e ∷ [])
     unfolding last
     rises_more rises_up ascend = record {
       before = λ k d lt. in_turn (λ (r : Rise). r.place < n + 1) (λ i c h. let low = far.before i c h in omega arith) (omega arith) k d lt;
@@ -59,6 +59,8 @@ module _ (order : List ℕ) (entries : List Entry) where
       is_rise_here = record {
         within = within;
         begins = λ d. ap from_of (here d);
+        ends = λ d. ap (λ (x : Entry). x.to) (here d);
+        weighs = λ d. ap (λ (x : Entry). x.weight) (here d);
         leads = λ d. ap (is_rise order) (here d) ∙ rises_up;
       }
 
@@ -72,14 +74,14 @@ module _ (order : List ℕ) (entries : List Entry) where
               subst P (sym (get_or_append_left rises (last ∷ []) d k earlier)) (before k d earlier)
 
       by_place : (k : ℕ) (d : Entry) → k < n + 1 → is_rise order (get_or entries k d) ≡ true → (b : Bool) → nat_eq k n ≡ b
-          → Contains (rises ++ last ∷ []) (record { from = (get_or entries k d).from; place = k })
+          → Contains (rises ++ last ∷ []) (rise_at k (get_or entries k d))
       by_place k d lt up true at =
           let same : k ≡ n = eqb-true k n at in
-          let row : Rise = record { from = (get_or entries k d).from; place = k } in
-          let e_is : last ≡ row = sym (ap (λ i. record { from = (get_or entries i d).from; place = i }) same ∙ ap (λ (x : Entry). record { from = x.from; place = n }) (here d)) in
+          let row : Rise = rise_at k (get_or entries k d) in
+          let e_is : last ≡ row = sym (ap (λ i. rise_at i (get_or entries i d)) same ∙ ap (rise_at n) (here d)) in
           (length rises, (omega (arith, length_push rises last)), get_or_push rises last row (length rises) refl ∙ e_is)
       by_place k d lt up false apart =
-          let row : Rise = record { from = (get_or entries k d).from; place = k } in
+          let row : Rise = rise_at k (get_or entries k d) in
           let found = far.all k d (omega (arith, eqb-false k n apart)) up in
           (found.0, (omega (arith, found.1, length_push rises last)), get_or_append_left rises (last ∷ []) row found.0 found.1 ∙ found.2)
 
@@ -108,12 +110,12 @@ module _ (order : List ℕ) (entries : List Entry) (n : ℕ) (e : Entry) (rises 
   next = drop-cons entries n e within ∙ ap (λ x. x ∷ drop (suc n) entries) (sym is) ∙ ap (λ k. e ∷ drop k entries) (sym (add-one n))
 
   pub list_pass : is_rise order e ≡ false → rises ++ rises_among order (n + 1) (drop (n + 1) entries) ≡ list
-  list_pass level = sym (ap (λ xs. rises ++ rises_among order n xs) next ∙ ap (λ b. rises ++ cond b (record { from = e.from; place = n } ∷ rises_among order (n + 1) (drop (n + 1) entries)) (rises_among order (n + 1) (drop (n + 1) entries))) level) ∙ far
+  list_pass level = sym (ap (λ xs. rises ++ rises_among order n xs) next ∙ ap (λ b. rises ++ cond b (rise_at n e ∷ rises_among order (n + 1) (drop (n + 1) entries)) (rises_among order (n + 1) (drop (n + 1) entries))) level) ∙ far
 
-  pub list_more : is_rise order e ≡ true → (rises ++ record { from = e.from; place = n } ∷ []) ++ rises_among order (n + 1) (drop (n + 1) entries) ≡ list
+  pub list_more : is_rise order e ≡ true → (rises ++ rise_at n e ∷ []) ++ rises_among order (n + 1) (drop (n + 1) entries) ≡ list
   list_more up =
-      append_assoc rises (record { from = e.from; place = n } ∷ []) (rises_among order (n + 1) (drop (n + 1) entries))
-      ∙ sym (ap (λ xs. rises ++ rises_among order n xs) next ∙ ap (λ b. rises ++ cond b (record { from = e.from; place = n } ∷ rises_among order (n + 1) (drop (n + 1) entries)) (rises_among order (n + 1) (drop (n + 1) entries))) up) ∙ far
+      append_assoc rises (rise_at n e ∷ []) (rises_among order (n + 1) (drop (n + 1) entries))
+      ∙ sym (ap (λ xs. rises ++ rises_among order n xs) next ∙ ap (λ b. rises ++ cond b (rise_at n e ∷ rises_among order (n + 1) (drop (n + 1) entries)) (rises_among order (n + 1) (drop (n + 1) entries))) up) ∙ far
 
 -- ---- those that begin at one node
 
@@ -144,11 +146,11 @@ module _ (h : HierarchyLists) (rises : List Rise) (are : AreRisesUpTo h.order h.
   }
     where
       listed : (k : ℕ) (d : Entry) → k < length h.entries → (get_or h.entries k d).from ≡ u → is_rise h.order (get_or h.entries k d) ≡ true
-          → Contains (slice_range rises low high) (record { from = u; place = k })
+          → Contains (slice_range rises low high) (rise_at k (get_or h.entries k d))
       listed k d lt from up =
-          let row : Rise = record { from = u; place = k } in
-          let there = subst (λ v. Contains rises (record { from = v; place = k })) from (are.all k d lt up) in
-          let inside = in_range_of_key rise_from rises are.rising u there.0 row there.1 (ap rise_from there.2) in
+          let row : Rise = rise_at k (get_or h.entries k d) in
+          let there = are.all k d lt up in
+          let inside = in_range_of_key rise_from rises are.rising u there.0 row there.1 (ap rise_from there.2 ∙ from) in
           let before : there.0 - low < high - low = omega (arith, low_is, high_is, inside.0, inside.1) in
           let back : low + (there.0 - low) ≡ there.0 = omega (arith, low_is, inside.0) in
           (there.0 - low, (omega (arith, short)), read (there.0 - low) row before ∙ ap (λ i. get_or rises i row) back ∙ there.2)
@@ -178,7 +180,7 @@ among_below order (e ∷ entries) k v below =
     by_test (is_rise order e) (among_below order entries (k + 1) v (λ j d lt. below (suc j) d (omega arith)))
   where
     first : Rise
-    first = record { from = e.from; place = k }
+    first = rise_at k e
 
     by_test : (b : Bool) → All (λ (r : Rise). r.from < v) (rises_among order (k + 1) entries)
         → All (λ (r : Rise). r.from < v) (cond b (first ∷ rises_among order (k + 1) entries) (rises_among order (k + 1) entries))

@@ -7,7 +7,7 @@ use Rattle.hierarchy.specs.declared.rises.Rise.{Rise}
 use Rattle.hierarchy.specs.Lists.{HierarchyLists}
 use Rattle.hierarchy.specs.Lookups.{from_of, count_below}
 use Rattle.hierarchy.specs.Rules.{IsHierarchy}
-use Rattle.hierarchy.specs.Rises.{AreRisesUpTo, AreRisesFrom, is_rise, rise_from, rises_among, all_rises, rises_of}
+use Rattle.hierarchy.specs.Rises.{AreRisesUpTo, AreRisesFrom, is_rise, rise_at, rise_from, rises_among, all_rises, rises_of}
 use Rattle.hierarchy.proofs.LookupLemmas.{from_rises}
 use Rattle.hierarchy.proofs.RiseLemmas as rises
 
@@ -30,7 +30,7 @@ module _ (order : List ℕ) (entries : List Entry) (ascend : IsNonDecreasingBy f
           let list = found ++ rises_among order n (drop n entries) in
           let is = get_or_default entries n nothing e (omega arith) in
           subst (λ rs. AreRisesUpTo order entries (length entries) rs) (rises.list_more order entries n e found (omega arith) is list refl up)
-          (next (found ++ record { from = e.from; place = n } ∷ []) (rises.rises_more order entries n e found (omega arith) is far up ascend))
+          (next (found ++ rise_at n e ∷ []) (rises.rises_more order entries n e found (omega arith) is far up ascend))
       by_test false level next =
           let e = get_or entries n nothing in
           let list = found ++ rises_among order n (drop n entries) in

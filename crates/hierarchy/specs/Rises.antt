@@ -19,10 +19,14 @@ is_rise order e = leads_up order e.from e.to
 abbrev pub rise_from : Rise → ℕ
 rise_from rise = rise.from
 
+-- an entry at a place, as a rise
+abbrev pub rise_at : ℕ → Entry → Rise
+rise_at place e = record { from = e.from; to = e.to; place = place; weight = e.weight }
+
 -- the rises among entries whose places are those from k on, in order
 abbrev pub rises_among : List ℕ → ℕ → List Entry → List Rise
 rises_among order k [] = []
-rises_among order k (e ∷ entries) = if is_rise order e then record { from = e.from; place = k } ∷ rises_among order (k + 1) entries else rises_among order (k + 1) entries
+rises_among order k (e ∷ entries) = if is_rise order e then rise_at k e ∷ rises_among order (k + 1) entries else rises_among order (k + 1) entries
 
 abbrev pub all_rises : HierarchyLists → List Rise
 all_rises h = rises_among h.order 0 h.entries
@@ -31,17 +35,19 @@ all_rises h = rises_among h.order 0 h.entries
 abbrev pub rises_of : HierarchyLists → ℕ → List Rise
 rises_of h u = slice_range (all_rises h) (range_of rise_from (all_rises h) u).0 (range_of rise_from (all_rises h) u).1
 
--- a rise is an entry that leads up or along the core, and begins where it says
+-- a rise is an entry that leads up or along the core, and begins and ends where it says, with its weight
 pub record IsRiseOf (order : List ℕ) (entries : List Entry) (rise : Rise) : Type 0 where
   pub within : rise.place < length entries
   pub begins : (d : Entry) → (slice_index_or entries rise.place d).from ≡ rise.from
+  pub ends : (d : Entry) → (slice_index_or entries rise.place d).to ≡ rise.to
+  pub weighs : (d : Entry) → (slice_index_or entries rise.place d).weight ≡ rise.weight
   pub leads : (d : Entry) → is_rise order (slice_index_or entries rise.place d) ≡ true
 
 -- the rises among the first so many entries, in order
 pub record AreRisesUpTo (order : List ℕ) (entries : List Entry) (n : ℕ) (rises : List Rise) : Type 0 where
   pub before : All (λ rise. rise.place < n) rises
   pub each : All (IsRiseOf order entries) rises
-  pub all : (k : ℕ) (d : Entry) → k < n → is_rise order (slice_index_or entries k d) ≡ true → Contains rises (record { from = (slice_index_or entries k d).from; place = k })
+  pub all : (k : ℕ) (d : Entry) → k < n → is_rise order (slice_index_or entries k d) ≡ true → Contains rises (rise_at k (slice_index_or entries k d))
   pub rising : IsNonDecreasingBy rise_from rises
 
 -- the rises from u are these
@@ -49,7 +55,7 @@ pub record AreRisesFrom (h : HierarchyLists) (u : ℕ) (rises : List Rise) : Typ
   pub each : All (IsRiseOf h.order h.entries) rises
   pub from_u : All (λ rise. rise.from ≡ u) rises
   pub all : (k : ℕ) (d : Entry) → k < length h.entries → (slice_index_or h.entries k d).from ≡ u → is_rise h.order (slice_index_or h.entries k d) ≡ true
-      → Contains rises (record { from = u; place = k })
+      → Contains rises (rise_at k (slice_index_or h.entries k d))
 
 -- the rises at the places from low to high of a list are those from u
 pub record IsRiseRange (h : HierarchyLists) (u : ℕ) (rises : List Rise) (low high : ℕ) : Type 0 where

@@ -10,12 +10,15 @@ use crate::entry::Entry;
 use crate::offsets::Keyed;
 use std::alloc::{AllocError, Global};
 
-/// An entry that leads to a node above its own, or from one core node to another: where it begins, and its place among
-/// the entries.
+/// An entry that leads to a node above its own, or from one core node to another, with its place among the entries. What a
+/// search asks of it stands here, so that it need not read the entry.
 #[derive(Clone, Copy, Debug, PartialEq, Eq)]
 pub struct Rise {
     pub from: u32,
+    pub to: u32,
     pub place: u64,
+    /// In milliseconds.
+    pub weight: u64,
 }
 
 impl Keyed for Rise {
@@ -59,7 +62,9 @@ pub(crate) fn rises(
         if is_rise(heights, order, nodes, entry) {
             rises.push(Rise {
                 from: entry.from,
+                to: entry.to,
                 place: place as u64,
+                weight: entry.weight,
             })?;
         }
     }

@@ -23,7 +23,7 @@ use Rattle.hierarchy.specs.declared.rises.Rise.{Rise}
 use Rattle.hierarchy.specs.Hops.{Hop}
 use Rattle.hierarchy.specs.Lists.{HierarchyLists, height_in, is_above, IsAbove, IsCore}
 use Rattle.hierarchy.specs.Rules.{IsHierarchy}
-use Rattle.hierarchy.specs.Rises.{is_rise, is_core, leads_up, rises_of}
+use Rattle.hierarchy.specs.Rises.{is_rise, is_core, leads_up, rise_at, rises_of}
 use Rattle.hierarchy.specs.Soundness.{HasEntry, IsSound}
 use Rattle.hierarchy.specs.Lookups.{from_of}
 use Rattle.hierarchy.specs.Indexes.{AreEndsBelow}
@@ -249,7 +249,7 @@ module _ (n : NetworkLists) (h : HierarchyLists) (targets : List ℕ) (network :
       let e : Entry = record { from = v; to = hop.to; weight = hop.weight; via = via } in
       let found = (are_rises_from h rules v).all k e lt (ap (λ (x : Entry). x.from) is) (ap (is_rise h.order) is ∙ up_of v hop.to up) in
       let i = found.0 in
-      let row : Rise = record { from = v; place = k } in
+      let row : Rise = rise_at k (get_or h.entries k e) in
       let place : (get_or (rises_of h v) i no_rise).place ≡ k = ap (λ (r : Rise). r.place) (get_or_default (rises_of h v) i no_rise row found.1 ∙ found.2) in
       let entry : entry_at h k ≡ e = get_or_default h.entries k no_entry e lt ∙ is in
       arc_there v false time i (phase_node hop.to false) (time + hop.weight) (time + hop.weight) (mode_at n.roads v) (Up k) (entry_node v hop.to hop.weight (via, (k, lt, is)))

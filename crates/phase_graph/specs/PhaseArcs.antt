@@ -13,6 +13,7 @@ use Rattle.hierarchy.specs.declared.rises.Rise.{Rise}
 use Rattle.hierarchy.specs.Lists.{HierarchyLists}
 use Rattle.hierarchy.specs.Lookups.{range_of, from_of}
 use Rattle.hierarchy.specs.Rises.{rises_of}
+use Rattle.hierarchy.specs.Rules.{IsNode}
 use Rattle.plain_graph.specs.BoardWays.{plain_rides}
 use Rattle.plain_graph.specs.PlainArcs.{plain_meaning, count_from, stands_at, inner_arcs_at, arcs_at, plain_arc}
 use Rattle.plain_graph.specs.declared.plain.PlainArc.{PlainArc}
@@ -25,7 +26,7 @@ use Rattle.phase_graph.specs.Arcs.{phase_node}
 use Rattle.phase_graph.specs.Marks.{is_fall}
 
 abbrev pub no_rise : Rise
-no_rise = record { from = 0; place = 0 }
+no_rise = record { from = 0; to = 0; place = 0; weight = 0 }
 
 abbrev pub no_entry : Entry
 no_entry = record { from = 0; to = 0; weight = 0; via = None }
@@ -64,6 +65,12 @@ phase_arcs_at n t h v down = length (rises_at h v down) + entries_at h v + other
 -- the entry at this place leaves v
 abbrev pub BeginsAt : HierarchyLists → ℕ → ℕ → Type 0
 BeginsAt h v place = (place < length h.entries) × ((entry_at h place).from ≡ v)
+
+-- a rise has the end, which is a node's number, and the weight of the entry at its place
+pub record TellsEntry (h : HierarchyLists) (rise : Rise) : Type 0 where
+  pub ends : (entry_at h rise.place).to ≡ rise.to
+  pub weighs : (entry_at h rise.place).weight ≡ rise.weight
+  pub node : IsNode rise.to
 
 -- an arc out of v whose place is one
 abbrev pub FitsArc : NetworkLists → TableLists → HierarchyLists → ℕ → PhaseArc → Type 0

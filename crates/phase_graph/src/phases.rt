@@ -63,7 +63,7 @@ impl<'a> Phases<'a> {
     ghost use Rattle.hierarchy.specs.Lookups.{AreFrom};
     ghost use Rattle.timetable_arcs.specs.Table.{IsTable};
     ghost use Rattle.phase_graph.specs.Walked.{JourneysHaveWalks, WalksHaveJourneys};
-    ghost use Rattle.phase_graph.specs.PhaseArcs.{phase_meaning, rises_at, first_entry, entries_at, others_at, first_other, phase_arc, phase_arcs_at, FitsArc, BeginsAt, entry_at, fall_arrival, fall_ways, phase_step, phase_rides, node_of, is_down};
+    ghost use Rattle.phase_graph.specs.PhaseArcs.{phase_meaning, rises_at, first_entry, entries_at, others_at, first_other, phase_arc, phase_arcs_at, FitsArc, BeginsAt, TellsEntry, entry_at, fall_arrival, fall_ways, phase_step, phase_rides, node_of, is_down};
     ghost use Rattle.plain_graph.specs.PlainArcs.{plain_meaning, arcs_at};
 
     /// The phase graph of a sound hierarchy for these targets, which are nodes of the network. For each journey to a
@@ -123,7 +123,9 @@ impl<'a> Phases<'a> {
     fn rises_at(&self, v: u32, down: bool) -> &'a [Rise]
         ensures list { result.now ≡ rises_at self.now.hierarchy.now v down }
         ensures each { All (λ rise. BeginsAt self.now.hierarchy.now v rise.place) result.now }
+        ensures tell { All (TellsEntry self.now.hierarchy.now) result.now }
     {
+        self.hierarchy.known();
         if down {
             &[]
         } else {
@@ -300,11 +302,14 @@ impl<'a> Phases<'a> {
         let letter = self.network().mode(v);
         let rises = self.rises_at(v, down);
         for i in 0..rises.len() {
-            let place = rises[i].place;
+            let rise = &rises[i];
             ways.push(Way {
                 place: i as u64,
-                arc: self.entry_arc(letter, place, false),
-                at: t + self.weight(place),
+                arc: GraphArc {
+                    to: number_of(rise.to, false),
+                    letter,
+                },
+                at: t + Time::from(rise.weight),
             })?;
         }
         Ok(())

@@ -1,7 +1,6 @@
 use Rattle.std.proofs.Common.{◌≡◌, ◌∙◌, ◌+◌, None, ◌++◌, drop, get_or, true, false, arith, sym, ap, subst}
 use Rattle.std.proofs.lemmas.List.{get_or_default}
 use Rattle.hierarchy.specs.declared.entry.Entry.{Entry}
-use Rattle.hierarchy.specs.declared.rises.Rise.{Rise}
 use Rattle.hierarchy.specs.Rises.{AreRisesUpTo, is_rise, rises_among}
 use Rattle.hierarchy.proofs.RiseLemmas.{rises_more, rises_pass, list_more, list_pass}
 use Rattle.hierarchy.proofs.rises.rises.Goals as goal

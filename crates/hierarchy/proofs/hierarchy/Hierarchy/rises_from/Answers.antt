@@ -1,4 +1,4 @@
-use Rattle.std.proofs.Common.{◌≡◌, ◌∙◌, ◌+◌, [], sym, ap, subst, arith}
+use Rattle.std.proofs.Common.{◌≡◌, ◌∙◌, [], ap, subst}
 use Rattle.std.specs.Prelude.{slice_range}
 use Rattle.hierarchy.specs.Inside.{lists_of}
 use Rattle.hierarchy.specs.Lists.{HierarchyLists}

@@ -9,7 +9,7 @@ overflow_add-first c = omega (arith, c.entries_at-first.ensures.few, c.loop-i-te
 
 pub overflow_add-ups : goal.overflow_add-ups
 overflow_add-ups c =
-    let ups : length c.rises_at.result.now * 16 < 2 ^ 63 = c.rises_at.type_inv.1 in
+    let ups : length c.rises_at.result.now * 24 < 2 ^ 63 = c.rises_at.type_inv.1 in
     omega (arith, c.entries_at-first.ensures.few, c.loop-i-test.true, ups)
 
 pub loop-i-preserved : goal.loop-i-preserved

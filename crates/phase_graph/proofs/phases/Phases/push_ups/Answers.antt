@@ -15,7 +15,8 @@ loop-i-preserved c =
     let rises = rw c.split-v.ensures at c.rises_at-rises.ensures.list in
     let lt = rw rises at c.loop-i-test.true in
     let place = (get_or (rises_at h (node_of p) (is_down p)) c.loop-i.i no_rise).place in
-    let push = rw (c.entry_arc.ensures, c.weight.ensures.value, c.mode-letter.ensures, c.network.ensures, c.split-v.ensures, rises) at c.in_ok-push.ensures.items in
+    let tells = rw rises at (c.rises_at-rises.ensures.tell c.loop-i.i no_rise c.loop-i-test.true) in
+    let push = rw (c.number_of.ensures, c.from.ensures, c.mode-letter.ensures, c.network.ensures, c.split-v.ensures, rises, ← tells.ends, ← tells.weighs) at c.in_ok-push.ensures.items in
     record {
       far = up_pushed n h table marks p c.args.t c.args.letters c.loop-i.i place c.args.ways.now.items c.loop-i.ways.items c.push.new.self.items lt refl c.requires.opens c.loop-i.invariant.far push;
       within = (let test = c.loop-i-test.true in omega (arith, test));
