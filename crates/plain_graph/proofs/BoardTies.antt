@@ -20,7 +20,7 @@ use Rattle.mode_network.specs.NetworkLists.{NetworkLists, mode_at, stop_at}
 use Rattle.plain_graph.specs.declared.plain.PlainArc.{PlainArc}
 use Rattle.plain_graph.specs.declared.plain.PlainArc.TheVariants.{Ride}
 use Rattle.plain_graph.specs.PlainArcs.{plain_arc, plain_meaning, graph_arc, arrival, count_from, rides_of, rides_from_stop, no_ride, pattern_call}
-use Rattle.plain_graph.specs.BoardWays.{call_way, call_ways, ride_way, ride_ways, run_ways, board_ways, boards_ways}
+use Rattle.plain_graph.specs.BoardWays.{call_way, call_ways, day_ways, ride_way, ride_ways, run_ways, board_ways, boards_ways}
 
 module _ (n : NetworkLists) (t : TableLists) (time letters v : ℕ) where
   -- a ride as the arc at a place, if it can be taken
@@ -60,7 +60,7 @@ module _ (n : NetworkLists) (t : TableLists) (time letters v : ℕ) where
       places = alights (board.call + 1) (drop (board.call + 1) (pattern_trip t board.pattern).calls)
 
       by_letter : (b : Bool) → is_open letters (Some (pattern_trip t board.pattern).letter) ≡ b → (o : Option Instance) → next_run t board.pattern board.call time ≡ o
-          → rides_ways place (map (ride_to board.pattern board.call) places) ≡ cond b (run_ways n t place board o) []
+          → rides_ways place (map (ride_to board.pattern board.call) places) ≡ run_ways n t place board (cond b o None)
       by_letter false h o e = closed_rides board.pattern board.call place places h
       by_letter true h None e = no_rides board.pattern board.call place places h e
       by_letter true h (Some run) e = run_rides board.pattern board.call place run places h e
@@ -145,18 +145,21 @@ module _ (n : NetworkLists) (t : TableLists) (p : ℕ) (run : Instance) (alike :
           let same : (call_of t run k).alight ≡ false = sym (alike.each k no_call within).alight ∙ e in
           rw (e, same) (next place)
 
--- what a loop over the calls of a run has pushed at its end
-module _ (n : NetworkLists) (t : TableLists) (board : Board) (run : Instance) (alike : AreAlike (pattern_trip t board.pattern) (trip_at t run.trip)) (base letter : ℕ) (calls : List Call)
-    (base_is : base ≡ slice_index t.bases run.day) (letter_is : letter ≡ (pattern_trip t board.pattern).letter) (calls_are : calls ≡ (trip_at t run.trip).calls) where
-  pub run_pushed : (first place later : ℕ) (before now : List Way) → board.call < length (pattern_trip t board.pattern).calls → length calls ≤ later
-      → now ++ call_ways n base letter place (drop later calls) ≡ before ++ call_ways n base letter first (drop (board.call + 1) calls)
-      → now ≡ before ++ run_ways n t first board (Some run)
-  run_pushed first place later before now within past is =
-      let k = board.call + 1 in
-      let left = length (pattern_trip t board.pattern).calls - k in
-      let rides : call_ways n base letter first (drop k calls) ≡ run_ways n t first board (Some run) =
-      rw (base_is, letter_is, calls_are) (sym (rides_are_calls n t board.pattern run alike left k first (omega (arith, within)))) in
-      sym (append-nil now) ∙ ap (λ (ws : List Way). now ++ ws) (sym (ap (call_ways n base letter place) (drop_all later calls past))) ∙ is ∙ ap (λ (ws : List Way). before ++ ws) rides
+-- what a loop over calls has pushed at its end
+pub rides_pushed : (n : NetworkLists) (base letter : ℕ) (calls : List Call) (place later : ℕ) (now whole : List Way) → length calls ≤ later
+    → now ++ call_ways n base letter place (drop later calls) ≡ whole → now ≡ whole
+rides_pushed n base letter calls place later now whole past is =
+    sym (append-nil now) ∙ ap (λ (ws : List Way). now ++ ws) (sym (ap (call_ways n base letter place) (drop_all later calls past))) ∙ is
+
+-- a run of the pattern of a board has the rides to its own calls
+pub run_is : (n : NetworkLists) (t : TableLists) (board : Board) (run : Instance) → AreAlike (pattern_trip t board.pattern) (trip_at t run.trip) → (first : ℕ)
+    → board.call < length (pattern_trip t board.pattern).calls → run_ways n t first board (Some run) ≡ day_ways n t board run.day first (trip_at t run.trip).calls
+run_is n t board run alike first within =
+    rides_are_calls n t board.pattern run alike (length (pattern_trip t board.pattern).calls - (board.call + 1)) (board.call + 1) first (omega (arith, within))
+
+pub run_pushed : (n : NetworkLists) (t : TableLists) (board : Board) (run : Instance) → AreAlike (pattern_trip t board.pattern) (trip_at t run.trip) → (first : ℕ) (before now : List Way)
+    → board.call < length (pattern_trip t board.pattern).calls → now ≡ before ++ day_ways n t board run.day first (trip_at t run.trip).calls → now ≡ before ++ run_ways n t first board (Some run)
+run_pushed n t board run alike first before now within is = is ∙ ap (λ (ws : List Way). before ++ ws) (sym (run_is n t board run alike first within))
 
 -- no board has more rides before it than there are
 module _ (t : TableLists) where

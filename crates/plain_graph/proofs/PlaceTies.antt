@@ -141,3 +141,6 @@ module _ (n : NetworkLists) (t : TableLists) (time letters v : ℕ) where
 
 pub nothing_more : (before more : List Way) → more ≡ [] → before ≡ before ++ more
 nothing_more before more none = sym (append-nil before) ∙ ap (λ (ws : List Way). before ++ ws) (sym none)
+
+pub these_more : (before after ways known : List Way) → ways ≡ known → after ≡ before ++ known → after ≡ before ++ ways
+these_more before after ways known is e = e ∙ ap (λ (ws : List Way). before ++ ws) (sym is)

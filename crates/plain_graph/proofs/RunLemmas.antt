@@ -1,15 +1,20 @@
 -- The run that a ride takes is one of the timetable.
 use Rattle.std.proofs.Common.{◌≡◌, ℕ, ◌<◌, ◌≤◌, ◌^◌, ◌%◌, length, Bool, true, false, nat_lt, Some, refl, ap, subst, arith, lit<}
+use Rattle.std.specs.Prelude.{All}
 use Rattle.std.specs.Int.{bit_at}
 use Rattle.std.proofs.Math.Nat.{div-eq_of_lt, pow-le-pow_right}
 use Rattle.std.proofs.lemmas.Bool.{ltb-true, ltb-false}
+use Rattle.std.proofs.lemmas.List.Elements.{All-from_get_or}
 use Rattle.std.proofs.lemmas.Option.{slice_get_within}
 use Rattle.plan_base.specs.declared.days.DaySet.{DaySet}
 use Rattle.plan_base.specs.DaySets.{contains_day}
+use Rattle.timetable_arcs.specs.declared.trips.Call.{Call}
 use Rattle.timetable_arcs.specs.declared.trips.Instance.{Instance}
+use Rattle.timetable_arcs.specs.declared.rides.Board.{Board}
 use Rattle.timetable_arcs.specs.declared.rides.Ride.{Ride}
-use Rattle.timetable_arcs.specs.Patterns.{TableLists, IsIn, AreAlike, call_of, trip_at, pattern_trip, no_call}
+use Rattle.timetable_arcs.specs.Patterns.{TableLists, IsIn, AreAlike, trip_at, pattern_trip, no_call}
 use Rattle.timetable_arcs.specs.Table.{IsTable}
+use Rattle.timetable_arcs.proofs.RideLemmas.{IsBoardOf}
 use Rattle.timetable_arcs.proofs.TripLemmas.{trip_well, known_stops}
 use Rattle.timetable_arcs.proofs.TableLemmas.{trip_of_run, trip_of_pattern, next_is, pattern_short}
 use Rattle.mode_network.specs.NetworkLists.{NetworkLists}
@@ -71,12 +76,13 @@ pub record IsKnownRun (n : NetworkLists) (t : TableLists) (p : ℕ) (run : Insta
   pub day : run.day < length t.bases
   pub alike : AreAlike (pattern_trip t p) (trip_at t run.trip)
   pub few : length (trip_at t run.trip).calls < 2 ^ 32
-  pub stops : (k : ℕ) → k < length (trip_at t run.trip).calls → (call_of t run k).stop < length n.stop_names
+  pub stops : All (λ call. call.stop < length n.stop_names) (trip_at t run.trip).calls
 
-pub run_known : (n : NetworkLists) → IsNetwork n → (t : TableLists) → IsTable t → IsTimetableOf n t → (p call : ℕ) (run : Instance)
-    → p < length t.patterns → call < length (pattern_trip t p).calls → IsIn t p run → IsKnownRun n t p run
-run_known n network t table of p call run pattern within is_in =
-    let there = is_there t table (record { pattern = p; board = 0; alight = call }) run is_in within in
+pub run_known : (n : NetworkLists) → IsNetwork n → (t : TableLists) → IsTable t → IsTimetableOf n t → (board : Board) (run : Instance) → IsBoardOf t board → IsIn t board.pattern run
+    → IsKnownRun n t board.pattern run
+run_known n network t table of board run is is_in =
+    let p = board.pattern in
+    let there = is_there t table (record { pattern = p; board = 0; alight = board.call }) run is_in is.call in
     let alike = table.patterns.alike p run is_in in
     let short = pattern_short t table p in
     record {
@@ -84,7 +90,7 @@ run_known n network t table of p call run pattern within is_in =
       day = there.day;
       alike = alike;
       few = omega (arith, short, alike.calls);
-      stops = λ k lt.
+      stops = All-from_get_or (λ (call : Call). call.stop < length n.stop_names) (trip_at t run.trip).calls no_call (λ k lt.
           let inside : k < length (pattern_trip t p).calls = omega (arith, lt, alike.calls) in
-          subst (λ (stop : ℕ). stop < length n.stop_names) (alike.each k no_call inside).stop (call_at_stop n network t table of p k pattern inside);
+          subst (λ (stop : ℕ). stop < length n.stop_names) (alike.each k no_call inside).stop (call_at_stop n network t table of p k is.pattern inside));
     }

@@ -30,10 +30,13 @@ abbrev pub run_ways : NetworkLists → TableLists → ℕ → Board → Option I
 run_ways n t place board None = []
 run_ways n t place board (Some run) = ride_ways n t board.pattern run place (alights (board.call + 1) (drop (board.call + 1) (pattern_trip t board.pattern).calls))
 
--- those of a board's next run, if the letter of its pattern is in the set
+-- the run that one boards at a time: the next one, if the letter of its pattern is in the set
+abbrev pub open_run : TableLists → ℕ → ℕ → Board → Option Instance
+open_run t time letters board = if is_open letters (Some (pattern_trip t board.pattern).letter) then next_run t board.pattern board.call time else None
+
+-- its rides
 abbrev pub board_ways : NetworkLists → TableLists → ℕ → ℕ → ℕ → Board → List Way
-board_ways n t time letters place board =
-    if is_open letters (Some (pattern_trip t board.pattern).letter) then run_ways n t place board (next_run t board.pattern board.call time) else []
+board_ways n t time letters place board = run_ways n t place board (open_run t time letters board)
 
 -- those of all boards, where the first ride of the stop is at the place first
 abbrev pub boards_ways : NetworkLists → TableLists → ℕ → ℕ → ℕ → List Board → List Way
@@ -54,6 +57,10 @@ abbrev pub call_ways : NetworkLists → ℕ → ℕ → ℕ → List Call → Li
 call_ways n base letter place [] = []
 call_ways n base letter place (call ∷ calls) =
     if call.alight then call_way n base letter place call ∷ call_ways n base letter (place + 1) calls else call_ways n base letter place calls
+
+-- the rides from a board to each later one of these calls of a run on a day at which one may alight
+abbrev pub day_ways : NetworkLists → TableLists → Board → ℕ → ℕ → List Call → List Way
+day_ways n t board day place calls = call_ways n (slice_index t.bases day) (pattern_trip t board.pattern).letter place (drop (board.call + 1) calls)
 
 -- the rides of a trip on a day to each call behind one at which one may alight, wherever they stand
 abbrev pub plain_rides : NetworkLists → TableLists → RunRides

@@ -10,7 +10,7 @@ ghost use Rattle.plain_graph.specs.PlainArcs.{plain_meaning};
 ghost use Rattle.plain_graph.specs.Lawful.{IsLawfulGraph-prop};
 
 use mode_network::{Arc, Network};
-use search_laws::{GivenRuns, Graph, GraphArc, Time, Way, is_open};
+use search_laws::{GivenRun, GivenRuns, Graph, GraphArc, Time, Way, is_open};
 use std::alloc::AllocError;
 use timetable_arcs::{Board, Call, Instance, Ride, Timetable};
 
@@ -39,17 +39,17 @@ pub struct Plain<'a> {
 }
 
 impl<'a> Plain<'a> {
-    ghost use Rattle.std.specs.Prelude.{◌≡◌, ◌<◌, ◌+◌, ◌^◌, ◌++◌, ◌∷◌, true, [], OnOk, IfOk, length, Some, option_map, if◌then◌else◌};
+    ghost use Rattle.std.specs.Prelude.{◌≡◌, ◌<◌, ◌+◌, ◌^◌, ◌++◌, ◌∷◌, true, [], All, OnOk, IfOk, IfSome, length, Some, option_map, if◌then◌else◌};
     ghost use Rattle.timetable_arcs.specs.Patterns.{IsIn};
     ghost use Rattle.timetable_arcs.specs.Rides.{boards_at};
     ghost use Rattle.timetable_arcs.proofs.RideLemmas.{IsBoardOf};
     ghost use Rattle.search_laws.specs.Ways.{ways_from};
     ghost use Rattle.search_laws.specs.Fresh.{AddsFresh};
-    ghost use Rattle.plain_graph.specs.BoardWays.{call_way, run_ways, board_ways, boards_ways, plain_rides};
+    ghost use Rattle.plain_graph.specs.BoardWays.{call_way, day_ways, run_ways, open_run, board_ways, boards_ways, plain_rides};
     ghost use Rattle.timetable_arcs.specs.Patterns.{pattern_trip, arrives};
     ghost use Rattle.timetable_arcs.specs.Table.{IsTable};
     ghost use Rattle.plain_graph.specs.Rides.{IsRideOf, IsKnownRide};
-    ghost use Rattle.mode_network.specs.NetworkLists.{nodes_of, stop_node};
+    ghost use Rattle.mode_network.specs.NetworkLists.{nodes_of, stop_node, mode_at};
     ghost use Rattle.mode_network.specs.Timetables.{IsTimetableOf};
     ghost use Rattle.plain_graph.specs.PlainArcs.{plain_meaning, count_from, plain_arc, inner_arc, arcs_at, inner_arcs_at, rides_of, ride_of, run_at, pattern_call};
     ghost use Rattle.plain_graph.specs.Simulation.{WalksAreJourneys, JourneysAreWalks, ArcsAreSteps, StepsAreArcs};
@@ -200,6 +200,34 @@ impl<'a> Plain<'a> {
         Ok(place + 1)
     }
 
+    /// Appends the rides from a board to the later ones of these calls of a run on this day, the first of which is the arc at
+    /// this place.
+    fn push_rides(
+        &self,
+        board: Board,
+        day: u32,
+        calls: &[Call],
+        first: u64,
+        ways: &mut Vec<Way>,
+    ) -> Result<(), AllocError>
+        requires pattern { board.pattern < length self.now.timetable.now.patterns }
+        requires day { day < length self.now.timetable.now.bases }
+        requires stops { All (λ call. call.stop < length self.now.network.now.stop_names) calls.now }
+        requires few { length calls.now < 2 ^ 32 }
+        requires place { first < 2 ^ 63 + 2 ^ 34 }
+        ensures { OnOk result (ways.new.items ≡ ways.old.items
+            ++ day_ways self.now.network.now self.now.timetable.now board day first calls.now) }
+    {
+        self.timetable.known();
+        let letter = self.timetable.pattern_letter(board.pattern);
+        let base = self.timetable.base(day);
+        let mut place = first;
+        for later in board.call as usize + 1..calls.len() {
+            place = self.push_call(calls[later], letter, base, place, ways)?;
+        }
+        Ok(())
+    }
+
     /// Appends the rides of a run from a board, the first of which is the arc at this place.
     fn push_run(
         &self,
@@ -214,14 +242,55 @@ impl<'a> Plain<'a> {
         ensures { OnOk result (ways.new.items ≡ ways.old.items ++ run_ways self.now.network.now self.now.timetable.now first board (Some run)) }
     {
         self.timetable.known();
-        let calls = self.timetable.run_calls(run);
-        let letter = self.timetable.pattern_letter(board.pattern);
-        let base = self.timetable.base(run.day);
-        let mut place = first;
-        for later in board.call as usize + 1..calls.len() {
-            place = self.push_call(calls[later], letter, base, place, ways)?;
-        }
+        self.push_rides(board, run.day, self.timetable.run_calls(run), first, ways)?;
         Ok(())
+    }
+
+    /// Appends what [`push_run`](Self::push_run) does, but for the rides of the run that the state was given, and notes the run.
+    fn push_fresh_run(
+        &self,
+        board: Board,
+        run: Instance,
+        first: u64,
+        state: u32,
+        given: &mut GivenRuns,
+        ways: &mut Vec<Way>,
+    ) -> Result<(), AllocError>
+        requires board { IsBoardOf self.now.timetable.now board }
+        requires run { IsIn self.now.timetable.now board.pattern run }
+        requires place { first < 2 ^ 63 + 2 ^ 34 }
+        ensures { OnOk result (AddsFresh (plain_rides self.now.network.now self.now.timetable.now) state given.old given.new
+            (run_ways self.now.network.now self.now.timetable.now first board (Some run)) ways.old.items ways.new.items) }
+    {
+        self.timetable.known();
+        let calls = self.timetable.run_calls(run);
+        let past = match given.call(state, run.trip, run.day) {
+            Some(call) if call <= board.call => return Ok(()),
+            Some(call) => calls.len().min(call as usize + 1),
+            None => calls.len(),
+        };
+        self.push_rides(board, run.day, &calls[..past], first, ways)?;
+        given.note(GivenRun {
+            state,
+            trip: run.trip,
+            day: run.day,
+            call: board.call,
+        })?;
+        Ok(())
+    }
+
+    /// The run that one boards at `t`: the next one, if the letter of its pattern is in the set.
+    fn open_run(&self, board: Board, t: Time, letters: u32) -> Option<Instance>
+        requires { IsBoardOf self.now.timetable.now board }
+        ensures value { result ≡ open_run self.now.timetable.now t letters board }
+        ensures run { IfSome result (λ run. IsIn self.now.timetable.now board.pattern run) }
+    {
+        self.timetable.known();
+        if is_open(letters, Some(self.timetable.pattern_letter(board.pattern))) {
+            self.timetable.next(board.pattern, board.call, t)
+        } else {
+            None
+        }
     }
 
     /// Appends the rides from a board that can be taken, the first of which is the arc at this place.
@@ -237,11 +306,8 @@ impl<'a> Plain<'a> {
         requires place { first < 2 ^ 63 + 2 ^ 34 }
         ensures { OnOk result (ways.new.items ≡ ways.old.items ++ board_ways self.now.network.now self.now.timetable.now t letters first board) }
     {
-        self.timetable.known();
-        if is_open(letters, Some(self.timetable.pattern_letter(board.pattern))) {
-            if let Some(run) = self.timetable.next(board.pattern, board.call, t) {
-                self.push_run(board, run, first, ways)?;
-            }
+        if let Some(run) = self.open_run(board, t, letters) {
+            self.push_run(board, run, first, ways)?;
         }
         Ok(())
     }
@@ -263,6 +329,51 @@ impl<'a> Plain<'a> {
         self.timetable.known();
         for board in self.timetable.boards(stop) {
             self.push_board(*board, first + board.before, t, letters, ways)?;
+        }
+        Ok(())
+    }
+
+    /// Appends what [`push_board`](Self::push_board) does, but for the rides that the state was given.
+    fn push_fresh_board(
+        &self,
+        board: Board,
+        first: u64,
+        t: Time,
+        letters: u32,
+        state: u32,
+        given: &mut GivenRuns,
+        ways: &mut Vec<Way>,
+    ) -> Result<(), AllocError>
+        requires board { IsBoardOf self.now.timetable.now board }
+        requires place { first < 2 ^ 63 + 2 ^ 34 }
+        ensures { OnOk result (AddsFresh (plain_rides self.now.network.now self.now.timetable.now) state given.old given.new
+            (board_ways self.now.network.now self.now.timetable.now t letters first board) ways.old.items ways.new.items) }
+    {
+        if let Some(run) = self.open_run(board, t, letters) {
+            self.push_fresh_run(board, run, first, state, given, ways)?;
+        }
+        Ok(())
+    }
+
+    /// Appends what [`push_boards`](Self::push_boards) does, but for the rides that the state was given.
+    fn push_fresh_boards(
+        &self,
+        stop: u32,
+        first: u64,
+        t: Time,
+        letters: u32,
+        state: u32,
+        given: &mut GivenRuns,
+        ways: &mut Vec<Way>,
+    ) -> Result<(), AllocError>
+        requires stop { stop < self.now.timetable.now.stops }
+        requires place { first < 2 ^ 34 }
+        ensures { OnOk result (AddsFresh (plain_rides self.now.network.now self.now.timetable.now) state given.old given.new
+            (boards_ways self.now.network.now self.now.timetable.now t letters first (boards_at self.now.timetable.now stop)) ways.old.items ways.new.items) }
+    {
+        self.timetable.known();
+        for board in self.timetable.boards(stop) {
+            self.push_fresh_board(*board, first + board.before, t, letters, state, given, ways)?;
         }
         Ok(())
     }
@@ -337,8 +448,12 @@ impl<'a> Plain<'a> {
             (count_from self.now.network.now.links v + inner_arcs_at self.now.network.now self.now.timetable.now v))
             ways.old.items ways.new.items) }
     {
-        let _ = (state, given.cells.len());
-        self.push_past_roads(v, t, letters, ways)?;
+        let (first_arc, past_arc) = self.network.arcs_from(v);
+        let (first_link, past_link) = self.network.links_from(v);
+        let arcs = (past_arc - first_arc) as u64;
+        let links = (past_link - first_link) as u64;
+        self.push_links(v, arcs, t, letters, ways)?;
+        self.push_fresh_inner(v, arcs + links, t, letters, state, given, ways)?;
         Ok(())
     }
 
@@ -369,6 +484,35 @@ impl<'a> Plain<'a> {
         Ok(())
     }
 
+    /// Appends the arc that stands at the road node `v`, if its mode is in the set, as the arc at this place.
+    fn push_stand(
+        &self,
+        v: u32,
+        mode: u8,
+        place: u64,
+        t: Time,
+        letters: u32,
+        ways: &mut Vec<Way>,
+    ) -> Result<(), AllocError>
+        requires node { v < length (nodes_of self.now.network.now) }
+        requires mode { mode_at self.now.network.now.roads v ≡ Some mode }
+        requires place { place ≡ count_from self.now.network.now.arcs v + count_from self.now.network.now.links v }
+        ensures { OnOk result (ways.new.items ≡ ways.old.items
+            ++ ways_from (plain_meaning self.now.network.now self.now.timetable.now) v t letters place (inner_arcs_at self.now.network.now self.now.timetable.now v)) }
+    {
+        if is_open(letters, Some(mode)) {
+            ways.push(Way {
+                place,
+                arc: GraphArc {
+                    to: v,
+                    letter: Some(mode),
+                },
+                at: t,
+            })?;
+        }
+        Ok(())
+    }
+
     /// Appends the arc that stands at `v`, or the rides that begin there, the first of which is the arc at this place.
     fn push_inner(
         &self,
@@ -385,20 +529,35 @@ impl<'a> Plain<'a> {
             ++ ways_from (plain_meaning self.now.network.now self.now.timetable.now) v t letters first (inner_arcs_at self.now.network.now self.now.timetable.now v)) }
     {
         match (self.network.mode(v), self.network.stop_at(v)) {
-            (Some(mode), _) => {
-                if is_open(letters, Some(mode)) {
-                    ways.push(Way {
-                        place: first,
-                        arc: GraphArc {
-                            to: v,
-                            letter: Some(mode),
-                        },
-                        at: t,
-                    })?;
-                }
-            }
+            (Some(mode), _) => self.push_stand(v, mode, first, t, letters, ways)?,
+            (None, Some(stop)) => self.push_boards(stop, first, t, letters, ways)?,
+            (None, None) => {}
+        }
+        Ok(())
+    }
+
+    /// Appends what [`push_inner`](Self::push_inner) does, but for the rides that the state was given.
+    fn push_fresh_inner(
+        &self,
+        v: u32,
+        first: u64,
+        t: Time,
+        letters: u32,
+        state: u32,
+        given: &mut GivenRuns,
+        ways: &mut Vec<Way>,
+    ) -> Result<(), AllocError>
+        requires node { v < length (nodes_of self.now.network.now) }
+        requires place { first ≡ count_from self.now.network.now.arcs v + count_from self.now.network.now.links v }
+        requires few { first < 2 ^ 34 }
+        ensures { OnOk result (AddsFresh (plain_rides self.now.network.now self.now.timetable.now) state given.old given.new
+            (ways_from (plain_meaning self.now.network.now self.now.timetable.now) v t letters first (inner_arcs_at self.now.network.now self.now.timetable.now v))
+            ways.old.items ways.new.items) }
+    {
+        match (self.network.mode(v), self.network.stop_at(v)) {
+            (Some(mode), _) => self.push_stand(v, mode, first, t, letters, ways)?,
             (None, Some(stop)) => {
-                self.push_boards(stop, first, t, letters, ways)?;
+                self.push_fresh_boards(stop, first, t, letters, state, given, ways)?
             }
             (None, None) => {}
         }

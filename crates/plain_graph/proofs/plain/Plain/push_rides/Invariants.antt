@@ -1,6 +1,6 @@
 use Rattle.std.proofs.Common.{◌≡◌, ◌≤◌, ◌+◌, ◌++◌, drop}
 use Rattle.plain_graph.specs.BoardWays.{call_ways}
-use Rattle.plain_graph.proofs.plain.Plain.push_run.Given as goal
+use Rattle.plain_graph.proofs.plain.Plain.push_rides.Given as goal
 
 abbrev pub invariant-loop-later : goal.invariant-loop-later
 invariant-loop-later l = record {
