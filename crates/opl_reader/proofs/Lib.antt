@@ -1,4 +1,3 @@
-mod FirstBytes
 mod Powers
 mod DigitLemmas
 mod CutLemmas

@@ -9,7 +9,7 @@ use Rattle.plain_texts.specs.Digits.{more, digit_of}
 
 module _ (step : ℕ → ℕ → Option ℕ) where
   -- a text that was refused stays refused
-  fold_none : (bs : List ℕ) → fold (more step) None bs ≡ None
+  pub fold_none : (bs : List ℕ) → fold (more step) None bs ≡ None
   fold_none [] = refl
   fold_none (b ∷ bs) = fold_none bs
 

@@ -1,10 +1,12 @@
 pub mod Reading
 pub mod Digits
 pub mod Decimal
+pub mod ShortNumbers
 pub mod Signed
 pub mod Hexadecimal
 pub mod FixedDecimal
 pub mod EscapeLaws
+pub mod FirstBytes
 pub mod Pieces
 pub mod Spaced
 pub mod Course

@@ -1,11 +1,12 @@
--- Lines of a text: how its pieces are taken off one by one, and how the text is made of them.
-use Rattle.std.proofs.Common.{◌≡◌, ℕ, List, [], ◌∷◌, ◌++◌, length, take, drop, get_or, refl, ap, sym, ◌∙◌, subst, ◌<◌, ◌≤◌, ◌+◌, arith, Bool, true, false, cond, append_assoc, length-take, get_or-take}
+-- Lines of a text: how its pieces are taken off one by one, and how the text is made of them. Words of a line: how
+-- they are found from the left.
+use Rattle.std.proofs.Common.{◌≡◌, ℕ, List, [], ◌∷◌, ◌++◌, length, take, drop, get_or, refl, ap, sym, ◌∙◌, subst, ◌<◌, ◌≤◌, ◌+◌, arith, Bool, true, false, cond, append_assoc, length-take, get_or-take, ◌-◌, length-drop, get_or-drop}
 use Rattle.std.specs.Prelude.{Option, Some, None, option_map, unwrap_or, nat_lt, position, MatchOption}
-use Rattle.std.specs.List.{slice_split, onto_first, join_with_byte, position_or_len, before_first, after_first, AllByRecursion}
+use Rattle.std.specs.List.{slice_split, onto_first, join_with_byte, slice_range, position_or_len, before_first, after_first, AllByRecursion}
 use Rattle.std.proofs.lemmas.Bool.Decides.{nat_tests}
-use Rattle.std.proofs.lemmas.List.{append-nil}
+use Rattle.std.proofs.lemmas.List.{append-nil, drop-drop}
 use Rattle.std.proofs.lemmas.List.Splits.{slice_split_none, slice_split_at, slice_split_first, join_with_byte-slice_split}
-use Rattle.std.proofs.lemmas.List.Sums.{split_at_first, fails_before_first, passes_at_first}
+use Rattle.std.proofs.lemmas.List.Sums.{split_at_first, fails_before_first, passes_at_first, position_or_len_is}
 use Rattle.std.proofs.lemmas.Option.{none-some, same_Some, cond_some, some_pair_parts}
 use Rattle.plain_texts.specs.Lines.{is_feed, is_space, words_of, pieces, lines_of_pieces, lines_of, IsLine, lines_text, next_line_of, around, split_line_of}
 
@@ -143,7 +144,7 @@ split_line_exact v text None e = lines_none text (sym e)
 split_line_exact v text (Some x) e = lines_some text (v x.0) (v x.1) (sym e)
 
 -- The first word of a line that has a space, and of one that has none.
-pub word_some : (line : List ℕ) (end : ℕ) → position is_space line ≡ Some end → words_of line ≡ take end line ∷ words_of (drop (end + 1) line)
+word_some : (line : List ℕ) (end : ℕ) → position is_space line ≡ Some end → words_of line ≡ take end line ∷ words_of (drop (end + 1) line)
 unfolding words_of
 word_some line end e = at_test (nat_lt (position_or_len is_space line) (length line)) refl e
   where
@@ -153,7 +154,7 @@ word_some line end e = at_test (nat_lt (position_or_len is_space line) (length l
         let here = same_Some _ end e in
         slice_split_first is_space line 0 (grind (arith, nat_tests)) ∙ ap (λ k. take k line ∷ slice_split is_space (drop (k + 1) line)) here
 
-pub word_none : (line : List ℕ) → position is_space line ≡ None → words_of line ≡ line ∷ []
+word_none : (line : List ℕ) → position is_space line ≡ None → words_of line ≡ line ∷ []
 unfolding words_of
 word_none line e = at_test (nat_lt (position_or_len is_space line) (length line)) refl e
   where
@@ -162,3 +163,47 @@ word_none line e = at_test (nat_lt (position_or_len is_space line) (length line)
     at_test false is e =
         let past : length line ≤ position_or_len is_space line = grind (arith, nat_tests) in
         slice_split_none is_space line (λ k d h. fails_before_first is_space line k d (omega arith))
+
+-- the words so far, and where the next one starts, which has no space up to here
+pub record WordsSoFar (line : List ℕ) (words : List (List ℕ)) (start at : ℕ) : Type 0 where
+  pub ordered : start ≤ at
+  pub words_are : words ++ words_of (drop start line) ≡ words_of line
+  pub spaceless : (k : ℕ) → start ≤ k → k < at → is_space (get_or line k 0) ≡ false
+
+space_behind : (line : List ℕ) (start at : ℕ) → start ≤ at → at < length line → get_or line at 0 ≡ 32 → ((k : ℕ) → start ≤ k → k < at → is_space (get_or line k 0) ≡ false) → position is_space (drop start line) ≡ Some (at - start)
+space_behind line start at ordered inside space none =
+    let there : start + (at - start) ≡ at = omega arith in
+    let tested : is_space (get_or line at 0) ≡ true = grind (arith, nat_tests) in
+    let before : (k : ℕ) → k < at - start → is_space (get_or (drop start line) k 0) ≡ false = λ k h. rw get_or-drop (none (start + k) (omega arith) (omega arith)) in
+    let long = length-drop start line in
+    let found = position_or_len_is is_space (drop start line) (at - start) 0 (omega (arith, long)) before (λ _. rw (get_or-drop, there) tested) in
+    let test : nat_lt (at - start) (length (drop start line)) ≡ true = grind (arith, nat_tests, long) in
+    rw (found, test) refl
+
+-- A space ends the word.
+pub words_space : (line : List ℕ) (words : List (List ℕ)) (start at : ℕ) → WordsSoFar line words start at → at < length line → get_or line at 0 ≡ 32 → WordsSoFar line (words ++ slice_range line start at ∷ []) (at + 1) (at + 1)
+words_space line words start at h inside space =
+    let cut = word_some (drop start line) (at - start) (space_behind line start at h.ordered inside space h.spaceless) in
+    let behind : drop (at - start + 1) (drop start line) ≡ drop (at + 1) line = drop-drop (at - start + 1) start line ∙ ap (λ n. drop n line) (omega arith) in
+    record {
+      ordered = omega arith;
+      words_are = append_assoc words (slice_range line start at ∷ []) (words_of (drop (at + 1) line)) ∙ ap (λ x. words ++ x) (sym (cut ∙ ap (λ x. take (at - start) (drop start line) ∷ words_of x) behind)) ∙ h.words_are;
+      spaceless = λ k low high. absurd (omega arith);
+    }
+
+-- Another byte is one of the word.
+pub words_byte : (line : List ℕ) (words : List (List ℕ)) (start at : ℕ) → WordsSoFar line words start at → is_space (get_or line at 0) ≡ false → WordsSoFar line words start (at + 1)
+words_byte line words start at h other = record { ordered = omega (arith, h.ordered); words_are = h.words_are; spaceless = λ k low high. by_place k low high (nat_lt k at) refl }
+  where
+    by_place : (k : ℕ) → start ≤ k → k < at + 1 → (t : Bool) → nat_lt k at ≡ t → is_space (get_or line k 0) ≡ false
+    by_place k low high true e = h.spaceless k low (grind (arith, nat_tests))
+    by_place k low high false e = let last : k ≡ at = grind (arith, nat_tests) in rw last other
+
+-- The last word ends with the line.
+pub words_end : (line : List ℕ) (words : List (List ℕ)) (start at : ℕ) → WordsSoFar line words start at → length line ≤ at → words ++ drop start line ∷ [] ≡ words_of line
+words_end line words start at h end =
+    let long = length-drop start line in
+    let before : (k : ℕ) → k < length (drop start line) → is_space (get_or (drop start line) k 0) ≡ false = λ k low. rw get_or-drop (h.spaceless (start + k) (omega arith) (omega (arith, long, low))) in
+    let none = position_or_len_is is_space (drop start line) (length (drop start line)) 0 (omega arith) before (λ h. absurd (omega arith)) in
+    let test : nat_lt (length (drop start line)) (length (drop start line)) ≡ false = grind (arith, nat_tests) in
+    ap (λ x. words ++ x) (sym (word_none (drop start line) (rw (none, test) refl))) ∙ h.words_are

@@ -59,11 +59,6 @@ split_line_of (b ∷ bs) = Some (unwrap_or (next_line_of (b ∷ bs)) (b ∷ bs, 
 unfoldable pub words_of : List ℕ → List (List ℕ)
 words_of line = slice_split is_space line
 
--- the words of what stands behind a word, if a space follows it
-abbrev pub words_behind : Option (List ℕ) → List (List ℕ)
-words_behind None = []
-words_behind (Some rest) = words_of rest
-
 -- words with one space between each two
 unfoldable pub spaced : List (List ℕ) → List ℕ
 spaced words = join_with_byte 32 words

@@ -15,6 +15,13 @@ digits_at below (b ∷ bs) = fold (more (number_step below)) (digit_of b) bs
 unfoldable pub number_at : ℕ → List ℕ → Option ℕ
 number_at below text = option_and_then (λ n. if nat_lt n below then Some n else None) (digits_at below text)
 
+-- The value of a row of digits, however many there are and whatever zeros lead.
+abbrev pub value_step : ℕ → ℕ → Option ℕ
+value_step v b = option_map (λ d. v * 10 + d) (digit_of b)
+
+unfoldable pub value_at : List ℕ → Option ℕ
+value_at digits = fold (more value_step) (Some 0) digits
+
 -- A minus stands before each number but 0.
 abbrev pub minus : ℕ → Option ℤ
 minus zero = None

@@ -21,4 +21,4 @@ pub use names::{Name, is_name};
 pub use numbers::{
     push_decimal, push_signed, read_id, read_number, read_short_number, read_signed,
 };
-pub use words::{split_word, words_into, words_of};
+pub use words::{words_into, words_of};

@@ -1,12 +1,13 @@
 ghost use Rattle.std.specs.Prelude.{◌≡◌, ℕ, ◌+◌, ◌<◌, ◌∷◌, ◌++◌, [], length, position, option_map, IfSome, MatchOption, OnOk};
 ghost use Rattle.plain_texts.specs.Lines.{IsLine, is_feed, lines_of, next_line_of, split_line_of};
 
+use memchr::memchr;
 use std::alloc::AllocError;
 
 fn feed_at(text: &[u8]) -> Option<usize>
     ensures { result ≡ position is_feed text.now }
 {
-    text.iter().position(|byte| *byte == b'\n')
+    memchr(b'\n', text)
 }
 
 #[tactic(auto, unfolding(crate::specs::Lines::next_line_of))]

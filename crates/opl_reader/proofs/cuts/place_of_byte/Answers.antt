@@ -1,5 +1,5 @@
 use Rattle.memchr.specs.Find.{is_byte}
-use Rattle.opl_reader.proofs.FirstBytes.{position_of_first}
+use Rattle.plain_texts.proofs.FirstBytes.{position_of_first}
 use Rattle.opl_reader.proofs.cuts.place_of_byte.Goals as goal
 
 pub returns : goal.returns
