@@ -1,4 +1,5 @@
 pub mod LengthLaws
 pub mod NearestLaws
 pub mod RootLaws
+pub mod TreeLaws
 pub mod WidthLaws

@@ -30,6 +30,14 @@ impl Bounds {
         }
     }
 
+    /// The least box around this one and another that is not empty.
+    pub fn around(self, other: Bounds) -> Bounds
+        ensures kept { (place : Place) → IsInside self place → IsInside result place }
+        ensures other { (place : Place) → IsInside other place → IsInside result place }
+    {
+        self.with(other.low).with(other.high)
+    }
+
     /// The least box around all of the points.
     pub fn of(points: &[(i64, Place)]) -> Bounds
         ensures { AreInside result points.now }

@@ -14,6 +14,7 @@ use std::marker::Model;
 /// contract sees the list of the points.
 #[derive(Drop)]
 pub struct Grid {
+    points: Vec<(i64, Place)>,
     tree: Tree,
 }
 
@@ -23,19 +24,17 @@ impl Model for Grid {
 
     ghost Value = { List (ℤ × Place) };
 
-    ghost use Rattle.geo_length.specs.Trees.{AreBounded, points_of};
+    ghost use Rattle.geo_length.specs.Trees.{AreBounded};
 
-    ghost view = { λ grid. points_of grid.tree };
+    ghost view = { λ grid. grid.points.items };
 
-    ghost invariant = { λ grid. AreBounded grid.tree };
+    ghost invariant = { λ grid. AreBounded grid.tree grid.points.items };
 }
 
-// Rows of latitude, half a kilometre high.
-const ROW: i64 = 50_000;
-
-// Where a point stands in the order that puts near points together: by rows, and from west to east in a row.
+// Where a point stands in the order that puts near points together: by rows of latitude, each 2^16 units or some
+// 700 metres high, and from west to east in a row.
 fn rank(point: &(i64, Place)) -> (i64, i64) {
-    (point.1.lat / ROW, point.1.lon)
+    (point.1.lat >> 16, point.1.lon)
 }
 
 impl Grid {
@@ -45,14 +44,14 @@ impl Grid {
     ghost use Rattle.geo_length.specs.Nearest.{IsNearest};
 
     /// The grid of these points, in an order of its own. What is nearest in it is nearest among the points.
-    pub fn build(alloc: Global, points: &[(i64, Place)]) -> Result<Grid, AllocError>
-        ensures points { IfOk result (λ grid. IsPermutation points.now grid) }
-        ensures nearest { IfOk result (λ grid. (place : Place) (within : ℕ) (best : Option (ℤ × ℕ)) → IsNearest grid place within best → IsNearest points.now place within best) }
+    pub fn build(alloc: Global, points: Vec<(i64, Place)>) -> Result<Grid, AllocError>
+        ensures points { IfOk result (λ grid. IsPermutation points.items grid) }
+        ensures nearest { IfOk result (λ grid. (place : Place) (within : ℕ) (best : Option (ℤ × ℕ)) → IsNearest grid place within best → IsNearest points.items place within best) }
     {
-        let mut sorted = Vec::from_slice(alloc, points)?;
-        sorted.sort_by_key(|point| rank(point))?;
-        let tree = tree_of(alloc, &sorted)?;
-        Ok(Grid { tree })
+        let mut points = points;
+        points.sort_unstable_by_key(|point| rank(point));
+        let tree = tree_of(alloc, &points)?;
+        Ok(Grid { points, tree })
     }
 
     /// The id and the length in millimetres of the point that is nearest to a place, the least (length, id)
@@ -63,6 +62,6 @@ impl Grid {
         ensures nearest { IsNearest self.now place within result }
         ensures only { (other : Option (ℤ × ℕ)) → IsNearest self.now place within other → other ≡ result }
     {
-        with_tree(&self.tree, place, within, None)
+        with_tree(&self.tree, &self.points, place, within, None)
     }
 }

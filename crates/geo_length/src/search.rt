@@ -1,15 +1,14 @@
 //! The search for the nearest point of a tree.
 
 ghost use Rattle.std.specs.Prelude.{◌≡◌, ◌≤◌, ◌<◌, ◌∷◌, [], true};
-ghost use Rattle.geo_length.specs.Boxes.{AreInside};
 ghost use Rattle.geo_length.specs.Lengths.{length_between};
 ghost use Rattle.geo_length.specs.Nearest.{TakesIn, limit_of, nearer_of};
-ghost use Rattle.geo_length.specs.Trees.{AreBounded, points_of};
+ghost use Rattle.geo_length.specs.Trees.{AreBounded};
 
 use crate::boxes::Bounds;
 use crate::gaps::least_mm;
 use crate::lengths::{east_mm, length_mm, north_mm};
-use crate::tree::Tree;
+use crate::tree::{Tree, bounds_of};
 use plan_base::Place;
 
 // The greatest length of a point that still matters.
@@ -87,39 +86,31 @@ fn with_points(
     nearest
 }
 
-fn bounds_of(tree: &Tree) -> Bounds
-    requires { AreBounded tree.now }
-    ensures { AreInside result (points_of tree.now) }
-{
-    match tree {
-        Tree::Leaf(bounds, _) => *bounds,
-        Tree::Fork(bounds, _, _) => *bounds,
-    }
-}
-
-/// The nearest of the points before and of the points of a tree, within a length. The nearer part of a tree
-/// is searched first, and a part whose box is too far is passed over.
+/// The nearest of the points before and of these, within a length, by their tree. The nearer half of them is searched
+/// first, and points whose box is too far are passed over.
 pub fn with_tree(
     tree: &Tree,
+    points: &[(i64, Place)],
     place: Place,
     within: u64,
     best: Option<(i64, u64)>,
 ) -> Option<(i64, u64)>
-    requires { AreBounded tree.now }
-    ensures { TakesIn (points_of tree.now) place within best result }
+    requires { AreBounded tree.now points.now }
+    ensures { TakesIn points.now place within best result }
 {
     if limit(best, within) < least_mm(&bounds_of(tree), place) {
         return best;
     }
     match tree {
-        Tree::Leaf(_, points) => with_points(points, place, within, best),
+        Tree::Leaf(_) => with_points(points, place, within, best),
         Tree::Fork(_, left, right) => {
+            let (front, back) = points.split_at(points.len() / 2);
             if least_mm(&bounds_of(left), place) <= least_mm(&bounds_of(right), place) {
-                let nearest = with_tree(left, place, within, best);
-                with_tree(right, place, within, nearest)
+                let nearest = with_tree(left, front, place, within, best);
+                with_tree(right, back, place, within, nearest)
             } else {
-                let nearest = with_tree(right, place, within, best);
-                with_tree(left, place, within, nearest)
+                let nearest = with_tree(right, back, place, within, best);
+                with_tree(left, front, place, within, nearest)
             }
         }
     }

@@ -197,6 +197,28 @@ fn push_switches(
     Ok(())
 }
 
+/// The links of all stops and switches with the nearest nodes of these layers.
+fn links_by(
+    alloc: Global,
+    layers: &Layers,
+    roads: &[Node],
+    ends: &Ends,
+    entries: &[StopEntry],
+    switches: &[OsmNode],
+) -> Result<Vec<Arc>, AllocError>
+    requires few { length ends.now < 2 ^ 32 }
+    requires numbers { length roads.now + length entries.now + length switches.now < 2 ^ 32 }
+    requires nearest { spec.FindsNearest roads.now (near_of layers.now.foot layers.now.bike layers.now.car) }
+    ensures { IfOk result (λ links. spec.AreLinks roads.now ends.now entries.now switches.now links.items) }
+{
+    let first = roads.len() as u32;
+    let mut links = Vec::new(alloc);
+    push_stops(&mut links, layers, ends, first, entries)?;
+    let first = first + entries.len() as u32;
+    push_switches(&mut links, layers, ends, first, switches)?;
+    in_order(links)
+}
+
 /// The links of all stops and switches with the nearest nodes of the layers.
 pub(crate) fn links_of(
     alloc: Global,
@@ -210,10 +232,5 @@ pub(crate) fn links_of(
     ensures { IfOk result (λ links. spec.AreLinks roads.now ends.now entries.now switches.now links.items) }
 {
     let layers = Layers::of(alloc, roads)?;
-    let first = roads.len() as u32;
-    let mut links = Vec::new(alloc);
-    push_stops(&mut links, &layers, ends, first, entries)?;
-    let first = first + entries.len() as u32;
-    push_switches(&mut links, &layers, ends, first, switches)?;
-    in_order(links)
+    links_by(alloc, &layers, roads, ends, entries, switches)
 }

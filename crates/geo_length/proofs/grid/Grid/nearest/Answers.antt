@@ -6,7 +6,7 @@ use Rattle.geo_length.proofs.grid.Grid.nearest.Goals as goal
 
 pub returns-clause-nearest : goal.returns-clause-nearest
 returns-clause-nearest c =
-    rw (← c.self.view_is) (c.with_tree.ensures.joined [] (All-nil (λ (point : Point). c.args.within < length_to c.args.place point)))
+    rw (← c.self.view_is, ← c.deref.ensures.value) (c.with_tree.ensures.joined [] (All-nil (λ (point : Point). c.args.within < length_to c.args.place point)))
 
 pub returns-clause-only : goal.returns-clause-only
 returns-clause-only c = λ other h.
