@@ -183,7 +183,7 @@ fn read_region(alloc: Global, bytes: &[u8], caps: &Caps) -> Result<Network, Regi
 /// there, then at the first line or record that may not stand where it does, then where bytes follow the end, and at
 /// last where the network breaks a rule of [`Network::build`] or is past a limit of `caps`. 2^32 stops are refused
 /// like want of memory, since no network numbers so many nodes. No more room is taken than the lines or records need
-/// that are there.
+/// that are there, but for calls of the last trip of a text, 65,536 at most, which its line has told.
 pub fn decode(alloc: Global, bytes: &[u8], caps: &Caps) -> Result<Network, RegionFault>
     // What is read is a network that keeps the rules, and is spelled so.
     ensures found { IfOk result (IsDecoded caps.now bytes.now) }

@@ -1,6 +1,6 @@
 //! The lists of a network, line by line.
 
-ghost use Rattle.std.specs.Prelude.{◌≡◌, OnOk};
+ghost use Rattle.std.specs.Prelude.{◌≡◌, [], IfOk, OnOk};
 ghost use Rattle.region_file.specs.Regions as spec;
 ghost use Rattle.region_file.specs.declared.lines.Line.TheVariants as line;
 
@@ -24,6 +24,16 @@ pub fn no_parts(alloc: Global, days: Days) -> Parts
         links: Vec::new(alloc),
         trips: Vec::new(alloc),
     }
+}
+
+/// For how many calls of a trip room is taken before they are there.
+const MOST_AT_FIRST: u32 = 65_536;
+
+/// A list with room for so many calls, as far as that is not too many to take before they are there.
+fn room_for(alloc: Global, calls: u32) -> Result<Vec<Call>, AllocError>
+    ensures { IfOk result (λ list. list.items ≡ []) }
+{
+    Vec::with_capacity(alloc, calls.min(MOST_AT_FIRST) as usize)
 }
 
 /// Puts a call at the end of those of the last trip, if there is a trip.
@@ -65,10 +75,10 @@ pub fn put(alloc: Global, parts: &mut Parts, said: Line) -> Result<(), AllocErro
         Line::Trip {
             letter,
             days,
+            calls,
             name,
-            ..
         } => {
-            let calls = Vec::new(alloc);
+            let calls = room_for(alloc, calls)?;
             parts.trips.push(Trip {
                 letter,
                 days,
