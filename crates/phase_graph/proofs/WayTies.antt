@@ -6,7 +6,7 @@ use Rattle.std.proofs.lemmas.List.{drop_more, drop_all, take_more, take_all, tak
 use Rattle.std.proofs.lemmas.List.Elements.{All-cons, All-nil, All-append, All-contains, All-weaker}
 use Rattle.search_laws.specs.GraphLaws.{GraphMeaning}
 use Rattle.search_laws.specs.Fresh.{AreFresh, AddsFresh}
-use Rattle.search_laws.specs.Ways.{is_open, way_if, open_way, way_at, ways_from, ways_of}
+use Rattle.search_laws.specs.Ways.{is_open, way_if, open_way, way_at, ways_from, ways_past}
 use Rattle.search_laws.specs.declared.given.GivenRuns.{GivenRuns}
 use Rattle.search_laws.specs.declared.graph.GraphArc.{GraphArc}
 use Rattle.search_laws.specs.declared.graph.Way.{Way}
@@ -27,12 +27,12 @@ use Rattle.plain_graph.specs.Lawful.{plain_lawful}
 use Rattle.plain_graph.specs.declared.plain.PlainArc.{PlainArc}
 use Rattle.plain_graph.proofs.PlaceTies.{stand_at}
 use Rattle.phase_graph.specs.declared.phases.PhaseArc.{PhaseArc}
-use Rattle.phase_graph.specs.declared.phases.PhaseArc.TheVariants.{Up, Down, Other}
+use Rattle.phase_graph.specs.declared.phases.PhaseArc.TheVariants.{Down, Other}
 use Rattle.phase_graph.specs.Arcs.{phase_node}
 use Rattle.phase_graph.specs.Marks.{has_mark, is_fall}
-use Rattle.phase_graph.specs.PhaseArcs.{phase_meaning, phase_arc, arc_of, arrival_of, rises_at, first_entry, entries_at, entry_at, others_at, first_other, no_rise, node_of, is_down, before_descent, renumbered, phase_rides, entry_way, fall_ways, FitsAnew}
+use Rattle.phase_graph.specs.PhaseArcs.{phase_meaning, phase_arc, arc_of, arrival_of, rises_at, first_entry, entries_at, entry_at, others_at, first_other, node_of, is_down, before_descent, renumbered, phase_rides, fall_way, fall_ways, FitsAnew}
 use Rattle.phase_graph.proofs.GraphLemmas.{whole, entry_begins}
-use Rattle.phase_graph.proofs.PlaceLemmas.{up_is, down_is, other_is}
+use Rattle.phase_graph.proofs.PlaceLemmas.{down_is, other_is}
 
 -- ---- what is put behind a list
 
@@ -80,13 +80,6 @@ module _ (n : NetworkLists) (h : HierarchyLists) (t : TableLists) (marks : List 
 
   -- ---- entries
 
-  pub up_pushed : (i place : ℕ) (before now next : List Way) → i < ups → (get_or (rises_at h (node_of p) (is_down p)) i no_rise).place ≡ place → is_open letters letter ≡ true → now ≡ before ++ from 0 i
-      → next ≡ now ++ entry_way h letter false time i place ∷ [] → next ≡ before ++ from 0 (i + 1)
-  up_pushed i place before now next lt at opens first push =
-      let here : 0 + i ≡ i = omega arith in
-      let is : way_at g p time letters i ≡ entry_way h letter false time i place ∷ [] = way_is i (Up place) (up_is n h (node_of p) (is_down p) i place lt at) ∙ rw opens refl in
-      pushed 0 i (entry_way h letter false time i place ∷ []) before now next first (ap (way_at g p time letters) here ∙ is) push
-
   pub fall_pushed : (i : ℕ) (before now next : List Way) → i < downs → is_open letters letter ≡ true → now ≡ before ++ from ups i
       → next ≡ now ++ fall_ways h marks letter time (ups + i) (first_entry h (node_of p) + i) → next ≡ before ++ from ups (i + 1)
   fall_pushed i before now next lt opens first push =
@@ -96,7 +89,7 @@ module _ (n : NetworkLists) (h : HierarchyLists) (t : TableLists) (marks : List 
       pushed ups i (fall_ways h marks letter time (ups + i) place) before now next first is push
     where
       by_test : (place : ℕ) (b : Bool) → way_if (ups + i) (arc_of n t h (node_of p) (is_down p) (Down place)) (cond b (Some (time + (entry_at h place).weight)) None)
-          ≡ cond b (entry_way h letter true time (ups + i) place ∷ []) []
+          ≡ cond b (fall_way h letter time (ups + i) place ∷ []) []
       by_test place true = refl
       by_test place false = refl
 
@@ -134,12 +127,6 @@ module _ (n : NetworkLists) (h : HierarchyLists) (t : TableLists) (marks : List 
       shut true e = cc
       shut false e = refl
 
-  ups_closed : is_open letters letter ≡ false → (i k : ℕ) → i + k ≤ ups → from i k ≡ []
-  ups_closed closed i zero within = refl
-  ups_closed closed i (suc k) within =
-      let is = entry_closed closed i (Up (get_or (rises_at h (node_of p) (is_down p)) i no_rise).place) (up_is n h (node_of p) (is_down p) i _ (omega arith) refl) refl in
-      ap (λ (ws : List Way). ws ++ from (i + 1) k) is ∙ ups_closed closed (i + 1) k (omega arith)
-
   downs_closed : is_open letters letter ≡ false → (i k : ℕ) → i + k ≤ downs → from (ups + i) k ≡ []
   downs_closed closed i zero within = refl
   downs_closed closed i (suc k) within =
@@ -147,19 +134,11 @@ module _ (n : NetworkLists) (h : HierarchyLists) (t : TableLists) (marks : List 
       let next : ups + i + 1 ≡ ups + (i + 1) = omega arith in
       ap (λ (ws : List Way). ws ++ from (ups + i + 1) k) is ∙ ap (λ x. from x k) next ∙ downs_closed closed (i + 1) k (omega arith)
 
-  both : (i j : ℕ) → from 0 (i + j) ≡ from 0 i ++ from i j
-  both i j = let here : 0 + i ≡ i = omega arith in ways_split g p time letters 0 i j ∙ ap (λ x. from 0 i ++ from x j) here
-
-  pub entries_closed : (before : List Way) → is_open letters letter ≡ false → before ≡ before ++ from 0 (ups + downs)
-  entries_closed before closed =
+  pub falls_closed : (before : List Way) → is_open letters letter ≡ false → before ≡ before ++ from ups downs
+  falls_closed before closed =
       let none : ups + 0 ≡ ups = omega arith in
       let falls_none : from ups downs ≡ [] = ap (λ x. from x downs) (sym none) ∙ downs_closed closed 0 downs (omega arith) in
-      sym (append-nil before) ∙ ap (λ (ws : List Way). before ++ ws) (sym (both ups downs ∙ ap (λ (ws : List Way). ws ++ from ups downs) (ups_closed closed 0 ups (omega arith)) ∙ falls_none))
-
-  -- one list behind the other
-  pub joined : (i j : ℕ) (before first second : List Way) → first ≡ before ++ from 0 i → second ≡ first ++ from i j → second ≡ before ++ from 0 (i + j)
-  joined i j before first second e f =
-      f ∙ ap (λ (ws : List Way). ws ++ from i j) e ∙ append_assoc before (from 0 i) (from i j) ∙ ap (λ (ws : List Way). before ++ ws) (sym (both i j))
+      sym (append-nil before) ∙ ap (λ (ws : List Way). before ++ ws) (sym falls_none)
 
   -- ---- the arcs that the plain graph has too
 
@@ -221,12 +200,7 @@ module _ (n : NetworkLists) (h : HierarchyLists) (t : TableLists) (marks : List 
       ap (λ k. map anew (ways_from plain (node_of p) time letters k m)) here
       ∙ others_renumbered first m 0 ∙ ap (λ k. from k m) now ∙ ap (λ d. from (ups + downs) (others_at n t (node_of p) d)) (sym first)
 
-  -- what was put behind a list is numbered anew there
-  pub put_behind : is_down p ≡ false → (before mid after : List Way) → mid ≡ before ++ past_roads → after ≡ take (length before) mid ++ map anew (drop (length before) mid)
-      → after ≡ before ++ from (ups + downs) (others_at n t (node_of p) (is_down p))
-  put_behind first before mid after e done = behind_seam anew before past_roads mid after e done ∙ ap (λ (ws : List Way). before ++ ws) (all_renumbered first)
-
-  -- and so are the fresh ones of them
+  -- the fresh ones of them that were put behind a list are numbered anew there
   pub put_fresh_behind : is_down p ≡ false → (state : ℕ) (old new : GivenRuns) (before mid after : List Way)
       → AddsFresh (plain_rides n t) state old new past_roads before mid → after ≡ take (length before) mid ++ map anew (drop (length before) mid)
       → AddsFresh (phase_rides n t) state old new (from (ups + downs) (others_at n t (node_of p) (is_down p))) before after
@@ -237,14 +211,15 @@ module _ (n : NetworkLists) (h : HierarchyLists) (t : TableLists) (marks : List 
         (fresh_elsewhere before_descent anew (renumbered 0 0) (leads_before (count_from n.arcs (node_of p)) (ups + downs)) (leads_before 0 0) (plain_rides n t) state old new past_roads fresh are),
   )
 
-  -- all entries, and what is fresh of the others
-  pub fresh_joined : (state : ℕ) (old new : GivenRuns) (before first second : List Way) → first ≡ before ++ from 0 (ups + downs)
+  -- those that fall, and what is fresh of the others
+  pub fresh_joined : (state : ℕ) (old new : GivenRuns) (before first second : List Way) → first ≡ before ++ from ups downs
       → AddsFresh (phase_rides n t) state old new (from (ups + downs) (others_at n t (node_of p) (is_down p))) first second
-      → AddsFresh (phase_rides n t) state old new (ways_of g p time letters) before second
+      → AddsFresh (phase_rides n t) state old new (ways_past g p time letters ups) before second
   fresh_joined state old new before first second e f =
       let others = others_at n t (node_of p) (is_down p) in
-      subst (λ (ws : List Way). AddsFresh (phase_rides n t) state old new ws before second) (sym (both (ups + downs) others))
-      (adds_more (phase_rides n t) state old old new (from 0 (ups + downs)) (from (ups + downs) others) before first second (adds_all (phase_rides n t) state old (from 0 (ups + downs)) before first e) f)
+      let rest : ups + downs + others - ups ≡ downs + others = omega arith in
+      subst (λ (ws : List Way). AddsFresh (phase_rides n t) state old new ws before second) (sym (ap (from ups) rest ∙ ways_split g p time letters ups downs others))
+      (adds_more (phase_rides n t) state old old new (from ups downs) (from (ups + downs) others) before first second (adds_all (phase_rides n t) state old (from ups downs) before first e) f)
 
   -- in the descent: the one that stands
   stand_is : is_down p ≡ true → (mode : ℕ) → letter ≡ Some mode → from (ups + downs) (others_at n t (node_of p) (is_down p)) ≡ open_way letters (ups + downs) (record { to = p; letter = Some mode }) (Some time)

@@ -94,13 +94,13 @@ arrival_of n t h marks v time (Up place) = Some (time + (entry_at h place).weigh
 arrival_of n t h marks v time (Down place) = fall_arrival h marks place time
 arrival_of n t h marks v time (Other place) = (plain_meaning n t).arrive v place time
 
--- an entry as a way, at a place among the arcs of its node
-abbrev pub entry_way : HierarchyLists → Option ℕ → Bool → ℕ → ℕ → ℕ → Way
-entry_way h letter down time i place = record { place = i; arc = record { to = phase_node (entry_at h place).to down; letter = letter }; at = time + (entry_at h place).weight }
+-- an entry down as a way, at a place among the arcs of its node
+abbrev pub fall_way : HierarchyLists → Option ℕ → ℕ → ℕ → ℕ → Way
+fall_way h letter time i place = record { place = i; arc = record { to = phase_node (entry_at h place).to true; letter = letter }; at = time + (entry_at h place).weight }
 
 -- the same, if it leads down from a node with a mark to another
 abbrev pub fall_ways : HierarchyLists → List Bool → Option ℕ → ℕ → ℕ → ℕ → List Way
-fall_ways h marks letter time i place = if is_fall h marks (entry_at h place) then entry_way h letter true time i place ∷ [] else []
+fall_ways h marks letter time i place = if is_fall h marks (entry_at h place) then fall_way h letter time i place ∷ [] else []
 
 -- an arc of the plain graph as one before the descent
 abbrev pub before_descent : GraphArc → GraphArc

@@ -10,7 +10,7 @@ use crate::phases::{Phases, number_of};
 use hierarchy::Hierarchy;
 use mode_network::Network;
 use plain_graph::Plain;
-use search_laws::{GivenRuns, Graph, GraphArc, Time, Way};
+use search_laws::{GivenRuns, Graph, GraphArc, Leg, Steady, Time, Way};
 use std::alloc::{AllocError, Global};
 
 /// The graph of a network, or the phase graph of a hierarchy for some targets.
@@ -49,7 +49,7 @@ impl<'a> GraphInUse<'a> {
 }
 
 impl Graph for GraphInUse<'_> {
-    ghost use Rattle.phase_graph.specs.InUseGraph.{meaning_in_use, rides_in_use, lawful_in_use};
+    ghost use Rattle.phase_graph.specs.InUseGraph.{meaning_in_use, steady_in_use, rides_in_use, lawful_in_use};
 
     ghost meaning = { meaning_in_use };
 
@@ -81,10 +81,21 @@ impl Graph for GraphInUse<'_> {
         }
     }
 
-    fn ways(&self, v: u32, t: Time, letters: u32, ways: &mut Vec<Way>) -> Result<(), AllocError> {
+    ghost steady_arcs = { steady_in_use };
+
+    #[inline(always)]
+    fn steady(&self, v: u32) -> Steady {
         match self {
-            GraphInUse::Plain(plain) => plain.ways(v, t, letters, ways),
-            GraphInUse::Phases(phases) => phases.ways(v, t, letters, ways),
+            GraphInUse::Plain(plain) => plain.steady(v),
+            GraphInUse::Phases(phases) => phases.steady(v),
+        }
+    }
+
+    #[inline(always)]
+    fn leg(&self, v: u32, i: u64) -> Option<Leg> {
+        match self {
+            GraphInUse::Plain(plain) => plain.leg(v, i),
+            GraphInUse::Phases(phases) => phases.leg(v, i),
         }
     }
 

@@ -13,7 +13,7 @@ use crate::marks::marks;
 use hierarchy::{Entry, Hierarchy, Rise};
 use mode_network::Network;
 use plain_graph::{Plain, PlainArc};
-use search_laws::{GivenRuns, Graph, GraphArc, Time, Way, is_open};
+use search_laws::{GivenRuns, Graph, GraphArc, Leg, Steady, Time, Way, is_open};
 use std::alloc::{AllocError, Global};
 
 /// An arc out of a node of the phase graph.
@@ -120,6 +120,7 @@ impl<'a> Phases<'a> {
     }
 
     /// The entries that lead up from a node of the network, or along the core; in the descent there are none.
+    #[inline(always)]
     fn rises_at(&self, v: u32, down: bool) -> &'a [Rise]
         ensures list { result.now ≡ rises_at self.now.hierarchy.now v down }
         ensures each { All (λ rise. BeginsAt self.now.hierarchy.now v rise.place) result.now }
@@ -290,34 +291,9 @@ impl<'a> Phases<'a> {
         }
     }
 
-    /// Appends the entries up and along the core that leave the node `p`, whose letter is in the set.
-    fn push_ups(&self, p: u32, t: Time, letters: u32, ways: &mut Vec<Way>) -> Result<(), AllocError>
-        requires time { t < 2 ^ 127 }
-        requires opens { is_open letters (mode_at self.now.plain.network.now.roads (node_of p)) ≡ true }
-        ensures { OnOk result (ways.new.items ≡ ways.old.items
-            ++ ways_from (phase_meaning self.now.plain.network.now self.now.plain.timetable.now self.now.hierarchy.now self.now.marks.items) p t letters 0
-            (length (rises_at self.now.hierarchy.now (node_of p) (is_down p)))) }
-    {
-        let (v, down) = split(p);
-        let letter = self.network().mode(v);
-        let rises = self.rises_at(v, down);
-        for i in 0..rises.len() {
-            let rise = &rises[i];
-            ways.push(Way {
-                place: i as u64,
-                arc: GraphArc {
-                    to: number_of(rise.to, false),
-                    letter,
-                },
-                at: t + Time::from(rise.weight),
-            })?;
-        }
-        Ok(())
-    }
-
-    /// Appends those of the entries that leave the node `p` that lead down from a node with a mark to another, if their
-    /// letter is in the set. The places of all entries stand behind those of the entries up and along the core.
-    fn push_falls(
+    /// Appends those of the entries that leave the node `p` that lead down from a node with a mark to another, whose letter is
+    /// in the set. The places of all entries stand behind those of the entries up and along the core.
+    fn push_open_falls(
         &self,
         p: u32,
         t: Time,
@@ -373,79 +349,28 @@ impl<'a> Phases<'a> {
         Ok(())
     }
 
-    /// Appends the entries that leave the node `p`, if their letter is in the set.
-    fn push_entries(
+    /// Appends those of the entries that leave the node `p` that lead down from a node with a mark to another, if their letter
+    /// is in the set.
+    fn push_falls(
         &self,
         p: u32,
         t: Time,
         letters: u32,
         ways: &mut Vec<Way>,
     ) -> Result<(), AllocError>
-        requires time { t < 2 ^ 127 }
-        ensures { OnOk result (ways.new.items ≡ ways.old.items
-            ++ ways_from (phase_meaning self.now.plain.network.now self.now.plain.timetable.now self.now.hierarchy.now self.now.marks.items) p t letters 0
-            (length (rises_at self.now.hierarchy.now (node_of p) (is_down p)) + entries_at self.now.hierarchy.now (node_of p))) }
-    {
-        if is_open(letters, self.network().mode(p / 2)) {
-            self.push_ups(p, t, letters, ways)?;
-            self.push_falls(p, t, letters, ways)?;
-        }
-        Ok(())
-    }
-
-    /// Appends what leaves the node `p` along no entry. It stands behind the entries.
-    fn push_others(
-        &self,
-        p: u32,
-        t: Time,
-        letters: u32,
-        ways: &mut Vec<Way>,
-    ) -> Result<(), AllocError>
-        requires node { node_of p < length (nodes_of self.now.plain.network.now) }
         requires time { t < 2 ^ 127 }
         ensures { OnOk result (ways.new.items ≡ ways.old.items
             ++ ways_from (phase_meaning self.now.plain.network.now self.now.plain.timetable.now self.now.hierarchy.now self.now.marks.items) p t letters
-            (length (rises_at self.now.hierarchy.now (node_of p) (is_down p)) + entries_at self.now.hierarchy.now (node_of p))
-            (others_at self.now.plain.network.now self.now.plain.timetable.now (node_of p) (is_down p))) }
+            (length (rises_at self.now.hierarchy.now (node_of p) (is_down p))) (entries_at self.now.hierarchy.now (node_of p))) }
     {
-        let (v, down) = split(p);
-        let first = self.rises_at(v, down).len() as u64 + self.entries_at(v).1;
-        if down {
-            self.push_stand(p, first, t, letters, ways)
-        } else {
-            self.push_plain(p, first, t, letters, ways)
+        if is_open(letters, self.network().mode(p / 2)) {
+            self.push_open_falls(p, t, letters, ways)?;
         }
-    }
-
-    /// Appends what leaves the node `p` before the descent along no entry: the plain graph's arcs but its road arcs.
-    fn push_plain(
-        &self,
-        p: u32,
-        first: u64,
-        t: Time,
-        letters: u32,
-        ways: &mut Vec<Way>,
-    ) -> Result<(), AllocError>
-        requires node { node_of p < length (nodes_of self.now.plain.network.now) }
-        requires phase { is_down p ≡ false }
-        requires first { first ≡ length (rises_at self.now.hierarchy.now (node_of p) (is_down p)) + entries_at self.now.hierarchy.now (node_of p) }
-        requires few { first < 2 ^ 62 }
-        requires time { t < 2 ^ 127 }
-        ensures { OnOk result (ways.new.items ≡ ways.old.items
-            ++ ways_from (phase_meaning self.now.plain.network.now self.now.plain.timetable.now self.now.hierarchy.now self.now.marks.items) p t letters first
-            (others_at self.now.plain.network.now self.now.plain.timetable.now (node_of p) (is_down p))) }
-    {
-        self.plain.timetable().known();
-        let v = p / 2;
-        let before = ways.len();
-        let (first_arc, past_arc) = self.network().arcs_from(v);
-        self.plain.push_past_roads(v, t, letters, ways)?;
-        renumber(ways, before, (past_arc - first_arc) as u64, first);
         Ok(())
     }
 
-    /// Appends what [`push_others`](Self::push_others) does, but it may leave out rides where the state was given rides as
-    /// good, and it notes the runs whose rides it appends.
+    /// Appends what leaves the node `p` along no entry, which stands behind the entries; but it may leave out rides where the
+    /// state was given rides as good, and it notes the runs whose rides it appends.
     fn push_fresh_others(
         &self,
         p: u32,
@@ -472,8 +397,8 @@ impl<'a> Phases<'a> {
         }
     }
 
-    /// Appends what [`push_plain`](Self::push_plain) does, but it may leave out rides where the state was given rides as good,
-    /// and it notes the runs whose rides it appends.
+    /// Appends what leaves the node `p` before the descent along no entry: the plain graph's arcs but its road arcs. It may
+    /// leave out rides where the state was given rides as good, and it notes the runs whose rides it appends.
     fn push_fresh_plain(
         &self,
         p: u32,
@@ -536,7 +461,7 @@ impl<'a> Phases<'a> {
 }
 
 impl Graph for Phases<'_> {
-    ghost use Rattle.phase_graph.specs.PhaseArcs.{phase_meaning, phase_rides};
+    ghost use Rattle.phase_graph.specs.PhaseArcs.{phase_meaning, phase_rides, rises_at, node_of, is_down};
 
     ghost meaning = { λ g. phase_meaning g.plain.network.now g.plain.timetable.now g.hierarchy.now g.marks.items };
 
@@ -568,10 +493,30 @@ impl Graph for Phases<'_> {
         }
     }
 
-    fn ways(&self, p: u32, t: Time, letters: u32, ways: &mut Vec<Way>) -> Result<(), AllocError> {
-        self.push_entries(p, t, letters, ways)?;
-        self.push_others(p, t, letters, ways)?;
-        Ok(())
+    ghost steady_arcs = { λ g p. length (rises_at g.hierarchy.now (node_of p) (is_down p)) };
+
+    #[inline(always)]
+    fn steady(&self, p: u32) -> Steady {
+        let (v, down) = split(p);
+        Steady {
+            count: self.rises_at(v, down).len() as u64,
+            letter: self.network().mode(v),
+        }
+    }
+
+    #[inline(always)]
+    fn leg(&self, p: u32, i: u64) -> Option<Leg> {
+        let (v, down) = split(p);
+        let rises = self.rises_at(v, down);
+        if i < rises.len() as u64 {
+            let rise = &rises[i as usize];
+            Some(Leg {
+                to: number_of(rise.to, false),
+                ms: rise.weight,
+            })
+        } else {
+            None
+        }
     }
 
     ghost rides = { λ g. phase_rides g.plain.network.now g.plain.timetable.now };
@@ -585,7 +530,7 @@ impl Graph for Phases<'_> {
         given: &mut GivenRuns,
         ways: &mut Vec<Way>,
     ) -> Result<(), AllocError> {
-        self.push_entries(p, t, letters, ways)?;
+        self.push_falls(p, t, letters, ways)?;
         self.push_fresh_others(p, t, letters, state, given, ways)?;
         Ok(())
     }

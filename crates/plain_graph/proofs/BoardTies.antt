@@ -157,10 +157,6 @@ pub run_is : (n : NetworkLists) (t : TableLists) (board : Board) (run : Instance
 run_is n t board run alike first within =
     rides_are_calls n t board.pattern run alike (length (pattern_trip t board.pattern).calls - (board.call + 1)) (board.call + 1) first (omega (arith, within))
 
-pub run_pushed : (n : NetworkLists) (t : TableLists) (board : Board) (run : Instance) → AreAlike (pattern_trip t board.pattern) (trip_at t run.trip) → (first : ℕ) (before now : List Way)
-    → board.call < length (pattern_trip t board.pattern).calls → now ≡ before ++ day_ways n t board run.day first (trip_at t run.trip).calls → now ≡ before ++ run_ways n t first board (Some run)
-run_pushed n t board run alike first before now within is = is ∙ ap (λ (ws : List Way). before ++ ws) (sym (run_is n t board run alike first within))
-
 -- no board has more rides before it than there are
 module _ (t : TableLists) where
   counted_few : (k : ℕ) (boards : List Board) → AreCounted t k boards → All (λ (board : Board). board.before ≤ k + length (flat_map (rides_on t) boards)) boards

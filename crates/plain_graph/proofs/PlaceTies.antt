@@ -1,13 +1,10 @@
 -- The road arcs, the links and the arc that stands, as the ways at their places.
-use Rattle.std.proofs.Common.{◌≡◌, ℕ, ◌+◌, ◌-◌, ◌<◌, ◌≤◌, List, [], ◌∷◌, ◌++◌, length, true, false, cond, zero, suc, Some, None, refl, sym, subst, ◌∙◌, ap, append_assoc, append-nil, arith}
+use Rattle.std.proofs.Common.{◌≡◌, ℕ, ◌+◌, ◌-◌, ◌<◌, List, [], ◌∷◌, ◌++◌, length, true, false, cond, Some, None, refl, sym, ◌∙◌, ap, append_assoc, append-nil, arith}
 use Rattle.std.specs.Prelude.{Option, slice_index_or, is_some}
 use Rattle.std.proofs.lemmas.Bool.{le-ltb, lt-ltb}
-use Rattle.search_laws.specs.Ways.{is_open, open_way, way_at, ways_from, ways_of}
-use Rattle.search_laws.specs.declared.given.GivenRuns.{GivenRuns}
+use Rattle.search_laws.specs.Ways.{is_open, open_way, way_at, ways_from}
 use Rattle.search_laws.specs.declared.graph.Way.{Way}
-use Rattle.search_laws.specs.Fresh.{AddsFresh}
-use Rattle.search_laws.proofs.FreshLemmas.{adds_all, adds_more}
-use Rattle.search_laws.proofs.WayLemmas.{ways_more, ways_split}
+use Rattle.search_laws.proofs.WayLemmas.{ways_more}
 use Rattle.timetable_arcs.specs.Patterns.{TableLists}
 use Rattle.timetable_arcs.specs.Rides.{rides_at, boards_at}
 use Rattle.mode_network.specs.declared.nodes.Arc.{Arc}
@@ -17,8 +14,16 @@ use Rattle.plain_graph.specs.declared.plain.PlainArc.{PlainArc}
 use Rattle.plain_graph.specs.declared.plain.PlainArc.TheVariants.{Road, Link, Stand}
 use Rattle.plain_graph.specs.PlainArcs.{plain_arc, plain_meaning, graph_arc, arrival, count_from, stands_at, rides_of, rides_from_stop, inner_arcs_at, no_arc}
 use Rattle.plain_graph.specs.OutArcs.{stop_found, no_mode}
-use Rattle.plain_graph.specs.BoardWays.{boards_ways, plain_rides}
+use Rattle.plain_graph.specs.BoardWays.{boards_ways}
 use Rattle.plain_graph.proofs.BoardTies.{stop_ways}
+
+module _ (n : NetworkLists) (t : TableLists) (v : ℕ) where
+  abbrev road : ℕ → Arc
+  road i = slice_index_or n.arcs ((range_from n.arcs v).0 + i) no_arc
+
+  -- the first places are the road arcs'
+  pub road_at : (i : ℕ) → i < count_from n.arcs v → plain_arc n t v i ≡ Road (road i)
+  road_at i lt = let inside = lt-ltb i (count_from n.arcs v) lt in rw inside refl
 
 module _ (n : NetworkLists) (t : TableLists) (time letters v : ℕ) where
   abbrev from : ℕ → ℕ → List Way
@@ -41,14 +46,8 @@ module _ (n : NetworkLists) (t : TableLists) (time letters v : ℕ) where
       push ∙ ap (λ (ws : List Way). ws ++ way ∷ []) first ∙ append_assoc before (from start i) (way ∷ [])
       ∙ ap (λ (ws : List Way). before ++ (from start i ++ ws)) (sym is) ∙ ap (λ (ws : List Way). before ++ ws) (sym (ways_more (plain_meaning n t) v time letters start i))
 
-  abbrev road : ℕ → Arc
-  road i = slice_index_or n.arcs ((range_from n.arcs v).0 + i) no_arc
-
   abbrev link : ℕ → Arc
   link i = slice_index_or n.links ((range_from n.links v).0 + i) no_arc
-
-  road_at : (i : ℕ) → i < roads → plain_arc n t v i ≡ Road (road i)
-  road_at i lt = let inside = lt-ltb i roads lt in rw inside refl
 
   link_at : (i : ℕ) → i < links → plain_arc n t v (roads + i) ≡ Link (link i)
   link_at i lt =
@@ -56,20 +55,6 @@ module _ (n : NetworkLists) (t : TableLists) (time letters v : ℕ) where
       let back : roads + i - roads ≡ i = omega arith in
       let inside = lt-ltb i links lt in
       rw (past, back, inside) refl
-
-  pub road_pushed : (i : ℕ) (before now next : List Way) → i < roads → is_open letters (mode_at n.roads v) ≡ true → now ≡ before ++ from 0 i
-      → next ≡ now ++ record { place = i; arc = record { to = (road i).to; letter = mode_at n.roads v }; at = time + (road i).ms } ∷ [] → next ≡ before ++ from 0 (i + 1)
-  road_pushed i before now next lt opens first push =
-      let here : 0 + i ≡ i = omega arith in
-      let is : way_at (plain_meaning n t) v time letters i ≡ record { place = i; arc = record { to = (road i).to; letter = mode_at n.roads v }; at = time + (road i).ms } ∷ [] =
-      way_is i (Road (road i)) (road_at i lt) ∙ rw opens refl in
-      pushed 0 i (record { place = i; arc = record { to = (road i).to; letter = mode_at n.roads v }; at = time + (road i).ms }) before now next first (ap (way_at (plain_meaning n t) v time letters) here ∙ is) push
-
-  pub roads_closed : is_open letters (mode_at n.roads v) ≡ false → (i k : ℕ) → i + k ≤ roads → from i k ≡ []
-  roads_closed closed i zero within = refl
-  roads_closed closed i (suc k) within =
-      let is : way_at (plain_meaning n t) v time letters i ≡ [] = way_is i (Road (road i)) (road_at i (omega arith)) ∙ rw closed refl in
-      ap (λ (ws : List Way). ws ++ from (i + 1) k) is ∙ roads_closed closed (i + 1) k (omega arith)
 
   pub link_pushed : (i : ℕ) (before now next : List Way) → i < links → now ≡ before ++ from roads i
       → next ≡ now ++ record { place = roads + i; arc = record { to = (link i).to; letter = None }; at = time + (link i).ms } ∷ [] → next ≡ before ++ from roads (i + 1)
@@ -117,27 +102,6 @@ module _ (n : NetworkLists) (t : TableLists) (time letters v : ℕ) where
       let count : length (rides_of n t v) ≡ length (rides_at t stop) = ap (λ (o : Option ℕ). length (rides_from_stop t o)) found in
       let all : inner_arcs_at n t v ≡ length (rides_at t stop) = omega (arith, stands, count) in
       ap (from (roads + links)) all ∙ stop_ways n t time letters v stop found none
-
-  pub parts : ways_of (plain_meaning n t) v time letters ≡ from 0 roads ++ from roads (links + inner_arcs_at n t v)
-  parts =
-      let here : 0 + roads ≡ roads = omega arith in
-      let count : roads + links + inner_arcs_at n t v ≡ roads + (links + inner_arcs_at n t v) = omega arith in
-      ap (from 0) count ∙ ways_split (plain_meaning n t) v time letters 0 roads (links + inner_arcs_at n t v) ∙ ap (λ (i : ℕ). from 0 roads ++ from i (links + inner_arcs_at n t v)) here
-
-  -- all of them
-  pub all_ways : (before first second : List Way) → first ≡ before ++ from 0 roads → second ≡ first ++ from roads (links + inner_arcs_at n t v)
-      → second ≡ before ++ ways_of (plain_meaning n t) v time letters
-  all_ways before first second e f =
-      f ∙ ap (λ (ws : List Way). ws ++ from roads (links + inner_arcs_at n t v)) e
-      ∙ append_assoc before (from 0 roads) (from roads (links + inner_arcs_at n t v)) ∙ ap (λ (ws : List Way). before ++ ws) (sym parts)
-
-  -- all road arcs, and what is fresh of the others
-  pub fresh_parts : (state : ℕ) (old new : GivenRuns) (before first second : List Way) → first ≡ before ++ from 0 roads
-      → AddsFresh (plain_rides n t) state old new (from roads (links + inner_arcs_at n t v)) first second
-      → AddsFresh (plain_rides n t) state old new (ways_of (plain_meaning n t) v time letters) before second
-  fresh_parts state old new before first second e f =
-      subst (λ (ws : List Way). AddsFresh (plain_rides n t) state old new ws before second) (sym parts)
-      (adds_more (plain_rides n t) state old old new (from 0 roads) (from roads (links + inner_arcs_at n t v)) before first second (adds_all (plain_rides n t) state old (from 0 roads) before first e) f)
 
 pub nothing_more : (before more : List Way) → more ≡ [] → before ≡ before ++ more
 nothing_more before more none = sym (append-nil before) ∙ ap (λ (ws : List Way). before ++ ws) (sym none)

@@ -10,7 +10,7 @@ ghost use Rattle.plain_graph.specs.PlainArcs.{plain_meaning};
 ghost use Rattle.plain_graph.specs.Lawful.{IsLawfulGraph-prop};
 
 use mode_network::{Arc, Network};
-use search_laws::{GivenRun, GivenRuns, Graph, GraphArc, Time, Way, is_open};
+use search_laws::{GivenRun, GivenRuns, Graph, GraphArc, Leg, Steady, Time, Way, is_open};
 use std::alloc::AllocError;
 use timetable_arcs::{Board, Call, Instance, Ride, Timetable};
 
@@ -228,25 +228,8 @@ impl<'a> Plain<'a> {
         Ok(())
     }
 
-    /// Appends the rides of a run from a board, the first of which is the arc at this place.
-    fn push_run(
-        &self,
-        board: Board,
-        run: Instance,
-        first: u64,
-        ways: &mut Vec<Way>,
-    ) -> Result<(), AllocError>
-        requires board { IsBoardOf self.now.timetable.now board }
-        requires run { IsIn self.now.timetable.now board.pattern run }
-        requires place { first < 2 ^ 63 + 2 ^ 34 }
-        ensures { OnOk result (ways.new.items ≡ ways.old.items ++ run_ways self.now.network.now self.now.timetable.now first board (Some run)) }
-    {
-        self.timetable.known();
-        self.push_rides(board, run.day, self.timetable.run_calls(run), first, ways)?;
-        Ok(())
-    }
-
-    /// Appends what [`push_run`](Self::push_run) does, but for the rides of the run that the state was given, and notes the run.
+    /// Appends the rides of a run from a board, the first of which is the arc at this place, but for those that the state was
+    /// given, and notes the run.
     fn push_fresh_run(
         &self,
         board: Board,
@@ -293,47 +276,8 @@ impl<'a> Plain<'a> {
         }
     }
 
-    /// Appends the rides from a board that can be taken, the first of which is the arc at this place.
-    fn push_board(
-        &self,
-        board: Board,
-        first: u64,
-        t: Time,
-        letters: u32,
-        ways: &mut Vec<Way>,
-    ) -> Result<(), AllocError>
-        requires board { IsBoardOf self.now.timetable.now board }
-        requires place { first < 2 ^ 63 + 2 ^ 34 }
-        ensures { OnOk result (ways.new.items ≡ ways.old.items ++ board_ways self.now.network.now self.now.timetable.now t letters first board) }
-    {
-        if let Some(run) = self.open_run(board, t, letters) {
-            self.push_run(board, run, first, ways)?;
-        }
-        Ok(())
-    }
-
-    /// Appends the rides from a stop that can be taken, the first of which is the arc at this place.
-    fn push_boards(
-        &self,
-        stop: u32,
-        first: u64,
-        t: Time,
-        letters: u32,
-        ways: &mut Vec<Way>,
-    ) -> Result<(), AllocError>
-        requires stop { stop < self.now.timetable.now.stops }
-        requires place { first < 2 ^ 34 }
-        ensures { OnOk result (ways.new.items ≡ ways.old.items
-            ++ boards_ways self.now.network.now self.now.timetable.now t letters first (boards_at self.now.timetable.now stop)) }
-    {
-        self.timetable.known();
-        for board in self.timetable.boards(stop) {
-            self.push_board(*board, first + board.before, t, letters, ways)?;
-        }
-        Ok(())
-    }
-
-    /// Appends what [`push_board`](Self::push_board) does, but for the rides that the state was given.
+    /// Appends the rides from a board that can be taken, the first of which is the arc at this place, but for those that the
+    /// state was given.
     fn push_fresh_board(
         &self,
         board: Board,
@@ -355,7 +299,8 @@ impl<'a> Plain<'a> {
         Ok(())
     }
 
-    /// Appends what [`push_boards`](Self::push_boards) does, but for the rides that the state was given.
+    /// Appends the rides from a stop that can be taken, the first of which is the arc at this place, but for those that the
+    /// state was given.
     fn push_fresh_boards(
         &self,
         stop: u32,
@@ -378,60 +323,9 @@ impl<'a> Plain<'a> {
         Ok(())
     }
 
-    /// Appends the road arcs out of `v`, if their mode is in the set.
-    fn push_roads(
-        &self,
-        v: u32,
-        t: Time,
-        letters: u32,
-        ways: &mut Vec<Way>,
-    ) -> Result<(), AllocError>
-        requires node { v < length (nodes_of self.now.network.now) }
-        requires time { t < 2 ^ 127 }
-        ensures { OnOk result (ways.new.items ≡ ways.old.items
-            ++ ways_from (plain_meaning self.now.network.now self.now.timetable.now) v t letters 0 (count_from self.now.network.now.arcs v)) }
-    {
-        let mode = self.network.mode(v);
-        if is_open(letters, mode) {
-            let (first, past) = self.network.arcs_from(v);
-            for i in 0..past - first {
-                let arc = self.network.arcs()[(first + i) as usize];
-                ways.push(Way {
-                    place: u64::from(i),
-                    arc: with_letter(arc, mode),
-                    at: t + Time::from(arc.ms),
-                })?;
-            }
-        }
-        Ok(())
-    }
-
     /// Appends the arcs of `v` but its road arcs that arrive if they are taken at `t`, by a letter of the set or by none,
-    /// in order. They stand behind the road arcs. Fails where memory runs out.
-    pub fn push_past_roads(
-        &self,
-        v: u32,
-        t: Time,
-        letters: u32,
-        ways: &mut Vec<Way>,
-    ) -> Result<(), AllocError>
-        requires node { v < length (nodes_of self.now.network.now) }
-        requires time { t < 2 ^ 127 }
-        ensures { OnOk result (ways.new.items ≡ ways.old.items
-            ++ ways_from (plain_meaning self.now.network.now self.now.timetable.now) v t letters (count_from self.now.network.now.arcs v)
-            (count_from self.now.network.now.links v + inner_arcs_at self.now.network.now self.now.timetable.now v)) }
-    {
-        let (first_arc, past_arc) = self.network.arcs_from(v);
-        let (first_link, past_link) = self.network.links_from(v);
-        let arcs = (past_arc - first_arc) as u64;
-        let links = (past_link - first_link) as u64;
-        self.push_links(v, arcs, t, letters, ways)?;
-        self.push_inner(v, arcs + links, t, letters, ways)?;
-        Ok(())
-    }
-
-    /// Appends what [`push_past_roads`](Self::push_past_roads) does, but it may leave out rides where the state was given rides
-    /// as good, and it notes the runs whose rides it appends. Fails where memory runs out.
+    /// in order; but it may leave out rides where the state was given rides as good, and it notes the runs whose rides it
+    /// appends. They stand behind the road arcs. Fails where memory runs out.
     pub fn push_fresh_past_roads(
         &self,
         v: u32,
@@ -513,30 +407,8 @@ impl<'a> Plain<'a> {
         Ok(())
     }
 
-    /// Appends the arc that stands at `v`, or the rides that begin there, the first of which is the arc at this place.
-    fn push_inner(
-        &self,
-        v: u32,
-        first: u64,
-        t: Time,
-        letters: u32,
-        ways: &mut Vec<Way>,
-    ) -> Result<(), AllocError>
-        requires node { v < length (nodes_of self.now.network.now) }
-        requires place { first ≡ count_from self.now.network.now.arcs v + count_from self.now.network.now.links v }
-        requires few { first < 2 ^ 34 }
-        ensures { OnOk result (ways.new.items ≡ ways.old.items
-            ++ ways_from (plain_meaning self.now.network.now self.now.timetable.now) v t letters first (inner_arcs_at self.now.network.now self.now.timetable.now v)) }
-    {
-        match (self.network.mode(v), self.network.stop_at(v)) {
-            (Some(mode), _) => self.push_stand(v, mode, first, t, letters, ways)?,
-            (None, Some(stop)) => self.push_boards(stop, first, t, letters, ways)?,
-            (None, None) => {}
-        }
-        Ok(())
-    }
-
-    /// Appends what [`push_inner`](Self::push_inner) does, but for the rides that the state was given.
+    /// Appends the arc that stands at `v`, or the rides that begin there, but for those that the state was given. The first of
+    /// them is the arc at this place.
     fn push_fresh_inner(
         &self,
         v: u32,
@@ -572,6 +444,18 @@ fn with_letter(arc: Arc, letter: Option<u8>) -> GraphArc
     GraphArc { to: arc.to, letter }
 }
 
+/// Where a road arc leads, and how long it takes.
+#[inline(always)]
+fn leg_of(arc: Arc) -> Leg
+    ensures to { result.to ≡ arc.to }
+    ensures ms { result.ms ≡ arc.ms }
+{
+    Leg {
+        to: arc.to,
+        ms: u64::from(arc.ms),
+    }
+}
+
 /// How many rides begin at a stop.
 fn rides_at(timetable: &Timetable, stop: u32) -> u64
     requires { stop < timetable.now.stops }
@@ -583,7 +467,7 @@ fn rides_at(timetable: &Timetable, stop: u32) -> u64
 }
 
 impl Graph for Plain<'_> {
-    ghost use Rattle.plain_graph.specs.PlainArcs.{plain_meaning};
+    ghost use Rattle.plain_graph.specs.PlainArcs.{plain_meaning, count_from};
     ghost use Rattle.plain_graph.specs.BoardWays.{plain_rides};
 
     ghost meaning = { λ g. plain_meaning g.network.now g.timetable.now };
@@ -619,10 +503,26 @@ impl Graph for Plain<'_> {
         }
     }
 
-    fn ways(&self, v: u32, t: Time, letters: u32, ways: &mut Vec<Way>) -> Result<(), AllocError> {
-        self.push_roads(v, t, letters, ways)?;
-        self.push_past_roads(v, t, letters, ways)?;
-        Ok(())
+    ghost steady_arcs = { λ g v. count_from g.network.now.arcs v };
+
+    #[inline(always)]
+    fn steady(&self, v: u32) -> Steady {
+        let (first, past) = self.network.arcs_from(v);
+        Steady {
+            count: u64::from(past - first),
+            letter: self.network.mode(v),
+        }
+    }
+
+    #[inline(always)]
+    fn leg(&self, v: u32, i: u64) -> Option<Leg> {
+        let (first, past) = self.network.arcs_from(v);
+        if i < u64::from(past - first) {
+            let arc = self.network.arcs()[first as usize + i as usize];
+            Some(leg_of(arc))
+        } else {
+            None
+        }
     }
 
     ghost rides = { λ g. plain_rides g.network.now g.timetable.now };
@@ -636,9 +536,7 @@ impl Graph for Plain<'_> {
         given: &mut GivenRuns,
         ways: &mut Vec<Way>,
     ) -> Result<(), AllocError> {
-        self.push_roads(v, t, letters, ways)?;
-        self.push_fresh_past_roads(v, t, letters, state, given, ways)?;
-        Ok(())
+        self.push_fresh_past_roads(v, t, letters, state, given, ways)
     }
 
     ghost lawful = { λ g. g.lawful };

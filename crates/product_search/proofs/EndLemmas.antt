@@ -19,7 +19,7 @@ use Rattle.product_search.specs.declared.frontier.Settled.{Settled}
 use Rattle.product_search.specs.declared.frontier.Frontier.{Frontier}
 use Rattle.product_search.specs.Reach.{IsReachedAt, IsWithin, IsToList}
 use Rattle.product_search.specs.Answer.{IsArrival}
-use Rattle.product_search.specs.Waiting.{reached_at, IsQueueRight, NobodyWaits, SameReached, SettlesLeast, is_same}
+use Rattle.product_search.specs.Waiting.{reached_at, KeepsNumbers, IsQueueRight, NobodyWaits, SameReached, SettlesLeast, is_same}
 use Rattle.product_search.specs.Exploring.{IsSettledBy, Offers, IsStartAmong, IsSuccessor, StartIsReached}
 use Rattle.product_search.specs.Searching.{unsettled, unsettled_at, count_unless, is_settled, IsTracedTo, IsSearching, IsSearched, IsSettledAt, IsEnd, IsExplored}
 use Rattle.product_search.proofs.QueueLemmas.{same_parts}
@@ -43,7 +43,7 @@ module _ (g : GraphMeaning) (l : LabelsMeaning) (starts targets : List ℕ) (dep
     (right : IsQueueRight f) (offers : Offers f0 f (IsStartAmong l starts dep))
     (reached : (k : ℕ) → k < length starts → StartIsReached f l dep (slice_index starts k)) where
   all_starts : (v q : ℕ) (x : Reached) → reached_at f v q ≡ Some x → IsStartAmong l starts dep v q x
-  all_starts v q x is = elim (offers v q) [
+  all_starts v q x is = elim (offers.changes v q) [
     | inl same ↦ (let e : Some x ≡ None = sym is ∙ same ∙ empty v q in cc)
     | inr n ↦ (let e : Some n.0 ≡ Some x = sym n.1 ∙ is in let same : n.0 ≡ x = cc in subst (λ y. IsStartAmong l starts dep v q y) same n.2)
   ]
@@ -51,7 +51,7 @@ module _ (g : GraphMeaning) (l : LabelsMeaning) (starts targets : List ℕ) (dep
   none_settled : {G : Type 0} → (v q : ℕ) (x : Reached) → reached_at f v q ≡ Some x → x.settled ≡ true → G
   none_settled v q x is settled = absurd (false≢true (sym (ap (λ (y : Reached). y.settled) (all_starts v q x is).as_made) ∙ settled))
 
-  traced : (v q : ℕ) (x : Reached) → reached_at f v q ≡ Some x → IsTracedTo g l starts dep f v q x x.parent
+  traced : (v q : ℕ) (x : Reached) → reached_at f v q ≡ Some x → IsTracedTo g l starts dep (λ w r. 0) f v q x x.parent
   traced v q x is = let s = all_starts v q x is in
       rw (ap (λ (y : Reached). y.parent) s.as_made)
       (record { starts_there = s.starts_there; is_state = s.is_state; is_start = s.is_start; at = ap (λ (y : Reached). y.at) s.as_made })
@@ -60,9 +60,10 @@ module _ (g : GraphMeaning) (l : LabelsMeaning) (starts targets : List ℕ) (dep
   searching_begins = record {
     right = right;
     in_range = λ v q x is. (All-contains (λ v. v < g.nodes) starts v in_range (all_starts v q x is).starts_there, (all_starts v q x is).is_state);
+    depth = λ v q. 0;
     traced = traced;
+    shallow = λ v q x is. omega (arith, unsettled-le g l f);
     bounded = λ v q x is. omega (arith, ap (λ (y : Reached). y.at) (all_starts v q x is).as_made, unsettled-le g l f);
-    few_arcs = λ v q x is. omega (arith, ap (λ (y : Reached). y.arcs) (all_starts v q x is).as_made, unsettled-le g l f);
     within = λ v q x is. subst (λ (y : Reached). IsWithin bound y.at) (sym (all_starts v q x is).as_made) in_bound;
     starts_reached = reached;
     in_order = λ v q w r u x is settled waits. none_settled v q x is settled;
@@ -103,7 +104,9 @@ module _ (g : GraphMeaning) (lawful : IsLawfulGraph g) (l : LabelsMeaning) (labe
   pub searched_to : IsSearched g l starts targets dep bound (Some s.at) f1
   searched_to = record {
     right = right;
+    depth = step.depth g lawful l labels starts targets dep bound f f1 f1 s searching least no_offers;
     traced = step.traced g lawful l labels starts targets dep bound f f1 f1 s searching least no_offers;
+    shallow = λ v q x is. omega (arith, step.shallow g lawful l labels starts targets dep bound f f1 f1 s searching least no_offers v q x is, few_states g lawful l labels);
     bounded = λ v q x is. not_above g lawful l labels dep x.at (unsettled g l f1) (step.bounded g lawful l labels starts targets dep bound f f1 f1 s searching least no_offers v q x is);
     within = step.within g lawful l labels starts targets dep bound f f1 f1 s searching least no_offers;
     complete = complete_before;
@@ -115,16 +118,19 @@ module _ (g : GraphMeaning) (lawful : IsLawfulGraph g) (l : LabelsMeaning) (labe
     entry = record (least.entry) { settled = true };
     known = step.here_now f f1 s least;
     at = least.at;
+    link = least.link;
     target = target;
     accepts = accepts;
   }
 
 module _ (g : GraphMeaning) (lawful : IsLawfulGraph g) (l : LabelsMeaning) (labels : IsLawfulLabels l) (starts targets : List ℕ) (dep : ℕ) (bound : Option ℕ)
-    (f f1 : Frontier) (searching : IsSearching g l starts targets dep bound f) (right : IsQueueRight f1) (none : NobodyWaits f) (same : SameReached f f1) where
+    (f f1 : Frontier) (searching : IsSearching g l starts targets dep bound f) (right : IsQueueRight f1) (none : NobodyWaits f) (same : SameReached f f1) (numbers : KeepsNumbers f f1) where
   pub searched_all : IsSearched g l starts targets dep bound None f1
   searched_all = record {
     right = right;
-    traced = λ v q x is. step.keeps_traced g l starts dep f f1 (λ w r y was settled. same w r ∙ was) v q x x.parent (searching.traced v q x (sym (same v q) ∙ is));
+    depth = searching.depth;
+    traced = λ v q x is. step.keeps_traced g l starts dep searching.depth searching.depth f f1 (λ w r y was settled. (same w r ∙ was, refl)) numbers v q x x.parent refl (searching.traced v q x (sym (same v q) ∙ is));
+    shallow = λ v q x is. omega (arith, searching.shallow v q x (sym (same v q) ∙ is), few_states g lawful l labels);
     bounded = λ v q x is. not_above g lawful l labels dep x.at (unsettled g l f) (searching.bounded v q x (sym (same v q) ∙ is));
     within = λ v q x is. searching.within v q x (sym (same v q) ∙ is);
     complete = λ v q t reached within.
@@ -163,7 +169,7 @@ module _ (g : GraphMeaning) (l : LabelsMeaning) (starts targets : List ℕ) (dep
   arrives (Some s) (searched, end) =
       (record { reached = there; least = earliest }, subst (λ t. IsWithin bound t) (sym end.at) (searched.within s.node s.state (end.entry) end.known)) where
         walk : IsReachedAt g l starts dep s.node s.state s.at
-        walk = subst (λ t. IsReachedAt g l starts dep s.node s.state t) (sym end.at) (tight g l starts dep f searched.traced s.node s.state (end.entry) end.known)
+        walk = subst (λ t. IsReachedAt g l starts dep s.node s.state t) (sym end.at) (tight g l starts dep searched.depth f searched.traced s.node s.state (end.entry) end.known)
 
         there : ArrivesAt g l starts targets dep s.at
         there = record {

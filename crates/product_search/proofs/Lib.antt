@@ -1,6 +1,7 @@
 pub mod HopLemmas
 pub mod LabelLemmas
 mod HeapLemmas
+mod RowLemmas
 mod QueueLemmas
 mod OfferLemmas
 mod SumLemmas

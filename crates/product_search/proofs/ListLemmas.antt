@@ -1,4 +1,4 @@
--- The list of the settled entries has exactly the least labels, in order.
+-- The list of what is settled has exactly the least labels, in order.
 use Rattle.std.proofs.Common.{◌≡◌, ℕ, zero, suc, ◌<◌, ◌≤◌, length, map, Bool, true, false, ◌&&◌, cond, List, [], ◌∷◌, Less, get_or, Some, None, inl, inr, refl, sym, ◌∙◌, ap, subst, arith}
 use Rattle.std.specs.Prelude.{Option, All, Contains, filter_map, IsSorted, IsPermutation, ◌==◌}
 use Rattle.std.specs.List.{AllByRecursion, IsDistinct, cons_option}
@@ -19,13 +19,13 @@ use Rattle.search_laws.specs.LabelLaws.{LabelsMeaning}
 use Rattle.product_search.specs.declared.label.Label.{Label}
 use Rattle.product_search.specs.declared.frontier.Reached.{Reached}
 use Rattle.product_search.specs.declared.frontier.Frontier.{Frontier}
-use Rattle.product_search.specs.declared.frontier.Entry.{Entry}
+use Rattle.product_search.specs.declared.row.Row.{Row}
 use Rattle.product_search.specs.Reach.{IsReachedAt, IsLeastAt, IsWithin, IsToList, is_before}
 use Rattle.product_search.specs.Listed.{label_of, label_order, IsBelow, IsAscending, AreLeastLabels}
 use Rattle.product_search.specs.Answer.{last_time}
 use Rattle.product_search.specs.Closed.{IsListedBy}
-use Rattle.product_search.specs.Waiting.{state_eq, made, keyed, keyed_entries, reached_in, reached_at, IsApart}
-use Rattle.product_search.specs.Searching.{IsSearched, listed_label, label_of_entry}
+use Rattle.product_search.specs.Waiting.{state_eq, made, keyed, rows, keyed_rows, reached_in, reached_at, IsApart}
+use Rattle.product_search.specs.Searching.{IsSearched, listed_label, label_of_row}
 use Rattle.product_search.proofs.QueueLemmas.{same_parts, found_in, keys_differ}
 use Rattle.product_search.proofs.ReachLemmas.{tight, within_down}
 use Rattle.product_search.proofs.TrailLemmas.{same_entry}
@@ -71,7 +71,7 @@ by_keys : {K V : Type 0} (P : K → Type 0) (es : List (K × V)) → AllByRecurs
 by_keys {K} {V} P [] all = All-nil (λ (e : K × V). P e.0)
 by_keys {K} {V} P (e ∷ es) (here, rest) = All-cons (λ (e : K × V). P e.0) e es here (by_keys P es rest)
 
--- ---- the labels of entries
+-- ---- the labels of rows
 
 label_parts : (arrival : Option ℕ) (e : (ℕ × ℕ) × Reached) (x : Label) → listed_label arrival e ≡ Some x
     → (x ≡ label_of e.0.0 e.0.1 (e.1).at) × ((e.1).settled ≡ true) × (is_before arrival (e.1).at ≡ true)
@@ -150,20 +150,20 @@ listed_down : (bound arrival : Option ℕ) (s t : ℕ) → s ≤ t → IsToList 
 listed_down bound None s t le listed = within_down bound s t le listed
 listed_down bound (Some a) s t le listed = omega arith
 
--- ---- the entries
+-- ---- the rows
 
-filter_map_keyed : (arrival : Option ℕ) (es : List Entry) → filter_map (label_of_entry arrival) es ≡ filter_map (listed_label arrival) (map keyed es)
+filter_map_keyed : (arrival : Option ℕ) (es : List Row) → filter_map (label_of_row arrival) es ≡ filter_map (listed_label arrival) (map keyed es)
 filter_map_keyed arrival [] = refl
 filter_map_keyed arrival (e ∷ es) = ap (λ ys. cons_option (listed_label arrival (keyed e)) ys) (filter_map_keyed arrival es)
 
-entry_at : (es : List Entry) → IsApart es → (k : ℕ) (d : (ℕ × ℕ) × Reached) → k < length (map keyed es)
+row_at : (es : List Row) → IsApart es → (k : ℕ) (d : (ℕ × ℕ) × Reached) → k < length (map keyed es)
     → (let e = get_or (map keyed es) k d in reached_in es e.0.0 e.0.1 ≡ Some e.1)
-entry_at es apart k d lt =
+row_at es apart k d lt =
     let e = get_or es k (made d.0.0 d.0.1 0 d.1) in
     let lt_es : k < length es = subst (λ n. k < n) (length-map es keyed) lt in
     let is : get_or (map keyed es) k d ≡ keyed e = get_or_keyed es k d lt_es in
     subst (λ (x : (ℕ × ℕ) × Reached). reached_in es x.0.0 x.0.1 ≡ Some x.1) (sym is) (found_in es apart k e (slice_get-get_or es k (made d.0.0 d.0.1 0 d.1) lt_es)) where
-      get_or_keyed : (es : List Entry) (k : ℕ) (d : (ℕ × ℕ) × Reached) → k < length es → get_or (map keyed es) k d ≡ keyed (get_or es k (made d.0.0 d.0.1 0 d.1))
+      get_or_keyed : (es : List Row) (k : ℕ) (d : (ℕ × ℕ) × Reached) → k < length es → get_or (map keyed es) k d ≡ keyed (get_or es k (made d.0.0 d.0.1 0 d.1))
       get_or_keyed [] k d lt = absurd (omega arith)
       get_or_keyed (e ∷ es) zero d lt = refl
       get_or_keyed (e ∷ es) (suc k) d lt = get_or_keyed es k d (omega arith)
@@ -172,16 +172,16 @@ entry_at es apart k d lt =
 
 module _ (g : GraphMeaning) (l : LabelsMeaning) (starts targets : List ℕ) (dep : ℕ) (bound arrival : Option ℕ) (f : Frontier)
     (searched : IsSearched g l starts targets dep bound arrival f)
-    (list : List Label) (sorted : IsSorted label_order list) (listed_all : IsPermutation (filter_map (label_of_entry arrival) f.entries.items) list) where
-  same : IsPermutation (filter_map (listed_label arrival) (keyed_entries f)) list
-  same = subst (λ xs. IsPermutation xs list) (filter_map_keyed arrival f.entries.items) listed_all
+    (list : List Label) (sorted : IsSorted label_order list) (listed_all : IsPermutation (filter_map (label_of_row arrival) (rows f)) list) where
+  same : IsPermutation (filter_map (listed_label arrival) (keyed_rows f)) list
+  same = subst (λ xs. IsPermutation xs list) (filter_map_keyed arrival (rows f)) listed_all
 
-  entries : All (λ e. reached_at f e.0.0 e.0.1 ≡ Some e.1) (keyed_entries f)
-  entries k d lt = entry_at f.entries.items searched.right.apart k d lt
+  known_rows : All (λ e. reached_at f e.0.0 e.0.1 ≡ Some e.1) (keyed_rows f)
+  known_rows k d lt = row_at (rows f) searched.right.apart k d lt
 
   least_at : (v q : ℕ) (x : Reached) → reached_at f v q ≡ Some x → IsToList bound arrival x.at → IsLeastAt g l starts dep v q x.at
   least_at v q x is listed = record {
-    reached = tight g l starts dep f searched.traced v q x is;
+    reached = tight g l starts dep searched.depth f searched.traced v q x is;
     least = earliest;
   } where
     earliest : (u : ℕ) → IsReachedAt g l starts dep v q u → x.at ≤ u
@@ -200,26 +200,26 @@ module _ (g : GraphMeaning) (l : LabelsMeaning) (starts targets : List ℕ) (dep
       subst (λ (y : Label). IsLeastAt g l starts dep y.node y.state y.at × IsToList bound arrival y.at) (sym p.0)
       (least_at e.0.0 e.0.1 e.1 is listed, listed)
 
-  all_there : (v q t : ℕ) → IsLeastAt g l starts dep v q t → IsToList bound arrival t → Contains (filter_map (listed_label arrival) (keyed_entries f)) (label_of v q t)
+  all_there : (v q t : ℕ) → IsLeastAt g l starts dep v q t → IsToList bound arrival t → Contains (filter_map (listed_label arrival) (keyed_rows f)) (label_of v q t)
   all_there v q t least listed =
       let y = searched.complete v q t least.reached listed in
-      let at : (y.0).at ≡ t = (let back = least.least (y.0).at (tight g l starts dep f searched.traced v q y.0 y.1) in omega (arith, back, y.3)) in
-      let found = lookup_listed (listed_label arrival) (state_eq (v, q)) (keyed_entries f) y.0 y.1 in
+      let at : (y.0).at ≡ t = (let back = least.least (y.0).at (tight g l starts dep searched.depth f searched.traced v q y.0 y.1) in omega (arith, back, y.3)) in
+      let found = lookup_listed (listed_label arrival) (state_eq (v, q)) (keyed_rows f) y.0 y.1 in
       let key = same_parts v q found.0.0 found.0.1 found.1 in
       let kept : ((y.0).settled && is_before arrival (y.0).at) ≡ true =
       and_from (y.0).settled (is_before arrival (y.0).at) y.2 (subst (λ s. is_before arrival s ≡ true) (sym at) (before_from bound arrival t listed)) in
       let there = found.2 (label_of found.0.0 found.0.1 (y.0).at) (ap (λ b. cond b (Some (label_of found.0.0 found.0.1 (y.0).at)) None) kept) in
       let same : label_of found.0.0 found.0.1 (y.0).at ≡ label_of v q t = ap (λ a. label_of a found.0.1 (y.0).at) (sym key.0) ∙ ap (λ b. label_of v b (y.0).at) (sym key.1) ∙ ap (λ s. label_of v q s) at in
-      subst (λ z. Contains (filter_map (listed_label arrival) (keyed_entries f)) z) same there
+      subst (λ z. Contains (filter_map (listed_label arrival) (keyed_rows f)) z) same there
 
   pub least_labels : AreLeastLabels g l starts dep bound arrival list
   least_labels = record {
-    ascending = ascending list sorted (IsDistinct-IsPermutation same_key same_key_flips (filter_map (listed_label arrival) (keyed_entries f)) list same
-        (distinct arrival (keyed_entries f) (keys_differ f.entries.items searched.right.apart)));
-    least = All-permutation (λ x. IsLeastAt g l starts dep x.node x.state x.at × IsToList bound arrival x.at) (filter_map (listed_label arrival) (keyed_entries f)) list same
-        (filter_map_all (listed_label arrival) (λ x. IsLeastAt g l starts dep x.node x.state x.at × IsToList bound arrival x.at) (keyed_entries f)
-        (λ k d lt. label_least (get_or (keyed_entries f) k d) (entries k d lt)));
-    complete = λ v q t least listed. Contains-permutation (filter_map (listed_label arrival) (keyed_entries f)) list (label_of v q t) same (all_there v q t least listed);
+    ascending = ascending list sorted (IsDistinct-IsPermutation same_key same_key_flips (filter_map (listed_label arrival) (keyed_rows f)) list same
+        (distinct arrival (keyed_rows f) (keys_differ (rows f) searched.right.apart)));
+    least = All-permutation (λ x. IsLeastAt g l starts dep x.node x.state x.at × IsToList bound arrival x.at) (filter_map (listed_label arrival) (keyed_rows f)) list same
+        (filter_map_all (listed_label arrival) (λ x. IsLeastAt g l starts dep x.node x.state x.at × IsToList bound arrival x.at) (keyed_rows f)
+        (λ k d lt. label_least (get_or (keyed_rows f) k d) (known_rows k d lt)));
+    complete = λ v q t least listed. Contains-permutation (filter_map (listed_label arrival) (keyed_rows f)) list (label_of v q t) same (all_there v q t least listed);
   }
 
   -- all that is reached at a time to list is listed by then
@@ -234,6 +234,6 @@ module _ (g : GraphMeaning) (l : LabelsMeaning) (starts targets : List ℕ) (dep
       subst (λ (y : Label). y.at ≤ last_time dep) (sym p.0) (searched.bounded e.0.0 e.0.1 e.1 is)
 
   pub labels_in_time : All (λ x. x.at ≤ last_time dep) list
-  labels_in_time = All-permutation (λ x. x.at ≤ last_time dep) (filter_map (listed_label arrival) (keyed_entries f)) list same
-      (filter_map_all (listed_label arrival) (λ x. x.at ≤ last_time dep) (keyed_entries f)
-      (λ k d lt. label_in_time (get_or (keyed_entries f) k d) (entries k d lt)))
+  labels_in_time = All-permutation (λ x. x.at ≤ last_time dep) (filter_map (listed_label arrival) (keyed_rows f)) list same
+      (filter_map_all (listed_label arrival) (λ x. x.at ≤ last_time dep) (keyed_rows f)
+      (λ k d lt. label_in_time (get_or (keyed_rows f) k d) (known_rows k d lt)))

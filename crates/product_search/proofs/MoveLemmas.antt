@@ -1,16 +1,19 @@
--- The table of the moves of an automaton.
-use Rattle.std.proofs.Common.{◌≡◌, ℕ, ◌+◌, ◌*◌, ◌/◌, ◌%◌, ◌<◌, ◌++◌, ◌∷◌, [], List, Some, length, get_or, refl, sym, subst, inl, inr, arith}
-use Rattle.std.specs.Prelude.{All, Contains, IsBitSet, slice_index_or}
+-- The table of the moves of an automaton, and the states that it has after the letter of steady arcs.
+use Rattle.std.proofs.Common.{◌≡◌, ℕ, ◌+◌, ◌*◌, ◌/◌, ◌%◌, ◌<◌, ◌≤◌, ◌++◌, ◌∷◌, [], List, Some, length, get_or, refl, sym, ◌∙◌, subst, inl, inr, arith}
+use Rattle.std.specs.Prelude.{Option, All, Contains, IfSome, IsBitSet, slice_index_or}
 use Rattle.std.proofs.Math.Seq.{get_or-append_seam}
 use Rattle.std.proofs.lemmas.Bool.{cases_lt}
 use Rattle.std.proofs.lemmas.List.{get_or_append_left}
-use Rattle.std.proofs.lemmas.List.Elements.{All-push, Contains-push, Contains-append_left}
-use Rattle.search_laws.specs.LabelLaws.{LabelsMeaning, HasMove}
+use Rattle.std.proofs.lemmas.List.Elements.{All-contains, All-push, Contains-push, Contains-append_left}
+use Rattle.search_laws.specs.GraphLaws.{GraphMeaning, IsLawfulGraph}
+use Rattle.search_laws.specs.LabelLaws.{LabelsMeaning, HasMove, Follows, AllAfter}
+use Rattle.search_laws.specs.declared.graph.Steady.{Steady}
 use Rattle.product_search.specs.declared.frontier.Frontier.{Frontier}
 use Rattle.product_search.specs.declared.frontier.Reached.{Reached}
+use Rattle.product_search.specs.declared.frontier.Settled.{Settled}
 use Rattle.product_search.specs.declared.moves.MoveTable.{MoveTable}
 use Rattle.product_search.specs.MoveTables.{AreTargets, IsTableOf}
-use Rattle.product_search.specs.Exploring.{IsGiven, LeadsTo, Offers}
+use Rattle.product_search.specs.Exploring.{IsReachedBy, IsGiven, LeadsTo, Offers, ArcIsReached, LegIsReached}
 use Rattle.product_search.proofs.OfferLemmas.{offers_more, offers_weaker}
 
 -- what holds of each element at its place, after one more
@@ -60,6 +63,10 @@ module _ (l : LabelsMeaning) (q c : ℕ) where
       subst (λ x. AreTargets l x c (slice_index_or t.targets.items (14 * q + c) [])) place
       (subst (λ y. AreTargets l ((14 * q + c) / 14) y (slice_index_or t.targets.items (14 * q + c) [])) rest (is.targets.are (14 * q + c) (omega arith)))
 
+  -- what holds of each of the states holds of each after the letter
+  pub targets_after : (targets : List ℕ) → AreTargets l q c targets → (P : ℕ → Type 0) → All P targets → AllAfter l q (Some c) P
+  targets_after targets are P all = λ j lt by. All-contains P targets (l.move_at q j).to all (are.each j lt by)
+
   -- a way that is offered in one of the states leads there by the letter
   pub next_offered : (targets : List ℕ) → AreTargets l q c targets → (k d : ℕ) → k < length targets → (to : ℕ) (way : Reached) (old mid new : Frontier)
       → Offers old mid (LeadsTo l to q (Some c) way) → Offers mid new (IsGiven to (slice_index_or targets k d) way) → Offers old new (LeadsTo l to q (Some c) way)
@@ -67,3 +74,30 @@ module _ (l : LabelsMeaning) (q c : ℕ) where
       offers_more old mid new (LeadsTo l to q (Some c) way) first
       (offers_weaker mid new (IsGiven to (slice_index_or targets k d) way) (LeadsTo l to q (Some c) way)
       (λ w r x given. record { node = given.node; state = subst (HasMove l q c) (sym given.state) (are.are k d lt); as_given = given.as_given }) next)
+
+-- the steady arcs of a settled node, which have the letter c
+module _ (g : GraphMeaning) (l : LabelsMeaning) (s : Settled) (steady : Steady) (same : (i : ℕ) → i < steady.count → (g.arc_at s.node i).letter ≡ steady.letter)
+    (c : ℕ) (is : steady.letter ≡ Some c) where
+  steady_letter : IsLawfulGraph g → s.node < g.nodes → 0 < steady.count → steady.count ≤ g.arcs s.node → c < 14
+  steady_letter lawful node some within =
+      subst (λ (o : Option ℕ). IfSome o (λ a. a < 14)) (same 0 some ∙ is) (lawful.letter_in_range s.node 0 (record { node = node; arc = omega arith }))
+
+  -- the list of the table has the states after the letter
+  pub steady_targets : IsLawfulGraph g → s.node < g.nodes → 0 < steady.count → steady.count ≤ g.arcs s.node → (t : MoveTable) → IsTableOf l t → s.state < l.states
+      → (targets : List ℕ) → targets ≡ slice_index_or t.targets.items (14 * s.state + c) [] → AreTargets l s.state c targets
+  steady_targets lawful node some within t table state targets found =
+      subst (AreTargets l s.state c) (sym found) (targets_found l s.state c t table state (steady_letter lawful node some within))
+
+  -- each of the states follows each of them
+  pub steady_follow : (targets : List ℕ) → AreTargets l s.state c targets
+      → All (λ next. (i : ℕ) → i < steady.count → Follows l s.state (g.arc_at s.node i).letter next) targets
+  steady_follow targets are k d lt i inside =
+      subst (λ (o : Option ℕ). Follows l s.state o (slice_index_or targets k d)) (sym (same i inside ∙ is)) (are.are k d lt)
+
+  -- what they lead to is reached, if it is in each of the states
+  pub steady_reached : (bound : Option ℕ) (f : Frontier) (targets : List ℕ) → AreTargets l s.state c targets
+      → All (λ next. (i : ℕ) → i < steady.count → LegIsReached g bound f s next i) targets
+      → (i : ℕ) → i < steady.count → ArcIsReached g l bound f s.node s.state s.at i
+  steady_reached bound f targets are all i inside u e within =
+      subst (λ (o : Option ℕ). AllAfter l s.state o (λ r. IsReachedBy f (g.arc_at s.node i).to r u)) (sym (same i inside ∙ is))
+      (targets_after l s.state c targets are (λ r. IsReachedBy f (g.arc_at s.node i).to r u) (λ k d lt. all k d lt i inside u e within))

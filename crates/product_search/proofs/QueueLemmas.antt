@@ -1,21 +1,23 @@
--- The entries and the queue of a frontier, change by change.
-use Rattle.std.proofs.Common.{◌≡◌, ◌≢◌, ℕ, ◌+◌, ◌-◌, ◌<◌, ◌≤◌, Bool, true, false, not, ◌==◌, cond, List, [], ◌∷◌, ◌++◌, length, get_or, map, Some, None, zero, suc, inl, inr, refl, sym, ◌∙◌, ap, subst, arith}
-use Rattle.std.specs.Prelude.{◌^◌, Option, option_map, slice_get, slice_index, slice_set, if◌then◌else◌}
+-- The rows and the queue of a frontier, change by change.
+use Rattle.std.proofs.Common.{◌≡◌, ◌≢◌, ℕ, ◌+◌, ◌-◌, ◌<◌, ◌≤◌, Bool, true, false, not, ◌==◌, cond, List, [], ◌∷◌, ◌++◌, length, get_or, map, Some, None, zero, suc, inl, inr, refl, sym, ◌∙◌, ap, subst, add-one, arith}
+use Rattle.std.specs.Prelude.{◌^◌, Option, slice_get, slice_index, slice_set, if◌then◌else◌}
 use Rattle.std.specs.List.{AllByRecursion, IsDistinct}
 use Rattle.std.specs.Map.{keys_of}
 use Rattle.std.specs.declared.cmp.Reverse.{Reverse}
 use Rattle.std.proofs.lemmas.Bool.{cases_lt, eqb-true, and_parts, not-true, false≢true, cases_eq}
 use Rattle.std.proofs.lemmas.Bool.Decides.{nat_tests}
-use Rattle.std.proofs.lemmas.List.{length-set, length-map, map-append, map-set}
-use Rattle.std.proofs.lemmas.Option.{slice_get_within, get_or_from_slice_get, slice_get-map}
+use Rattle.std.proofs.lemmas.List.{length-set}
+use Rattle.std.proofs.lemmas.Option.{slice_get_within}
 use Rattle.std.proofs.lemmas.Map.Keys.{IsDistinct-cons}
 use Rattle.product_search.specs.declared.frontier.Reached.{Reached}
 use Rattle.product_search.specs.declared.frontier.Entry.{Entry}
+use Rattle.product_search.specs.declared.row.Row.{Row}
 use Rattle.product_search.specs.declared.frontier.Settled.{Settled}
 use Rattle.product_search.specs.declared.frontier.Frontier.{Frontier}
 use Rattle.product_search.specs.declared.key.Key.{Key}
 use Rattle.product_search.specs.Queued.{entry_of, Queued, TakesIn, GivesLeast, GivesNone}
-use Rattle.product_search.specs.Waiting.{state_eq, seen, made, settled_now, keyed, reached_in, reached_at, waits_at, IsAt, IsNowhere, IsApart, IsIndexed, IsClear, IsBehind, IsLast, Waits, IsQueueRight, is_same, offered, IsOffered, IsSetAt, NobodyWaits, SameReached, SettlesLeast, AreKeys, bar_of, key_of}
+use Rattle.product_search.specs.Waiting.{state_eq, made, settled_now, keyed, rows, reached_in, reached_at, waits_at, IsAt, IsNowhere, IsApart, KeepsNumbers, IsIndexed, IsClear, IsBehind, IsLast, Waits, IsQueueRight, is_same, offered, IsOffered, IsSetAt, NobodyWaits, SameReached, SettlesLeast, AreKept, bar_of, key_of}
+use Rattle.product_search.proofs.RowLemmas.{row_parts, key_read, entry_read}
 
 -- ---- equal keys
 
@@ -67,93 +69,93 @@ get_set_other (z ∷ xs) zero (suc k) x other = refl
 get_set_other (z ∷ xs) (suc i) zero x other = refl
 get_set_other (z ∷ xs) (suc i) (suc k) x other = get_set_other xs i k x (λ e. other (ap suc e))
 
--- ---- entries
+-- ---- rows
 
-apart_tail : (e : Entry) (es : List Entry) → IsApart (e ∷ es) → IsApart es
-apart_tail e es apart v q j k at_j at_k =
+apart_tail : (e : Row) (rs : List Row) → IsApart (e ∷ rs) → IsApart rs
+apart_tail e rs apart v q j k at_j at_k =
     let same : suc j ≡ suc k = apart v q (suc j) (suc k)
-    (record { entry = at_j.entry; known = at_j.known; node = at_j.node; state = at_j.state })
-    (record { entry = at_k.entry; known = at_k.known; node = at_k.node; state = at_k.state }) in omega arith
+    (record { row = at_j.row; known = at_j.known; node = at_j.node; state = at_j.state })
+    (record { row = at_k.row; known = at_k.known; node = at_k.node; state = at_k.state }) in omega arith
 
--- what is known of a product state is what its entry says
-pub found_in : (es : List Entry) → IsApart es → (k : ℕ) (e : Entry) → slice_get es k ≡ Some e → reached_in es e.node e.state ≡ Some (seen e)
+-- what is known of a product state is what its row says
+pub found_in : (rs : List Row) → IsApart rs → (k : ℕ) (e : Row) → slice_get rs k ≡ Some e → reached_in rs e.node e.state ≡ Some e.known
 found_in [] apart k e is = cc
-found_in (d ∷ es) apart zero e is =
+found_in (d ∷ rs) apart zero e is =
     let same : d ≡ e = cc in
-    subst (λ y. reached_in (d ∷ es) y.node y.state ≡ Some (seen y)) same
-    (ap (λ b. cond b (Some (seen d)) (reached_in es d.node d.state)) (same_itself d.node d.state))
-found_in (d ∷ es) apart (suc k) e is = go (is_same e.node e.state d.node d.state) refl (found_in es (apart_tail d es apart) k e is) where
-  go : (b : Bool) → is_same e.node e.state d.node d.state ≡ b → reached_in es e.node e.state ≡ Some (seen e) → cond (is_same e.node e.state d.node d.state) (Some (seen d)) (reached_in es e.node e.state) ≡ Some (seen e)
-  go false other later = ap (λ b. cond b (Some (seen d)) (reached_in es e.node e.state)) other ∙ later
+    subst (λ y. reached_in (d ∷ rs) y.node y.state ≡ Some y.known) same
+    (ap (λ b. cond b (Some d.known) (reached_in rs d.node d.state)) (same_itself d.node d.state))
+found_in (d ∷ rs) apart (suc k) e is = go (is_same e.node e.state d.node d.state) refl (found_in rs (apart_tail d rs apart) k e is) where
+  go : (b : Bool) → is_same e.node e.state d.node d.state ≡ b → reached_in rs e.node e.state ≡ Some e.known → cond (is_same e.node e.state d.node d.state) (Some d.known) (reached_in rs e.node e.state) ≡ Some e.known
+  go false other later = ap (λ b. cond b (Some d.known) (reached_in rs e.node e.state)) other ∙ later
   go true e2 later =
       let p = same_parts e.node e.state d.node d.state e2 in
       let same : zero ≡ suc k = apart e.node e.state zero (suc k)
-      (record { entry = d; known = refl; node = sym p.0; state = sym p.1 })
-      (record { entry = e; known = is; node = refl; state = refl }) in absurd (omega arith)
+      (record { row = d; known = refl; node = sym p.0; state = sym p.1 })
+      (record { row = e; known = is; node = refl; state = refl }) in absurd (omega arith)
 
-pub record IsEntryOf (es : List Entry) (v q : ℕ) (x : Reached) : Type 0 where
+pub record IsRowOf (rs : List Row) (v q : ℕ) (x : Reached) : Type 0 where
   pub number : ℕ
-  pub entry : Entry
-  pub known : slice_get es number ≡ Some entry
-  pub node : entry.node ≡ v
-  pub state : entry.state ≡ q
-  pub as_seen : seen entry ≡ x
+  pub row : Row
+  pub known : slice_get rs number ≡ Some row
+  pub node : row.node ≡ v
+  pub state : row.state ≡ q
+  pub as_known : row.known ≡ x
 
-pub entry_of_known : (es : List Entry) (v q : ℕ) (x : Reached) → reached_in es v q ≡ Some x → IsEntryOf es v q x
-entry_of_known [] v q x is = cc
-entry_of_known (d ∷ es) v q x is = go (is_same v q d.node d.state) refl (λ h. entry_of_known es v q x h) where
-  go : (b : Bool) → is_same v q d.node d.state ≡ b → (reached_in es v q ≡ Some x → IsEntryOf es v q x) → IsEntryOf (d ∷ es) v q x
+pub row_of_known : (rs : List Row) (v q : ℕ) (x : Reached) → reached_in rs v q ≡ Some x → IsRowOf rs v q x
+row_of_known [] v q x is = cc
+row_of_known (d ∷ rs) v q x is = go (is_same v q d.node d.state) refl (λ h. row_of_known rs v q x h) where
+  go : (b : Bool) → is_same v q d.node d.state ≡ b → (reached_in rs v q ≡ Some x → IsRowOf rs v q x) → IsRowOf (d ∷ rs) v q x
   go true e later_of =
       let p = same_parts v q d.node d.state e in
-      let h : Some (seen d) ≡ Some x = sym (ap (λ b. cond b (Some (seen d)) (reached_in es v q)) e) ∙ is in
-      let same : seen d ≡ x = cc in
-      record { number = zero; entry = d; known = refl; node = sym p.0; state = sym p.1; as_seen = same }
+      let h : Some d.known ≡ Some x = sym (ap (λ b. cond b (Some d.known) (reached_in rs v q)) e) ∙ is in
+      let same : d.known ≡ x = cc in
+      record { number = zero; row = d; known = refl; node = sym p.0; state = sym p.1; as_known = same }
   go false e later_of =
-      let later = later_of (sym (ap (λ b. cond b (Some (seen d)) (reached_in es v q)) e) ∙ is) in
-      record { number = suc later.number; entry = later.entry; known = later.known; node = later.node; state = later.state; as_seen = later.as_seen }
+      let later = later_of (sym (ap (λ b. cond b (Some d.known) (reached_in rs v q)) e) ∙ is) in
+      record { number = suc later.number; row = later.row; known = later.known; node = later.node; state = later.state; as_known = later.as_known }
 
-pub none_known : (es : List Entry) (v q : ℕ) → IsNowhere es v q → reached_in es v q ≡ None
-none_known es v q nowhere = go (reached_in es v q) refl where
-  go : (o : Option Reached) → reached_in es v q ≡ o → reached_in es v q ≡ None
+pub none_known : (rs : List Row) (v q : ℕ) → IsNowhere rs v q → reached_in rs v q ≡ None
+none_known rs v q nowhere = go (reached_in rs v q) refl where
+  go : (o : Option Reached) → reached_in rs v q ≡ o → reached_in rs v q ≡ None
   go None is = is
-  go (Some x) is = let e = entry_of_known es v q x is in
-      absurd (nowhere e.number (record { entry = e.entry; known = e.known; node = e.node; state = e.state }))
+  go (Some x) is = let e = row_of_known rs v q x is in
+      absurd (nowhere e.number (record { row = e.row; known = e.known; node = e.node; state = e.state }))
 
-pub at_known : (es : List Entry) → IsApart es → (v q k : ℕ) (at : IsAt es v q k) → reached_in es v q ≡ Some (seen (at.entry))
-at_known es apart v q k at =
-    subst (λ w. reached_in es w q ≡ Some (seen (at.entry))) at.node (subst (λ r. reached_in es (at.entry).node r ≡ Some (seen (at.entry))) at.state (found_in es apart k (at.entry) at.known))
+pub at_known : (rs : List Row) → IsApart rs → (v q k : ℕ) (at : IsAt rs v q k) → reached_in rs v q ≡ Some (at.row).known
+at_known rs apart v q k at =
+    subst (λ w. reached_in rs w q ≡ Some (at.row).known) at.node (subst (λ r. reached_in rs (at.row).node r ≡ Some (at.row).known) at.state (found_in rs apart k (at.row) at.known))
 
--- the keys of the entries differ
-differ : (v q : ℕ) (es : List Entry) → IsNowhere es v q → AllByRecursion (λ y. state_eq (v, q) y ≡ false) (keys_of (map keyed es))
+-- the keys of the rows differ
+differ : (v q : ℕ) (rs : List Row) → IsNowhere rs v q → AllByRecursion (λ y. state_eq (v, q) y ≡ false) (keys_of (map keyed rs))
 differ v q [] nowhere = tt
-differ v q (d ∷ es) nowhere = (here, differ v q es (λ k at. nowhere (suc k) (record { entry = at.entry; known = at.known; node = at.node; state = at.state }))) where
+differ v q (d ∷ rs) nowhere = (here, differ v q rs (λ k at. nowhere (suc k) (record { row = at.row; known = at.known; node = at.node; state = at.state }))) where
   here : is_same v q d.node d.state ≡ false
   here = go (is_same v q d.node d.state) refl where
     go : (b : Bool) → is_same v q d.node d.state ≡ b → is_same v q d.node d.state ≡ false
     go false e = e
-    go true e = let p = same_parts v q d.node d.state e in absurd (nowhere zero (record { entry = d; known = refl; node = sym p.0; state = sym p.1 }))
+    go true e = let p = same_parts v q d.node d.state e in absurd (nowhere zero (record { row = d; known = refl; node = sym p.0; state = sym p.1 }))
 
 no_keys : IsDistinct state_eq []
 unfolding IsDistinct
 no_keys = tt
 
-pub keys_differ : (es : List Entry) → IsApart es → IsDistinct state_eq (keys_of (map keyed es))
+pub keys_differ : (rs : List Row) → IsApart rs → IsDistinct state_eq (keys_of (map keyed rs))
 keys_differ [] apart = no_keys
-keys_differ (d ∷ es) apart = IsDistinct-cons state_eq (d.node, d.state) (keys_of (map keyed es))
-    (differ d.node d.state es (λ k at. let same : zero ≡ suc k = apart d.node d.state zero (suc k) (record { entry = d; known = refl; node = refl; state = refl })
-    (record { entry = at.entry; known = at.known; node = at.node; state = at.state }) in omega arith))
-    (keys_differ es (apart_tail d es apart))
+keys_differ (d ∷ rs) apart = IsDistinct-cons state_eq (d.node, d.state) (keys_of (map keyed rs))
+    (differ d.node d.state rs (λ k at. let same : zero ≡ suc k = apart d.node d.state zero (suc k) (record { row = d; known = refl; node = refl; state = refl })
+    (record { row = at.row; known = at.known; node = at.node; state = at.state }) in omega arith))
+    (keys_differ rs (apart_tail d rs apart))
 
--- ---- one entry is new or written anew
+-- ---- one row is new or written anew
 
-pub record Changes (old new : List Entry) (n v q c : ℕ) (way : Reached) : Type 0 where
+pub record Changes (old new : List Row) (n v q c : ℕ) (way : Reached) : Type 0 where
   pub there : slice_get new n ≡ Some (made v q c way)
-  pub others : (k : ℕ) (e : Entry) → (k ≡ n → ⊥) → slice_get new k ≡ Some e → slice_get old k ≡ Some e
-  pub stay : (k : ℕ) (e : Entry) → (k ≡ n → ⊥) → slice_get old k ≡ Some e → slice_get new k ≡ Some e
-  pub place : (e : Entry) → slice_get old n ≡ Some e → (e.node ≡ v) × (e.state ≡ q)
+  pub others : (k : ℕ) (e : Row) → (k ≡ n → ⊥) → slice_get new k ≡ Some e → slice_get old k ≡ Some e
+  pub stay : (k : ℕ) (e : Row) → (k ≡ n → ⊥) → slice_get old k ≡ Some e → slice_get new k ≡ Some e
+  pub place : (e : Row) → slice_get old n ≡ Some e → (e.node ≡ v) × (e.state ≡ q)
   pub only : (k : ℕ) → IsAt old v q k → k ≡ n
 
-pub changes_push : (old new : List Entry) (n v q c : ℕ) (way : Reached) → n ≡ length old → IsNowhere old v q → new ≡ old ++ made v q c way ∷ [] → Changes old new n v q c way
+pub changes_push : (old new : List Row) (n v q c : ℕ) (way : Reached) → n ≡ length old → IsNowhere old v q → new ≡ old ++ made v q c way ∷ [] → Changes old new n v q c way
 changes_push old new n v q c way last nowhere is = rw last (rw is (record {
   there = get_last old (made v q c way);
   others = λ k e other known. get_from old (made v q c way) k e other known;
@@ -162,28 +164,28 @@ changes_push old new n v q c way last nowhere is = rw last (rw is (record {
   only = λ k at. absurd (nowhere k at);
 }))
 
-pub changes_set : (old new : List Entry) (n v q c : ℕ) (way : Reached) → IsApart old → IsAt old v q n → new ≡ slice_set old n (made v q c way) → Changes old new n v q c way
+pub changes_set : (old new : List Row) (n v q c : ℕ) (way : Reached) → IsApart old → IsAt old v q n → new ≡ slice_set old n (made v q c way) → Changes old new n v q c way
 changes_set old new n v q c way apart at is = rw is (record {
-  there = get_set_same old n (made v q c way) (at.entry) at.known;
+  there = get_set_same old n (made v q c way) (at.row) at.known;
   others = λ k e other known. sym (get_set_other old n k (made v q c way) other) ∙ known;
   stay = λ k e other known. get_set_other old n k (made v q c way) other ∙ known;
-  place = λ e known. (let h : Some (at.entry) ≡ Some e = sym at.known ∙ known in let same : at.entry ≡ e = cc in
-      (ap (λ (y : Entry). y.node) (sym same) ∙ at.node, ap (λ (y : Entry). y.state) (sym same) ∙ at.state));
+  place = λ e known. (let h : Some (at.row) ≡ Some e = sym at.known ∙ known in let same : at.row ≡ e = cc in
+      (ap (λ (y : Row). y.node) (sym same) ∙ at.node, ap (λ (y : Row). y.state) (sym same) ∙ at.state));
   only = λ k also. apart v q k n also at;
 })
 
-module _ (old new : List Entry) (n v q c : ℕ) (way : Reached) (changes : Changes old new n v q c way) (apart : IsApart old) where
-  -- the entry with the number n
-  here_parts : (e : Entry) → slice_get new n ≡ Some e → made v q c way ≡ e
+module _ (old new : List Row) (n v q c : ℕ) (way : Reached) (changes : Changes old new n v q c way) (apart : IsApart old) where
+  -- the row with the number n
+  here_parts : (e : Row) → slice_get new n ≡ Some e → made v q c way ≡ e
   here_parts e is = let h : Some (made v q c way) ≡ Some e = sym changes.there ∙ is in cc
 
   here_at : (w r k : ℕ) → k ≡ n → IsAt new w r k → (v ≡ w) × (q ≡ r)
   here_at w r k same at =
-      let e = here_parts (at.entry) (subst (λ j. slice_get new j ≡ Some (at.entry)) same at.known) in
-      (ap (λ (y : Entry). y.node) e ∙ at.node, ap (λ (y : Entry). y.state) e ∙ at.state)
+      let e = here_parts (at.row) (subst (λ j. slice_get new j ≡ Some (at.row)) same at.known) in
+      (ap (λ (y : Row). y.node) e ∙ at.node, ap (λ (y : Row). y.state) e ∙ at.state)
 
   other_at : (w r k : ℕ) → (k ≡ n → ⊥) → IsAt new w r k → IsAt old w r k
-  other_at w r k other at = record { entry = at.entry; known = changes.others k (at.entry) other at.known; node = at.node; state = at.state }
+  other_at w r k other at = record { row = at.row; known = changes.others k (at.row) other at.known; node = at.node; state = at.state }
 
   lone : (w r j k : ℕ) → j ≡ n → IsAt new w r j → (k ≡ n → ⊥) → IsAt new w r k → ⊥
   lone w r j k same at_j other at_k =
@@ -203,12 +205,12 @@ module _ (old new : List Entry) (n v q c : ℕ) (way : Reached) (changes : Chang
   ]
 
   new_here : IsAt new v q n
-  new_here = record { entry = made v q c way; known = changes.there; node = refl; state = refl }
+  new_here = record { row = made v q c way; known = changes.there; node = refl; state = refl }
 
   pub at_kept : (w r k : ℕ) → IsAt old w r k → IsAt new w r k
   at_kept w r k at = elim (cases_eq k n) [
-    | inr other ↦ record { entry = at.entry; known = changes.stay k (at.entry) other at.known; node = at.node; state = at.state }
-    | inl same ↦ (let p = changes.place (at.entry) (subst (λ j. slice_get old j ≡ Some (at.entry)) same at.known) in
+    | inr other ↦ record { row = at.row; known = changes.stay k (at.row) other at.known; node = at.node; state = at.state }
+    | inl same ↦ (let p = changes.place (at.row) (subst (λ j. slice_get old j ≡ Some (at.row)) same at.known) in
         subst (λ j. IsAt new w r j) (sym same) (subst (λ a. IsAt new a r n) (sym p.0 ∙ at.node) (subst (λ b. IsAt new v b n) (sym p.1 ∙ at.state) new_here)))
   ]
 
@@ -227,14 +229,14 @@ module _ (old new : List Entry) (n v q c : ℕ) (way : Reached) (changes : Chang
     Kept = reached_in new w r ≡ cond (is_same v q w r) (Some way) (reached_in old w r)
 
     others : is_same v q w r ≡ false → (o : Option Reached) → reached_in old w r ≡ o → reached_in new w r ≡ o
-    others differs None is = none_known new w r (nowhere_kept w r differs (λ k at. let h : Some (seen (at.entry)) ≡ None = sym (at_known old apart w r k at) ∙ is in cc))
+    others differs None is = none_known new w r (nowhere_kept w r differs (λ k at. let h : Some (at.row).known ≡ None = sym (at_known old apart w r k at) ∙ is in cc))
     others differs (Some x) is =
-        let e = entry_of_known old w r x is in
-        let at : IsAt old w r e.number = record { entry = e.entry; known = e.known; node = e.node; state = e.state } in
+        let e = row_of_known old w r x is in
+        let at : IsAt old w r e.number = record { row = e.row; known = e.known; node = e.node; state = e.state } in
         elim (cases_eq (e.number) n) [
-          | inl same ↦ (let p = changes.place (e.entry) (subst (λ j. slice_get old j ≡ Some (e.entry)) same e.known) in
+          | inl same ↦ (let p = changes.place (e.row) (subst (λ j. slice_get old j ≡ Some (e.row)) same e.known) in
               absurd (false≢true (sym differs ∙ ap (λ a. is_same v q a r) (sym e.node ∙ p.0) ∙ ap (λ b. is_same v q v b) (sym e.state ∙ p.1) ∙ same_itself v q)))
-          | inr other ↦ at_known new apart_still w r e.number (record { entry = e.entry; known = changes.stay e.number (e.entry) other e.known; node = e.node; state = e.state }) ∙ ap (λ y. Some y) e.as_seen
+          | inr other ↦ at_known new apart_still w r e.number (record { row = e.row; known = changes.stay e.number (e.row) other e.known; node = e.node; state = e.state }) ∙ ap (λ y. Some y) e.as_known
         ]
 
     go : (b : Bool) → is_same v q w r ≡ b → reached_in new w r ≡ (if is_same v q w r then Some way else reached_in old w r)
@@ -252,106 +254,107 @@ known_waits (Some x) t e = let p = and_parts (not x.settled) (x.at == t) e in (x
 
 -- ---- offers
 
--- a way was taken: its entry was put into the queue
-module _ (old new : Frontier) (n v q c : ℕ) (way : Reached) (right : IsQueueRight old) (changes : Changes old.entries.items new.entries.items n v q c way)
+-- a way was taken: its row waits in the queue
+module _ (old new : Frontier) (n v q c : ℕ) (way : Reached) (right : IsQueueRight old) (changes : Changes (rows old) (rows new) n v q c way)
     (put : TakesIn old.queue new.queue way.at n) where
-  put_waits : (k t : ℕ) (e : Entry) → Waits new.entries.items k t e → Queued new.queue t k
+  put_waits : (k t : ℕ) (e : Row) → Waits (rows new) k t e → Queued new.queue t k
   put_waits k t e waits = elim (cases_eq k n) [
     | inr other ↦ put.stays t k (right.waits k t e (record { known = changes.others k e other waits.known; unsettled = waits.unsettled; at = waits.at }))
-    | inl same ↦ (let is = here_parts old.entries.items new.entries.items n v q c way changes right.apart e (subst (λ j. slice_get new.entries.items j ≡ Some e) same waits.known) in
-        let at : way.at ≡ t = ap (λ (y : Entry). y.at) is ∙ waits.at in
+    | inl same ↦ (let is = here_parts (rows old) (rows new) n v q c way changes right.apart e (subst (λ j. slice_get (rows new) j ≡ Some e) same waits.known) in
+        let at : way.at ≡ t = ap (λ (y : Row). y.known.at) is ∙ waits.at in
         subst (λ u. Queued new.queue u k) at (subst (λ j. Queued new.queue way.at j) (sym same) put.there))
   ]
 
-  pub right_put : IsIndexed new → AreKeys new.keys.items new.entries.items → IsQueueRight new
-  right_put indexed keys = record {
+  pub right_put : IsIndexed new → AreKept new.keys.items new.entries.items → length new.entries.items < 2 ^ 32 → IsQueueRight new
+  right_put indexed kept few = record {
     queue = put.right;
     waits = put_waits;
-    apart = apart_still old.entries.items new.entries.items n v q c way changes right.apart;
+    apart = apart_still (rows old) (rows new) n v q c way changes right.apart;
     indexed = indexed;
-    keys = keys;
+    kept = kept;
+    few = few;
   }
 
 -- ---- the chains
 
--- the entries are of the same nodes, and chained alike
-pub record SameLinks (old new : List Entry) : Type 0 where
-  pub back : (k : ℕ) (e : Entry) → slice_get new k ≡ Some e → (d : Entry) × (slice_get old k ≡ Some d) × (d.node ≡ e.node) × (d.next ≡ e.next)
-  pub forth : (k : ℕ) (d : Entry) → slice_get old k ≡ Some d → (e : Entry) × (slice_get new k ≡ Some e) × (e.node ≡ d.node)
+-- the rows are of the same nodes, and chained alike
+pub record SameLinks (old new : List Row) : Type 0 where
+  pub back : (k : ℕ) (e : Row) → slice_get new k ≡ Some e → (d : Row) × (slice_get old k ≡ Some d) × (d.node ≡ e.node) × (d.next ≡ e.next)
+  pub forth : (k : ℕ) (d : Row) → slice_get old k ≡ Some d → (e : Row) × (slice_get new k ≡ Some e) × (e.node ≡ d.node)
 
-pub links_set : (old new : List Entry) (n v q c : ℕ) (way : Reached) (at : IsAt old v q n) → (at.entry).next ≡ c → Changes old new n v q c way → SameLinks old new
+pub links_set : (old new : List Row) (n v q c : ℕ) (way : Reached) (at : IsAt old v q n) → (at.row).next ≡ c → Changes old new n v q c way → SameLinks old new
 links_set old new n v q c way at next changes = record { back = back; forth = forth } where
-  back : (k : ℕ) (e : Entry) → slice_get new k ≡ Some e → (d : Entry) × (slice_get old k ≡ Some d) × (d.node ≡ e.node) × (d.next ≡ e.next)
+  back : (k : ℕ) (e : Row) → slice_get new k ≡ Some e → (d : Row) × (slice_get old k ≡ Some d) × (d.node ≡ e.node) × (d.next ≡ e.next)
   back k e is = elim (cases_eq k n) [
     | inr other ↦ (e, changes.others k e other is, refl, refl)
     | inl same ↦ (let h : Some (made v q c way) ≡ Some e = sym changes.there ∙ subst (λ j. slice_get new j ≡ Some e) same is in
         let p : made v q c way ≡ e = cc in
-        (at.entry, subst (λ j. slice_get old j ≡ Some (at.entry)) (sym same) at.known, at.node ∙ ap (λ (y : Entry). y.node) p, next ∙ ap (λ (y : Entry). y.next) p))
+        (at.row, subst (λ j. slice_get old j ≡ Some (at.row)) (sym same) at.known, at.node ∙ ap (λ (y : Row). y.node) p, next ∙ ap (λ (y : Row). y.next) p))
   ]
 
-  forth : (k : ℕ) (d : Entry) → slice_get old k ≡ Some d → (e : Entry) × (slice_get new k ≡ Some e) × (e.node ≡ d.node)
+  forth : (k : ℕ) (d : Row) → slice_get old k ≡ Some d → (e : Row) × (slice_get new k ≡ Some e) × (e.node ≡ d.node)
   forth k d is = elim (cases_eq k n) [
     | inr other ↦ (d, changes.stay k d other is, refl)
     | inl same ↦ (let p = changes.place d (subst (λ j. slice_get old j ≡ Some d) same is) in
         (made v q c way, subst (λ j. slice_get new j ≡ Some (made v q c way)) (sym same) changes.there, sym p.0))
   ]
 
-last_links : (old new : List Entry) → SameLinks old new → (v below b c : ℕ) → below ≡ b → IsLast old v below c → IsLast new v b c
+last_links : (old new : List Row) → SameLinks old new → (v below b c : ℕ) → below ≡ b → IsLast old v below c → IsLast new v b c
 last_links old new links v below b c same last = rw (sym same) (record {
   none_after = λ k e is le lt node. (let d = links.back k e is in last.none_after k d.0 d.1 le lt (d.2 ∙ node));
   there = λ k at. (let p = last.there k at in let e = links.forth k p.1 p.2 in (p.0, e.0, e.1, e.2 ∙ p.3));
 })
 
-pub indexed_links : (old new : Frontier) → IsIndexed old → new.first.items ≡ old.first.items → length new.entries.items ≡ length old.entries.items
-    → SameLinks old.entries.items new.entries.items → IsIndexed new
+pub indexed_links : (old new : Frontier) → IsIndexed old → new.first.items ≡ old.first.items → length (rows new) ≡ length (rows old)
+    → SameLinks (rows old) (rows new) → IsIndexed new
 indexed_links old new indexed first size links = record {
-  first = λ v. subst (λ xs. IsLast new.entries.items v (length new.entries.items) (slice_index xs v)) (sym first)
-      (last_links old.entries.items new.entries.items links v (length old.entries.items) (length new.entries.items) (slice_index old.first.items v) (sym size) (indexed.first v));
+  first = λ v. subst (λ xs. IsLast (rows new) v (length (rows new)) (slice_index xs v)) (sym first)
+      (last_links (rows old) (rows new) links v (length (rows old)) (length (rows new)) (slice_index old.first.items v) (sym size) (indexed.first v));
   next = λ k e is. (let d = links.back k e is in
-      subst (λ v. IsLast new.entries.items v k e.next) d.2 (subst (λ c. IsLast new.entries.items (d.0).node k c) d.3
-      (last_links old.entries.items new.entries.items links (d.0).node k k (d.0).next refl (indexed.next k d.0 d.1))));
+      subst (λ v. IsLast (rows new) v k e.next) d.2 (subst (λ c. IsLast (rows new) (d.0).node k c) d.3
+      (last_links (rows old) (rows new) links (d.0).node k k (d.0).next refl (indexed.next k d.0 d.1))));
 }
 
-pub same_links : (es : List Entry) → SameLinks es es
-same_links es = record { back = λ k e is. (e, is, refl, refl); forth = λ k d is. (d, is, refl) }
+pub same_links : (rs : List Row) → SameLinks rs rs
+same_links rs = record { back = λ k e is. (e, is, refl, refl); forth = λ k d is. (d, is, refl) }
 
 -- the index after a first way
-module _ (old new : Frontier) (n v q c : ℕ) (way : Reached) (indexed : IsIndexed old) (last : n ≡ length old.entries.items) (next : c ≡ slice_index old.first.items v)
-    (changes : Changes old.entries.items new.entries.items n v q c way) (size : length new.entries.items ≡ n + 1)
+module _ (old new : Frontier) (n v q c : ℕ) (way : Reached) (indexed : IsIndexed old) (last : n ≡ length (rows old)) (next : c ≡ slice_index old.first.items v)
+    (changes : Changes (rows old) (rows new) n v q c way) (size : length (rows new) ≡ n + 1)
     (here : slice_index new.first.items v ≡ n + 1) (others : (w : ℕ) → (w ≡ v → ⊥) → slice_index new.first.items w ≡ slice_index old.first.items w) where
-  is_old : (k : ℕ) (e : Entry) → k < n → slice_get new.entries.items k ≡ Some e → slice_get old.entries.items k ≡ Some e
+  is_old : (k : ℕ) (e : Row) → k < n → slice_get (rows new) k ≡ Some e → slice_get (rows old) k ≡ Some e
   is_old k e lt is = changes.others k e (λ same. omega arith) is
 
-  last_more : (w below c2 : ℕ) → below ≤ n → IsLast old.entries.items w below c2 → IsLast new.entries.items w below c2
+  last_more : (w below c2 : ℕ) → below ≤ n → IsLast (rows old) w below c2 → IsLast (rows new) w below c2
   last_more w below c2 le was = record {
     none_after = λ k e is from lt node. was.none_after k e (is_old k e (omega arith) is) from lt node;
     there = λ k at. (let p = was.there k at in (p.0, p.1, changes.stay k p.1 (λ same. (let lt : k < below = p.0 in omega arith)) p.2, p.3));
   }
 
-  made_last : (e : Entry) → slice_get new.entries.items n ≡ Some e → made v q c way ≡ e
+  made_last : (e : Row) → slice_get (rows new) n ≡ Some e → made v q c way ≡ e
   made_last e is = let h : Some (made v q c way) ≡ Some e = sym changes.there ∙ is in cc
 
-  first_new : (w : ℕ) → IsLast new.entries.items w (length new.entries.items) (slice_index new.first.items w)
+  first_new : (w : ℕ) → IsLast (rows new) w (length (rows new)) (slice_index new.first.items w)
   first_new w = elim (cases_eq w v) [
-    | inl same ↦ subst (λ a. IsLast new.entries.items a (length new.entries.items) (slice_index new.first.items a)) (sym same) (rw (here, size) (record {
+    | inl same ↦ subst (λ a. IsLast (rows new) a (length (rows new)) (slice_index new.first.items a)) (sym same) (rw (here, size) (record {
       none_after = λ k e is from lt node. omega arith;
-      there = λ k at. (let same_k : k ≡ n = omega arith in (omega arith, made v q c way, subst (λ j. slice_get new.entries.items j ≡ Some (made v q c way)) (sym same_k) changes.there, refl));
+      there = λ k at. (let same_k : k ≡ n = omega arith in (omega arith, made v q c way, subst (λ j. slice_get (rows new) j ≡ Some (made v q c way)) (sym same_k) changes.there, refl));
     }))
     | inr other ↦ (let was = indexed.first w in rw (others w other, size) (record {
       none_after = λ k e is from lt node. elim (cases_eq k n) [
-        | inl same_k ↦ other (sym node ∙ sym (ap (λ (y : Entry). y.node) (made_last e (subst (λ j. slice_get new.entries.items j ≡ Some e) same_k is))))
+        | inl same_k ↦ other (sym node ∙ sym (ap (λ (y : Row). y.node) (made_last e (subst (λ j. slice_get (rows new) j ≡ Some e) same_k is))))
         | inr not_k ↦ was.none_after k e (is_old k e (omega arith) is) from (omega arith) node
       ];
       there = λ k at. (let p = was.there k at in (omega (arith, p.0), p.1, changes.stay k p.1 (λ same_k. omega (arith, p.0)) p.2, p.3));
     }))
   ]
 
-  next_new : (k : ℕ) (e : Entry) → slice_get new.entries.items k ≡ Some e → IsLast new.entries.items e.node k e.next
+  next_new : (k : ℕ) (e : Row) → slice_get (rows new) k ≡ Some e → IsLast (rows new) e.node k e.next
   next_new k e is = elim (cases_eq k n) [
-    | inl same ↦ (let p = made_last e (subst (λ j. slice_get new.entries.items j ≡ Some e) same is) in
-        subst (λ (y : Entry). IsLast new.entries.items y.node k y.next) p
+    | inl same ↦ (let p = made_last e (subst (λ j. slice_get (rows new) j ≡ Some e) same is) in
+        subst (λ (y : Row). IsLast (rows new) y.node k y.next) p
         (last_more v k c (omega arith) (rw (same ∙ last, next) (indexed.first v))))
-    | inr other ↦ (let lt : k < n + 1 = subst (λ m. k < m) size (slice_get_within new.entries.items k e is) in
+    | inr other ↦ (let lt : k < n + 1 = subst (λ m. k < m) size (slice_get_within (rows new) k e is) in
         last_more e.node k e.next (omega arith) (indexed.next k e (is_old k e (omega arith) is)))
   ]
 
@@ -360,10 +363,10 @@ module _ (old new : Frontier) (n v q c : ℕ) (way : Reached) (indexed : IsIndex
 
 -- ---- what an offer leaves
 
--- what an offer leaves where it is taken: the old entry is none, or one that waits for a later time
-pub offered_set : (old new : Frontier) (v q : ℕ) (way : Reached) → IsSetAt old.entries.items new.entries.items v q way
-    → offered (reached_at old v q) way ≡ Some way → IsOffered old new v q way
-offered_set old new v q way setting taken w r = go (is_same v q w r) refl where
+-- what an offer leaves where it is taken: the old row is none, or one that waits for a later time
+set_known : (old new : Frontier) (v q : ℕ) (way : Reached) → IsSetAt (rows old) (rows new) v q way → offered (reached_at old v q) way ≡ Some way
+    → (w r : ℕ) → reached_at new w r ≡ (if is_same v q w r then offered (reached_at old w r) way else reached_at old w r)
+set_known old new v q way setting taken w r = go (is_same v q w r) refl where
   go : (b : Bool) → is_same v q w r ≡ b → reached_at new w r ≡ (if is_same v q w r then offered (reached_at old w r) way else reached_at old w r)
   go true e =
       let p = same_parts v q w r e in
@@ -374,199 +377,223 @@ offered_set old new v q way setting taken w r = go (is_same v q w r) refl where
       if_other v q w r (Some way) (reached_at old w r) (reached_at new w r) e (setting w r)
       ∙ sym (ap (λ b. cond b (offered (reached_at old w r) way) (reached_at old w r)) e)
 
-pub offered_none : (old new : Frontier) (v q : ℕ) (way : Reached) → IsSetAt old.entries.items new.entries.items v q way → reached_at old v q ≡ None → IsOffered old new v q way
-offered_none old new v q way setting none = offered_set old new v q way setting (ap (λ o. offered o way) none)
+pub offered_set : (old new : Frontier) (n v q c : ℕ) (way : Reached) → Changes (rows old) (rows new) n v q c way → IsApart (rows old)
+    → offered (reached_at old v q) way ≡ Some way → IsOffered old new v q way
+offered_set old new n v q c way changes apart taken = record {
+  known = set_known old new v q way (set_still (rows old) (rows new) n v q c way changes apart) taken;
+  numbers = at_kept (rows old) (rows new) n v q c way changes apart;
+}
+
+pub offered_none : (old new : Frontier) (n v q c : ℕ) (way : Reached) → Changes (rows old) (rows new) n v q c way → IsApart (rows old)
+    → reached_at old v q ≡ None → IsOffered old new v q way
+offered_none old new n v q c way changes apart none = offered_set old new n v q c way changes apart (ap (λ o. offered o way) none)
 
 -- what an offer leaves where it is not taken
 pub offered_kept : (f : Frontier) (v q : ℕ) (way : Reached) → offered (reached_at f v q) way ≡ reached_at f v q → IsOffered f f v q way
-offered_kept f v q way kept w r = at_each v q w r (λ w r. reached_at f w r ≡ (if is_same v q w r then offered (reached_at f w r) way else reached_at f w r))
-    (sym kept ∙ sym (ap (λ b. cond b (offered (reached_at f v q) way) (reached_at f v q)) (same_itself v q)))
-    (λ e. sym (ap (λ b. cond b (offered (reached_at f w r) way) (reached_at f w r)) e))
+offered_kept f v q way kept = record {
+  known = λ w r. at_each v q w r (λ w r. reached_at f w r ≡ (if is_same v q w r then offered (reached_at f w r) way else reached_at f w r))
+      (sym kept ∙ sym (ap (λ b. cond b (offered (reached_at f v q) way) (reached_at f v q)) (same_itself v q)))
+      (λ e. sym (ap (λ b. cond b (offered (reached_at f w r) way) (reached_at f w r)) e));
+  numbers = λ w r k at. at;
+}
 
 -- ---- the least of the queue
 
 entry_parts : (t n u k : ℕ) → entry_of t n ≡ entry_of u k → (t ≡ u) × (n ≡ k)
 entry_parts t n u k e = (ap (λ (x : Reverse (ℕ × ℕ)). x.0.0) e, ap (λ (x : Reverse (ℕ × ℕ)). x.0.1) e)
 
--- who waits by what is known, waits by an entry
-pub waits_by : (es : List Entry) (w r u : ℕ) → waits_at (reached_in es w r) u ≡ true → (k : ℕ) × (e : Entry) × Waits es k u e
-waits_by es w r u waiting =
-    let known = known_waits (reached_in es w r) u waiting in
-    let e = entry_of_known es w r known.0 known.1 in (
+-- who waits by what is known, waits by a row
+pub waits_by : (rs : List Row) (w r u : ℕ) → waits_at (reached_in rs w r) u ≡ true → (k : ℕ) × (e : Row) × Waits rs k u e
+waits_by rs w r u waiting =
+    let known = known_waits (reached_in rs w r) u waiting in
+    let e = row_of_known rs w r known.0 known.1 in (
       e.number,
-      e.entry,
+      e.row,
       record {
         known = e.known;
-        unsettled = ap (λ (y : Reached). y.settled) e.as_seen ∙ known.2;
-        at = ap (λ (y : Reached). y.at) e.as_seen ∙ known.3;
+        unsettled = ap (λ (y : Reached). y.settled) e.as_known ∙ known.2;
+        at = ap (λ (y : Reached). y.at) e.as_known ∙ known.3;
       },
     )
 
 module _ (old new : Frontier) (t n : ℕ) (right : IsQueueRight old) (popped : GivesLeast old.queue new.queue t n) where
-  still : (k u : ℕ) (e : Entry) → Waits old.entries.items k u e → (entry_of t n ≡ entry_of u k → ⊥) → Queued new.queue u k
+  still : (k u : ℕ) (e : Row) → Waits (rows old) k u e → (entry_of t n ≡ entry_of u k → ⊥) → Queued new.queue u k
   still k u e waits other = popped.stays u k (right.waits k u e waits) other
 
-  -- by a stale entry nobody waits
-  pub right_stale : new.first.items ≡ old.first.items → new.entries.items ≡ old.entries.items → AreKeys new.keys.items new.entries.items
-      → ((e : Entry) → Waits old.entries.items n t e → ⊥) → IsQueueRight new
-  right_stale first same keys stale = record {
+  -- by a stale one nobody waits
+  pub right_stale : new.first.items ≡ old.first.items → rows new ≡ rows old → AreKept new.keys.items new.entries.items → new.entries.items ≡ old.entries.items
+      → ((e : Row) → Waits (rows old) n t e → ⊥) → IsQueueRight new
+  right_stale first same kept entries stale = record {
     queue = popped.right;
-    waits = λ k u e waits. (let was : Waits old.entries.items k u e = subst (λ es. Waits es k u e) same waits in
-        still k u e was (λ is. let p = entry_parts t n u k is in stale e (subst (λ j. Waits old.entries.items j t e) (sym p.1) (subst (λ s. Waits old.entries.items k s e) (sym p.0) was))));
-    apart = subst (λ es. IsApart es) (sym same) right.apart;
-    indexed = indexed_links old new right.indexed first (ap length same) (subst (λ es. SameLinks old.entries.items es) (sym same) (same_links old.entries.items));
-    keys = keys;
+    waits = λ k u e waits. (let was : Waits (rows old) k u e = subst (λ rs. Waits rs k u e) same waits in
+        still k u e was (λ is. let p = entry_parts t n u k is in stale e (subst (λ j. Waits (rows old) j t e) (sym p.1) (subst (λ s. Waits (rows old) k s e) (sym p.0) was))));
+    apart = subst (λ rs. IsApart rs) (sym same) right.apart;
+    indexed = indexed_links old new right.indexed first (ap length same) (subst (λ rs. SameLinks (rows old) rs) (sym same) (same_links (rows old)));
+    kept = kept;
+    few = rw entries right.few;
   }
 
-  pub same_stale : new.entries.items ≡ old.entries.items → SameReached old new
-  same_stale same w r = ap (λ es. reached_in es w r) same
+  pub same_stale : (rows new) ≡ (rows old) → SameReached old new
+  same_stale same w r = ap (λ rs. reached_in rs w r) same
 
   -- the one that waited by it is settled
-  module _ (e : Entry) (waited : Waits old.entries.items n t e) (set : new.entries.items ≡ slice_set old.entries.items n (settled_now e)) where
-    at_entry : IsAt old.entries.items e.node e.state n
-    at_entry = record { entry = e; known = waited.known; node = refl; state = refl }
+  module _ (e : Row) (waited : Waits (rows old) n t e) (set : (rows new) ≡ slice_set (rows old) n (settled_now e)) where
+    at_row : IsAt (rows old) e.node e.state n
+    at_row = record { row = e; known = waited.known; node = refl; state = refl }
 
-    changes : Changes old.entries.items new.entries.items n e.node e.state e.next (record (seen e) { settled = true })
-    changes = changes_set old.entries.items new.entries.items n e.node e.state e.next (record (seen e) { settled = true }) right.apart at_entry set
+    changes : Changes (rows old) (rows new) n e.node e.state e.next (record e.known { settled = true })
+    changes = changes_set (rows old) (rows new) n e.node e.state e.next (record e.known { settled = true }) right.apart at_row set
 
-    settled_waits : (k u : ℕ) (d : Entry) → Waits new.entries.items k u d → Queued new.queue u k
+    settled_waits : (k u : ℕ) (d : Row) → Waits (rows new) k u d → Queued new.queue u k
     settled_waits k u d waits = elim (cases_eq k n) [
-      | inl same ↦ (let is = here_parts old.entries.items new.entries.items n e.node e.state e.next (record (seen e) { settled = true }) changes right.apart d
-          (subst (λ j. slice_get new.entries.items j ≡ Some d) same waits.known) in
-          absurd (false≢true (sym waits.unsettled ∙ ap (λ (y : Entry). y.settled) (sym is))))
+      | inl same ↦ (let is = here_parts (rows old) (rows new) n e.node e.state e.next (record e.known { settled = true }) changes right.apart d
+          (subst (λ j. slice_get (rows new) j ≡ Some d) same waits.known) in
+          absurd (false≢true (sym waits.unsettled ∙ ap (λ (y : Row). y.known.settled) (sym is))))
       | inr other ↦ still k u d (record { known = changes.others k d other waits.known; unsettled = waits.unsettled; at = waits.at })
           (λ is. let p = entry_parts t n u k is in other (sym p.1))
     ]
 
-    pub right_settled : new.first.items ≡ old.first.items → AreKeys new.keys.items new.entries.items → IsQueueRight new
-    unfolding at_entry
-    right_settled first keys = record {
+    pub right_settled : new.first.items ≡ old.first.items → AreKept new.keys.items new.entries.items → new.entries.items ≡ old.entries.items → IsQueueRight new
+    unfolding at_row
+    right_settled first kept entries = record {
       queue = popped.right;
       waits = settled_waits;
-      apart = apart_still old.entries.items new.entries.items n e.node e.state e.next (record (seen e) { settled = true }) changes right.apart;
-      indexed = indexed_links old new right.indexed first (ap length set ∙ length-set old.entries.items n (settled_now e))
-          (links_set old.entries.items new.entries.items n e.node e.state e.next (record (seen e) { settled = true }) at_entry refl changes);
-      keys = keys;
+      apart = apart_still (rows old) (rows new) n e.node e.state e.next (record e.known { settled = true }) changes right.apart;
+      indexed = indexed_links old new right.indexed first (ap length set ∙ length-set (rows old) n (settled_now e))
+          (links_set (rows old) (rows new) n e.node e.state e.next (record e.known { settled = true }) at_row refl changes);
+      kept = kept;
+      few = rw entries right.few;
     }
 
-    pub settles : (first : Frontier) → SameReached first old → (s : Settled) → s.node ≡ e.node → s.state ≡ e.state → s.at ≡ t → s.arcs ≡ e.arcs → SettlesLeast first new s
-    settles first same s node state at arcs = record {
-      entry = seen e;
-      waited = sym (same s.node s.state) ∙ at_known old.entries.items right.apart s.node s.state n (record { entry = e; known = waited.known; node = sym node; state = sym state });
+    pub settles : (first : Frontier) → SameReached first old → (s : Settled) → s.node ≡ e.node → s.state ≡ e.state → s.at ≡ t → s.link ≡ n + 1 → KeepsNumbers first old → SettlesLeast first new s
+    settles first same s node state at link numbers = record {
+      entry = e.known;
+      waited = sym (same s.node s.state) ∙ at_known (rows old) right.apart s.node s.state n (record { row = e; known = waited.known; node = sym node; state = sym state });
       unsettled = waited.unsettled;
       at = at ∙ sym waited.at;
-      arcs = arcs;
-      least = λ w r u waits. (let by = waits_by old.entries.items w r u (ap (λ o. waits_at o u) (same w r) ∙ waits) in
+      link = (
+        n,
+        link ∙ add-one n,
+        subst (λ v. IsAt (rows new) v s.state n) (sym node) (subst (λ q. IsAt (rows new) e.node q n) (sym state)
+            (at_kept (rows old) (rows new) n e.node e.state e.next (record e.known { settled = true }) changes right.apart e.node e.state n at_row)),
+      );
+      numbers = λ v q k there.
+          at_kept (rows old) (rows new) n e.node e.state e.next (record e.known { settled = true }) changes right.apart v q k (numbers v q k there);
+      least = λ w r u waits. (let by = waits_by (rows old) w r u (ap (λ o. waits_at o u) (same w r) ∙ waits) in
           let le = popped.least u by.0 (right.waits by.0 u by.1 by.2) in omega arith);
-      changed = λ w r. subst (λ a. reached_at new w r ≡ (if is_same a s.state w r then Some (record (seen e) { settled = true }) else reached_at first w r)) (sym node)
-          (subst (λ b. reached_at new w r ≡ (if is_same e.node b w r then Some (record (seen e) { settled = true }) else reached_at first w r)) (sym state)
-          (set_still old.entries.items new.entries.items n e.node e.state e.next (record (seen e) { settled = true }) changes right.apart w r
-          ∙ ap (λ o. cond (is_same e.node e.state w r) (Some (record (seen e) { settled = true })) o) (same w r)));
+      changed = λ w r. subst (λ a. reached_at new w r ≡ (if is_same a s.state w r then Some (record e.known { settled = true }) else reached_at first w r)) (sym node)
+          (subst (λ b. reached_at new w r ≡ (if is_same e.node b w r then Some (record e.known { settled = true }) else reached_at first w r)) (sym state)
+          (set_still (rows old) (rows new) n e.node e.state e.next (record e.known { settled = true }) changes right.apart w r
+          ∙ ap (λ o. cond (is_same e.node e.state w r) (Some (record e.known { settled = true })) o) (same w r)));
     }
 
 pub nobody : (first f : Frontier) → IsQueueRight f → SameReached first f → ((u k : ℕ) → Queued f.queue u k → ⊥) → NobodyWaits first
 nobody first f right same empty w r u = go (waits_at (reached_at first w r) u) refl where
   go : (b : Bool) → waits_at (reached_at first w r) u ≡ b → waits_at (reached_at first w r) u ≡ false
   go false e = e
-  go true e = let by = waits_by f.entries.items w r u (ap (λ o. waits_at o u) (same w r) ∙ e) in
+  go true e = let by = waits_by (rows f) w r u (ap (λ o. waits_at o u) (same w r) ∙ e) in
       absurd (empty u by.0 (right.waits by.0 u by.1 by.2))
 
 -- the queue is empty
-pub right_same : (old new : Frontier) → IsQueueRight old → new.entries.items ≡ old.entries.items → new.first.items ≡ old.first.items
-    → AreKeys new.keys.items new.entries.items → GivesNone old.queue new.queue → IsQueueRight new
-right_same old new right same first keys empty = record {
+pub right_same : (old new : Frontier) → IsQueueRight old → new.keys.items ≡ old.keys.items → new.entries.items ≡ old.entries.items → new.first.items ≡ old.first.items
+    → GivesNone old.queue new.queue → IsQueueRight new
+right_same old new right keys entries first empty = let same : rows new ≡ rows old = rw (keys, entries) refl in record {
   queue = empty.right;
-  waits = λ k t e waits. absurd (empty.none t k (right.waits k t e (subst (λ es. Waits es k t e) same waits)));
-  apart = subst (λ es. IsApart es) (sym same) right.apart;
-  indexed = indexed_links old new right.indexed first (ap length same) (subst (λ es. SameLinks old.entries.items es) (sym same) (same_links old.entries.items));
-  keys = keys;
+  waits = λ k t e waits. absurd (empty.none t k (right.waits k t e (subst (λ rs. Waits rs k t e) same waits)));
+  apart = subst (λ rs. IsApart rs) (sym same) right.apart;
+  indexed = indexed_links old new right.indexed first (ap length same) (subst (λ rs. SameLinks (rows old) rs) (sym same) (same_links (rows old)));
+  kept = rw (keys, entries) right.kept;
+  few = rw entries right.few;
 }
 
--- the entry that was read is the one with that number
-pub read_is : (es : List Entry) (k : ℕ) (x e : Entry) → x ≡ get_or es k x → slice_get es k ≡ Some e → x ≡ e
-read_is es k x e is known = is ∙ get_or_from_slice_get es k e x known
+pub within : (rs : List Row) (v q k : ℕ) → IsAt rs v q k → k < length rs
+within rs v q k at = slice_get_within rs k (at.row) at.known
 
-pub within : (es : List Entry) (v q k : ℕ) → IsAt es v q k → k < length es
-within es v q k at = slice_get_within es k (at.entry) at.known
+-- a number is that of one product state
+pub same_place : (rs : List Row) (v q w r k : ℕ) → IsAt rs v q k → IsAt rs w r k → (v ≡ w) × (q ≡ r)
+same_place rs v q w r k at also =
+    let h : Some (at.row) ≡ Some (also.row) = sym at.known ∙ also.known in
+    let same : at.row ≡ also.row = cc in
+    (sym at.node ∙ ap (λ (y : Row). y.node) same ∙ also.node, sym at.state ∙ ap (λ (y : Row). y.state) same ∙ also.state)
 
--- what is known of a product state whose entry was read
-pub read_known : (es : List Entry) → IsApart es → (v q k : ℕ) (x : Entry) → IsAt es v q k → x ≡ get_or es k x → reached_in es v q ≡ Some (seen x)
-read_known es apart v q k x at is = at_known es apart v q k at ∙ ap (λ y. Some (seen y)) (sym (read_is es k x (at.entry) is at.known))
-
--- ---- keys
-
-pub keys_length : (ks : List Key) (es : List Entry) → AreKeys ks es → length ks ≡ length es
-keys_length ks es keys = ap length keys ∙ length-map es key_of
-
-pub keys_push : (ks : List Key) (es : List Entry) (e : Entry) → AreKeys ks es → AreKeys (ks ++ key_of e ∷ []) (es ++ e ∷ [])
-keys_push ks es e keys = ap (λ l. l ++ key_of e ∷ []) keys ∙ sym (map-append key_of es (e ∷ []))
-
-pub keys_set : (ks : List Key) (es : List Entry) (k : ℕ) (e : Entry) → AreKeys ks es → AreKeys (slice_set ks k (key_of e)) (slice_set es k e)
-keys_set ks es k e keys = ap (λ l. slice_set l k (key_of e)) keys ∙ sym (map-set key_of es k e)
-
--- the key that was read is that of the entry with that number
-pub key_read : (ks : List Key) (es : List Entry) (k : ℕ) (x : Key) (e : Entry) → AreKeys ks es → x ≡ get_or ks k x → slice_get es k ≡ Some e → x ≡ key_of e
-key_read ks es k x e keys is known =
-    is ∙ get_or_from_slice_get ks k (key_of e) x (ap (λ l. slice_get l k) keys ∙ slice_get-map key_of es k ∙ ap (λ o. option_map key_of o) known)
+-- ---- what a bar says
 
 -- a way before the bar is better
-before_bar : (e : Entry) (way : Reached) → way.at < bar_of e → offered (Some (seen e)) way ≡ Some way
-before_bar e way before = grind (arith, nat_tests)
+before_bar : (x way : Reached) → way.at < bar_of x - 1 → offered (Some x) way ≡ Some way
+before_bar x way before = grind (arith, nat_tests)
 
 -- a way from the bar on isn't, unless that is the greatest number
-from_bar : (e : Entry) (way : Reached) → bar_of e ≤ way.at → (bar_of e ≡ 2 ^ 64 - 1 → ⊥) → offered (Some (seen e)) way ≡ Some (seen e)
-from_bar e way from other = grind (arith, nat_tests)
+from_bar : (x way : Reached) → bar_of x - 1 ≤ way.at → (bar_of x ≡ 2 ^ 64 - 1 → ⊥) → offered (Some x) way ≡ Some x
+from_bar x way from other = grind (arith, nat_tests)
+
+-- at the greatest number the time tells
+at_top : (x way : Reached) → bar_of x ≡ 2 ^ 64 - 1 → way.at < x.at → offered (Some x) way ≡ Some way
+at_top x way top before = grind (arith, nat_tests)
+
+from_top : (x way : Reached) → x.at ≤ way.at → offered (Some x) way ≡ Some x
+from_top x way from = grind (arith, nat_tests)
 
 -- what the bar says of the product state whose key was read
-module _ (f : Frontier) (right : IsQueueRight f) (v q k : ℕ) (there : IsAt f.entries.items v q k) (x : Key) (read : x ≡ get_or f.keys.items k x) (way : Reached) where
-  known_here : reached_at f v q ≡ Some (seen (there.entry))
-  known_here = at_known f.entries.items right.apart v q k there
+module _ (f : Frontier) (right : IsQueueRight f) (v q k : ℕ) (there : IsAt (rows f) v q k) (x : Key) (read : x ≡ get_or f.keys.items k x) (way : Reached) where
+  known_here : reached_at f v q ≡ Some (there.row).known
+  known_here = at_known (rows f) right.apart v q k there
 
-  bar_here : x.bar ≡ bar_of (there.entry)
-  bar_here = ap (λ (y : Key). y.bar) (key_read f.keys.items f.entries.items k x (there.entry) right.keys read there.known)
+  bar_here : x.bar ≡ bar_of (there.row).known
+  bar_here = ap (λ (y : Key). y.bar) (key_read f.keys.items f.entries.items k x (there.row) right.kept read there.known)
 
-  pub better_here : way.at < x.bar → offered (reached_at f v q) way ≡ Some way
-  better_here before = ap (λ o. offered o way) known_here ∙ before_bar (there.entry) way (omega (arith, before, bar_here))
+  pub better_here : way.at < x.bar - 1 → offered (reached_at f v q) way ≡ Some way
+  better_here before = ap (λ o. offered o way) known_here ∙ before_bar (there.row).known way (omega (arith, before, bar_here))
 
-  pub kept_here : (x.bar ≡ 2 ^ 64 - 1 → ⊥) → x.bar ≤ way.at → offered (reached_at f v q) way ≡ reached_at f v q
+  pub kept_here : (x.bar ≡ 2 ^ 64 - 1 → ⊥) → x.bar - 1 ≤ way.at → offered (reached_at f v q) way ≡ reached_at f v q
   kept_here other from =
-      ap (λ o. offered o way) known_here ∙ from_bar (there.entry) way (omega (arith, from, bar_here)) (λ e. other (bar_here ∙ e)) ∙ sym known_here
+      ap (λ o. offered o way) known_here ∙ from_bar (there.row).known way (omega (arith, from, bar_here)) (λ e. other (bar_here ∙ e)) ∙ sym known_here
+
+  -- and what the entry says where the bar doesn't tell
+  module _ (y : Entry) (also : y ≡ get_or f.entries.items k y) where
+    at_here : y.at ≡ (there.row).known.at
+    at_here = ap (λ (z : Entry). z.at) (entry_read f.keys.items f.entries.items k y (there.row) also there.known)
+
+    pub better_top : x.bar ≡ 2 ^ 64 - 1 → way.at < y.at → offered (reached_at f v q) way ≡ Some way
+    better_top top before = ap (λ o. offered o way) known_here ∙ at_top (there.row).known way (sym bar_here ∙ top) (omega (arith, before, at_here))
+
+    pub kept_top : y.at ≤ way.at → offered (reached_at f v q) way ≡ reached_at f v q
+    kept_top from = ap (λ o. offered o way) known_here ∙ from_top (there.row).known way (omega (arith, from, at_here)) ∙ sym known_here
 
 -- ---- a node's chain
 
--- the product state is not behind c, and c stands for an entry of the node
-pub record IsSought (es : List Entry) (v q c : ℕ) : Type 0 where
-  pub none_after : (k : ℕ) (e : Entry) → slice_get es k ≡ Some e → c ≤ k → e.node ≡ v → e.state ≡ q → ⊥
-  pub there : (k : ℕ) → c ≡ suc k → (e : Entry) × (slice_get es k ≡ Some e) × (e.node ≡ v)
+-- the product state is not behind c, and c stands for a row of the node
+pub record IsSought (rs : List Row) (v q c : ℕ) : Type 0 where
+  pub none_after : (k : ℕ) (e : Row) → slice_get rs k ≡ Some e → c ≤ k → e.node ≡ v → e.state ≡ q → ⊥
+  pub there : (k : ℕ) → c ≡ suc k → (e : Row) × (slice_get rs k ≡ Some e) × (e.node ≡ v)
 
-pub sought_first : (f : Frontier) → IsIndexed f → (v q c : ℕ) → c ≡ slice_index f.first.items v → IsSought f.entries.items v q c
+pub sought_first : (f : Frontier) → IsIndexed f → (v q c : ℕ) → c ≡ slice_index f.first.items v → IsSought (rows f) v q c
 sought_first f indexed v q c is = rw is (let last = indexed.first v in record {
-  none_after = λ k e known from node state. last.none_after k e known from (slice_get_within f.entries.items k e known) node;
+  none_after = λ k e known from node state. last.none_after k e known from (slice_get_within (rows f) k e known) node;
   there = λ k at. (let p = last.there k at in (p.1, p.2, p.3));
 })
 
-module _ (f : Frontier) (right : IsQueueRight f) (v q c : ℕ) (x : Key) (some : c ≢ 0) (sought : IsSought f.entries.items v q c) (read : x ≡ get_or f.keys.items (c - 1) x) where
-  -- the entry whose key was read
-  sought_entry : (e : Entry) × (slice_get f.entries.items (c - 1) ≡ Some e) × (e.node ≡ v) × (key_of e ≡ x)
-  sought_entry =
+module _ (f : Frontier) (right : IsQueueRight f) (v q c : ℕ) (x : Key) (some : c ≢ 0) (sought : IsSought (rows f) v q c) (read : x ≡ get_or f.keys.items (c - 1) x) where
+  -- the row whose key was read
+  sought_row : (e : Row) × (slice_get (rows f) (c - 1) ≡ Some e) × (e.node ≡ v) × (key_of e ≡ x)
+  sought_row =
       let p = sought.there (c - 1) (omega (arith, some)) in
-      (p.0, p.1, p.2, sym (key_read f.keys.items f.entries.items (c - 1) x p.0 right.keys read p.1))
+      (p.0, p.1, p.2, sym (key_read f.keys.items f.entries.items (c - 1) x p.0 right.kept read p.1))
 
-  same_state : (sought_entry.0).state ≡ x.state
-  same_state = ap (λ (y : Key). y.state) sought_entry.3
+  same_state : (sought_row.0).state ≡ x.state
+  same_state = ap (λ (y : Key). y.state) sought_row.3
 
-  pub sought_found : x.state ≡ q → IsAt f.entries.items v q (c - 1)
-  sought_found state = record { entry = sought_entry.0; known = sought_entry.1; node = sought_entry.2; state = same_state ∙ state }
+  pub sought_found : x.state ≡ q → IsAt (rows f) v q (c - 1)
+  sought_found state = record { row = sought_row.0; known = sought_row.1; node = sought_row.2; state = same_state ∙ state }
 
-  sought_last : IsLast f.entries.items v (c - 1) x.next
-  sought_last = subst (λ n. IsLast f.entries.items v (c - 1) n) (ap (λ (y : Key). y.next) sought_entry.3)
-      (subst (λ w. IsLast f.entries.items w (c - 1) (sought_entry.0).next) sought_entry.2 (right.indexed.next (c - 1) sought_entry.0 sought_entry.1))
+  sought_last : IsLast (rows f) v (c - 1) x.next
+  sought_last = subst (λ n. IsLast (rows f) v (c - 1) n) (ap (λ (y : Key). y.next) sought_row.3)
+      (subst (λ w. IsLast (rows f) w (c - 1) (sought_row.0).next) sought_row.2 (right.indexed.next (c - 1) sought_row.0 sought_row.1))
 
-  pub sought_next : (x.state ≡ q → ⊥) → IsSought f.entries.items v q x.next
+  pub sought_next : (x.state ≡ q → ⊥) → IsSought (rows f) v q x.next
   sought_next differs = record {
     none_after = λ k e known from node state. elim (cases_eq k (c - 1)) [
-      | inl same ↦ (let h : Some (sought_entry.0) ≡ Some e = sym sought_entry.1 ∙ subst (λ j. slice_get f.entries.items j ≡ Some e) same known in
-          let p : sought_entry.0 ≡ e = cc in differs (sym same_state ∙ ap (λ (y : Entry). y.state) p ∙ state))
+      | inl same ↦ (let h : Some (sought_row.0) ≡ Some e = sym sought_row.1 ∙ subst (λ j. slice_get (rows f) j ≡ Some e) same known in
+          let p : sought_row.0 ≡ e = cc in differs (sym same_state ∙ ap (λ (y : Row). y.state) p ∙ state))
       | inr other ↦ elim (cases_lt k (c - 1)) [
         | inl lt ↦ sought_last.none_after k e known from lt node
         | inr ge ↦ sought.none_after k e known (omega (arith, ge, other)) node state
@@ -581,16 +608,19 @@ module _ (f : Frontier) (right : IsQueueRight f) (v q c : ℕ) (x : Key) (some :
     go zero e = omega (arith, some)
     go (suc k) e = let p = (sought_last.there k e).0 in omega (arith, p, some)
 
-pub sought_none : (es : List Entry) (v q c : ℕ) → c ≡ 0 → IsSought es v q c → IsNowhere es v q
-sought_none es v q c is sought k at = sought.none_after k (at.entry) at.known (omega (arith, is)) at.node at.state
+pub sought_none : (rs : List Row) (v q c : ℕ) → c ≡ 0 → IsSought rs v q c → IsNowhere rs v q
+sought_none rs v q c is sought k at = sought.none_after k (at.row) at.known (omega (arith, is)) at.node at.state
 
-pub sought_within : (es : List Entry) (v q c : ℕ) → c ≢ 0 → IsSought es v q c → c - 1 < length es
-sought_within es v q c some sought = let p = sought.there (c - 1) (omega (arith, some)) in slice_get_within es (c - 1) p.0 p.1
+pub sought_within : (rs : List Row) (v q c : ℕ) → c ≢ 0 → IsSought rs v q c → c - 1 < length rs
+sought_within rs v q c some sought = let p = sought.there (c - 1) (omega (arith, some)) in slice_get_within rs (c - 1) p.0 p.1
 
 -- ---- the table is cleared
 
 pub behind_first : (f : Frontier) → IsIndexed f → IsBehind f.entries.items f.first.items 0
-behind_first f indexed v k is = let p = (indexed.first v).there k is in (k, omega arith, p.1, p.2, p.3)
+behind_first f indexed v k is =
+    let p = (indexed.first v).there k is in
+    let parts = row_parts f.keys.items f.entries.items k p.1 p.2 in
+    (k, omega arith, parts.1, parts.3, ap (λ (r : Row). r.node) parts.4 ∙ p.3)
 
 pub behind_next : (es : List Entry) (old new : List ℕ) (i : ℕ) (x : Entry) → slice_get es i ≡ Some x → IsBehind es old i
     → slice_index new x.node ≡ 0 → ((v : ℕ) → v ≢ x.node → slice_index new v ≡ slice_index old v) → IsBehind es new (i + 1)

@@ -7,7 +7,6 @@ use Rattle.search_laws.specs.GraphLaws.{GraphMeaning, HasArc, IsLawfulGraph}
 use Rattle.search_laws.specs.LabelLaws.{LabelsMeaning, Reads, Follows, AllAfter}
 use Rattle.search_laws.specs.Walks.{arc, word_from}
 use Rattle.search_laws.proofs.WalkLemmas.{reads_more, reads_one, walk_more, word_more, walk_rises, walk_known}
-use Rattle.product_search.specs.declared.frontier.Parent.{Parent}
 use Rattle.product_search.specs.declared.frontier.Reached.{Reached}
 use Rattle.product_search.specs.declared.frontier.Frontier.{Frontier}
 use Rattle.product_search.specs.Reach.{IsReachedAt, IsWithin}
@@ -34,9 +33,9 @@ reached_more g l starts dep v q t i u r reached has e follows = record {
       (reads_one l (g.arc_at v i).letter q r follows));
 }
 
-traced_reaches : (g : GraphMeaning) (l : LabelsMeaning) (starts : List ℕ) (dep : ℕ) (f : Frontier) → IsTraced g l starts dep f
-    → (n v q : ℕ) (x : Reached) (p : Option Parent) → x.arcs ≡ n → IsTracedTo g l starts dep f v q x p → IsReachedAt g l starts dep v q x.at
-traced_reaches g l starts dep f traced n v q x None count from = record {
+traced_reaches : (g : GraphMeaning) (l : LabelsMeaning) (starts : List ℕ) (dep : ℕ) (depth : ℕ → ℕ → ℕ) (f : Frontier) → IsTraced g l starts dep depth f
+    → (n v q : ℕ) (x : Reached) (p : ℕ) → depth v q ≡ n → IsTracedTo g l starts dep depth f v q x p → IsReachedAt g l starts dep v q x.at
+traced_reaches g l starts dep depth f traced n v q x zero count from = record {
   start = v;
   first = q;
   steps = [];
@@ -46,16 +45,16 @@ traced_reaches g l starts dep f traced n v q x None count from = record {
   walk = (refl, from.at);
   reads = refl;
 }
-traced_reaches g l starts dep f traced zero v q x (Some p) count from = absurd (omega (arith, from.one_more))
-traced_reaches g l starts dep f traced (suc n) v q x (Some p) count from =
-    let parent = traced_reaches g l starts dep f traced n p.node p.state from.before (from.before).parent (omega (arith, from.one_more)) (traced p.node p.state from.before from.known) in
+traced_reaches g l starts dep depth f traced zero v q x (suc k) count from = absurd (omega (arith, from.deeper))
+traced_reaches g l starts dep depth f traced (suc n) v q x (suc k) count from =
+    let parent = traced_reaches g l starts dep depth f traced n from.from from.in_state from.before (from.before).parent (omega (arith, from.deeper)) (traced from.from from.in_state from.before from.known) in
     subst (λ w. IsReachedAt g l starts dep w q x.at) (sym from.node)
-    (reached_more g l starts dep p.node p.state (from.before).at p.arc x.at q parent from.has from.arrives from.state)
+    (reached_more g l starts dep from.from from.in_state (from.before).at x.arc x.at q parent from.has from.arrives from.state)
 
 -- some walk is there at the time that is known
-pub tight : (g : GraphMeaning) (l : LabelsMeaning) (starts : List ℕ) (dep : ℕ) (f : Frontier) → IsTraced g l starts dep f
+pub tight : (g : GraphMeaning) (l : LabelsMeaning) (starts : List ℕ) (dep : ℕ) (depth : ℕ → ℕ → ℕ) (f : Frontier) → IsTraced g l starts dep depth f
     → (v q : ℕ) (x : Reached) → reached_at f v q ≡ Some x → IsReachedAt g l starts dep v q x.at
-tight g l starts dep f traced v q x is = traced_reaches g l starts dep f traced x.arcs v q x x.parent refl (traced v q x is)
+tight g l starts dep depth f traced v q x is = traced_reaches g l starts dep depth f traced (depth v q) v q x x.parent refl (traced v q x is)
 
 -- ---- what is settled
 

@@ -1,15 +1,15 @@
 -- One turn of the search: the least is settled, is no end, and its arcs are explored.
-use Rattle.std.proofs.Common.{◌≡◌, ℕ, ◌+◌, ◌*◌, ◌^◌, ◌<◌, ◌≤◌, inl, inr, Bool, true, false, not, ◌==◌, List, Some, None, refl, sym, ◌∙◌, ap, subst, arith}
-use Rattle.std.specs.Prelude.{Option, IsTrue, Contains}
+use Rattle.std.proofs.Common.{◌≡◌, ℕ, zero, suc, ◌+◌, ◌*◌, ◌^◌, ◌<◌, ◌≤◌, inl, inr, Bool, true, false, not, ◌==◌, List, Some, None, refl, sym, ◌∙◌, ap, subst, arith}
+use Rattle.std.specs.Prelude.{Option, IsTrue, Contains, slice_get}
 use Rattle.std.proofs.lemmas.Bool.{false≢true, and_from, and_parts, not_from_false, not-true, eq-eqb, eqb-true}
-use Rattle.search_laws.specs.GraphLaws.{GraphMeaning, IsLawfulGraph}
+use Rattle.search_laws.specs.GraphLaws.{GraphMeaning, HasArc, IsLawfulGraph}
 use Rattle.search_laws.specs.LabelLaws.{LabelsMeaning, IsLawfulLabels, Follows}
-use Rattle.product_search.specs.declared.frontier.Parent.{Parent}
 use Rattle.product_search.specs.declared.frontier.Reached.{Reached}
 use Rattle.product_search.specs.declared.frontier.Settled.{Settled}
 use Rattle.product_search.specs.declared.frontier.Frontier.{Frontier}
+use Rattle.product_search.specs.declared.row.Row.{Row}
 use Rattle.product_search.specs.Reach.{IsWithin}
-use Rattle.product_search.specs.Waiting.{reached_at, waits_at, is_same, IsQueueRight, SettlesLeast}
+use Rattle.product_search.specs.Waiting.{rows, reached_at, waits_at, is_same, IsAt, KeepsNumbers, IsQueueRight, SettlesLeast}
 use Rattle.product_search.specs.Exploring.{IsReachedBy, CanHasten, Offers, IsSuccessor, ArcIsReached}
 use Rattle.product_search.specs.Searching.{is_settled, count_unless, unsettled_at, unsettled, IsTracedTo, IsSearching}
 use Rattle.product_search.proofs.QueueLemmas.{same_itself, same_parts, if_same, if_other}
@@ -86,21 +86,55 @@ module _ (g : GraphMeaning) (l : LabelsMeaning) (old new : Frontier) where
 
 -- ---- what is traced
 
--- what is settled stays, and so does the way that leads from it
-pub keeps_traced : (g : GraphMeaning) (l : LabelsMeaning) (starts : List ℕ) (dep : ℕ) (old new : Frontier)
-    → ((w r : ℕ) (x : Reached) → reached_at old w r ≡ Some x → x.settled ≡ true → reached_at new w r ≡ Some x)
-    → (v q : ℕ) (x : Reached) (p : Option Parent) → IsTracedTo g l starts dep old v q x p → IsTracedTo g l starts dep new v q x p
-keeps_traced g l starts dep old new stays v q x None from = from
-keeps_traced g l starts dep old new stays v q x (Some p) from = record {
+-- what is settled stays at its depth, and so does the way that leads from it
+pub keeps_traced : (g : GraphMeaning) (l : LabelsMeaning) (starts : List ℕ) (dep : ℕ) (was now : ℕ → ℕ → ℕ) (old new : Frontier)
+    → ((w r : ℕ) (x : Reached) → reached_at old w r ≡ Some x → x.settled ≡ true → (reached_at new w r ≡ Some x) × (now w r ≡ was w r))
+    → KeepsNumbers old new
+    → (v q : ℕ) (x : Reached) (p : ℕ) → now v q ≡ was v q → IsTracedTo g l starts dep was old v q x p → IsTracedTo g l starts dep now new v q x p
+keeps_traced g l starts dep was now old new stays numbers v q x zero same from = from
+keeps_traced g l starts dep was now old new stays numbers v q x (suc k) same from = record {
+  from = from.from;
+  in_state = from.in_state;
+  number = numbers from.from from.in_state k from.number;
   before = from.before;
-  known = stays p.node p.state from.before from.known from.settled;
+  known = (stays from.from from.in_state from.before from.known from.settled).0;
   settled = from.settled;
-  one_more = from.one_more;
+  deeper = same ∙ from.deeper ∙ ap (λ n. n + 1) (sym (stays from.from from.in_state from.before from.known from.settled).1);
   has = from.has;
   arrives = from.arrives;
   node = from.node;
   state = from.state;
 }
+
+-- ---- the depth
+
+-- the depth of a row and 1, or n where there is none
+abbrev depth_past : (ℕ → ℕ → ℕ) → Option Row → ℕ → ℕ
+depth_past depth None n = n
+depth_past depth (Some r) n = depth r.node r.state + 1
+
+-- the depth by a parent's number and 1, or n at a start
+abbrev depth_by : (ℕ → ℕ → ℕ) → Frontier → ℕ → ℕ → ℕ
+depth_by depth f zero n = n
+depth_by depth f (suc k) n = depth_past depth (slice_get (rows f) k) n
+
+abbrev parent_of : Option Reached → ℕ
+parent_of None = 0
+parent_of (Some x) = x.parent
+
+-- the depth once new ways are reached
+abbrev deepened : (ℕ → ℕ → ℕ) → Frontier → ℕ → ℕ → ℕ
+deepened depth f v q = depth_by depth f (parent_of (reached_at f v q)) (depth v q)
+
+depth_past_parent : (depth : ℕ → ℕ → ℕ) (f : Frontier) (v q k n : ℕ) → IsAt (rows f) v q k → depth_by depth f (suc k) n ≡ depth v q + 1
+depth_past_parent depth f v q k n at =
+    ap (λ o. depth_past depth o n) at.known ∙ ap (λ w. depth w (at.row).state + 1) at.node ∙ ap (λ r. depth v r + 1) at.state
+
+depth_traced : (g : GraphMeaning) (l : LabelsMeaning) (starts : List ℕ) (dep : ℕ) (depth : ℕ → ℕ → ℕ) (f f2 : Frontier) → KeepsNumbers f f2 → (v q : ℕ) (x : Reached) (p : ℕ)
+    → IsTracedTo g l starts dep depth f v q x p → depth_by depth f2 p (depth v q) ≡ depth v q
+depth_traced g l starts dep depth f f2 numbers v q x zero from = refl
+depth_traced g l starts dep depth f f2 numbers v q x (suc k) from =
+    depth_past_parent depth f2 from.from from.in_state k (depth v q) (numbers from.from from.in_state k from.number) ∙ sym from.deeper
 
 -- ---- where an entry comes from
 
@@ -125,7 +159,7 @@ module _ (g : GraphMeaning) (lawful : IsLawfulGraph g) (l : LabelsMeaning) (labe
         here (sym p.0) (sym p.1) (sym same)
 
   pub origin : (w r : ℕ) (x : Reached) → reached_at f2 w r ≡ Some x → Origin g l bound f s (least.entry) w r x
-  origin w r x is = elim (offers w r) [
+  origin w r x is = elim (offers.changes w r) [
     | inl same ↦ origin_in_f1 w r x (sym same ∙ is)
     | inr n ↦ (let h : Some n.0 ≡ Some x = sym n.1 ∙ is in
         let same : n.0 ≡ x = cc in
@@ -135,7 +169,7 @@ module _ (g : GraphMeaning) (lawful : IsLawfulGraph g) (l : LabelsMeaning) (labe
   -- ---- what stays
 
   stays_from_f1 : (w r : ℕ) (x : Reached) → reached_at f1 w r ≡ Some x → x.settled ≡ true → reached_at f2 w r ≡ Some x
-  stays_from_f1 w r x is settled = elim (offers w r) [
+  stays_from_f1 w r x is settled = elim (offers.changes w r) [
     | inl same ↦ same ∙ is
     | inr n ↦ (let h : CanHasten (Some x) (n.0).at = subst (λ o. CanHasten o (n.0).at) is n.4 in absurd (false≢true (sym h.0 ∙ settled)))
   ]
@@ -155,7 +189,7 @@ module _ (g : GraphMeaning) (lawful : IsLawfulGraph g) (l : LabelsMeaning) (labe
   entry_in_range = searching.in_range s.node s.state (least.entry) least.waited
 
   same_settled : (v q : ℕ) → is_settled (reached_at f1 v q) ≡ is_settled (reached_at f2 v q)
-  same_settled v q = elim (offers v q) [
+  same_settled v q = elim (offers.changes v q) [
     | inl same ↦ ap is_settled (sym same)
     | inr n ↦ not_yet (reached_at f1 v q) (n.0).at n.4 ∙ sym (ap is_settled n.1 ∙ n.3)
   ] where
@@ -168,6 +202,46 @@ module _ (g : GraphMeaning) (lawful : IsLawfulGraph g) (l : LabelsMeaning) (labe
       unsettled_one g l f f1 s.node s.state entry_in_range.0 entry_in_range.1 (ap is_settled least.waited ∙ least.unsettled) (ap is_settled (here_now f f1 s least))
       (λ w r other. ap is_settled (sym (others_now f f1 s least w r other)))
       ∙ ap (λ n. n + 1) (unsettled_same g l f1 f2 same_settled)
+
+  -- ---- the numbers
+
+  numbers : KeepsNumbers f f2
+  numbers v q k at = offers.numbers v q k (least.numbers v q k at)
+
+  -- the number of the settled one
+  abbrev number : ℕ
+  number = least.link.0
+
+  is_number : s.link ≡ suc number
+  is_number = least.link.1
+
+  at_number : IsAt (rows f2) s.node s.state number
+  at_number = offers.numbers s.node s.state number least.link.2
+
+  -- ---- the depth
+
+  pub depth : ℕ → ℕ → ℕ
+  depth = deepened searching.depth f2
+
+  -- the parent stays, and so does the depth
+  depth_same : (w r : ℕ) (x y : Reached) → reached_at f w r ≡ Some x → reached_at f2 w r ≡ Some y → y.parent ≡ x.parent → depth w r ≡ searching.depth w r
+  unfolding depth
+  depth_same w r x y was is same =
+      ap (λ o. depth_by searching.depth f2 (parent_of o) (searching.depth w r)) is ∙ ap (λ p. depth_by searching.depth f2 p (searching.depth w r)) same
+      ∙ depth_traced g l starts dep searching.depth f f2 numbers w r x x.parent (searching.traced w r x was)
+
+  depth_here : depth s.node s.state ≡ searching.depth s.node s.state
+  depth_here = depth_same s.node s.state (least.entry) (record (least.entry) { settled = true }) least.waited here_in_f2 refl
+
+  depth_fresh : (w r : ℕ) (x : Reached) → reached_at f2 w r ≡ Some x → IsSuccessor g l bound s w r x → depth w r ≡ searching.depth s.node s.state + 1
+  unfolding depth
+  depth_fresh w r x is n =
+      ap (λ o. depth_by searching.depth f2 (parent_of o) (searching.depth w r)) is
+      ∙ ap (λ p. depth_by searching.depth f2 p (searching.depth w r)) (ap (λ (y : Reached). y.parent) n.as_made ∙ is_number)
+      ∙ depth_past_parent searching.depth f2 s.node s.state number (searching.depth w r) at_number
+
+  settled_stay : (w r : ℕ) (x : Reached) → reached_at f w r ≡ Some x → x.settled ≡ true → (reached_at f2 w r ≡ Some x) × (depth w r ≡ searching.depth w r)
+  settled_stay w r x was settled = let is = stays w r x was settled in (is, depth_same w r x x was is refl)
 
   -- ---- the parts of the invariant
 
@@ -184,44 +258,52 @@ module _ (g : GraphMeaning) (lawful : IsLawfulGraph g) (l : LabelsMeaning) (labe
     | before was ↦ searching.in_range v q x was
   ]
 
-  fresh_traced : (w r : ℕ) (x : Reached) → IsSuccessor g l bound s w r x → IsTracedTo g l starts dep f2 w r x x.parent
-  fresh_traced w r x n = rw (ap (λ (y : Reached). y.parent) n.as_made) (record {
-    before = record (least.entry) { settled = true };
-    known = here_in_f2;
-    settled = refl;
-    one_more = ap (λ (y : Reached). y.arcs) n.as_made ∙ ap (λ k. k + 1) least.arcs;
-    has = n.has;
-    arrives = subst (λ t. g.arrive s.node n.place t ≡ Some x.at) least.at n.arrives;
-    node = n.node;
-    state = n.state;
-  })
+  fresh_traced : (w r : ℕ) (x : Reached) → reached_at f2 w r ≡ Some x → IsSuccessor g l bound s w r x → IsTracedTo g l starts dep depth f2 w r x x.parent
+  fresh_traced w r x is n =
+      let arc : n.place ≡ x.arc = sym (ap (λ (y : Reached). y.arc) n.as_made) in
+      rw (ap (λ (y : Reached). y.parent) n.as_made ∙ is_number) (record {
+        from = s.node;
+        in_state = s.state;
+        number = at_number;
+        before = record (least.entry) { settled = true };
+        known = here_in_f2;
+        settled = refl;
+        deeper = depth_fresh w r x is n ∙ ap (λ k. k + 1) (sym depth_here);
+        has = subst (λ i. HasArc g s.node i) arc n.has;
+        arrives = subst (λ i. g.arrive s.node i (least.entry).at ≡ Some x.at) arc (subst (λ t. g.arrive s.node n.place t ≡ Some x.at) least.at n.arrives);
+        node = subst (λ i. w ≡ (g.arc_at s.node i).to) arc n.node;
+        state = subst (λ i. Follows l s.state (g.arc_at s.node i).letter r) arc n.state;
+      })
 
-  here_traced : (w r : ℕ) (x : Reached) → w ≡ s.node → r ≡ s.state → x ≡ record (least.entry) { settled = true } → IsTracedTo g l starts dep f2 w r x x.parent
+  here_traced : (w r : ℕ) (x : Reached) → w ≡ s.node → r ≡ s.state → x ≡ record (least.entry) { settled = true } → IsTracedTo g l starts dep depth f2 w r x x.parent
   here_traced w r x ew er e =
-      let was : IsTracedTo g l starts dep f2 s.node s.state (least.entry) (least.entry).parent =
-      keeps_traced g l starts dep f f2 stays s.node s.state (least.entry) (least.entry).parent (searching.traced s.node s.state (least.entry) least.waited) in
-      subst (λ y. IsTracedTo g l starts dep f2 w r y y.parent) (sym e)
-      (subst (λ v. IsTracedTo g l starts dep f2 v r (record (least.entry) { settled = true }) (least.entry).parent) (sym ew)
-      (subst (λ q. IsTracedTo g l starts dep f2 s.node q (record (least.entry) { settled = true }) (least.entry).parent) (sym er)
+      let was : IsTracedTo g l starts dep depth f2 s.node s.state (least.entry) (least.entry).parent =
+      keeps_traced g l starts dep searching.depth depth f f2 settled_stay numbers s.node s.state (least.entry) (least.entry).parent depth_here (searching.traced s.node s.state (least.entry) least.waited) in
+      subst (λ y. IsTracedTo g l starts dep depth f2 w r y y.parent) (sym e)
+      (subst (λ v. IsTracedTo g l starts dep depth f2 v r (record (least.entry) { settled = true }) (least.entry).parent) (sym ew)
+      (subst (λ q. IsTracedTo g l starts dep depth f2 s.node q (record (least.entry) { settled = true }) (least.entry).parent) (sym er)
       (marked_traced s.node s.state (least.entry) (least.entry).parent was))) where
-        marked_traced : (v q : ℕ) (y : Reached) (p : Option Parent) → IsTracedTo g l starts dep f2 v q y p → IsTracedTo g l starts dep f2 v q (record y { settled = true }) p
-        marked_traced v q y None from = record { starts_there = from.starts_there; is_state = from.is_state; is_start = from.is_start; at = from.at }
-        marked_traced v q y (Some p) from = record {
+        marked_traced : (v q : ℕ) (y : Reached) (p : ℕ) → IsTracedTo g l starts dep depth f2 v q y p → IsTracedTo g l starts dep depth f2 v q (record y { settled = true }) p
+        marked_traced v q y zero from = record { starts_there = from.starts_there; is_state = from.is_state; is_start = from.is_start; at = from.at }
+        marked_traced v q y (suc k) from = record {
+          from = from.from;
+          in_state = from.in_state;
+          number = from.number;
           before = from.before;
           known = from.known;
           settled = from.settled;
-          one_more = from.one_more;
+          deeper = from.deeper;
           has = from.has;
           arrives = from.arrives;
           node = from.node;
           state = from.state;
         }
 
-  pub traced : (v q : ℕ) (x : Reached) → reached_at f2 v q ≡ Some x → IsTracedTo g l starts dep f2 v q x x.parent
+  pub traced : (v q : ℕ) (x : Reached) → reached_at f2 v q ≡ Some x → IsTracedTo g l starts dep depth f2 v q x x.parent
   traced v q x is = elim (origin v q x is) [
-    | fresh n w ↦ fresh_traced v q x n
+    | fresh n w ↦ fresh_traced v q x is n
     | here ev eq e ↦ here_traced v q x ev eq e
-    | before was ↦ keeps_traced g l starts dep f f2 stays v q x x.parent (searching.traced v q x was)
+    | before was ↦ keeps_traced g l starts dep searching.depth depth f f2 settled_stay numbers v q x x.parent (depth_same v q x x was is refl) (searching.traced v q x was)
   ]
 
   entry_bounded : (least.entry).at + 2 ^ 57 * unsettled g l f ≤ dep + 2 ^ 57 * (g.nodes * l.states)
@@ -234,13 +316,14 @@ module _ (g : GraphMeaning) (lawful : IsLawfulGraph g) (l : LabelsMeaning) (labe
     | before was ↦ omega (arith, searching.bounded v q x was, one_less)
   ]
 
-  few_arcs : (v q : ℕ) (x : Reached) → reached_at f2 v q ≡ Some x → x.arcs + unsettled g l f2 ≤ g.nodes * l.states
-  few_arcs v q x is =
-      let was_few = searching.few_arcs s.node s.state (least.entry) least.waited in
+  pub shallow : (v q : ℕ) (x : Reached) → reached_at f2 v q ≡ Some x → depth v q + unsettled g l f2 ≤ g.nodes * l.states
+  shallow v q x is =
+      let entry_shallow = searching.shallow s.node s.state (least.entry) least.waited in
       elim (origin v q x is) [
-        | fresh n w ↦ omega (arith, ap (λ (y : Reached). y.arcs) n.as_made, least.arcs, was_few, one_less)
-        | here ev eq e ↦ omega (arith, ap (λ (y : Reached). y.arcs) e, was_few, one_less)
-        | before was ↦ omega (arith, searching.few_arcs v q x was, one_less)
+        | fresh n w ↦ omega (arith, depth_fresh v q x is n, entry_shallow, one_less)
+        | here ev eq e ↦ (let same : depth v q ≡ searching.depth s.node s.state = ap (λ w. depth w q) ev ∙ ap (λ r. depth s.node r) eq ∙ depth_here in
+            omega (arith, same, entry_shallow, one_less))
+        | before was ↦ omega (arith, depth_same v q x x was is refl, searching.shallow v q x was, one_less)
       ]
 
   pub within : (v q : ℕ) (x : Reached) → reached_at f2 v q ≡ Some x → IsWithin bound x.at
@@ -301,9 +384,10 @@ module _ (g : GraphMeaning) (lawful : IsLawfulGraph g) (l : LabelsMeaning) (labe
   searching_on = record {
     right = right;
     in_range = in_range g lawful l labels starts targets dep bound f f1 f2 s searching least offers;
+    depth = depth g lawful l labels starts targets dep bound f f1 f2 s searching least offers;
     traced = traced g lawful l labels starts targets dep bound f f1 f2 s searching least offers;
+    shallow = shallow g lawful l labels starts targets dep bound f f1 f2 s searching least offers;
     bounded = bounded g lawful l labels starts targets dep bound f f1 f2 s searching least offers;
-    few_arcs = few_arcs g lawful l labels starts targets dep bound f f1 f2 s searching least offers;
     within = within g lawful l labels starts targets dep bound f f1 f2 s searching least offers;
     starts_reached = λ k lt q in_q start. reached_in_f2 g lawful l labels starts targets dep bound f f1 f2 s searching least offers _ q dep (searching.starts_reached k lt q in_q start);
     in_order = λ v q w r u x is settled waits.

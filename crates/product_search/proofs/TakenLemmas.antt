@@ -2,11 +2,11 @@
 use Rattle.std.proofs.Common.{◌≡◌, ℕ, ◌<◌, ◌≤◌, ◌^◌, inl, inr, Bool, true, false, not, nat_eq, List, Some, None, refl, sym, ◌∙◌, ap, subst}
 use Rattle.std.specs.Prelude.{Option, All, Contains, IfSome, IsBitSet}
 use Rattle.std.specs.Int.Bits.{bit_and}
-use Rattle.std.proofs.lemmas.Bool.{false≢true, eqb-true}
+use Rattle.std.proofs.lemmas.Bool.{false≢true, eqb-true, cases_lt}
 use Rattle.std.proofs.lemmas.List.Elements.{All-weaker, All-contains}
 use Rattle.search_laws.specs.GraphLaws.{GraphMeaning, IsLawfulGraph}
 use Rattle.search_laws.specs.LabelLaws.{LabelsMeaning, AllAfter, Follows}
-use Rattle.search_laws.specs.Ways.{is_open, ways_of, IsWay}
+use Rattle.search_laws.specs.Ways.{is_open, ways_past, IsWay}
 use Rattle.search_laws.specs.Fresh.{RunRides, IsCovered}
 use Rattle.search_laws.specs.declared.given.GivenRuns.{GivenRuns}
 use Rattle.search_laws.specs.declared.graph.GraphArc.{GraphArc}
@@ -23,11 +23,12 @@ not_false true h = refl
 not_false false h = absurd (false≢true (sym h))
 
 -- some of the arcs that can be taken
-module _ (g : GraphMeaning) (l : LabelsMeaning) (bound : Option ℕ) (s : Settled) (letters : ℕ) (ways : List Way) (are : All (Contains (ways_of g s.node s.at letters)) ways) where
+module _ (g : GraphMeaning) (l : LabelsMeaning) (bound : Option ℕ) (s : Settled) (letters first : ℕ) (inside : first ≤ g.arcs s.node) (ways : List Way)
+    (are : All (Contains (ways_past g s.node s.at letters first)) ways) where
   each_is : s.node < g.nodes → All (IsWay g s.node s.at) ways
   each_is node =
-      All-weaker (Contains (ways_of g s.node s.at letters)) (IsWay g s.node s.at)
-      (λ way has. All-contains (IsWay g s.node s.at) (ways_of g s.node s.at letters) way (ways_are g s.node s.at letters node) has) ways are
+      All-weaker (Contains (ways_past g s.node s.at letters first)) (IsWay g s.node s.at)
+      (λ way has. All-contains (IsWay g s.node s.at) (ways_past g s.node s.at letters first) way (ways_are g s.node s.at letters first node inside) has) ways are
 
   pub ways_letters : IsLawfulGraph g → s.node < g.nodes → All (λ (way : Way). IfSome way.arc.letter (λ c. c < 14)) ways
   ways_letters lawful node =
@@ -60,19 +61,29 @@ module _ (g : GraphMeaning) (l : LabelsMeaning) (bound : Option ℕ) (s : Settle
   none_after None P h = absurd (false≢true (sym h))
   none_after (Some c) P h = λ j lt by. absurd (has j c lt by (eqb-true (bit_and letters (2 ^ c)) 0 (not_false (nat_eq (bit_and letters (2 ^ c)) 0) h)))
 
-  -- what all arcs lead to is reached, if it is by these ways and by what was given before
-  pub arcs_reached : (rides : RunRides) (given : GivenRuns) (ways : List Way) → All (IsCovered rides s.state given ways) (ways_of g s.node s.at letters)
-      → AreGivenReached rides l bound f given → All (WayIsReached l bound f s.state) ways → (i : ℕ) → i < g.arcs s.node → ArcIsReached g l bound f s.node s.state s.at i
-  arcs_reached rides given ways covered before all i lt u e within = by_letter (is_open letters (g.arc_at s.node i).letter) refl
+  -- what the arcs from a place on lead to is reached, if it is by these ways and by what was given before
+  arcs_past_reached : (rides : RunRides) (given : GivenRuns) (first : ℕ) (ways : List Way) → All (IsCovered rides s.state given ways) (ways_past g s.node s.at letters first)
+      → AreGivenReached rides l bound f given → All (WayIsReached l bound f s.state) ways
+      → (i : ℕ) → first ≤ i → i < g.arcs s.node → ArcIsReached g l bound f s.node s.state s.at i
+  arcs_past_reached rides given first ways covered before all i from lt u e within = by_letter (is_open letters (g.arc_at s.node i).letter) refl
     where
       way : Way
       way = record { place = i; arc = g.arc_at s.node i; at = u }
 
       by_letter : (b : Bool) → is_open letters (g.arc_at s.node i).letter ≡ b → AllAfter l s.state (g.arc_at s.node i).letter (λ r. IsReachedBy f (g.arc_at s.node i).to r u)
       by_letter true h =
-          let there : Contains (ways_of g s.node s.at letters) way = ways_there g s.node s.at letters i u lt e h in
-          elim (All-contains (IsCovered rides s.state given ways) (ways_of g s.node s.at letters) way covered there) [
+          let there : Contains (ways_past g s.node s.at letters first) way = ways_there g s.node s.at letters first i u from lt e h in
+          elim (All-contains (IsCovered rides s.state given ways) (ways_past g s.node s.at letters first) way covered there) [
             | inl found ↦ among_reached l bound f s.state ways way all found within
             | inr was ↦ before s.state way was within
           ]
       by_letter false h = none_after (g.arc_at s.node i).letter (λ r. IsReachedBy f (g.arc_at s.node i).to r u) h
+
+  -- so it is by all arcs, if it is by those before
+  pub arcs_reached : (rides : RunRides) (given : GivenRuns) (first : ℕ) (ways : List Way) → All (IsCovered rides s.state given ways) (ways_past g s.node s.at letters first)
+      → AreGivenReached rides l bound f given → All (WayIsReached l bound f s.state) ways
+      → ((i : ℕ) → i < first → ArcIsReached g l bound f s.node s.state s.at i) → (i : ℕ) → i < g.arcs s.node → ArcIsReached g l bound f s.node s.state s.at i
+  arcs_reached rides given first ways covered before all steady i lt = elim (cases_lt i first) [
+    | inl below ↦ steady i below
+    | inr from ↦ arcs_past_reached rides given first ways covered before all i from lt
+  ]

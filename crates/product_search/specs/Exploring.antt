@@ -1,5 +1,5 @@
 -- What the arcs out of a settled product state add to what is reached.
-use Rattle.std.specs.Prelude.{◌≡◌, ℕ, ◌+◌, ◌<◌, ◌≤◌, true, false, ⊤, ◌⊎◌, List, Option, Some, None, IsTrue, Contains}
+use Rattle.std.specs.Prelude.{◌≡◌, ℕ, ◌<◌, ◌≤◌, true, false, ⊤, ◌⊎◌, List, Option, Some, None, IsTrue, Contains}
 use Rattle.search_laws.specs.GraphLaws.{GraphMeaning, HasArc}
 use Rattle.search_laws.specs.declared.graph.Way.{Way}
 use Rattle.search_laws.specs.LabelLaws.{LabelsMeaning, Follows, AllAfter}
@@ -9,7 +9,7 @@ use Rattle.product_search.specs.declared.frontier.Reached.{Reached}
 use Rattle.product_search.specs.declared.frontier.Settled.{Settled}
 use Rattle.product_search.specs.declared.frontier.Frontier.{Frontier}
 use Rattle.product_search.specs.Reach.{IsWithin}
-use Rattle.product_search.specs.Waiting.{reached_at}
+use Rattle.product_search.specs.Waiting.{reached_at, KeepsNumbers}
 
 -- the product state is reached by then
 abbrev pub IsReachedBy : Frontier → ℕ → ℕ → ℕ → Type 0
@@ -24,10 +24,14 @@ abbrev pub CanHasten : Option Reached → ℕ → Type 0
 CanHasten None u = ⊤
 CanHasten (Some x) u = (x.settled ≡ false) × (u < x.at)
 
--- what has changed waits, by a better way, of which P holds
-abbrev pub Offers : Frontier → Frontier → (ℕ → ℕ → Reached → Type 0) → Type 0
-Offers old new P = (w r : ℕ) → (reached_at new w r ≡ reached_at old w r)
-    ⊎ ((x : Reached) × (reached_at new w r ≡ Some x) × P w r x × (x.settled ≡ false) × CanHasten (reached_at old w r) x.at)
+-- x waits now, by a better way than was known, of which P holds
+abbrev pub IsHastened : Frontier → Frontier → (ℕ → ℕ → Reached → Type 0) → ℕ → ℕ → Type 0
+IsHastened old new P w r = (x : Reached) × (reached_at new w r ≡ Some x) × P w r x × (x.settled ≡ false) × CanHasten (reached_at old w r) x.at
+
+-- what has changed waits, by a better way, of which P holds, and the numbers are as they were
+pub record Offers (old new : Frontier) (P : ℕ → ℕ → Reached → Type 0) : Type 0 where
+  pub changes : (w r : ℕ) → (reached_at new w r ≡ reached_at old w r) ⊎ IsHastened old new P w r
+  pub numbers : KeepsNumbers old new
 
 -- the way to the node to and the state next, as it is given
 pub record IsGiven (to next : ℕ) (way : Reached) (w r : ℕ) (x : Reached) : Type 0 where
@@ -43,7 +47,7 @@ pub record LeadsTo (l : LabelsMeaning) (to q : ℕ) (letter : Option ℕ) (way :
 
 -- the way by the arc at place i of the settled product state s
 abbrev pub way_by : Settled → ℕ → ℕ → Reached
-way_by s i u = record { at = u; arcs = s.arcs + 1; parent = Some (record { node = s.node; state = s.state; arc = i }); settled = false }
+way_by s i u = record { at = u; parent = s.link; arc = i; settled = false }
 
 -- x is the way to w and r by an arc that can be taken from s, within the bound
 pub record IsByWay (l : LabelsMeaning) (bound : Option ℕ) (s : Settled) (way : Way) (w r : ℕ) (x : Reached) : Type 0 where
@@ -77,10 +81,14 @@ abbrev pub ArcIsReached : GraphMeaning → LabelsMeaning → Option ℕ → Fron
 ArcIsReached g l bound f v q t i = (u : ℕ) → g.arrive v i t ≡ Some u → IsWithin bound u
     → AllAfter l q (g.arc_at v i).letter (λ r. IsReachedBy f (g.arc_at v i).to r u)
 
+-- the same in the state r alone, for the arc at place i of the settled product state s
+abbrev pub LegIsReached : GraphMeaning → Option ℕ → Frontier → Settled → ℕ → ℕ → Type 0
+LegIsReached g bound f s r i = (u : ℕ) → g.arrive s.node i s.at ≡ Some u → IsWithin bound u → IsReachedBy f (g.arc_at s.node i).to r u
+
 -- ---- starts
 
 abbrev pub way_from : ℕ → Reached
-way_from dep = record { at = dep; arcs = 0; parent = None; settled = false }
+way_from dep = record { at = dep; parent = 0; arc = 0; settled = false }
 
 -- x is the way to the start node, in a start state, by no arc
 pub record IsStartAt (l : LabelsMeaning) (node dep w r : ℕ) (x : Reached) : Type 0 where

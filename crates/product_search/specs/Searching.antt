@@ -2,15 +2,14 @@
 use Rattle.std.specs.Prelude.{◌≡◌, ℕ, zero, suc, ◌+◌, ◌*◌, ◌^◌, ◌<◌, ◌≤◌, Bool, true, false, List, length, slice_index, Option, Some, None, IsTrue, Contains, ◌&&◌, if◌then◌else◌}
 use Rattle.search_laws.specs.GraphLaws.{GraphMeaning, HasArc}
 use Rattle.search_laws.specs.LabelLaws.{LabelsMeaning, Follows}
-use Rattle.product_search.specs.declared.frontier.Parent.{Parent}
 use Rattle.product_search.specs.declared.frontier.Reached.{Reached}
 use Rattle.product_search.specs.declared.frontier.Settled.{Settled}
-use Rattle.product_search.specs.declared.frontier.Entry.{Entry}
+use Rattle.product_search.specs.declared.row.Row.{Row}
 use Rattle.product_search.specs.declared.frontier.Frontier.{Frontier}
 use Rattle.product_search.specs.Reach.{IsReachedAt, IsWithin, IsToList, is_before}
 use Rattle.product_search.specs.Listed.{label_of}
 use Rattle.product_search.specs.declared.label.Label.{Label}
-use Rattle.product_search.specs.Waiting.{keyed, reached_at, waits_at, IsQueueRight}
+use Rattle.product_search.specs.Waiting.{keyed, rows, reached_at, waits_at, IsAt, IsLink, IsQueueRight}
 use Rattle.product_search.specs.Exploring.{StartIsReached, ArcIsReached}
 
 -- ---- how many product states are not settled
@@ -40,32 +39,37 @@ pub record IsFromStart (l : LabelsMeaning) (starts : List ℕ) (dep v q : ℕ) (
   pub is_start : IsTrue (l.is_start q)
   pub at : x.at ≡ dep
 
--- by an arc of a settled product state, which one arc less leads to
-pub record IsFromParent (g : GraphMeaning) (l : LabelsMeaning) (f : Frontier) (v q : ℕ) (x : Reached) (p : Parent) : Type 0 where
+-- by an arc of the settled product state with the number k; the depth counts the arcs of the way back
+pub record IsFromParent (g : GraphMeaning) (l : LabelsMeaning) (depth : ℕ → ℕ → ℕ) (f : Frontier) (v q : ℕ) (x : Reached) (k : ℕ) : Type 0 where
+  pub from : ℕ
+  pub in_state : ℕ
+  pub number : IsAt (rows f) from in_state k
   pub before : Reached
-  pub known : reached_at f p.node p.state ≡ Some before
+  pub known : reached_at f from in_state ≡ Some before
   pub settled : before.settled ≡ true
-  pub one_more : x.arcs ≡ before.arcs + 1
-  pub has : HasArc g p.node p.arc
-  pub arrives : g.arrive p.node p.arc before.at ≡ Some x.at
-  pub node : v ≡ (g.arc_at p.node p.arc).to
-  pub state : Follows l p.state (g.arc_at p.node p.arc).letter q
+  pub deeper : depth v q ≡ depth from in_state + 1
+  pub has : HasArc g from x.arc
+  pub arrives : g.arrive from x.arc before.at ≡ Some x.at
+  pub node : v ≡ (g.arc_at from x.arc).to
+  pub state : Follows l in_state (g.arc_at from x.arc).letter q
 
-abbrev pub IsTracedTo : GraphMeaning → LabelsMeaning → List ℕ → ℕ → Frontier → ℕ → ℕ → Reached → Option Parent → Type 0
-IsTracedTo g l starts dep f v q x None = IsFromStart l starts dep v q x
-IsTracedTo g l starts dep f v q x (Some p) = IsFromParent g l f v q x p
+-- 0 stands for a start, and each other number for the one before it
+abbrev pub IsTracedTo : GraphMeaning → LabelsMeaning → List ℕ → ℕ → (ℕ → ℕ → ℕ) → Frontier → ℕ → ℕ → Reached → ℕ → Type 0
+IsTracedTo g l starts dep depth f v q x zero = IsFromStart l starts dep v q x
+IsTracedTo g l starts dep depth f v q x (suc k) = IsFromParent g l depth f v q x k
 
-abbrev pub IsTraced : GraphMeaning → LabelsMeaning → List ℕ → ℕ → Frontier → Type 0
-IsTraced g l starts dep f = (v q : ℕ) (x : Reached) → reached_at f v q ≡ Some x → IsTracedTo g l starts dep f v q x x.parent
+abbrev pub IsTraced : GraphMeaning → LabelsMeaning → List ℕ → ℕ → (ℕ → ℕ → ℕ) → Frontier → Type 0
+IsTraced g l starts dep depth f = (v q : ℕ) (x : Reached) → reached_at f v q ≡ Some x → IsTracedTo g l starts dep depth f v q x x.parent
 
 -- ---- the invariant
 
 pub record IsSearching (g : GraphMeaning) (l : LabelsMeaning) (starts targets : List ℕ) (dep : ℕ) (bound : Option ℕ) (f : Frontier) : Type 0 where
   pub right : IsQueueRight f
   pub in_range : (v q : ℕ) (x : Reached) → reached_at f v q ≡ Some x → (v < g.nodes) × (q < l.states)
-  pub traced : IsTraced g l starts dep f
+  pub depth : ℕ → ℕ → ℕ
+  pub traced : IsTraced g l starts dep depth f
+  pub shallow : (v q : ℕ) (x : Reached) → reached_at f v q ≡ Some x → depth v q + unsettled g l f ≤ g.nodes * l.states
   pub bounded : (v q : ℕ) (x : Reached) → reached_at f v q ≡ Some x → x.at + 2 ^ 57 * unsettled g l f ≤ dep + 2 ^ 57 * (g.nodes * l.states)
-  pub few_arcs : (v q : ℕ) (x : Reached) → reached_at f v q ≡ Some x → x.arcs + unsettled g l f ≤ g.nodes * l.states
   pub within : (v q : ℕ) (x : Reached) → reached_at f v q ≡ Some x → IsWithin bound x.at
   pub starts_reached : (k : ℕ) → k < length starts → StartIsReached f l dep (slice_index starts k)
   pub in_order : (v q w r u : ℕ) (x : Reached) → reached_at f v q ≡ Some x → x.settled ≡ true → waits_at (reached_at f w r) u ≡ true → x.at ≤ u
@@ -81,7 +85,9 @@ IsSettledAt f v q t = (x : Reached) × (reached_at f v q ≡ Some x) × (x.settl
 -- all that is reached at a time to list is settled, and is no end
 pub record IsSearched (g : GraphMeaning) (l : LabelsMeaning) (starts targets : List ℕ) (dep : ℕ) (bound arrival : Option ℕ) (f : Frontier) : Type 0 where
   pub right : IsQueueRight f
-  pub traced : IsTraced g l starts dep f
+  pub depth : ℕ → ℕ → ℕ
+  pub traced : IsTraced g l starts dep depth f
+  pub shallow : (v q : ℕ) (x : Reached) → reached_at f v q ≡ Some x → depth v q ≤ 2 ^ 41
   pub bounded : (v q : ℕ) (x : Reached) → reached_at f v q ≡ Some x → x.at ≤ dep + 2 ^ 98
   pub within : (v q : ℕ) (x : Reached) → reached_at f v q ≡ Some x → IsWithin bound x.at
   pub complete : (v q t : ℕ) → IsReachedAt g l starts dep v q t → IsToList bound arrival t → IsSettledAt f v q t
@@ -92,6 +98,7 @@ pub record IsEnd (l : LabelsMeaning) (targets : List ℕ) (f : Frontier) (s : Se
   pub entry : Reached
   pub known : reached_at f s.node s.state ≡ Some entry
   pub at : s.at ≡ entry.at
+  pub link : IsLink f s.node s.state s.link
   pub target : Contains targets s.node
   pub accepts : IsTrue (l.accepts s.state)
 
@@ -102,9 +109,9 @@ IsExplored g l starts targets dep bound f (Some s) = IsSearched g l starts targe
 
 -- ---- what it lists
 
--- the label of an entry that is settled before the arrival
+-- the label of what is settled before the arrival
 abbrev pub listed_label : Option ℕ → (ℕ × ℕ) × Reached → Option Label
 listed_label arrival e = if (e.1).settled && is_before arrival (e.1).at then Some (label_of e.0.0 e.0.1 (e.1).at) else None
 
-abbrev pub label_of_entry : Option ℕ → Entry → Option Label
-label_of_entry arrival e = listed_label arrival (keyed e)
+abbrev pub label_of_row : Option ℕ → Row → Option Label
+label_of_row arrival r = listed_label arrival (keyed r)

@@ -1,72 +1,102 @@
 -- What is known of the product states, and who waits in the queue.
-use Rattle.std.specs.Prelude.{◌≡◌, ℕ, ◌≤◌, Bool, true, false, not, ◌&&◌, ◌||◌, ◌==◌, suc, ◌<◌, List, map, length, slice_index, slice_get, Option, Some, None, nat_le, if◌then◌else◌, min, ◌-◌, ◌^◌}
+use Rattle.std.specs.Prelude.{◌≡◌, ℕ, ◌≤◌, Bool, true, false, not, ◌&&◌, ◌||◌, ◌==◌, suc, ◌+◌, ◌<◌, List, map, length, slice_index, slice_get, Option, Some, None, nat_le, if◌then◌else◌, min, ◌-◌, ◌^◌}
+use Rattle.std.specs.List.{zip}
 use Rattle.std.specs.Map.{lookup}
 use Rattle.product_search.specs.Queued.{Queued, IsQueue}
 use Rattle.product_search.specs.declared.frontier.Reached.{Reached}
 use Rattle.product_search.specs.declared.frontier.Entry.{Entry}
 use Rattle.product_search.specs.declared.frontier.Settled.{Settled}
 use Rattle.product_search.specs.declared.key.Key.{Key}
+use Rattle.product_search.specs.declared.row.Row.{Row}
 use Rattle.product_search.specs.declared.frontier.Frontier.{Frontier}
 
 -- product states are compared part by part
 abbrev pub state_eq : ℕ × ℕ → ℕ × ℕ → Bool
 state_eq x y = (x.0 == y.0) && (x.1 == y.1)
 
--- ---- entries
+-- ---- rows
 
--- what is known by an entry
-abbrev pub seen : Entry → Reached
-seen e = record { at = e.at; arcs = e.arcs; parent = e.parent; settled = e.settled }
+-- the row of v and q with what is known of it, behind the one that c stands for
+abbrev pub made : ℕ → ℕ → ℕ → Reached → Row
+made v q c x = record { node = v; state = q; next = c; known = x }
 
--- the entry of v and q with what is known of it, behind the one that c stands for
-abbrev pub made : ℕ → ℕ → ℕ → Reached → Entry
-made v q c x = record { node = v; state = q; at = x.at; arcs = x.arcs; parent = x.parent; settled = x.settled; next = c }
+abbrev pub settled_now : Row → Row
+settled_now r = record { node = r.node; state = r.state; next = r.next; known = record r.known { settled = true } }
 
-abbrev pub settled_now : Entry → Entry
-settled_now e = record e { settled = true }
+-- what a key and its entry say
+abbrev pub row_of : Key → Entry → Row
+row_of k e = record { node = e.node; state = k.state; next = k.next; known = record { at = e.at; parent = e.parent; arc = e.arc; settled = k.bar == 0 } }
 
--- an entry as a key and what is known of it
-abbrev pub keyed : Entry → (ℕ × ℕ) × Reached
-keyed e = ((e.node, e.state), seen e)
+abbrev pub row_by : Key × Entry → Row
+row_by p = row_of p.0 p.1
 
-abbrev pub keyed_entries : Frontier → List ((ℕ × ℕ) × Reached)
-keyed_entries f = map keyed f.entries.items
+abbrev pub rows_of : List Key → List Entry → List Row
+rows_of ks es = map row_by (zip ks es)
 
--- what is known of v and q by the first entry that is theirs
-abbrev pub reached_in : List Entry → ℕ → ℕ → Option Reached
-reached_in es v q = lookup (state_eq (v, q)) (map keyed es)
+abbrev pub rows : Frontier → List Row
+rows f = rows_of f.keys.items f.entries.items
+
+-- 0 for what is settled; else a way is better if its time and 1 is less, unless the bar is the greatest number
+abbrev pub bar_of : Reached → ℕ
+bar_of x = if x.settled then 0 else min x.at (2 ^ 64 - 2) + 1
+
+abbrev pub key_of : Row → Key
+key_of r = record { state = r.state; next = r.next; bar = bar_of r.known }
+
+abbrev pub slim : Row → Entry
+slim r = record { node = r.node; parent = r.known.parent; arc = r.known.arc; at = r.known.at }
+
+-- each entry has a key, whose bar is the one that its row asks for
+pub record AreKept (ks : List Key) (es : List Entry) : Type 0 where
+  pub as_long : length ks ≡ length es
+  pub keys : ks ≡ map key_of (rows_of ks es)
+
+-- whether what has that bar and the time u waits for the time t
+abbrev pub is_waiting : ℕ → ℕ → ℕ → Bool
+is_waiting bar u t = if bar == 2 ^ 64 - 1 then u == t else (not (bar == 0) && (bar - 1 == t))
+
+-- ---- product states
+
+-- a row as a key of a map and what is known of it
+abbrev pub keyed : Row → (ℕ × ℕ) × Reached
+keyed r = ((r.node, r.state), r.known)
+
+abbrev pub keyed_rows : Frontier → List ((ℕ × ℕ) × Reached)
+keyed_rows f = map keyed (rows f)
+
+-- what is known of v and q by the first row that is theirs
+abbrev pub reached_in : List Row → ℕ → ℕ → Option Reached
+reached_in rs v q = lookup (state_eq (v, q)) (map keyed rs)
 
 abbrev pub reached_at : Frontier → ℕ → ℕ → Option Reached
-reached_at f v q = reached_in f.entries.items v q
+reached_at f v q = reached_in (rows f) v q
 
--- no way of this time or a later one is better than the entry, unless it is the greatest number
-abbrev pub bar_of : Entry → ℕ
-bar_of e = if e.settled then 0 else min e.at (2 ^ 64 - 1)
+-- the row with that number is the one of v and q
+pub record IsAt (rs : List Row) (v q k : ℕ) : Type 0 where
+  pub row : Row
+  pub known : slice_get rs k ≡ Some row
+  pub node : row.node ≡ v
+  pub state : row.state ≡ q
 
-abbrev pub key_of : Entry → Key
-key_of e = record { state = e.state; next = e.next; bar = bar_of e }
+abbrev pub IsNowhere : List Row → ℕ → ℕ → Type 0
+IsNowhere rs v q = (k : ℕ) → IsAt rs v q k → ⊥
 
-abbrev pub AreKeys : List Key → List Entry → Type 0
-AreKeys ks es = ks ≡ map key_of es
+-- no two rows are of one product state
+abbrev pub IsApart : List Row → Type 0
+IsApart rs = (v q j k : ℕ) → IsAt rs v q j → IsAt rs v q k → j ≡ k
 
--- the entry with that number is the one of v and q
-pub record IsAt (es : List Entry) (v q k : ℕ) : Type 0 where
-  pub entry : Entry
-  pub known : slice_get es k ≡ Some entry
-  pub node : entry.node ≡ v
-  pub state : entry.state ≡ q
+-- c stands for the row of v and q: it is its number and 1
+abbrev pub IsLink : Frontier → ℕ → ℕ → ℕ → Type 0
+IsLink f v q c = (k : ℕ) × (c ≡ suc k) × IsAt (rows f) v q k
 
-abbrev pub IsNowhere : List Entry → ℕ → ℕ → Type 0
-IsNowhere es v q = (k : ℕ) → IsAt es v q k → ⊥
+-- each product state keeps its number
+abbrev pub KeepsNumbers : Frontier → Frontier → Type 0
+KeepsNumbers old new = (v q k : ℕ) → IsAt (rows old) v q k → IsAt (rows new) v q k
 
--- no two entries are of one product state
-abbrev pub IsApart : List Entry → Type 0
-IsApart es = (v q j k : ℕ) → IsAt es v q j → IsAt es v q k → j ≡ k
-
--- c stands for the last entry of the node v below a number: it is its number and 1, or 0
-pub record IsLast (es : List Entry) (v below c : ℕ) : Type 0 where
-  pub none_after : (k : ℕ) (e : Entry) → slice_get es k ≡ Some e → c ≤ k → k < below → e.node ≡ v → ⊥
-  pub there : (k : ℕ) → c ≡ suc k → (k < below) × (e : Entry) × (slice_get es k ≡ Some e) × (e.node ≡ v)
+-- c stands for the last row of the node v below a number: it is its number and 1, or 0
+pub record IsLast (rs : List Row) (v below c : ℕ) : Type 0 where
+  pub none_after : (k : ℕ) (r : Row) → slice_get rs k ≡ Some r → c ≤ k → k < below → r.node ≡ v → ⊥
+  pub there : (k : ℕ) → c ≡ suc k → (k < below) × (r : Row) × (slice_get rs k ≡ Some r) × (r.node ≡ v)
 
 -- no node has an entry
 abbrev pub IsClear : List ℕ → Type 0
@@ -76,16 +106,16 @@ IsClear first = (v : ℕ) → slice_index first v ≡ 0
 abbrev pub IsBehind : List Entry → List ℕ → ℕ → Type 0
 IsBehind es first i = (v k : ℕ) → slice_index first v ≡ suc k → (j : ℕ) × (i ≤ j) × (e : Entry) × (slice_get es j ≡ Some e) × (e.node ≡ v)
 
--- the entries of each node are chained, from the last one to the first
+-- the rows of each node are chained, from the last one to the first
 pub record IsIndexed (f : Frontier) : Type 0 where
-  pub first : (v : ℕ) → IsLast f.entries.items v (length f.entries.items) (slice_index f.first.items v)
-  pub next : (k : ℕ) (e : Entry) → slice_get f.entries.items k ≡ Some e → IsLast f.entries.items e.node k e.next
+  pub first : (v : ℕ) → IsLast (rows f) v (length (rows f)) (slice_index f.first.items v)
+  pub next : (k : ℕ) (r : Row) → slice_get (rows f) k ≡ Some r → IsLast (rows f) r.node k r.next
 
--- the entry with that number waits for the time t
-pub record Waits (es : List Entry) (k t : ℕ) (e : Entry) : Type 0 where
-  pub known : slice_get es k ≡ Some e
-  pub unsettled : e.settled ≡ false
-  pub at : e.at ≡ t
+-- the row with that number waits for the time t
+pub record Waits (rs : List Row) (k t : ℕ) (r : Row) : Type 0 where
+  pub known : slice_get rs k ≡ Some r
+  pub unsettled : r.known.settled ≡ false
+  pub at : r.known.at ≡ t
 
 -- ---- the queue
 
@@ -94,13 +124,14 @@ abbrev pub waits_at : Option Reached → ℕ → Bool
 waits_at None t = false
 waits_at (Some x) t = not x.settled && (x.at == t)
 
--- the queue has each that waits, and the entries are apart and found, each with its key
+-- the queue has each that waits, and the rows are apart and found, each kept in an entry and its key, and few
 pub record IsQueueRight (f : Frontier) : Type 0 where
   pub queue : IsQueue f.queue
-  pub waits : (k t : ℕ) (e : Entry) → Waits f.entries.items k t e → Queued f.queue t k
-  pub apart : IsApart f.entries.items
+  pub waits : (k t : ℕ) (r : Row) → Waits (rows f) k t r → Queued f.queue t k
+  pub apart : IsApart (rows f)
   pub indexed : IsIndexed f
-  pub keys : AreKeys f.keys.items f.entries.items
+  pub kept : AreKept f.keys.items f.entries.items
+  pub few : length f.entries.items < 2 ^ 32
 
 abbrev pub is_same : ℕ → ℕ → ℕ → ℕ → Bool
 is_same v q w r = (v == w) && (q == r)
@@ -110,12 +141,12 @@ abbrev pub offered : Option Reached → Reached → Option Reached
 offered None way = Some way
 offered (Some x) way = if x.settled || nat_le x.at way.at then Some x else Some way
 
-abbrev pub IsOffered : Frontier → Frontier → ℕ → ℕ → Reached → Type 0
-IsOffered old new v q way =
-    (w r : ℕ) → reached_at new w r ≡ (if is_same v q w r then offered (reached_at old w r) way else reached_at old w r)
+pub record IsOffered (old new : Frontier) (v q : ℕ) (way : Reached) : Type 0 where
+  pub known : (w r : ℕ) → reached_at new w r ≡ (if is_same v q w r then offered (reached_at old w r) way else reached_at old w r)
+  pub numbers : KeepsNumbers old new
 
 -- way is known of v and q, and at each other product state what was known
-abbrev pub IsSetAt : List Entry → List Entry → ℕ → ℕ → Reached → Type 0
+abbrev pub IsSetAt : List Row → List Row → ℕ → ℕ → Reached → Type 0
 IsSetAt old new v q way = (w r : ℕ) → reached_in new w r ≡ (if is_same v q w r then Some way else reached_in old w r)
 
 abbrev pub NobodyWaits : Frontier → Type 0
@@ -130,6 +161,7 @@ pub record SettlesLeast (old new : Frontier) (s : Settled) : Type 0 where
   pub waited : reached_at old s.node s.state ≡ Some entry
   pub unsettled : entry.settled ≡ false
   pub at : s.at ≡ entry.at
-  pub arcs : s.arcs ≡ entry.arcs
+  pub link : IsLink new s.node s.state s.link
+  pub numbers : KeepsNumbers old new
   pub least : (w r u : ℕ) → waits_at (reached_at old w r) u ≡ true → s.at ≤ u
   pub changed : (w r : ℕ) → reached_at new w r ≡ (if is_same s.node s.state w r then Some (record entry { settled = true }) else reached_at old w r)

@@ -1,19 +1,21 @@
 //! The arcs out of a settled product state, each offered to the frontier.
 
 ghost use Rattle.std.specs.Prelude.{◌≡◌, ℕ, ◌+◌, ◌<◌, ◌≤◌, ◌^◌, false, None, Some, All, OnOk, IfSome, IsTrue, IsBitSet, ◌↔◌};
-ghost use Rattle.search_laws.specs.LabelLaws.{AllAfter};
+ghost use Rattle.search_laws.specs.LabelLaws.{AllAfter, Follows};
 ghost use Rattle.product_search.specs.Reach.{IsWithin};
 ghost use Rattle.product_search.specs.Waiting.{IsQueueRight};
-ghost use Rattle.product_search.specs.Exploring.{IsReachedBy, IsSettledBy, Offers, LeadsTo, IsByWay, IsByWays, WayIsReached, IsSuccessor, ArcIsReached, AreGivenReached, IsGiven};
+ghost use Rattle.product_search.specs.Exploring.{IsReachedBy, IsSettledBy, Offers, LeadsTo, IsByWay, IsByWays, WayIsReached, IsSuccessor, ArcIsReached, LegIsReached, AreGivenReached, IsGiven, way_by};
 ghost use Rattle.product_search.specs.MoveTables.{IsTableOf};
 
-use crate::frontier::{Frontier, Parent, Reached, Settled};
+use crate::frontier::{Frontier, Reached, Settled};
 use crate::moves::MoveTable;
-use search_laws::{GivenRuns, Graph, GraphArc, Labels, Time, Way};
+use search_laws::{GivenRuns, Graph, GraphArc, Labels, Steady, Time, Way};
 use std::alloc::AllocError;
 
 /// Offers what each arc out of a settled product state leads to within the bound, but for rides as good as those that its
 /// state was given, which are reached already. Notes the runs whose rides it offers. What `ways` holds is lost.
+///
+/// The steady arcs are offered one by one, and the others from a list.
 pub(crate) fn explore<G: Graph, L: Labels>(
     frontier: &mut Frontier,
     given: &mut GivenRuns,
@@ -28,7 +30,6 @@ pub(crate) fn explore<G: Graph, L: Labels>(
     requires node { from.node < (G.meaning graph.now).nodes }
     requires state { from.state < (L.automaton labels.now).states }
     requires time { from.at < 2 ^ 127 }
-    requires arcs { from.arcs + 1 < 2 ^ 64 }
     requires right { IsQueueRight frontier.old }
     requires settled { IsSettledBy frontier.old from.at }
     requires given { AreGivenReached (G.rides graph.now) (L.automaton labels.now) bound frontier.old given.old }
@@ -39,10 +40,153 @@ pub(crate) fn explore<G: Graph, L: Labels>(
         → ArcIsReached (G.meaning graph.now) (L.automaton labels.now) bound frontier.new from.node from.state from.at i) }
     ensures given { OnOk result (AreGivenReached (G.rides graph.now) (L.automaton labels.now) bound frontier.new given.new) }
 {
+    let steady = graph.steady(from.node);
+    explore_steady(frontier, graph, labels, moves, bound, from, steady)?;
     ways.clear();
     let letters = moves.letters_of(from.state);
     graph.fresh_ways(from.node, from.at, letters, from.state, given, ways)?;
     explore_ways(frontier, labels, moves, bound, from, ways)?;
+    Ok(())
+}
+
+/// Offers what the steady arcs of a settled node lead to within the bound, in each state after their letter.
+#[inline(always)]
+fn explore_steady<G: Graph, L: Labels>(
+    frontier: &mut Frontier,
+    graph: &G,
+    labels: &L,
+    moves: &MoveTable,
+    bound: Option<Time>,
+    from: Settled,
+    steady: Steady,
+) -> Result<(), AllocError>
+    requires table { IsTableOf (L.automaton labels.now) moves.now }
+    requires node { from.node < (G.meaning graph.now).nodes }
+    requires state { from.state < (L.automaton labels.now).states }
+    requires time { from.at < 2 ^ 127 }
+    requires count { steady.count ≡ G.steady_arcs graph.now from.node }
+    requires within { steady.count ≤ (G.meaning graph.now).arcs from.node }
+    requires letter { (i : ℕ) → i < steady.count → ((G.meaning graph.now).arc_at from.node i).letter ≡ steady.letter }
+    requires right { IsQueueRight frontier.old }
+    requires settled { IsSettledBy frontier.old from.at }
+    ensures right { OnOk result (IsQueueRight frontier.new) }
+    ensures offers { OnOk result (Offers frontier.old frontier.new
+        (IsSuccessor (G.meaning graph.now) (L.automaton labels.now) bound from)) }
+    ensures reached { OnOk result ((i : ℕ) → i < steady.count
+        → ArcIsReached (G.meaning graph.now) (L.automaton labels.now) bound frontier.new from.node from.state from.at i) }
+{
+    if steady.count == 0 {
+        return Ok(());
+    }
+    match steady.letter {
+        None => {
+            offer_legs(
+                frontier,
+                graph,
+                labels,
+                bound,
+                from,
+                from.state,
+                steady.count,
+            )?;
+        }
+        Some(letter) => {
+            let targets = moves.targets_of(from.state, letter);
+            offer_to_states(frontier, graph, labels, bound, from, targets, steady.count)?;
+        }
+    }
+    Ok(())
+}
+
+/// Offers what the steady arcs of a settled node lead to, in each of some states after their letter.
+#[inline(always)]
+fn offer_to_states<G: Graph, L: Labels>(
+    frontier: &mut Frontier,
+    graph: &G,
+    labels: &L,
+    bound: Option<Time>,
+    from: Settled,
+    states: &[u32],
+    count: u64,
+) -> Result<(), AllocError>
+    requires node { from.node < (G.meaning graph.now).nodes }
+    requires time { from.at < 2 ^ 127 }
+    requires count { count ≡ G.steady_arcs graph.now from.node }
+    requires within { count ≤ (G.meaning graph.now).arcs from.node }
+    requires follow { All (λ next. (i : ℕ) → i < count
+        → Follows (L.automaton labels.now) from.state ((G.meaning graph.now).arc_at from.node i).letter next) states.now }
+    requires right { IsQueueRight frontier.old }
+    requires settled { IsSettledBy frontier.old from.at }
+    ensures right { OnOk result (IsQueueRight frontier.new) }
+    ensures offers { OnOk result (Offers frontier.old frontier.new
+        (IsSuccessor (G.meaning graph.now) (L.automaton labels.now) bound from)) }
+    ensures reached { OnOk result (All (λ next. (i : ℕ) → i < count
+        → LegIsReached (G.meaning graph.now) bound frontier.new from next i) states.now) }
+{
+    for next in states {
+        offer_legs(frontier, graph, labels, bound, from, *next, count)?;
+    }
+    Ok(())
+}
+
+/// Offers what the steady arcs of a settled node lead to, in a state after their letter.
+fn offer_legs<G: Graph, L: Labels>(
+    frontier: &mut Frontier,
+    graph: &G,
+    labels: &L,
+    bound: Option<Time>,
+    from: Settled,
+    next: u32,
+    count: u64,
+) -> Result<(), AllocError>
+    requires node { from.node < (G.meaning graph.now).nodes }
+    requires time { from.at < 2 ^ 127 }
+    requires count { count ≡ G.steady_arcs graph.now from.node }
+    requires within { count ≤ (G.meaning graph.now).arcs from.node }
+    requires follows { (i : ℕ) → i < count
+        → Follows (L.automaton labels.now) from.state ((G.meaning graph.now).arc_at from.node i).letter next }
+    requires right { IsQueueRight frontier.old }
+    requires settled { IsSettledBy frontier.old from.at }
+    ensures right { OnOk result (IsQueueRight frontier.new) }
+    ensures offers { OnOk result (Offers frontier.old frontier.new
+        (IsSuccessor (G.meaning graph.now) (L.automaton labels.now) bound from)) }
+    ensures reached { OnOk result ((i : ℕ) → i < count → LegIsReached (G.meaning graph.now) bound frontier.new from next i) }
+{
+    for i in 0..count {
+        offer_leg(frontier, graph, labels, bound, from, next, i)?;
+    }
+    Ok(())
+}
+
+/// Offers what one steady arc of a settled node leads to, in a state after its letter, if it arrives within the bound.
+#[inline(always)]
+fn offer_leg<G: Graph, L: Labels>(
+    frontier: &mut Frontier,
+    graph: &G,
+    labels: &L,
+    bound: Option<Time>,
+    from: Settled,
+    next: u32,
+    i: u64,
+) -> Result<(), AllocError>
+    requires node { from.node < (G.meaning graph.now).nodes }
+    requires time { from.at < 2 ^ 127 }
+    requires steady { i < G.steady_arcs graph.now from.node }
+    requires arc { i < (G.meaning graph.now).arcs from.node }
+    requires follows { Follows (L.automaton labels.now) from.state ((G.meaning graph.now).arc_at from.node i).letter next }
+    requires right { IsQueueRight frontier.old }
+    requires settled { IsSettledBy frontier.old from.at }
+    ensures right { OnOk result (IsQueueRight frontier.new) }
+    ensures offers { OnOk result (Offers frontier.old frontier.new
+        (IsSuccessor (G.meaning graph.now) (L.automaton labels.now) bound from)) }
+    ensures reached { OnOk result (LegIsReached (G.meaning graph.now) bound frontier.new from next i) }
+{
+    if let Some(leg) = graph.leg(from.node, i) {
+        let at = from.at + Time::from(leg.ms);
+        if is_within(bound, at) {
+            offer_next(frontier, leg.to, next, way_by(from, i, at))?;
+        }
+    }
     Ok(())
 }
 
@@ -57,7 +201,6 @@ fn explore_ways<L: Labels>(
 ) -> Result<(), AllocError>
     requires table { IsTableOf (L.automaton labels.now) moves.now }
     requires state { from.state < (L.automaton labels.now).states }
-    requires arcs { from.arcs + 1 < 2 ^ 64 }
     requires letters { All (λ way. IfSome way.arc.letter (λ c. c < 14)) ways.now }
     requires times { All (λ way. from.at ≤ way.at) ways.now }
     requires right { IsQueueRight frontier.old }
@@ -84,7 +227,6 @@ fn explore_way<L: Labels>(
 ) -> Result<(), AllocError>
     requires table { IsTableOf (L.automaton labels.now) moves.now }
     requires state { from.state < (L.automaton labels.now).states }
-    requires arcs { from.arcs + 1 < 2 ^ 64 }
     requires letter { IfSome way.arc.letter (λ c. c < 14) }
     requires time { from.at ≤ way.at }
     requires right { IsQueueRight frontier.old }
@@ -94,20 +236,23 @@ fn explore_way<L: Labels>(
     ensures reached { OnOk result (WayIsReached (L.automaton labels.now) bound frontier.new from.state way) }
 {
     if is_within(bound, way.at) {
-        let parent = Parent {
-            node: from.node,
-            state: from.state,
-            arc: way.place,
-        };
-        let reached = Reached {
-            at: way.at,
-            arcs: from.arcs + 1,
-            parent: Some(parent),
-            settled: false,
-        };
+        let reached = way_by(from, way.place, way.at);
         offer_states(frontier, labels, moves, way.arc, from.state, reached)?;
     }
     Ok(())
+}
+
+/// The way by an arc of a settled product state, which arrives then.
+#[inline(always)]
+fn way_by(from: Settled, place: u64, at: Time) -> Reached
+    ensures { result ≡ way_by from place at }
+{
+    Reached {
+        at,
+        parent: from.link,
+        arc: place,
+        settled: false,
+    }
 }
 
 /// Whether a time is no later than the bound, if there is one.

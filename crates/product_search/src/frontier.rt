@@ -1,45 +1,37 @@
 //! What a search has reached, and the queue of those product states that it has not settled.
 
-ghost use Rattle.std.specs.Prelude.{◌≡◌, ◌≢◌, ℕ, ◌<◌, ◌^◌, ◌++◌, false, true, None, Some, IfSome, IfNone, IfOk, OnOk, IsTrue, IsFalse, IsPermutation, MatchOption, ◌∷◌, [], slice_get, slice_index, slice_set, ◌+◌, if◌then◌else◌, length};
-ghost use Rattle.product_search.specs.Waiting.{IsQueueRight, IsOffered, SettlesLeast, NobodyWaits, SameReached, reached_at, state_eq, offered, IsSetAt, IsAt, IsNowhere, IsIndexed, IsClear, IsBehind, seen, made, settled_now, Waits, AreKeys};
+ghost use Rattle.std.specs.Prelude.{◌≡◌, ◌≢◌, ℕ, ◌<◌, ◌^◌, ◌++◌, false, true, None, Some, IfSome, IfNone, IfOk, OnOk, IsTrue, IsFalse, MatchOption, ◌∷◌, [], slice_get, slice_index, slice_set, ◌+◌, length};
+ghost use Rattle.product_search.specs.Waiting.{IsQueueRight, IsOffered, SettlesLeast, NobodyWaits, SameReached, KeepsNumbers, rows, rows_of, reached_at, offered, IsAt, IsNowhere, IsClear, IsBehind, settled_now, Waits, AreKept, is_waiting};
 
 use crate::key::Key;
 use crate::queue::Queue;
+use crate::row::Row;
 use crate::workspace::Workspace;
 use search_laws::Time;
 use std::alloc::{AllocError, Global};
-
-/// The product state that another was reached from, and the place of the arc that led there.
-#[derive(Clone, Copy)]
-pub(crate) struct Parent {
-    pub node: u32,
-    pub state: u32,
-    pub arc: u64,
-}
 
 /// What is known of a product state: the best time so far, and how it is reached by then.
 #[derive(Clone, Copy)]
 pub(crate) struct Reached {
     pub at: Time,
-    /// How many arcs lead here from a start.
-    pub arcs: u64,
-    /// None at a start.
-    pub parent: Option<Parent>,
+    /// The number of the entry that it is reached from, and 1; or 0 at a start.
+    pub parent: u32,
+    /// The place of the arc that leads here, among those of the node that it leaves. At a start it says nothing.
+    pub arc: u64,
     /// Whether the time is the least for good.
     pub settled: bool,
 }
 
-/// A product state with what is known of it.
+/// What is kept of a product state besides its key, in 32 bytes.
 #[derive(Clone, Copy)]
 pub(crate) struct Entry {
     pub node: u32,
-    pub state: u32,
-    /// The number of the entry before this one that is of the same node, and 1; or 0.
-    pub next: u32,
-    pub settled: bool,
+    /// The number of the entry that it is reached from, and 1; or 0 at a start.
+    pub parent: u32,
+    /// The place of the arc that leads here, among those of the node that it leaves.
+    pub arc: u64,
+    /// The best time so far.
     pub at: Time,
-    pub arcs: u64,
-    pub parent: Option<Parent>,
 }
 
 /// A product state that was taken from the queue.
@@ -48,7 +40,8 @@ pub(crate) struct Settled {
     pub node: u32,
     pub state: u32,
     pub at: Time,
-    pub arcs: u64,
+    /// The number of its entry, and 1.
+    pub link: u32,
 }
 
 /// The product states that are reached, each with a number, and of each that isn't settled an entry in the queue.
@@ -87,7 +80,7 @@ impl Frontier {
     #[inline(always)]
     fn find(&self, node: u32, state: u32) -> Option<u32>
         requires { IsQueueRight self.now }
-        ensures { MatchOption result (IsNowhere self.now.entries.items node state) (IsAt self.now.entries.items node state) }
+        ensures { MatchOption result (IsNowhere (rows self.now) node state) (IsAt (rows self.now) node state) }
     {
         let mut cursor = self.head(node);
         'chain: while cursor != 0 {
@@ -111,13 +104,13 @@ impl Frontier {
         }
     }
 
-    /// What is known of a product state that is reached.
-    pub fn get(&self, node: u32, state: u32) -> Option<Reached>
-        requires { IsQueueRight self.now }
-        ensures { result ≡ reached_at self.now node state }
+    /// What an entry and its key say.
+    pub fn row(&self, number: u32) -> Row
+        requires right { IsQueueRight self.now }
+        requires there { number < length self.now.entries.items }
+        ensures { slice_get (rows self.now) number ≡ Some result }
     {
-        let number = self.find(node, state)?;
-        Some(known_of(self.entries[number as usize]))
+        Row::of(self.keys[number as usize], self.entries[number as usize])
     }
 
     /// Takes a way to a product state, if it is the first or better than the one that is known.
@@ -138,7 +131,7 @@ impl Frontier {
     #[inline(always)]
     fn add(&mut self, node: u32, state: u32, way: Reached) -> Result<(), AllocError>
         requires right { IsQueueRight self.old }
-        requires nowhere { IsNowhere self.old.entries.items node state }
+        requires nowhere { IsNowhere (rows self.old) node state }
         ensures right { OnOk result (IsQueueRight self.new) }
         ensures offered { OnOk result (IsOffered self.old self.new node state way) }
     {
@@ -148,7 +141,12 @@ impl Frontier {
         push(
             &mut self.entries,
             &mut self.keys,
-            entry_with(node, state, next, way),
+            Row {
+                node,
+                state,
+                next,
+                known: way,
+            },
         )?;
         self.first[node as usize] = number + 1;
         self.queue.push(way.at, number)?;
@@ -165,14 +163,19 @@ impl Frontier {
         way: Reached,
     ) -> Result<(), AllocError>
         requires right { IsQueueRight self.old }
-        requires there { IsAt self.old.entries.items node state number }
+        requires there { IsAt (rows self.old) node state number }
         ensures right { OnOk result (IsQueueRight self.new) }
         ensures offered { OnOk result (IsOffered self.old self.new node state way) }
     {
         if self.is_improved(node, state, number, way) {
             let next = self.keys[number as usize].next;
-            let entry = entry_with(node, state, next, way);
-            write(&mut self.entries, &mut self.keys, number, entry);
+            let row = Row {
+                node,
+                state,
+                next,
+                known: way,
+            };
+            write(&mut self.entries, &mut self.keys, number, row);
             self.queue.push(way.at, number)?;
         }
         Ok(())
@@ -182,15 +185,15 @@ impl Frontier {
     #[inline(always)]
     fn is_improved(&self, node: u32, state: u32, number: u32, way: Reached) -> bool
         requires right { IsQueueRight self.now }
-        requires there { IsAt self.now.entries.items node state number }
+        requires there { IsAt (rows self.now) node state number }
         ensures better { IsTrue result → offered (reached_at self.now node state) way ≡ Some way }
         ensures kept { IsFalse result → offered (reached_at self.now node state) way ≡ reached_at self.now node state }
     {
         let bar = self.keys[number as usize].bar;
         if bar == u64::MAX {
-            is_better(way, self.entries[number as usize])
+            way.at < self.entries[number as usize].at
         } else {
-            way.at < Time::from(bar)
+            way.at < Time::from(bar.saturating_sub(1))
         }
     }
 
@@ -201,14 +204,15 @@ impl Frontier {
         ensures least { IfSome result (λ s. SettlesLeast self.old self.new s) }
         ensures none { IfNone result (NobodyWaits self.old) }
         ensures same { IfNone result (SameReached self.old self.new) }
+        ensures numbers { IfNone result (KeepsNumbers self.old self.new) }
     {
         while let Some((at, number)) = self.queue.pop() {
-            if let Some(entry) = settle(&mut self.entries, &mut self.keys, number, at) {
+            if let Some(row) = settle(&self.entries, &mut self.keys, number, at) {
                 return Some(Settled {
-                    node: entry.node,
-                    state: entry.state,
+                    node: row.node,
+                    state: row.state,
                     at,
-                    arcs: entry.arcs,
+                    link: number + 1,
                 });
             }
         }
@@ -261,84 +265,61 @@ fn grow(first: &mut Vec<u32>, node: u32) -> Result<(), AllocError>
     Ok(())
 }
 
-/// What is known by an entry.
-fn known_of(entry: Entry) -> Reached
-    ensures { result ≡ seen entry }
-{
-    Reached {
-        at: entry.at,
-        arcs: entry.arcs,
-        parent: entry.parent,
-        settled: entry.settled,
-    }
-}
-
-/// The entry of a product state with what is known of it.
-fn entry_with(node: u32, state: u32, next: u32, way: Reached) -> Entry
-    ensures { result ≡ made node state next way }
-{
-    Entry {
-        node,
-        state,
-        at: way.at,
-        arcs: way.arcs,
-        parent: way.parent,
-        settled: way.settled,
-        next,
-    }
-}
-
-/// Whether a way is better than one that is known and not settled.
-fn is_better(way: Reached, known: Entry) -> bool
-    ensures better { IsTrue result → offered (Some (seen known)) way ≡ Some way }
-    ensures kept { IsFalse result → offered (Some (seen known)) way ≡ Some (seen known) }
-{
-    !known.settled && way.at < known.at
-}
-
 /// Puts an entry and its key behind the others.
-fn push(entries: &mut Vec<Entry>, keys: &mut Vec<Key>, entry: Entry) -> Result<(), AllocError>
-    requires { AreKeys keys.old.items entries.old.items }
-    ensures keys { OnOk result (AreKeys keys.new.items entries.new.items) }
-    ensures entries { OnOk result (entries.new.items ≡ entries.old.items ++ entry ∷ []) }
+fn push(entries: &mut Vec<Entry>, keys: &mut Vec<Key>, row: Row) -> Result<(), AllocError>
+    requires { AreKept keys.old.items entries.old.items }
+    ensures kept { OnOk result (AreKept keys.new.items entries.new.items) }
+    ensures rows { OnOk result (rows_of keys.new.items entries.new.items ≡ rows_of keys.old.items entries.old.items ++ row ∷ []) }
+    ensures entries { OnOk result (length entries.new.items ≡ length entries.old.items + 1) }
 {
-    keys.push(Key::of(entry))?;
-    entries.push(entry)?;
+    keys.push(Key::of(row))?;
+    entries.push(row.entry())?;
     Ok(())
 }
 
 /// Writes an entry and its key.
-fn write(entries: &mut Vec<Entry>, keys: &mut Vec<Key>, number: u32, entry: Entry)
-    requires keys { AreKeys keys.old.items entries.old.items }
+fn write(entries: &mut Vec<Entry>, keys: &mut Vec<Key>, number: u32, row: Row)
+    requires kept { AreKept keys.old.items entries.old.items }
     requires there { number < length entries.old.items }
-    ensures keys { AreKeys keys.new.items entries.new.items }
-    ensures entries { entries.new.items ≡ slice_set entries.old.items number entry }
+    ensures kept { AreKept keys.new.items entries.new.items }
+    ensures rows { rows_of keys.new.items entries.new.items ≡ slice_set (rows_of keys.old.items entries.old.items) number row }
+    ensures entries { length entries.new.items ≡ length entries.old.items }
 {
-    entries[number as usize] = entry;
-    keys[number as usize] = Key::of(entry);
+    entries[number as usize] = row.entry();
+    keys[number as usize] = Key::of(row);
 }
 
-/// Marks a product state as settled, if it waits for that time, and answers its entry as it was.
-fn settle(entries: &mut Vec<Entry>, keys: &mut Vec<Key>, number: u32, at: Time) -> Option<Entry>
-    requires { AreKeys keys.old.items entries.old.items }
-    ensures keys { AreKeys keys.new.items entries.new.items }
-    ensures known { IfSome result (λ e. Waits entries.old.items number at e) }
-    ensures settled { IfSome result (λ e. entries.new.items ≡ slice_set entries.old.items number (settled_now e)) }
-    ensures stale { IfNone result ((e : _) → Waits entries.old.items number at e → ⊥) }
-    ensures same { IfNone result (entries.new.items ≡ entries.old.items) }
+/// Marks a product state as settled, if it waits for that time, and answers its row as it was.
+fn settle(entries: &[Entry], keys: &mut Vec<Key>, number: u32, at: Time) -> Option<Row>
+    requires { AreKept keys.old.items entries.now }
+    ensures kept { AreKept keys.new.items entries.now }
+    ensures known { IfSome result (λ r. Waits (rows_of keys.old.items entries.now) number at r) }
+    ensures settled { IfSome result (λ r. rows_of keys.new.items entries.now
+        ≡ slice_set (rows_of keys.old.items entries.now) number (settled_now r)) }
+    ensures stale { IfNone result ((r : _) → Waits (rows_of keys.old.items entries.now) number at r → ⊥) }
+    ensures same { IfNone result (keys.new.items ≡ keys.old.items) }
 {
     let place = number as usize;
     if place >= entries.len() {
         return None;
     }
-    let entry = entries[place];
-    if entry.settled || entry.at != at {
+    let key = keys[place];
+    if !waits_for(key.bar, entries, number, at) {
         return None;
     }
-    let settled = Entry {
-        settled: true,
-        ..entry
-    };
-    write(entries, keys, number, settled);
-    Some(entry)
+    let entry = entries[place];
+    keys[place] = Key { bar: 0, ..key };
+    Some(Row::of(key, entry))
+}
+
+/// Whether the entry with that number and that bar waits for a time. It is read only where its bar doesn't tell.
+fn waits_for(bar: u64, entries: &[Entry], number: u32, at: Time) -> bool
+    requires { number < length entries.now }
+    ensures { (e : _) → slice_get entries.now number ≡ Some e → result ≡ is_waiting bar e.at at }
+{
+    if bar == u64::MAX {
+        entries[number as usize].at == at
+    } else {
+        bar != 0 && Time::from(bar - 1) == at
+    }
 }

@@ -1,43 +1,44 @@
-//! What an offer compares of an entry, in few bytes.
+//! What an offer compares of a product state, in few bytes.
 
 ghost use Rattle.std.specs.Prelude.{◌≡◌};
 ghost use Rattle.product_search.specs.Waiting.{bar_of, key_of};
 
-use crate::frontier::Entry;
+use crate::frontier::Reached;
+use crate::row::Row;
 use search_laws::Time;
 
-/// Of an entry its state, the link of its chain, and a bar.
+/// Of a product state its state, the link of its chain, and a bar, in 16 bytes.
 #[derive(Clone, Copy)]
 pub(crate) struct Key {
     pub state: u32,
     /// The number of the entry before it that is of the same node, and 1; or 0.
     pub next: u32,
-    /// No way of this time or a later one is better than the entry: 0 if it is settled, else its time.
+    /// 0 if it is settled, else its time and 1. A way is better if its time and 1 is less.
     ///
-    /// At the greatest number, where the time may not fit, the entry itself has to be asked.
+    /// At the greatest number, where that may not fit, the time of the entry has to be asked.
     pub bar: u64,
 }
 
 impl Key {
-    /// The key of an entry.
-    pub fn of(entry: Entry) -> Key
-        ensures { result ≡ key_of entry }
+    /// The key of a product state.
+    pub fn of(row: Row) -> Key
+        ensures { result ≡ key_of row }
     {
         Key {
-            state: entry.state,
-            next: entry.next,
-            bar: bar(entry),
+            state: row.state,
+            next: row.next,
+            bar: bar(row.known),
         }
     }
 }
 
-/// The time from which on no way is better than an entry, as far as 64 bits tell it.
-fn bar(entry: Entry) -> u64
-    ensures { result ≡ bar_of entry }
+/// 0 for what is settled, else its time and 1, as far as 64 bits tell it.
+fn bar(known: Reached) -> u64
+    ensures { result ≡ bar_of known }
 {
-    if entry.settled {
+    if known.settled {
         0
     } else {
-        entry.at.min(Time::from(u64::MAX)) as u64
+        known.at.min(Time::from(u64::MAX - 1)) as u64 + 1
     }
 }

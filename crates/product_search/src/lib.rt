@@ -15,6 +15,7 @@ mod moves;
 mod order_check;
 mod queue;
 mod retrace;
+mod row;
 mod searching;
 mod settling;
 mod start;

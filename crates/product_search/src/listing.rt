@@ -1,12 +1,14 @@
 //! The settled product states as a list of labels.
 
-ghost use Rattle.std.specs.Prelude.{◌≡◌, ◌↔◌, All, Some, IfOk, filter_map, IsSorted, IsPermutation, IsTrue};
+ghost use Rattle.std.specs.Prelude.{◌≡◌, ◌↔◌, All, Some, IfOk, filter_map, IsSorted, IsPermutation, IsTrue, OnOk, ◌++◌, option_to_list};
 ghost use Rattle.product_search.specs.Listed.{label_order};
 ghost use Rattle.product_search.specs.Reach.{IsBefore, is_before};
-ghost use Rattle.product_search.specs.Searching.{label_of_entry};
+ghost use Rattle.product_search.specs.Searching.{label_of_row};
+ghost use Rattle.product_search.specs.Waiting.{rows};
 
-use crate::frontier::{Entry, Frontier};
+use crate::frontier::Frontier;
 use crate::label::Label;
+use crate::row::Row;
 use search_laws::Time;
 use std::alloc::{AllocError, Global};
 
@@ -17,7 +19,7 @@ pub(crate) fn list_labels(
     arrival: Option<Time>,
 ) -> Result<Vec<Label>, AllocError>
     ensures sorted { IfOk result (λ v. IsSorted label_order v.items) }
-    ensures labels { IfOk result (λ v. IsPermutation (filter_map (label_of_entry arrival) frontier.now.entries.items) v.items) }
+    ensures labels { IfOk result (λ v. IsPermutation (filter_map (label_of_row arrival) (rows frontier.now)) v.items) }
 {
     let mut list = settled_labels(alloc, frontier, arrival)?;
     list.sort_unstable();
@@ -30,24 +32,34 @@ fn settled_labels(
     frontier: &Frontier,
     arrival: Option<Time>,
 ) -> Result<Vec<Label>, AllocError>
-    ensures labels { IfOk result (λ v. v.items ≡ filter_map (label_of_entry arrival) frontier.now.entries.items) }
+    ensures labels { IfOk result (λ v. v.items ≡ filter_map (label_of_row arrival) (rows frontier.now)) }
 {
-    frontier
-        .entries
-        .iter()
-        .filter_map(|entry| label_before(arrival, *entry))
-        .collect(alloc)
+    let mut list = Vec::new(alloc);
+    'rows: for (key, entry) in frontier.keys.iter().zip(frontier.entries.iter()) {
+        push_some(&mut list, label_before(arrival, Row::of(*key, *entry)))?;
+    }
+    Ok(list)
+}
+
+/// Puts a label behind the others, if there is one.
+fn push_some(list: &mut Vec<Label>, label: Option<Label>) -> Result<(), AllocError>
+    ensures { OnOk result (list.new.items ≡ list.old.items ++ option_to_list label) }
+{
+    if let Some(label) = label {
+        list.push(label)?;
+    }
+    Ok(())
 }
 
 /// The label of a product state, if that is settled before the arrival.
-fn label_before(arrival: Option<Time>, entry: Entry) -> Option<Label>
-    ensures { result ≡ label_of_entry arrival entry }
+fn label_before(arrival: Option<Time>, row: Row) -> Option<Label>
+    ensures { result ≡ label_of_row arrival row }
 {
-    if entry.settled && is_before(arrival, entry.at) {
+    if row.known.settled && is_before(arrival, row.known.at) {
         Some(Label {
-            node: entry.node,
-            state: entry.state,
-            at: entry.at,
+            node: row.node,
+            state: row.state,
+            at: row.known.at,
         })
     } else {
         None

@@ -69,8 +69,8 @@ fn offer_start_state<L: Labels>(
     if labels.is_start(state) {
         let way = Reached {
             at: dep,
-            arcs: 0,
-            parent: None,
+            parent: 0,
+            arc: 0,
             settled: false,
         };
         frontier.offer(node, state, way)?;

@@ -3,7 +3,7 @@
 ghost use Rattle.std.specs.Prelude.{◌≡◌, ◌<◌, ◌≤◌, ◌^◌};
 ghost use Rattle.search_cases.specs.Towns.{drawn, letter_drawn, timed, town, rules, town_lawful, rules_lawful};
 
-use search_laws::{Graph, GraphArc, Labels, Move, Time};
+use search_laws::{Graph, GraphArc, Labels, Leg, Move, Steady, Time};
 
 /// A number below `below` that looks random.
 fn draw(seed: u32, v: u32, i: u32, salt: u32, below: u32) -> u32
@@ -65,6 +65,19 @@ impl Graph for Town {
         } else {
             Some((t + (every - 1)) / every * every + ms)
         }
+    }
+
+    ghost steady_arcs = { λ _ _. 0 };
+
+    fn steady(&self, _v: u32) -> Steady {
+        Steady {
+            count: 0,
+            letter: None,
+        }
+    }
+
+    fn leg(&self, _v: u32, _i: u64) -> Option<Leg> {
+        None
     }
 }
 

@@ -1,5 +1,5 @@
 -- Laws of the lists of arcs that can be taken.
-use Rattle.std.proofs.Common.{◌≡◌, ℕ, ◌+◌, ◌<◌, ◌≤◌, Bool, true, false, cond, nat_eq, List, [], ◌∷◌, ◌++◌, Some, None, zero, suc, refl, sym, ◌∙◌, ap, subst, append_assoc, append-nil, arith}
+use Rattle.std.proofs.Common.{◌≡◌, ℕ, ◌+◌, ◌-◌, ◌<◌, ◌≤◌, Bool, true, false, cond, nat_eq, List, [], ◌∷◌, ◌++◌, Some, None, zero, suc, refl, sym, ◌∙◌, ap, subst, append_assoc, append-nil, arith}
 use Rattle.std.specs.List.{flat_map, range_with_len}
 use Rattle.std.proofs.lemmas.Grind.{flat_map-append}
 use Rattle.std.proofs.lemmas.Bool.{eqb-true, eqb-false}
@@ -8,7 +8,7 @@ use Rattle.search_laws.specs.GraphLaws.{GraphMeaning, HasArc}
 use Rattle.search_laws.specs.declared.graph.Way.{Way}
 use Rattle.std.specs.Prelude.{Option, All, Contains}
 use Rattle.search_laws.specs.declared.graph.GraphArc.{GraphArc}
-use Rattle.search_laws.specs.Ways.{is_open, way_if, open_way, way_at, ways_from, ways_of, IsWay}
+use Rattle.search_laws.specs.Ways.{is_open, way_if, open_way, way_at, ways_from, ways_of, ways_past, IsWay}
 
 pub range_more : (i m n : ℕ) → range_with_len i (m + n) ≡ range_with_len i m ++ range_with_len (i + m) n
 range_more i zero n =
@@ -31,16 +31,18 @@ pub ways_more : (g : GraphMeaning) (v t letters i m : ℕ) → ways_from g v t l
 ways_more g v t letters i m = ways_split g v t letters i m 1 ∙ ap (λ (xs : List Way). ways_from g v t letters i m ++ xs) (append-nil (way_at g v t letters (i + m)))
 
 -- one place more, as it is pushed
-pub ways_pushed : (g : GraphMeaning) (v t letters i : ℕ) (before now next : List Way) (arc : GraphArc) (at : Option ℕ)
-    → now ≡ before ++ ways_from g v t letters 0 i → arc ≡ g.arc_at v i → at ≡ g.arrive v i t → next ≡ now ++ open_way letters i arc at
-    → next ≡ before ++ ways_from g v t letters 0 (i + 1)
-ways_pushed g v t letters i before now next arc at first is arrives push =
-    let here : 0 + i ≡ i = omega arith in
-    let same : open_way letters i arc at ≡ way_at g v t letters (0 + i) = rw (here, is, arrives) refl in
-    push ∙ ap (λ (xs : List Way). xs ++ open_way letters i arc at) first
-    ∙ append_assoc before (ways_from g v t letters 0 i) (open_way letters i arc at)
-    ∙ ap (λ (xs : List Way). before ++ (ways_from g v t letters 0 i ++ xs)) same
-    ∙ ap (λ (xs : List Way). before ++ xs) (sym (ways_more g v t letters 0 i))
+pub ways_pushed : (g : GraphMeaning) (v t letters first i : ℕ) (before now next : List Way) (arc : GraphArc) (at : Option ℕ) → first ≤ i
+    → now ≡ before ++ ways_from g v t letters first (i - first) → arc ≡ g.arc_at v i → at ≡ g.arrive v i t → next ≡ now ++ open_way letters i arc at
+    → next ≡ before ++ ways_from g v t letters first (i + 1 - first)
+ways_pushed g v t letters first i before now next arc at from was is arrives push =
+    let here : first + (i - first) ≡ i = omega (arith, from) in
+    let more : i - first + 1 ≡ i + 1 - first = omega (arith, from) in
+    let same : open_way letters i arc at ≡ way_at g v t letters (first + (i - first)) = rw (here, is, arrives) refl in
+    push ∙ ap (λ (xs : List Way). xs ++ open_way letters i arc at) was
+    ∙ append_assoc before (ways_from g v t letters first (i - first)) (open_way letters i arc at)
+    ∙ ap (λ (xs : List Way). before ++ (ways_from g v t letters first (i - first) ++ xs)) same
+    ∙ ap (λ (xs : List Way). before ++ xs) (sym (ways_more g v t letters first (i - first)))
+    ∙ ap (λ n. before ++ ways_from g v t letters first n) more
 
 -- each of them is an arc of its node
 way_is : (g : GraphMeaning) (v t letters i : ℕ) → HasArc g v i → All (IsWay g v t) (way_at g v t letters i)
@@ -61,8 +63,8 @@ ways_between_are g v t letters i (suc n) node within =
     (way_is g v t letters i (record { node = node; arc = omega arith }))
     (ways_between_are g v t letters (i + 1) n node (omega arith))
 
-pub ways_are : (g : GraphMeaning) (v t letters : ℕ) → v < g.nodes → All (IsWay g v t) (ways_of g v t letters)
-ways_are g v t letters node = ways_between_are g v t letters 0 (g.arcs v) node (omega arith)
+pub ways_are : (g : GraphMeaning) (v t letters first : ℕ) → v < g.nodes → first ≤ g.arcs v → All (IsWay g v t) (ways_past g v t letters first)
+ways_are g v t letters first node within = ways_between_are g v t letters first (g.arcs v - first) node (omega (arith, within))
 
 -- each arc that arrives is among them, if its letter is in the set
 way_there : (g : GraphMeaning) (v t letters i at : ℕ) → g.arrive v i t ≡ Some at → is_open letters (g.arc_at v i).letter ≡ true
@@ -87,6 +89,12 @@ between_there g v t letters j at i (suc n) arrives opens from within = by_place 
         Contains-append_right (way_at g v t letters i) (ways_from g v t letters (i + 1) n) way
         (later (omega (arith, apart, from)))
 
-pub ways_there : (g : GraphMeaning) (v t letters i at : ℕ) → i < g.arcs v → g.arrive v i t ≡ Some at → is_open letters (g.arc_at v i).letter ≡ true
-    → Contains (ways_of g v t letters) (record { place = i; arc = g.arc_at v i; at = at })
-ways_there g v t letters i at within arrives opens = between_there g v t letters i at 0 (g.arcs v) arrives opens (omega arith) (omega arith)
+pub ways_there : (g : GraphMeaning) (v t letters first i at : ℕ) → first ≤ i → i < g.arcs v → g.arrive v i t ≡ Some at → is_open letters (g.arc_at v i).letter ≡ true
+    → Contains (ways_past g v t letters first) (record { place = i; arc = g.arc_at v i; at = at })
+ways_there g v t letters first i at from within arrives opens = between_there g v t letters i at first (g.arcs v - first) arrives opens from (omega (arith, from, within))
+
+-- where no arc is steady, those past the steady ones are all
+pub past_none : (g : GraphMeaning) (v t letters : ℕ) → ways_past g v t letters 0 ≡ ways_of g v t letters
+past_none g v t letters =
+    let all : g.arcs v - 0 ≡ g.arcs v = omega arith in
+    ap (ways_from g v t letters 0) all

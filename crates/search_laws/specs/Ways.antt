@@ -1,9 +1,10 @@
 -- The arcs of a node that can be taken at a time, by a letter of a set or by none.
-use Rattle.std.specs.Prelude.{◌≡◌, ℕ, ◌^◌, ◌==◌, Bool, true, not, List, [], ◌∷◌, Option, Some, None, if◌then◌else◌}
+use Rattle.std.specs.Prelude.{◌≡◌, ℕ, ◌+◌, ◌-◌, ◌^◌, ◌==◌, Bool, true, not, List, [], ◌∷◌, Option, Some, None, if◌then◌else◌}
 use Rattle.std.specs.List.{flat_map, range_with_len}
 use Rattle.std.specs.Int.Bits.{bit_and}
 use Rattle.search_laws.specs.GraphLaws.{GraphMeaning, HasArc}
 use Rattle.search_laws.specs.declared.graph.GraphArc.{GraphArc}
+use Rattle.search_laws.specs.declared.graph.Leg.{Leg}
 use Rattle.search_laws.specs.declared.graph.Way.{Way}
 
 -- the letter is in the set, of which it is a bit, or there is none
@@ -31,8 +32,17 @@ ways_from g v t letters i n = flat_map (way_at g v t letters) (range_with_len i 
 abbrev pub ways_of : GraphMeaning → ℕ → ℕ → ℕ → List Way
 ways_of g v t letters = ways_from g v t letters 0 (g.arcs v)
 
+-- those of the places of v from one on, in order
+abbrev pub ways_past : GraphMeaning → ℕ → ℕ → ℕ → ℕ → List Way
+ways_past g v t letters i = ways_from g v t letters i (g.arcs v - i)
+
 -- the way is the arc at its place of v, and arrives then if it is taken at t
 pub record IsWay (g : GraphMeaning) (v t : ℕ) (way : Way) : Type 0 where
   pub has : HasArc g v way.place
   pub is : way.arc ≡ g.arc_at v way.place
   pub arrives : g.arrive v way.place t ≡ Some way.at
+
+-- the leg tells where the arc at place i of v leads, and how long it takes, whenever it is taken
+pub record IsLeg (g : GraphMeaning) (v i : ℕ) (leg : Leg) : Type 0 where
+  pub to : leg.to ≡ (g.arc_at v i).to
+  pub time : (t : ℕ) → g.arrive v i t ≡ Some (t + leg.ms)

@@ -1,8 +1,8 @@
 //! Time-dependent graphs that never let a later start arrive earlier.
 
-ghost use Rattle.std.specs.Prelude.{◌≡◌, ◌<◌, ◌^◌, ◌++◌, [], OnOk, IfSome};
+ghost use Rattle.std.specs.Prelude.{◌≡◌, ℕ, ◌<◌, ◌≤◌, ◌^◌, ◌++◌, [], OnOk, IfSome, IfNone};
 ghost use Rattle.search_laws.specs.GraphLaws.{GraphMeaning, IsLawfulGraph};
-ghost use Rattle.search_laws.specs.Ways.{is_open, open_way, ways_of};
+ghost use Rattle.search_laws.specs.Ways.{IsLeg, is_open, open_way, ways_past};
 ghost use Rattle.search_laws.specs.Fresh.{RunRides, AddsFresh};
 
 use crate::Time;
@@ -16,6 +16,21 @@ use std::alloc::AllocError;
 pub struct GraphArc {
     pub to: u32,
     pub letter: Option<u8>,
+}
+
+/// The steady arcs of a node: those at its first places, as many as these, which have one letter, or none, and take as long
+/// whenever they are taken.
+#[derive(Clone, Copy)]
+pub struct Steady {
+    pub count: u64,
+    pub letter: Option<u8>,
+}
+
+/// Where a steady arc leads, and how long it takes, in milliseconds.
+#[derive(Clone, Copy)]
+pub struct Leg {
+    pub to: u32,
+    pub ms: u64,
 }
 
 /// An arc that can be taken at some time: its place among those of its node, the arc, and when it arrives.
@@ -86,25 +101,30 @@ pub trait Graph {
         requires time { t < 2 ^ 127 }
         ensures { result ≡ (meaning self.now).arrive v i t };
 
-    /// Appends the arcs of `v` that arrive if they are taken at `t`, by a letter of the set or by none, in order.
-    ///
-    /// Letter c is in the set where bit c of `letters` is 1. Fails where memory runs out.
-    fn ways(&self, v: u32, t: Time, letters: u32, ways: &mut Vec<Way>) -> Result<(), AllocError>
-        requires node { v < (meaning self.now).nodes }
-        requires time { t < 2 ^ 127 }
-        ensures { OnOk result (ways.new.items ≡ ways.old.items ++ ways_of (meaning self.now) v t letters) }
-    {
-        for i in 0..self.arcs(v) {
-            push_way(ways, letters, i, self.arc_at(v, i), self.arrive(v, i, t))?;
-        }
-        Ok(())
-    }
+    /// How many of the arcs of a node are steady.
+    ghost steady_arcs: { Self → ℕ → ℕ };
+
+    /// The steady arcs of the node `v`, which a search takes one by one. A graph may call none so.
+    fn steady(&self, v: u32) -> Steady
+        requires { v < (meaning self.now).nodes }
+        ensures count { result.count ≡ steady_arcs self.now v }
+        ensures within { result.count ≤ (meaning self.now).arcs v }
+        ensures letter { (i : ℕ) → i < result.count → ((meaning self.now).arc_at v i).letter ≡ result.letter };
+
+    /// The arc at place `i` of those that leave the node `v`, if it is steady; None exactly where `i` is past the steady ones.
+    fn leg(&self, v: u32, i: u64) -> Option<Leg>
+        requires { v < (meaning self.now).nodes }
+        ensures some { IfSome result (IsLeg (meaning self.now) v i) }
+        ensures none { IfNone result (steady_arcs self.now v ≤ i) };
 
     /// The rides of a trip on a day to the calls behind one, wherever they stand. A graph may have none.
     ghost rides: { Self → RunRides } = { λ _ _ _ _. [] };
 
-    /// Appends what [`ways`](Self::ways) does, for a search that has come to `v` in this state of its automaton; but it may
-    /// leave out rides where the state was given rides as good, and it notes the runs whose rides it appends.
+    /// Appends the arcs of `v` but its steady ones that arrive if they are taken at `t`, by a letter of the set or by none, in
+    /// order, for a search that has come to `v` in this state of its automaton. It may leave out rides where the state was given
+    /// rides as good, and it notes the runs whose rides it appends.
+    ///
+    /// Letter c is in the set where bit c of `letters` is 1. Fails where memory runs out.
     fn fresh_ways(
         &self,
         v: u32,
@@ -116,10 +136,13 @@ pub trait Graph {
     ) -> Result<(), AllocError>
         requires node { v < (meaning self.now).nodes }
         requires time { t < 2 ^ 127 }
-        ensures { OnOk result (AddsFresh (rides self.now) state given.old given.new (ways_of (meaning self.now) v t letters) ways.old.items ways.new.items) }
+        ensures { OnOk result (AddsFresh (rides self.now) state given.old given.new
+            (ways_past (meaning self.now) v t letters (steady_arcs self.now v)) ways.old.items ways.new.items) }
     {
         let _ = (state, given.cells.len());
-        self.ways(v, t, letters, ways)?;
+        for i in self.steady(v).count..self.arcs(v) {
+            push_way(ways, letters, i, self.arc_at(v, i), self.arrive(v, i, t))?;
+        }
         Ok(())
     }
 

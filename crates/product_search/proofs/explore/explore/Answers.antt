@@ -1,19 +1,19 @@
-use Rattle.std.proofs.Common.{sym, subst}
+use Rattle.std.proofs.Common.{sym, subst, arith}
 use Rattle.product_search.specs.MoveTables.{HasLetters}
 use Rattle.product_search.specs.Exploring.{IsByWays, IsSuccessor}
-use Rattle.product_search.proofs.OfferLemmas.{offers_weaker}
+use Rattle.product_search.proofs.OfferLemmas.{arc_keeps, offers_more, offers_weaker}
 use Rattle.product_search.proofs.GivenLemmas.{fresh_alone, given_keeps, given_more}
 use Rattle.product_search.proofs.TakenLemmas.{ways_letters, ways_times, by_ways, arcs_reached}
 use Rattle.product_search.proofs.explore.explore.Goals as goal
 
 pub explore_ways-requires-clause-letters : goal.explore_ways-requires-clause-letters
 explore_ways-requires-clause-letters g c =
-    ways_letters (g.G.Graph.meaning c.args.graph.now) (g.L.Labels.automaton c.args.labels.now) c.args.bound c.args.from _ _
+    ways_letters (g.G.Graph.meaning c.args.graph.now) (g.L.Labels.automaton c.args.labels.now) c.args.bound c.args.from _ _ (omega arith) _
     (fresh_alone c.in_ok-fresh_ways.ensures c.clear.ensures.items c.deref.ensures.value).are (g.met.G.Graph.lawful c.args.graph.now) c.requires.node
 
 pub explore_ways-requires-clause-times : goal.explore_ways-requires-clause-times
 explore_ways-requires-clause-times g c =
-    ways_times (g.G.Graph.meaning c.args.graph.now) (g.L.Labels.automaton c.args.labels.now) c.args.bound c.args.from _ _
+    ways_times (g.G.Graph.meaning c.args.graph.now) (g.L.Labels.automaton c.args.labels.now) c.args.bound c.args.from _ _ (omega arith) _
     (fresh_alone c.in_ok-fresh_ways.ensures c.clear.ensures.items c.deref.ensures.value).are (g.met.G.Graph.lawful c.args.graph.now) c.requires.node
 
 pub returns-clause-offers : goal.returns-clause-offers
@@ -21,8 +21,11 @@ returns-clause-offers g c =
     let graph = g.G.Graph.meaning c.args.graph.now in
     let labels = g.L.Labels.automaton c.args.labels.now in
     let s = c.args.from in
-    offers_weaker c.args.frontier.now c.explore_ways.new.frontier (IsByWays labels c.args.bound s c.deref.result.now) (IsSuccessor graph labels c.args.bound s)
-    (by_ways graph labels c.args.bound s _ _ (fresh_alone c.in_ok-fresh_ways.ensures c.clear.ensures.items c.deref.ensures.value).are c.requires.node) c.in_ok-explore_ways.ensures.offers
+    let successor = IsSuccessor graph labels c.args.bound s in
+    offers_more c.args.frontier.now c.explore_steady.new.frontier c.explore_ways.new.frontier successor c.in_ok-explore_steady.ensures.offers
+    (offers_weaker c.explore_steady.new.frontier c.explore_ways.new.frontier (IsByWays labels c.args.bound s c.deref.result.now) successor
+    (by_ways graph labels c.args.bound s _ _ (omega arith) _ (fresh_alone c.in_ok-fresh_ways.ensures c.clear.ensures.items c.deref.ensures.value).are c.requires.node)
+    c.in_ok-explore_ways.ensures.offers)
 
 pub returns-clause-reached : goal.returns-clause-reached
 returns-clause-reached g c =
@@ -31,10 +34,12 @@ returns-clause-reached g c =
     let s = c.args.from in
     arcs_reached graph labels c.args.bound s _ c.explore_ways.new.frontier
     (subst (HasLetters labels s.state) (sym c.letters_of-letters.ensures) (c.requires.table.letters.are s.state c.requires.state))
-    _ _ _ (fresh_alone c.in_ok-fresh_ways.ensures c.clear.ensures.items c.deref.ensures.value).rest
+    _ _ _ _ (fresh_alone c.in_ok-fresh_ways.ensures c.clear.ensures.items c.deref.ensures.value).rest
     (given_keeps labels c.args.bound (g.G.Graph.rides c.args.graph.now) c.args.frontier.now c.explore_ways.new.frontier c.args.given.now
-    (IsByWays labels c.args.bound s c.deref.result.now) c.in_ok-explore_ways.ensures.offers c.requires.given)
+    (IsSuccessor graph labels c.args.bound s) (returns-clause-offers g c) c.requires.given)
     c.in_ok-explore_ways.ensures.reached
+    (λ i lt. arc_keeps graph labels c.args.bound c.explore_steady.new.frontier c.explore_ways.new.frontier (IsByWays labels c.args.bound s c.deref.result.now)
+    c.in_ok-explore_ways.ensures.offers s.node s.state s.at i (c.in_ok-explore_steady.ensures.reached i (omega arith)))
 
 pub returns-clause-given : goal.returns-clause-given
 returns-clause-given g c =
@@ -42,4 +47,4 @@ returns-clause-given g c =
     let s = c.args.from in
     given_more labels c.args.bound _ c.explore_ways.new.frontier (fresh_alone c.in_ok-fresh_ways.ensures c.clear.ensures.items c.deref.ensures.value) c.in_ok-explore_ways.ensures.reached
     (given_keeps labels c.args.bound (g.G.Graph.rides c.args.graph.now) c.args.frontier.now c.explore_ways.new.frontier c.args.given.now
-    (IsByWays labels c.args.bound s c.deref.result.now) c.in_ok-explore_ways.ensures.offers c.requires.given)
+    (IsSuccessor (g.G.Graph.meaning c.args.graph.now) labels c.args.bound s) (returns-clause-offers g c) c.requires.given)

@@ -1,16 +1,35 @@
-use Rattle.std.proofs.Common.{◌≡◌, Some, sym, ◌∙◌, ap, arith}
-use Rattle.std.specs.Option.{is_some}
-use Rattle.product_search.specs.declared.frontier.Reached.{Reached}
+use Rattle.std.proofs.Common.{◌-◌, refl, arith}
+use Rattle.product_search.proofs.TrailLemmas.{back_init, back_next, trail_next, back_ends, parent_link, link_within}
 use Rattle.product_search.proofs.retrace.retrace.Goals as goal
 
-pub entry-known-requires-in-Some-clause-known : goal.entry-known-requires-in-Some-clause-known
-entry-known-requires-in-Some-clause-known c =
-    let before = c.requires.parents c.loop-known.node c.loop-known.state c.loop-known.known c.in-Some.parent c.loop-known.invariant.here c.in-Some.is in
-    ap is_some before.1
+pub back-init : goal.back-init
+back-init c =
+    let begins = back_init c.args.frontier.now c.requires.right c.requires.parents c.args.end.node c.args.end.state c.args.end.link c.requires.link
+    c.row-row.result c.row-row.ensures _ c.new-hops.ensures.len in
+    record { here = begins.0; back = begins.1; trail = rw c.new-hops.ensures.items begins.2 }
 
-pub loop-known-smaller : goal.loop-known-smaller
-loop-known-smaller c =
-    let before = c.requires.parents c.loop-known.node c.loop-known.state c.loop-known.known c.in-Some.parent c.loop-known.invariant.here c.in-Some.is in
-    let e : Some before.0 ≡ Some c.entry-known-in-Some.result = sym before.1 ∙ c.entry-known-in-Some.ensures in
-    let same : before.0 ≡ c.entry-known-in-Some.result = cc in
-    omega (arith, before.2, ap (λ (y : Reached). y.arcs) same)
+pub row-row-requires-in-back-clause-there : goal.row-row-requires-in-back-clause-there
+row-row-requires-in-back-clause-there c =
+    let parent = parent_link c.args.frontier.now c.requires.right c.requires.parents c.back.row c.back.invariant.here c.back-test.true in
+    link_within c.args.frontier.now c.requires.right parent.0 parent.1 c.back.row.known.parent parent.2
+
+pub back-smaller : goal.back-smaller
+back-smaller c =
+    let next = back_next c.args.frontier.now c.requires.right c.back.row c.row-row-in-back.result c.back.invariant.here c.back-test.true c.row-row-in-back.ensures
+    _ _ c.in_ok-push.ensures.len c.back.invariant.back in
+    omega (arith, next.1, c.in_ok-push.ensures.len)
+
+pub back-preserved : goal.back-preserved
+back-preserved c = record {
+  here = (c.back.row.known.parent - 1, c.row-row-in-back.ensures);
+  back = back_next c.args.frontier.now c.requires.right c.back.row c.row-row-in-back.result c.back.invariant.here c.back-test.true c.row-row-in-back.ensures
+      _ _ c.in_ok-push.ensures.len c.back.invariant.back;
+  trail = rw c.in_ok-push.ensures.items
+      (trail_next c.args.frontier.now c.requires.right c.back.row c.row-row-in-back.result c.back.invariant.here c.back-test.true c.row-row-in-back.ensures
+      c.back.hops.items _ _ _ c.back.invariant.trail);
+}
+
+pub returns : goal.returns
+returns c =
+    back_ends c.args.frontier.now c.requires.right c.args.end.node c.args.end.state c.args.end.link c.requires.link c.row-row.result c.back.row c.row-row.ensures
+    c.back.invariant.here c.back-test.false _ refl refl refl (rw c.reverse.ensures.items c.back.invariant.trail)

@@ -42,7 +42,7 @@ pub retrace-requires-clause-parents : goal.retrace-requires-clause-parents
 retrace-requires-clause-parents g c =
     let found = rw c.in-Some.is at c.in_ok-explored.ensures in
     has_parents (g.G.Graph.meaning c.args.graph.now) (g.L.Labels.automaton c.args.labels.now) c.args.starts.now c.args.dep
-    c.in_ok-explored.explored.frontier (found.0).traced
+    (found.0).depth c.in_ok-explored.explored.frontier (found.0).traced (found.0).shallow
 
 pub returns-in_ok-walk-in-Some-clause-arrival : goal.returns-in_ok-walk-in-Some-clause-arrival
 returns-in_ok-walk-in-Some-clause-arrival g c =
@@ -53,7 +53,7 @@ pub returns-in_ok-walk-in-Some-clause-walk : goal.returns-in_ok-walk-in-Some-cla
 returns-in_ok-walk-in-Some-clause-walk g c =
     let found = rw c.in-Some.is at c.in_ok-explored.ensures in
     walk_of (g.G.Graph.meaning c.args.graph.now) (g.L.Labels.automaton c.args.labels.now) c.args.starts.now c.args.dep
-    c.in_ok-explored.explored.frontier (found.0).traced c.args.targets.now c.in-Some.end c.in_ok-walk-in-Some.walk found.1 c.in_ok-walk-in-Some.ensures
+    (found.0).depth c.in_ok-explored.explored.frontier (found.0).traced c.args.targets.now c.in-Some.end c.in_ok-walk-in-Some.walk found.1 c.in_ok-walk-in-Some.ensures
 
 pub returns-in_ok-walk-in-Some-clause-labels : goal.returns-in_ok-walk-in-Some-clause-labels
 returns-in_ok-walk-in-Some-clause-labels g c =

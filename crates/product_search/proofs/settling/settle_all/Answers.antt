@@ -62,4 +62,4 @@ pub returns : goal.returns
 returns g c =
     searched_all (g.G.Graph.meaning c.args.graph.now) (g.met.G.Graph.lawful c.args.graph.now) (g.L.Labels.automaton c.args.labels.now) (g.met.L.Labels.lawful c.args.labels.now)
     c.args.starts.now c.args.targets.now c.args.dep c.args.bound c.loop-settled.frontier c.settle_least.new.self
-    c.loop-settled.invariant.searching c.in_default.ensures.right c.in_default.ensures.none c.in_default.ensures.same
+    c.loop-settled.invariant.searching c.in_default.ensures.right c.in_default.ensures.none c.in_default.ensures.same c.in_default.ensures.numbers

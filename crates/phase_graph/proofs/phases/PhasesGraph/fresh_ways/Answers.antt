@@ -5,4 +5,4 @@ pub returns : goal.returns
 returns c =
     let self = c.args.self.now in
     fresh_joined self.plain.network.now self.hierarchy.now self.plain.timetable.now self.marks.items c.args.p c.args.t c.args.letters c.args.state c.args.given.now c.push_fresh_others.new.given
-    c.args.ways.now.items c.push_entries.new.ways.items c.push_fresh_others.new.ways.items c.in_ok-push_entries.ensures c.in_ok-push_fresh_others.ensures
+    c.args.ways.now.items c.push_falls.new.ways.items c.push_fresh_others.new.ways.items c.in_ok-push_falls.ensures c.in_ok-push_fresh_others.ensures

@@ -1,7 +1,11 @@
-use Rattle.plain_graph.proofs.PlaceTies.{fresh_parts}
+use Rattle.std.proofs.Common.{◌≡◌, ◌+◌, ◌-◌, arith}
+use Rattle.plain_graph.specs.PlainArcs.{count_from, inner_arcs_at, arcs_at}
 use Rattle.plain_graph.proofs.plain.PlainGraph.fresh_ways.Goals as goal
 
 pub returns : goal.returns
 returns c =
-    fresh_parts c.args.self.now.network.now c.args.self.now.timetable.now c.args.t c.args.letters c.args.v c.args.state c.args.given.now c.push_fresh_past_roads.new.given
-    c.args.ways.now.items c.push_roads.new.ways.items c.push_fresh_past_roads.new.ways.items c.in_ok-push_roads.ensures c.in_ok-push_fresh_past_roads.ensures
+    let n = c.args.self.now.network.now in
+    let t = c.args.self.now.timetable.now in
+    let v = c.args.v in
+    let rest : arcs_at n t v - count_from n.arcs v ≡ count_from n.links v + inner_arcs_at n t v = omega arith in
+    rw rest c.push_fresh_past_roads.ensures

@@ -1,34 +1,38 @@
-use Rattle.std.proofs.Common.{◌∙◌, refl}
+use Rattle.std.proofs.Common.{refl, sym, ◌∙◌, ap, subst}
+use Rattle.product_search.specs.Waiting.{rows_of, IsAt}
 use Rattle.product_search.proofs.QueueLemmas.{right_stale, right_settled, settles, same_stale, right_same, nobody}
 use Rattle.product_search.proofs.frontier.Frontier.settle_least.Goals as goal
 
 pub returns-in-Some-settle-clause-right : goal.returns-in-Some-settle-clause-right
 returns-in-Some-settle-clause-right c =
     let old = c.loop-at.self in
-    right_settled old (record old { entries = c.settle.new.entries; keys = c.settle.new.keys; queue = c.pop.new.self }) c.in-Some.at c.in-Some.number
-    c.loop-at.invariant.right c.in-Some.ensures.some c.in-Some-settle.entry c.in-Some-settle.ensures.known c.in-Some-settle.ensures.settled refl c.settle.ensures.keys
+    let settle = rw c.deref.ensures.value at c.in-Some-settle.ensures in
+    right_settled old (record old { keys = c.settle.new.keys; queue = c.pop.new.self }) c.in-Some.at c.in-Some.number
+    c.loop-at.invariant.right c.in-Some.ensures.some c.in-Some-settle.row settle.known settle.settled refl settle.kept refl
 
 pub returns-in-Some-settle-clause-least : goal.returns-in-Some-settle-clause-least
 returns-in-Some-settle-clause-least c =
     let old = c.loop-at.self in
-    settles old (record old { entries = c.settle.new.entries; keys = c.settle.new.keys; queue = c.pop.new.self }) c.in-Some.at c.in-Some.number
-    c.loop-at.invariant.right c.in-Some.ensures.some c.in-Some-settle.entry c.in-Some-settle.ensures.known c.in-Some-settle.ensures.settled
-    c.args.self.now c.loop-at.invariant.same _ refl refl refl refl
+    let settle = rw c.deref.ensures.value at c.in-Some-settle.ensures in
+    settles old (record old { keys = c.settle.new.keys; queue = c.pop.new.self }) c.in-Some.at c.in-Some.number
+    c.loop-at.invariant.right c.in-Some.ensures.some c.in-Some-settle.row settle.known settle.settled
+    c.args.self.now c.loop-at.invariant.same _ refl refl refl refl c.loop-at.invariant.numbers
 
 pub loop-at-preserved : goal.loop-at-preserved
 loop-at-preserved c =
     let old = c.loop-at.self in
-    let new = record old { entries = c.settle.new.entries; keys = c.settle.new.keys; queue = c.pop.new.self } in
+    let new = record old { keys = c.settle.new.keys; queue = c.pop.new.self } in
+    let settle = rw c.deref.ensures.value at c.in_default-settle.ensures in
+    let same = ap (λ ks. rows_of ks old.entries.items) settle.same in
     record {
-      right = right_stale old new c.in-Some.at c.in-Some.number c.loop-at.invariant.right c.in-Some.ensures.some
-          refl c.in_default-settle.ensures.same c.settle.ensures.keys c.in_default-settle.ensures.stale;
-      same = λ w r. same_stale old new c.in-Some.at c.in-Some.number c.loop-at.invariant.right c.in-Some.ensures.some c.in_default-settle.ensures.same w r
-          ∙ c.loop-at.invariant.same w r;
+      right = right_stale old new c.in-Some.at c.in-Some.number c.loop-at.invariant.right c.in-Some.ensures.some refl same settle.kept refl settle.stale;
+      same = λ w r. same_stale old new c.in-Some.at c.in-Some.number c.loop-at.invariant.right c.in-Some.ensures.some same w r ∙ c.loop-at.invariant.same w r;
+      numbers = λ v q k at. subst (λ rs. IsAt rs v q k) (sym same) (c.loop-at.invariant.numbers v q k at);
     }
 
 pub returns-clause-right : goal.returns-clause-right
 returns-clause-right c =
-    right_same c.loop-at.self (record (c.loop-at.self) { queue = c.pop.new.self }) c.loop-at.invariant.right refl refl c.loop-at.invariant.right.keys c.in_default.ensures.none
+    right_same c.loop-at.self (record (c.loop-at.self) { queue = c.pop.new.self }) c.loop-at.invariant.right refl refl refl c.in_default.ensures.none
 
 pub returns-clause-none : goal.returns-clause-none
 returns-clause-none c = nobody c.args.self.now c.loop-at.self c.loop-at.invariant.right c.loop-at.invariant.same (c.in_default.ensures.none).none

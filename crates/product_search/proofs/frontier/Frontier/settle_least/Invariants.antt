@@ -1,11 +1,12 @@
 use Rattle.product_search.specs.Queued.{queue_len}
-use Rattle.product_search.specs.Waiting.{IsQueueRight, SameReached}
+use Rattle.product_search.specs.Waiting.{IsQueueRight, KeepsNumbers, SameReached}
 use Rattle.product_search.proofs.frontier.Frontier.settle_least.Given as goal
 
 abbrev pub invariant-loop-at : goal.invariant-loop-at
 invariant-loop-at l = record {
   right : IsQueueRight l.self;
   same : SameReached l.initial.self l.self;
+  numbers : KeepsNumbers l.initial.self l.self;
 }
 
 abbrev pub decreases-loop-at : goal.decreases-loop-at

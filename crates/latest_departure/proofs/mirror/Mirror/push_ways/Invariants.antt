@@ -1,0 +1,12 @@
+use Rattle.std.proofs.Common.{◌≡◌, ◌++◌, take}
+use Rattle.std.specs.Prelude.{sum_by}
+use Rattle.search_laws.specs.Ways.{ways_from}
+use Rattle.latest_departure.specs.BackLists.{mirrored}
+use Rattle.latest_departure.specs.Known.{entry_count}
+use Rattle.latest_departure.proofs.mirror.Mirror.push_ways.Given as goal
+
+abbrev pub invariant-loop-entry : goal.invariant-loop-entry
+invariant-loop-entry l = record {
+  place : l.place ≡ sum_by entry_count (take l.entry-index l.entry-items);
+  ways : l.ways.items ≡ l.initial.ways.items ++ ways_from (mirrored l.self.backwards.now l.self.deadline) l.v l.s l.letters 0 l.place;
+}

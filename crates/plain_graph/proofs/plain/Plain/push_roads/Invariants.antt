@@ -1,7 +1,0 @@
-use Rattle.std.proofs.Common.{◌≡◌, ◌++◌}
-use Rattle.search_laws.specs.Ways.{ways_from}
-use Rattle.plain_graph.specs.PlainArcs.{plain_meaning}
-use Rattle.plain_graph.proofs.plain.Plain.push_roads.Given as goal
-
-abbrev pub invariant-loop-i : goal.invariant-loop-i
-invariant-loop-i l = l.ways.items ≡ l.initial.ways.items ++ ways_from (plain_meaning l.self.network.now l.self.timetable.now) l.v l.t l.letters 0 l.i

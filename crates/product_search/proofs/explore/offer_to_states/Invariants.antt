@@ -1,0 +1,13 @@
+use Rattle.std.proofs.Common.{ℕ, ◌<◌}
+use Rattle.std.specs.Prelude.{slice_index}
+use Rattle.product_search.specs.Waiting.{IsQueueRight}
+use Rattle.product_search.specs.Exploring.{IsSettledBy, Offers, IsSuccessor, LegIsReached}
+use Rattle.product_search.proofs.explore.offer_to_states.Given as goal
+
+abbrev pub invariant-loop-next : goal.invariant-loop-next
+invariant-loop-next g l = record {
+  right : IsQueueRight l.frontier;
+  settled : IsSettledBy l.frontier l.from.at;
+  offers : Offers l.initial.frontier l.frontier (IsSuccessor (g.G.Graph.meaning l.graph) (g.L.Labels.automaton l.labels) l.bound l.from);
+  reached : (k : ℕ) → k < l.next-index → (i : ℕ) → i < l.count → LegIsReached (g.G.Graph.meaning l.graph) l.bound l.frontier l.from (slice_index l.states k) i;
+}
