@@ -1,62 +1,47 @@
 //! Certificates, and the journeys that they hold.
 
 ghost use Rattle.std.specs.Prelude.{IsTrue, All};
-ghost use Rattle.journey.specs.Ends.{HasTime};
+ghost use Rattle.journey.specs.Ends.{HasTime, HasTimes};
 ghost use Rattle.journey.specs.Blocks.{IsPrintable};
+ghost use Rattle.journey.specs.Real.{IsReal};
 
-use case_script::{Script, words};
 use certificate::{Certificate, print, read, verify};
 use journey::{BlockBody, block, ends, first_bad, is_real, word};
-use mode_network::{Journey, Network, Step};
-use plan_base::Caps;
-use region_file::decode;
-use std::alloc::{AllocError, Global};
+use mode_network::{Bytes, Journey, Network, Step};
+use std::io;
 
 /// `certificate TEXT`: the first line that may not stand in a certificate, or whether it is printed as the same text.
-pub fn certificate(alloc: Global, script: &Script, words: &[u8]) -> Result<String, AllocError> {
-    let text = script.text(words);
-    match read(alloc, text) {
+pub fn certificate(rt: &HostRuntime, text: &[u8]) -> io::Result<()> {
+    match read(rt.alloc(), text) {
         Ok(certificate) => {
-            let printed = print(alloc, &certificate)?;
+            let printed = print(rt.alloc(), &certificate)?;
             let same = printed.as_slice() == text;
-            format!(in alloc; "a certificate, printed as the same text: {same}")
+            print!(rt; "a certificate, printed as the same text: {same}")
         }
-        Err(fault) => format!(in alloc; "{fault:?}"),
+        Err(fault) => print!(rt; "{fault:?}"),
     }
 }
 
 /// `verdict REGION TEXT`: the verdict on a certificate.
-pub fn verdict(alloc: Global, script: &Script, words: &[u8]) -> Result<String, AllocError> {
-    let (region, name) = words::cut(words);
-    let Ok(network) = decode(alloc, script.text(region), &Caps::FULL) else {
-        return String::from_str(alloc, "no region");
-    };
-    match read(alloc, script.text(name)) {
+pub fn verdict(rt: &HostRuntime, network: &Network, text: &[u8]) -> io::Result<()> {
+    match read(rt.alloc(), text) {
         Ok(certificate) => {
-            let verdict = verify(alloc, &network, None, &certificate)?;
-            format!(in alloc; "{verdict:?}")
+            let verdict = verify(rt.alloc(), network, None, &certificate)?;
+            print!(rt; "{verdict:?}")
         }
-        Err(fault) => format!(in alloc; "{fault:?}"),
+        Err(fault) => print!(rt; "{fault:?}"),
     }
 }
 
 /// `journey REGION TEXT`: the first step of a certificate's journey that is none, or where the journey ends, and its block.
-pub fn journey(alloc: Global, script: &Script, words: &[u8]) -> Result<String, AllocError> {
-    let (region, name) = words::cut(words);
-    let Ok(network) = decode(alloc, script.text(region), &Caps::FULL) else {
-        return String::from_str(alloc, "no region");
-    };
-    match read(alloc, script.text(name)) {
-        Ok(certificate) => claim_told(alloc, &network, certificate),
-        Err(fault) => format!(in alloc; "{fault:?}"),
+pub fn journey(rt: &HostRuntime, network: &Network, text: &[u8]) -> io::Result<()> {
+    match read(rt.alloc(), text) {
+        Ok(certificate) => print_claim(rt, network, certificate),
+        Err(fault) => print!(rt; "{fault:?}"),
     }
 }
 
-fn claim_told(
-    alloc: Global,
-    network: &Network,
-    certificate: Certificate,
-) -> Result<String, AllocError> {
+fn print_claim(rt: &HostRuntime, network: &Network, certificate: Certificate) -> io::Result<()> {
     let Certificate {
         line,
         phases: _,
@@ -64,8 +49,8 @@ fn claim_told(
         labels: _,
     } = certificate;
     match result {
-        Some((_, journey)) => journey_told(alloc, network, journey, line.as_slice()),
-        None => String::from_str(alloc, "no journey"),
+        Some((_, journey)) => print_journey(rt, network, journey, &line),
+        None => print!(rt; "no journey"),
     }
 }
 
@@ -90,38 +75,46 @@ fn have_times(steps: &[Step]) -> bool
     true
 }
 
-fn journey_told(
-    alloc: Global,
+fn print_journey(
+    rt: &HostRuntime,
     network: &Network,
     journey: Journey,
-    line: &[u8],
-) -> Result<String, AllocError> {
+    line: &Bytes,
+) -> io::Result<()> {
     if journey.at >= 1_000_000_000_000_000_000_000_000_000_000 || !have_times(&journey.steps) {
-        return String::from_str(alloc, "a time is too late");
+        return print!(rt; "a time is too late");
     }
     if journey.start >= network.nodes() {
-        return String::from_str(alloc, "no such node");
+        return print!(rt; "no such node");
     }
     if !is_real(network, &journey) {
         let bad = first_bad(network, &journey);
-        return format!(in alloc; "first bad step {bad:?}");
+        return print!(rt; "first bad step {bad:?}");
     }
-    let (node, at) = ends(network, &journey);
-    let letters = word(alloc, network, &journey)?;
-    let letters = letters.as_slice();
-    let text = block_told(alloc, network, journey, line)?;
-    format!(in alloc; "to {node} at {at}, letters {letters:?}\n{text}")
+    print_ends(rt, network, &journey)?;
+    print_block(rt, network, journey, line)
 }
 
-fn block_told(
-    alloc: Global,
+fn print_ends(rt: &HostRuntime, network: &Network, journey: &Journey) -> io::Result<()>
+    requires times { HasTimes journey.now }
+    requires real { IsReal network.now journey.now }
+{
+    let (node, at) = ends(network, journey);
+    let letters = word(rt.alloc(), network, journey)?;
+    let letters = letters.as_slice();
+    print!(rt; "to {node} at {at}, letters {letters:?}\n")
+}
+
+fn print_block(
+    rt: &HostRuntime,
     network: &Network,
     journey: Journey,
-    line: &[u8],
-) -> Result<String, AllocError>
+    line: &Bytes,
+) -> io::Result<()>
     requires { IsPrintable network.now journey }
 {
     let body = BlockBody::Journey(journey);
-    let text = block(alloc, network, line, &body)?;
-    String::from_utf8_lossy(alloc, &text)
+    let block = block(rt.alloc(), network, line.as_slice(), &body)?;
+    let block = crate::texts::of(&block);
+    print!(rt; "{block}")
 }

@@ -1,46 +1,50 @@
 //! Expressions and letters.
 
-use case_script::Script;
 use mode_expression::{Letter, parse};
 use std::alloc::{AllocError, Global};
+use std::io;
 
-/// `expression TEXT`: the shortest text of what a text spells, which spells the same; or its fault.
-pub fn expression(alloc: Global, text: &[u8]) -> Result<String, AllocError> {
-    match parse(alloc, text) {
+/// `expression TEXT`, and `spelled NAME` of the text of this name: the shortest text of what a text spells, which spells the same; or
+/// its fault.
+pub fn expression(rt: &HostRuntime, text: &[u8]) -> io::Result<()> {
+    match parse(rt.alloc(), text) {
         Ok(expr) => {
-            let spelled = expr.to_string(alloc)?;
-            let same = match parse(alloc, spelled.as_bytes()) {
-                Ok(again) => again.to_string(alloc)?.as_str() == spelled.as_str(),
-                Err(_) => false,
-            };
-            format!(in alloc; "{spelled}, which spells the same: {same}")
+            let spelled = expr.to_string(rt.alloc())?;
+            let same = is_spelled_so(rt.alloc(), &spelled)?;
+            print!(rt; "{spelled}, which spells the same: {same}")
         }
-        Err(fault) => fault.to_string(alloc),
+        Err(fault) => print!(rt; "{fault}"),
     }
 }
 
-/// `spelled NAME`: the same of the text of this name.
-pub fn spelled(alloc: Global, script: &Script, name: &[u8]) -> Result<String, AllocError> {
-    expression(alloc, script.text(name))
+/// Whether a text is the shortest one of what it spells.
+fn is_spelled_so(alloc: Global, text: &str) -> Result<bool, AllocError> {
+    match parse(alloc, text.as_bytes()) {
+        Ok(expr) => {
+            let spelled = expr.to_string(alloc)?;
+            Ok(spelled.as_str() == text)
+        }
+        Err(_) => Ok(false),
+    }
 }
 
 /// `letters`: each letter by its number: its name, whether it is a road's, and whether the name gives it again.
-pub fn letters(alloc: Global) -> Result<String, AllocError> {
-    let mut told = String::new(alloc);
+pub fn letters(rt: &HostRuntime) -> io::Result<()> {
     for number in 0..16 {
-        match Letter::from_number(number) {
-            Some(letter) => {
-                let name = letter.name();
-                let (back, road) = (letter.number(), letter.is_road());
-                let same = Letter::from_name(name.as_bytes()) == Some(letter);
-                told.push_str(&format!(in alloc;
-                    "{number}: {name}, number {back}, road {road}, by its name {same}\n"
-                )?)?;
-            }
-            None => told.push_str(&format!(in alloc; "{number}: no letter\n")?)?,
-        }
+        print_letter(rt, number)?;
     }
     let any = Letter::from_name(b"any");
-    told.push_str(&format!(in alloc; "any: {any:?}")?)?;
-    Ok(told)
+    print!(rt; "any: {any:?}")
+}
+
+fn print_letter(rt: &HostRuntime, number: u8) -> io::Result<()> {
+    match Letter::from_number(number) {
+        Some(letter) => {
+            let name = letter.name();
+            let (back, road) = (letter.number(), letter.is_road());
+            let same = Letter::from_name(name.as_bytes()) == Some(letter);
+            print!(rt; "{number}: {name}, number {back}, road {road}, by its name {same}\n")
+        }
+        None => print!(rt; "{number}: no letter\n"),
+    }
 }

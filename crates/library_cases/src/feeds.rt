@@ -1,11 +1,12 @@
 //! Timetable feeds.
 
+use crate::texts;
 use case_script::{Script, words};
 use gtfs_tables::{Feed, FeedFiles, read_feed};
-use std::alloc::{AllocError, Global};
+use std::io;
 
 /// `feed FOLDER [KIND MOST]`: the rows of the feed whose files are the texts in a folder; or its first fault, in both spellings.
-pub fn feed(alloc: Global, script: &Script, words: &[u8]) -> Result<String, AllocError> {
+pub fn feed(rt: &HostRuntime, script: &Script, words: &[u8]) -> io::Result<()> {
     let (folder, limit) = words::cut(words);
     let files = FeedFiles {
         agency: file(script, folder, b"/agency.txt"),
@@ -17,9 +18,9 @@ pub fn feed(alloc: Global, script: &Script, words: &[u8]) -> Result<String, Allo
         frequencies: file(script, folder, b"/frequencies.txt"),
         stop_times: file(script, folder, b"/stop_times.txt"),
     };
-    match read_feed(alloc, &files, &words::caps(limit)) {
-        Ok(feed) => told(alloc, &feed),
-        Err(fault) => format!(in alloc; "{fault:?}: {fault}"),
+    match read_feed(rt.alloc(), &files, &words::caps(limit)) {
+        Ok(feed) => print_feed(rt, &feed),
+        Err(fault) => print!(rt; "{fault:?}: {fault}"),
     }
 }
 
@@ -33,51 +34,50 @@ fn file<'a>(script: &'a Script, folder: &[u8], name: &[u8]) -> Option<&'a [u8]> 
     None
 }
 
-fn told(alloc: Global, feed: &Feed) -> Result<String, AllocError> {
-    let mut told = String::from_str(alloc, "a feed")?;
+fn print_feed(rt: &HostRuntime, feed: &Feed) -> io::Result<()> {
+    print!(rt; "a feed")?;
     for row in &feed.stops {
-        let id = String::from_utf8_lossy(alloc, row.id.as_bytes())?;
+        let id = texts::of(row.id.as_bytes());
         let (number, place) = (row.row, row.place);
-        told.push_str(&format!(in alloc; "\nstop {id}, row {number}: {place:?}")?)?;
+        print!(rt; "\nstop {id}, row {number}: {place:?}")?;
     }
     for row in &feed.routes {
-        let id = String::from_utf8_lossy(alloc, row.id.as_bytes())?;
+        let id = texts::of(row.id.as_bytes());
         let (number, letter) = (row.row, row.letter);
-        told.push_str(&format!(in alloc; "\nroute {id}, row {number}: letter {letter}")?)?;
+        print!(rt; "\nroute {id}, row {number}: letter {letter}")?;
     }
-    push_services(alloc, &mut told, feed)?;
-    push_trips(alloc, &mut told, feed)?;
-    Ok(told)
+    print_services(rt, feed)?;
+    print_trips(rt, feed)
 }
 
-fn push_services(alloc: Global, told: &mut String, feed: &Feed) -> Result<(), AllocError> {
+fn print_services(rt: &HostRuntime, feed: &Feed) -> io::Result<()> {
     for row in &feed.services {
-        let id = String::from_utf8_lossy(alloc, row.id.as_bytes())?;
+        let id = texts::of(row.id.as_bytes());
         let (number, rule) = (row.row, row.rule);
-        told.push_str(&format!(in alloc; "\nservice {id}, row {number}: {rule:?}")?)?;
+        print!(rt; "\nservice {id}, row {number}: {rule:?}")?;
     }
     for row in &feed.dates {
-        let id = String::from_utf8_lossy(alloc, row.id.as_bytes())?;
+        let id = texts::of(row.id.as_bytes());
         let (number, date, added) = (row.row, row.date, row.added);
-        told.push_str(&format!(in alloc; "\ndate of {id}, row {number}: {date}, added {added}")?)?;
+        print!(rt; "\ndate of {id}, row {number}: {date}, added {added}")?;
     }
     Ok(())
 }
 
-fn push_trips(alloc: Global, told: &mut String, feed: &Feed) -> Result<(), AllocError> {
+fn print_trips(rt: &HostRuntime, feed: &Feed) -> io::Result<()> {
     for row in &feed.trips {
-        let id = String::from_utf8_lossy(alloc, row.id.as_bytes())?;
-        let service = String::from_utf8_lossy(alloc, row.service.as_bytes())?;
+        let (id, service) = (
+            texts::of(row.id.as_bytes()),
+            texts::of(row.service.as_bytes()),
+        );
         let (number, route) = (row.row, row.route);
-        told.push_str(&format!(in alloc;
-            "\ntrip {id}, row {number}: route {route}, service {service}"
-        )?)?;
+        print!(rt; "\ntrip {id}, row {number}: route {route}, service {service}")?;
     }
     for row in &feed.frequencies {
-        told.push_str(&format!(in alloc; "\n{row:?}")?)?;
+        print!(rt; "\n{row:?}")?;
     }
     for row in &feed.calls {
-        told.push_str(&format!(in alloc; "\n{row:?}")?)?;
+        print!(rt; "\n{row:?}")?;
     }
     Ok(())
 }

@@ -19,7 +19,6 @@ mod roads;
 mod texts;
 
 use case_script::{Script, words};
-use std::alloc::{AllocError, Global};
 use std::{fs, io};
 
 fn main(rt: HostRuntime) -> io::Result<()> {
@@ -27,82 +26,65 @@ fn main(rt: HostRuntime) -> io::Result<()> {
     let mut script = Script::new(rt.alloc());
     for line in cases.split(|byte| *byte == b'\n') {
         if !script.takes(rt.alloc(), line)? {
-            let case = String::from_utf8_lossy(rt.alloc(), line)?;
-            let told = if line == b"folder_of_run".as_slice() {
-                ends::folder(&rt)?
-            } else {
-                told(rt.alloc(), &script, line)?
-            };
-            println!(rt; "{case}")?;
-            println!(rt; "{told}")?;
+            print_case(&rt, &script, line)?;
         }
     }
     Ok(())
 }
 
-/// What the call of a case answers.
-fn told(alloc: Global, script: &Script, line: &[u8]) -> Result<String, AllocError> {
+/// Prints a case, and what its call answers.
+fn print_case(rt: &HostRuntime, script: &Script, line: &[u8]) -> io::Result<()> {
+    let case = texts::of(line);
+    println!(rt; "{case}")?;
     let (call, words) = words::cut(line);
+    answer(rt, script, texts::of(call), words)?;
+    println!(rt; "")
+}
+
+/// Prints what a call answers.
+fn answer(rt: &HostRuntime, script: &Script, call: &str, words: &[u8]) -> io::Result<()> {
     match call {
-        b"digits" => texts::digits(alloc, words),
-        b"written" => texts::written(alloc, words),
-        b"name" => texts::name(alloc, script, words),
-        b"lines" => texts::lines(alloc, script, words),
-        b"whole" => ends::whole(alloc, script, words),
-        b"reads" => ends::reads(alloc, script, words),
-        b"written_to" => ends::written_to(alloc, words),
-        b"degrees" => places::degrees(alloc, words),
-        b"length" => places::length(alloc, words),
-        b"walk" => places::walk(alloc, words),
-        b"nearest" => places::nearest(alloc, words),
-        b"set" => places::set(alloc, words),
-        b"limits" => places::limits(alloc, words),
-        b"date" => calendars::date(alloc, words),
-        b"days" => calendars::days(alloc, script, words),
-        b"day" => calendars::day(alloc, script, words),
-        b"clock" => calendars::clock(alloc, script, words),
-        b"moment" => calendars::moment(alloc, script, words),
-        b"service" => calendars::service(alloc, script, words),
-        b"map" => maps::map(alloc, script, words),
-        b"cuts" => maps::cuts(alloc, script, words),
-        b"bytewise" => maps::bytewise(alloc, script, words),
-        b"again" => maps::again(alloc, script, words),
-        b"roads" => roads::roads(alloc, script, words),
-        b"feed" => feeds::feed(alloc, script, words),
-        _ => told_of_regions(alloc, script, call, words),
+        "digits" => texts::digits(rt, words),
+        "written" => texts::written(rt, words),
+        "name" => texts::name(rt, script.text(words)),
+        "lines" => texts::lines(rt, script.text(words)),
+        "whole" => ends::whole(rt, script, words),
+        "reads" => ends::reads(rt, script, words),
+        "written_to" => ends::written_to(rt, words),
+        "folder_of_run" => ends::folder(rt),
+        "degrees" => places::degrees(rt, words),
+        "length" => places::length(rt, words),
+        "walk" => places::walk(rt, words),
+        "nearest" => places::nearest(rt, words),
+        "set" => places::set(rt, words),
+        "limits" => places::limits(rt, words),
+        "date" => calendars::date(rt, words),
+        _ => answer_of_texts(rt, script, call, words),
     }
 }
 
-/// What a call answers that is about regions, or about expressions over them.
-fn told_of_regions(
-    alloc: Global,
-    script: &Script,
-    call: &[u8],
-    words: &[u8],
-) -> Result<String, AllocError> {
+/// Prints what a call answers that is about days, maps, feeds or expressions.
+fn answer_of_texts(rt: &HostRuntime, script: &Script, call: &str, words: &[u8]) -> io::Result<()> {
     match call {
-        b"accepts" => automata::accepts(alloc, words),
-        b"expression" => expressions::expression(alloc, words),
-        b"spelled" => expressions::spelled(alloc, script, words),
-        b"letters" => expressions::letters(alloc),
-        b"one" => automata::one(alloc, words),
-        b"size" => automata::size(alloc, words),
-        b"states" => automata::states(alloc, words),
-        b"region" => networks::region(alloc, script, words),
-        b"network" => networks::network(alloc, script, words),
-        b"times" => networks::times(alloc, script, words),
-        b"near" => networks::near(alloc, script, words),
-        b"copies" => networks::copies(alloc, script, words),
-        b"arcs" => arcs::arcs(alloc, script, words),
-        b"unpacked" => arcs::unpacked(alloc, script, words),
-        b"patterns" => arcs::patterns(alloc, script, words),
-        b"runs" => arcs::runs(alloc, script, words),
-        b"query" => queries::query(alloc, script, words),
-        b"hierarchy" => hierarchies::hierarchy(alloc, script, words),
-        b"contracted" => hierarchies::contracted(alloc, script, words),
-        b"journey" => certificates::journey(alloc, script, words),
-        b"certificate" => certificates::certificate(alloc, script, words),
-        b"verdict" => certificates::verdict(alloc, script, words),
-        _ => String::from_str(alloc, "no such call"),
+        "days" | "day" | "clock" | "moment" | "service" => {
+            calendars::of_days(rt, script, call, words)
+        }
+        "map" => maps::map(rt, script, words),
+        "cuts" => maps::cuts(rt, script.text(words)),
+        "bytewise" => maps::bytewise(rt, script.text(words)),
+        "again" => maps::again(rt, script, words),
+        "roads" => roads::roads(rt, script, words),
+        "feed" => feeds::feed(rt, script, words),
+        "expression" => expressions::expression(rt, words),
+        "spelled" => expressions::expression(rt, script.text(words)),
+        "letters" => expressions::letters(rt),
+        "accepts" => automata::accepts(rt, words),
+        "one" => automata::one(rt, words),
+        "size" => automata::size(rt, words),
+        "states" => automata::states(rt, words),
+        "region" => networks::region(rt, script, words),
+        "hierarchy" => hierarchies::hierarchy(rt, script, words),
+        "certificate" => certificates::certificate(rt, script.text(words)),
+        _ => networks::of_network(rt, script, call, words),
     }
 }

@@ -1,7 +1,7 @@
 -- The stop of a node is one of the network's stops, each of which has a name.
 use Rattle.std.proofs.Common.{sym, ◌∙◌, arith}
 use Rattle.plain_graph.specs.OutArcs.{stop_found}
-use Rattle.library_cases.proofs.networks.name_of.Goals as goal
+use Rattle.library_cases.proofs.networks.print_name.Goals as goal
 
 pub stop_name-requires : goal.stop_name-requires
 stop_name-requires c =
