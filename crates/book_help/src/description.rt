@@ -91,29 +91,40 @@ fn recheck<'a>(alloc: Global) -> Result<Command<'a>, AllocError> {
     with_word(alloc, command, "region", "REGION", REGION)
 }
 
+/// The program with one more command.
+fn with_command<'a>(
+    program: Command<'a>,
+    command: Result<Command<'a>, AllocError>,
+) -> Result<Command<'a>, AllocError> {
+    program.subcommand(command?)
+}
+
 /// The program with its commands.
 pub fn planbook<'a>(alloc: Global) -> Result<Command<'a>, AllocError> {
     let about =
         "Keeps certificates of journeys by name, and says which of them hold in another region.";
     let program = named(alloc, "planbook BOOK", about, MORE);
-    let program = program.subcommand(keep(alloc)?)?;
-    let program = program.subcommand(over_name(
+    let program = with_command(program, keep(alloc))?;
+    let remove = over_name(
         alloc,
         "drop",
         "Remove a name",
         "Example: planbook walks drop to-school",
-    )?)?;
-    let program = program.subcommand(named(
+    );
+    let program = with_command(program, remove)?;
+    let list = named(
         alloc,
         "list",
         "Write all names, ascending by bytes",
         "Example: planbook walks list",
-    ))?;
-    let program = program.subcommand(over_name(
+    );
+    let program = program.subcommand(list)?;
+    let show = over_name(
         alloc,
         "show",
         "Write what is kept under a name",
         "Example: planbook walks show to-school > claim",
-    )?)?;
-    program.subcommand(recheck(alloc)?)
+    );
+    let program = with_command(program, show)?;
+    with_command(program, recheck(alloc))
 }
