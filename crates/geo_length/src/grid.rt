@@ -43,8 +43,17 @@ impl Grid {
     ghost use Rattle.plan_base.specs.declared.places.Place.{Place};
     ghost use Rattle.geo_length.specs.Nearest.{IsNearest};
 
-    /// The grid of these points, in an order of its own. What is nearest in it is nearest among the points.
-    pub fn build(alloc: Global, points: Vec<(i64, Place)>) -> Result<Grid, AllocError>
+    /// The grid of these points, in an order of its own. What is nearest in it is nearest among the points. Fails where memory
+    /// runs out.
+    pub fn build(alloc: Global, points: &[(i64, Place)]) -> Result<Grid, AllocError>
+        ensures points { IfOk result (λ grid. IsPermutation points.now grid) }
+        ensures nearest { IfOk result (λ grid. (place : Place) (within : ℕ) (best : Option (ℤ × ℕ)) → IsNearest grid place within best → IsNearest points.now place within best) }
+    {
+        Grid::of(alloc, Vec::from_slice(alloc, points)?)
+    }
+
+    /// The same without a copy of the points, which it takes.
+    pub fn of(alloc: Global, points: Vec<(i64, Place)>) -> Result<Grid, AllocError>
         ensures points { IfOk result (λ grid. IsPermutation points.items grid) }
         ensures nearest { IfOk result (λ grid. (place : Place) (within : ℕ) (best : Option (ℤ × ℕ)) → IsNearest grid place within best → IsNearest points.items place within best) }
     {

@@ -55,7 +55,7 @@ fn asked_of(
     let (lons, rest) = words::cut(rest);
     let (_, withins) = words::cut(rest);
     let places = places_of(alloc, lats, lons)?;
-    let grid = Grid::build(alloc, Vec::from_slice(alloc, points)?)?;
+    let grid = Grid::build(alloc, points)?;
     let (mut asked, mut found, mut agree) = (0u32, 0u32, 0u32);
     for here in &places {
         for within in withins.split(|byte| *byte == b' ') {

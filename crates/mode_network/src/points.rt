@@ -57,5 +57,5 @@ pub(crate) fn road_grid(alloc: Global, roads: &[Node]) -> Result<Grid, AllocErro
     ensures { IfOk result (λ grid. IsGridOf grid (road_points roads.now)) }
 {
     let points = distinct_points(alloc, roads)?;
-    Grid::build(alloc, points)
+    Grid::of(alloc, points)
 }

@@ -58,7 +58,7 @@ fn layer_of(alloc: Global, mode: u8, roads: &[Node]) -> Result<Grid, AllocError>
     ensures { IfOk result (λ grid. (place : Place) (within : ℕ) (best : Option (ℤ × ℕ)) → IsNearest grid place within best → IsNearest (spec.layer mode roads.now) place within best) }
 {
     let points = points_of(alloc, mode, roads)?;
-    Grid::build(alloc, points)
+    Grid::of(alloc, points)
 }
 
 impl Layers {

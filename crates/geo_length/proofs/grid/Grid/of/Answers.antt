@@ -1,6 +1,6 @@
 use Rattle.std.proofs.lemmas.List.Sorted.{IsPermutation-sym}
 use Rattle.geo_length.proofs.NearestLaws.{IsNearest-permutation}
-use Rattle.geo_length.proofs.grid.Grid.build.Goals as goal
+use Rattle.geo_length.proofs.grid.Grid.of.Goals as goal
 
 pub returns-clause-nearest : goal.returns-clause-nearest
 returns-clause-nearest c = λ place within best h. IsNearest-permutation place within _ _ best (IsPermutation-sym _ _ c.sort_unstable_by_key.ensures.permutation) h
