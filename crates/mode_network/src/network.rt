@@ -10,13 +10,13 @@ ghost use Rattle.timetable_arcs.specs.Table.{IsTable};
 ghost use Rattle.mode_network.specs.Copies.{IsNearestRoad, IsNearCopy, IsRoadCopy, IsStopCopy, AreExactly, AreCopies, IsPlaceOf};
 ghost use Rattle.mode_network.specs.Indexes.{range_from, IsRange, is_end_of};
 
-use crate::bases::bases;
+use crate::bases::timetable;
 use crate::endpoints::Endpoint;
 use crate::faults::NetFault;
-use crate::indexes::{ends, modes, offsets};
+use crate::indexes::Tables;
 use crate::nodes::{Arc, Node, NodeKey};
 use crate::parts::Parts;
-use crate::points::{id_of, road_grid};
+use crate::points::id_of;
 use crate::rules;
 use geo_length::Grid;
 use plain_texts::Name;
@@ -75,10 +75,7 @@ impl Network {
         if let Some(fault) = rules::lists_fault(caps, &parts) {
             return Err(fault);
         }
-        rules::have_durations(&parts.arcs);
-        rules::have_durations(&parts.links);
-        rules::have_names(&parts.stop_names);
-        rules::have_named_trips(&parts.trips);
+        rules::known(&parts);
         let nodes = rules::node_count(&parts) as u32;
         let Parts {
             days,
@@ -90,14 +87,14 @@ impl Network {
             links,
             trips,
         } = parts;
-        let bases = bases(alloc, &days)?;
-        let timetable = Timetable::build(alloc, bases, stops.len() as u32, trips, caps)?;
-        timetable.known();
-        let modes = modes(alloc, &roads)?;
-        let arc_offsets = offsets(alloc, nodes, &arcs)?;
-        let link_offsets = offsets(alloc, nodes, &links)?;
-        let linked = ends(alloc, nodes, &links)?;
-        let grid = road_grid(alloc, &roads)?;
+        let timetable = timetable(alloc, &days, stops.len() as u32, trips, caps)?;
+        let Tables {
+            modes,
+            arc_offsets,
+            link_offsets,
+            linked,
+            grid,
+        } = Tables::build(alloc, nodes, &roads, &arcs, &links)?;
         Ok(Network {
             days,
             roads,

@@ -138,7 +138,7 @@ fn has_duration(arc: &Arc)
 }
 
 /// Each arc has a duration below 2^32 ms.
-pub(crate) fn have_durations(arcs: &[Arc])
+fn have_durations(arcs: &[Arc])
     ensures { HaveDurations arcs.now }
 {
     for arc in arcs {
@@ -153,7 +153,7 @@ fn is_name(name: &Name)
 }
 
 /// Each name is a name, since its type lets no other be one.
-pub(crate) fn have_names(names: &[Name])
+fn have_names(names: &[Name])
     ensures { AreNames names.now }
 {
     for name in names {
@@ -168,10 +168,23 @@ fn has_name(trip: &Trip)
 }
 
 /// Each trip has a name.
-pub(crate) fn have_named_trips(trips: &[Trip])
+fn have_named_trips(trips: &[Trip])
     ensures { AreNamed trips.now }
 {
     for trip in trips {
         has_name(trip);
     }
+}
+
+/// What the types of the parts keep: each duration is short, and each name is one.
+pub(crate) fn known(parts: &Parts)
+    ensures arcs { HaveDurations parts.now.arcs }
+    ensures links { HaveDurations parts.now.links }
+    ensures stops { AreNames parts.now.stop_names }
+    ensures trips { AreNamed parts.now.trips }
+{
+    have_durations(&parts.arcs);
+    have_durations(&parts.links);
+    have_names(&parts.stop_names);
+    have_named_trips(&parts.trips);
 }
