@@ -340,27 +340,25 @@ fn verify_latest<'a>(alloc: Global) -> Result<Command<'a>, AllocError>
     )
 }
 
-/// The program with one more command.
-fn with_command<'a>(program: Command<'a>, command: Command<'a>) -> Result<Command<'a>, AllocError>
-    ensures { (s : Shape) → IsTold command.entry s → IfOk result (λ p. app_of p ≡ with_subcommand (app_of program.entry) s) }
+/// The program with one more command, if memory sufficed for that.
+fn with_command<'a>(
+    program: Command<'a>,
+    command: Result<Command<'a>, AllocError>,
+) -> Result<Command<'a>, AllocError>
+    ensures { (s : Shape) → IfOk command.entry (λ c. IsTold c s) → IfOk result (λ p. app_of p ≡ with_subcommand (app_of program.entry) s) }
 {
-    program.subcommand(command)
+    program.subcommand(command?)
 }
 
 /// The program with the commands that work on a map, a region as a whole, or a sample.
 fn with_region_commands<'a>(alloc: Global, program: Command<'a>) -> Result<Command<'a>, AllocError>
     ensures { IfOk result (λ p. app_of p ≡ fold with_subcommand (app_of program.entry) region_commands) }
 {
-    let compile = compile(alloc)?;
-    let program = with_command(program, compile)?;
-    let migrate = migrate(alloc)?;
-    let program = with_command(program, migrate)?;
-    let contract = contract(alloc)?;
-    let program = with_command(program, contract)?;
-    let check = check(alloc)?;
-    let program = with_command(program, check)?;
-    let sample = sample(alloc)?;
-    with_command(program, sample)
+    let program = with_command(program, compile(alloc))?;
+    let program = with_command(program, migrate(alloc))?;
+    let program = with_command(program, contract(alloc))?;
+    let program = with_command(program, check(alloc))?;
+    with_command(program, sample(alloc))
 }
 
 /// The program with the commands that ask for journeys that arrive earliest.
@@ -370,26 +368,19 @@ fn with_earliest_commands<'a>(
 ) -> Result<Command<'a>, AllocError>
     ensures { IfOk result (λ p. app_of p ≡ fold with_subcommand (app_of program.entry) earliest_commands) }
 {
-    let answer = answer(alloc)?;
-    let program = with_command(program, answer)?;
-    let certify = certify(alloc)?;
-    let program = with_command(program, certify)?;
-    let verify = verify(alloc)?;
-    let program = with_command(program, verify)?;
-    let few = few(alloc)?;
-    with_command(program, few)
+    let program = with_command(program, answer(alloc))?;
+    let program = with_command(program, certify(alloc))?;
+    let program = with_command(program, verify(alloc))?;
+    with_command(program, few(alloc))
 }
 
 /// The program with the commands that ask for journeys that depart latest.
 fn with_latest_commands<'a>(alloc: Global, program: Command<'a>) -> Result<Command<'a>, AllocError>
     ensures { IfOk result (λ p. app_of p ≡ fold with_subcommand (app_of program.entry) latest_commands) }
 {
-    let latest = latest(alloc)?;
-    let program = with_command(program, latest)?;
-    let certify_latest = certify_latest(alloc)?;
-    let program = with_command(program, certify_latest)?;
-    let verify_latest = verify_latest(alloc)?;
-    with_command(program, verify_latest)
+    let program = with_command(program, latest(alloc))?;
+    let program = with_command(program, certify_latest(alloc))?;
+    with_command(program, verify_latest(alloc))
 }
 
 /// The program.
