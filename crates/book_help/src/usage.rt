@@ -2,6 +2,7 @@
 
 use crate::description::{NAME, NAMES, planbook};
 use clap::error::ErrorKind;
+use clap::{ArgMatches, Error};
 use std::alloc::{AllocError, Global};
 
 /// The version of the program.
@@ -11,40 +12,51 @@ pub const VERSION: &str = "1.0";
 pub fn help(alloc: Global, words: &[String]) -> Result<String, AllocError> {
     match words {
         [_, word] if word.as_str() == "--version" => format!(in alloc; "planbook {VERSION}\n"),
-        [_, _, command, given @ ..] => {
-            let words = behind_book(alloc, command, given)?;
-            wrong_word(alloc, &words)
-        }
-        _ => planbook(alloc)?.render_help(),
+        [_, _, given @ ..] if !given.is_empty() => wrong_word(alloc, &behind_book(alloc, given)?),
+        _ => general_help(alloc),
     }
 }
 
-/// The command's words behind one for the program and the book, which help repeats.
-fn behind_book(alloc: Global, command: &str, given: &[String]) -> Result<Vec<String>, AllocError> {
-    let mut words = Vec::with_capacity(alloc, 2)?;
+/// Help on all commands.
+fn general_help(alloc: Global) -> Result<String, AllocError> {
+    planbook(alloc)?.render_help()
+}
+
+/// These words behind one for the program and the book, which help repeats.
+fn behind_book(alloc: Global, given: &[String]) -> Result<Vec<String>, AllocError> {
+    let mut words = Vec::new(alloc);
     words.push(String::from_str(alloc, "planbook BOOK")?)?;
-    words.push(String::from_str(alloc, command)?)?;
-    for word in given {
-        words.push(String::from_str(alloc, word.as_str())?)?;
-    }
+    words.extend_with_clones(given)?;
     Ok(words)
 }
 
 /// Which of the words behind the book is wrong, or the help that they ask for.
 fn wrong_word(alloc: Global, words: &[String]) -> Result<String, AllocError> {
     match planbook(alloc)?.try_get_matches_from(words) {
-        Ok(matches) => match matches.subcommand() {
-            Some((command, given)) => match given.get_str(NAME) {
-                Some(name) => format!(in alloc;
-                    "error: invalid value '{name}' for '<NAME>'\n\n  {NAMES}\n\nFor more information, try 'planbook BOOK {command} --help'.\n"
-                ),
-                None => format!(in alloc;
-                    "error: '{command}' takes its words alone\n\nFor more information, try 'planbook BOOK {command} --help'.\n"
-                ),
-            },
-            None => planbook(alloc)?.render_help(),
-        },
-        Err(error) if error.kind() == ErrorKind::OutOfMemory => Err(AllocError),
-        Err(error) => format!(in alloc; "{error}"),
+        Ok(matches) => wrong_name(alloc, &matches),
+        Err(error) => refusal(alloc, &error),
     }
+}
+
+/// What is wrong with words that are those of a command.
+fn wrong_name(alloc: Global, matches: &ArgMatches) -> Result<String, AllocError> {
+    match matches.subcommand() {
+        Some((command, given)) => match given.get_str(NAME) {
+            Some(name) => format!(in alloc;
+                "error: invalid value '{name}' for '<NAME>'\n\n  {NAMES}\n\nFor more information, try 'planbook BOOK {command} --help'.\n"
+            ),
+            None => format!(in alloc;
+                "error: '{command}' takes its words alone\n\nFor more information, try 'planbook BOOK {command} --help'.\n"
+            ),
+        },
+        None => general_help(alloc),
+    }
+}
+
+/// What is said of words that are not those of a command.
+fn refusal(alloc: Global, error: &Error) -> Result<String, AllocError> {
+    if error.kind() == ErrorKind::OutOfMemory {
+        return Err(AllocError);
+    }
+    format!(in alloc; "{error}")
 }
