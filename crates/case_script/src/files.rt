@@ -1,6 +1,6 @@
 //! The words of a run, and the files that it finds.
 
-use crate::script::Script;
+use crate::script::{Script, Text};
 use std::alloc::{AllocError, Global};
 use std::collections::BTreeMap;
 
@@ -11,23 +11,39 @@ pub struct Given {
     pub files: BTreeMap<String, Vec<u8>>,
 }
 
-/// The words that `|` parts on a line. The files are the texts whose names are words, or paths in folders that are.
-pub fn words_and_files(alloc: Global, script: &Script, line: &[u8]) -> Result<Given, AllocError> {
-    let mut words = Vec::new(alloc);
-    let mut files = BTreeMap::new(alloc);
-    for word in line.split(|byte| *byte == b'|') {
-        if line.is_empty() {
-            break;
-        }
-        words.push(String::from_utf8_lossy(alloc, word)?)?;
+impl Given {
+    /// Takes a word, and the texts that it names.
+    fn take(&mut self, alloc: Global, script: &Script, word: &[u8]) -> Result<(), AllocError> {
+        self.words.push(String::from_utf8_lossy(alloc, word)?)?;
         for text in script.texts() {
             if is_at(&text.name, word) {
-                let bytes = Vec::from_slice(alloc, &text.bytes)?;
-                files.insert(String::from_utf8_lossy(alloc, &text.name)?, bytes)?;
+                self.put(alloc, text)?;
             }
         }
+        Ok(())
     }
-    Ok(Given { words, files })
+
+    /// Puts a text among the files.
+    fn put(&mut self, alloc: Global, text: &Text) -> Result<(), AllocError> {
+        let bytes = Vec::from_slice(alloc, &text.bytes)?;
+        self.files
+            .insert(String::from_utf8_lossy(alloc, &text.name)?, bytes)?;
+        Ok(())
+    }
+}
+
+/// The words that `|` parts on a line. The files are the texts whose names are words, or paths in folders that are.
+pub fn words_and_files(alloc: Global, script: &Script, line: &[u8]) -> Result<Given, AllocError> {
+    let mut given = Given {
+        words: Vec::new(alloc),
+        files: BTreeMap::new(alloc),
+    };
+    if !line.is_empty() {
+        for word in line.split(|byte| *byte == b'|') {
+            given.take(alloc, script, word)?;
+        }
+    }
+    Ok(given)
 }
 
 /// Whether a name is that of a file, or of one in a folder, which a word names.

@@ -57,45 +57,27 @@ impl Script {
         self.takes_word(alloc, line)
     }
 
+    /// Takes a line that begins with such a word.
     fn takes_word(&mut self, alloc: Global, line: &[u8]) -> Result<bool, AllocError> {
         let (call, rest) = words::cut(line);
-        match call {
-            b"text" => {
-                self.remove(rest);
-                let name = Vec::from_slice(alloc, rest)?;
-                let bytes = Vec::new(alloc);
-                self.texts.push(Text { name, bytes })?;
-                Ok(true)
-            }
-            b"without" => {
-                self.remove(rest);
-                Ok(true)
-            }
-            b"folder" => {
-                let (name, other) = words::cut(rest);
-                self.copy_folder(alloc, name, other)?;
-                Ok(true)
-            }
-            b"front" => {
-                let (name, count) = words::cut(rest);
-                let bytes = Vec::from_slice(
-                    alloc,
-                    lines_at(self.text(name), words::number(count)).0,
-                )?;
-                self.push(&bytes)?;
-                Ok(true)
-            }
-            b"rest" => {
-                let (name, count) = words::cut(rest);
-                let bytes = Vec::from_slice(
-                    alloc,
-                    lines_at(self.text(name), words::number(count)).1,
-                )?;
-                self.push(&bytes)?;
-                Ok(true)
-            }
-            _ => Ok(false),
+        match str::from_utf8(call).unwrap_or("") {
+            "text" => self.begin(alloc, rest)?,
+            "without" => self.remove(rest),
+            "folder" => self.copy_folder(alloc, rest)?,
+            "front" => self.push_front(alloc, rest)?,
+            "rest" => self.push_rest(alloc, rest)?,
+            _ => return Ok(false),
         }
+        Ok(true)
+    }
+
+    /// Begins a text of this name.
+    fn begin(&mut self, alloc: Global, name: &[u8]) -> Result<(), AllocError> {
+        self.remove(name);
+        let name = Vec::from_slice(alloc, name)?;
+        let bytes = Vec::new(alloc);
+        self.texts.push(Text { name, bytes })?;
+        Ok(())
     }
 
     /// Takes the text of this name away.
@@ -103,26 +85,32 @@ impl Script {
         self.texts.retain(|text| text.name.as_slice() != name);
     }
 
-    /// Copies each text in a folder into another one.
-    fn copy_folder(&mut self, alloc: Global, name: &[u8], other: &[u8]) -> Result<(), AllocError> {
+    /// Copies each text in a folder into another one; of the two words, that one's name stands first.
+    fn copy_folder(&mut self, alloc: Global, names: &[u8]) -> Result<(), AllocError> {
+        let (name, other) = words::cut(names);
         let mut copies = Vec::new(alloc);
         for text in &self.texts {
-            if let Some(rest) = text.name.strip_prefix(other) {
-                if rest.starts_with(b"/") {
-                    let mut copied = Vec::from_slice(alloc, name)?;
-                    copied.extend_from_slice(rest)?;
-                    let bytes = Vec::from_slice(alloc, &text.bytes)?;
-                    copies.push(Text {
-                        name: copied,
-                        bytes,
-                    })?;
-                }
+            if let Some(path) = path_in(other, &text.name) {
+                copies.push(text.copied(alloc, name, path)?)?;
             }
         }
-        for copy in copies {
-            self.texts.push(copy)?;
-        }
-        Ok(())
+        self.texts.append(&mut copies)
+    }
+
+    /// The first lines of an earlier text, and what is behind them; the words are its name and how many lines.
+    fn parted(&self, words: &[u8]) -> (&[u8], &[u8]) {
+        let (name, count) = words::cut(words);
+        lines_at(self.text(name), words::number(count))
+    }
+
+    fn push_front(&mut self, alloc: Global, words: &[u8]) -> Result<(), AllocError> {
+        let bytes = Vec::from_slice(alloc, self.parted(words).0)?;
+        self.push(&bytes)
+    }
+
+    fn push_rest(&mut self, alloc: Global, words: &[u8]) -> Result<(), AllocError> {
+        let bytes = Vec::from_slice(alloc, self.parted(words).1)?;
+        self.push(&bytes)
     }
 
     /// Puts bytes at the end of the last text.
@@ -131,6 +119,26 @@ impl Script {
             last.bytes.extend_from_slice(bytes)?;
         }
         Ok(())
+    }
+}
+
+impl Text {
+    /// This text at a path in another folder.
+    fn copied(&self, alloc: Global, folder: &[u8], path: &[u8]) -> Result<Text, AllocError> {
+        let bytes = Vec::from_slice(alloc, &self.bytes)?;
+        let mut name = Vec::from_slice(alloc, folder)?;
+        name.extend_from_slice(path)?;
+        Ok(Text { name, bytes })
+    }
+}
+
+/// The path of this name in a folder, with the slash before it.
+fn path_in<'a>(folder: &[u8], name: &'a [u8]) -> Option<&'a [u8]> {
+    let path = name.strip_prefix(folder)?;
+    if path.starts_with(b"/") {
+        Some(path)
+    } else {
+        None
     }
 }
 
@@ -175,16 +183,17 @@ fn unescaped(alloc: Global, line: &[u8]) -> Result<Vec<u8>, AllocError> {
     Ok(bytes)
 }
 
+/// Takes a byte as it stands in the line.
 fn take_byte(bytes: &mut Vec<u8>, read: Read, byte: u8) -> Result<Read, AllocError> {
-    match (read, byte) {
+    let meant = match (read, byte) {
         (Read::Byte, b'\\') => return Ok(Read::Backslash),
         (Read::Backslash, b'x') => return Ok(Read::Hex),
         (Read::Hex, _) => return Ok(Read::HighDigit(words::digit(byte))),
-        (Read::Byte, _) => bytes.push(byte)?,
-        (Read::Backslash, b'r') => bytes.push(b'\r')?,
-        (Read::Backslash, b't') => bytes.push(b'\t')?,
-        (Read::Backslash, _) => bytes.push(byte)?,
-        (Read::HighDigit(high), _) => bytes.push((high << 4) | words::digit(byte))?,
-    }
+        (Read::Backslash, b'r') => b'\r',
+        (Read::Backslash, b't') => b'\t',
+        (Read::HighDigit(high), _) => (high << 4) | words::digit(byte),
+        (Read::Byte | Read::Backslash, _) => byte,
+    };
+    bytes.push(meant)?;
     Ok(Read::Byte)
 }

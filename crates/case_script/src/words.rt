@@ -65,20 +65,21 @@ fn limited(caps: Caps, words: &[u8]) -> (Caps, &[u8]) {
     }
 }
 
+/// The kind that a word names.
 fn kind(name: &[u8]) -> Option<Kind> {
-    match name {
-        b"nodes" => Some(Kind::Nodes),
-        b"arcs" => Some(Kind::Arcs),
-        b"links" => Some(Kind::Links),
-        b"stops" => Some(Kind::Stops),
-        b"trips" => Some(Kind::Trips),
-        b"calls" => Some(Kind::Calls),
-        b"osm_nodes" => Some(Kind::OsmNodes),
-        b"ways" => Some(Kind::Ways),
-        b"refs" => Some(Kind::Refs),
-        b"routes" => Some(Kind::Routes),
-        b"services" => Some(Kind::Services),
-        b"dates" => Some(Kind::Dates),
+    match str::from_utf8(name).ok()? {
+        "nodes" => Some(Kind::Nodes),
+        "arcs" => Some(Kind::Arcs),
+        "links" => Some(Kind::Links),
+        "stops" => Some(Kind::Stops),
+        "trips" => Some(Kind::Trips),
+        "calls" => Some(Kind::Calls),
+        "osm_nodes" => Some(Kind::OsmNodes),
+        "ways" => Some(Kind::Ways),
+        "refs" => Some(Kind::Refs),
+        "routes" => Some(Kind::Routes),
+        "services" => Some(Kind::Services),
+        "dates" => Some(Kind::Dates),
         _ => None,
     }
 }
