@@ -1,19 +1,25 @@
 //! The sample city, a network to try a planner on.
 
-ghost use Rattle.std.specs.Prelude.{◌≡◌, ◌<◌, ◌≤◌, ◌^◌, None, IfErr, IfOk, OnOk};
+ghost use Rattle.std.specs.Prelude.{◌≡◌, ◌<◌, ◌≤◌, ◌^◌, None, IfErr, IfOk, OnOk, length};
+ghost use Rattle.std.specs.List.{flat_map};
+ghost use Rattle.std.specs.List.Sorted.{IsPermutation};
 ghost use Rattle.service_days.specs.Days.{plain_days};
 ghost use Rattle.mode_network.specs.Rules.{AreParts, first_fault};
+ghost use Rattle.sample_city.specs.Roads.{arcs_at, road_number};
+ghost use Rattle.sample_city.specs.Stops.{city_links};
 ghost use Rattle.sample_city.specs.SampleCity.{IsRefusal, IsSampleCity};
+ghost use Rattle.sample_city.specs.Trips.{city_trips};
 
-use crate::corners::{all_corners, stop_lines};
+use crate::corners::{Corner, all_corners, stop_lines};
 use crate::roads::{road_nodes, road_numbers};
-use crate::stops::{city_links, city_stops, city_switches, names_of, stop_nodes};
+use crate::stops::{CityStop, city_links, city_stops, city_switches, names_of, stop_nodes};
 use crate::streets::city_arcs;
 use crate::trips::city_trips;
-use mode_network::{NetFault, Network, Parts};
+use mode_network::{Arc, NetFault, Network, Node, Parts};
 use plan_base::Caps;
 use service_days::Days;
 use std::alloc::{AllocError, Global};
+use timetable_arcs::Trip;
 
 /// More than 2^31 things are never held.
 fn are_few(count: usize) -> Result<(), AllocError>
@@ -34,6 +40,45 @@ fn ten_days(alloc: Global) -> Result<Days, AllocError>
     }
 }
 
+/// The road arcs and the links of the city.
+#[derive(Drop)]
+struct Ways {
+    arcs: Vec<Arc>,
+    links: Vec<Arc>,
+}
+
+/// The ways between these corners, road nodes and stops.
+fn city_ways(
+    alloc: Global,
+    n: u32,
+    corners: &[Corner],
+    roads: &[Node],
+    city: &[CityStop],
+) -> Result<Ways, AllocError>
+    requires some { 1 ≤ n }
+    requires size { n ≤ 300 }
+    requires few_roads { length roads.now < 2 ^ 31 }
+    requires few_stops { length city.now < 2 ^ 31 }
+    ensures arcs { IfOk result (λ ways. IsPermutation (flat_map (arcs_at n (road_number roads.now)) corners.now) ways.arcs.items) }
+    ensures links { IfOk result (λ ways. IsPermutation (city_links n (road_number roads.now) (length roads.now) city.now) ways.links.items) }
+{
+    let numbers = road_numbers(alloc, roads)?;
+    let arcs = city_arcs(alloc, &numbers, n, corners)?;
+    let links = city_links(alloc, &numbers, n, roads.len() as u32, city)?;
+    Ok(Ways { arcs, links })
+}
+
+/// The trips between these stops.
+fn trips_between(alloc: Global, n: u32, city: &[CityStop]) -> Result<Vec<Trip>, AllocError>
+    requires size { n ≤ 300 }
+    requires few { length city.now < 2 ^ 31 }
+    ensures { IfOk result (λ trips. trips.items ≡ city_trips n city.now) }
+{
+    let lines = stop_lines(alloc, n)?;
+    city_trips(alloc, city, n, &lines)
+}
+
+/// The parts of the city.
 fn parts_of(alloc: Global, n: u32) -> Result<Parts, AllocError>
     requires some { 1 ≤ n }
     requires size { n ≤ 300 }
@@ -43,14 +88,11 @@ fn parts_of(alloc: Global, n: u32) -> Result<Parts, AllocError>
     let all = all_corners(alloc, n)?;
     let corners = all.as_slice();
     let roads = road_nodes(alloc, corners)?;
-    let city = city_stops(alloc, corners)?;
     are_few(roads.len())?;
+    let city = city_stops(alloc, corners)?;
     are_few(city.len())?;
-    let numbers = road_numbers(alloc, &roads)?;
-    let arcs = city_arcs(alloc, &numbers, n, corners)?;
-    let links = city_links(alloc, &numbers, n, roads.len() as u32, &city)?;
-    let lines = stop_lines(alloc, n)?;
-    let trips = city_trips(alloc, &city, n, &lines)?;
+    let Ways { arcs, links } = city_ways(alloc, n, corners, &roads, &city)?;
+    let trips = trips_between(alloc, n, &city)?;
     let stops = stop_nodes(alloc, &city)?;
     let switches = city_switches(alloc, n)?;
     let days = ten_days(alloc)?;
