@@ -1,5 +1,5 @@
 /// What may stand next in the text of an expression.
-#[derive(Debug, Clone, Copy, PartialEq, Eq)]
+#[derive(Clone, Copy)]
 pub enum Place {
     /// A name or `(`.
     NeedsAtom,

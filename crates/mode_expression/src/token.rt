@@ -8,7 +8,7 @@ use crate::expr::{ANY, TRANSIT};
 use crate::letter::Letter;
 
 /// What the text of an expression is made of.
-#[derive(Debug, Clone, Copy, PartialEq, Eq)]
+#[derive(Clone, Copy)]
 pub enum Token {
     /// A name, as the bits of the letters that it stands for.
     Name(u32),
@@ -28,7 +28,7 @@ pub enum Token {
 }
 
 /// A token's place in a text: from `at` up to `end`.
-#[derive(Debug, Clone, Copy)]
+#[derive(Clone, Copy)]
 pub struct Spot {
     pub at: usize,
     pub end: usize,
