@@ -16,7 +16,7 @@ use plan_base::Place;
 use std::alloc::{AllocError, Global};
 
 /// A stop: its name, the OSM id of the nodes at its corner, and where that lies.
-#[derive(Debug, Drop)]
+#[derive(Drop)]
 pub(crate) struct CityStop {
     pub(crate) name: Name,
     pub(crate) id: u32,
