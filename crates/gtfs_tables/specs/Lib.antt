@@ -1,4 +1,4 @@
--- What a feed means: Feeds, with a page for each table, and Sound. RowsLeft, Finding and Holding tell what is kept while rows are read.
+-- What a feed means: Feeds, with a page for each table, and Sound. RowsLeft, Finding, Holding and ReadTables tell what is kept while rows and tables are read.
 pub mod Answers
 pub mod Columns
 pub mod Files
@@ -19,3 +19,4 @@ pub mod Sound
 pub mod RowsLeft
 pub mod Finding
 pub mod Holding
+pub mod ReadTables

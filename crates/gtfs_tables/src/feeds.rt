@@ -3,6 +3,7 @@
 ghost use Rattle.std.specs.Prelude.{◌≡◌, None, Ok, IfOk, IfErr};
 ghost use Rattle.gtfs_tables.specs.Answers.{IsFaultOf};
 ghost use Rattle.gtfs_tables.specs.Feeds.{feed_of, first_absent, required};
+ghost use Rattle.gtfs_tables.specs.ReadTables.{AreRuns, IsBasis, rows_of};
 ghost use Rattle.gtfs_tables.specs.Sound.{IsFeed};
 
 use crate::agencies::check_agencies;
@@ -68,18 +69,78 @@ fn first_absent(files: &FeedFiles<'_>) -> Option<FeedFile>
     }
 }
 
-/// The rows of all tables, without the ids.
-fn gathered(
+/// The tables that those of the trips are checked against, and the calendar.
+#[derive(Drop)]
+pub(crate) struct Basis {
     stops: Listed<StopRow>,
     routes: Listed<RouteRow>,
     services: Vec<ServiceRow>,
     dates: Vec<DateRow>,
+}
+
+/// The tables of the trips.
+#[derive(Drop)]
+pub(crate) struct Runs {
     trips: Listed<TripRow>,
     frequencies: Vec<FrequencyRow>,
     calls: Vec<CallRow>,
-) -> Feed
-    ensures { result ≡ record { stops = stops.rows.items; routes = routes.rows.items; services = services.items; dates = dates.items; trips = trips.rows.items; frequencies = frequencies.items; calls = calls.items } }
+}
+
+/// Reads the files of a feed down to the dates. All that are required are there.
+fn read_basis(alloc: Global, files: &FeedFiles<'_>, caps: &Caps) -> Result<Basis, FeedFault>
+    requires { first_absent (required files.now) ≡ None }
+    ensures basis { IfOk result (IsBasis caps.now files.now) }
+    ensures fault { IfErr result (IsFaultOf (feed_of caps.now files.now)) }
 {
+    check_agencies(alloc, files.agency)?;
+    let stops = read_stops(alloc, caps, files.stops)?;
+    let routes = read_routes(alloc, caps, files.routes)?;
+    let services = read_services(alloc, caps, files.calendar)?;
+    let dates = read_dates(alloc, caps, files.calendar_dates)?;
+    Ok(Basis {
+        stops,
+        routes,
+        services,
+        dates,
+    })
+}
+
+/// Reads the files of a feed from the trips on.
+fn read_runs(
+    alloc: Global,
+    files: &FeedFiles<'_>,
+    caps: &Caps,
+    basis: &Basis,
+) -> Result<Runs, FeedFault>
+    requires { IsBasis caps.now files.now basis.now }
+    ensures runs { IfOk result (AreRuns caps.now files.now basis.now) }
+    ensures fault { IfErr result (IsFaultOf (feed_of caps.now files.now)) }
+{
+    let trips = read_trips(alloc, caps, &basis.routes.ids, files.trips)?;
+    let frequencies = read_frequencies(alloc, &trips.ids, files.frequencies)?;
+    let calls = read_calls(alloc, caps, &trips.ids, &basis.stops.ids, files.stop_times)?;
+    Ok(Runs {
+        trips,
+        frequencies,
+        calls,
+    })
+}
+
+/// The rows of all tables, without the ids.
+fn gathered(basis: Basis, runs: Runs) -> Feed
+    ensures { result ≡ rows_of basis runs }
+{
+    let Basis {
+        stops,
+        routes,
+        services,
+        dates,
+    } = basis;
+    let Runs {
+        trips,
+        frequencies,
+        calls,
+    } = runs;
     Feed {
         stops: stops.rows,
         routes: routes.rows,
@@ -98,15 +159,9 @@ fn read_present(alloc: Global, files: &FeedFiles<'_>, caps: &Caps) -> Result<Fee
     ensures sound { IfOk result IsFeed }
     ensures fault { IfErr result (IsFaultOf (feed_of caps.now files.now)) }
 {
-    check_agencies(alloc, files.agency)?;
-    let stops = read_stops(alloc, caps, files.stops)?;
-    let routes = read_routes(alloc, caps, files.routes)?;
-    let services = read_services(alloc, caps, files.calendar)?;
-    let dates = read_dates(alloc, caps, files.calendar_dates)?;
-    let trips = read_trips(alloc, caps, &routes.ids, files.trips)?;
-    let frequencies = read_frequencies(alloc, &trips.ids, files.frequencies)?;
-    let calls = read_calls(alloc, caps, &trips.ids, &stops.ids, files.stop_times)?;
-    Ok(gathered(stops, routes, services, dates, trips, frequencies, calls))
+    let basis = read_basis(alloc, files, caps)?;
+    let runs = read_runs(alloc, files, caps, &basis)?;
+    Ok(gathered(basis, runs))
 }
 
 /// Reads the files of a feed: the rows of its tables, or the first fault.

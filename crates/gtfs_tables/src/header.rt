@@ -1,11 +1,16 @@
 //! The header of a table.
 
-ghost use Rattle.std.specs.Prelude.{◌≡◌, OnOk};
+ghost use Rattle.std.specs.Prelude.{◌≡◌, None, Some, IfErr, IfOk, OnOk};
 ghost use Rattle.csv.specs.Records.{fields_of};
 ghost use Rattle.gtfs_tables.specs.Columns.{place_of};
+ghost use Rattle.gtfs_tables.specs.Answers.{IsWantOr};
 ghost use Rattle.gtfs_tables.specs.Finding.{AreFound};
+ghost use Rattle.gtfs_tables.specs.Tables.{header_in, missing_column, rows_below};
 
-use crate::columns::{Column, place_of};
+use crate::columns::{Column, first_missing, place_of};
+use crate::faults::FeedFault;
+use crate::files::FeedFile;
+use crate::records::Rows;
 use csv::ByteRecord;
 use std::alloc::{AllocError, Global};
 use std::marker::Model;
@@ -48,7 +53,7 @@ impl Header {
     ghost use Rattle.csv.specs.Records.{fields_of};
 
     /// The header with these fields. The columns that are read below it are found once.
-    pub(crate) fn new(
+    fn new(
         alloc: Global,
         fields: ByteRecord,
         needed: &[Column],
@@ -73,4 +78,25 @@ impl Header {
         }
         place_of(&self.fields, column)
     }
+}
+
+/// Takes the header of a file, and leaves the rows below it. A file without a row has a header that names no column.
+pub(crate) fn take_header(
+    alloc: Global,
+    file: FeedFile,
+    needed: &[Column],
+    optional: &[Column],
+    rows: &mut Rows<'_>,
+) -> Result<Header, FeedFault>
+    ensures header { IfOk result (λ header. header ≡ header_in rows.old) }
+    ensures rows { OnOk result (rows.new ≡ rows_below rows.old) }
+    ensures named { OnOk result (missing_column file needed.now (header_in rows.old) ≡ None) }
+    ensures fault { IfErr result (λ fault. IsWantOr fault (missing_column file needed.now (header_in rows.old) ≡ Some fault)) }
+{
+    let fields = rows.take()?.unwrap_or(ByteRecord::new(alloc));
+    if let Some(column) = first_missing(&fields, needed) {
+        return Err(FeedFault::MissingColumn { file, column });
+    }
+    let header = Header::new(alloc, fields, needed, optional)?;
+    Ok(header)
 }

@@ -1,15 +1,11 @@
 //! The rows of a table.
 
-ghost use Rattle.std.specs.Prelude.{◌≡◌, ◌∷◌, [], None, Some, IfErr, IfOk, MatchOption, OnOk};
+ghost use Rattle.std.specs.Prelude.{◌≡◌, ◌∷◌, [], IfOk, MatchOption};
 ghost use Rattle.csv.specs.Reading.{error_kind};
 ghost use Rattle.csv.specs.Records.{fields_of};
 ghost use Rattle.gtfs_tables.specs.RowsLeft.{HasStepped, IsWant, TakesRows};
-ghost use Rattle.gtfs_tables.specs.Tables.{header_in, missing_column, rows_below, rows_of};
-ghost use Rattle.gtfs_tables.specs.Answers.{IsWantOr};
+ghost use Rattle.gtfs_tables.specs.Tables.{rows_of};
 
-use crate::columns::{Column, first_missing};
-use crate::faults::FeedFault;
-use crate::files::FeedFile;
 use csv::{ByteRecord, ByteRecordsIntoIter, Error, ErrorKind, ReaderBuilder};
 use std::alloc::{AllocError, Global};
 use std::marker::Model;
@@ -85,25 +81,5 @@ impl<'a> Rows<'a> {
                 Err(want_of_memory(error))
             }
         }
-    }
-}
-
-/// The header of a file, and the rows below it. A file without a row has a header that names no column.
-pub(crate) fn open<'a>(
-    alloc: Global,
-    file: FeedFile,
-    needed: &[Column],
-    text: &'a [u8],
-) -> Result<(ByteRecord, Rows<'a>), FeedFault>
-    ensures header { IfOk result (λ opened. fields_of opened.0 ≡ header_in (rows_of text.now)) }
-    ensures rows { IfOk result (λ opened. opened.1 ≡ rows_below (rows_of text.now)) }
-    ensures named { OnOk result (missing_column file needed.now (header_in (rows_of text.now)) ≡ None) }
-    ensures fault { IfErr result (λ fault. IsWantOr fault (missing_column file needed.now (header_in (rows_of text.now)) ≡ Some fault)) }
-{
-    let mut rows = Rows::new(alloc, text);
-    let header = rows.take()?.unwrap_or(ByteRecord::new(alloc));
-    match first_missing(&header, needed) {
-        Some(column) => Err(FeedFault::MissingColumn { file, column }),
-        None => Ok((header, rows)),
     }
 }

@@ -1,6 +1,6 @@
 //! Reading a table row by row.
 
-ghost use Rattle.std.specs.Prelude.{◌≡◌, ◌<◌, ◌≤◌, [], ◌++◌, List, length, option_to_list, IfErr, IfOk, MatchResult, OnOk};
+ghost use Rattle.std.specs.Prelude.{◌≡◌, ◌<◌, ◌≤◌, [], ◌++◌, List, length, option_to_list, Some, IfErr, IfOk, MatchResult, OnOk};
 ghost use Rattle.gtfs_tables.specs.Answers.{IsFaultOf, IsWantOr};
 ghost use Rattle.gtfs_tables.specs.FeedLists.{bytes_of};
 ghost use Rattle.gtfs_tables.specs.Holding.{AreTaken, IsRead, TakesRow};
@@ -10,9 +10,9 @@ ghost use Rattle.gtfs_tables.specs.declared.faults.FeedFault.TheVariants.{TooMan
 use crate::columns::Column;
 use crate::faults::FeedFault;
 use crate::files::FeedFile;
-use crate::header::Header;
+use crate::header::{Header, take_header};
 use crate::ids::Ids;
-use crate::records::{Rows, open};
+use crate::records::Rows;
 use crate::table_rows::TableRow;
 use plan_base::Kind;
 use std::alloc::{AllocError, Global};
@@ -76,12 +76,12 @@ fn take_rows<T: TakesRows>(
     table: &mut T,
     file: FeedFile,
     header: &Header,
-    mut rows: Rows<'_>,
+    rows: &mut Rows<'_>,
 ) -> Result<(), FeedFault>
     requires file { file ≡ (T.table table.old).file }
     requires nothing { T.keeps table.old [] }
     ensures table { OnOk result (T.table table.new ≡ T.table table.old) }
-    ensures rows { MatchResult result (λ _. AreTaken (T.table table.old) header.now rows.entry (T.keeps table.new)) (IsFaultOf (rows_behind (T.table table.old) header.now [] rows.entry)) }
+    ensures rows { MatchResult result (λ _. AreTaken (T.table table.old) header.now rows.old (T.keeps table.new)) (IsFaultOf (rows_behind (T.table table.old) header.now [] rows.old)) }
 {
     let mut number: u64 = 1;
     while let Some(fields) = rows.take()? {
@@ -90,6 +90,27 @@ fn take_rows<T: TakesRows>(
         table.take(&row)?;
     }
     Ok(())
+}
+
+/// Reads the text of a table, as [`read_table`] does.
+fn read_text<T: TakesRows>(
+    alloc: Global,
+    table: &mut T,
+    file: FeedFile,
+    needed: &[Column],
+    optional: &[Column],
+    text: &[u8],
+) -> Result<(), FeedFault>
+    requires file { file ≡ (T.table table.old).file }
+    requires needed { needed.now ≡ (T.table table.old).needed }
+    requires nothing { T.keeps table.old [] }
+    ensures table { OnOk result (T.table table.new ≡ T.table table.old) }
+    ensures rows { OnOk result (IsRead (T.table table.old) (Some text.now) (T.keeps table.new)) }
+    ensures fault { IfErr result (IsFaultOf (records_of (T.table table.old) (Some text.now))) }
+{
+    let mut rows = Rows::new(alloc, text);
+    let header = take_header(alloc, file, needed, optional, &mut rows)?;
+    take_rows(table, file, &header, &mut rows)
 }
 
 /// Reads a table: all its rows are taken, or the first fault is answered. Its header must name the `needed` columns, and
@@ -109,11 +130,8 @@ pub(crate) fn read_table<T: TakesRows>(
     ensures rows { IfOk result (λ read. IsRead (T.table table) (bytes_of text.entry) (T.keeps read)) }
     ensures fault { IfErr result (IsFaultOf (records_of (T.table table) (bytes_of text.entry))) }
 {
-    let Some(text) = text else {
-        return Ok(table);
-    };
-    let (fields, rows) = open(alloc, file, needed, text)?;
-    let header = Header::new(alloc, fields, needed, optional)?;
-    take_rows(&mut table, file, &header, rows)?;
+    if let Some(text) = text {
+        read_text(alloc, &mut table, file, needed, optional, text)?;
+    }
     Ok(table)
 }
