@@ -34,23 +34,21 @@ fn read_held(alloc: Global, held: &mut Vec<u8>, line: &[u8]) -> Result<Line, All
     Ok(read)
 }
 
-/// What was gathered, with the last line, if it is not empty.
-fn with_last_line(
+/// Judges the last line, if it is not empty.
+fn take_last_line(
     alloc: Global,
     caps: &Caps,
-    gathered: Gathered,
+    gathered: &mut Gathered,
     line: &[u8],
-) -> Result<Gathered, OplFault>
-    ensures ok { IfOk result (λ all. last_line caps.now (lists_of gathered) line.now ≡ Ok (lists_of all)) }
-    ensures fault { IfErr result (IsFaultOf (last_line caps.now (lists_of gathered) line.now)) }
+) -> Result<(), OplFault>
+    ensures ok { OnOk result (last_line caps.now (lists_of gathered.old) line.now ≡ Ok (lists_of gathered.new)) }
+    ensures fault { IfErr result (IsFaultOf (last_line caps.now (lists_of gathered.old) line.now)) }
 {
-    let mut all = gathered;
     if line.is_empty() {
-        return Ok(all);
+        return Ok(());
     }
     let read = read_line(alloc, line)?;
-    all.take(caps, read)?;
-    Ok(all)
+    gathered.take(caps, read)
 }
 
 impl Reader {
@@ -98,10 +96,10 @@ impl Reader {
         let Reader {
             alloc,
             caps,
-            gathered,
+            mut gathered,
             held,
         } = self;
-        let gathered = with_last_line(alloc, &caps, gathered, &held)?;
+        take_last_line(alloc, &caps, &mut gathered, &held)?;
         let objects = gathered.into_objects(alloc)?;
         Ok(objects)
     }
