@@ -1,6 +1,7 @@
 //! From bytes to a network.
 
 ghost use Rattle.std.specs.Prelude.{◌≡◌, option_map, IfOk, IfErr};
+ghost use Rattle.std.specs.Result.{result_map_both};
 ghost use Rattle.plain_texts.specs.Course.{lines_from};
 ghost use Rattle.plain_texts.specs.Lines.{pieces};
 ghost use Rattle.mode_network.specs.NetworkLists.{NetworkLists};
@@ -45,26 +46,26 @@ fn line_behind<'a>(
     }
 }
 
-/// The parts with what the lines of `rest` say, where the first of them is line 3 of a region text and
+/// Puts to the parts what the lines of `rest` say, where the first of them is line 3 of a region text and
 /// stands behind `progress`.
-fn read_lines(
+fn read_lines<'a>(
     alloc: Global,
-    mut parts: Parts,
+    words: &mut Vec<&'a [u8]>,
+    parts: &mut Parts,
     mut progress: Progress,
-    mut rest: &[u8],
-) -> Result<Parts, RegionFault>
-    ensures { Gives result (put_all parts (lines_from line_at is_end progress 3 (pieces rest.now))) }
+    mut rest: &'a [u8],
+) -> Result<(), RegionFault>
+    ensures { Gives (result_map_both (λ _. parts.new) (λ fault. fault) result) (put_all parts.old (lines_from line_at is_end progress 3 (pieces rest.now))) }
 {
-    let mut words = Vec::new(alloc);
     let mut at = 3;
     loop {
         let Some((line, behind)) = next_line(rest) else {
             return Err(RegionFault::BadRecord { at });
         };
-        let Some((line, next)) = line_behind(alloc, &mut words, progress, line)? else {
+        let Some((line, next)) = line_behind(alloc, words, progress, line)? else {
             return Err(RegionFault::BadRecord { at });
         };
-        put(alloc, &mut parts, line)?;
+        put(alloc, parts, line)?;
         rest = behind;
         progress = next;
         at += 1;
@@ -72,17 +73,20 @@ fn read_lines(
             if !rest.is_empty() {
                 return Err(RegionFault::Trailing { at });
             }
-            return Ok(parts);
+            return Ok(());
         }
     }
 }
 
 /// The days that a text spells, if it is a line of days.
-fn first_line(alloc: Global, text: &[u8]) -> Result<Option<Days>, AllocError>
+fn first_line<'a>(
+    alloc: Global,
+    words: &mut Vec<&'a [u8]>,
+    text: &'a [u8],
+) -> Result<Option<Days>, AllocError>
     ensures { IfOk result (λ read. option_map (λ days. (line.Days days, behind_days)) read ≡ line_at start text.now) }
 {
-    let mut words = Vec::new(alloc);
-    match line_behind(alloc, &mut words, Progress::start(), text)? {
+    match line_behind(alloc, words, Progress::start(), text)? {
         Some((line, _)) => match line {
             Line::Days(days) => Ok(Some(days)),
             _ => Ok(None),
@@ -91,16 +95,24 @@ fn first_line(alloc: Global, text: &[u8]) -> Result<Option<Days>, AllocError>
     }
 }
 
-/// The parts that the text behind the head line spells.
+/// The parts that the text behind the head line spells. The words of its lines are put in `words`, in turn.
 #[tactic(auto, unfolding(crate::specs::Regions::lists_in_text))]
-fn read_parts(alloc: Global, text: &[u8]) -> Result<Parts, RegionFault>
+fn read_parts<'a>(
+    alloc: Global,
+    words: &mut Vec<&'a [u8]>,
+    text: &'a [u8],
+) -> Result<Parts, RegionFault>
     ensures { Gives result (lists_in_text text.now) }
 {
     let Some((line, rest)) = next_line(text) else {
         return Err(RegionFault::BadRecord { at: 2 });
     };
-    match first_line(alloc, line)? {
-        Some(days) => read_lines(alloc, no_parts(alloc, days), Progress::behind_days(), rest),
+    match first_line(alloc, words, line)? {
+        Some(days) => {
+            let mut parts = no_parts(alloc, days);
+            read_lines(alloc, words, &mut parts, Progress::behind_days(), rest)?;
+            Ok(parts)
+        }
         None => Err(RegionFault::BadRecord { at: 2 }),
     }
 }
@@ -155,7 +167,7 @@ fn read_either(alloc: Global, bytes: &[u8]) -> Result<Parts, RegionFault>
     ensures { Gives result (lists_by bytes.now (behind_head bytes.now)) }
 {
     match behind_head(bytes) {
-        Some(text) => read_parts(alloc, text),
+        Some(text) => read_parts(alloc, &mut Vec::new(alloc), text),
         None => read_records(alloc, bytes),
     }
 }

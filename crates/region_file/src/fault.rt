@@ -32,7 +32,7 @@ impl From<AllocError> for RegionFault {
 }
 
 /// Why the reading of records stopped.
-#[derive(Clone, Copy, Debug, PartialEq, Eq)]
+#[derive(Clone, Copy)]
 pub enum Halt {
     Memory,
     /// So many bytes were left where the record begins that may not stand there.

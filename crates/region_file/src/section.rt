@@ -6,7 +6,7 @@ ghost use Rattle.region_file.specs.Sections.{behind, behind_days, due_behind, is
 use crate::lines::Line;
 
 /// The sections of a region text, in their order. `Start` stands before the first line.
-#[derive(Clone, Copy, Debug, PartialEq, Eq)]
+#[derive(Clone, Copy)]
 pub enum Section {
     Start,
     Days,
@@ -70,7 +70,7 @@ impl Section {
 
 /// A place between two lines of a region text: the section of the line before, and how many calls of the last
 /// trip are still to come.
-#[derive(Clone, Copy, Debug, PartialEq, Eq)]
+#[derive(Clone, Copy)]
 pub struct Progress {
     pub section: Section,
     pub calls_due: u32,

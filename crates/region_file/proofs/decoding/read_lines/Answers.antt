@@ -40,6 +40,6 @@ loop-line-preserved c =
     let going : is_end c.in-Some-2.next ≡ false = search rules in
     let put_is : c.put.new.parts ≡ put c.loop-line.parts c.in-Some-2.line = search rules in
     let step = good_line c.loop-line.parts c.loop-line.progress c.loop-line.at c.loop-line.rest.now _ _ _ _ cut read going in
-    let kept : put_all c.put.new.parts (lines_from line_at is_end c.in-Some-2.next (c.loop-line.at + 1) (pieces c.in-Some.behind.now)) ≡ put_all c.args.parts (lines_from line_at is_end c.args.progress 3 (pieces c.args.rest.now))
+    let kept : put_all c.put.new.parts (lines_from line_at is_end c.in-Some-2.next (c.loop-line.at + 1) (pieces c.in-Some.behind.now)) ≡ put_all c.args.parts.now (lines_from line_at is_end c.args.progress 3 (pieces c.args.rest.now))
     = ap (λ n. put_all n (lines_from line_at is_end c.in-Some-2.next (c.loop-line.at + 1) (pieces c.in-Some.behind.now))) put_is ∙ sym step ∙ c.loop-line.invariant.0 in
     (kept, omega (arith, c.in-Some.ensures.shorter))
