@@ -88,9 +88,10 @@ module _ (caps : Caps) {objects : ObjectLists} {feed : FeedLists} {days : DaysMe
     pub are_compiled : IsCompiled caps objects feed days parts
     are_compiled = subst (IsCompiled caps objects feed days) (sym are) (record { entries = entries; sources = sources; draft = draft; faultless = same ∙ none })
 
-    module _ (sound : AreObjects objects) where
-      pub are_parts : AreParts parts
-      are_parts = subst AreParts (sym are) (lists_are_parts objects entries drafted sound lists refl)
+-- what was compiled can be built
+module _ (caps : Caps) (objects : ObjectLists) (feed : FeedLists) (days : DaysMeaning) (n : NetworkLists) (sound : AreObjects objects) (compiled : IsCompiled caps objects feed days n) where
+  pub compiled_are_parts : AreParts n
+  compiled_are_parts = lists_are_parts objects compiled.entries n sound compiled.draft.lists compiled.draft.names
 
-      pub are_faultless : IsFeed feed → AreDays days → first_fault caps parts ≡ None
-      are_faultless right days_sound = subst (λ parts. first_fault caps parts ≡ None) (sym are) (draft_keeps caps objects feed days entries sources drafted sound right days_sound draft (same ∙ none))
+  pub compiled_keep : IsFeed feed → AreDays days → first_fault caps n ≡ None
+  compiled_keep right days_sound = draft_keeps caps objects feed days compiled.entries compiled.sources n sound right days_sound compiled.draft compiled.faultless

@@ -4,6 +4,7 @@ use Rattle.plan_base.specs.declared.limits.Caps.{Caps}
 use Rattle.plan_base.specs.declared.limits.Kind.{Kind}
 use Rattle.plan_base.specs.declared.limits.Kind.TheVariants as kind
 use Rattle.service_days.specs.DaysMeaning.{DaysMeaning}
+use Rattle.timetable_arcs.specs.Trips.{TripLists}
 use Rattle.opl_reader.specs.declared.objects.OsmNode.{OsmNode}
 use Rattle.opl_reader.specs.ObjectLists.{ObjectLists}
 use Rattle.road_profile.specs.Arcs.{AreRoadArcs}
@@ -20,6 +21,7 @@ use Rattle.region_build.specs.Roads.{AreInOrder, arcs_of, road_nodes}
 use Rattle.region_build.specs.Sources.{AreSources, SourceLists}
 use Rattle.region_build.specs.StopNames.{AreEntries, stop_nodes, stop_number}
 use Rattle.region_build.specs.Switches.{AreSwitches, switch_node}
+use Rattle.region_build.specs.declared.building.Lists.{Lists}
 use Rattle.region_build.specs.declared.stops.StopEntry.{StopEntry}
 use Rattle.region_build.specs.declared.tallies.Counts.{Counts}
 
@@ -42,6 +44,23 @@ pub record AreLists (objects : ObjectLists) (feed : FeedLists) (entries : List S
   pub places_are : AreSwitches objects.nodes places
   pub switches_are : switches ≡ map switch_node places
   pub links_are : AreLinks roads ends entries places links
+
+-- the same of lists that are held together
+abbrev pub AreListsOf : ObjectLists → FeedLists → Lists → Type 0
+AreListsOf objects feed lists = AreLists objects feed lists.entries.items lists.roads.items lists.stops.items lists.switches.items lists.arcs.items lists.links.items
+
+-- the network of these days, lists and trips
+abbrev pub network_lists : DaysMeaning → Lists → List TripLists → NetworkLists
+network_lists days lists trips = record {
+  days = days;
+  roads = lists.roads.items;
+  stop_names = map (λ entry. entry.name) lists.entries.items;
+  stops = lists.stops.items;
+  switches = lists.switches.items;
+  arcs = lists.arcs.items;
+  links = lists.links.items;
+  trips = trips;
+}
 
 -- What a map and a feed give over some days: these lists, the names of the stops, and the trips of the feed, each as
 -- often as it leaves.

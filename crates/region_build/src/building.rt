@@ -1,12 +1,17 @@
 //! The build of a region.
 
-ghost use Rattle.std.specs.Prelude.{◌≡◌, ◌<◌, ◌^◌, length, None, IfErr, IfOk, OnOk};
-ghost use Rattle.opl_reader.specs.ObjectLists.{AreObjects};
-ghost use Rattle.gtfs_tables.specs.Sound.{IsFeed};
+ghost use Rattle.std.specs.Prelude.{◌≡◌, ◌≤◌, ◌<◌, ◌^◌, length, map, None, IfErr, IfOk, OnOk};
+ghost use Rattle.std.specs.List.{AllByRecursion};
+ghost use Rattle.opl_reader.specs.ObjectLists.{AreObjects, ObjectLists};
+ghost use Rattle.gtfs_tables.specs.Sound.{IsFeed, IsId};
 ghost use Rattle.mode_network.specs.Rules.{AreParts, first_fault};
 ghost use Rattle.region_build.specs.Answers.{IsCompiled, IsFaultOf, fault_by};
-ghost use Rattle.region_build.specs.Compiled.{AreLists, AreRoads};
+ghost use Rattle.region_build.specs.Compiled.{AreLists, AreListsOf, AreRoads, network_lists};
+ghost use Rattle.region_build.specs.Copies.{expanded};
 ghost use Rattle.region_build.specs.Left.{AreLeftOut};
+ghost use Rattle.region_build.specs.Links.{AreLinks};
+ghost use Rattle.region_build.specs.Sources.{lists_of};
+ghost use Rattle.region_build.specs.StopNames.{stop_number};
 
 use crate::copies::expanded;
 use crate::ends::Ends;
@@ -14,13 +19,13 @@ use crate::faults::BuildFault;
 use crate::left::LeftOut;
 use crate::links::links_of;
 use crate::roads::{road_arcs_between, road_nodes};
-use crate::sources::{calls_in_order, frequencies_in_order, sources_of};
+use crate::sources::{Source, calls_in_order, frequencies_in_order, sources_of};
 use crate::stops::{StopEntry, entries_of, names_of, numbers_of, stop_nodes};
 use crate::switches::{switch_nodes, switches_of};
 use crate::tallies::{Counts, Tally, kind_over, tally_of};
 use gtfs_tables::Feed;
 use mode_network::{Arc, NetFault, Network, Node, Parts};
-use opl_reader::Objects;
+use opl_reader::{Objects, OsmNode};
 use plan_base::Caps;
 use road_profile::{places_of, road_arcs};
 use service_days::Days;
@@ -53,7 +58,7 @@ fn roads_of(alloc: Global, objects: &Objects) -> Result<Roads, AllocError>
 
 /// The nodes, the road arcs and the links of a region.
 #[derive(Drop)]
-struct Lists {
+pub(crate) struct Lists {
     roads: Vec<Node>,
     entries: Vec<StopEntry>,
     stops: Vec<Node>,
@@ -72,23 +77,38 @@ fn has_numbers(count: usize) -> Result<(), AllocError>
     Ok(())
 }
 
+/// The links of these roads, stops and switches, where all of them together have numbers.
+fn numbered_links(
+    alloc: Global,
+    roads: &Roads,
+    entries: &[StopEntry],
+    places: &[OsmNode],
+) -> Result<Vec<Arc>, AllocError>
+    requires { length roads.now.ends < 2 ^ 32 }
+    ensures { IfOk result (λ links. AreLinks roads.now.nodes.items roads.now.ends entries.now places.now links.items) }
+{
+    let count = roads.nodes.len();
+    has_numbers(count)?;
+    has_numbers(count + entries.len())?;
+    has_numbers(count + entries.len() + places.len())?;
+    links_of(alloc, &roads.nodes, &roads.ends, entries, places)
+}
+
 fn lists_of(alloc: Global, objects: &Objects, feed: &Feed) -> Result<Lists, AllocError>
     requires objects { AreObjects objects.now }
     requires feed { IsFeed feed.now }
     ensures are { IfOk result (λ lists. AreLists objects.now feed.now lists.entries.items lists.roads.items lists.stops.items lists.switches.items lists.arcs.items lists.links.items) }
     ensures few { IfOk result (λ lists. length lists.entries.items < 2 ^ 32) }
 {
-    let Roads { ends, nodes, arcs } = roads_of(alloc, objects)?;
     has_numbers(feed.stops.len())?;
+    let places = switches_of(alloc, &objects.nodes)?;
+    let switches = switch_nodes(alloc, &places)?;
     let entries = entries_of(alloc, &feed.stops)?;
     has_numbers(entries.len())?;
     let stops = stop_nodes(alloc, &entries)?;
-    let places = switches_of(alloc, &objects.nodes)?;
-    let switches = switch_nodes(alloc, &places)?;
-    has_numbers(nodes.len())?;
-    has_numbers(nodes.len() + entries.len())?;
-    has_numbers(nodes.len() + entries.len() + places.len())?;
-    let links = links_of(alloc, &nodes, &ends, &entries, &places)?;
+    let roads = roads_of(alloc, objects)?;
+    let links = numbered_links(alloc, &roads, &entries, &places)?;
+    let Roads { nodes, arcs, .. } = roads;
     Ok(Lists {
         roads: nodes,
         entries,
@@ -190,6 +210,47 @@ fn network_of(alloc: Global, caps: &Caps, parts: Parts) -> Result<Network, Alloc
     }
 }
 
+/// The trips of these sources, which stop at the numbers of these stops.
+fn numbered_trips(
+    alloc: Global,
+    entries: &[StopEntry],
+    sources: &[Source<'_>],
+) -> Result<Vec<Trip>, AllocError>
+    requires few { length entries.now < 2 ^ 32 }
+    requires ids { AllByRecursion (λ source. IsId source.id.now) sources.now }
+    ensures { IfOk result (λ trips. trips.items ≡ expanded (stop_number entries.now) (map lists_of sources.now)) }
+{
+    let numbers = numbers_of(alloc, entries)?;
+    expanded(alloc, &numbers, sources)
+}
+
+/// The trips of a feed over some days, beside the other lists of a region, and what is left out of them; or the first fault of
+/// the region.
+fn trips_of(
+    alloc: Global,
+    feed: &Feed,
+    days: &Days,
+    caps: &Caps,
+    lists: &Lists,
+) -> Result<(Vec<Trip>, LeftOut), BuildFault>
+    requires feed { IsFeed feed.now }
+    requires few { length lists.now.entries.items < 2 ^ 32 }
+    ensures compiled { IfOk result (λ given. (objects : ObjectLists) → AreListsOf objects feed.now lists.now → IsCompiled caps.now objects feed.now days.now (network_lists days.now lists.now given.0.items)) }
+    ensures left_out { IfOk result (λ given. AreLeftOut feed.now days.now given.1) }
+    ensures fault { IfErr result (λ fault. (objects : ObjectLists) → AreListsOf objects feed.now lists.now → IsFaultOf caps.now objects feed.now days.now fault) }
+{
+    has_numbers(feed.trips.len())?;
+    let calls = calls_in_order(alloc, &feed.calls)?;
+    let frequencies = frequencies_in_order(alloc, &feed.frequencies)?;
+    let sources = sources_of(alloc, feed, days, &calls, &frequencies)?;
+    let tally = tally_of(&sources)?;
+    if let Some(fault) = fault_by(caps, &lists.counts(&tally), tally.back) {
+        return Err(fault);
+    }
+    let trips = numbered_trips(alloc, &lists.entries, &sources)?;
+    Ok((trips, tally.left_out))
+}
+
 /// A region that was built, and what was left out of it.
 #[derive(Drop)]
 pub struct Region {
@@ -222,20 +283,8 @@ pub fn build(
 {
     days.facts();
     let lists = lists_of(alloc, objects, feed)?;
-    has_numbers(feed.trips.len())?;
-    let calls = calls_in_order(alloc, &feed.calls)?;
-    let frequencies = frequencies_in_order(alloc, &feed.frequencies)?;
-    let sources = sources_of(alloc, feed, &days, &calls, &frequencies)?;
-    let tally = tally_of(&sources)?;
-    if let Some(fault) = fault_by(caps, &lists.counts(&tally), tally.back) {
-        return Err(fault);
-    }
-    let numbers = numbers_of(alloc, &lists.entries)?;
-    let trips = expanded(alloc, &numbers, &sources)?;
+    let (trips, left_out) = trips_of(alloc, feed, &days, caps, &lists)?;
     let parts = lists.into_parts(alloc, days, trips)?;
     let network = network_of(alloc, caps, parts)?;
-    Ok(Region {
-        network,
-        left_out: tally.left_out,
-    })
+    Ok(Region { network, left_out })
 }

@@ -1,94 +1,18 @@
-use Rattle.std.proofs.Common.{List, ℕ, Option, ◌≡◌, ◌≤◌, length, map, subst, sym, ap, ◌∙◌}
-use Rattle.std.specs.List.{All, AllByRecursion}
-use Rattle.plan_base.specs.declared.limits.Caps.{Caps}
-use Rattle.gtfs_tables.specs.FeedLists.{FeedLists}
-use Rattle.gtfs_tables.specs.Sound.{IsId}
-use Rattle.gtfs_tables.specs.declared.frequencies.FrequencyRow.{FrequencyRow}
-use Rattle.timetable_arcs.specs.Trips.{TripLists}
-use Rattle.mode_network.specs.NetworkLists.{NetworkLists}
-use Rattle.region_build.specs.Answers.{fault_by}
-use Rattle.region_build.specs.Copies.{expanded}
-use Rattle.region_build.specs.Sources.{lists_of}
-use Rattle.region_build.specs.StopNames.{stop_number}
-use Rattle.region_build.specs.Tallies.{IsTally}
-use Rattle.region_build.specs.declared.faults.BuildFault.{BuildFault}
-use Rattle.region_build.specs.declared.sources.Source.{Source}
-use Rattle.region_build.specs.declared.stops.StopEntry.{StopEntry}
-use Rattle.region_build.specs.declared.tallies.Counts.{Counts}
-use Rattle.region_build.proofs.BuildLaws.{are_compiled, are_faultless, are_parts, has_fault, sources_said}
-use Rattle.region_build.proofs.TripLaws.{sources_have_ids}
-use Rattle.region_build.proofs.TripRuleLaws.{headways_last, headways_right}
+use Rattle.std.proofs.Common.{subst, sym, ◌∙◌}
+use Rattle.region_build.specs.Answers.{IsCompiled}
+use Rattle.region_build.proofs.BuildLaws.{compiled_are_parts, compiled_keep}
 use Rattle.region_build.proofs.building.build.Goals as goal
-
-fault_is : (caps : Caps) (back : Option ℕ) {counts given : Counts} {fault other : Option BuildFault} → fault ≡ fault_by caps counts back → counts ≡ given → fault ≡ other → fault_by caps given back ≡ other
-fault_is caps back found counted is = ap (λ (counts : Counts). fault_by caps counts back) (sym counted) ∙ sym found ∙ is
-
-pub tally_of-requires : goal.tally_of-requires
-tally_of-requires c =
-    let last = headways_right c.args.feed.now c.deref-2.result.now c.in_ok-frequencies.frequencies.items c.requires.feed (c.deref-2.ensures.value ∙ ap (λ (feed : FeedLists). feed.frequencies) c.feed.view_is) c.in_ok-frequencies.ensures.are.same in
-    subst (λ (sources : List Source). AllByRecursion (λ (source : Source). AllByRecursion (λ (row : FrequencyRow). 1 ≤ row.headway) source.frequencies.now) sources) (sym c.deref-5.ensures.value)
-    (headways_last c.args.feed.now c.args.days c.deref-3.result.now c.deref-4.result.now 0 c.args.feed.now.trips c.in_ok-sources.sources.items
-    (subst (All (λ (row : FrequencyRow). 1 ≤ row.headway)) (sym c.deref-4.ensures.value) last) c.in_ok-sources.ensures)
-
-pub expanded-requires : goal.expanded-requires
-expanded-requires c =
-    subst (λ (sources : List Source). AllByRecursion (λ (source : Source). IsId source.id.now) sources) (sym c.deref-7.ensures.value)
-    (sources_have_ids c.args.feed.now c.args.days c.deref-3.result.now c.deref-4.result.now 0 (length c.args.feed.now.routes) c.args.feed.now.trips c.in_ok-sources.sources.items c.in_ok-sources.ensures c.requires.feed.trips)
-
-pub returns-in-Some-clause-fault : goal.returns-in-Some-clause-fault
-returns-in-Some-clause-fault c =
-    let said = sources_said c.args.feed.now c.args.days _ c.in_ok-calls.calls.items _ _ c.in_ok-frequencies.frequencies.items _ (map lists_of c.in_ok-sources.sources.items)
-    (c.deref.ensures.value ∙ ap (λ (feed : FeedLists). feed.calls) c.feed.view_is) c.in_ok-calls.ensures.are c.deref-3.ensures.value
-    (c.deref-2.ensures.value ∙ ap (λ (feed : FeedLists). feed.frequencies) c.feed.view_is) c.in_ok-frequencies.ensures.are c.deref-4.ensures.value c.in_ok-sources.ensures in
-    let is = subst (λ (sources : List Source). IsTally (map lists_of sources) c.in_ok-tally.tally) c.deref-5.ensures.value c.in_ok-tally.ensures in
-    has_fault c.args.caps.now c.in_ok-lists.ensures.are said is c.in-Some.fault (fault_is c.args.caps.now c.in_ok-tally.tally.back c.fault_by.ensures c.counts.ensures c.in-Some.is)
 
 pub network_of-requires-clause-parts : goal.network_of-requires-clause-parts
 network_of-requires-clause-parts c =
-    let said = sources_said c.args.feed.now c.args.days _ c.in_ok-calls.calls.items _ _ c.in_ok-frequencies.frequencies.items _ (map lists_of c.in_ok-sources.sources.items)
-    (c.deref.ensures.value ∙ ap (λ (feed : FeedLists). feed.calls) c.feed.view_is) c.in_ok-calls.ensures.are c.deref-3.ensures.value
-    (c.deref-2.ensures.value ∙ ap (λ (feed : FeedLists). feed.frequencies) c.feed.view_is) c.in_ok-frequencies.ensures.are c.deref-4.ensures.value c.in_ok-sources.ensures in
-    let is = subst (λ (sources : List Source). IsTally (map lists_of sources) c.in_ok-tally.tally) c.deref-5.ensures.value c.in_ok-tally.ensures in
-    let trips = c.in_ok-trips.ensures
-    ∙ ap (λ (number : ℕ → Option ℕ). expanded number (map lists_of c.deref-7.result.now)) (λ i stop. c.in_ok-numbers.ensures stop i)
-    ∙ ap (λ (entries : List StopEntry). expanded (stop_number entries) (map lists_of c.deref-7.result.now)) c.deref-6.ensures.value
-    ∙ ap (λ (sources : List Source). expanded (stop_number c.in_ok-lists.lists.entries.items) (map lists_of sources)) c.deref-7.ensures.value in
-    let parts = c.in_ok-parts.ensures ∙ ap {B = NetworkLists} (λ (trips : List TripLists). record { days = c.args.days; roads = c.in_ok-lists.lists.roads.items; stop_names = map (λ (entry : StopEntry). entry.name) c.in_ok-lists.lists.entries.items; stops = c.in_ok-lists.lists.stops.items; switches = c.in_ok-lists.lists.switches.items; arcs = c.in_ok-lists.lists.arcs.items; links = c.in_ok-lists.lists.links.items; trips = trips }) trips in
-    let none = fault_is c.args.caps.now c.in_ok-tally.tally.back c.fault_by.ensures c.counts.ensures c.in_default.is in
-    are_parts c.args.caps.now c.in_ok-lists.ensures.are said is none c.in_ok-parts.parts parts c.requires.objects
+    let compiled = subst (IsCompiled c.args.caps.now c.args.objects.now c.args.feed.now c.args.days) (sym c.in_ok-parts.ensures) (c.in_ok-trips.ensures.compiled c.args.objects.now c.in_ok-lists.ensures.are) in
+    compiled_are_parts c.args.caps.now c.args.objects.now c.args.feed.now c.args.days c.in_ok-parts.parts c.requires.objects compiled
 
 pub network_of-requires-clause-faultless : goal.network_of-requires-clause-faultless
 network_of-requires-clause-faultless c =
-    let said = sources_said c.args.feed.now c.args.days _ c.in_ok-calls.calls.items _ _ c.in_ok-frequencies.frequencies.items _ (map lists_of c.in_ok-sources.sources.items)
-    (c.deref.ensures.value ∙ ap (λ (feed : FeedLists). feed.calls) c.feed.view_is) c.in_ok-calls.ensures.are c.deref-3.ensures.value
-    (c.deref-2.ensures.value ∙ ap (λ (feed : FeedLists). feed.frequencies) c.feed.view_is) c.in_ok-frequencies.ensures.are c.deref-4.ensures.value c.in_ok-sources.ensures in
-    let is = subst (λ (sources : List Source). IsTally (map lists_of sources) c.in_ok-tally.tally) c.deref-5.ensures.value c.in_ok-tally.ensures in
-    let trips = c.in_ok-trips.ensures
-    ∙ ap (λ (number : ℕ → Option ℕ). expanded number (map lists_of c.deref-7.result.now)) (λ i stop. c.in_ok-numbers.ensures stop i)
-    ∙ ap (λ (entries : List StopEntry). expanded (stop_number entries) (map lists_of c.deref-7.result.now)) c.deref-6.ensures.value
-    ∙ ap (λ (sources : List Source). expanded (stop_number c.in_ok-lists.lists.entries.items) (map lists_of sources)) c.deref-7.ensures.value in
-    let parts = c.in_ok-parts.ensures ∙ ap {B = NetworkLists} (λ (trips : List TripLists). record { days = c.args.days; roads = c.in_ok-lists.lists.roads.items; stop_names = map (λ (entry : StopEntry). entry.name) c.in_ok-lists.lists.entries.items; stops = c.in_ok-lists.lists.stops.items; switches = c.in_ok-lists.lists.switches.items; arcs = c.in_ok-lists.lists.arcs.items; links = c.in_ok-lists.lists.links.items; trips = trips }) trips in
-    let none = fault_is c.args.caps.now c.in_ok-tally.tally.back c.fault_by.ensures c.counts.ensures c.in_default.is in
-    are_faultless c.args.caps.now c.in_ok-lists.ensures.are said is none c.in_ok-parts.parts parts c.requires.objects c.requires.feed c.facts.ensures.days
+    let compiled = subst (IsCompiled c.args.caps.now c.args.objects.now c.args.feed.now c.args.days) (sym c.in_ok-parts.ensures) (c.in_ok-trips.ensures.compiled c.args.objects.now c.in_ok-lists.ensures.are) in
+    compiled_keep c.args.caps.now c.args.objects.now c.args.feed.now c.args.days c.in_ok-parts.parts c.requires.objects compiled c.requires.feed c.facts.ensures.days
 
 pub returns-clause-compiled : goal.returns-clause-compiled
 returns-clause-compiled c =
-    let said = sources_said c.args.feed.now c.args.days _ c.in_ok-calls.calls.items _ _ c.in_ok-frequencies.frequencies.items _ (map lists_of c.in_ok-sources.sources.items)
-    (c.deref.ensures.value ∙ ap (λ (feed : FeedLists). feed.calls) c.feed.view_is) c.in_ok-calls.ensures.are c.deref-3.ensures.value
-    (c.deref-2.ensures.value ∙ ap (λ (feed : FeedLists). feed.frequencies) c.feed.view_is) c.in_ok-frequencies.ensures.are c.deref-4.ensures.value c.in_ok-sources.ensures in
-    let is = subst (λ (sources : List Source). IsTally (map lists_of sources) c.in_ok-tally.tally) c.deref-5.ensures.value c.in_ok-tally.ensures in
-    let trips = c.in_ok-trips.ensures
-    ∙ ap (λ (number : ℕ → Option ℕ). expanded number (map lists_of c.deref-7.result.now)) (λ i stop. c.in_ok-numbers.ensures stop i)
-    ∙ ap (λ (entries : List StopEntry). expanded (stop_number entries) (map lists_of c.deref-7.result.now)) c.deref-6.ensures.value
-    ∙ ap (λ (sources : List Source). expanded (stop_number c.in_ok-lists.lists.entries.items) (map lists_of sources)) c.deref-7.ensures.value in
-    let parts = c.in_ok-parts.ensures ∙ ap {B = NetworkLists} (λ (trips : List TripLists). record { days = c.args.days; roads = c.in_ok-lists.lists.roads.items; stop_names = map (λ (entry : StopEntry). entry.name) c.in_ok-lists.lists.entries.items; stops = c.in_ok-lists.lists.stops.items; switches = c.in_ok-lists.lists.switches.items; arcs = c.in_ok-lists.lists.arcs.items; links = c.in_ok-lists.lists.links.items; trips = trips }) trips in
-    let none = fault_is c.args.caps.now c.in_ok-tally.tally.back c.fault_by.ensures c.counts.ensures c.in_default.is in
-    are_compiled c.args.caps.now c.in_ok-lists.ensures.are said is none c.in_ok-network.network (c.in_ok-network.ensures.parts ∙ parts)
-
-pub returns-clause-left_out : goal.returns-clause-left_out
-returns-clause-left_out c =
-    let said = sources_said c.args.feed.now c.args.days _ c.in_ok-calls.calls.items _ _ c.in_ok-frequencies.frequencies.items _ (map lists_of c.in_ok-sources.sources.items)
-    (c.deref.ensures.value ∙ ap (λ (feed : FeedLists). feed.calls) c.feed.view_is) c.in_ok-calls.ensures.are c.deref-3.ensures.value
-    (c.deref-2.ensures.value ∙ ap (λ (feed : FeedLists). feed.frequencies) c.feed.view_is) c.in_ok-frequencies.ensures.are c.deref-4.ensures.value c.in_ok-sources.ensures in
-    let is = subst (λ (sources : List Source). IsTally (map lists_of sources) c.in_ok-tally.tally) c.deref-5.ensures.value c.in_ok-tally.ensures in
-    record { sources = map lists_of c.in_ok-sources.sources.items; said = said; are = is.left }
+    subst (IsCompiled c.args.caps.now c.args.objects.now c.args.feed.now c.args.days) (sym (c.in_ok-network.ensures.parts ∙ c.in_ok-parts.ensures)) (c.in_ok-trips.ensures.compiled c.args.objects.now c.in_ok-lists.ensures.are)
