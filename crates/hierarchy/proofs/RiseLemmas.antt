@@ -1,5 +1,5 @@
 -- The rises among entries, one entry after the other, and those that begin at one node.
-use Rattle.std.proofs.Common.{◌≡◌, ℕ, ◌+◌, ◌-◌, ◌<◌, ◌≤◌, ◌∙◌, nat_eq, cond, suc, add-one, append_assoc, drop-cons, Bool, true, false, List, [], ◌∷◌, ◌++◌, length, drop, take, get_or, refl, ap, arith, sym, subst}
+use Rattle.std.proofs.Common.{◌≡◌, ℕ, ◌+◌, ◌-◌, ◌<◌, ◌≤◌, ◌∙◌, nat_eq, cond, suc, add-one, append_assoc, drop-cons, Bool, true, false, List, [], ◌∷◌, ◌++◌, length, drop, get_or, refl, ap, arith, sym, subst}
 use Rattle.std.specs.Prelude.{All, Contains, slice_range}
 use Rattle.std.specs.List.Sorted.{IsNonDecreasingBy}
 use Rattle.std.proofs.lemmas.Bool.{eqb-true, eqb-false}
@@ -8,9 +8,9 @@ use Rattle.std.proofs.lemmas.List.Elements.{All-nil, All-cons, All-weaker}
 use Rattle.hierarchy.specs.declared.entry.Entry.{Entry}
 use Rattle.hierarchy.specs.declared.rises.Rise.{Rise}
 use Rattle.hierarchy.specs.Lists.{HierarchyLists}
-use Rattle.hierarchy.specs.Lookups.{count_below, from_of}
+use Rattle.hierarchy.specs.Lookups.{count_below, range_of, from_of}
 use Rattle.hierarchy.specs.Indexes.{AreEndsBelow, AreOffsets}
-use Rattle.hierarchy.specs.Rises.{AreRisesUpTo, AreRiseTables, AreRisesFrom, IsRiseRange, IsRiseOf, is_rise, rise_at, rise_from, rises_among, all_rises, rises_of}
+use Rattle.hierarchy.specs.Rises.{AreRisesUpTo, AreRiseTables, IsRiseRange, IsRiseOf, is_rise, rise_at, rise_from, rises_among, all_rises}
 use Rattle.hierarchy.proofs.OffsetLemmas.{count_rises, count_most, count_all, key_in_range, in_range_of_key}
 
 module _ (order : List ℕ) (entries : List Entry) where
@@ -165,13 +165,13 @@ are_rise_tables h nodes offsets rises are list counts = record {
   ranges = λ u d lt. rises_from h rises are u (get_or offsets u d) (get_or offsets (u + 1) d) (counts.counts u d (omega arith)) (counts.counts (u + 1) d (omega arith));
 }
 
--- what the tables hold between two offsets are the rises of a node
-pub range_is : (h : HierarchyLists) (nodes : ℕ) (offsets : List ℕ) (rises : List Rise) → AreRiseTables h nodes offsets rises → (u : ℕ) → u < nodes → (low high : ℕ)
-    → low ≡ get_or offsets u low → high ≡ get_or offsets (u + 1) high → slice_range rises low high ≡ rises_of h u
-range_is h nodes offsets rises tables u lt low high first end =
+-- two offsets of the tables tell where the rises of a node stand
+pub range_found : (h : HierarchyLists) (nodes : ℕ) (offsets : List ℕ) (rises : List Rise) → AreRiseTables h nodes offsets rises → (u : ℕ) → u < nodes → (low high : ℕ)
+    → low ≡ get_or offsets u low → high ≡ get_or offsets (u + 1) high → (low, high) ≡ range_of rise_from (all_rises h) u
+range_found h nodes offsets rises tables u lt low high first end =
     let a = first ∙ tables.counts u low (omega arith) ∙ ap (λ rs. count_below rise_from rs u) tables.all in
     let b = end ∙ tables.counts (u + 1) high (omega arith) ∙ ap (λ rs. count_below rise_from rs (u + 1)) tables.all in
-    ap (λ rs. slice_range rs low high) tables.all ∙ ap (λ n. slice_range (all_rises h) n high) a ∙ ap (slice_range (all_rises h) (count_below rise_from (all_rises h) u)) b
+    ap (λ n. (n, high)) a ∙ ap (λ n. (count_below rise_from (all_rises h) u, n)) b
 
 -- rises begin where entries do
 among_below : (order : List ℕ) (entries : List Entry) (k v : ℕ) → All (λ (e : Entry). e.from < v) entries → All (λ (r : Rise). r.from < v) (rises_among order k entries)
@@ -188,17 +188,10 @@ among_below order (e ∷ entries) k v below =
     by_test false more = more
 
 -- past all nodes nothing begins
-pub none_of : (h : HierarchyLists) (u nodes : ℕ) → nodes ≤ u → All (AreEndsBelow nodes) h.entries → [] ≡ rises_of h u
-none_of h u nodes past below =
+pub range_past : (h : HierarchyLists) (u nodes count : ℕ) → nodes ≤ u → All (AreEndsBelow nodes) h.entries → count ≡ length (all_rises h)
+    → (count, count) ≡ range_of rise_from (all_rises h) u
+range_past h u nodes count past below is =
     let lower = λ (v : ℕ) (from : nodes ≤ v). among_below h.order h.entries 0 v (All-weaker (AreEndsBelow nodes) (λ (e : Entry). e.from < v) (λ e ends. let low = ends.0 in omega arith) h.entries below) in
-    let low = count_all rise_from (all_rises h) u (lower u past) in
-    let high = count_all rise_from (all_rises h) (u + 1) (lower (u + 1) (omega arith)) in
-    let none : count_below rise_from (all_rises h) (u + 1) - count_below rise_from (all_rises h) u ≡ 0 = omega (arith, low, high) in
-    sym (ap (λ n. take n (drop (count_below rise_from (all_rises h) u) (all_rises h))) none)
-
-pub no_rises : (h : HierarchyLists) (u nodes : ℕ) → nodes ≤ u → All (AreEndsBelow nodes) h.entries → AreRisesFrom h u []
-no_rises h u nodes past below = record {
-  each = λ k d lt. absurd (omega arith);
-  from_u = λ k d lt. absurd (omega arith);
-  all = λ k d lt from up. let low = below k d lt in absurd (let l = low.0 in omega (arith, l, from));
-}
+    let low = is ∙ sym (count_all rise_from (all_rises h) u (lower u past)) in
+    let high = is ∙ sym (count_all rise_from (all_rises h) (u + 1) (lower (u + 1) (omega arith))) in
+    ap (λ n. (n, count)) low ∙ ap (λ n. (count_below rise_from (all_rises h) u, n)) high

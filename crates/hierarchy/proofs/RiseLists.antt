@@ -5,9 +5,9 @@ use Rattle.std.proofs.lemmas.List.{get_or_default, drop_all}
 use Rattle.hierarchy.specs.declared.entry.Entry.{Entry}
 use Rattle.hierarchy.specs.declared.rises.Rise.{Rise}
 use Rattle.hierarchy.specs.Lists.{HierarchyLists}
-use Rattle.hierarchy.specs.Lookups.{from_of, count_below}
+use Rattle.hierarchy.specs.Lookups.{from_of, range_of}
 use Rattle.hierarchy.specs.Rules.{IsHierarchy}
-use Rattle.hierarchy.specs.Rises.{AreRisesUpTo, AreRisesFrom, is_rise, rise_at, rise_from, rises_among, all_rises, rises_of}
+use Rattle.hierarchy.specs.Rises.{AreRisesUpTo, AreRisesFrom, IsRiseRange, is_rise, rise_at, rise_from, rises_among, all_rises, rises_of}
 use Rattle.hierarchy.proofs.LookupLemmas.{from_rises}
 use Rattle.hierarchy.proofs.RiseLemmas as rises
 
@@ -41,6 +41,12 @@ module _ (order : List ℕ) (entries : List Entry) (ascend : IsNonDecreasingBy f
   pub are_rises : AreRisesUpTo order entries (length entries) (rises_among order 0 entries)
   are_rises = go_on (length entries) 0 [] (omega arith) (rises.rises_none order entries)
 
-pub are_rises_from : (h : HierarchyLists) → IsHierarchy h → (u : ℕ) → AreRisesFrom h u (rises_of h u)
-are_rises_from h rules u =
-    (rises.rises_from h (all_rises h) (are_rises h.order h.entries (from_rises h.entries rules.entries_ascend)) u (count_below rise_from (all_rises h) u) (count_below rise_from (all_rises h) (u + 1)) refl refl).are
+module _ (h : HierarchyLists) (rules : IsHierarchy h) where
+  pub all_are_rises : AreRisesUpTo h.order h.entries (length h.entries) (all_rises h)
+  all_are_rises = are_rises h.order h.entries (from_rises h.entries rules.entries_ascend)
+
+  pub is_rise_range : (u : ℕ) (range : ℕ × ℕ) → range ≡ range_of rise_from (all_rises h) u → IsRiseRange h u (all_rises h) range.0 range.1
+  is_rise_range u range is = rises.rises_from h (all_rises h) all_are_rises u range.0 range.1 (ap (λ (r : ℕ × ℕ). r.0) is) (ap (λ (r : ℕ × ℕ). r.1) is)
+
+  pub are_rises_from : (u : ℕ) → AreRisesFrom h u (rises_of h u)
+  are_rises_from u = (is_rise_range u (range_of rise_from (all_rises h) u) refl).are

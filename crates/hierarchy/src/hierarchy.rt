@@ -1,9 +1,9 @@
 //! A hierarchy: its lists, and what finds things in them.
 
-ghost use Rattle.std.specs.Prelude.{◌≡◌, IfOk, MatchOption};
+ghost use Rattle.std.specs.Prelude.{◌≡◌, All, IfOk, MatchOption};
 ghost use Rattle.hierarchy.specs.Lists.{height_in, is_above, is_contracted};
 ghost use Rattle.hierarchy.specs.Rules.{IsHierarchy};
-ghost use Rattle.hierarchy.specs.Rises.{AreRisesFrom, rises_of};
+ghost use Rattle.hierarchy.specs.Rises.{AreRisesFrom, IsRiseOf, IsRiseRange, all_rises, rise_from, rises_of};
 ghost use Rattle.hierarchy.specs.Lookups.{IsEntryFor, HasNoEntry, IsWitnessFor, HasNoWitness, AreFrom, AreInto, range_of, from_of};
 
 use crate::entry::{Entry, Witness};
@@ -167,18 +167,38 @@ impl Hierarchy {
         }
     }
 
+    /// The entries that lead to a node above their own, or from one core node to another, in order.
+    pub fn rises(&self) -> &[Rise]
+        ensures list { result.now ≡ all_rises self.now }
+        ensures each { All (IsRiseOf self.now.order self.now.entries) result.now }
+    {
+        &self.rises
+    }
+
+    /// The first place in [`rises`](Self::rises) of those from `u`, and one past the last. Where nothing is from `u`, both
+    /// are the number of those from lower nodes.
+    pub fn rise_places(&self, u: u32) -> (u64, u64)
+        ensures range { result ≡ range_of rise_from (all_rises self.now) u }
+        ensures are { IsRiseRange self.now u (all_rises self.now) result.0 result.1 }
+    {
+        if u < self.nodes {
+            (
+                self.rise_offsets[u as usize],
+                self.rise_offsets[u as usize + 1],
+            )
+        } else {
+            let count = self.rises.len() as u64;
+            (count, count)
+        }
+    }
+
     /// The entries from `u` that lead to a node above it, or from one core node to another.
     pub fn rises_from(&self, u: u32) -> &[Rise]
         ensures list { result.now ≡ rises_of self.now u }
         ensures are { AreRisesFrom self.now u result.now }
     {
-        if u < self.nodes {
-            let first = self.rise_offsets[u as usize] as usize;
-            let end = self.rise_offsets[u as usize + 1] as usize;
-            &self.rises[first..end]
-        } else {
-            &[]
-        }
+        let (first, end) = self.rise_places(u);
+        &self.rises()[first as usize..end as usize]
     }
 
     /// The witness that is listed for `below` from `first` to `last`; None exactly where there is none.

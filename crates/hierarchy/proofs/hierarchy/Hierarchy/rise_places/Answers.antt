@@ -1,0 +1,32 @@
+use Rattle.std.proofs.Common.{◌≡◌, ap, length, subst, ◌∙◌, rules}
+use Rattle.hierarchy.specs.Inside.{lists_of}
+use Rattle.hierarchy.specs.Lists.{HierarchyLists}
+use Rattle.hierarchy.specs.Lookups.{range_of}
+use Rattle.hierarchy.specs.Rises.{IsRiseRange, all_rises, rise_from}
+use Rattle.hierarchy.proofs.RiseLemmas.{range_found, range_past}
+use Rattle.hierarchy.proofs.RiseLists.{is_rise_range}
+use Rattle.hierarchy.proofs.hierarchy.Hierarchy.rise_places.Goals as goal
+
+pub returns-then-u-self-clause-range : goal.returns-then-u-self-clause-range
+returns-then-u-self-clause-range c =
+    subst (λ (h : HierarchyLists). (c.index.result.now, c.index-then-u-self.result.now) ≡ range_of rise_from (all_rises h) c.args.u) c.self.view_is
+    (range_found (lists_of c.self.inside) c.self.inside.nodes c.self.inside.rise_offsets.items c.self.inside.rises.items c.self.invariant.rises c.args.u c.if-u-self.true c.index.result.now c.index-then-u-self.result.now c.index.ensures c.index-then-u-self.ensures)
+
+pub returns-then-u-self-clause-are : goal.returns-then-u-self-clause-are
+returns-then-u-self-clause-are c =
+    subst (λ (h : HierarchyLists). IsRiseRange h c.args.u (all_rises h) c.index.result.now c.index-then-u-self.result.now) c.self.view_is
+    (is_rise_range (lists_of c.self.inside) c.self.invariant.rules c.args.u (c.index.result.now, c.index-then-u-self.result.now)
+    (range_found (lists_of c.self.inside) c.self.inside.nodes c.self.inside.rise_offsets.items c.self.inside.rises.items c.self.invariant.rises c.args.u c.if-u-self.true c.index.result.now c.index-then-u-self.result.now c.index.ensures c.index-then-u-self.ensures))
+
+pub returns-else-u-self-clause-range : goal.returns-else-u-self-clause-range
+returns-else-u-self-clause-range c =
+    let count : c.len-count.result ≡ length c.self.inside.rises.items = search rules in
+    subst (λ (h : HierarchyLists). (c.len-count.result, c.len-count.result) ≡ range_of rise_from (all_rises h) c.args.u) c.self.view_is
+    (range_past (lists_of c.self.inside) c.args.u c.self.inside.nodes c.len-count.result c.if-u-self.false c.self.invariant.below.entries (count ∙ ap length c.self.invariant.rises.all))
+
+pub returns-else-u-self-clause-are : goal.returns-else-u-self-clause-are
+returns-else-u-self-clause-are c =
+    let count : c.len-count.result ≡ length c.self.inside.rises.items = search rules in
+    subst (λ (h : HierarchyLists). IsRiseRange h c.args.u (all_rises h) c.len-count.result c.len-count.result) c.self.view_is
+    (is_rise_range (lists_of c.self.inside) c.self.invariant.rules c.args.u (c.len-count.result, c.len-count.result)
+    (range_past (lists_of c.self.inside) c.args.u c.self.inside.nodes c.len-count.result c.if-u-self.false c.self.invariant.below.entries (count ∙ ap length c.self.invariant.rises.all)))
