@@ -5,6 +5,7 @@ use Rattle.std.specs.Prelude.{◌≡◌, ℕ, ◌+◌, ◌-◌, ◌*◌, ◌/◌
 use Rattle.search_laws.specs.Fresh.{RunRides}
 use Rattle.search_laws.specs.GraphLaws.{GraphMeaning}
 use Rattle.search_laws.specs.declared.graph.GraphArc.{GraphArc}
+use Rattle.search_laws.specs.declared.graph.Steady.{Steady}
 use Rattle.search_laws.specs.declared.graph.Way.{Way}
 use Rattle.timetable_arcs.specs.Patterns.{TableLists}
 use Rattle.mode_network.specs.NetworkLists.{NetworkLists, nodes_of, mode_at}
@@ -12,7 +13,7 @@ use Rattle.hierarchy.specs.declared.entry.Entry.{Entry}
 use Rattle.hierarchy.specs.declared.rises.Rise.{Rise}
 use Rattle.hierarchy.specs.Lists.{HierarchyLists}
 use Rattle.hierarchy.specs.Lookups.{range_of, from_of}
-use Rattle.hierarchy.specs.Rises.{rises_of}
+use Rattle.hierarchy.specs.Rises.{all_rises, rise_from, rises_of}
 use Rattle.hierarchy.specs.Rules.{IsNode}
 use Rattle.plain_graph.specs.BoardWays.{plain_rides}
 use Rattle.plain_graph.specs.PlainArcs.{plain_meaning, count_from, stands_at, inner_arcs_at, arcs_at, plain_arc}
@@ -37,6 +38,14 @@ entry_at h place = slice_index_or h.entries place no_entry
 -- in the descent nothing leads up
 abbrev pub rises_at : HierarchyLists → ℕ → Bool → List Rise
 rises_at h v down = if down then [] else rises_of h v
+
+-- where these begin among all that lead up or along the core
+abbrev pub first_rise : HierarchyLists → ℕ → Bool → ℕ
+first_rise h v down = if down then 0 else (range_of rise_from (all_rises h) v).0
+
+-- they are steady
+abbrev pub steady_rises : NetworkLists → HierarchyLists → ℕ → Bool → Steady
+steady_rises n h v down = record { first = first_rise h v down; count = length (rises_at h v down); letter = mode_at n.roads v }
 
 -- the entries out of a node stand side by side: where they begin, and how many they are
 abbrev pub first_entry : HierarchyLists → ℕ → ℕ

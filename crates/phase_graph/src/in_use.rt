@@ -81,7 +81,7 @@ impl Graph for GraphInUse<'_> {
         }
     }
 
-    ghost steady_arcs = { steady_in_use };
+    ghost steady_of = { steady_in_use };
 
     #[inline(always)]
     fn steady(&self, v: u32) -> Steady {
@@ -92,10 +92,10 @@ impl Graph for GraphInUse<'_> {
     }
 
     #[inline(always)]
-    fn leg(&self, v: u32, i: u64) -> Option<Leg> {
+    fn leg(&self, v: u32, steady: Steady, i: u64) -> Option<Leg> {
         match self {
-            GraphInUse::Plain(plain) => plain.leg(v, i),
-            GraphInUse::Phases(phases) => phases.leg(v, i),
+            GraphInUse::Plain(plain) => plain.leg(v, steady, i),
+            GraphInUse::Phases(phases) => phases.leg(v, steady, i),
         }
     }
 

@@ -53,7 +53,8 @@ pub struct Phases<'a> {
 }
 
 impl<'a> Phases<'a> {
-    ghost use Rattle.std.specs.Prelude.{◌≡◌, ◌<◌, ◌+◌, ◌*◌, ◌^◌, ◌++◌, Bool, true, false, All, IfOk, OnOk, length};
+    ghost use Rattle.std.specs.Prelude.{◌≡◌, ◌<◌, ◌+◌, ◌*◌, ◌^◌, ◌++◌, Bool, true, false, All, IfOk, OnOk, length, slice_index_or};
+    ghost use Rattle.hierarchy.specs.Rises.{all_rises};
     ghost use Rattle.hierarchy.specs.declared.rises.Rise.{Rise};
     ghost use Rattle.search_laws.specs.Fresh.{AddsFresh};
     ghost use Rattle.search_laws.specs.Ways.{ways_from, is_open};
@@ -63,7 +64,7 @@ impl<'a> Phases<'a> {
     ghost use Rattle.hierarchy.specs.Lookups.{AreFrom};
     ghost use Rattle.timetable_arcs.specs.Table.{IsTable};
     ghost use Rattle.phase_graph.specs.Walked.{JourneysHaveWalks, WalksHaveJourneys};
-    ghost use Rattle.phase_graph.specs.PhaseArcs.{phase_meaning, rises_at, first_entry, entries_at, others_at, first_other, phase_arc, phase_arcs_at, FitsArc, BeginsAt, TellsEntry, entry_at, fall_arrival, fall_ways, phase_step, phase_rides, node_of, is_down};
+    ghost use Rattle.phase_graph.specs.PhaseArcs.{phase_meaning, rises_at, first_rise, no_rise, first_entry, entries_at, others_at, first_other, phase_arc, phase_arcs_at, FitsArc, BeginsAt, TellsEntry, entry_at, fall_arrival, fall_ways, phase_step, phase_rides, node_of, is_down};
     ghost use Rattle.plain_graph.specs.PlainArcs.{plain_meaning, arcs_at};
 
     /// The phase graph of a sound hierarchy for these targets, which are nodes of the network. For each journey to a
@@ -132,6 +133,30 @@ impl<'a> Phases<'a> {
         } else {
             self.hierarchy.rises_from(v)
         }
+    }
+
+    /// Where these begin among all entries that lead up or along the core, and one past their last place.
+    #[inline(always)]
+    fn rise_places(&self, v: u32, down: bool) -> (u64, u64)
+        ensures first { result.0 ≡ first_rise self.now.hierarchy.now v down }
+        ensures past { result.1 ≡ result.0 + length (rises_at self.now.hierarchy.now v down) }
+    {
+        if down {
+            (0, 0)
+        } else {
+            self.hierarchy.rise_places(v)
+        }
+    }
+
+    /// Among all entries that lead up or along the core, the one that stands so many places behind a first one.
+    #[inline(always)]
+    fn rise(&self, first: u64, i: u64) -> Rise
+        requires { first + i < length (all_rises self.now.hierarchy.now) }
+        ensures is { result ≡ slice_index_or (all_rises self.now.hierarchy.now) (first + i) no_rise }
+        ensures tells { TellsEntry self.now.hierarchy.now result }
+    {
+        self.hierarchy.known();
+        self.hierarchy.rises()[first as usize + i as usize]
     }
 
     /// The place of the first entry that leaves a node of the network, and how many there are, side by side.
@@ -461,7 +486,7 @@ impl<'a> Phases<'a> {
 }
 
 impl Graph for Phases<'_> {
-    ghost use Rattle.phase_graph.specs.PhaseArcs.{phase_meaning, phase_rides, rises_at, node_of, is_down};
+    ghost use Rattle.phase_graph.specs.PhaseArcs.{phase_meaning, phase_rides, steady_rises, node_of, is_down};
 
     ghost meaning = { λ g. phase_meaning g.plain.network.now g.plain.timetable.now g.hierarchy.now g.marks.items };
 
@@ -493,23 +518,23 @@ impl Graph for Phases<'_> {
         }
     }
 
-    ghost steady_arcs = { λ g p. length (rises_at g.hierarchy.now (node_of p) (is_down p)) };
+    ghost steady_of = { λ g p. steady_rises g.plain.network.now g.hierarchy.now (node_of p) (is_down p) };
 
     #[inline(always)]
     fn steady(&self, p: u32) -> Steady {
         let (v, down) = split(p);
+        let (first, past) = self.rise_places(v, down);
         Steady {
-            count: self.rises_at(v, down).len() as u64,
+            first,
+            count: past - first,
             letter: self.network().mode(v),
         }
     }
 
     #[inline(always)]
-    fn leg(&self, p: u32, i: u64) -> Option<Leg> {
-        let (v, down) = split(p);
-        let rises = self.rises_at(v, down);
-        if i < rises.len() as u64 {
-            let rise = &rises[i as usize];
+    fn leg(&self, _p: u32, steady: Steady, i: u64) -> Option<Leg> {
+        if i < steady.count {
+            let rise = self.rise(steady.first, i);
             Some(Leg {
                 to: number_of(rise.to, false),
                 ms: rise.weight,

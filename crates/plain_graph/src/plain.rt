@@ -467,7 +467,7 @@ fn rides_at(timetable: &Timetable, stop: u32) -> u64
 }
 
 impl Graph for Plain<'_> {
-    ghost use Rattle.plain_graph.specs.PlainArcs.{plain_meaning, count_from};
+    ghost use Rattle.plain_graph.specs.PlainArcs.{plain_meaning, roads_at};
     ghost use Rattle.plain_graph.specs.BoardWays.{plain_rides};
 
     ghost meaning = { λ g. plain_meaning g.network.now g.timetable.now };
@@ -503,22 +503,22 @@ impl Graph for Plain<'_> {
         }
     }
 
-    ghost steady_arcs = { λ g v. count_from g.network.now.arcs v };
+    ghost steady_of = { λ g v. roads_at g.network.now v };
 
     #[inline(always)]
     fn steady(&self, v: u32) -> Steady {
         let (first, past) = self.network.arcs_from(v);
         Steady {
+            first: u64::from(first),
             count: u64::from(past - first),
             letter: self.network.mode(v),
         }
     }
 
     #[inline(always)]
-    fn leg(&self, v: u32, i: u64) -> Option<Leg> {
-        let (first, past) = self.network.arcs_from(v);
-        if i < u64::from(past - first) {
-            let arc = self.network.arcs()[first as usize + i as usize];
+    fn leg(&self, _v: u32, steady: Steady, i: u64) -> Option<Leg> {
+        if i < steady.count {
+            let arc = self.network.arcs()[steady.first as usize + i as usize];
             Some(leg_of(arc))
         } else {
             None

@@ -64,7 +64,7 @@ fn explore_steady<G: Graph, L: Labels>(
     requires node { from.node < (G.meaning graph.now).nodes }
     requires state { from.state < (L.automaton labels.now).states }
     requires time { from.at < 2 ^ 127 }
-    requires count { steady.count ≡ G.steady_arcs graph.now from.node }
+    requires steady { steady ≡ G.steady_of graph.now from.node }
     requires within { steady.count ≤ (G.meaning graph.now).arcs from.node }
     requires letter { (i : ℕ) → i < steady.count → ((G.meaning graph.now).arc_at from.node i).letter ≡ steady.letter }
     requires right { IsQueueRight frontier.old }
@@ -87,12 +87,12 @@ fn explore_steady<G: Graph, L: Labels>(
                 bound,
                 from,
                 from.state,
-                steady.count,
+                steady,
             )?;
         }
         Some(letter) => {
             let targets = moves.targets_of(from.state, letter);
-            offer_to_states(frontier, graph, labels, bound, from, targets, steady.count)?;
+            offer_to_states(frontier, graph, labels, bound, from, targets, steady)?;
         }
     }
     Ok(())
@@ -107,24 +107,24 @@ fn offer_to_states<G: Graph, L: Labels>(
     bound: Option<Time>,
     from: Settled,
     states: &[u32],
-    count: u64,
+    steady: Steady,
 ) -> Result<(), AllocError>
     requires node { from.node < (G.meaning graph.now).nodes }
     requires time { from.at < 2 ^ 127 }
-    requires count { count ≡ G.steady_arcs graph.now from.node }
-    requires within { count ≤ (G.meaning graph.now).arcs from.node }
-    requires follow { All (λ next. (i : ℕ) → i < count
+    requires steady { steady ≡ G.steady_of graph.now from.node }
+    requires within { steady.count ≤ (G.meaning graph.now).arcs from.node }
+    requires follow { All (λ next. (i : ℕ) → i < steady.count
         → Follows (L.automaton labels.now) from.state ((G.meaning graph.now).arc_at from.node i).letter next) states.now }
     requires right { IsQueueRight frontier.old }
     requires settled { IsSettledBy frontier.old from.at }
     ensures right { OnOk result (IsQueueRight frontier.new) }
     ensures offers { OnOk result (Offers frontier.old frontier.new
         (IsSuccessor (G.meaning graph.now) (L.automaton labels.now) bound from)) }
-    ensures reached { OnOk result (All (λ next. (i : ℕ) → i < count
+    ensures reached { OnOk result (All (λ next. (i : ℕ) → i < steady.count
         → LegIsReached (G.meaning graph.now) bound frontier.new from next i) states.now) }
 {
     for next in states {
-        offer_legs(frontier, graph, labels, bound, from, *next, count)?;
+        offer_legs(frontier, graph, labels, bound, from, *next, steady)?;
     }
     Ok(())
 }
@@ -137,23 +137,23 @@ fn offer_legs<G: Graph, L: Labels>(
     bound: Option<Time>,
     from: Settled,
     next: u32,
-    count: u64,
+    steady: Steady,
 ) -> Result<(), AllocError>
     requires node { from.node < (G.meaning graph.now).nodes }
     requires time { from.at < 2 ^ 127 }
-    requires count { count ≡ G.steady_arcs graph.now from.node }
-    requires within { count ≤ (G.meaning graph.now).arcs from.node }
-    requires follows { (i : ℕ) → i < count
+    requires steady { steady ≡ G.steady_of graph.now from.node }
+    requires within { steady.count ≤ (G.meaning graph.now).arcs from.node }
+    requires follows { (i : ℕ) → i < steady.count
         → Follows (L.automaton labels.now) from.state ((G.meaning graph.now).arc_at from.node i).letter next }
     requires right { IsQueueRight frontier.old }
     requires settled { IsSettledBy frontier.old from.at }
     ensures right { OnOk result (IsQueueRight frontier.new) }
     ensures offers { OnOk result (Offers frontier.old frontier.new
         (IsSuccessor (G.meaning graph.now) (L.automaton labels.now) bound from)) }
-    ensures reached { OnOk result ((i : ℕ) → i < count → LegIsReached (G.meaning graph.now) bound frontier.new from next i) }
+    ensures reached { OnOk result ((i : ℕ) → i < steady.count → LegIsReached (G.meaning graph.now) bound frontier.new from next i) }
 {
-    for i in 0..count {
-        offer_leg(frontier, graph, labels, bound, from, next, i)?;
+    for i in 0..steady.count {
+        offer_leg(frontier, graph, labels, bound, from, next, steady, i)?;
     }
     Ok(())
 }
@@ -167,11 +167,13 @@ fn offer_leg<G: Graph, L: Labels>(
     bound: Option<Time>,
     from: Settled,
     next: u32,
+    steady: Steady,
     i: u64,
 ) -> Result<(), AllocError>
     requires node { from.node < (G.meaning graph.now).nodes }
     requires time { from.at < 2 ^ 127 }
-    requires steady { i < G.steady_arcs graph.now from.node }
+    requires steady { steady ≡ G.steady_of graph.now from.node }
+    requires place { i < steady.count }
     requires arc { i < (G.meaning graph.now).arcs from.node }
     requires follows { Follows (L.automaton labels.now) from.state ((G.meaning graph.now).arc_at from.node i).letter next }
     requires right { IsQueueRight frontier.old }
@@ -181,7 +183,7 @@ fn offer_leg<G: Graph, L: Labels>(
         (IsSuccessor (G.meaning graph.now) (L.automaton labels.now) bound from)) }
     ensures reached { OnOk result (LegIsReached (G.meaning graph.now) bound frontier.new from next i) }
 {
-    if let Some(leg) = graph.leg(from.node, i) {
+    if let Some(leg) = graph.leg(from.node, steady, i) {
         let at = from.at + Time::from(leg.ms);
         if is_within(bound, at) {
             offer_next(frontier, leg.to, next, way_by(from, i, at))?;

@@ -1,6 +1,6 @@
 //! A graph and an automaton that are drawn from a number.
 
-ghost use Rattle.std.specs.Prelude.{◌≡◌, ◌<◌, ◌≤◌, ◌^◌};
+ghost use Rattle.std.specs.Prelude.{◌≡◌, ◌<◌, ◌≤◌, ◌^◌, None};
 ghost use Rattle.search_cases.specs.Towns.{drawn, letter_drawn, timed, town, rules, town_lawful, rules_lawful};
 
 use search_laws::{Graph, GraphArc, Labels, Leg, Move, Steady, Time};
@@ -67,16 +67,17 @@ impl Graph for Town {
         }
     }
 
-    ghost steady_arcs = { λ _ _. 0 };
+    ghost steady_of = { λ _ _. record { first = 0; count = 0; letter = None } };
 
     fn steady(&self, _v: u32) -> Steady {
         Steady {
+            first: 0,
             count: 0,
             letter: None,
         }
     }
 
-    fn leg(&self, _v: u32, _i: u64) -> Option<Leg> {
+    fn leg(&self, _v: u32, _steady: Steady, _i: u64) -> Option<Leg> {
         None
     }
 }

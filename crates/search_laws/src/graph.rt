@@ -22,6 +22,8 @@ pub struct GraphArc {
 /// whenever they are taken.
 #[derive(Clone, Copy)]
 pub struct Steady {
+    /// Where the graph keeps the first of them, which says nothing to others.
+    pub first: u64,
     pub count: u64,
     pub letter: Option<u8>,
 }
@@ -76,6 +78,8 @@ pub fn push_way(
 /// There are at most 2^25 nodes. An arc never arrives before it is taken, and at most 2^57 ms after. Taken later,
 /// it arrives no earlier. Where it cannot be taken any more, it cannot be taken later either.
 pub trait Graph {
+    ghost use Rattle.search_laws.specs.declared.graph.Steady.{Steady};
+
     /// What the calls answer, as functions on numbers.
     ghost meaning: { Self → GraphMeaning };
 
@@ -101,21 +105,23 @@ pub trait Graph {
         requires time { t < 2 ^ 127 }
         ensures { result ≡ (meaning self.now).arrive v i t };
 
-    /// How many of the arcs of a node are steady.
-    ghost steady_arcs: { Self → ℕ → ℕ };
+    /// The steady arcs of a node.
+    ghost steady_of: { Self → ℕ → Steady };
 
     /// The steady arcs of the node `v`, which a search takes one by one. A graph may call none so.
     fn steady(&self, v: u32) -> Steady
         requires { v < (meaning self.now).nodes }
-        ensures count { result.count ≡ steady_arcs self.now v }
+        ensures is { result ≡ steady_of self.now v }
         ensures within { result.count ≤ (meaning self.now).arcs v }
         ensures letter { (i : ℕ) → i < result.count → ((meaning self.now).arc_at v i).letter ≡ result.letter };
 
-    /// The arc at place `i` of those that leave the node `v`, if it is steady; None exactly where `i` is past the steady ones.
-    fn leg(&self, v: u32, i: u64) -> Option<Leg>
-        requires { v < (meaning self.now).nodes }
+    /// The arc at place `i` of those that leave the node `v`, if it is one of the steady arcs of `v`, which are given; None
+    /// exactly where `i` is past them.
+    fn leg(&self, v: u32, steady: Steady, i: u64) -> Option<Leg>
+        requires node { v < (meaning self.now).nodes }
+        requires steady { steady ≡ steady_of self.now v }
         ensures some { IfSome result (IsLeg (meaning self.now) v i) }
-        ensures none { IfNone result (steady_arcs self.now v ≤ i) };
+        ensures none { IfNone result (steady.count ≤ i) };
 
     /// The rides of a trip on a day to the calls behind one, wherever they stand. A graph may have none.
     ghost rides: { Self → RunRides } = { λ _ _ _ _. [] };
@@ -137,7 +143,7 @@ pub trait Graph {
         requires node { v < (meaning self.now).nodes }
         requires time { t < 2 ^ 127 }
         ensures { OnOk result (AddsFresh (rides self.now) state given.old given.new
-            (ways_past (meaning self.now) v t letters (steady_arcs self.now v)) ways.old.items ways.new.items) }
+            (ways_past (meaning self.now) v t letters (steady_of self.now v).count) ways.old.items ways.new.items) }
     {
         let _ = (state, given.cells.len());
         for i in self.steady(v).count..self.arcs(v) {

@@ -1,4 +1,5 @@
-use Rattle.std.proofs.Common.{sym, subst, arith}
+use Rattle.std.proofs.Common.{ap, sym, subst, arith}
+use Rattle.search_laws.specs.declared.graph.Steady.{Steady}
 use Rattle.product_search.specs.MoveTables.{HasLetters}
 use Rattle.product_search.specs.Exploring.{IsByWays, IsSuccessor}
 use Rattle.product_search.proofs.OfferLemmas.{arc_keeps, offers_more, offers_weaker}
@@ -8,12 +9,12 @@ use Rattle.product_search.proofs.explore.explore.Goals as goal
 
 pub explore_ways-requires-clause-letters : goal.explore_ways-requires-clause-letters
 explore_ways-requires-clause-letters g c =
-    ways_letters (g.G.Graph.meaning c.args.graph.now) (g.L.Labels.automaton c.args.labels.now) c.args.bound c.args.from _ _ (omega arith) _
+    ways_letters (g.G.Graph.meaning c.args.graph.now) (g.L.Labels.automaton c.args.labels.now) c.args.bound c.args.from _ _ (omega (arith, ap (λ (x : Steady). x.count) c.steady-steady.ensures.is)) _
     (fresh_alone c.in_ok-fresh_ways.ensures c.clear.ensures.items c.deref.ensures.value).are (g.met.G.Graph.lawful c.args.graph.now) c.requires.node
 
 pub explore_ways-requires-clause-times : goal.explore_ways-requires-clause-times
 explore_ways-requires-clause-times g c =
-    ways_times (g.G.Graph.meaning c.args.graph.now) (g.L.Labels.automaton c.args.labels.now) c.args.bound c.args.from _ _ (omega arith) _
+    ways_times (g.G.Graph.meaning c.args.graph.now) (g.L.Labels.automaton c.args.labels.now) c.args.bound c.args.from _ _ (omega (arith, ap (λ (x : Steady). x.count) c.steady-steady.ensures.is)) _
     (fresh_alone c.in_ok-fresh_ways.ensures c.clear.ensures.items c.deref.ensures.value).are (g.met.G.Graph.lawful c.args.graph.now) c.requires.node
 
 pub returns-clause-offers : goal.returns-clause-offers
@@ -24,7 +25,7 @@ returns-clause-offers g c =
     let successor = IsSuccessor graph labels c.args.bound s in
     offers_more c.args.frontier.now c.explore_steady.new.frontier c.explore_ways.new.frontier successor c.in_ok-explore_steady.ensures.offers
     (offers_weaker c.explore_steady.new.frontier c.explore_ways.new.frontier (IsByWays labels c.args.bound s c.deref.result.now) successor
-    (by_ways graph labels c.args.bound s _ _ (omega arith) _ (fresh_alone c.in_ok-fresh_ways.ensures c.clear.ensures.items c.deref.ensures.value).are c.requires.node)
+    (by_ways graph labels c.args.bound s _ _ (omega (arith, ap (λ (x : Steady). x.count) c.steady-steady.ensures.is)) _ (fresh_alone c.in_ok-fresh_ways.ensures c.clear.ensures.items c.deref.ensures.value).are c.requires.node)
     c.in_ok-explore_ways.ensures.offers)
 
 pub returns-clause-reached : goal.returns-clause-reached
@@ -39,7 +40,7 @@ returns-clause-reached g c =
     (IsSuccessor graph labels c.args.bound s) (returns-clause-offers g c) c.requires.given)
     c.in_ok-explore_ways.ensures.reached
     (λ i lt. arc_keeps graph labels c.args.bound c.explore_steady.new.frontier c.explore_ways.new.frontier (IsByWays labels c.args.bound s c.deref.result.now)
-    c.in_ok-explore_ways.ensures.offers s.node s.state s.at i (c.in_ok-explore_steady.ensures.reached i (omega arith)))
+    c.in_ok-explore_ways.ensures.offers s.node s.state s.at i (c.in_ok-explore_steady.ensures.reached i (omega (arith, ap (λ (x : Steady). x.count) c.steady-steady.ensures.is))))
 
 pub returns-clause-given : goal.returns-clause-given
 returns-clause-given g c =

@@ -1,17 +1,12 @@
-use Rattle.std.proofs.Common.{◌∙◌, length, ap, sym, arith}
+use Rattle.std.proofs.Common.{ℕ, Bool, ◌∙◌, length, ap, sym, arith}
 use Rattle.phase_graph.specs.declared.phases.PhaseArc.{PhaseArc}
-use Rattle.phase_graph.specs.PhaseArcs.{arc_of, node_of, is_down}
+use Rattle.phase_graph.specs.PhaseArcs.{arc_of, node_of, is_down, rises_at}
 use Rattle.phase_graph.proofs.PlaceLemmas.{up_known}
 use Rattle.phase_graph.proofs.phases.PhasesGraph.steady.Goals as goal
 
-pub returns-clause-count : goal.returns-clause-count
-returns-clause-count c =
-    let rises = rw c.split-v.ensures at c.rises_at.ensures.list in
-    ap length rises
-
 pub returns-clause-within : goal.returns-clause-within
 returns-clause-within c =
-    let count = ap length (rw c.split-v.ensures at c.rises_at.ensures.list) in
+    let count = ap (λ (r : ℕ × Bool). length (rises_at c.args.self.now.hierarchy.now r.0 r.1)) c.split-v.ensures in
     omega (arith, count)
 
 pub returns-clause-letter : goal.returns-clause-letter
@@ -21,6 +16,6 @@ returns-clause-letter c i lt =
     let h = self.hierarchy.now in
     let v = node_of c.args.p in
     let down = is_down c.args.p in
-    let rises = rw c.split-v.ensures at c.rises_at.ensures.list in
+    let count = ap (λ (r : ℕ × Bool). length (rises_at h r.0 r.1)) c.split-v.ensures in
     let mode = rw (c.network.ensures, c.split-v.ensures) at c.mode.ensures in
-    ap (λ (a : PhaseArc). (arc_of n self.plain.timetable.now h v down a).letter) (up_known n h v down i (rw rises at lt)) ∙ sym mode
+    ap (λ (a : PhaseArc). (arc_of n self.plain.timetable.now h v down a).letter) (up_known n h v down i (omega (arith, lt, count))) ∙ sym mode

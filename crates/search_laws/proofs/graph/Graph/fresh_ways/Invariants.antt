@@ -4,4 +4,4 @@ use Rattle.search_laws.proofs.graph.Graph.fresh_ways.Given as goal
 
 abbrev pub invariant-loop-i : goal.invariant-loop-i
 invariant-loop-i g l =
-    l.ways.items ≡ l.initial.ways.items ++ ways_from (g.Self.Graph.meaning l.self) l.v l.t l.letters (g.Self.Graph.steady_arcs l.self l.v) (l.i - g.Self.Graph.steady_arcs l.self l.v)
+    l.ways.items ≡ l.initial.ways.items ++ ways_from (g.Self.Graph.meaning l.self) l.v l.t l.letters (g.Self.Graph.steady_of l.self l.v).count (l.i - (g.Self.Graph.steady_of l.self l.v).count)
