@@ -1,6 +1,6 @@
 //! A best journey for a query.
 
-ghost use Rattle.std.specs.Prelude.{◌≡◌, IfOk, IfSome, option_map};
+ghost use Rattle.std.specs.Prelude.{◌≡◌, IfOk, IfSome, Some, option_map};
 ghost use Rattle.automaton.specs.Meanings.{position_meaning};
 ghost use Rattle.hierarchy.specs.Soundness.{IsSound};
 ghost use Rattle.journey.specs.Best.{asked_by};
@@ -15,7 +15,7 @@ use journey::{Query, copies};
 use mode_network::{Journey, Network};
 use phase_graph::{GraphInUse, ends_in, starts_in};
 use plan_base::Time;
-use product_search::{Best, Found, Label, Walk, Workspace, search_best_with, search_with};
+use product_search::{Best, Counted, Found, Label, Walk, Workspace, search, search_best_with, search_counted_with};
 use std::alloc::{AllocError, Global};
 use unpack::from_graph;
 
@@ -91,16 +91,7 @@ pub fn find_best(
                 settled: 0,
             })
         }
-        Some(_) => {
-            let FoundPlan { best, labels } = find_plan_with(
-                alloc, workspace, network, hierarchy, query,
-            )?;
-            let journey = journey_of(best);
-            Ok(BestPlan {
-                journey,
-                settled: labels.len() as u64,
-            })
-        }
+        Some(hierarchy) => find_over(alloc, workspace, network, hierarchy, query),
     }
 }
 
@@ -131,6 +122,43 @@ fn find_plain(
     Ok(route)
 }
 
+/// A best journey for a query over a hierarchy's phase graph, and how many labels the search had. The search uses the workspace.
+fn find_over(
+    alloc: Global,
+    workspace: &mut Workspace,
+    network: &Network,
+    hierarchy: &Hierarchy,
+    query: &Query,
+) -> Result<BestPlan, AllocError>
+    requires sound { IsSound network.now hierarchy.now }
+    requires read { IsRead network.now query.now }
+    ensures journey { IfOk result (λ best. IsPlan network.now (asked_by query.now) best.journey) }
+    ensures settled { IfOk result (λ best. IsLabelCount network.now (Some hierarchy.now) (asked_by query.now) best.settled) }
+{
+    network.known();
+    let searched = prepared(alloc, network, Some(hierarchy), query)?;
+    let found = search_counted_with(
+        alloc,
+        workspace,
+        &searched.graph,
+        &searched.automaton,
+        &searched.starts,
+        &searched.ends,
+        query.depart,
+        None,
+    )?;
+    let Counted {
+        arrival: _,
+        labels,
+        walk,
+    } = found;
+    let journey = unpacked(alloc, &searched.graph, &walk)?;
+    Ok(BestPlan {
+        journey,
+        settled: labels,
+    })
+}
+
 /// A journey that was found with its arrival.
 fn journey_of(best: Option<(Time, Journey)>) -> Option<Journey>
     ensures { result ≡ route_of best }
@@ -155,30 +183,10 @@ pub fn find_plan(
     ensures labels { IfOk result (λ found. AreTheLabels network.now (option_map (λ h. h.now) hierarchy.entry) (asked_by query.now) found.labels.items) }
     ensures certifiable { IfOk result (λ found. IsCertifiable network.now (option_map (λ h. h.now) hierarchy.entry) query.now found.best found.labels.items) }
 {
-    let mut workspace = Workspace::new(alloc);
-    let found = find_plan_with(alloc, &mut workspace, network, hierarchy, query)?;
-    Ok(found)
-}
-
-/// The same. The search uses the workspace.
-fn find_plan_with(
-    alloc: Global,
-    workspace: &mut Workspace,
-    network: &Network,
-    hierarchy: Option<&Hierarchy>,
-    query: &Query,
-) -> Result<FoundPlan, AllocError>
-    requires sound { IfSome hierarchy (λ h. IsSound network.now h.now) }
-    requires read { IsRead network.now query.now }
-    ensures journey { IfOk result (λ found. IsPlan network.now (asked_by query.now) (route_of found.best)) }
-    ensures labels { IfOk result (λ found. AreTheLabels network.now (option_map (λ h. h.now) hierarchy.entry) (asked_by query.now) found.labels.items) }
-    ensures certifiable { IfOk result (λ found. IsCertifiable network.now (option_map (λ h. h.now) hierarchy.entry) query.now found.best found.labels.items) }
-{
     network.known();
     let searched = prepared(alloc, network, hierarchy, query)?;
-    let found = search_with(
+    let found = search(
         alloc,
-        workspace,
         &searched.graph,
         &searched.automaton,
         &searched.starts,

@@ -18,3 +18,4 @@ pub mod BoundLemmas
 mod ClosureLemmas
 mod LetterLemmas
 mod MoveLemmas
+mod SortLemmas

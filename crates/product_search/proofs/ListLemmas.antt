@@ -115,7 +115,7 @@ distinct arrival (e ∷ es) unique =
     (distinct arrival es (IsDistinct-tail state_eq e.0 (keys_of es) unique))
 
 -- sorted labels of which no two are of one product state ascend
-order_total : IsTotalOrder label_order
+pub order_total : IsTotalOrder label_order
 order_total = then_total (then_total (on_total (λ (x : Label). x.node) nat_cmp_total) (on_total (λ (x : Label). x.state) nat_cmp_total)) (on_total (λ (x : Label). x.at) nat_cmp_total)
 
 less_from : (a b c d s t : ℕ) → is_lt (ordering_then (ordering_then (nat_cmp c a) (nat_cmp d b)) (nat_cmp t s)) ≡ false → ((a == c) && (b == d)) ≡ false

@@ -1,5 +1,5 @@
 -- The rows that two lists keep, entry by entry and key by key.
-use Rattle.std.proofs.Common.{◌≡◌, ℕ, ◌⊎◌, inl, inr, true, false, Bool, not, ◌==◌, ◌&&◌, append_assoc, append-nil, None, List, [], ◌∷◌, ◌++◌, length, get_or, map, Some, zero, suc, refl, sym, ◌∙◌, ap, subst, arith}
+use Rattle.std.proofs.Common.{◌≡◌, ℕ, ◌+◌, ◌≤◌, ◌⊎◌, inl, inr, true, false, Bool, not, ◌==◌, ◌&&◌, append_assoc, append-nil, None, List, [], ◌∷◌, ◌++◌, length, get_or, map, Some, zero, suc, refl, sym, ◌∙◌, ap, subst, arith}
 use Rattle.std.specs.Prelude.{Option, option_map, slice_get, slice_set, filter_map, option_to_list}
 use Rattle.std.specs.List.{cons_option}
 use Rattle.std.proofs.lemmas.Bool.{false≢true, and_from, and_parts, not_from_false, not-true, eq-eqb, eqb-true}
@@ -170,3 +170,27 @@ pub listed_all : {Y : Type 0} (h : Row → Option Y) (list all : List Y) (ks : L
 listed_all h list all [] es ended so_far = sym (append-nil list) ∙ so_far
 listed_all h list all (k ∷ ks) [] ended so_far = sym (append-nil list) ∙ so_far
 listed_all h list all (k ∷ ks) (e ∷ es) ended so_far = elim ended [ inl none ↦ cc | inr none ↦ cc ]
+
+-- ---- how many of them there are
+
+pub counted_none : (count all : ℕ) → count ≡ all → 0 + count ≡ all
+counted_none count all is = omega (arith, is)
+
+pub counted_all : {Y : Type 0} (h : Row → Option Y) (count all : ℕ) (ks : List Key) (es : List Entry) → (ks ≡ []) ⊎ (es ≡ [])
+    → count + length (filter_map h (rows_of ks es)) ≡ all → count ≡ all
+counted_all h count all [] es ended so_far = omega (arith, so_far)
+counted_all h count all (k ∷ ks) [] ended so_far = omega (arith, so_far)
+counted_all h count all (k ∷ ks) (e ∷ es) ended so_far = elim ended [ inl none ↦ cc | inr none ↦ cc ]
+
+pub few_listed : {Y : Type 0} (h : Row → Option Y) (ks : List Key) (es : List Entry) → length (filter_map h (rows_of ks es)) ≤ length ks
+few_listed h [] es = omega arith
+few_listed h (k ∷ ks) [] = omega arith
+few_listed h (k ∷ ks) (e ∷ es) =
+    let one = option_few (h (row_of k e)) in
+    let parts = ap length (cons_is_append (h (row_of k e)) (filter_map h (rows_of ks es))) ∙ length-append (option_to_list (h (row_of k e))) (filter_map h (rows_of ks es)) in
+    let rest = few_listed h ks es in
+    omega (arith, one, parts, rest)
+  where
+    option_few : {Y : Type 0} (o : Option Y) → length (option_to_list o) ≤ 1
+    option_few None = omega arith
+    option_few (Some y) = omega arith

@@ -1,5 +1,5 @@
 -- Lists of labels, in order by node and then by state.
-use Rattle.std.specs.Prelude.{◌≡◌, ℕ, List, Contains, All, AllPairs, Option}
+use Rattle.std.specs.Prelude.{◌≡◌, ℕ, List, length, Contains, All, AllPairs, Option}
 use Rattle.std.specs.declared.cmp.Ordering.{Ordering}
 use Rattle.std.specs.declared.cmp.Ordering.TheVariants.{Less}
 use Rattle.std.specs.Ordering.{ordering_then, nat_cmp}
@@ -29,3 +29,7 @@ pub record AreLeastLabels (g : GraphMeaning) (l : LabelsMeaning) (starts : List 
   pub ascending : IsAscending list
   pub least : All (λ x. IsLeastAt g l starts dep x.node x.state x.at × IsToList bound arrival x.at) list
   pub complete : (v q t : ℕ) → IsLeastAt g l starts dep v q t → IsToList bound arrival t → Contains list (label_of v q t)
+
+-- that list has so many labels
+abbrev pub HasLeastLabels : GraphMeaning → LabelsMeaning → List ℕ → ℕ → Option ℕ → Option ℕ → ℕ → Type 0
+HasLeastLabels g l starts dep bound arrival count = (list : List Label) × AreLeastLabels g l starts dep bound arrival list × (count ≡ length list)

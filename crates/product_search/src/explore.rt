@@ -80,15 +80,7 @@ fn explore_steady<G: Graph, L: Labels>(
     }
     match steady.letter {
         None => {
-            offer_legs(
-                frontier,
-                graph,
-                labels,
-                bound,
-                from,
-                from.state,
-                steady,
-            )?;
+            offer_legs(frontier, graph, labels, bound, from, from.state, steady)?;
         }
         Some(letter) => {
             let targets = moves.targets_of(from.state, letter);

@@ -43,6 +43,17 @@ pub struct Found {
     pub walk: Option<Walk>,
 }
 
+/// The answer of a search that counts its labels.
+#[derive(Debug, Drop)]
+pub struct Counted {
+    /// The least arrival, or None where no walk counts.
+    pub arrival: Option<Time>,
+    /// How many labels there are.
+    pub labels: u64,
+    /// A walk with the least arrival.
+    pub walk: Option<Walk>,
+}
+
 /// The answer of a search that lists no labels.
 #[derive(Debug, Drop)]
 pub struct Best {

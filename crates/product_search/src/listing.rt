@@ -1,6 +1,6 @@
 //! The settled product states as a list of labels.
 
-ghost use Rattle.std.specs.Prelude.{◌≡◌, ◌↔◌, All, Some, IfOk, filter_map, IsSorted, IsPermutation, IsTrue, OnOk, ◌++◌, option_to_list};
+ghost use Rattle.std.specs.Prelude.{◌≡◌, ◌↔◌, All, Some, IfOk, filter_map, IsSorted, IsPermutation, IsTrue, OnOk, ◌++◌, length, option_to_list};
 ghost use Rattle.product_search.specs.Listed.{label_order};
 ghost use Rattle.product_search.specs.Reach.{IsBefore, is_before};
 ghost use Rattle.product_search.specs.Searching.{label_of_row};
@@ -24,6 +24,19 @@ pub(crate) fn list_labels(
     let mut list = settled_labels(alloc, frontier, arrival)?;
     list.sort_unstable();
     Ok(list)
+}
+
+/// How many labels there are of what is settled before the arrival, or where there is none, of all that is settled.
+pub(crate) fn count_labels(frontier: &Frontier, arrival: Option<Time>) -> u64
+    ensures { result ≡ length (filter_map (label_of_row arrival) (rows frontier.now)) }
+{
+    let mut count = 0;
+    'rows: for (key, entry) in frontier.keys.iter().zip(frontier.entries.iter()) {
+        if let Some(_) = label_before(arrival, Row::of(*key, *entry)) {
+            count += 1;
+        }
+    }
+    count
 }
 
 /// The labels in the order of the entries.

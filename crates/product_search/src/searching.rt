@@ -2,12 +2,12 @@
 
 ghost use Rattle.std.specs.Prelude.{◌≡◌, ◌<◌, ◌≤◌, ◌^◌, All, IfOk, IfSome, None};
 ghost use Rattle.product_search.specs.Reach.{IsWithin};
-ghost use Rattle.product_search.specs.Listed.{AreLeastLabels};
+ghost use Rattle.product_search.specs.Listed.{AreLeastLabels, HasLeastLabels};
 ghost use Rattle.product_search.specs.Answer.{IsArrival, IsWalkFor, IsInTime, last_time};
 ghost use Rattle.product_search.specs.Closed.{IsClosed};
 
-use crate::label::{Best, Found};
-use crate::listing::list_labels;
+use crate::label::{Best, Counted, Found};
+use crate::listing::{count_labels, list_labels};
 use crate::retrace::retrace;
 use crate::settling::settle_all;
 use crate::workspace::Workspace;
@@ -113,6 +113,61 @@ pub fn search_with<G: Graph, L: Labels>(
             Ok(Found {
                 arrival: Some(end.at),
                 labels,
+                walk: Some(walk),
+            })
+        }
+    }
+}
+
+/// The same as [`search_with`] with the count of the labels in place of these.
+pub fn search_counted_with<G: Graph, L: Labels>(
+    alloc: Global,
+    workspace: &mut Workspace,
+    graph: &G,
+    labels: &L,
+    starts: &[u32],
+    targets: &[u32],
+    dep: Time,
+    bound: Option<Time>,
+) -> Result<Counted, AllocError>
+    requires starts { All (λ v. v < (G.meaning graph.now).nodes) starts.now }
+    requires dep { dep < 2 ^ 64 }
+    requires bound { IsWithin bound dep }
+    ensures arrival { IfOk result (λ f. IsArrival (G.meaning graph.now) (L.automaton labels.now) starts.now targets.now dep
+        bound f.arrival) }
+    ensures walk { IfOk result (λ f. IsWalkFor (G.meaning graph.now) (L.automaton labels.now) starts.now targets.now dep
+        f.arrival f.walk) }
+    ensures labels { IfOk result (λ f. HasLeastLabels (G.meaning graph.now) (L.automaton labels.now) starts.now dep
+        bound f.arrival f.labels) }
+    ensures time { IfOk result (λ f. IfSome f.arrival (λ t. t ≤ last_time dep)) }
+{
+    let explored = settle_all(
+        alloc,
+        workspace.take(alloc),
+        graph,
+        labels,
+        starts,
+        targets,
+        dep,
+        bound,
+    )?;
+    match explored.end {
+        None => {
+            let count = count_labels(&explored.frontier, None);
+            workspace.put(explored.frontier);
+            Ok(Counted {
+                arrival: None,
+                labels: count,
+                walk: None,
+            })
+        }
+        Some(end) => {
+            let count = count_labels(&explored.frontier, Some(end.at));
+            let walk = retrace(alloc, &explored.frontier, end)?;
+            workspace.put(explored.frontier);
+            Ok(Counted {
+                arrival: Some(end.at),
+                labels: count,
                 walk: Some(walk),
             })
         }

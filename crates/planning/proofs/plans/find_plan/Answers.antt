@@ -12,13 +12,13 @@ use Rattle.journey.specs.Best.{asked_by}
 use Rattle.planning.specs.Plans.{IsPlan, IsCertifiable, route_of}
 use Rattle.planning.proofs.PlanLemmas.{walk_is_of, found_for}
 use Rattle.planning.proofs.AnyGraph.{labels_over}
-use Rattle.planning.proofs.plans.find_plan_with.Goals as goal
+use Rattle.planning.proofs.plans.find_plan.Goals as goal
 
-pub search_with-requires-clause-starts : goal.search_with-requires-clause-starts
-search_with-requires-clause-starts c = rw c.deref.ensures.value c.in_ok-searched.ensures.is.starts_low
+pub search-requires-clause-starts : goal.search-requires-clause-starts
+search-requires-clause-starts c = rw c.deref.ensures.value c.in_ok-searched.ensures.is.starts_low
 
-pub search_with-requires-clause-targets : goal.search_with-requires-clause-targets
-search_with-requires-clause-targets c = rw c.deref-2.ensures.value c.in_ok-searched.ensures.is.ends_low
+pub search-requires-clause-targets : goal.search-requires-clause-targets
+search-requires-clause-targets c = rw c.deref-2.ensures.value c.in_ok-searched.ensures.is.ends_low
 
 pub unpacked-requires : goal.unpacked-requires
 unpacked-requires c =

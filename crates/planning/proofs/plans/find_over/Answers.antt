@@ -1,0 +1,51 @@
+use Rattle.std.proofs.Common.{◌≡◌, ℕ, List, Some, length}
+use Rattle.automaton.specs.Meanings.{position_meaning}
+use Rattle.phase_graph.specs.InUse.{starts_in, ends_in}
+use Rattle.phase_graph.specs.InUseGraph.{meaning_in_use}
+use Rattle.phase_graph.proofs.InUseLemmas.{graphs_in_use_are_alike}
+use Rattle.planning.proofs.PlanLemmas.{walk_is_of, plan_for}
+use Rattle.planning.proofs.AnyGraph.{labels_over}
+use Rattle.planning.proofs.plans.find_over.Goals as goal
+
+pub search_counted_with-requires-clause-starts : goal.search_counted_with-requires-clause-starts
+search_counted_with-requires-clause-starts c = rw c.deref.ensures.value c.in_ok-searched.ensures.is.starts_low
+
+pub unpacked-requires : goal.unpacked-requires
+unpacked-requires c =
+    let s = c.in_ok-searched.searched in
+    let walk = rw (c.deref.ensures.value, c.deref-2.ensures.value) at c.in_ok-found.ensures.walk in
+    walk_is_of c.args.network.now c.known.ensures (Some c.args.hierarchy.now) c.args.query.now (meaning_in_use s.graph) (position_meaning s.automaton.inner) s.starts.items s.ends.items c.in_ok-searched.ensures.is _ _ walk
+
+pub returns-clause-journey : goal.returns-clause-journey
+returns-clause-journey c =
+    let s = c.in_ok-searched.searched in
+    let walk = rw (c.deref.ensures.value, c.deref-2.ensures.value) at c.in_ok-found.ensures.walk in
+    let arrival = rw (c.deref.ensures.value, c.deref-2.ensures.value) at c.in_ok-found.ensures.arrival in
+    let under = rw (c.in_ok-searched.ensures.network, c.in_ok-searched.ensures.hierarchy) at c.in_ok-journey.ensures in
+    plan_for c.args.network.now c.known.ensures (Some c.args.hierarchy.now) c.args.query.now (meaning_in_use s.graph) (position_meaning s.automaton.inner) s.starts.items s.ends.items c.in_ok-searched.ensures.is
+    _ _ _ arrival walk c.requires.read.soon c.in_ok-found.ensures.time under
+
+pub returns-clause-settled : goal.returns-clause-settled
+returns-clause-settled c =
+    let n = c.args.network.now in
+    let q = c.args.query.now in
+    let h = Some c.args.hierarchy.now in
+    let s = c.in_ok-searched.searched in
+    let is = c.in_ok-searched.ensures.is in
+    let g = meaning_in_use s.graph in
+    let l = position_meaning s.automaton.inner in
+    let counted = rw (c.deref.ensures.value, is.starts_are) at c.in_ok-found.ensures.labels in
+    let first = rw (c.deref.ensures.value, c.deref-2.ensures.value, is.starts_are, is.ends_are) at c.in_ok-found.ensures.arrival in
+    (counted.0, record {
+      automaton = l;
+      positions = is.positions;
+      origins = is.origins;
+      targets = is.targets;
+      origin = is.origin;
+      destination = is.destination;
+      graph = g;
+      in_use = is.in_use;
+      arrival = c.in_ok-found.found.arrival;
+      over = λ other in_use. labels_over g other (graphs_in_use_are_alike n c.known.ensures h is.sound is.targets g other is.in_use in_use)
+          l (starts_in h is.origins) (ends_in h is.targets) q.depart c.in_ok-found.found.arrival counted.0 (record { first = first; least = counted.1 });
+    }, counted.2)
