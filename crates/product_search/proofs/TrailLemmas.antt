@@ -1,6 +1,6 @@
 -- The way back through a frontier is a walk of the graph.
-use Rattle.std.proofs.Common.{◌≡◌, ◌≢◌, ℕ, suc, ◌+◌, ◌-◌, ◌^◌, ◌<◌, ◌≤◌, List, [], ◌∷◌, ◌++◌, Some, refl, sym, ◌∙◌, ap, subst, arith}
-use Rattle.std.specs.Prelude.{All, reverse, slice_get, length}
+use Rattle.std.proofs.Common.{◌≡◌, ◌≢◌, ℕ, suc, ◌+◌, ◌-◌, ◌^◌, ◌<◌, ◌≤◌, List, [], ◌∷◌, ◌++◌, Some, None, refl, sym, ◌∙◌, ap, subst, arith}
+use Rattle.std.specs.Prelude.{Option, IfSome, All, reverse, slice_get, length}
 use Rattle.std.proofs.lemmas.List.{reverse-append}
 use Rattle.std.proofs.lemmas.List.Elements.{All-nil, All-cons}
 use Rattle.search_laws.specs.GraphLaws.{GraphMeaning, HasArc}
@@ -12,11 +12,11 @@ use Rattle.product_search.specs.declared.frontier.Settled.{Settled}
 use Rattle.product_search.specs.declared.frontier.Frontier.{Frontier}
 use Rattle.product_search.specs.declared.row.Row.{Row}
 use Rattle.product_search.specs.Waiting.{rows, reached_at, IsAt, IsLink, IsQueueRight}
-use Rattle.product_search.specs.Answer.{IsHop, AreHops, IsWalkTo}
-use Rattle.product_search.specs.Searching.{IsFromParent, IsFromStart, IsTraced, IsTracedTo, IsEnd}
+use Rattle.product_search.specs.Answer.{IsHop, AreHops, IsWalkFor, IsWalkTo, last_time}
+use Rattle.product_search.specs.Searching.{IsFromParent, IsFromStart, IsTraced, IsTracedTo, IsEnd, IsExplored, IsSearched, arrival_of}
 use Rattle.product_search.proofs.QueueLemmas.{same_place, found_in, within}
 use Rattle.product_search.proofs.RowLemmas.{kept_length}
-use Rattle.product_search.specs.Trail.{HasParents, IsBackWithin, IsRowOf, IsTrailHop, AreTrail, IsTrailTo}
+use Rattle.product_search.specs.Trail.{HasParents, IsBackWithin, IsRowOf, IsTrailHop, AreTrail, IsTrailIfAny, IsTrailTo}
 
 pub same_entry : (f : Frontier) (v q : ℕ) (x y : Reached) → reached_at f v q ≡ Some x → reached_at f v q ≡ Some y → x ≡ y
 same_entry f v q x y is also = let e : Some x ≡ Some y = sym is ∙ also in cc
@@ -179,3 +179,36 @@ walk_in_time f dep all v2 q2 w trail = (
 pub end_in_time : (l : LabelsMeaning) (targets : List ℕ) (f : Frontier) (dep : ℕ) → ((v q : ℕ) (x : Reached) → reached_at f v q ≡ Some x → x.at ≤ dep + 2 ^ 98)
     → (s : Settled) → IsEnd l targets f s → s.at ≤ dep + 2 ^ 98
 end_in_time l targets f dep all s end = subst (λ t. t ≤ dep + 2 ^ 98) (sym end.at) (all s.node s.state (end.entry) end.known)
+
+-- ---- what a search that has ended gives
+
+module _ (g : GraphMeaning) (l : LabelsMeaning) (starts targets : List ℕ) (dep : ℕ) (bound : Option ℕ) (f : Frontier) where
+  pub searched : (end : Option Settled) → IsExplored g l starts targets dep bound f end → IsSearched g l starts targets dep bound (arrival_of end) f
+  searched None explored = explored
+  searched (Some s) explored = explored.0
+
+  pub parents_of : (end : Option Settled) → IsExplored g l starts targets dep bound f end → HasParents f
+  parents_of end explored =
+      let is = searched end explored in
+      has_parents g l starts dep is.depth f is.traced is.shallow
+
+  pub link_of : (end : Option Settled) → IsExplored g l starts targets dep bound f end → IfSome end (λ s. IsLink f s.node s.state s.link)
+  link_of None explored = tt
+  link_of (Some s) explored = (explored.1).link
+
+  pub walk_for : (end : Option Settled) (walk : Option Walk) → IsExplored g l starts targets dep bound f end → IsTrailIfAny f end walk
+      → IsWalkFor g l starts targets dep (arrival_of end) walk
+  walk_for None None explored trail = tt
+  walk_for None (Some w) explored trail = trail
+  walk_for (Some s) None explored trail = trail
+  walk_for (Some s) (Some w) explored trail = walk_of g l starts dep (explored.0).depth f (explored.0).traced targets s w explored.1 trail
+
+  pub arrival_in_time : (end : Option Settled) → IsExplored g l starts targets dep bound f end → IfSome (arrival_of end) (λ t. t ≤ last_time dep)
+  arrival_in_time None explored = tt
+  arrival_in_time (Some s) explored = end_in_time l targets f dep (explored.0).bounded s explored.1
+
+  pub walk_soon : (end : Option Settled) (walk : Option Walk) → IsExplored g l starts targets dep bound f end → IsTrailIfAny f end walk
+      → IfSome walk (λ w. (w.at ≤ last_time dep) × All (λ h. h.at ≤ last_time dep) w.hops.items)
+  walk_soon end None explored trail = tt
+  walk_soon None (Some w) explored trail = absurd trail
+  walk_soon (Some s) (Some w) explored trail = walk_in_time f dep (explored.0).bounded s.node s.state w trail

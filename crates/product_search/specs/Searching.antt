@@ -107,6 +107,10 @@ abbrev pub IsExplored : GraphMeaning → LabelsMeaning → List ℕ → List ℕ
 IsExplored g l starts targets dep bound f None = IsSearched g l starts targets dep bound None f
 IsExplored g l starts targets dep bound f (Some s) = IsSearched g l starts targets dep bound (Some s.at) f × IsEnd l targets f s
 
+abbrev pub arrival_of : Option Settled → Option ℕ
+arrival_of None = None
+arrival_of (Some s) = Some s.at
+
 -- ---- what it lists
 
 -- the label of what is settled before the arrival

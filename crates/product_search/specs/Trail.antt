@@ -1,9 +1,10 @@
 -- The way back through the entries of a frontier.
-use Rattle.std.specs.Prelude.{◌≡◌, ℕ, ◌+◌, ◌^◌, ◌≤◌, suc, List, [], ◌∷◌, Some, slice_get}
+use Rattle.std.specs.Prelude.{◌≡◌, ℕ, ◌+◌, ◌^◌, ◌≤◌, suc, List, [], ◌∷◌, ⊤, Option, Some, None, slice_get}
 use Rattle.product_search.specs.declared.label.Hop.{Hop}
 use Rattle.product_search.specs.declared.label.Walk.{Walk}
 use Rattle.product_search.specs.declared.frontier.Reached.{Reached}
 use Rattle.product_search.specs.declared.frontier.Frontier.{Frontier}
+use Rattle.product_search.specs.declared.frontier.Settled.{Settled}
 use Rattle.product_search.specs.declared.row.Row.{Row}
 use Rattle.product_search.specs.Waiting.{rows, reached_at, IsAt, IsLink}
 
@@ -43,3 +44,10 @@ pub record IsTrailTo (f : Frontier) (v2 q2 : ℕ) (w : Walk) : Type 0 where
   pub at : w.at ≡ first.at
   pub ends : reached_at f v2 q2 ≡ Some last
   pub hops : AreTrail f w.node w.state w.at w.hops.items v2 q2 last.at
+
+-- a walk to the end, exactly where there is one
+abbrev pub IsTrailIfAny : Frontier → Option Settled → Option Walk → Type 0
+IsTrailIfAny f None None = ⊤
+IsTrailIfAny f None (Some w) = ⊥
+IsTrailIfAny f (Some s) None = ⊥
+IsTrailIfAny f (Some s) (Some w) = IsTrailTo f s.node s.state w

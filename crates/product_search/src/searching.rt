@@ -8,8 +8,8 @@ ghost use Rattle.product_search.specs.Closed.{IsClosed};
 
 use crate::label::{Best, Counted, Found};
 use crate::listing::{count_labels, list_labels};
-use crate::retrace::retrace;
-use crate::settling::settle_all;
+use crate::retrace::walk_to;
+use crate::settling::{arrival_of, settle_all};
 use crate::workspace::Workspace;
 use search_laws::{Graph, Labels, Time};
 use std::alloc::{AllocError, Global};
@@ -96,27 +96,15 @@ pub fn search_with<G: Graph, L: Labels>(
         dep,
         bound,
     )?;
-    match explored.end {
-        None => {
-            let labels = list_labels(alloc, &explored.frontier, None)?;
-            workspace.put(explored.frontier);
-            Ok(Found {
-                arrival: None,
-                labels,
-                walk: None,
-            })
-        }
-        Some(end) => {
-            let labels = list_labels(alloc, &explored.frontier, Some(end.at))?;
-            let walk = retrace(alloc, &explored.frontier, end)?;
-            workspace.put(explored.frontier);
-            Ok(Found {
-                arrival: Some(end.at),
-                labels,
-                walk: Some(walk),
-            })
-        }
-    }
+    let arrival = arrival_of(explored.end);
+    let labels = list_labels(alloc, &explored.frontier, arrival)?;
+    let walk = walk_to(alloc, &explored.frontier, explored.end)?;
+    workspace.put(explored.frontier);
+    Ok(Found {
+        arrival,
+        labels,
+        walk,
+    })
 }
 
 /// The same as [`search_with`] with the count of the labels in place of these.
@@ -151,27 +139,15 @@ pub fn search_counted_with<G: Graph, L: Labels>(
         dep,
         bound,
     )?;
-    match explored.end {
-        None => {
-            let count = count_labels(&explored.frontier, None);
-            workspace.put(explored.frontier);
-            Ok(Counted {
-                arrival: None,
-                labels: count,
-                walk: None,
-            })
-        }
-        Some(end) => {
-            let count = count_labels(&explored.frontier, Some(end.at));
-            let walk = retrace(alloc, &explored.frontier, end)?;
-            workspace.put(explored.frontier);
-            Ok(Counted {
-                arrival: Some(end.at),
-                labels: count,
-                walk: Some(walk),
-            })
-        }
-    }
+    let arrival = arrival_of(explored.end);
+    let labels = count_labels(&explored.frontier, arrival);
+    let walk = walk_to(alloc, &explored.frontier, explored.end)?;
+    workspace.put(explored.frontier);
+    Ok(Counted {
+        arrival,
+        labels,
+        walk,
+    })
 }
 
 /// The same as [`search_with`] without the labels.
@@ -204,21 +180,8 @@ pub fn search_best_with<G: Graph, L: Labels>(
         dep,
         bound,
     )?;
-    match explored.end {
-        None => {
-            workspace.put(explored.frontier);
-            Ok(Best {
-                arrival: None,
-                walk: None,
-            })
-        }
-        Some(end) => {
-            let walk = retrace(alloc, &explored.frontier, end)?;
-            workspace.put(explored.frontier);
-            Ok(Best {
-                arrival: Some(end.at),
-                walk: Some(walk),
-            })
-        }
-    }
+    let arrival = arrival_of(explored.end);
+    let walk = walk_to(alloc, &explored.frontier, explored.end)?;
+    workspace.put(explored.frontier);
+    Ok(Best { arrival, walk })
 }

@@ -4,7 +4,7 @@ ghost use Rattle.std.specs.Prelude.{◌≡◌, ℕ, ◌<◌, ◌^◌, ◌&&◌, 
 ghost use Rattle.std.specs.BTreeSet as sorted;
 ghost use Rattle.std.specs.Ordering.{nat_cmp};
 ghost use Rattle.product_search.specs.Reach.{IsWithin};
-ghost use Rattle.product_search.specs.Searching.{IsExplored};
+ghost use Rattle.product_search.specs.Searching.{IsExplored, arrival_of};
 
 use crate::explore::explore;
 use crate::frontier::{Frontier, Settled};
@@ -67,6 +67,13 @@ pub(crate) fn settle_all<G: Graph, L: Labels>(
         frontier,
         end: None,
     })
+}
+
+/// When a search arrives that has come to an end.
+pub(crate) fn arrival_of(end: Option<Settled>) -> Option<Time>
+    ensures { result ≡ arrival_of end }
+{
+    Some(end?.at)
 }
 
 /// Whether a product state is a target in an accepting state.
