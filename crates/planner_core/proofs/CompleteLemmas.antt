@@ -3,7 +3,7 @@ use Rattle.plan_base.specs.declared.limits.Caps.{Caps}
 use Rattle.command_words.specs.Requests.{Request, compile, migrate, contract, answer, certify, verify, check, sample, latest, certify_latest, verify_latest, few}
 use Rattle.run_steps.specs.Complete.{Files, Completes}
 use Rattle.run_steps.proofs.CompleteSteps.{file_completes, network_completes, writes_completes}
-use Rattle.compile_steps.proofs.CompleteSteps.{map_completes, feed_completes, build_completes}
+use Rattle.compile_commands.proofs.CompleteSteps.{map_completes, feed_completes, build_completes}
 use Rattle.hierarchy_commands.proofs.CompleteLemmas.{check_completes, contract_completes}
 use Rattle.answer_commands.proofs.CompleteLemmas.{answer_completes, certify_completes, verify_completes}
 use Rattle.late_commands.proofs.CompleteLemmas.{few_completes, latest_completes, certify_latest_completes, verify_latest_completes}

@@ -1,24 +1,19 @@
 -- What each command says of a run by its outcome.
 use Rattle.plan_base.specs.declared.limits.Caps.{Caps}
 use Rattle.command_words.specs.Requests.{Request, compile, migrate, contract, answer, certify, verify, check, sample, latest, certify_latest, verify_latest, few}
-use Rattle.run_steps.specs.Regions.{OnRegion}
-use Rattle.run_steps.specs.Sayings.{Saying, WritesText}
-use Rattle.compile_steps.specs.Maps.{OnMap}
-use Rattle.compile_steps.specs.Feeds.{OnFeed}
-use Rattle.compile_steps.specs.Builds.{OnBuild}
+use Rattle.run_steps.specs.Sayings.{Saying}
+use Rattle.compile_commands.specs.Commands.{SaysCompile, SaysMigrate}
 use Rattle.hierarchy_commands.specs.Commands.{SaysCheck, SaysContract}
 use Rattle.answer_commands.specs.Commands.{SaysAnswer, SaysCertify, SaysVerify}
 use Rattle.sample_command.specs.Summary.{SaysSample}
 use Rattle.late_commands.specs.Commands.{SaysFew, SaysLatest, SaysCertifyLatest, SaysVerifyLatest}
-use Rattle.planner_core.specs.Outputs.{IsRegionFile}
 
 -- What a run says that was asked for this: `compile` writes the region of a map and a feed over some days, in a format, and `migrate` a region in another one; `contract` writes a hierarchy of
 -- the region's road layers; `answer` writes a right block for each query line of a file, in order, and with a hierarchy how many labels its searches had; `certify` a certificate for a query
 -- line; `verify` what the certificate of a file shows; `check` that the hierarchy of a file is sound; `sample` the summary of a made city.
 abbrev pub says : Caps → Request → Saying
-says caps (compile map feed days format) =
-    OnMap caps map (λ objects. OnFeed caps feed (λ tables. OnBuild caps objects tables days (λ n. WritesText (IsRegionFile caps format n))))
-says caps (migrate region format) = OnRegion caps region (λ n. WritesText (IsRegionFile caps format n))
+says caps (compile map feed days format) = SaysCompile caps map feed days format
+says caps (migrate region format) = SaysMigrate caps region format
 says caps (contract region keep) = SaysContract caps region keep
 says caps (answer region queries hierarchy) = SaysAnswer caps region queries hierarchy
 says caps (certify region query hierarchy) = SaysCertify caps region query hierarchy

@@ -7,7 +7,7 @@ use Rattle.plan_base.specs.declared.limits.Caps.{Caps}
 use Rattle.command_words.specs.Requests.{Request, AsksFor, compile, migrate, contract, answer, certify, verify, check, sample, latest, certify_latest, verify_latest, few}
 use Rattle.run_steps.specs.declared.outcome.Outcome.{Outcome}
 use Rattle.run_steps.specs.Complete.{Files, IsHeld, SpellsNetwork, IsDoneOrMemory}
-use Rattle.compile_steps.specs.Complete.{GivesRegion, IsFeedHeld, SpellsObjects}
+use Rattle.compile_commands.specs.Complete.{GivesRegion, IsFeedHeld, SpellsObjects}
 use Rattle.hierarchy_commands.specs.Complete.{CanCheck, CanContract}
 use Rattle.answer_commands.specs.Complete.{CanAnswer, CanCertify, CanVerify}
 use Rattle.late_commands.specs.Complete.{CanFew, CanLatest, CanCertifyLatest, CanVerifyLatest}

@@ -1,4 +1,3 @@
-pub mod Outputs
 pub mod Commands
 pub mod Outcomes
 pub mod Complete

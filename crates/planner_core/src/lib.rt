@@ -1,7 +1,6 @@
 //! The planner: what a command writes.
 #![tactic(auto)]
 
-mod compiling;
 mod running;
 
 pub use command_words::Command;

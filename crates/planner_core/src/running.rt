@@ -9,10 +9,10 @@ ghost use Rattle.planner_core.specs.Outcomes.{IsOutcome, AreFull};
 ghost use Rattle.planner_core.specs.Complete.{IsComplete};
 ghost use Rattle.planner_core.specs.Working.{HasSize};
 
-use crate::compiling::{compile, migrate};
 use answer_commands::{answer, certify, verify};
 use command_help::help;
 use command_words::{Command, WordsFault, read_words};
+use compile_commands::{compile, migrate};
 use hierarchy_commands::{check, contract};
 use late_commands::{certify_latest, few, latest, verify_latest};
 use plan_base::{Caps, Shelf, Sink, write_all};

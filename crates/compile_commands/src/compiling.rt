@@ -1,0 +1,99 @@
+//! The commands `compile` and `migrate`: a region of a map and a timetable feed, and a region in another format.
+
+ghost use Rattle.run_steps.specs.Sayings.{end_of};
+ghost use Rattle.compile_commands.specs.Commands.{SaysCompile, SaysMigrate};
+
+use crate::builds::built;
+use crate::feeds::read_feed_in;
+use crate::maps::read_map;
+use mode_network::Network;
+use plan_base::{Caps, Shelf, Sink};
+use region_build::{LeftOut, Region};
+use region_file::{Format, encode};
+use run_steps::{Outcome, read_region, tell, write_text};
+use service_days::Days;
+use std::alloc::{AllocError, Global};
+
+/// Reads the map of this name and the files of the feed in this folder, and writes the region of both over these days, in
+/// this format. `notes` is told how far it is, and what the region consists of.
+pub fn compile<F: Shelf, O: Sink, E: Sink>(
+    alloc: Global,
+    map: &str,
+    feed: &str,
+    days: Days,
+    format: Format,
+    shelf: &mut F,
+    out: &mut O,
+    notes: &mut E,
+    caps: &Caps,
+) -> Result<(), Outcome>
+    ensures { SaysCompile caps.now map.now feed.now days format (F.meaning shelf.old) (F.meaning shelf.new) (O.meaning out.old) (O.meaning out.new) (end_of result) }
+{
+    let objects = read_map(alloc, shelf, map, caps, notes)?;
+    let tables = read_feed_in(alloc, shelf, feed, caps, notes)?;
+    let region = built(alloc, objects, tables, days, feed, caps, notes)?;
+    let Region { network, left_out } = region;
+    let Ok(text) = encode(alloc, &network, format) else {
+        return Err(Outcome::OutOfMemory);
+    };
+    tell(
+        alloc,
+        notes,
+        told_at_end(alloc, &network, left_out, text.len()),
+    );
+    write_text(out, &text)?;
+    Ok(())
+}
+
+/// Reads the region of this name, and writes it anew in this format.
+pub fn migrate<F: Shelf, O: Sink, E: Sink>(
+    alloc: Global,
+    region: &str,
+    format: Format,
+    shelf: &mut F,
+    out: &mut O,
+    notes: &mut E,
+    caps: &Caps,
+) -> Result<(), Outcome>
+    ensures { SaysMigrate caps.now region.now format (F.meaning shelf.old) (F.meaning shelf.new) (O.meaning out.old) (O.meaning out.new) (end_of result) }
+{
+    let network = read_region(alloc, shelf, region, caps, notes)?;
+    let Ok(bytes) = encode(alloc, &network, format) else {
+        return Err(Outcome::OutOfMemory);
+    };
+    write_text(out, &bytes)?;
+    Ok(())
+}
+
+/// What a region that was compiled consists of, and what was left out of it.
+fn told_at_end(
+    alloc: Global,
+    network: &Network,
+    left_out: LeftOut,
+    bytes: usize,
+) -> Result<String, AllocError> {
+    let nodes = network.nodes();
+    let (arcs, links) = (network.arcs().len(), network.links().len());
+    let (stops, trips) = (stops_of(network), network.timetable().trips().len());
+    let LeftOut {
+        short,
+        idle,
+        inexact,
+        late,
+        ..
+    } = left_out;
+    format!(in alloc;
+        "{nodes} nodes, {arcs} road arcs, {links} links, {stops} stops and {trips} trips, in {bytes} bytes; left out are {short} trips with fewer than two calls, {idle} with no day of the region, {inexact} with a headway that is not exact, and {late} departures of trips that would end after 167:59:59"
+    )
+}
+
+/// How many stops a network has.
+fn stops_of(network: &Network) -> u32 {
+    let mut stops: u32 = 0;
+    for v in 0..network.nodes() {
+        if network.stop_at(v).is_some() {
+            stops = stops.saturating_add(1);
+        }
+    }
+    stops
+}

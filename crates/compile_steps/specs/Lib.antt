@@ -1,5 +1,0 @@
-pub mod Maps
-pub mod Feeds
-pub mod Builds
-pub mod Complete
-pub mod Working
