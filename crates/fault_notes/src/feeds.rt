@@ -29,28 +29,27 @@ pub fn bad_feed(
             format!(in alloc; "{folder}/{name}, row 1: the header must name the column {column}")
         }
         FeedFault::BadField { file, row, column } => {
-            let (name, form) = (column.name(), column.form());
-            let place = place_of(alloc, folder, file, row)?;
-            let field = field_at(alloc, files, file, row, column)?;
-            format!(in alloc; "{place}: {name} is {field}: it must be {form}")
+            wrong_field(
+                alloc,
+                folder,
+                files,
+                (file, row, column),
+                ("", column.form()),
+            )
         }
         FeedFault::DanglingKey { file, row, column } => {
-            let (name, table) = (column.name(), column.table());
-            let place = place_of(alloc, folder, file, row)?;
-            let field = field_at(alloc, files, file, row, column)?;
-            format!(in alloc; "{place}: {name} is {field}: it must be an id of {table}")
+            let asked = ("an id of ", column.table());
+            wrong_field(alloc, folder, files, (file, row, column), asked)
         }
         FeedFault::RepeatedKey { file, row } => {
-            let place = place_of(alloc, folder, file, row)?;
-            let key = key_of(file);
-            format!(in alloc; "{place}: an earlier row has the same {key}, and no two rows may")
+            let (name, key) = (file.name(), key_of(file));
+            format!(in alloc;
+                "{folder}/{name}, row {row}: an earlier row has the same {key}, and no two rows may"
+            )
         }
         FeedFault::MixedZones { row } => {
-            let place = place_of(alloc, folder, FeedFile::Agency, row)?;
-            let zone = field_at(alloc, files, FeedFile::Agency, row, Column::AgencyTimezone)?;
-            format!(in alloc;
-                "{place}: agency_timezone is {zone}: it must be that of the first row"
-            )
+            let at = (FeedFile::Agency, row, Column::AgencyTimezone);
+            wrong_field(alloc, folder, files, at, ("", "that of the first row"))
         }
         FeedFault::TooMany { kind } => too_many(alloc, folder, kind.name(), kind.most()),
         FeedFault::OutOfMemory => format!(in alloc; "memory ran out"),
@@ -71,9 +70,19 @@ pub fn bad_build(alloc: Global, folder: &str, fault: BuildFault) -> Result<Strin
     }
 }
 
-fn place_of(alloc: Global, folder: &str, file: FeedFile, row: u64) -> Result<String, AllocError> {
-    let name = file.name();
-    format!(in alloc; "{folder}/{name}, row {row}")
+/// The field of a row in a column is not what is asked for, which is told in two words.
+fn wrong_field(
+    alloc: Global,
+    folder: &str,
+    files: &FeedFiles<'_>,
+    at: (FeedFile, u64, Column),
+    asked: (&str, &str),
+) -> Result<String, AllocError> {
+    let (file, row, column) = at;
+    let (name, title) = (file.name(), column.name());
+    let (kind, what) = asked;
+    let field = field_at(alloc, files, file, row, column)?;
+    format!(in alloc; "{folder}/{name}, row {row}: {title} is {field}: it must be {kind}{what}")
 }
 
 /// Which columns of a file no two rows have alike.

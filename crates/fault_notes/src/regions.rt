@@ -65,24 +65,25 @@ fn bad_line(alloc: Global, path: &str, bytes: &[u8], at: u64) -> Result<String, 
 
 /// How a line with the first word of this one is written, and where it may stand.
 fn form_of(line: &[u8]) -> &'static str {
-    match line.split(|byte| *byte == b' ').next().unwrap_or(&[]) {
-        b"days" =>
+    let word = line.split(|byte| *byte == b' ').next().unwrap_or(&[]);
+    match str::from_utf8(word).unwrap_or("") {
+        "days" =>
             "the second line is \"days YYYYMMDD COUNT\" or \"days YYYYMMDD COUNT RULE\", with a date from 1900 to 2199, 1 to 60 days, and a zone rule",
-        b"node" =>
+        "node" =>
             "a road node is \"node MODE ID LAT LON\", with the mode foot, bike or car, and places in units of 10^-7 degree; nodes follow the line of days",
-        b"stop" =>
+        "stop" =>
             "a stop is \"stop NAME LAT LON\" with places in units of 10^-7 degree; stops follow the nodes",
-        b"switch" =>
+        "switch" =>
             "a switch is \"switch ID LAT LON\" with places in units of 10^-7 degree; switches follow the stops",
-        b"arc" =>
+        "arc" =>
             "a road arc is \"arc FROM TO MS\", with nodes by their numbers from 0; arcs follow the switches",
-        b"link" =>
+        "link" =>
             "a link is \"link FROM TO MS\", with nodes by their numbers from 0; links follow the arcs",
-        b"trip" =>
+        "trip" =>
             "a trip is \"trip LETTER DAYS CALLS NAME\", with days as hexadecimal digits, and so many calls follow it; trips follow the links",
-        b"call" =>
+        "call" =>
             "a call is \"call STOP ARR DEP FLAGS\", with seconds and flags of 0 to 3, and stands behind its trip, which says how many there are",
-        b"end" => "\"end\" is the last line, and no calls may be missing before it",
+        "end" => "\"end\" is the last line, and no calls may be missing before it",
         _ =>
             "the lines of a region are days, node, stop, switch, arc, link, trip with its calls, and end, in this order",
     }
@@ -96,18 +97,7 @@ fn bad_network(
     fault: NetFault,
 ) -> Result<String, AllocError> {
     match fault {
-        NetFault::OutOfOrder { kind, row } => {
-            let words = match kind {
-                Kind::Nodes => node_word(bytes, row),
-                _ => words_of(kind),
-            };
-            let place = place_of(alloc, bytes, words, row)?;
-            format!(in alloc;
-                "{path}{place}: each of the {} must come after the one before it: {}",
-                name_of(kind),
-                order_of(kind)
-            )
-        }
+        NetFault::OutOfOrder { kind, row } => out_of_order(alloc, path, bytes, kind, row),
         NetFault::BadEnd { kind, row } => {
             let place = place_of(alloc, bytes, words_of(kind), row)?;
             format!(in alloc; "{path}{place}: {}", ends_of(kind))
@@ -120,6 +110,25 @@ fn bad_network(
     }
 }
 
+/// A row does not come after the one before it.
+fn out_of_order(
+    alloc: Global,
+    path: &str,
+    bytes: &[u8],
+    kind: Kind,
+    row: u64,
+) -> Result<String, AllocError> {
+    let words = match kind {
+        Kind::Nodes => node_word(bytes, row),
+        _ => words_of(kind),
+    };
+    let (name, order) = (name_of(kind), order_of(kind));
+    let place = place_of(alloc, bytes, words, row)?;
+    format!(in alloc;
+        "{path}{place}: each of the {name} must come after the one before it: {order}"
+    )
+}
+
 /// The trips break a rule.
 fn bad_trip(
     alloc: Global,
@@ -128,29 +137,52 @@ fn bad_trip(
     fault: TableFault,
 ) -> Result<String, AllocError> {
     match fault {
-        TableFault::TimeGoesBack { trip } => {
-            let place = place_of(alloc, bytes, &[b"trip"], u64::from(trip))?;
-            format!(in alloc;
-                "{path}{place}: the times of this trip go back; each call departs no earlier than it arrives, and arrives no earlier than the one before departs"
-            )
-        }
-        TableFault::UnknownStop { trip, call } => {
-            let place = place_of(alloc, bytes, &[b"trip"], u64::from(trip))?;
-            format!(in alloc;
-                "{path}{place}: call {call} of this trip, counted from 0, names a stop that is not there; stops are numbered from 0"
-            )
-        }
-        TableFault::BadTrip { trip } => {
-            let place = place_of(alloc, bytes, &[b"trip"], u64::from(trip))?;
-            format!(in alloc;
-                "{path}{place}: a trip must have a letter of transit, two calls or more, days of the region, and times below 168 hours"
-            )
-        }
+        TableFault::TimeGoesBack { trip } => at_trip(
+            alloc,
+            path,
+            bytes,
+            trip,
+            "the times of this trip go back; each call departs no earlier than it arrives, and arrives no earlier than the one before departs",
+        ),
+        TableFault::UnknownStop { trip, call } => unknown_stop(alloc, path, bytes, trip, call),
+        TableFault::BadTrip { trip } => at_trip(
+            alloc,
+            path,
+            bytes,
+            trip,
+            "a trip must have a letter of transit, two calls or more, days of the region, and times below 168 hours",
+        ),
         TableFault::TooMany { kind } => {
             format!(in alloc; "{path}: a region may not have so many {}", name_of(kind))
         }
         TableFault::OutOfMemory => format!(in alloc; "memory ran out"),
     }
+}
+
+/// What is wrong with a trip.
+fn at_trip(
+    alloc: Global,
+    path: &str,
+    bytes: &[u8],
+    trip: u32,
+    wrong: &str,
+) -> Result<String, AllocError> {
+    let place = place_of(alloc, bytes, &[b"trip"], u64::from(trip))?;
+    format!(in alloc; "{path}{place}: {wrong}")
+}
+
+/// A call of a trip names a stop that is not there.
+fn unknown_stop(
+    alloc: Global,
+    path: &str,
+    bytes: &[u8],
+    trip: u32,
+    call: u32,
+) -> Result<String, AllocError> {
+    let place = place_of(alloc, bytes, &[b"trip"], u64::from(trip))?;
+    format!(in alloc;
+        "{path}{place}: call {call} of this trip, counted from 0, names a stop that is not there; stops are numbered from 0"
+    )
 }
 
 /// Where a row stands: the number of its line, where the region is a text.
