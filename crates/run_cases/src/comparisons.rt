@@ -4,6 +4,7 @@ use crate::drawn::{Dice, push_queries, push_region};
 use crate::runs::output;
 use case_script::{Script, words};
 use std::alloc::{AllocError, Global};
+use std::io;
 
 /// How many queries each region is asked, with and without each hierarchy.
 const QUERIES: u64 = 25;
@@ -21,7 +22,7 @@ struct Compared {
 
 /// `equal FIRST END`: contracts the regions that are drawn from the numbers from FIRST on and below END, with no node kept and with
 /// two, and asks each the same queries with the hierarchy and without.
-pub fn equal(alloc: Global, words: &[u8]) -> Result<String, AllocError> {
+pub fn equal(rt: &HostRuntime, words: &[u8]) -> io::Result<()> {
     let (first, end) = words::cut(words);
     let mut compared = Compared {
         hierarchies: 0,
@@ -31,22 +32,7 @@ pub fn equal(alloc: Global, words: &[u8]) -> Result<String, AllocError> {
         alike: 0,
     };
     for seed in words::number(first)..words::number(end) {
-        let mut script = Script::new(alloc);
-        let mut dice = Dice::new(seed);
-        push_region(alloc, &mut script, &mut dice)?;
-        push_queries(alloc, &mut script, &mut dice, QUERIES)?;
-        compare(
-            alloc,
-            &mut script,
-            b"modeplan|contract|region",
-            &mut compared,
-        )?;
-        compare(
-            alloc,
-            &mut script,
-            b"modeplan|contract|region|--keep|2",
-            &mut compared,
-        )?;
+        compare_drawn(rt.alloc(), seed, &mut compared)?;
     }
     let Compared {
         hierarchies,
@@ -55,8 +41,35 @@ pub fn equal(alloc: Global, words: &[u8]) -> Result<String, AllocError> {
         journeys,
         alike,
     } = compared;
-    format!(in alloc;
+    println!(rt;
         "{sound} of {hierarchies} hierarchies are sound; {journeys} of {queries} queries have a journey, {alike} arrive alike"
+    )
+}
+
+/// Compares the answers over the region that is drawn from a number.
+fn compare_drawn(alloc: Global, seed: u64, compared: &mut Compared) -> Result<(), AllocError> {
+    let mut script = Script::new(alloc);
+    let mut dice = Dice::new(seed);
+    push_drawn(alloc, &mut script, &mut dice)?;
+    compare_all(alloc, &mut script, compared)
+}
+
+fn push_drawn(alloc: Global, script: &mut Script, dice: &mut Dice) -> Result<(), AllocError> {
+    push_region(alloc, script, dice)?;
+    push_queries(alloc, script, dice, QUERIES)
+}
+
+fn compare_all(
+    alloc: Global,
+    script: &mut Script,
+    compared: &mut Compared,
+) -> Result<(), AllocError> {
+    compare(alloc, script, b"modeplan|contract|region", compared)?;
+    compare(
+        alloc,
+        script,
+        b"modeplan|contract|region|--keep|2",
+        compared,
     )
 }
 
@@ -69,46 +82,66 @@ fn compare(
 ) -> Result<(), AllocError> {
     let hierarchy = output(alloc, script, contract)?;
     push_bytes(alloc, script, &hierarchy)?;
-    let checked = output(alloc, script, b"modeplan|check|region|hierarchy")?;
     compared.hierarchies = compared.hierarchies.saturating_add(1);
-    let is_sound = checked.as_slice() == b"sound\n".as_slice();
-    compared.sound = compared.sound.saturating_add(u32::from(is_sound));
+    let sound = is_sound(alloc, script)?;
+    compared.sound = compared.sound.saturating_add(u32::from(sound));
+    compare_answers(alloc, script, compared)
+}
+
+/// Whether the program calls the hierarchy sound.
+fn is_sound(alloc: Global, script: &Script) -> Result<bool, AllocError> {
+    let checked = output(alloc, script, b"modeplan|check|region|hierarchy")?;
+    Ok(checked.as_slice() == b"sound\n".as_slice())
+}
+
+fn compare_answers(
+    alloc: Global,
+    script: &Script,
+    compared: &mut Compared,
+) -> Result<(), AllocError> {
     let plain = output(alloc, script, b"modeplan|answer|region|queries")?;
     let over = output(
         alloc,
         script,
         b"modeplan|answer|region|queries|--hierarchy|hierarchy",
     )?;
-    let mut others = arrivals(alloc, &over)?.into_iter();
-    for arrival in &arrivals(alloc, &plain)? {
-        compared.queries = compared.queries.saturating_add(1);
-        let journey = u32::from(arrival.starts_with(b"arrive "));
-        compared.journeys = compared.journeys.saturating_add(journey);
-        let alike = u32::from(others.next() == Some(arrival));
-        compared.alike = compared.alike.saturating_add(alike);
-    }
+    count(&plain, &over, compared);
     Ok(())
+}
+
+/// Counts the queries, those with a journey, and those that arrive alike.
+fn count(plain: &[u8], over: &[u8], compared: &mut Compared) {
+    let mut others = over.split(|byte| *byte == b'\n').filter(|line| tells(line));
+    for line in plain.split(|byte| *byte == b'\n') {
+        if tells(&line) {
+            compared.queries = compared.queries.saturating_add(1);
+            let journey = u32::from(line.starts_with(b"arrive "));
+            compared.journeys = compared.journeys.saturating_add(journey);
+            let alike = u32::from(others.next() == Some(line));
+            compared.alike = compared.alike.saturating_add(alike);
+        }
+    }
+}
+
+/// Whether a line of a block tells when the journey arrives, or that there is none.
+fn tells(line: &&[u8]) -> bool {
+    line.starts_with(b"arrive ") || *line == b"no journey".as_slice()
 }
 
 /// Puts bytes into the script as the text `hierarchy`.
 fn push_bytes(alloc: Global, script: &mut Script, bytes: &[u8]) -> Result<(), AllocError> {
     script.takes(alloc, b"text hierarchy")?;
-    let mut line = String::from_str(alloc, "|")?;
-    for byte in bytes {
-        line.push_str(&format!(in alloc; "\\x{byte:02x}")?)?;
-    }
-    line.push_str("\\")?;
+    let line = written_out(alloc, bytes)?;
     script.takes(alloc, line.as_bytes())?;
     Ok(())
 }
 
-/// The line of each block that tells when the journey arrives, or that there is none.
-fn arrivals(alloc: Global, text: &[u8]) -> Result<Vec<&[u8]>, AllocError> {
-    let mut arrivals = Vec::new(alloc);
-    for line in text.split(|byte| *byte == b'\n') {
-        if line.starts_with(b"arrive ") || line == b"no journey".as_slice() {
-            arrivals.push(line)?;
-        }
+/// A line of a text of a script that stands for bytes.
+fn written_out(alloc: Global, bytes: &[u8]) -> Result<String, AllocError> {
+    let mut line = String::from_str(alloc, "|")?;
+    for byte in bytes {
+        write!(line, "\\x{byte:02x}")?;
     }
-    Ok(arrivals)
+    line.push('\\')?;
+    Ok(line)
 }

@@ -65,27 +65,25 @@ fn push(alloc: Global, script: &mut Script, line: &str) -> Result<(), AllocError
     Ok(())
 }
 
+/// Takes a line that was made into the script.
+fn push_made(
+    alloc: Global,
+    script: &mut Script,
+    line: Result<String, AllocError>,
+) -> Result<(), AllocError> {
+    let line = line?;
+    push(alloc, script, &line)
+}
+
 fn push_nodes(alloc: Global, script: &mut Script) -> Result<(), AllocError> {
     for id in 0..PLACES {
-        push(
-            alloc,
-            script,
-            &format!(in alloc; "|node foot {id} 480000000 110000000")?,
-        )?;
+        push_made(alloc, script, format!(in alloc; "|node foot {id} 480000000 110000000"))?;
         if id < BIKES {
-            push(
-                alloc,
-                script,
-                &format!(in alloc; "|node bike {id} 480000000 110000000")?,
-            )?;
+            push_made(alloc, script, format!(in alloc; "|node bike {id} 480000000 110000000"))?;
         }
     }
     for stop in 0..STOPS {
-        push(
-            alloc,
-            script,
-            &format!(in alloc; "|stop S{stop} 480000000 110000000")?,
-        )?;
+        push_made(alloc, script, format!(in alloc; "|stop S{stop} 480000000 110000000"))?;
     }
     push(alloc, script, "|switch 50 480000000 110000000")
 }
@@ -101,7 +99,7 @@ fn push_arcs(alloc: Global, script: &mut Script, dice: &mut Dice) -> Result<(), 
         for to in 0..ROADS {
             if from != to && is_bike(from) == is_bike(to) && dice.happens(35) {
                 let ms = 1000 * (1 + dice.below(12));
-                push(alloc, script, &format!(in alloc; "|arc {from} {to} {ms}")?)?;
+                push_made(alloc, script, format!(in alloc; "|arc {from} {to} {ms}"))?;
             }
         }
     }
@@ -114,7 +112,7 @@ fn push_links(alloc: Global, script: &mut Script, dice: &mut Dice) -> Result<(),
         for to in 0..ROADS + STOPS + 1 {
             if (from < ROADS) != (to < ROADS) && dice.happens(12) {
                 let ms = 1000 * (1 + dice.below(90));
-                push(alloc, script, &format!(in alloc; "|link {from} {to} {ms}")?)?;
+                push_made(alloc, script, format!(in alloc; "|link {from} {to} {ms}"))?;
             }
         }
     }
@@ -130,18 +128,10 @@ fn push_trip(
 ) -> Result<(), AllocError> {
     let first = dice.below(STOPS - 1);
     let calls = STOPS - first;
-    push(
-        alloc,
-        script,
-        &format!(in alloc; "|trip bus 80 {calls} t{trip}")?,
-    )?;
+    push_made(alloc, script, format!(in alloc; "|trip bus 80 {calls} t{trip}"))?;
     let mut at = 28_800 + dice.below(900);
     for stop in first..STOPS {
-        push(
-            alloc,
-            script,
-            &format!(in alloc; "|call {stop} {at} {at} 3")?,
-        )?;
+        push_made(alloc, script, format!(in alloc; "|call {stop} {at} {at} 3"))?;
         at = at.saturating_add(1 + dice.below(300));
     }
     Ok(())
@@ -158,11 +148,7 @@ pub fn push_queries(
     for _ in 0..count {
         let (from, to) = (dice.below(PLACES), dice.below(PLACES));
         let (minute, expression) = (10 + dice.below(10), expression(dice.below(8)));
-        push(
-            alloc,
-            script,
-            &format!(in alloc; "|n{from} n{to} 20240304 08:{minute}:00 {expression}")?,
-        )?;
+        push_made(alloc, script, format!(in alloc; "|n{from} n{to} 20240304 08:{minute}:00 {expression}"))?;
     }
     Ok(())
 }

@@ -1,14 +1,15 @@
-//! Runs the program on the cases of the file `cases`, over files in memory, and prints how each run ends and what it writes.
+//! Runs the program on the cases of the file `cases`, over files in memory, and prints how each run ends and what it writes; and
+//! on the worked examples, which are folders beside that file.
 //!
 //! A case is a line: the name of a call and its words. The texts that it names stand before it; `case_script` says how.
 #![tactic(auto)]
 
 mod comparisons;
 mod drawn;
+mod examples;
 mod runs;
 
 use case_script::{Script, words};
-use std::alloc::{AllocError, Global};
 use std::{fs, io};
 
 fn main(rt: HostRuntime) -> io::Result<()> {
@@ -16,25 +17,40 @@ fn main(rt: HostRuntime) -> io::Result<()> {
     let mut script = Script::new(rt.alloc());
     for line in cases.split(|byte| *byte == b'\n') {
         if !script.takes(rt.alloc(), line)? {
-            let case = String::from_utf8_lossy(rt.alloc(), line)?;
-            let told = told(rt.alloc(), &script, line)?;
-            println!(rt; "{case}")?;
-            println!(rt; "{told}")?;
+            print_case(&rt, &script, line)?;
         }
     }
     Ok(())
 }
 
-/// What the run of a case does.
-fn told(alloc: Global, script: &Script, line: &[u8]) -> Result<String, AllocError> {
+/// Prints a case, and what its call does.
+fn print_case(rt: &HostRuntime, script: &Script, line: &[u8]) -> io::Result<()> {
+    print_text(rt, line)?;
     let (call, words) = words::cut(line);
+    print_call(rt, script, text(call), words)
+}
+
+/// Prints what a call does.
+fn print_call(rt: &HostRuntime, script: &Script, call: &str, words: &[u8]) -> io::Result<()> {
     match call {
-        b"run" => runs::run(alloc, script, words),
-        b"notes" => runs::notes(alloc, script, words),
-        b"bytes" => runs::bytes(alloc, script, words),
-        b"fill" => runs::fill(alloc, script, words),
-        b"sweep" => runs::sweep(alloc, script, words),
-        b"equal" => comparisons::equal(alloc, words),
-        _ => String::from_str(alloc, "no such call"),
+        "run" => runs::run(rt, script, words),
+        "notes" => runs::notes(rt, script, words),
+        "bytes" => runs::bytes(rt, script, words),
+        "fill" => runs::fill(rt, script, words),
+        "sweep" => runs::sweep(rt, script, words),
+        "equal" => comparisons::equal(rt, words),
+        "example" => examples::example(rt, words),
+        _ => println!(rt; "no such call"),
     }
+}
+
+/// Prints bytes as a text, with a line feed behind it.
+fn print_text(rt: &HostRuntime, bytes: &[u8]) -> io::Result<()> {
+    let text = String::from_utf8_lossy(rt.alloc(), bytes)?;
+    println!(rt; "{text}")
+}
+
+/// The text of these bytes; an empty one where they are none.
+fn text(bytes: &[u8]) -> &str {
+    str::from_utf8(bytes).unwrap_or("")
 }

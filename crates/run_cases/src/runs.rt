@@ -1,17 +1,19 @@
 //! Whole runs of the program over files in memory.
 
+use crate::{print_text, text};
 use case_script::{Given, Script, words, words_and_files};
-use plan_base::{MemoryShelf, MemorySink};
+use plan_base::{MemoryShelf, MemorySink, Shelf};
 use planner_core::Outcome;
 use std::alloc::{AllocError, Global};
+use std::io;
 
-/// No output of a case is longer.
-const ROOM: usize = 20_000;
+/// No output of a case or an example is longer.
+const ROOM: usize = 1 << 20;
 
 /// What fails in a run: a read and a write by their numbers from 1, how many bytes a write takes at most, and for how many
 /// bytes there is room in the output and in the notes.
 #[derive(Clone, Copy)]
-struct Failing {
+pub struct Failing {
     read: u64,
     write: u64,
     most: usize,
@@ -19,7 +21,7 @@ struct Failing {
     notes: usize,
 }
 
-const NOTHING: Failing = Failing {
+pub const NOTHING: Failing = Failing {
     read: 0,
     write: 0,
     most: ROOM,
@@ -29,51 +31,54 @@ const NOTHING: Failing = Failing {
 
 /// How a run ended, what it wrote, and its notes.
 #[derive(Drop)]
-struct Told {
-    outcome: Outcome,
-    out: Vec<u8>,
+pub struct Told {
+    pub outcome: Outcome,
+    pub out: Vec<u8>,
     notes: Vec<u8>,
 }
 
 /// `run [read K | write K | most K | room K | notes K] .. : WORDS`, the words parted by `|`: how the run ends, and what it writes.
-pub fn run(alloc: Global, script: &Script, words: &[u8]) -> Result<String, AllocError> {
+pub fn run(rt: &HostRuntime, script: &Script, words: &[u8]) -> io::Result<()> {
     let (failing, line) = cut_failing(words);
-    let told = run_over(alloc, script, line, failing)?;
-    let outcome = told.outcome;
+    let told = run_over(rt.alloc(), script, line, failing)?;
+    let (outcome, status) = (told.outcome, told.outcome.status());
     let notes = told.notes.iter().filter(|byte| **byte == b'\n').count();
-    let status = outcome.status();
-    let text = String::from_utf8_lossy(alloc, &told.out)?;
-    format!(in alloc; "{outcome:?}, status {status}, {notes} notes\n{text}")
+    println!(rt; "{outcome:?}, status {status}, {notes} notes")?;
+    print_text(rt, &told.out)
 }
 
 /// `notes WORDS`: how the run ends, and its notes.
-pub fn notes(alloc: Global, script: &Script, line: &[u8]) -> Result<String, AllocError> {
-    let told = run_over(alloc, script, line, NOTHING)?;
+pub fn notes(rt: &HostRuntime, script: &Script, line: &[u8]) -> io::Result<()> {
+    let told = run_over(rt.alloc(), script, line, NOTHING)?;
     let outcome = told.outcome;
-    let text = String::from_utf8_lossy(alloc, &told.notes)?;
-    format!(in alloc; "{outcome:?}\n{text}")
+    println!(rt; "{outcome:?}")?;
+    print_text(rt, &told.notes)
 }
 
 /// `bytes WORDS`: how the run ends, and the bytes that it writes, in hexadecimal.
-pub fn bytes(alloc: Global, script: &Script, line: &[u8]) -> Result<String, AllocError> {
-    let told = run_over(alloc, script, line, NOTHING)?;
+pub fn bytes(rt: &HostRuntime, script: &Script, line: &[u8]) -> io::Result<()> {
+    let told = run_over(rt.alloc(), script, line, NOTHING)?;
     let (outcome, count) = (told.outcome, told.out.len());
-    let mut text = format!(in alloc; "{outcome:?}, {count} bytes: ")?;
+    print!(rt; "{outcome:?}, {count} bytes: ")?;
     for byte in &told.out {
-        text.push_str(&format!(in alloc; "{byte:02x}")?)?;
+        print!(rt; "{byte:02x}")?;
     }
-    Ok(text)
+    println!(rt; "")
 }
 
 /// `sweep WORDS`: read number k fails, for k from 1 until a run is Done, and then write number k, where a write takes four
 /// bytes; whether each earlier run ended as it must, with nothing written after a read and with a front of the output after
 /// a write.
-pub fn sweep(alloc: Global, script: &Script, line: &[u8]) -> Result<String, AllocError> {
-    let whole = run_over(alloc, script, line, NOTHING)?;
-    let (reads, reads_right) = sweep_reads(alloc, script, line)?;
-    let (writes, writes_right) = sweep_writes(alloc, script, line, &whole.out)?;
+pub fn sweep(rt: &HostRuntime, script: &Script, line: &[u8]) -> io::Result<()> {
+    let whole = run_over(rt.alloc(), script, line, NOTHING)?;
+    print_sweep(rt, script, line, &whole)
+}
+
+fn print_sweep(rt: &HostRuntime, script: &Script, line: &[u8], whole: &Told) -> io::Result<()> {
+    let (reads, reads_right) = sweep_reads(rt.alloc(), script, line)?;
+    let (writes, writes_right) = sweep_writes(rt.alloc(), script, line, &whole.out)?;
     let outcome = whole.outcome;
-    format!(in alloc;
+    println!(rt;
         "{outcome:?}; {reads} reads failed, as they must: {reads_right}; {writes} writes failed, as they must: {writes_right}"
     )
 }
@@ -120,23 +125,27 @@ fn sweep_writes(
 }
 
 /// `fill WORDS`: the output has room for no byte, one, two and so on; whether each run filled it and ended as it must.
-pub fn fill(alloc: Global, script: &Script, line: &[u8]) -> Result<String, AllocError> {
-    let whole = run_over(alloc, script, line, NOTHING)?;
+pub fn fill(rt: &HostRuntime, script: &Script, line: &[u8]) -> io::Result<()> {
+    let whole = run_over(rt.alloc(), script, line, NOTHING)?;
+    print_fill(rt, script, line, &whole.out)
+}
+
+fn print_fill(rt: &HostRuntime, script: &Script, line: &[u8], whole: &[u8]) -> io::Result<()> {
     let mut right = true;
-    for room in 0..whole.out.len() {
+    for room in 0..whole.len() {
         let failing = Failing {
             room,
             most: 16,
             ..NOTHING
         };
-        let told = run_over(alloc, script, line, failing)?;
+        let told = run_over(rt.alloc(), script, line, failing)?;
         right = right
             && told.outcome == Outcome::WriteFault
             && told.out.len() == room
-            && whole.out.starts_with(&told.out);
+            && whole.starts_with(&told.out);
     }
-    let count = whole.out.len();
-    format!(in alloc; "{count} rooms filled, as they must: {right}")
+    let count = whole.len();
+    println!(rt; "{count} rooms filled, as they must: {right}")
 }
 
 /// Whether a run whose write of this number failed has written what the earlier writes, of four bytes or fewer, can hold.
@@ -159,14 +168,28 @@ fn run_over(
 ) -> Result<Told, AllocError> {
     let Given { words, files } = words_and_files(alloc, script, line)?;
     let mut shelf = MemoryShelf::new(files, vec![in alloc; failing.read]?);
+    run_words(alloc, &words, &mut shelf, failing)
+}
+
+/// Runs words over files.
+pub fn run_words<F: Shelf>(
+    alloc: Global,
+    words: &[String],
+    shelf: &mut F,
+    failing: Failing,
+) -> Result<Told, AllocError> {
     let fail = vec![in alloc; failing.write]?;
     let mut out = MemorySink::new(alloc, failing.room, failing.most.max(1), fail)?;
     let mut notes = MemorySink::new(alloc, failing.notes, 7, Vec::new(alloc))?;
-    let outcome = planner_core::run(alloc, &words, &mut shelf, &mut out, &mut notes);
+    let outcome = planner_core::run(alloc, words, shelf, &mut out, &mut notes);
+    told(alloc, outcome, out.bytes(), notes.bytes())
+}
+
+fn told(alloc: Global, outcome: Outcome, out: &[u8], notes: &[u8]) -> Result<Told, AllocError> {
     Ok(Told {
         outcome,
-        out: Vec::from_slice(alloc, out.bytes())?,
-        notes: Vec::from_slice(alloc, notes.bytes())?,
+        out: Vec::from_slice(alloc, out)?,
+        notes: Vec::from_slice(alloc, notes)?,
     })
 }
 
@@ -187,24 +210,24 @@ fn cut_failing(words: &[u8]) -> (Failing, &[u8]) {
 }
 
 fn with_failing(failing: Failing, what: &[u8], count: u64) -> Failing {
-    match what {
-        b"read" => Failing {
+    match text(what) {
+        "read" => Failing {
             read: count,
             ..failing
         },
-        b"write" => Failing {
+        "write" => Failing {
             write: count,
             ..failing
         },
-        b"most" => Failing {
+        "most" => Failing {
             most: count as usize,
             ..failing
         },
-        b"room" => Failing {
+        "room" => Failing {
             room: count as usize,
             ..failing
         },
-        b"notes" => Failing {
+        "notes" => Failing {
             notes: count as usize,
             ..failing
         },
