@@ -182,10 +182,10 @@ pub fn run_words<F: Shelf>(
     let mut out = MemorySink::new(alloc, failing.room, failing.most.max(1), fail)?;
     let mut notes = MemorySink::new(alloc, failing.notes, 7, Vec::new(alloc))?;
     let outcome = planner_core::run(alloc, words, shelf, &mut out, &mut notes);
-    told(alloc, outcome, out.bytes(), notes.bytes())
+    told_by(alloc, outcome, out.bytes(), notes.bytes())
 }
 
-fn told(alloc: Global, outcome: Outcome, out: &[u8], notes: &[u8]) -> Result<Told, AllocError> {
+fn told_by(alloc: Global, outcome: Outcome, out: &[u8], notes: &[u8]) -> Result<Told, AllocError> {
     Ok(Told {
         outcome,
         out: Vec::from_slice(alloc, out)?,
