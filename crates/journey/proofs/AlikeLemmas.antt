@@ -1,5 +1,5 @@
 -- A block tells the nodes, times and letters of its journey.
-use Rattle.std.proofs.Common.{◌≡◌, ℕ, suc, ◌+◌, ◌-◌, ◌*◌, ◌^◌, ◌<◌, ◌≤◌, ◌∙◌, ◌==◌, ◌≢◌, false, List, [], ◌∷◌, ◌++◌, length, Option, Some, refl, ap, sym, subst, arith, codes, append_assoc, ◌&&◌, nat_le, nat_lt, true}
+use Rattle.std.proofs.Common.{◌≡◌, ℕ, suc, ◌+◌, ◌*◌, ◌^◌, ◌<◌, ◌≤◌, ◌∙◌, ◌==◌, ◌≢◌, false, List, [], ◌∷◌, ◌++◌, length, Option, Some, refl, ap, sym, subst, arith, codes, append_assoc, ◌&&◌, nat_le, nat_lt, true}
 use Rattle.std.specs.Prelude.{All, option_to_list, slice_get, slice_index_or}
 use Rattle.std.specs.List.{list_all}
 use Rattle.std.proofs.lemmas.Bool.{leb-true}

@@ -1,39 +1,16 @@
 //! How blocks are printed.
 
-ghost use Rattle.std.specs.Prelude.{◌≡◌, ◌<◌, ◌^◌, ◌++◌, length, codes, All, IfOk, OnOk};
-ghost use Rattle.plain_texts.specs.Lines.{with_feed};
-ghost use Rattle.service_days.specs.Clock.{clock_text_of};
-ghost use Rattle.mode_network.specs.NetworkLists.{nodes_of};
-ghost use Rattle.journey.specs.Ends.{AreTaken, HasTime};
-ghost use Rattle.journey.specs.Texts.{IsJourneyText, place_text};
+ghost use Rattle.std.specs.Prelude.{IfOk, OnOk};
+ghost use Rattle.journey.specs.Texts.{IsJourneyText};
 ghost use Rattle.journey.specs.Blocks.{IsPrintable, IsPrintableBody, IsBodyText, IsBlockText, AddsText};
 
 use crate::answer::BlockBody;
 use crate::telling::tell;
-use crate::texts::{push_place, push_refusal, push_word};
+use crate::texts::{push_clock_line, push_place_line, push_refusal, push_word};
 use mode_network::{Journey, Network, Step};
 use plain_texts::push_line_feed;
 use plan_base::Time;
 use std::alloc::{AllocError, Global};
-
-/// The line of an arrival.
-fn push_arrival(out: &mut Vec<u8>, network: &Network, t: Time) -> Result<(), AllocError>
-    ensures { OnOk result (out.new.items ≡ out.old.items ++ with_feed (codes "arrive " ++ clock_text_of network.now.days t)) }
-{
-    out.extend_from_slice(b"arrive ")?;
-    network.days().push_clock(out, t)?;
-    push_line_feed(out)
-}
-
-/// The line of a start.
-fn push_start(out: &mut Vec<u8>, network: &Network, v: u32, t: Time) -> Result<(), AllocError>
-    requires { v < length (nodes_of network.now) }
-    ensures { OnOk result (out.new.items ≡ out.old.items ++ with_feed (codes "from " ++ place_text network.now v t)) }
-{
-    out.extend_from_slice(b"from ")?;
-    push_place(out, network, v, t)?;
-    push_line_feed(out)
-}
 
 /// What is printed of a journey: when it arrives, its word, where and when it starts, and its steps.
 fn push_steps(
@@ -48,9 +25,9 @@ fn push_steps(
     ensures { OnOk result (AddsText (IsJourneyText network.now (record { start = start; at = at; steps = steps.now })) out.old.items out.new.items) }
 {
     let told = tell(alloc, network, start, at, steps)?;
-    push_arrival(out, network, told.at)?;
+    push_clock_line(out, network, b"arrive ", told.at)?;
     push_word(out, &told.word)?;
-    push_start(out, network, start, at)?;
+    push_place_line(out, network, b"from ", start, at)?;
     out.extend_from_slice(&told.lines)?;
     Ok(())
 }

@@ -3,6 +3,7 @@
 ghost use Rattle.std.specs.Prelude.{◌≡◌, ◌<◌, ◌++◌, ◌∷◌, List, ℕ, length, codes, slice_index_or, OnOk};
 ghost use Rattle.std.specs.List.{flat_map};
 ghost use Rattle.plain_texts.specs.Lines.{with_feed};
+ghost use Rattle.service_days.specs.Clock.{clock_text_of};
 ghost use Rattle.service_days.specs.Days.{numbers_of};
 ghost use Rattle.timetable_arcs.specs.Patterns.{no_trip};
 ghost use Rattle.mode_network.specs.NetworkLists.{nodes_of};
@@ -58,7 +59,7 @@ fn push_node(out: &mut Vec<u8>, network: &Network, v: u32) -> Result<(), AllocEr
 }
 
 /// A node, a space and a clock text.
-pub(crate) fn push_place(
+fn push_place(
     out: &mut Vec<u8>,
     network: &Network,
     v: u32,
@@ -70,6 +71,36 @@ pub(crate) fn push_place(
     push_node(out, network, v)?;
     out.push(b' ')?;
     network.days().push_clock(out, t)
+}
+
+/// The line of a word and a clock text.
+pub(crate) fn push_clock_line(
+    out: &mut Vec<u8>,
+    network: &Network,
+    word: &[u8],
+    t: Time,
+) -> Result<(), AllocError>
+    ensures { OnOk result (out.new.items ≡ out.old.items ++ with_feed (word.now ++ clock_text_of network.now.days t)) }
+{
+    out.extend_from_slice(word)?;
+    network.days().push_clock(out, t)?;
+    push_line_feed(out)
+}
+
+/// The line of a word, a node and a clock text.
+pub(crate) fn push_place_line(
+    out: &mut Vec<u8>,
+    network: &Network,
+    word: &[u8],
+    v: u32,
+    t: Time,
+) -> Result<(), AllocError>
+    requires { v < length (nodes_of network.now) }
+    ensures { OnOk result (out.new.items ≡ out.old.items ++ with_feed (word.now ++ place_text network.now v t)) }
+{
+    out.extend_from_slice(word)?;
+    push_place(out, network, v, t)?;
+    push_line_feed(out)
 }
 
 /// What a ride's line says after its first word: the letter, the day's date, where and when it alights, and the
@@ -110,25 +141,16 @@ pub(crate) fn push_step(
     ensures { OnOk result (out.new.items ≡ out.old.items ++ with_feed (step_text network.now step v t)) }
 {
     match step {
-        Step::Wait { .. } => {
-            out.extend_from_slice(b"wait ")?;
-            network.days().push_clock(out, t)?;
-        }
-        Step::Road { .. } => {
-            out.extend_from_slice(b"road ")?;
-            push_place(out, network, v, t)?;
-        }
-        Step::Link { .. } => {
-            out.extend_from_slice(b"link ")?;
-            push_place(out, network, v, t)?;
-        }
-        Step::Stand => out.extend_from_slice(b"stand")?,
+        Step::Wait { .. } => push_clock_line(out, network, b"wait ", t),
+        Step::Road { .. } => push_place_line(out, network, b"road ", v, t),
+        Step::Link { .. } => push_place_line(out, network, b"link ", v, t),
+        Step::Stand => out.extend_from_slice(b"stand\n"),
         Step::Ride { trip, day, .. } => {
             out.extend_from_slice(b"ride ")?;
             push_ride(out, network, trip, day, v, t)?;
+            push_line_feed(out)
         }
     }
-    push_line_feed(out)
 }
 
 /// The line of a word: each letter's name, after a space.
