@@ -1,6 +1,7 @@
 //! What a line says, by its words.
 
 ghost use Rattle.std.specs.Prelude.{◌≡◌, ◌^◌, ◌<◌, ◌≤◌, map, option_map, IfOk, IfSome};
+ghost use Rattle.std.specs.Str.{bytes_eq};
 ghost use Rattle.certificate.specs.Kinds as spec;
 
 use crate::lines::Line;
@@ -51,11 +52,18 @@ fn bare(line: Line, fields: &[&[u8]]) -> Option<Line>
     }
 }
 
+/// Whether a word is this one.
+fn is_word(word: &[u8], this: &[u8]) -> bool
+    ensures { result ≡ bytes_eq word.now this.now }
+{
+    word == this
+}
+
 /// Whether these words say a certificate, in the first format.
 fn is_head(what: &[u8], version: &[u8]) -> bool
     ensures { result ≡ spec.is_head what.now version.now }
 {
-    what == b"certificate".as_slice() && version == b"1".as_slice()
+    is_word(what, b"certificate") && is_word(version, b"1")
 }
 
 #[tactic(auto, unfolding(crate::specs::Kinds::head_of_words))]
@@ -72,9 +80,9 @@ fn head_of(fields: &[&[u8]]) -> Option<Line>
 fn phases_of(graph: &[u8]) -> Option<bool>
     ensures { result ≡ spec.phases_of_word graph.now }
 {
-    if graph == b"plain".as_slice() {
+    if is_word(graph, b"plain") {
         Some(false)
-    } else if graph == b"phases".as_slice() {
+    } else if is_word(graph, b"phases") {
         Some(true)
     } else {
         None
@@ -180,29 +188,29 @@ fn labels_of(fields: &[&[u8]]) -> Option<Line>
 fn kind_of(kind: &[u8], fields: &[&[u8]]) -> Option<Line>
     ensures { result ≡ spec.line_of_kind kind.now (map (λ w. w.now) fields.now) }
 {
-    if kind == b"road".as_slice() {
+    if is_word(kind, b"road") {
         to_of(fields).map(|to| Line::Step(Step::Road { to }))
-    } else if kind == b"ride".as_slice() {
+    } else if is_word(kind, b"ride") {
         ride_of(fields)
-    } else if kind == b"link".as_slice() {
+    } else if is_word(kind, b"link") {
         to_of(fields).map(|to| Line::Step(Step::Link { to }))
-    } else if kind == b"wait".as_slice() {
+    } else if is_word(kind, b"wait") {
         wait_of(fields)
-    } else if kind == b"stand".as_slice() {
+    } else if is_word(kind, b"stand") {
         bare(Line::Step(Step::Stand), fields)
-    } else if kind == b"modeplan".as_slice() {
+    } else if is_word(kind, b"modeplan") {
         head_of(fields)
-    } else if kind == b"graph".as_slice() {
+    } else if is_word(kind, b"graph") {
         graph_of(fields)
-    } else if kind == b"arrive".as_slice() {
+    } else if is_word(kind, b"arrive") {
         arrive_of(fields)
-    } else if kind == b"none".as_slice() {
+    } else if is_word(kind, b"none") {
         bare(Line::Nothing, fields)
-    } else if kind == b"start".as_slice() {
+    } else if is_word(kind, b"start") {
         start_of(fields)
-    } else if kind == b"labels".as_slice() {
+    } else if is_word(kind, b"labels") {
         labels_of(fields)
-    } else if kind == b"end".as_slice() {
+    } else if is_word(kind, b"end") {
         bare(Line::End, fields)
     } else {
         None

@@ -1,11 +1,12 @@
 //! From a certificate to its text.
 
-ghost use Rattle.std.specs.Prelude.{◌≡◌, ◌<◌, ◌^◌, ◌++◌, ◌∷◌, decimal, map, All, IfOk, OnOk};
+ghost use Rattle.std.specs.Prelude.{◌≡◌, ◌<◌, ◌^◌, ◌++◌, ◌∷◌, [], decimal, map, All, IfOk, OnOk};
 ghost use Rattle.std.specs.List.{AllByRecursion, flat_map};
-ghost use Rattle.plain_texts.specs.Lines.{lines_text, with_feed};
+ghost use Rattle.plain_texts.specs.Lines.{lines_text, spaced, with_feed};
+ghost use Rattle.mode_network.specs.declared.steps.Step.TheVariants.{Ride};
 ghost use Rattle.certificate.specs.declared.lines.Line.TheVariants as line;
 ghost use Rattle.journey.specs.Ends.{HasTime};
-ghost use Rattle.certificate.specs.Lines.{FitsLabel, FitsLine, FitsStep, HasLabelTime, IsTime, spelled};
+ghost use Rattle.certificate.specs.Lines.{FitsLabel, FitsLine, FitsRide, FitsStep, HasLabelTime, IsTime, spelled};
 ghost use Rattle.certificate.specs.Texts.{FitsCertificate, FitsResult, IsCertText, front_lines, label_lines, result_lines};
 
 use crate::certificate::Certificate;
@@ -23,6 +24,36 @@ pub fn push_field(out: &mut Vec<u8>, n: u128) -> Result<(), AllocError>
     push_decimal(out, n)
 }
 
+/// A line of a word and a number.
+#[tactic(auto, unfolding(plain_texts::specs::Lines::spaced))]
+fn push_numbered(out: &mut Vec<u8>, word: &[u8], n: u128) -> Result<(), AllocError>
+    ensures { OnOk result (out.new.items ≡ out.old.items ++ with_feed (spaced (word.now ∷ decimal n ∷ []))) }
+{
+    out.extend_from_slice(word)?;
+    push_field(out, n)?;
+    push_line_feed(out)
+}
+
+/// The line of a ride.
+#[tactic(auto, unfolding(plain_texts::specs::Lines::spaced))]
+fn push_ride(
+    out: &mut Vec<u8>,
+    trip: u32,
+    day: u32,
+    board: u32,
+    alight: u32,
+) -> Result<(), AllocError>
+    ensures fits { FitsRide trip day board alight }
+    ensures line { OnOk result (out.new.items ≡ out.old.items ++ with_feed (spelled (line.Step (Ride trip day board alight)))) }
+{
+    out.extend_from_slice(b"ride")?;
+    push_field(out, u128::from(trip))?;
+    push_field(out, u128::from(day))?;
+    push_field(out, u128::from(board))?;
+    push_field(out, u128::from(alight))?;
+    push_line_feed(out)
+}
+
 /// The line of a step.
 #[tactic(auto, unfolding(plain_texts::specs::Lines::spaced))]
 fn push_step(out: &mut Vec<u8>, step: Step) -> Result<(), AllocError>
@@ -31,33 +62,17 @@ fn push_step(out: &mut Vec<u8>, step: Step) -> Result<(), AllocError>
     ensures line { OnOk result (out.new.items ≡ out.old.items ++ with_feed (spelled (line.Step step))) }
 {
     match step {
-        Step::Wait { until } => {
-            out.extend_from_slice(b"wait")?;
-            push_field(out, until)?;
-        }
-        Step::Road { to } => {
-            out.extend_from_slice(b"road")?;
-            push_field(out, u128::from(to))?;
-        }
-        Step::Link { to } => {
-            out.extend_from_slice(b"link")?;
-            push_field(out, u128::from(to))?;
-        }
-        Step::Stand => out.extend_from_slice(b"stand")?,
+        Step::Wait { until } => push_numbered(out, b"wait", until),
+        Step::Road { to } => push_numbered(out, b"road", u128::from(to)),
+        Step::Link { to } => push_numbered(out, b"link", u128::from(to)),
+        Step::Stand => out.extend_from_slice(b"stand\n"),
         Step::Ride {
             trip,
             day,
             board,
             alight,
-        } => {
-            out.extend_from_slice(b"ride")?;
-            push_field(out, u128::from(trip))?;
-            push_field(out, u128::from(day))?;
-            push_field(out, u128::from(board))?;
-            push_field(out, u128::from(alight))?;
-        }
+        } => push_ride(out, trip, day, board, alight),
     }
-    push_line_feed(out)
 }
 
 /// The lines of some steps.
@@ -102,9 +117,7 @@ fn push_labels(out: &mut Vec<u8>, labels: &[Label]) -> Result<(), AllocError>
 fn push_arrival(out: &mut Vec<u8>, at: Time) -> Result<(), AllocError>
     ensures { OnOk result (out.new.items ≡ out.old.items ++ with_feed (spelled (line.Arrive at))) }
 {
-    out.extend_from_slice(b"arrive")?;
-    push_field(out, at)?;
-    push_line_feed(out)
+    push_numbered(out, b"arrive", at)
 }
 
 /// The line of a start.
@@ -143,9 +156,7 @@ fn push_count(out: &mut Vec<u8>, count: u64) -> Result<(), AllocError>
     ensures count { count < 2 ^ 64 }
     ensures line { OnOk result (out.new.items ≡ out.old.items ++ with_feed (spelled (line.Labels count))) }
 {
-    out.extend_from_slice(b"labels")?;
-    push_field(out, u128::from(count))?;
-    push_line_feed(out)
+    push_numbered(out, b"labels", u128::from(count))
 }
 
 /// The lines behind the result: how many labels there are, these, and the end.
