@@ -5,6 +5,7 @@ pub mod Rules
 pub mod Lookups
 pub mod Indexes
 pub mod Rises
+pub mod Tables
 pub mod Inside
 pub mod FirstBroken
 pub mod Contraction

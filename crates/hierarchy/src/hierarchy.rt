@@ -7,10 +7,9 @@ ghost use Rattle.hierarchy.specs.Rises.{AreRisesFrom, IsRiseOf, IsRiseRange, all
 ghost use Rattle.hierarchy.specs.Lookups.{IsEntryFor, HasNoEntry, IsWitnessFor, HasNoWitness, AreFrom, AreInto, range_of, from_of};
 
 use crate::entry::{Entry, Witness};
-use crate::heights::{heights, past_entries, past_order};
 use crate::lookup::{entry_between, witness_between};
-use crate::offsets::{ends, offsets, places};
-use crate::rises::{Rise, rises};
+use crate::rises::Rise;
+use crate::tables::Tables;
 use std::alloc::{AllocError, Global};
 use std::marker::Model;
 
@@ -53,25 +52,18 @@ impl Hierarchy {
         requires { IsHierarchy (record { order = order.items; entries = entries.items; witnesses = witnesses.items }) }
         ensures { IfOk result (λ h. h ≡ record { order = order.items; entries = entries.items; witnesses = witnesses.items }) }
     {
-        let nodes = past_entries(&entries, past_order(&order));
-        let heights = heights(alloc, nodes, &order)?;
-        let from_offsets = offsets(alloc, nodes, &entries)?;
-        let ends = ends(alloc, &entries)?;
-        let into_offsets = offsets(alloc, nodes, &ends)?;
-        let into = places(alloc, &ends)?;
-        let rises = rises(alloc, &heights, &order, nodes, &entries)?;
-        let rise_offsets = offsets(alloc, nodes, &rises)?;
+        let tables = Tables::new(alloc, &order, &entries)?;
         Ok(Hierarchy {
             order,
             entries,
             witnesses,
-            nodes,
-            heights,
-            from_offsets,
-            into_offsets,
-            into,
-            rise_offsets,
-            rises,
+            nodes: tables.nodes,
+            heights: tables.heights,
+            from_offsets: tables.from_offsets,
+            into_offsets: tables.into_offsets,
+            into: tables.into,
+            rise_offsets: tables.rise_offsets,
+            rises: tables.rises,
         })
     }
 

@@ -9,6 +9,7 @@ pub mod laws;
 mod lookup;
 pub mod offsets;
 pub mod rises;
+mod tables;
 pub mod verdict;
 
 pub use entry::{Entry, Witness};

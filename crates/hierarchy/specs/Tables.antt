@@ -1,0 +1,17 @@
+-- The tables that are made of an order and of entries.
+use Rattle.std.specs.Prelude.{◌≡◌, ℕ, ◌<◌, List, length, All}
+use Rattle.hierarchy.specs.declared.entry.Entry.{Entry}
+use Rattle.hierarchy.specs.declared.tables.Tables.{Tables}
+use Rattle.hierarchy.specs.Lookups.{from_of}
+use Rattle.hierarchy.specs.Indexes.{AreEndsBelow, AreHeights, AreOffsets, AreIntoTables}
+use Rattle.hierarchy.specs.Rises.{AreRisesUpTo, rise_from, rises_among}
+
+pub record AreTablesOf (order : List ℕ) (entries : List Entry) (tables : Tables) : Type 0 where
+  pub order_below : All (λ v. v < tables.nodes) order
+  pub entries_below : All (AreEndsBelow tables.nodes) entries
+  pub heights : AreHeights tables.nodes order tables.heights.items
+  pub from : AreOffsets from_of tables.nodes entries tables.from_offsets.items
+  pub into : AreIntoTables tables.nodes entries tables.into_offsets.items tables.into.items
+  pub rises : AreRisesUpTo order entries (length entries) tables.rises.items
+  pub rises_in_order : tables.rises.items ≡ rises_among order 0 entries
+  pub rise_offsets : AreOffsets rise_from tables.nodes tables.rises.items tables.rise_offsets.items
