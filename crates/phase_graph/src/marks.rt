@@ -83,9 +83,10 @@ fn follow(
     ensures kept { OnOk result (Extends queue.old.items queue.new.items) }
 {
     if h.contracted(x) {
-        mark_above(h, nodes, targets, x, marks, queue)?;
+        mark_above(h, nodes, targets, x, marks, queue)
+    } else {
+        Ok(())
     }
-    Ok(())
 }
 
 /// Marks the nodes from which entries lead down to a marked node.

@@ -389,9 +389,10 @@ impl<'a> Phases<'a> {
             (length (rises_at self.now.hierarchy.now (node_of p) (is_down p))) (entries_at self.now.hierarchy.now (node_of p))) }
     {
         if is_open(letters, self.network().mode(p / 2)) {
-            self.push_open_falls(p, t, letters, ways)?;
+            self.push_open_falls(p, t, letters, ways)
+        } else {
+            Ok(())
         }
-        Ok(())
     }
 
     /// Appends what leaves the node `p` along no entry, which stands behind the entries; but it may leave out rides where the
@@ -556,8 +557,7 @@ impl Graph for Phases<'_> {
         ways: &mut Vec<Way>,
     ) -> Result<(), AllocError> {
         self.push_falls(p, t, letters, ways)?;
-        self.push_fresh_others(p, t, letters, state, given, ways)?;
-        Ok(())
+        self.push_fresh_others(p, t, letters, state, given, ways)
     }
 
     ghost lawful = { λ g. g.lawful };
