@@ -2,14 +2,16 @@
 
 ghost use Rattle.std.specs.Prelude.{◌≡◌, ◌++◌, IfOk, IfSome, OnOk, codes};
 ghost use Rattle.plain_texts.specs.Lines.{with_feed};
+ghost use Rattle.mode_expression.specs.Form.{form_of, IsUsable};
 ghost use Rattle.service_days.specs.Clock.{clock_text_of};
 ghost use Rattle.journey.specs.Blocks.{AddsText, IsPrintable};
+ghost use Rattle.journey.specs.Queries.{IsQuery};
 ghost use Rattle.journey.specs.Texts.{IsJourneyText};
 ghost use Rattle.latest_departure.specs.Blocks.{IsLateText, IsBlockOf, IsAnswerBlock, IsLateBlock};
 
 use crate::backwards::Backwards;
 use crate::departing::find_latest;
-use journey::{BlockBody, QueryFault, block, read_query};
+use journey::{BlockBody, Query, QueryFault, block, read_query};
 use mode_network::{Journey, Network};
 use plain_texts::push_line_feed;
 use product_search::Workspace;
@@ -102,6 +104,24 @@ pub fn answer_block(
     }
 }
 
+/// The right late block of a line that is this query.
+fn query_block(
+    alloc: Global,
+    workspace: &mut Workspace,
+    backwards: &Backwards<'_>,
+    line: &[u8],
+    query: &Query,
+) -> Result<Vec<u8>, AllocError>
+    requires asks { IsQuery backwards.now.network line.now query.now.from query.now.to query.now.depart (form_of query.now.expr) }
+    requires line { query.now.line ≡ line.now }
+    requires usable { IsUsable (form_of query.now.expr) }
+    ensures { IfOk result (λ block. IsLateBlock backwards.now.network line.now block.items) }
+{
+    let journey = find_latest(alloc, workspace, backwards, query)?;
+    let block = answer_block(alloc, backwards.network(), line, journey)?;
+    Ok(block)
+}
+
 /// The right late block of a query line: that of its refusal, of a journey that starts at the latest departure, or of the
 /// answer that there is none.
 ///
@@ -115,15 +135,12 @@ pub fn late_block(
     ensures { IfOk result (λ block. IsLateBlock backwards.now.network line.now block.items) }
 {
     let network = backwards.network();
-    let query = match read_query(alloc, network, line) {
-        Ok(query) => query,
-        Err(QueryFault::OutOfMemory) => return Err(AllocError),
+    match read_query(alloc, network, line) {
+        Ok(query) => query_block(alloc, workspace, backwards, line, &query),
+        Err(QueryFault::OutOfMemory) => Err(AllocError),
         Err(fault) => {
             let block = block(alloc, network, line, &BlockBody::Refused(fault))?;
-            return Ok(block);
+            Ok(block)
         }
-    };
-    let journey = find_latest(alloc, workspace, backwards, &query)?;
-    let block = answer_block(alloc, network, line, journey)?;
-    Ok(block)
+    }
 }

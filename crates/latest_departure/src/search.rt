@@ -45,10 +45,10 @@ impl<'a> LateSearch<'a> {
         days.facts();
         let span = query.depart - Time::from(days.base(7));
         let mirror = Mirror::of(backwards, query.depart);
-        let positions = Positions::of(alloc, &query.expr)?;
-        let automaton = Collapsed::new(Reversed::of(alloc, &positions)?);
         let starts = copies(alloc, network, &query.to)?;
         let targets = copies(alloc, network, &query.from)?;
+        let positions = Positions::of(alloc, &query.expr)?;
+        let automaton = Collapsed::new(Reversed::of(alloc, &positions)?);
         Ok(LateSearch {
             mirror,
             automaton,
