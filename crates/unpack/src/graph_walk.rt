@@ -25,13 +25,7 @@ pub fn from_graph(alloc: Global, graph: &GraphInUse<'_>, walk: &Walk) -> Result<
     ensures soon { IfOk result (λ j. All IsSoon j.steps) }
 {
     match graph {
-        GraphInUse::Plain(plain) => {
-            let journey = from_plain(alloc, plain, walk)?;
-            Ok(journey)
-        }
-        GraphInUse::Phases(phases) => {
-            let journey = from_phases(alloc, phases, walk)?;
-            Ok(journey)
-        }
+        GraphInUse::Plain(plain) => from_plain(alloc, plain, walk),
+        GraphInUse::Phases(phases) => from_phases(alloc, phases, walk),
     }
 }

@@ -78,15 +78,14 @@ fn push_entry_at(
     requires place { place < length phases.now.hierarchy.now.entries }
     requires none { stack.old.items ≡ [] }
     ensures none { OnOk result (stack.new.items ≡ []) }
-    ensures differ { OnOk result ((entry_at phases.now.hierarchy.now place).from ≢ (entry_at phases.now.hierarchy.now place).to) }
+    ensures differ { (entry_at phases.now.hierarchy.now place).from ≢ (entry_at phases.now.hierarchy.now place).to }
     ensures roads { OnOk result (GoesOnByRoads phases.now.plain.network.now (entry_at phases.now.hierarchy.now place).from
         (entry_at phases.now.hierarchy.now place).to (entry_at phases.now.hierarchy.now place).weight steps.old.items steps.new.items) }
 {
     let hierarchy = phases.hierarchy();
     hierarchy.known();
     let entry = hierarchy.entries()[place as usize];
-    push_entry(hierarchy, phases.network(), entry, stack, steps)?;
-    Ok(())
+    push_entry(hierarchy, phases.network(), entry, stack, steps)
 }
 
 /// Appends the steps that take the arc at place `i` of those out of the node `p` at a time: those of the roads under an
@@ -105,15 +104,14 @@ fn push_arc(
     ensures steps { OnOk result (GoesOnByArc phases.now.plain.network.now phases.now.plain.timetable.now phases.now.hierarchy.now phases.now.marks.items p i t steps.old.items steps.new.items) }
 {
     match phases.phase_arc(p, i) {
-        PhaseArc::Up(place) => push_entry_at(phases, place, stack, steps)?,
-        PhaseArc::Down(place) => push_entry_at(phases, place, stack, steps)?,
+        PhaseArc::Up(place) => push_entry_at(phases, place, stack, steps),
+        PhaseArc::Down(place) => push_entry_at(phases, place, stack, steps),
         PhaseArc::Other(place) => {
             let plain = phases.plain();
             plain.timetable().known();
-            push_steps(plain, plain.plain_arc(p / 2, place), t, steps)?;
+            push_steps(plain, plain.plain_arc(p / 2, place), t, steps)
         }
     }
-    Ok(())
 }
 
 /// The steps of each hop, from the node `start` at `at` on.

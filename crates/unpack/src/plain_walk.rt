@@ -25,12 +25,13 @@ pub(crate) fn push_steps(
     requires { IsKnownRide plain.now.timetable.now arc }
     ensures { OnOk result (steps.new.items ≡ steps.old.items ++ with_wait plain.now.timetable.now t (step_of plain.now.timetable.now t arc)) }
 {
-    match arc {
-        PlainArc::Road(arc) => steps.push(Step::Road { to: arc.to })?,
-        PlainArc::Link(link) => steps.push(Step::Link { to: link.to })?,
-        PlainArc::Stand => steps.push(Step::Stand)?,
-        PlainArc::Ride(ride) => push_ride(plain, ride, t, steps)?,
-    }
+    let step = match arc {
+        PlainArc::Road(arc) => Step::Road { to: arc.to },
+        PlainArc::Link(link) => Step::Link { to: link.to },
+        PlainArc::Stand => Step::Stand,
+        PlainArc::Ride(ride) => return push_ride(plain, ride, t, steps),
+    };
+    steps.push(step)?;
     Ok(())
 }
 

@@ -1,11 +1,18 @@
+use Rattle.std.proofs.Common.{Result, Ok, Err}
+use Rattle.std.specs.Prelude.{IfOk}
 use Rattle.unpack.specs.Unpacking.{end_of, arrival_of}
 use Rattle.unpack.proofs.PhaseLemmas.{plain_unpacked}
 use Rattle.unpack.proofs.graph_walk.from_graph.Goals as goal
 
-pub returns-in_ok-journey-in-Plain-clause-unpacked : goal.returns-in_ok-journey-in-Plain-clause-unpacked
-returns-in_ok-journey-in-Plain-clause-unpacked c =
+if_ok_both : {X Y : Type 0} (r : Result X Y) (P Q R : X → Type 0) → ((x : X) → P x → Q x → R x) → IfOk r P → IfOk r Q → IfOk r R
+if_ok_both (Ok x) P Q R both p q = both x p q
+if_ok_both (Err e) P Q R both p q = tt
+
+pub returns-in-Plain-clause-unpacked : goal.returns-in-Plain-clause-unpacked
+returns-in-Plain-clause-unpacked c =
     let plain = c.in-Plain.plain in
     let walk = c.args.walk.now in
-    let j = c.in_ok-journey-in-Plain.journey in
-    let is = c.in_ok-journey-in-Plain.ensures in
-    rw c.in-Plain.is (plain_unpacked plain.network.now plain.timetable.now j.start j.at (end_of walk.node walk.hops.items) (arrival_of walk.at walk.hops.items) j.steps walk.hops.items walk.node is.real is.boarded)
+    rw c.in-Plain.is
+    (if_ok_both c.from_plain.result _ _ _
+    (λ j real boarded. plain_unpacked plain.network.now plain.timetable.now j.start j.at (end_of walk.node walk.hops.items) (arrival_of walk.at walk.hops.items) j.steps walk.hops.items walk.node real boarded)
+    c.from_plain.ensures.real c.from_plain.ensures.boarded)
