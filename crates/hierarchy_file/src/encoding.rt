@@ -36,8 +36,7 @@ fn push_entry(out: &mut Vec<u8>, entry: Entry) -> Result<(), AllocError>
     push_u32(out, entry.from)?;
     push_u32(out, entry.to)?;
     push_u64(out, entry.weight)?;
-    push_u32(out, middle_number(entry.via))?;
-    Ok(())
+    push_u32(out, middle_number(entry.via))
 }
 
 fn push_entries(out: &mut Vec<u8>, entries: &[Entry]) -> Result<(), AllocError>

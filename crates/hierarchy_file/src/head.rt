@@ -58,6 +58,5 @@ pub(crate) fn push_head(out: &mut Vec<u8>, counts: Counts) -> Result<(), AllocEr
     out.extend_from_slice(MAGIC)?;
     push_u64(out, counts.order)?;
     push_u64(out, counts.entries)?;
-    push_u64(out, counts.witnesses)?;
-    Ok(())
+    push_u64(out, counts.witnesses)
 }
