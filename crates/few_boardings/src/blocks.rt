@@ -1,13 +1,15 @@
 //! The block of a query line that asks for the journeys that are worth their boardings.
 
-ghost use Rattle.std.specs.Prelude.{◌≡◌, [], ◌∷◌, All, IfOk, OnOk};
+ghost use Rattle.std.specs.Prelude.{◌≡◌, [], ◌∷◌, ◌<◌, ◌^◌, All, IfOk, OnOk};
+ghost use Rattle.mode_expression.specs.Form.{form_of, IsUsable};
 ghost use Rattle.journey.specs.Blocks.{AddsText, IsPrintable};
+ghost use Rattle.journey.specs.Queries.{IsQuery};
 ghost use Rattle.journey.specs.Texts.{IsJourneyText};
 ghost use Rattle.few_boardings.specs.Boardings.{IsPrintableRow};
 ghost use Rattle.few_boardings.specs.Blocks.{AreTold, IsFewText, IsBlockOf, IsFewBlock};
 
 use crate::boardings::{FewRow, few_with};
-use journey::{BlockBody, QueryFault, block, read_query};
+use journey::{BlockBody, Query, QueryFault, block, read_query};
 use mode_network::{Journey, Network};
 use plain_texts::{push_decimal, push_line_feed};
 use product_search::Workspace;
@@ -117,6 +119,25 @@ fn rows_block(
     Ok(out)
 }
 
+/// The right block of a line that is this query.
+fn query_block(
+    alloc: Global,
+    workspace: &mut Workspace,
+    network: &Network,
+    line: &[u8],
+    query: &Query,
+) -> Result<Vec<u8>, AllocError>
+    requires asks { IsQuery network.now line.now query.now.from query.now.to query.now.depart (form_of query.now.expr) }
+    requires line { query.now.line ≡ line.now }
+    requires usable { IsUsable (form_of query.now.expr) }
+    requires soon { query.now.depart < 2 ^ 64 }
+    ensures { IfOk result (λ block. IsFewBlock network.now line.now block.items) }
+{
+    let rows = few_with(alloc, workspace, network, query)?;
+    let block = rows_block(alloc, network, line, &rows)?;
+    Ok(block)
+}
+
 /// The right block of a query line: that of its refusal, or of the journeys that are worth their boardings. The searches
 /// use the workspace.
 pub fn few_block(
@@ -127,15 +148,12 @@ pub fn few_block(
 ) -> Result<Vec<u8>, AllocError>
     ensures { IfOk result (λ block. IsFewBlock network.now line.now block.items) }
 {
-    let query = match read_query(alloc, network, line) {
-        Ok(query) => query,
-        Err(QueryFault::OutOfMemory) => return Err(AllocError),
+    match read_query(alloc, network, line) {
+        Ok(query) => query_block(alloc, workspace, network, line, &query),
+        Err(QueryFault::OutOfMemory) => Err(AllocError),
         Err(fault) => {
             let block = block(alloc, network, line, &BlockBody::Refused(fault))?;
-            return Ok(block);
+            Ok(block)
         }
-    };
-    let rows = few_with(alloc, workspace, network, &query)?;
-    let block = rows_block(alloc, network, line, &rows)?;
-    Ok(block)
+    }
 }

@@ -84,10 +84,10 @@ fn least_below(
     }
     let plain = Plain::new(network);
     network.known();
-    let collapsed = Collapsed::new(Positions::of(alloc, &query.expr)?);
-    let labels = Counted::new(collapsed, limit - 1);
     let starts = copies(alloc, network, &query.from)?;
     let targets = copies(alloc, network, &query.to)?;
+    let collapsed = Collapsed::new(Positions::of(alloc, &query.expr)?);
+    let labels = Counted::new(collapsed, limit - 1);
     let best = search_best_with(
         alloc,
         workspace,
