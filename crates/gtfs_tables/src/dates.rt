@@ -19,7 +19,7 @@ use std::alloc::{AllocError, Global};
 use std::marker::Model;
 
 /// A row of calendar_dates.txt.
-#[derive(Debug, Drop)]
+#[derive(Drop)]
 pub struct DateRow {
     /// The row's number in calendar_dates.txt.
     pub row: u64,

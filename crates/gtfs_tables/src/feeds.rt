@@ -22,7 +22,7 @@ use std::alloc::Global;
 use std::marker::Model;
 
 /// The rows of a feed's tables, in file order. A contract sees them as lists.
-#[derive(Debug, Drop)]
+#[derive(Drop)]
 pub struct Feed {
     /// The rows of stops.txt that are stops.
     pub stops: Vec<StopRow>,

@@ -3,7 +3,7 @@
 ghost use Rattle.std.specs.Prelude.{◌≡◌};
 
 /// The bytes of a feed's files; `None` where a file is not there.
-#[derive(Clone, Copy, Debug)]
+#[derive(Clone, Copy)]
 pub struct FeedFiles<'a> {
     /// agency.txt
     pub agency: Option<&'a [u8]>,

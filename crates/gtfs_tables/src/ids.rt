@@ -7,7 +7,7 @@ use std::alloc::{AllocError, Global};
 use std::marker::Model;
 
 /// An id of a feed, as it stands in its file. A contract sees it as its bytes.
-#[derive(Debug, Drop)]
+#[derive(Drop)]
 pub struct Id {
     bytes: Vec<u8>,
 }

@@ -18,7 +18,7 @@ use plan_base::{Caps, Kind};
 use std::alloc::{AllocError, Global};
 
 /// A row of routes.txt.
-#[derive(Debug, Drop)]
+#[derive(Drop)]
 pub struct RouteRow {
     /// The row's number in routes.txt.
     pub row: u64,

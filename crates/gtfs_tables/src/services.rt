@@ -18,7 +18,7 @@ use service_days::ServiceRule;
 use std::alloc::{AllocError, Global};
 
 /// A row of calendar.txt.
-#[derive(Debug, Drop)]
+#[derive(Drop)]
 pub struct ServiceRow {
     /// The row's number in calendar.txt.
     pub row: u64,

@@ -18,7 +18,7 @@ use plan_base::{Caps, Kind, Place};
 use std::alloc::{AllocError, Global};
 
 /// A stop: a row of stops.txt whose `location_type` is empty or 0.
-#[derive(Debug, Drop)]
+#[derive(Drop)]
 pub struct StopRow {
     /// The row's number in stops.txt.
     pub row: u64,

@@ -17,7 +17,7 @@ use plan_base::{Caps, Kind};
 use std::alloc::{AllocError, Global};
 
 /// A row of trips.txt.
-#[derive(Debug, Drop)]
+#[derive(Drop)]
 pub struct TripRow {
     /// The row's number in trips.txt.
     pub row: u64,

@@ -26,7 +26,7 @@ impl Keyed for Entry {
 }
 
 /// Where an entry ends, and its place among the entries; by end, and then by place.
-#[derive(Clone, Copy, Debug, PartialEq, Eq, PartialOrd, Ord)]
+#[derive(Clone, Copy, PartialEq, Eq, PartialOrd, Ord)]
 pub struct End {
     pub to: u32,
     pub place: u64,

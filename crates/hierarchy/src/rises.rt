@@ -12,7 +12,7 @@ use std::alloc::{AllocError, Global};
 
 /// An entry that leads to a node above its own, or from one core node to another, with its place among the entries. What a
 /// search asks of it stands here, so that it need not read the entry.
-#[derive(Clone, Copy, Debug, PartialEq, Eq)]
+#[derive(Clone, Copy)]
 pub struct Rise {
     pub from: u32,
     pub to: u32,

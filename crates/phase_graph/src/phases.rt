@@ -17,7 +17,7 @@ use search_laws::{GivenRuns, Graph, GraphArc, Leg, Steady, Time, Way, is_open};
 use std::alloc::{AllocError, Global};
 
 /// An arc out of a node of the phase graph.
-#[derive(Clone, Copy, Debug, PartialEq, Eq)]
+#[derive(Clone, Copy)]
 pub enum PhaseArc {
     /// The entry at this place, to a node above or along the core.
     Up(u64),
@@ -29,7 +29,7 @@ pub enum PhaseArc {
 
 /// What is done along an arc. A link and an entry lead to a node of the network; a ride goes from one call of a
 /// pattern to another.
-#[derive(Clone, Copy, Debug, PartialEq, Eq)]
+#[derive(Clone, Copy)]
 pub enum PhaseStep {
     Entry(u32),
     Link(u32),

@@ -14,7 +14,7 @@ pub struct Label {
 }
 
 /// An arc of a walk: its place among those of the node that it leaves, and where and when it arrives.
-#[derive(Clone, Copy, PartialEq, Eq, Debug)]
+#[derive(Clone, Copy)]
 pub struct Hop {
     pub arc: u64,
     pub to: u32,
@@ -23,7 +23,7 @@ pub struct Hop {
 }
 
 /// A walk without waits: where and when it starts, and its arcs. Each is taken when the one before arrives.
-#[derive(Debug, Drop)]
+#[derive(Drop)]
 pub struct Walk {
     pub node: u32,
     pub state: u32,
@@ -32,7 +32,7 @@ pub struct Walk {
 }
 
 /// The answer of a search.
-#[derive(Debug, Drop)]
+#[derive(Drop)]
 pub struct Found {
     /// The least arrival, or None where no walk counts.
     pub arrival: Option<Time>,
@@ -44,7 +44,7 @@ pub struct Found {
 }
 
 /// The answer of a search that counts its labels.
-#[derive(Debug, Drop)]
+#[derive(Drop)]
 pub struct Counted {
     /// The least arrival, or None where no walk counts.
     pub arrival: Option<Time>,
@@ -55,7 +55,7 @@ pub struct Counted {
 }
 
 /// The answer of a search that lists no labels.
-#[derive(Debug, Drop)]
+#[derive(Drop)]
 pub struct Best {
     /// The least arrival, or None where no walk counts.
     pub arrival: Option<Time>,
