@@ -59,12 +59,7 @@ fn push_node(out: &mut Vec<u8>, network: &Network, v: u32) -> Result<(), AllocEr
 }
 
 /// A node, a space and a clock text.
-fn push_place(
-    out: &mut Vec<u8>,
-    network: &Network,
-    v: u32,
-    t: Time,
-) -> Result<(), AllocError>
+fn push_place(out: &mut Vec<u8>, network: &Network, v: u32, t: Time) -> Result<(), AllocError>
     requires { v < length (nodes_of network.now) }
     ensures { OnOk result (out.new.items ≡ out.old.items ++ place_text network.now v t) }
 {

@@ -15,7 +15,9 @@ use journey::{Query, copies};
 use mode_network::{Journey, Network};
 use phase_graph::{GraphInUse, ends_in, starts_in};
 use plan_base::Time;
-use product_search::{Best, Counted, Found, Label, Walk, Workspace, search, search_best_with, search_counted_with};
+use product_search::{
+    Best, Counted, Found, Label, Walk, Workspace, search, search_best_with, search_counted_with,
+};
 use std::alloc::{AllocError, Global};
 use unpack::from_graph;
 

@@ -77,13 +77,25 @@ fn push_made(
 
 fn push_nodes(alloc: Global, script: &mut Script) -> Result<(), AllocError> {
     for id in 0..PLACES {
-        push_made(alloc, script, format!(in alloc; "|node foot {id} 480000000 110000000"))?;
+        push_made(
+            alloc,
+            script,
+            format!(in alloc; "|node foot {id} 480000000 110000000"),
+        )?;
         if id < BIKES {
-            push_made(alloc, script, format!(in alloc; "|node bike {id} 480000000 110000000"))?;
+            push_made(
+                alloc,
+                script,
+                format!(in alloc; "|node bike {id} 480000000 110000000"),
+            )?;
         }
     }
     for stop in 0..STOPS {
-        push_made(alloc, script, format!(in alloc; "|stop S{stop} 480000000 110000000"))?;
+        push_made(
+            alloc,
+            script,
+            format!(in alloc; "|stop S{stop} 480000000 110000000"),
+        )?;
     }
     push(alloc, script, "|switch 50 480000000 110000000")
 }
@@ -128,7 +140,11 @@ fn push_trip(
 ) -> Result<(), AllocError> {
     let first = dice.below(STOPS - 1);
     let calls = STOPS - first;
-    push_made(alloc, script, format!(in alloc; "|trip bus 80 {calls} t{trip}"))?;
+    push_made(
+        alloc,
+        script,
+        format!(in alloc; "|trip bus 80 {calls} t{trip}"),
+    )?;
     let mut at = 28_800 + dice.below(900);
     for stop in first..STOPS {
         push_made(alloc, script, format!(in alloc; "|call {stop} {at} {at} 3"))?;
@@ -148,7 +164,11 @@ pub fn push_queries(
     for _ in 0..count {
         let (from, to) = (dice.below(PLACES), dice.below(PLACES));
         let (minute, expression) = (10 + dice.below(10), expression(dice.below(8)));
-        push_made(alloc, script, format!(in alloc; "|n{from} n{to} 20240304 08:{minute}:00 {expression}"))?;
+        push_made(
+            alloc,
+            script,
+            format!(in alloc; "|n{from} n{to} 20240304 08:{minute}:00 {expression}"),
+        )?;
     }
     Ok(())
 }

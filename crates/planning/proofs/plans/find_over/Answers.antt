@@ -1,4 +1,4 @@
-use Rattle.std.proofs.Common.{◌≡◌, ℕ, List, Some, length}
+use Rattle.std.proofs.Common.{Some}
 use Rattle.automaton.specs.Meanings.{position_meaning}
 use Rattle.phase_graph.specs.InUse.{starts_in, ends_in}
 use Rattle.phase_graph.specs.InUseGraph.{meaning_in_use}
@@ -35,17 +35,20 @@ returns-clause-settled c =
     let g = meaning_in_use s.graph in
     let l = position_meaning s.automaton.inner in
     let counted = rw (c.deref.ensures.value, is.starts_are) at c.in_ok-found.ensures.labels in
-    let first = rw (c.deref.ensures.value, c.deref-2.ensures.value, is.starts_are, is.ends_are) at c.in_ok-found.ensures.arrival in
-    (counted.0, record {
-      automaton = l;
-      positions = is.positions;
-      origins = is.origins;
-      targets = is.targets;
-      origin = is.origin;
-      destination = is.destination;
-      graph = g;
-      in_use = is.in_use;
-      arrival = c.in_ok-found.found.arrival;
-      over = λ other in_use. labels_over g other (graphs_in_use_are_alike n c.known.ensures h is.sound is.targets g other is.in_use in_use)
-          l (starts_in h is.origins) (ends_in h is.targets) q.depart c.in_ok-found.found.arrival counted.0 (record { first = first; least = counted.1 });
-    }, counted.2)
+    let first = rw (c.deref.ensures.value, c.deref-2.ensures.value, is.starts_are, is.ends_are) at c.in_ok-found.ensures.arrival in (
+      counted.0,
+      record {
+        automaton = l;
+        positions = is.positions;
+        origins = is.origins;
+        targets = is.targets;
+        origin = is.origin;
+        destination = is.destination;
+        graph = g;
+        in_use = is.in_use;
+        arrival = c.in_ok-found.found.arrival;
+        over = λ other in_use. labels_over g other (graphs_in_use_are_alike n c.known.ensures h is.sound is.targets g other is.in_use in_use)
+            l (starts_in h is.origins) (ends_in h is.targets) q.depart c.in_ok-found.found.arrival counted.0 (record { first = first; least = counted.1 });
+      },
+      counted.2,
+    )

@@ -1,8 +1,7 @@
 use Rattle.std.proofs.Common.{ℕ, ◌≤◌, ◌∙◌, Option, IfSome, sym, subst, filter_map}
 use Rattle.std.proofs.lemmas.List.Sorted.{length_permutation}
 use Rattle.product_search.specs.Answer.{IsArrival, IsWalkFor, last_time}
-use Rattle.product_search.specs.Listed.{HasLeastLabels}
-use Rattle.product_search.specs.Searching.{arrival_of, label_of_row}
+use Rattle.product_search.specs.Searching.{label_of_row}
 use Rattle.product_search.specs.Waiting.{rows}
 use Rattle.product_search.proofs.EndLemmas.{arrives}
 use Rattle.product_search.proofs.ListLemmas.{least_labels}
@@ -33,9 +32,11 @@ returns-clause-labels g c =
     let f = c.in_ok-explored.explored.frontier in
     let arrival = c.arrival_of-arrival.result in
     let found = filter_map (label_of_row arrival) (rows f) in
-    let is = rw (← c.arrival_of-arrival.ensures) at (searched (g.G.Graph.meaning c.args.graph.now) (g.L.Labels.automaton c.args.labels.now) c.args.starts.now c.args.targets.now c.args.dep c.args.bound f c.in_ok-explored.explored.end c.in_ok-explored.ensures) in
-    (sorted found, least_labels (g.G.Graph.meaning c.args.graph.now) (g.L.Labels.automaton c.args.labels.now) c.args.starts.now c.args.targets.now c.args.dep c.args.bound arrival f is (sorted found) (sorted_in_order found) (sorted_moves found),
-    c.count_labels-labels.ensures ∙ sym (length_permutation found (sorted found) (sorted_moves found)))
+    let is = rw (← c.arrival_of-arrival.ensures) at (searched (g.G.Graph.meaning c.args.graph.now) (g.L.Labels.automaton c.args.labels.now) c.args.starts.now c.args.targets.now c.args.dep c.args.bound f c.in_ok-explored.explored.end c.in_ok-explored.ensures) in (
+      sorted found,
+      least_labels (g.G.Graph.meaning c.args.graph.now) (g.L.Labels.automaton c.args.labels.now) c.args.starts.now c.args.targets.now c.args.dep c.args.bound arrival f is (sorted found) (sorted_in_order found) (sorted_moves found),
+      c.count_labels-labels.ensures ∙ sym (length_permutation found (sorted found) (sorted_moves found)),
+    )
 
 pub returns-clause-time : goal.returns-clause-time
 returns-clause-time g c =
