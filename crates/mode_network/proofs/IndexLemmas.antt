@@ -1,6 +1,6 @@
 -- How many arcs begin below a node, where the arcs are ordered by the node that they begin at.
 use Rattle.std.proofs.Common.{◌≡◌, ℕ, ◌+◌, ◌-◌, [], ◌∷◌, ◌++◌, below_more, cond, lit≤, length-take, ◌<◌, ◌≤◌, ◌∙◌, suc, zero, nat_lt, Bool, true, false, List, length, take, refl, ap, arith, sym}
-use Rattle.std.specs.Prelude.{slice_index_or, slice_index}
+use Rattle.std.specs.Prelude.{slice_index_or}
 use Rattle.std.proofs.Math.ListN.{get_or-append}
 use Rattle.std.proofs.Math.Seq.{get_or-append_seam}
 use Rattle.std.specs.List.{AllWithin, count_by}
@@ -10,11 +10,13 @@ use Rattle.std.specs.declared.cmp.Ordering.TheVariants.{Less, Equal, Greater}
 use Rattle.std.proofs.Math.Nat.{le_trans, le_refl, lt_of_le_of_lt}
 use Rattle.std.specs.Cmp.{ranks as nat_ranks}
 use Rattle.std.proofs.lemmas.Bool.{lt-ltb, le-ltb, ltb-true, ltb-false}
-use Rattle.std.proofs.lemmas.List.{take_all, get_or_read}
+use Rattle.std.proofs.lemmas.List.{take_all}
 use Rattle.std.proofs.lemmas.List.Sums.{count_by_more_yes, count_by_more_no, count_by-le-length, sum_by-take-le, sum_by-le-sum_by}
 use Rattle.mode_network.specs.declared.nodes.Arc.{Arc}
 use Rattle.mode_network.specs.Rules.{IsAscending, arc_cmp}
-use Rattle.mode_network.specs.Indexes.{AreOffsets, count_below, range_from, IsRange}
+use Rattle.mode_network.specs.declared.indexes.NodeRow.{NodeRow}
+use Rattle.mode_network.specs.declared.nodes.Node.{Node}
+use Rattle.mode_network.specs.Indexes.{AreRows, row_of, count_below, range_from, IsRange}
 
 no_arc : Arc
 no_arc = record { from = 0; to = 0; ms = 0 }
@@ -91,14 +93,15 @@ count_below_is arcs v place ascend within below next = by_end (nat_lt place (len
         let whole : take place arcs ≡ arcs = take_all place arcs (ltb-false _ _ h) in
         ap (count_by (λ arc. nat_lt arc.from v)) (sym whole) ∙ front
 
--- one count more
-pub counts_more : (arcs : List Arc) (offsets : List ℕ) (v place : ℕ) → length offsets ≡ v
-    → ((w : ℕ) → w < v → slice_index offsets w ≡ count_below arcs w) → count_below arcs v ≡ place
-    → (w : ℕ) → w < v + 1 → slice_index (offsets ++ place ∷ []) w ≡ count_below arcs w
-counts_more arcs offsets v place len before here =
-    below_more _ _
-    (λ w h. get_or-append offsets (place ∷ []) 0 w (omega arith) ∙ before w h)
-    (rw (← len) (get_or-append_seam offsets place [] 0) ∙ sym here)
+-- one row more
+pub rows_more : (roads : List Node) (arcs links : List Arc) (rows : List NodeRow) (v : ℕ) → length rows ≡ v
+    → ((w : ℕ) (d : NodeRow) → w < v → slice_index_or rows w d ≡ row_of roads arcs links w)
+    → (row : NodeRow) → row ≡ row_of roads arcs links v
+    → (w : ℕ) (d : NodeRow) → w < v + 1 → slice_index_or (rows ++ row ∷ []) w d ≡ row_of roads arcs links w
+rows_more roads arcs links rows v len before row here w d =
+    below_more (λ w. slice_index_or (rows ++ row ∷ []) w d ≡ row_of roads arcs links w) v
+    (λ w h. get_or-append rows (row ∷ []) d w (omega arith) ∙ before w d h)
+    (rw (← len) (get_or-append_seam rows row [] d) ∙ here) w
 
 -- more arcs begin below a later node
 count_rises : (arcs : List Arc) (v w : ℕ) → v ≤ w → count_below arcs v ≤ count_below arcs w
@@ -137,11 +140,14 @@ pub in_range_of_begin : (arcs : List Arc) → IsAscending arc_cmp arcs → (k : 
 in_range_of_begin arcs ascend k d lt =
     (above_stands_after arcs ascend _ k d lt (le_refl _), below_stands_before arcs ascend _ k d lt (omega arith))
 
--- what is read at a node and at the next one is a range
-pub read_range : (nodes : ℕ) (arcs : List Arc) (offsets : List ℕ) → AreOffsets nodes arcs offsets → (v : ℕ) → v < nodes → (first end : ℕ)
-    → first ≡ slice_index_or offsets v first → end ≡ slice_index_or offsets (v + 1) end → IsRange (first, end) arcs
-read_range nodes arcs offsets are v h first end at_first at_end =
-    let range = range_is_range arcs v in
-    let low = get_or_read offsets v first (omega (arith, are.one_more)) at_first 0 ∙ are.counts v (omega arith) in
-    let high = get_or_read offsets (v + 1) end (omega (arith, are.one_more)) at_end 0 ∙ are.counts (v + 1) (omega arith) in
-    rw (low, high) range
+module _ (nodes : ℕ) (roads : List Node) (arcs links : List Arc) (table : List NodeRow) (are : AreRows nodes roads arcs links table) where
+  -- what is read of a node is its row
+  row_read : (v : ℕ) → v ≤ nodes → (row : NodeRow) → row ≡ slice_index_or table v row → row ≡ row_of roads arcs links v
+  row_read v h row at = at ∙ are.are v row h
+
+  -- and what is read of it and of the next one is a range of the list whose counts the rows have
+  pub range_read : (part : NodeRow → ℕ) (list : List Arc) → ((w : ℕ) → part (row_of roads arcs links w) ≡ count_below list w) → (v : ℕ) → v < nodes
+      → (first end : NodeRow) → first ≡ slice_index_or table v first → end ≡ slice_index_or table (v + 1) end → (part first, part end) ≡ range_from list v
+  range_read part list has v h first end at_first at_end =
+      ap (λ k. (k, part end)) (ap part (row_read v (omega arith) first at_first) ∙ has v)
+      ∙ ap (λ k. (count_below list v, k)) (ap part (row_read (v + 1) (omega arith) end at_end) ∙ has (v + 1))

@@ -1,9 +1,10 @@
 -- What a network keeps beside its lists, so that they are found fast.
-use Rattle.std.specs.Prelude.{◌≡◌, ℕ, ◌+◌, ◌<◌, ◌≤◌, ◌==◌, ◌||◌, nat_lt, Bool, List, map, Option, length, slice_index, count_by, slice_index_or}
+use Rattle.std.specs.Prelude.{◌≡◌, ℕ, ◌+◌, ◌<◌, ◌≤◌, ◌==◌, ◌||◌, nat_lt, Bool, List, length, count_by, slice_index_or}
 use Rattle.std.specs.List.{list_any}
 use Rattle.mode_network.specs.declared.nodes.Arc.{Arc}
 use Rattle.mode_network.specs.declared.nodes.Node.{Node}
-use Rattle.mode_network.specs.NetworkLists.{NetworkLists, nodes_of, mode_of}
+use Rattle.mode_network.specs.declared.indexes.NodeRow.{NodeRow}
+use Rattle.mode_network.specs.NetworkLists.{NetworkLists, nodes_of, mode_at}
 
 -- how many arcs begin below the node v
 abbrev pub count_below : List Arc → ℕ → ℕ
@@ -21,19 +22,19 @@ IsRange range xs = (range.0 ≤ range.1) × (range.1 ≤ length xs)
 abbrev pub is_end_of : List Arc → ℕ → Bool
 is_end_of arcs v = list_any (λ arc. (arc.from == v) || (arc.to == v)) arcs
 
--- the mode of each of these road nodes
-abbrev pub modes_of : List Node → List (Option ℕ)
-modes_of roads = map (λ (node : Node). mode_of node.key) roads
+-- what is kept of the node v: its mode, and how many arcs and links begin below it
+abbrev pub row_of : List Node → List Arc → List Arc → ℕ → NodeRow
+row_of roads arcs links v = record { mode = mode_at roads v; arcs = count_below arcs v; links = count_below links v }
 
-pub record AreOffsets (nodes : ℕ) (arcs : List Arc) (offsets : List ℕ) : Type 0 where
-  pub one_more : length offsets ≡ nodes + 1
-  pub counts : (v : ℕ) → v ≤ nodes → slice_index offsets v ≡ count_below arcs v
+-- the rows of so many nodes, and one for one past the last
+pub record AreRows (nodes : ℕ) (roads : List Node) (arcs links : List Arc) (rows : List NodeRow) : Type 0 where
+  pub one_more : length rows ≡ nodes + 1
+  pub are : (v : ℕ) (d : NodeRow) → v ≤ nodes → slice_index_or rows v d ≡ row_of roads arcs links v
 
 pub record AreEnds (nodes : ℕ) (arcs : List Arc) (ends : List Bool) : Type 0 where
   pub one_each : length ends ≡ nodes
   pub are : (v : ℕ) (d : Bool) → v < nodes → slice_index_or ends v d ≡ is_end_of arcs v
 
-pub record AreIndexes (n : NetworkLists) (arc_offsets link_offsets : List ℕ) (linked : List Bool) : Type 0 where
-  pub arcs : AreOffsets (length (nodes_of n)) n.arcs arc_offsets
-  pub links : AreOffsets (length (nodes_of n)) n.links link_offsets
+pub record AreIndexes (n : NetworkLists) (table : List NodeRow) (linked : List Bool) : Type 0 where
+  pub rows : AreRows (length (nodes_of n)) n.roads n.arcs n.links table
   pub ends : AreEnds (length (nodes_of n)) n.links linked

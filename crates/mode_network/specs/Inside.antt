@@ -1,10 +1,9 @@
 -- What the fields of a network show, and what they keep.
-use Rattle.std.specs.Prelude.{◌≡◌}
 use Rattle.mode_network.specs.declared.network.Network.TheInside.{Inside}
 use Rattle.mode_network.specs.NetworkLists.{NetworkLists}
 use Rattle.mode_network.specs.Rules.{IsNetwork}
 use Rattle.mode_network.specs.Timetables.{IsTimetableOf}
-use Rattle.mode_network.specs.Indexes.{AreIndexes, modes_of}
+use Rattle.mode_network.specs.Indexes.{AreIndexes}
 use Rattle.mode_network.specs.Copies.{road_points}
 use Rattle.mode_network.specs.Points.{IsGridOf}
 
@@ -23,6 +22,5 @@ lists_of n = record {
 pub record IsKept (n : Inside) : Type 0 where
   pub rules : IsNetwork (lists_of n)
   pub timetable : IsTimetableOf (lists_of n) n.timetable
-  pub modes : n.modes.items ≡ modes_of n.roads.items
-  pub indexes : AreIndexes (lists_of n) n.arc_offsets.items n.link_offsets.items n.linked.items
+  pub indexes : AreIndexes (lists_of n) n.rows.items n.linked.items
   pub grid : IsGridOf n.grid (road_points n.roads.items)

@@ -1,12 +1,12 @@
-//! Tables that find what a network holds: the arcs and links of a node, and the nearest road node.
+//! Tables that find what a network holds: the mode, the arcs and the links of a node, and the nearest road node.
 
 ghost use Rattle.std.specs.Prelude.{◌≡◌, ◌+◌, ◌<◌, ◌≤◌, ◌^◌, ℕ, length, All, IfOk, slice_index_or};
 ghost use Rattle.std.specs.List.{AllWithin};
 ghost use Rattle.mode_network.specs.declared.nodes.Arc.{Arc};
 ghost use Rattle.mode_network.specs.Rules.{IsAscending, arc_cmp};
 ghost use Rattle.mode_network.specs.Copies.{road_points};
-ghost use Rattle.mode_network.specs.Indexes.{AreOffsets, AreEnds, modes_of};
-ghost use Rattle.mode_network.specs.NetworkLists.{mode_of};
+ghost use Rattle.mode_network.specs.Indexes.{AreRows, AreEnds};
+ghost use Rattle.mode_network.specs.NetworkLists.{mode_of, mode_at};
 ghost use Rattle.mode_network.specs.Points.{IsGridOf};
 
 use crate::nodes::{Arc, Node, NodeKey};
@@ -14,12 +14,19 @@ use crate::points::road_grid;
 use geo_length::Grid;
 use std::alloc::{AllocError, Global};
 
+/// What is kept of a node: its mode if it is a road node, and how many arcs and how many links begin at lower nodes.
+#[derive(Clone, Copy)]
+pub(crate) struct NodeRow {
+    pub(crate) mode: Option<u8>,
+    pub(crate) arcs: u32,
+    pub(crate) links: u32,
+}
+
 /// The tables of a network.
 #[derive(Drop)]
 pub(crate) struct Tables {
-    pub(crate) modes: Vec<Option<u8>>,
-    pub(crate) arc_offsets: Vec<u32>,
-    pub(crate) link_offsets: Vec<u32>,
+    /// One for each node, and one past the last.
+    pub(crate) rows: Vec<NodeRow>,
     pub(crate) linked: Vec<bool>,
     pub(crate) grid: Grid,
 }
@@ -39,16 +46,12 @@ impl Tables {
         requires few_links { length links.now < 2 ^ 31 }
         requires links_ascend { IsAscending arc_cmp links.now }
         requires in_range { All (λ link. (link.from < nodes) × (link.to < nodes)) links.now }
-        ensures modes { IfOk result (λ tables. tables.modes.items ≡ modes_of roads.now) }
-        ensures arcs { IfOk result (λ tables. AreOffsets nodes arcs.now tables.arc_offsets.items) }
-        ensures links { IfOk result (λ tables. AreOffsets nodes links.now tables.link_offsets.items) }
+        ensures rows { IfOk result (λ tables. AreRows nodes roads.now arcs.now links.now tables.rows.items) }
         ensures ends { IfOk result (λ tables. AreEnds nodes links.now tables.linked.items) }
         ensures grid { IfOk result (λ tables. IsGridOf tables.grid (road_points roads.now)) }
     {
         Ok(Tables {
-            modes: modes(alloc, roads)?,
-            arc_offsets: offsets(alloc, nodes, arcs)?,
-            link_offsets: offsets(alloc, nodes, links)?,
+            rows: rows(alloc, nodes, roads, arcs, links)?,
             linked: ends(alloc, nodes, links)?,
             grid: road_grid(alloc, roads)?,
         })
@@ -69,24 +72,38 @@ fn skip_below(arcs: &[Arc], mut place: usize, v: u32) -> usize
     place
 }
 
-/// For each node number and one past the last: how many arcs begin at lower nodes.
-fn offsets(alloc: Global, nodes: u32, arcs: &[Arc]) -> Result<Vec<u32>, AllocError>
+/// The row of each node number, and of one past the last.
+fn rows(
+    alloc: Global,
+    nodes: u32,
+    roads: &[Node],
+    arcs: &[Arc],
+    links: &[Arc],
+) -> Result<Vec<NodeRow>, AllocError>
     requires few_nodes { nodes < 2 ^ 31 }
     requires few_arcs { length arcs.now < 2 ^ 31 }
-    requires ascend { IsAscending arc_cmp arcs.now }
-    ensures { IfOk result (λ offsets. AreOffsets nodes arcs.now offsets.items) }
+    requires arcs_ascend { IsAscending arc_cmp arcs.now }
+    requires few_links { length links.now < 2 ^ 31 }
+    requires links_ascend { IsAscending arc_cmp links.now }
+    ensures { IfOk result (λ rows. AreRows nodes roads.now arcs.now links.now rows.items) }
 {
-    let mut offsets = Vec::with_capacity(alloc, nodes as usize + 1)?;
-    let mut place = 0;
+    let mut rows = Vec::with_capacity(alloc, nodes as usize + 1)?;
+    let mut arc = 0;
+    let mut link = 0;
     for v in 0..nodes + 1 {
-        place = skip_below(arcs, place, v);
-        offsets.push(place as u32)?;
+        arc = skip_below(arcs, arc, v);
+        link = skip_below(links, link, v);
+        rows.push(NodeRow {
+            mode: mode_at(roads, v),
+            arcs: arc as u32,
+            links: link as u32,
+        })?;
     }
-    Ok(offsets)
+    Ok(rows)
 }
 
 /// The mode of a road node; of any other none.
-pub(crate) fn mode_of(key: NodeKey) -> Option<u8>
+fn mode_of(key: NodeKey) -> Option<u8>
     ensures { result ≡ mode_of key }
 {
     match key {
@@ -95,11 +112,11 @@ pub(crate) fn mode_of(key: NodeKey) -> Option<u8>
     }
 }
 
-/// The mode of each road node.
-fn modes(alloc: Global, roads: &[Node]) -> Result<Vec<Option<u8>>, AllocError>
-    ensures { IfOk result (λ modes. modes.items ≡ modes_of roads.now) }
+/// The mode of the road node of this number, if it is one.
+pub(crate) fn mode_at(roads: &[Node], v: u32) -> Option<u8>
+    ensures { result ≡ mode_at roads.now v }
 {
-    roads.iter().map(|node| mode_of(node.key)).collect(alloc)
+    mode_of(roads.get(v as usize)?.key)
 }
 
 /// For each node number: whether some arc begins or ends there.

@@ -13,7 +13,7 @@ ghost use Rattle.mode_network.specs.Indexes.{range_from, IsRange, is_end_of};
 use crate::bases::timetable;
 use crate::endpoints::Endpoint;
 use crate::faults::NetFault;
-use crate::indexes::Tables;
+use crate::indexes::{NodeRow, Tables};
 use crate::nodes::{Arc, Node, NodeKey};
 use crate::parts::Parts;
 use crate::points::id_of;
@@ -40,9 +40,7 @@ pub struct Network {
     arcs: Vec<Arc>,
     links: Vec<Arc>,
     timetable: Timetable,
-    modes: Vec<Option<u8>>,
-    arc_offsets: Vec<u32>,
-    link_offsets: Vec<u32>,
+    rows: Vec<NodeRow>,
     linked: Vec<bool>,
     grid: Grid,
 }
@@ -88,13 +86,7 @@ impl Network {
             trips,
         } = parts;
         let timetable = timetable(alloc, &days, stops.len() as u32, trips, caps)?;
-        let Tables {
-            modes,
-            arc_offsets,
-            link_offsets,
-            linked,
-            grid,
-        } = Tables::build(alloc, nodes, &roads, &arcs, &links)?;
+        let Tables { rows, linked, grid } = Tables::build(alloc, nodes, &roads, &arcs, &links)?;
         Ok(Network {
             days,
             roads,
@@ -104,9 +96,7 @@ impl Network {
             arcs,
             links,
             timetable,
-            modes,
-            arc_offsets,
-            link_offsets,
+            rows,
             linked,
             grid,
         })
@@ -146,7 +136,7 @@ impl Network {
     pub fn mode(&self, v: u32) -> Option<u8>
         ensures { result ≡ mode_at self.now.roads v }
     {
-        *self.modes.get(v as usize)?
+        self.rows.get(v as usize)?.mode
     }
 
     /// The name of this stop.
@@ -192,10 +182,7 @@ impl Network {
         ensures range { result ≡ range_from self.now.arcs v }
         ensures within { IsRange result self.now.arcs }
     {
-        (
-            self.arc_offsets[v as usize],
-            self.arc_offsets[v as usize + 1],
-        )
+        (self.rows[v as usize].arcs, self.rows[v as usize + 1].arcs)
     }
 
     /// The links, ascending by (from, to).
@@ -212,10 +199,7 @@ impl Network {
         ensures range { result ≡ range_from self.now.links v }
         ensures within { IsRange result self.now.links }
     {
-        (
-            self.link_offsets[v as usize],
-            self.link_offsets[v as usize + 1],
-        )
+        (self.rows[v as usize].links, self.rows[v as usize + 1].links)
     }
 
     /// The timetable of the network's trips.

@@ -2,25 +2,18 @@
 
 ghost use Rattle.std.specs.Prelude.{◌≡◌, ◌<◌, ◌^◌, length, not, option_map, true};
 ghost use Rattle.std.specs.List.{position};
-ghost use Rattle.mode_network.specs.NetworkLists.{mode_at, nodes_of};
+ghost use Rattle.mode_network.specs.NetworkLists.{nodes_of};
 ghost use Rattle.mode_network.specs.Rules.{joins_modes, joins_layers, row_fault, unsorted_fault, count_fault, lists_fault, arcs_fault, links_fault, AreNamed, AreNames, HaveDurations};
 ghost use Rattle.plain_texts.specs.Names.{is_name};
 
 use crate::faults::NetFault;
-use crate::indexes::mode_of;
+use crate::indexes::mode_at;
 use crate::nodes::{Arc, Node};
 use crate::order::first_unsorted;
 use crate::parts::Parts;
 use plain_texts::Name;
 use plan_base::{Caps, Kind};
 use timetable_arcs::Trip;
-
-/// The mode of the road node of this number, if it is one.
-pub(crate) fn mode_at(roads: &[Node], v: u32) -> Option<u8>
-    ensures { result ≡ mode_at roads.now v }
-{
-    mode_of(roads.get(v as usize)?.key)
-}
 
 fn joins_modes(roads: &[Node], arc: &Arc) -> bool
     ensures { result ≡ joins_modes roads.now arc.now }

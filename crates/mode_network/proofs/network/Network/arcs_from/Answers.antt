@@ -1,11 +1,19 @@
-use Rattle.std.proofs.Common.{◌<◌, length, subst, sym}
+use Rattle.std.proofs.Common.{◌≡◌, ◌<◌, ℕ, length, refl, subst, sym}
+use Rattle.mode_network.specs.declared.indexes.NodeRow.{NodeRow}
 use Rattle.mode_network.specs.NetworkLists.{NetworkLists, nodes_of}
-use Rattle.mode_network.specs.Indexes.{IsRange}
-use Rattle.mode_network.proofs.IndexLemmas.{read_range}
+use Rattle.mode_network.specs.Indexes.{IsRange, range_from}
+use Rattle.mode_network.proofs.IndexLemmas.{range_read, range_is_range}
 use Rattle.mode_network.proofs.network.Network.arcs_from.Goals as goal
+
+pub returns-clause-range : goal.returns-clause-range
+returns-clause-range c =
+    let inside = subst (λ (n : NetworkLists). c.args.v < length (nodes_of n)) (sym c.self.view_is) c.requires in
+    subst (λ (n : NetworkLists). (c.index.result.now.arcs, c.index-2.result.now.arcs) ≡ range_from n.arcs c.args.v) c.self.view_is
+    (range_read _ _ _ _ _ c.self.invariant.indexes.rows (λ (row : NodeRow). row.arcs) c.self.inside.arcs.items (λ w. refl) c.args.v inside _ _ c.index.ensures c.index-2.ensures)
 
 pub returns-clause-within : goal.returns-clause-within
 returns-clause-within c =
     let inside = subst (λ (n : NetworkLists). c.args.v < length (nodes_of n)) (sym c.self.view_is) c.requires in
-    subst (λ (n : NetworkLists). IsRange (c.index.result.now, c.index-2.result.now) n.arcs) c.self.view_is
-    (read_range _ _ _ c.self.invariant.indexes.arcs c.args.v inside _ _ c.index.ensures c.index-2.ensures)
+    let range = range_read _ _ _ _ _ c.self.invariant.indexes.rows (λ (row : NodeRow). row.arcs) c.self.inside.arcs.items (λ w. refl) c.args.v inside _ _ c.index.ensures c.index-2.ensures in
+    subst (λ (n : NetworkLists). IsRange (c.index.result.now.arcs, c.index-2.result.now.arcs) n.arcs) c.self.view_is
+    (subst (λ (r : ℕ × ℕ). IsRange r c.self.inside.arcs.items) (sym range) (range_is_range c.self.inside.arcs.items c.args.v))

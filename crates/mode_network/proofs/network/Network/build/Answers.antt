@@ -73,11 +73,9 @@ invariant_of-result c =
     record {
       rules = subst (λ trips. IsNetwork (record (shown c.parts.inside) { trips = trips })) (sym c.in_ok-timetable.ensures.trips) network;
       timetable = subst (λ trips. IsTimetableOf (record (shown c.parts.inside) { trips = trips }) c.in_ok-timetable.timetable) (sym c.in_ok-timetable.ensures.trips) table;
-      modes = rw (← c.deref.ensures.value) c.in_ok-modes.ensures.modes;
       indexes = record {
-        arcs = rw (← count, ← c.deref-2.ensures.value) c.in_ok-modes.ensures.arcs;
-        links = rw (← count, ← c.deref-3.ensures.value) c.in_ok-modes.ensures.links;
-        ends = rw (← count, ← c.deref-3.ensures.value) c.in_ok-modes.ensures.ends;
+        rows = rw (← count, ← c.deref.ensures.value, ← c.deref-2.ensures.value, ← c.deref-3.ensures.value) c.in_ok-rows.ensures.rows;
+        ends = rw (← count, ← c.deref-3.ensures.value) c.in_ok-rows.ensures.ends;
       };
-      grid = rw (← c.deref.ensures.value) c.in_ok-modes.ensures.grid;
+      grid = rw (← c.deref.ensures.value) c.in_ok-rows.ensures.grid;
     }
