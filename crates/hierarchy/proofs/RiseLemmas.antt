@@ -7,11 +7,13 @@ use Rattle.std.proofs.lemmas.List.{length_push, get_or_push, get_or_append_left,
 use Rattle.std.proofs.lemmas.List.Elements.{All-nil, All-cons, All-weaker}
 use Rattle.hierarchy.specs.declared.entry.Entry.{Entry}
 use Rattle.hierarchy.specs.declared.rises.Rise.{Rise}
+use Rattle.hierarchy.specs.declared.tables.NodeRow.{NodeRow}
 use Rattle.hierarchy.specs.Lists.{HierarchyLists}
 use Rattle.hierarchy.specs.Lookups.{count_below, range_of, from_of}
 use Rattle.hierarchy.specs.Indexes.{AreEndsBelow, AreOffsets}
 use Rattle.hierarchy.specs.Rises.{AreRisesUpTo, AreRiseTables, IsRiseRange, IsRiseOf, is_rise, rise_at, rise_from, rises_among, all_rises}
-use Rattle.hierarchy.proofs.OffsetLemmas.{count_rises, count_most, count_all, key_in_range, in_range_of_key}
+use Rattle.hierarchy.specs.Tables.{rise_offsets_of}
+use Rattle.hierarchy.proofs.OffsetLemmas.{read_range, count_rises, count_most, count_all, key_in_range, in_range_of_key}
 
 module _ (order : List ℕ) (entries : List Entry) where
   pub rises_none : AreRisesUpTo order entries 0 []
@@ -159,19 +161,17 @@ module _ (h : HierarchyLists) (rises : List Rise) (are : AreRisesUpTo h.order h.
 pub are_rise_tables : (h : HierarchyLists) (nodes : ℕ) (offsets : List ℕ) (rises : List Rise) → AreRisesUpTo h.order h.entries (length h.entries) rises
     → rises ≡ all_rises h → AreOffsets rise_from nodes rises offsets → AreRiseTables h nodes offsets rises
 are_rise_tables h nodes offsets rises are list counts = record {
-  one_more = counts.one_more;
   all = list;
-  counts = counts.counts;
+  counts = counts;
   ranges = λ u d lt. rises_from h rises are u (get_or offsets u d) (get_or offsets (u + 1) d) (counts.counts u d (omega arith)) (counts.counts (u + 1) d (omega arith));
 }
 
--- two offsets of the tables tell where the rises of a node stand
-pub range_found : (h : HierarchyLists) (nodes : ℕ) (offsets : List ℕ) (rises : List Rise) → AreRiseTables h nodes offsets rises → (u : ℕ) → u < nodes → (low high : ℕ)
-    → low ≡ get_or offsets u low → high ≡ get_or offsets (u + 1) high → (low, high) ≡ range_of rise_from (all_rises h) u
-range_found h nodes offsets rises tables u lt low high first end =
-    let a = first ∙ tables.counts u low (omega arith) ∙ ap (λ rs. count_below rise_from rs u) tables.all in
-    let b = end ∙ tables.counts (u + 1) high (omega arith) ∙ ap (λ rs. count_below rise_from rs (u + 1)) tables.all in
-    ap (λ n. (n, high)) a ∙ ap (λ n. (count_below rise_from (all_rises h) u, n)) b
+-- two rows of the table tell where the rises of a node stand
+pub range_found : (h : HierarchyLists) (nodes : ℕ) (table : List NodeRow) (rises : List Rise) → AreRiseTables h nodes (rise_offsets_of table) rises → (u : ℕ) → u < nodes
+    → (first end : NodeRow) → first ≡ get_or table u first → end ≡ get_or table (u + 1) end → (first.rises, end.rises) ≡ range_of rise_from (all_rises h) u
+range_found h nodes table rises tables u lt first end at_first at_end =
+    read_range rise_from (λ (row : NodeRow). row.rises) nodes rises table tables.counts u lt first end at_first at_end
+    ∙ ap (λ rs. range_of rise_from rs u) tables.all
 
 -- rises begin where entries do
 among_below : (order : List ℕ) (entries : List Entry) (k v : ℕ) → All (λ (e : Entry). e.from < v) entries → All (λ (r : Rise). r.from < v) (rises_among order k entries)

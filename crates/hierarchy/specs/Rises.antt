@@ -4,7 +4,8 @@ use Rattle.std.specs.List.Sorted.{IsNonDecreasingBy}
 use Rattle.hierarchy.specs.declared.entry.Entry.{Entry}
 use Rattle.hierarchy.specs.declared.rises.Rise.{Rise}
 use Rattle.hierarchy.specs.Lists.{HierarchyLists, height_in, is_above}
-use Rattle.hierarchy.specs.Lookups.{count_below, range_of}
+use Rattle.hierarchy.specs.Lookups.{range_of}
+use Rattle.hierarchy.specs.Indexes.{AreOffsets}
 
 abbrev pub is_core : List ℕ → ℕ → Bool
 is_core order v = height_in order v == length order
@@ -64,7 +65,6 @@ pub record IsRiseRange (h : HierarchyLists) (u : ℕ) (rises : List Rise) (low h
   pub are : AreRisesFrom h u (slice_range rises low high)
 
 pub record AreRiseTables (h : HierarchyLists) (nodes : ℕ) (offsets : List ℕ) (rises : List Rise) : Type 0 where
-  pub one_more : length offsets ≡ nodes + 1
   pub all : rises ≡ all_rises h
-  pub counts : (v d : ℕ) → v ≤ nodes → slice_index_or offsets v d ≡ count_below rise_from rises v
+  pub counts : AreOffsets rise_from nodes rises offsets
   pub ranges : (u d : ℕ) → u < nodes → IsRiseRange h u rises (slice_index_or offsets u d) (slice_index_or offsets (u + 1) d)

@@ -9,7 +9,7 @@ ghost use Rattle.hierarchy.specs.Lookups.{IsEntryFor, HasNoEntry, IsWitnessFor, 
 use crate::entry::{Entry, Witness};
 use crate::lookup::{entry_between, witness_between};
 use crate::rises::Rise;
-use crate::tables::Tables;
+use crate::tables::{NodeRow, Tables};
 use std::alloc::{AllocError, Global};
 use std::marker::Model;
 
@@ -21,10 +21,9 @@ pub struct Hierarchy {
     witnesses: Vec<Witness>,
     nodes: u32,
     heights: Vec<u64>,
-    from_offsets: Vec<u64>,
+    rows: Vec<NodeRow>,
     into_offsets: Vec<u64>,
     into: Vec<u64>,
-    rise_offsets: Vec<u64>,
     rises: Vec<Rise>,
 }
 
@@ -59,10 +58,9 @@ impl Hierarchy {
             witnesses,
             nodes: tables.nodes,
             heights: tables.heights,
-            from_offsets: tables.from_offsets,
+            rows: tables.rows,
             into_offsets: tables.into_offsets,
             into: tables.into,
-            rise_offsets: tables.rise_offsets,
             rises: tables.rises,
         })
     }
@@ -137,8 +135,8 @@ impl Hierarchy {
     {
         if u < self.nodes {
             (
-                self.from_offsets[u as usize],
-                self.from_offsets[u as usize + 1],
+                self.rows[u as usize].entries,
+                self.rows[u as usize + 1].entries,
             )
         } else {
             let count = self.entries.len() as u64;
@@ -174,10 +172,7 @@ impl Hierarchy {
         ensures are { IsRiseRange self.now u (all_rises self.now) result.0 result.1 }
     {
         if u < self.nodes {
-            (
-                self.rise_offsets[u as usize],
-                self.rise_offsets[u as usize + 1],
-            )
+            (self.rows[u as usize].rises, self.rows[u as usize + 1].rises)
         } else {
             let count = self.rises.len() as u64;
             (count, count)

@@ -1,6 +1,6 @@
 use Rattle.hierarchy.proofs.LookupLemmas.{from_rises}
 use Rattle.hierarchy.specs.Lists.{HierarchyLists}
-use Rattle.hierarchy.specs.Tables.{AreTablesOf}
+use Rattle.hierarchy.specs.Tables.{AreTablesOf, rise_offsets_of}
 use Rattle.hierarchy.proofs.RiseLemmas.{are_rise_tables}
 use Rattle.hierarchy.proofs.hierarchy.Hierarchy.new.Goals as goal
 
@@ -18,5 +18,5 @@ invariant_of-result c =
       heights = tables.heights;
       from = tables.from;
       into = tables.into;
-      rises = are_rise_tables lists of.nodes of.rise_offsets.items of.rises.items tables.rises tables.rises_in_order tables.rise_offsets;
+      rises = are_rise_tables lists of.nodes (rise_offsets_of of.rows.items) of.rises.items tables.rises tables.rises_in_order tables.rise_offsets;
     }

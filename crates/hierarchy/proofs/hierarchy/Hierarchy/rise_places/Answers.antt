@@ -9,14 +9,14 @@ use Rattle.hierarchy.proofs.hierarchy.Hierarchy.rise_places.Goals as goal
 
 pub returns-then-u-self-clause-range : goal.returns-then-u-self-clause-range
 returns-then-u-self-clause-range c =
-    subst (λ (h : HierarchyLists). (c.index.result.now, c.index-then-u-self.result.now) ≡ range_of rise_from (all_rises h) c.args.u) c.self.view_is
-    (range_found (lists_of c.self.inside) c.self.inside.nodes c.self.inside.rise_offsets.items c.self.inside.rises.items c.self.invariant.rises c.args.u c.if-u-self.true c.index.result.now c.index-then-u-self.result.now c.index.ensures c.index-then-u-self.ensures)
+    subst (λ (h : HierarchyLists). (c.index.result.now.rises, c.index-then-u-self.result.now.rises) ≡ range_of rise_from (all_rises h) c.args.u) c.self.view_is
+    (range_found (lists_of c.self.inside) c.self.inside.nodes c.self.inside.rows.items c.self.inside.rises.items c.self.invariant.rises c.args.u c.if-u-self.true c.index.result.now c.index-then-u-self.result.now c.index.ensures c.index-then-u-self.ensures)
 
 pub returns-then-u-self-clause-are : goal.returns-then-u-self-clause-are
 returns-then-u-self-clause-are c =
-    subst (λ (h : HierarchyLists). IsRiseRange h c.args.u (all_rises h) c.index.result.now c.index-then-u-self.result.now) c.self.view_is
-    (is_rise_range (lists_of c.self.inside) c.self.invariant.rules c.args.u (c.index.result.now, c.index-then-u-self.result.now)
-    (range_found (lists_of c.self.inside) c.self.inside.nodes c.self.inside.rise_offsets.items c.self.inside.rises.items c.self.invariant.rises c.args.u c.if-u-self.true c.index.result.now c.index-then-u-self.result.now c.index.ensures c.index-then-u-self.ensures))
+    subst (λ (h : HierarchyLists). IsRiseRange h c.args.u (all_rises h) c.index.result.now.rises c.index-then-u-self.result.now.rises) c.self.view_is
+    (is_rise_range (lists_of c.self.inside) c.self.invariant.rules c.args.u (c.index.result.now.rises, c.index-then-u-self.result.now.rises)
+    (range_found (lists_of c.self.inside) c.self.inside.nodes c.self.inside.rows.items c.self.inside.rises.items c.self.invariant.rises c.args.u c.if-u-self.true c.index.result.now c.index-then-u-self.result.now c.index.ensures c.index-then-u-self.ensures))
 
 pub returns-else-u-self-clause-range : goal.returns-else-u-self-clause-range
 returns-else-u-self-clause-range c =
