@@ -16,4 +16,4 @@ pub use faults::TableFault;
 pub use plan_base::DaySet;
 pub use rides::{Board, Ride};
 pub use timetable::Timetable;
-pub use trips::{Call, Instance, Trip};
+pub use trips::{Call, Instance, PlacedRun, Trip};

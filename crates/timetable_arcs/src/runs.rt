@@ -1,6 +1,6 @@
 //! When runs are where, and which may share a pattern.
 
-ghost use Rattle.std.specs.Prelude.{◌≡◌, ◌+◌, ◌*◌, ◌^◌, ◌<◌, ◌≤◌, [], nat_le, find, slice_index};
+ghost use Rattle.std.specs.Prelude.{◌≡◌, ◌+◌, ◌*◌, ◌^◌, ◌<◌, ◌≤◌, [], nat_le, find, slice_get, slice_index};
 ghost use Rattle.std.specs.List.Sorted.{IsNonDecreasingBy};
 ghost use Rattle.std.specs.Bool.{OnTrue};
 ghost use Rattle.timetable_arcs.specs.Sorting.{IsFirstFrom};
@@ -167,7 +167,8 @@ fn is_first_from(
     true
 }
 
-/// The first of these runs that departs from a call at this time or later. It is looked for at the hinted place first.
+/// Where the first of these runs stands that departs from a call at this time or later, or their end. It is looked for at the
+/// hinted place first.
 pub(crate) fn first_from(
     bases: &[u64],
     trips: &[Trip],
@@ -175,29 +176,28 @@ pub(crate) fn first_from(
     call: usize,
     time: Time,
     hint: usize,
-) -> Option<Instance>
+) -> usize
     requires { IsNonDecreasingBy (λ run. departs (plain_table bases.now trips.now) run call) runs.now }
-    ensures { result ≡ find (λ run. nat_le time (departs (plain_table bases.now trips.now) run call)) runs.now }
+    ensures { slice_get runs.now result ≡ find (λ run. nat_le time (departs (plain_table bases.now trips.now) run call)) runs.now }
 {
     if is_first_from(bases, trips, runs, call, time, hint) {
-        return runs.get(hint).copied();
+        return hint;
     }
     first_by_halves(bases, trips, runs, call, time)
 }
 
-/// The first of these runs that departs from a call at this time or later.
+/// Where the first of these runs stands that departs from a call at this time or later, or their end.
 fn first_by_halves(
     bases: &[u64],
     trips: &[Trip],
     runs: &[Instance],
     call: usize,
     time: Time,
-) -> Option<Instance>
+) -> usize
     requires { IsNonDecreasingBy (λ run. departs (plain_table bases.now trips.now) run call) runs.now }
-    ensures { result ≡ find (λ run. nat_le time (departs (plain_table bases.now trips.now) run call)) runs.now }
+    ensures { slice_get runs.now result ≡ find (λ run. nat_le time (departs (plain_table bases.now trips.now) run call)) runs.now }
 {
-    let place = runs.partition_point(|run| departs(bases, trips, *run, call) < time);
-    runs.get(place).copied()
+    runs.partition_point(|run| departs(bases, trips, *run, call) < time)
 }
 
 /// The last of these runs that arrives at a call at this time or earlier.

@@ -1,9 +1,9 @@
 //! The timetable: trips, the patterns of their runs, and what finds a run or a ride.
 
-ghost use Rattle.std.specs.Prelude.{◌≡◌, ◌<◌, ◌≤◌, ◌+◌, ◌^◌, ℕ, [], min, Some, None, length, All, sum_by, IfOk, OnOk, IfErr, slice_get, slice_index, slice_index_or};
+ghost use Rattle.std.specs.Prelude.{◌≡◌, ◌<◌, ◌≤◌, ◌+◌, ◌^◌, ℕ, [], min, Some, None, length, All, sum_by, IfOk, OnOk, IfErr, IfSome, option_map, slice_get, slice_index, slice_index_or};
 ghost use Rattle.timetable_arcs.specs.declared.trips.Instance.{Instance};
 ghost use Rattle.timetable_arcs.specs.TripRules.{IsFaultOf, table_fault};
-ghost use Rattle.timetable_arcs.specs.Patterns.{plain_table, trip_at, pattern_trip, no_run, next_run, last_run, arrives, departs};
+ghost use Rattle.timetable_arcs.specs.Patterns.{plain_table, runs_of, trip_at, pattern_trip, no_run, next_run, last_run, arrives, departs};
 ghost use Rattle.timetable_arcs.specs.Runs.{IsNextRun, IsLastRun};
 ghost use Rattle.timetable_arcs.specs.Sorting.{IsPattern, sum_all, runs_from};
 ghost use Rattle.timetable_arcs.specs.Rides.{rides_at, boards_at};
@@ -14,7 +14,7 @@ use crate::faults::TableFault;
 use crate::patterns::{Pattern, sort_into_patterns};
 use crate::rides::{Board, Ride};
 use crate::runs::{arrives, calls_of, departs, first_from, last_by, start_for};
-use crate::trips::{Call, Instance, Trip};
+use crate::trips::{Call, Instance, PlacedRun, Trip};
 use crate::{boards, rules};
 use plan_base::{Caps, Time};
 use std::alloc::{AllocError, Global};
@@ -131,9 +131,22 @@ impl Timetable {
         ensures is { result ≡ next_run self.now p call t }
         ensures first { IsNextRun self.now p call t result }
     {
+        self.known();
+        Some(self.next_placed(p, call, t)?.run)
+    }
+
+    /// The same run with its place among those of the pattern, where those before it stand that arrive no later at any call.
+    pub fn next_placed(&self, p: u32, call: u32, t: Time) -> Option<PlacedRun>
+        requires pattern { p < length self.now.patterns }
+        requires call { call < length (pattern_trip self.now p).calls }
+        ensures is { option_map (λ next. next.run) result ≡ next_run self.now p call t }
+        ensures place { IfSome result (λ next. slice_get (runs_of self.now p) next.place ≡ Some next.run) }
+    {
         let hint = self.hint(p, call, t);
         let runs = self.patterns[p as usize].runs();
-        first_from(&self.bases, &self.trips, runs, call as usize, t, hint)
+        let place = first_from(&self.bases, &self.trips, runs, call as usize, t, hint);
+        let run = *runs.get(place)?;
+        Some(PlacedRun { place, run })
     }
 
     /// Where the next run stands, if all runs of the pattern take as long as the first.

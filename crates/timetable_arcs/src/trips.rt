@@ -41,3 +41,10 @@ pub struct Instance {
     pub trip: u32,
     pub day: u32,
 }
+
+/// A run of a pattern, and its place among the runs of the pattern.
+#[derive(Clone, Copy)]
+pub struct PlacedRun {
+    pub place: usize,
+    pub run: Instance,
+}

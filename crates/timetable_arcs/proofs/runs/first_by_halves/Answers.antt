@@ -1,8 +1,5 @@
-use Rattle.std.proofs.Common.{◌≡◌, ◌∙◌, rules, of_calls, arith, nat_lt}
-use Rattle.std.specs.Prelude.{slice_get}
+use Rattle.std.proofs.Common.{rules, of_calls, nat_lt}
 use Rattle.std.proofs.lemmas.Fn.{always_returns_same}
-use Rattle.std.proofs.lemmas.Grind.{common_steps}
-use Rattle.std.proofs.lemmas.Option.{gets}
 use Rattle.std.proofs.lemmas.List.Sorted.{IsPartitionedBy-ltb}
 use Rattle.timetable_arcs.specs.declared.trips.Instance.{Instance}
 use Rattle.timetable_arcs.specs.Patterns.{plain_table, departs}
@@ -11,7 +8,6 @@ use Rattle.timetable_arcs.proofs.runs.first_by_halves.Goals as goal
 
 pub returns : goal.returns
 returns c =
-    let got : c.copied.result ≡ slice_get c.args.runs.now c.partition_point-place.result = grind (arith, common_steps, gets) in
-    got ∙ found_from (λ (run : Instance). departs (plain_table c.args.bases.now c.args.trips.now) run c.args.call) c.args.time c.args.runs.now c.partition_point-place.result c.partition_point-place.ensures.bound
-    (c.partition_point-place.ensures.partitioned (λ (run : Instance). nat_lt (departs (plain_table c.args.bases.now c.args.trips.now) run c.args.call) c.args.time) (always_returns_same _ _ _ (λ a r f k. search (rules, of_calls)))
+    found_from (λ (run : Instance). departs (plain_table c.args.bases.now c.args.trips.now) run c.args.call) c.args.time c.args.runs.now c.partition_point.result c.partition_point.ensures.bound
+    (c.partition_point.ensures.partitioned (λ (run : Instance). nat_lt (departs (plain_table c.args.bases.now c.args.trips.now) run c.args.call) c.args.time) (always_returns_same _ _ _ (λ a r f k. search (rules, of_calls)))
     (IsPartitionedBy-ltb (λ (run : Instance). departs (plain_table c.args.bases.now c.args.trips.now) run c.args.call) c.args.runs.now c.args.time c.requires))

@@ -1,7 +1,3 @@
-use Rattle.std.proofs.Common.{◌≡◌, ◌∙◌, arith}
-use Rattle.std.specs.Prelude.{slice_get}
-use Rattle.std.proofs.lemmas.Grind.{common_steps}
-use Rattle.std.proofs.lemmas.Option.{gets}
 use Rattle.timetable_arcs.specs.declared.trips.Instance.{Instance}
 use Rattle.timetable_arcs.specs.Patterns.{plain_table, departs}
 use Rattle.timetable_arcs.proofs.RunLemmas.{found_at_hint}
@@ -9,6 +5,5 @@ use Rattle.timetable_arcs.proofs.runs.first_from.Goals as goal
 
 pub returns-then-is_first_from : goal.returns-then-is_first_from
 returns-then-is_first_from c =
-    let got : c.copied.result ≡ slice_get c.args.runs.now c.args.hint = grind (arith, common_steps, gets) in
-    got ∙ found_at_hint (λ (run : Instance). departs (plain_table c.args.bases.now c.args.trips.now) run c.args.call) c.args.time c.args.runs.now c.args.hint c.requires
+    found_at_hint (λ (run : Instance). departs (plain_table c.args.bases.now c.args.trips.now) run c.args.call) c.args.time c.args.runs.now c.args.hint c.requires
     c.if-is_first_from.ensures
