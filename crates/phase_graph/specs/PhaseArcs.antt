@@ -119,9 +119,9 @@ before_descent arc = record { to = phase_node arc.to false; letter = arc.letter 
 abbrev pub renumbered : ℕ → ℕ → Way → Way
 renumbered first now way = record { place = way.place - first + now; arc = before_descent way.arc; at = way.at }
 
--- the rides of a trip on a day, which lead to nodes before the descent
+-- the rides of a run of a pattern, which lead to nodes before the descent
 abbrev pub phase_rides : NetworkLists → TableLists → RunRides
-phase_rides n t trip day call = map (renumbered 0 0) (plain_rides n t trip day call)
+phase_rides n t p place call = map (renumbered 0 0) (plain_rides n t p place call)
 
 -- the way may be numbered so: its place is not before the first, nor so far behind that a number runs over
 pub record FitsAnew (first : ℕ) (way : Way) : Type 0 where

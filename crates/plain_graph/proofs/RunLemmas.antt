@@ -1,18 +1,18 @@
 -- The run that a ride takes is one of the timetable.
 use Rattle.std.proofs.Common.{◌≡◌, ℕ, ◌<◌, ◌≤◌, ◌^◌, ◌%◌, length, Bool, true, false, nat_lt, Some, refl, ap, subst, arith, lit<}
-use Rattle.std.specs.Prelude.{All}
+use Rattle.std.specs.Prelude.{All, slice_get}
 use Rattle.std.specs.Int.{bit_at}
 use Rattle.std.proofs.Math.Nat.{div-eq_of_lt, pow-le-pow_right}
 use Rattle.std.proofs.lemmas.Bool.{ltb-true, ltb-false}
 use Rattle.std.proofs.lemmas.List.Elements.{All-from_get_or}
-use Rattle.std.proofs.lemmas.Option.{slice_get_within}
+use Rattle.std.proofs.lemmas.Option.{slice_get_within, get_or_from_slice_get}
 use Rattle.plan_base.specs.declared.days.DaySet.{DaySet}
 use Rattle.plan_base.specs.DaySets.{contains_day}
 use Rattle.timetable_arcs.specs.declared.trips.Call.{Call}
 use Rattle.timetable_arcs.specs.declared.trips.Instance.{Instance}
 use Rattle.timetable_arcs.specs.declared.rides.Board.{Board}
 use Rattle.timetable_arcs.specs.declared.rides.Ride.{Ride}
-use Rattle.timetable_arcs.specs.Patterns.{TableLists, IsIn, AreAlike, trip_at, pattern_trip, no_call}
+use Rattle.timetable_arcs.specs.Patterns.{TableLists, IsIn, AreAlike, trip_at, runs_of, pattern_trip, no_call}
 use Rattle.timetable_arcs.specs.Table.{IsTable}
 use Rattle.timetable_arcs.proofs.RideLemmas.{IsBoardOf}
 use Rattle.timetable_arcs.proofs.TripLemmas.{trip_well, known_stops}
@@ -78,10 +78,11 @@ pub record IsKnownRun (n : NetworkLists) (t : TableLists) (p : ℕ) (run : Insta
   pub few : length (trip_at t run.trip).calls < 2 ^ 32
   pub stops : All (λ call. call.stop < length n.stop_names) (trip_at t run.trip).calls
 
-pub run_known : (n : NetworkLists) → IsNetwork n → (t : TableLists) → IsTable t → IsTimetableOf n t → (board : Board) (run : Instance) → IsBoardOf t board → IsIn t board.pattern run
-    → IsKnownRun n t board.pattern run
-run_known n network t table of board run is is_in =
+pub run_known : (n : NetworkLists) → IsNetwork n → (t : TableLists) → IsTable t → IsTimetableOf n t → (board : Board) (place : ℕ) (run : Instance) → IsBoardOf t board
+    → slice_get (runs_of t board.pattern) place ≡ Some run → IsKnownRun n t board.pattern run
+run_known n network t table of board place run is at =
     let p = board.pattern in
+    let is_in : IsIn t p run = (place, slice_get_within (runs_of t p) place run at, get_or_from_slice_get (runs_of t p) place run run at) in
     let there = is_there t table (record { pattern = p; board = 0; alight = board.call }) run is_in is.call in
     let alike = table.patterns.alike p run is_in in
     let short = pattern_short t table p in

@@ -1,5 +1,5 @@
 -- The arcs out of a stop that can be taken at a time, board by board.
-use Rattle.std.specs.Prelude.{ℕ, ◌+◌, ◌*◌, List, [], ◌∷◌, Option, Some, None, drop, slice_index, if◌then◌else◌}
+use Rattle.std.specs.Prelude.{ℕ, ◌+◌, ◌*◌, List, [], ◌∷◌, Option, Some, None, drop, slice_index, slice_index_or, if◌then◌else◌}
 use Rattle.std.specs.List.{flat_map}
 use Rattle.search_laws.specs.Fresh.{RunRides}
 use Rattle.search_laws.specs.Ways.{is_open}
@@ -7,7 +7,7 @@ use Rattle.search_laws.specs.declared.graph.Way.{Way}
 use Rattle.timetable_arcs.specs.declared.trips.Call.{Call}
 use Rattle.timetable_arcs.specs.declared.trips.Instance.{Instance}
 use Rattle.timetable_arcs.specs.declared.rides.Board.{Board}
-use Rattle.timetable_arcs.specs.Patterns.{TableLists, trip_at, pattern_trip, next_run, arrives}
+use Rattle.timetable_arcs.specs.Patterns.{TableLists, trip_at, runs_of, pattern_trip, no_run, next_run, arrives}
 use Rattle.timetable_arcs.specs.Rides.{alights}
 use Rattle.mode_network.specs.NetworkLists.{NetworkLists, stop_node}
 use Rattle.plain_graph.specs.PlainArcs.{pattern_call}
@@ -62,6 +62,10 @@ call_ways n base letter place (call ∷ calls) =
 abbrev pub day_ways : NetworkLists → TableLists → Board → ℕ → ℕ → List Call → List Way
 day_ways n t board day place calls = call_ways n (slice_index t.bases day) (pattern_trip t board.pattern).letter place (drop (board.call + 1) calls)
 
--- the rides of a trip on a day to each call behind one at which one may alight, wherever they stand
+-- the rides of a run to each call behind one at which one may alight, wherever they stand
+abbrev pub rides_behind : NetworkLists → TableLists → Instance → ℕ → List Way
+rides_behind n t run call = call_ways n (slice_index t.bases run.day) (trip_at t run.trip).letter 0 (drop (call + 1) (trip_at t run.trip).calls)
+
+-- the same by the place of the run in its pattern, which is its line
 abbrev pub plain_rides : NetworkLists → TableLists → RunRides
-plain_rides n t trip day call = call_ways n (slice_index t.bases day) (trip_at t trip).letter 0 (drop (call + 1) (trip_at t trip).calls)
+plain_rides n t p place call = rides_behind n t (slice_index_or (runs_of t p) place no_run) call

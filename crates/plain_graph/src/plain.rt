@@ -12,7 +12,7 @@ ghost use Rattle.plain_graph.specs.Lawful.{IsLawfulGraph-prop};
 use mode_network::{Arc, Network};
 use search_laws::{GivenRun, GivenRuns, Graph, GraphArc, Leg, Steady, Time, Way, is_open};
 use std::alloc::AllocError;
-use timetable_arcs::{Board, Call, Instance, Ride, Timetable};
+use timetable_arcs::{Board, Call, PlacedRun, Ride, Timetable};
 
 /// An arc out of a node of the graph.
 #[derive(Clone, Copy, Debug, PartialEq, Eq)]
@@ -39,14 +39,13 @@ pub struct Plain<'a> {
 }
 
 impl<'a> Plain<'a> {
-    ghost use Rattle.std.specs.Prelude.{◌≡◌, ◌<◌, ◌+◌, ◌^◌, ◌++◌, ◌∷◌, true, [], All, OnOk, IfOk, IfSome, length, Some, option_map, if◌then◌else◌};
-    ghost use Rattle.timetable_arcs.specs.Patterns.{IsIn};
+    ghost use Rattle.std.specs.Prelude.{◌≡◌, ◌<◌, ◌+◌, ◌^◌, ◌++◌, ◌∷◌, true, [], All, OnOk, IfOk, IfSome, length, Some, option_map, slice_get, if◌then◌else◌};
     ghost use Rattle.timetable_arcs.specs.Rides.{boards_at};
     ghost use Rattle.timetable_arcs.proofs.RideLemmas.{IsBoardOf};
     ghost use Rattle.search_laws.specs.Ways.{ways_from};
     ghost use Rattle.search_laws.specs.Fresh.{AddsFresh};
     ghost use Rattle.plain_graph.specs.BoardWays.{call_way, day_ways, run_ways, open_run, board_ways, boards_ways, plain_rides};
-    ghost use Rattle.timetable_arcs.specs.Patterns.{pattern_trip, arrives};
+    ghost use Rattle.timetable_arcs.specs.Patterns.{runs_of, pattern_trip, arrives};
     ghost use Rattle.timetable_arcs.specs.Table.{IsTable};
     ghost use Rattle.plain_graph.specs.Rides.{IsRideOf, IsKnownRide};
     ghost use Rattle.mode_network.specs.NetworkLists.{nodes_of, stop_node, mode_at};
@@ -229,48 +228,48 @@ impl<'a> Plain<'a> {
     }
 
     /// Appends the rides of a run from a board, the first of which is the arc at this place, but for those that the state was
-    /// given, and notes the run.
+    /// given by that run or one before it in the pattern, and notes the run.
     fn push_fresh_run(
         &self,
         board: Board,
-        run: Instance,
+        next: PlacedRun,
         first: u64,
         state: u32,
         given: &mut GivenRuns,
         ways: &mut Vec<Way>,
     ) -> Result<(), AllocError>
         requires board { IsBoardOf self.now.timetable.now board }
-        requires run { IsIn self.now.timetable.now board.pattern run }
+        requires run { slice_get (runs_of self.now.timetable.now board.pattern) next.place ≡ Some next.run }
         requires place { first < 2 ^ 63 + 2 ^ 34 }
         ensures { OnOk result (AddsFresh (plain_rides self.now.network.now self.now.timetable.now) state given.old given.new
-            (run_ways self.now.network.now self.now.timetable.now first board (Some run)) ways.old.items ways.new.items) }
+            (run_ways self.now.network.now self.now.timetable.now first board (Some next.run)) ways.old.items ways.new.items) }
     {
         self.timetable.known();
-        let calls = self.timetable.run_calls(run);
-        let past = match given.call(state, run.trip, run.day) {
+        let calls = self.timetable.run_calls(next.run);
+        let past = match given.call(state, board.pattern, next.place as u64) {
             Some(call) if call <= board.call => return Ok(()),
             Some(call) => calls.len().min(call as usize + 1),
             None => calls.len(),
         };
-        self.push_rides(board, run.day, &calls[..past], first, ways)?;
+        self.push_rides(board, next.run.day, &calls[..past], first, ways)?;
         given.note(GivenRun {
             state,
-            trip: run.trip,
-            day: run.day,
+            line: board.pattern,
+            run: next.place as u64,
             call: board.call,
         })?;
         Ok(())
     }
 
     /// The run that one boards at `t`: the next one, if the letter of its pattern is in the set.
-    fn open_run(&self, board: Board, t: Time, letters: u32) -> Option<Instance>
+    fn open_run(&self, board: Board, t: Time, letters: u32) -> Option<PlacedRun>
         requires { IsBoardOf self.now.timetable.now board }
-        ensures value { result ≡ open_run self.now.timetable.now t letters board }
-        ensures run { IfSome result (λ run. IsIn self.now.timetable.now board.pattern run) }
+        ensures value { option_map (λ next. next.run) result ≡ open_run self.now.timetable.now t letters board }
+        ensures place { IfSome result (λ next. slice_get (runs_of self.now.timetable.now board.pattern) next.place ≡ Some next.run) }
     {
         self.timetable.known();
         if is_open(letters, Some(self.timetable.pattern_letter(board.pattern))) {
-            self.timetable.next(board.pattern, board.call, t)
+            self.timetable.next_placed(board.pattern, board.call, t)
         } else {
             None
         }
@@ -293,8 +292,8 @@ impl<'a> Plain<'a> {
         ensures { OnOk result (AddsFresh (plain_rides self.now.network.now self.now.timetable.now) state given.old given.new
             (board_ways self.now.network.now self.now.timetable.now t letters first board) ways.old.items ways.new.items) }
     {
-        if let Some(run) = self.open_run(board, t, letters) {
-            self.push_fresh_run(board, run, first, state, given, ways)?;
+        if let Some(next) = self.open_run(board, t, letters) {
+            self.push_fresh_run(board, next, first, state, given, ways)?;
         }
         Ok(())
     }

@@ -49,18 +49,18 @@ module _ (rides : RunRides) (state : ℕ) where
   -- some of them, where the state was given as good ones for the others; of a run that is noted they have all rides, or the state was given as good ones
   pub fresh_noted : (old new : GivenRuns) (run : GivenRun) (ways fresh : List Way) → IsNoted old new run → run.state ≡ state → All (Contains ways) fresh
       → ((way : Way) → Contains ways way → IsCovered rides state old fresh way)
-      → ((way : Way) → Contains (rides run.trip run.day run.call) way → IsCovered rides state old fresh way)
+      → ((way : Way) → Contains (rides run.line run.run run.call) way → IsCovered rides state old fresh way)
       → AreFresh rides state old new ways fresh
   fresh_noted old new run ways fresh noted here are rest all = record {
     are = are;
     rest = all_from (IsCovered rides state old fresh) ways rest;
     noted = λ other way was. elim (noted was.run was.known) [
       | inl known ↦ inl (record { run = was.run; known = known; to_state = was.to_state; as_good = was.as_good })
-      | inr same ↦ (let (x, has, good) = subst (λ (r : GivenRun). HasAsGood (rides r.trip r.day r.call) way) same was.as_good in
+      | inr same ↦ (let (x, has, good) = subst (λ (r : GivenRun). HasAsGood (rides r.line r.run r.call) way) same was.as_good in
           let to : other ≡ state = sym was.to_state ∙ ap (λ (r : GivenRun). r.state) same ∙ here in
           elim (all x has) [
             | inl found ↦ inr (to, as_good_through fresh x way found good)
-            | inr before ↦ inl (record { run = before.run; known = before.known; to_state = before.to_state ∙ sym to; as_good = as_good_through (rides before.run.trip before.run.day before.run.call) x way before.as_good good })
+            | inr before ↦ inl (record { run = before.run; known = before.known; to_state = before.to_state ∙ sym to; as_good = as_good_through (rides before.run.line before.run.run before.run.call) x way before.as_good good })
           ])
     ];
   }
@@ -133,14 +133,14 @@ module _ (to : GraphArc → GraphArc) (f h : Way → Way) (by_f : LeadsElsewhere
 -- the rides, and the fresh ways, lead elsewhere
 module _ (to : GraphArc → GraphArc) (f h : Way → Way) (by_f : LeadsElsewhere to f) (by_h : LeadsElsewhere to h) (rides : RunRides) where
   abbrev pub rides_elsewhere : RunRides
-  rides_elsewhere trip day call = map h (rides trip day call)
+  rides_elsewhere line run call = map h (rides line run call)
 
   given_elsewhere : (given : GivenRuns) (state : ℕ) (way : Way) → WasGiven rides given state way → WasGiven rides_elsewhere given state (f way)
   given_elsewhere given state way was = record {
     run = was.run;
     known = was.known;
     to_state = was.to_state;
-    as_good = as_good_elsewhere to h f by_h by_f (rides was.run.trip was.run.day was.run.call) way was.as_good;
+    as_good = as_good_elsewhere to h f by_h by_f (rides was.run.line was.run.run was.run.call) way was.as_good;
   }
 
   pub fresh_elsewhere : (state : ℕ) (old new : GivenRuns) (ways fresh : List Way) → AreFresh rides state old new ways fresh → AreFresh rides_elsewhere state old new (map f ways) (map f fresh)
@@ -153,15 +153,15 @@ module _ (to : GraphArc → GraphArc) (f h : Way → Way) (by_f : LeadsElsewhere
         ]));
     noted = λ other way was.
         let (y, has, good) = was.as_good in
-        let (x, there, same) = mapped_from h (rides was.run.trip was.run.day was.run.call) y has in
+        let (x, there, same) = mapped_from h (rides was.run.line was.run.run was.run.call) y has in
         let good_x : IsAsGood (h x) way = subst (λ (z : Way). IsAsGood z way) (sym same) good in
-        elim (are.noted other x (record { run = was.run; known = was.known; to_state = was.to_state; as_good = as_good_itself (rides was.run.trip was.run.day was.run.call) x there })) [
+        elim (are.noted other x (record { run = was.run; known = was.known; to_state = was.to_state; as_good = as_good_itself (rides was.run.line was.run.run was.run.call) x there })) [
           | inl before ↦ inl (record {
             run = before.run;
             known = before.known;
             to_state = before.to_state;
-            as_good = as_good_through (rides_elsewhere before.run.trip before.run.day before.run.call) (h x) way
-                (as_good_elsewhere to h h by_h by_h (rides before.run.trip before.run.day before.run.call) x before.as_good) good_x;
+            as_good = as_good_through (rides_elsewhere before.run.line before.run.run before.run.call) (h x) way
+                (as_good_elsewhere to h h by_h by_h (rides before.run.line before.run.run before.run.call) x before.as_good) good_x;
           })
           | inr found ↦ inr (found.0, as_good_through (map f fresh) (h x) way (as_good_elsewhere to f h by_f by_h fresh x found.1) good_x)
         ];

@@ -9,6 +9,12 @@ use Rattle.search_laws.specs.declared.given.GivenRuns.{GivenRuns}
 abbrev pub Knows : GivenRuns → GivenRun → Type 0
 Knows given run = Contains given.cells.items (Some run)
 
+-- rides to the calls behind this one were given to the state, by this run of the line or one before it
+pub record KnowsBy (given : GivenRuns) (state line run call : ℕ) : Type 0 where
+  pub place : ℕ
+  pub no_later : place ≤ run
+  pub known : Knows given (record { state = state; line = line; run = place; call = call })
+
 -- nothing is known now but what was, and this run
 abbrev pub IsNoted : GivenRuns → GivenRuns → GivenRun → Type 0
 IsNoted old new run = (other : GivenRun) → Knows new other → Knows old other ⊎ (other ≡ run)
@@ -23,7 +29,7 @@ pub record IsAsGood (x way : Way) : Type 0 where
 abbrev pub HasAsGood : List Way → Way → Type 0
 HasAsGood ways way = (x : Way) × Contains ways x × IsAsGood x way
 
--- the rides of a trip on a day to the calls behind one
+-- the rides of a run of a line to the calls behind one
 abbrev pub RunRides : Type 0
 RunRides = ℕ → ℕ → ℕ → List Way
 
@@ -32,7 +38,7 @@ pub record WasGiven (rides : RunRides) (given : GivenRuns) (state : ℕ) (way : 
   pub run : GivenRun
   pub known : Knows given run
   pub to_state : run.state ≡ state
-  pub as_good : HasAsGood (rides run.trip run.day run.call) way
+  pub as_good : HasAsGood (rides run.line run.run run.call) way
 
 -- one of these is as good, or one that the state was given
 abbrev pub IsCovered : RunRides → ℕ → GivenRuns → List Way → Way → Type 0

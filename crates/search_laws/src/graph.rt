@@ -123,7 +123,7 @@ pub trait Graph {
         ensures some { IfSome result (IsLeg (meaning self.now) v i) }
         ensures none { IfNone result (steady.count ≤ i) };
 
-    /// The rides of a trip on a day to the calls behind one, wherever they stand. A graph may have none.
+    /// The rides of a run of a line to the calls behind one, wherever they stand. A graph may have no lines.
     ghost rides: { Self → RunRides } = { λ _ _ _ _. [] };
 
     /// Appends the arcs of `v` but its steady ones that arrive if they are taken at `t`, by a letter of the set or by none, in

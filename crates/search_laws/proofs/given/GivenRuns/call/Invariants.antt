@@ -1,0 +1,6 @@
+use Rattle.std.specs.Prelude.{IfSome}
+use Rattle.search_laws.specs.Fresh.{KnowsBy}
+use Rattle.search_laws.proofs.given.GivenRuns.call.Given as goal
+
+abbrev pub invariant-loop-i : goal.invariant-loop-i
+invariant-loop-i l = IfSome l.least (KnowsBy l.self l.state l.line l.run)
