@@ -10,7 +10,10 @@ use Rattle.mode_network.specs.NetworkLists.{NetworkLists}
 use Rattle.mode_network.specs.Rules.{IsNetwork}
 use Rattle.region_file.specs.declared.fault.RegionFault.{RegionFault}
 use Rattle.region_file.specs.Regions.{region_of}
+use Rattle.journey.specs.declared.verdict.CertFault.{CertFault}
 use Rattle.journey.specs.declared.verdict.CertFault.TheVariants.{BadLine}
+use Rattle.journey.specs.declared.verdict.CertFault.TheVariants as cert_fault
+use Rattle.journey.specs.declared.verdict.CertVerdict.{CertVerdict}
 use Rattle.journey.specs.declared.verdict.CertVerdict.TheVariants as verdict
 use Rattle.certificate.specs.Certificates.{Claim}
 use Rattle.certificate.specs.Texts.{IsCertText}
@@ -56,6 +59,15 @@ IsUnverified n bytes (BadCertificate line) = cert_of bytes ≡ Err (BadLine line
 IsUnverified n bytes (Invalid clause at) = (claim : Claim) × IsCertText bytes claim × IsCertVerdict n None claim (verdict.Invalid clause at)
 IsUnverified n bytes OutOfMemory = Unit {0}
 IsUnverified n bytes _ = ⊥
+
+-- the bytes spell a certificate, and this is the verdict on it
+abbrev pub IsVerdictOn : NetworkLists → List ℕ → CertVerdict → Type 0
+IsVerdictOn n bytes verdict = (claim : Claim) × IsCertText bytes claim × IsCertVerdict n None claim verdict
+
+-- why there is no verdict on bytes: this line is the first that may not stand where it does in a certificate
+abbrev pub IsUnjudged : List ℕ → CertFault → Type 0
+IsUnjudged bytes (BadLine line) = cert_of bytes ≡ Err (BadLine line)
+IsUnjudged bytes cert_fault.OutOfMemory = Unit {0}
 
 -- how a run ends where the keeper refuses a call
 abbrev pub outcome_of_keeper : KeepCause → BookOutcome

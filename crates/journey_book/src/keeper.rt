@@ -7,7 +7,7 @@ ghost use Rattle.journey_book.specs.Keepers.{KeeperMeaning, Becomes, IsKeepFault
 use std::alloc::AllocError;
 
 /// Why a keeper refused a call.
-#[derive(Clone, Copy, Debug, PartialEq, Eq)]
+#[derive(Clone, Copy)]
 pub enum KeepFault {
     /// It failed, which it counts.
     Failed,

@@ -3,15 +3,18 @@
 ghost use Rattle.std.specs.Prelude.{◌≡◌, IfErr, OnOk};
 ghost use Rattle.plan_base.specs.Sinks.{SinkMeaning};
 ghost use Rattle.plan_base.specs.Shelves.{ShelfMeaning};
-ghost use Rattle.journey_book.specs.Commands.{SpellsValid, says};
+ghost use Rattle.journey_book.specs.Books.{kept};
+ghost use Rattle.journey_book.specs.Commands.{OnValid, SpellsValid, says};
 ghost use Rattle.journey_book.specs.Requests.{keep, drop};
-ghost use Rattle.journey_book.specs.Sayings.{end_of, scene};
+ghost use Rattle.journey_book.specs.Sayings.{Changes, OnFile, end_of, scene};
 ghost use Rattle.journey_book.specs.Working.{IsUnverified};
+ghost use Rattle.journey_book.specs.declared.outcome.BookFile.TheVariants.{Certificate};
 
 use crate::keeper::Keeper;
 use crate::outcome::{BookFile, BookOutcome};
+use crate::reports::verdict_on;
 use crate::steps::{outcome_of_keeper, read_file, read_region, tell};
-use certificate::{CertFault, CertVerdict, read, verify};
+use certificate::{CertFault, CertVerdict};
 use fault_notes::{bad_certificate, invalid_certificate};
 use mode_network::Network;
 use plan_base::{Caps, Shelf, Sink};
@@ -32,8 +35,24 @@ pub(crate) fn keep<F: Shelf, K: Keeper, E: Sink>(
         (scene (F.meaning shelf.old) (K.meaning keeper.old) out) (scene (F.meaning shelf.new) (K.meaning keeper.new) out) (end_of result) }
 {
     let network = read_region(alloc, shelf, region, caps, notes)?;
+    keep_in(alloc, name, &network, certificate, shelf, keeper, notes)
+}
+
+/// Reads a certificate, and keeps its bytes under the name, if it is valid in the network.
+fn keep_in<F: Shelf, K: Keeper, E: Sink>(
+    alloc: Global,
+    name: &str,
+    network: &Network,
+    certificate: &str,
+    shelf: &mut F,
+    keeper: &mut K,
+    notes: &mut E,
+) -> Result<(), BookOutcome>
+    ensures { (out : SinkMeaning) → OnFile Certificate certificate.now (λ bytes. OnValid network.now bytes (Changes (λ book. Unit {0}) (kept name.now bytes)))
+        (scene (F.meaning shelf.old) (K.meaning keeper.old) out) (scene (F.meaning shelf.new) (K.meaning keeper.new) out) (end_of result) }
+{
     let bytes = read_file(alloc, shelf, certificate, BookFile::Certificate, notes)?;
-    check_valid(alloc, &network, certificate, &bytes, notes)?;
+    check_valid(alloc, network, certificate, &bytes, notes)?;
     match keeper.put(name, &bytes) {
         Ok(()) => Ok(()),
         Err(fault) => Err(outcome_of_keeper(fault)),
@@ -51,21 +70,17 @@ fn check_valid<E: Sink>(
     ensures ok { OnOk result (SpellsValid network.now bytes.now) }
     ensures err { IfErr result (IsUnverified network.now bytes.now) }
 {
-    let certificate = match read(alloc, bytes) {
-        Ok(certificate) => certificate,
-        Err(CertFault::BadLine { line }) => {
-            tell(alloc, notes, bad_certificate(alloc, path, bytes, line));
-            return Err(BookOutcome::BadCertificate { line });
-        }
-        Err(CertFault::OutOfMemory) => return Err(BookOutcome::OutOfMemory),
-    };
-    match verify(alloc, network, None, &certificate) {
+    match verdict_on(alloc, network, bytes) {
         Ok(CertVerdict::Valid) => Ok(()),
         Ok(CertVerdict::Invalid { clause, at }) => {
             tell(alloc, notes, invalid_certificate(alloc, path, clause, at));
             Err(BookOutcome::Invalid { clause, at })
         }
-        Err(_) => Err(BookOutcome::OutOfMemory),
+        Err(CertFault::BadLine { line }) => {
+            tell(alloc, notes, bad_certificate(alloc, path, bytes, line));
+            Err(BookOutcome::BadCertificate { line })
+        }
+        Err(CertFault::OutOfMemory) => Err(BookOutcome::OutOfMemory),
     }
 }
 

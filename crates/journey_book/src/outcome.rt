@@ -6,7 +6,7 @@ ghost use Rattle.journey_book.specs.Statuses.{status_of};
 use region_file::RegionFault;
 
 /// A file that a command reads.
-#[derive(Clone, Copy, Debug, PartialEq, Eq)]
+#[derive(Clone, Copy, Debug)]
 pub enum BookFile {
     Region,
     Certificate,
@@ -23,7 +23,7 @@ impl BookFile {
 }
 
 /// How a command ends. Each outcome has an exit status.
-#[derive(Clone, Copy, Debug, PartialEq, Eq)]
+#[derive(Clone, Copy, Debug)]
 pub enum BookOutcome {
     /// The command did all of its work.
     Done,

@@ -4,6 +4,7 @@ ghost use Rattle.std.specs.Prelude.{◌≡◌, ◌≤◌, ℕ, List, ◌++◌, c
 ghost use Rattle.plain_texts.specs.Lines.{with_feed};
 ghost use Rattle.journey_book.specs.Keepers.{IsKeepFault, Stays};
 ghost use Rattle.journey_book.specs.Reports.{AreReported, IsRecheck, IsReport, IsReportOn, verdict_words};
+ghost use Rattle.journey_book.specs.Working.{IsUnjudged, IsVerdictOn};
 
 use crate::keeper::{KeepFault, Keeper};
 use certificate::{CertFault, CertVerdict, read, verify};
@@ -28,8 +29,7 @@ pub fn recheck<K: Keeper>(
     ensures cause { IfErr result (IsKeepFault (K.meaning keeper.old) (K.meaning keeper.new)) }
 {
     let names = keeper.names()?;
-    let text = report_all(alloc, network, keeper, &names)?;
-    Ok(text)
+    report_all(alloc, network, keeper, &names)
 }
 
 /// A line for each of these names, in order.
@@ -47,7 +47,7 @@ fn report_all<K: Keeper>(
     let mut text = Vec::new(alloc);
     for name in names {
         let held = keeper.get(name.as_str())?;
-        push_report(alloc, network, name.as_str(), held, &mut text)?;
+        push_report(alloc, network, name.as_str(), &held, &mut text)?;
     }
     Ok(text)
 }
@@ -57,10 +57,10 @@ fn push_report(
     alloc: Global,
     network: &Network,
     name: &str,
-    held: Option<Vec<u8>>,
+    held: &Option<Vec<u8>>,
     text: &mut Vec<u8>,
 ) -> Result<(), AllocError>
-    ensures { OnOk result ((words : List ℕ) × IsReportOn network.now (option_map (λ body. body.items) held) words × (text.new.items ≡ text.old.items ++ with_feed (name.now ++ codes " " ++ words))) }
+    ensures { OnOk result ((words : List ℕ) × IsReportOn network.now (option_map (λ body. body.items) held.now) words × (text.new.items ≡ text.old.items ++ with_feed (name.now ++ codes " " ++ words))) }
 {
     text.extend_from_slice(name.as_bytes())?;
     text.push(b' ')?;
@@ -72,13 +72,13 @@ fn push_report(
 fn push_held(
     alloc: Global,
     network: &Network,
-    held: Option<Vec<u8>>,
+    held: &Option<Vec<u8>>,
     text: &mut Vec<u8>,
 ) -> Result<(), AllocError>
-    ensures { OnOk result ((words : List ℕ) × IsReportOn network.now (option_map (λ body. body.items) held) words × (text.new.items ≡ text.old.items ++ words)) }
+    ensures { OnOk result ((words : List ℕ) × IsReportOn network.now (option_map (λ body. body.items) held.now) words × (text.new.items ≡ text.old.items ++ words)) }
 {
     match held {
-        Some(bytes) => push_verdict(alloc, network, &bytes, text),
+        Some(bytes) => push_verdict(alloc, network, bytes, text),
         None => text.extend_from_slice(b"absent"),
     }
 }
@@ -92,17 +92,28 @@ fn push_verdict(
 ) -> Result<(), AllocError>
     ensures { OnOk result ((words : List ℕ) × IsReport network.now bytes.now words × (text.new.items ≡ text.old.items ++ words)) }
 {
-    match read(alloc, bytes) {
-        Ok(certificate) => {
-            let verdict = verify(alloc, network, None, &certificate)?;
-            push_words(verdict, text)
-        }
+    match verdict_on(alloc, network, bytes) {
+        Ok(verdict) => push_words(verdict, text),
         Err(CertFault::BadLine { line }) => {
             text.extend_from_slice(b"bad ")?;
             push_decimal(text, u128::from(line))
         }
         Err(CertFault::OutOfMemory) => Err(AllocError),
     }
+}
+
+/// The verdict on the certificate that bytes spell, or why they spell none.
+pub(crate) fn verdict_on(
+    alloc: Global,
+    network: &Network,
+    bytes: &[u8],
+) -> Result<CertVerdict, CertFault>
+    ensures ok { IfOk result (IsVerdictOn network.now bytes.now) }
+    ensures err { IfErr result (IsUnjudged bytes.now) }
+{
+    let certificate = read(alloc, bytes)?;
+    let verdict = verify(alloc, network, None, &certificate)?;
+    Ok(verdict)
 }
 
 /// The words of a verdict.

@@ -5,12 +5,14 @@ ghost use Rattle.plain_texts.specs.Lines.{lines_text};
 ghost use Rattle.plan_base.specs.Shelves.{ShelfMeaning};
 ghost use Rattle.journey_book.specs.Commands.{says};
 ghost use Rattle.journey_book.specs.Requests.{list, show, recheck};
-ghost use Rattle.journey_book.specs.Sayings.{end_of, scene};
+ghost use Rattle.journey_book.specs.Reports.{IsRecheck};
+ghost use Rattle.journey_book.specs.Sayings.{Writes, end_of, scene};
 
 use crate::keeper::Keeper;
 use crate::outcome::BookOutcome;
 use crate::reports::recheck;
 use crate::steps::{outcome_of_keeper, read_region, write_text};
+use mode_network::Network;
 use plain_texts::push_line_feed;
 use plan_base::{Caps, Shelf, Sink};
 use std::alloc::{AllocError, Global};
@@ -75,7 +77,19 @@ pub(crate) fn recheck_all<F: Shelf, K: Keeper, O: Sink, E: Sink>(
     ensures { says caps.now (recheck region.now) (scene (F.meaning shelf.old) (K.meaning keeper.old) (O.meaning out.old)) (scene (F.meaning shelf.new) (K.meaning keeper.new) (O.meaning out.new)) (end_of result) }
 {
     let network = read_region(alloc, shelf, region, caps, notes)?;
-    match recheck(alloc, &network, keeper) {
+    write_report(alloc, &network, keeper, out)
+}
+
+/// Writes what the network makes of all that is kept.
+fn write_report<K: Keeper, O: Sink>(
+    alloc: Global,
+    network: &Network,
+    keeper: &mut K,
+    out: &mut O,
+) -> Result<(), BookOutcome>
+    ensures { (shelf : ShelfMeaning) → Writes (IsRecheck network.now (K.meaning keeper.old)) (scene shelf (K.meaning keeper.old) (O.meaning out.old)) (scene shelf (K.meaning keeper.new) (O.meaning out.new)) (end_of result) }
+{
+    match recheck(alloc, network, keeper) {
         Ok(text) => write_text(out, &text),
         Err(fault) => Err(outcome_of_keeper(fault)),
     }

@@ -3,7 +3,7 @@
 ghost use Rattle.journey_book.specs.Working.{IsRefusal};
 
 use crate::keeper::{KeepFault, Keeper};
-use sqlite::{Alter, Connection, Error, ErrorCode, params};
+use sqlite::{Alter, Connection, Error, ErrorCode, Row, params};
 use std::alloc::Global;
 
 /// A book in the table `book` of a database, which has a text `name`, its key, and bytes `body`. Each call makes the table where it
@@ -77,8 +77,13 @@ fn get<S: Alter>(connection: &mut Connection<S>, name: &str) -> Result<Option<Ve
 fn names<S: Alter>(alloc: Global, connection: &mut Connection<S>) -> Result<Vec<String>, Error> {
     make_table(connection)?;
     let rows = connection.query_all("SELECT name FROM book ORDER BY name", &[])?;
+    names_in(alloc, &rows)
+}
+
+/// The names in rows, in order.
+fn names_in(alloc: Global, rows: &[Row]) -> Result<Vec<String>, Error> {
     let mut names = Vec::new(alloc);
-    for row in &rows {
+    for row in rows {
         if names.push(row.get(0)?).is_err() {
             return Err(Error::SqliteFailure(ErrorCode::OutOfMemory));
         }

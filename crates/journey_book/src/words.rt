@@ -5,7 +5,7 @@ ghost use Rattle.std.specs.List.{list_all};
 ghost use Rattle.journey_book.specs.Requests.{AreRefused, AsksFor, Request, begins_name, is_letter_or_digit, is_name, is_name_byte, request_of};
 
 /// What a command line asks for. Files are named by their paths.
-#[derive(Clone, Copy, Debug, PartialEq, Eq)]
+#[derive(Clone, Copy)]
 pub enum BookCommand<'a> {
     /// Keeps a certificate under a name, if it is valid in the region.
     Keep {

@@ -1,65 +1,10 @@
-use Rattle.std.proofs.Common.{◌∙◌, inl, inr, List, ℕ, refl, sym, subst}
-use Rattle.std.proofs.lemmas.Result.{err_from_is_err_and}
-use Rattle.plan_base.specs.Shelves.{HasRead}
-use Rattle.journey_book.specs.Books.{kept}
-use Rattle.journey_book.specs.Keepers.{Becomes}
-use Rattle.journey_book.specs.Sayings.{Changes, most_bytes, scene}
-use Rattle.journey_book.proofs.KeeperLemmas.{stays_so}
-use Rattle.journey_book.proofs.RunLemmas.{on_region, certificate_fails, change_fails, tells_all}
+use Rattle.journey_book.proofs.RunLemmas.{on_region}
 use Rattle.journey_book.proofs.keeping.keep.Goals as goal
-
-pub returns-in_err-bytes : goal.returns-in_err-bytes
-returns-in_err-bytes g c out =
-    let p = err_from_is_err_and c.from_residual-in_err-bytes.result c.from_residual-in_err-bytes.ensures.1 in
-    let book = g.K.Keeper.meaning c.args.keeper.now in
-    rw (p.1, p.2)
-    (on_region (g.F.Shelf.meaning c.args.shelf.now) (g.F.Shelf.meaning c.read_region.new.shelf) (g.F.Shelf.meaning c.read_file.new.shelf) book book out out c.args.region.now
-    c.args.caps.now _ c.in_ok-network.network c.in_ok-network.ensures.ok c.in_ok-network.ensures.later _ (inl (c.in_err-bytes.ensures.err, (refl, stays_so book))))
-
-pub returns-in_err-check_valid : goal.returns-in_err-check_valid
-returns-in_err-check_valid g c out =
-    let p = err_from_is_err_and c.from_residual-in_err-check_valid.result c.from_residual-in_err-check_valid.ensures.1 in
-    let book = g.K.Keeper.meaning c.args.keeper.now in
-    let mid = g.F.Shelf.meaning c.read_region.new.shelf in
-    let new = g.F.Shelf.meaning c.read_file.new.shelf in
-    rw (p.1, p.2)
-    (on_region (g.F.Shelf.meaning c.args.shelf.now) mid new book book out out c.args.region.now
-    c.args.caps.now _ c.in_ok-network.network c.in_ok-network.ensures.ok c.in_ok-network.ensures.later _
-    (certificate_fails mid new new book book out out c.args.certificate.now (refl, stays_so book) c.in_ok-network.network c.deref.result.now
-    (subst (HasRead mid c.args.certificate.now most_bytes) (sym c.deref.ensures.value) c.in_ok-bytes.ensures.ok) c.in_ok-bytes.ensures.later
-    (λ bytes. Changes (λ book. Unit {0}) (kept c.args.name.now bytes)) _ c.in_err-check_valid.ensures.err))
-
-pub returns-in-Ok : goal.returns-in-Ok
-returns-in-Ok g c out =
-    let before = g.K.Keeper.meaning c.args.keeper.now in
-    let after = g.K.Keeper.meaning c.put.new.self in
-    let mid = g.F.Shelf.meaning c.read_region.new.shelf in
-    let new = g.F.Shelf.meaning c.read_file.new.shelf in
-    on_region (g.F.Shelf.meaning c.args.shelf.now) mid new before after out out c.args.region.now
-    c.args.caps.now _ c.in_ok-network.network c.in_ok-network.ensures.ok c.in_ok-network.ensures.later _
-    (inr (record {
-      bytes = c.deref.result.now;
-      file = subst (HasRead mid c.args.certificate.now most_bytes) (sym c.deref.ensures.value) c.in_ok-bytes.ensures.ok;
-      mid = new;
-      later = c.in_ok-bytes.ensures.later;
-      says = inr (inr (c.in_ok-check_valid.ensures.ok, (tells_all before, subst (λ (bytes : List ℕ). Becomes before after (kept c.args.name.now bytes)) (c.deref-2.ensures.value ∙ sym c.deref.ensures.value) c.in-Ok.ensures.ok, refl)));
-    }))
 
 pub returns : goal.returns
 returns g c out =
     let before = g.K.Keeper.meaning c.args.keeper.now in
-    let after = g.K.Keeper.meaning c.put.new.self in
+    let after = g.K.Keeper.meaning c.keep_in.new.keeper in
     let mid = g.F.Shelf.meaning c.read_region.new.shelf in
-    let new = g.F.Shelf.meaning c.read_file.new.shelf in
-    on_region (g.F.Shelf.meaning c.args.shelf.now) mid new before after out out c.args.region.now
-    c.args.caps.now _ c.in_ok-network.network c.in_ok-network.ensures.ok c.in_ok-network.ensures.later _
-    (inr (record {
-      bytes = c.deref.result.now;
-      file = subst (HasRead mid c.args.certificate.now most_bytes) (sym c.deref.ensures.value) c.in_ok-bytes.ensures.ok;
-      mid = new;
-      later = c.in_ok-bytes.ensures.later;
-      says = inr (inr (
-        c.in_ok-check_valid.ensures.ok,
-        rw (c.outcome_of_keeper.ensures) (change_fails (scene new before out) (scene new after out) (refl, c.in-Err.ensures.same) _ _ c.in-Err.fault c.in-Err.ensures.cause),
-      ));
-    }))
+    on_region (g.F.Shelf.meaning c.args.shelf.now) mid (g.F.Shelf.meaning c.keep_in.new.shelf) before after out out c.args.region.now
+    c.args.caps.now _ c.in_ok-network.network c.in_ok-network.ensures.ok c.in_ok-network.ensures.later _ (c.keep_in.ensures out)
