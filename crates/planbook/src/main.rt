@@ -1,9 +1,10 @@
-//! `planbook`: runs a command of the journey book over a database, the file system, standard output and standard error.
+//! `planbook`: runs a command of the journey book over a database in a file, the file system, standard output and standard error.
 #![tactic(auto)]
 
-use journey_book::{BookOutcome, SqliteKeeper, run_book};
+use journey_book::{BookOutcome, Keeper, MemoryKeeper, SqliteKeeper, run_book};
 use plan_base::{FolderShelf, StreamSink, write_all};
-use sqlite::{Alter, Connection, Error, ErrorCode};
+use sqlite::{Connection, Error, ErrorCode};
+use std::collections::BTreeMap;
 use std::env;
 use std::io::{self, ErrorKind};
 use std::process::ExitCode;
@@ -35,10 +36,9 @@ fn run(rt: &HostRuntime, words: &[String]) -> BookOutcome {
 }
 
 fn run_in_memory(rt: &HostRuntime, words: &[String]) -> BookOutcome {
-    match Connection::open_in_memory(rt.alloc()) {
-        Ok(connection) => run_over(rt, words, &mut SqliteKeeper::adopt(rt.alloc(), connection)),
-        Err(_) => BookOutcome::OutOfMemory,
-    }
+    let alloc = rt.alloc();
+    let mut keeper = MemoryKeeper::new(alloc, BTreeMap::new(alloc), Vec::new(alloc));
+    run_over(rt, words, &mut keeper)
 }
 
 /// The log that stands beside the file is copied into it at the end, where that can be done; else the two belong together.
@@ -58,11 +58,7 @@ fn run_in_file(rt: &HostRuntime, words: &[String], path: &str) -> BookOutcome {
     }
 }
 
-fn run_over<S: Alter>(
-    rt: &HostRuntime,
-    words: &[String],
-    keeper: &mut SqliteKeeper<S>,
-) -> BookOutcome {
+fn run_over<K: Keeper>(rt: &HostRuntime, words: &[String], keeper: &mut K) -> BookOutcome {
     let mut shelf = FolderShelf::new(rt);
     let mut out = StreamSink::new(rt.stdout());
     let mut notes = StreamSink::new(rt.stderr());
