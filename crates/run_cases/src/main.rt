@@ -1,9 +1,10 @@
 //! Runs the program on the cases of the file `cases`, over files in memory, and prints how each run ends and what it writes; and
-//! on the worked examples, which are folders beside that file.
+//! on the worked examples, which are folders beside that file. Then plays the stories of journey books of the folder `stories`.
 //!
 //! A case is a line: the name of a call and its words. The texts that it names stand before it; `case_script` says how.
 #![tactic(auto)]
 
+mod books;
 mod comparisons;
 mod drawn;
 mod examples;
@@ -13,11 +14,17 @@ use case_script::{Script, words};
 use std::{fs, io};
 
 fn main(rt: HostRuntime) -> io::Result<()> {
-    let cases = fs::read(&rt, "cases")?;
+    print_cases(&rt)?;
+    books::print_stories(&rt)
+}
+
+/// Prints all cases, and what their calls do.
+fn print_cases(rt: &HostRuntime) -> io::Result<()> {
+    let cases = fs::read(rt, "cases")?;
     let mut script = Script::new(rt.alloc());
     for line in cases.split(|byte| *byte == b'\n') {
         if !script.takes(rt.alloc(), line)? {
-            print_case(&rt, &script, line)?;
+            print_case(rt, &script, line)?;
         }
     }
     Ok(())

@@ -29,6 +29,23 @@ pub const NOTHING: Failing = Failing {
     notes: ROOM,
 };
 
+/// The output of a run, and what people are told.
+#[derive(Drop)]
+pub struct Sinks {
+    pub out: MemorySink,
+    pub notes: MemorySink,
+}
+
+impl Sinks {
+    pub fn new(alloc: Global, failing: Failing) -> Result<Sinks, AllocError> {
+        let fail = vec![in alloc; failing.write]?;
+        Ok(Sinks {
+            out: MemorySink::new(alloc, failing.room, failing.most.max(1), fail)?,
+            notes: MemorySink::new(alloc, failing.notes, 7, Vec::new(alloc))?,
+        })
+    }
+}
+
 /// How a run ended, what it wrote, and its notes.
 #[derive(Drop)]
 pub struct Told {
@@ -178,9 +195,7 @@ pub fn run_words<F: Shelf>(
     shelf: &mut F,
     failing: Failing,
 ) -> Result<Told, AllocError> {
-    let fail = vec![in alloc; failing.write]?;
-    let mut out = MemorySink::new(alloc, failing.room, failing.most.max(1), fail)?;
-    let mut notes = MemorySink::new(alloc, failing.notes, 7, Vec::new(alloc))?;
+    let Sinks { mut out, mut notes } = Sinks::new(alloc, failing)?;
     let outcome = planner_core::run(alloc, words, shelf, &mut out, &mut notes);
     told_by(alloc, outcome, out.bytes(), notes.bytes())
 }
