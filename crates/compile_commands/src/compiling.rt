@@ -1,7 +1,12 @@
 //! The commands `compile` and `migrate`: a region of a map and a timetable feed, and a region in another format.
 
-ghost use Rattle.run_steps.specs.Sayings.{end_of};
+ghost use Rattle.std.specs.Prelude.{◌≡◌, None};
+ghost use Rattle.plan_base.specs.Shelves.{ShelfMeaning};
+ghost use Rattle.plan_base.specs.declared.limits.Caps as c;
+ghost use Rattle.mode_network.specs.Rules.{first_fault};
+ghost use Rattle.run_steps.specs.Sayings.{WritesText, end_of};
 ghost use Rattle.compile_commands.specs.Commands.{SaysCompile, SaysMigrate};
+ghost use Rattle.compile_commands.specs.Outputs.{IsRegionFile};
 
 use crate::builds::built;
 use crate::feeds::read_feed_in;
@@ -32,17 +37,29 @@ pub fn compile<F: Shelf, O: Sink, E: Sink>(
     let objects = read_map(alloc, shelf, map, caps, notes)?;
     let tables = read_feed_in(alloc, shelf, feed, caps, notes)?;
     let region = built(alloc, objects, tables, days, feed, caps, notes)?;
-    let Region { network, left_out } = region;
-    let Ok(text) = encode(alloc, &network, format) else {
+    write_compiled(alloc, &region, format, out, notes)
+}
+
+/// Writes a region that was compiled, in this format. `notes` is told what it consists of.
+fn write_compiled<O: Sink, E: Sink>(
+    alloc: Global,
+    region: &Region,
+    format: Format,
+    out: &mut O,
+    notes: &mut E,
+) -> Result<(), Outcome>
+    ensures { (caps : c.Caps) (old new : ShelfMeaning) → first_fault caps region.now.network ≡ None
+        → WritesText (IsRegionFile caps format region.now.network) old new (O.meaning out.old) (O.meaning out.new) (end_of result) }
+{
+    let Ok(text) = encode(alloc, &region.network, format) else {
         return Err(Outcome::OutOfMemory);
     };
     tell(
         alloc,
         notes,
-        told_at_end(alloc, &network, left_out, text.len()),
+        told_at_end(alloc, &region.network, region.left_out, text.len()),
     );
-    write_text(out, &text)?;
-    Ok(())
+    write_text(out, &text)
 }
 
 /// Reads the region of this name, and writes it anew in this format.
@@ -58,11 +75,23 @@ pub fn migrate<F: Shelf, O: Sink, E: Sink>(
     ensures { SaysMigrate caps.now region.now format (F.meaning shelf.old) (F.meaning shelf.new) (O.meaning out.old) (O.meaning out.new) (end_of result) }
 {
     let network = read_region(alloc, shelf, region, caps, notes)?;
-    let Ok(bytes) = encode(alloc, &network, format) else {
+    write_network(alloc, &network, format, out)
+}
+
+/// Writes a network in this format.
+fn write_network<O: Sink>(
+    alloc: Global,
+    network: &Network,
+    format: Format,
+    out: &mut O,
+) -> Result<(), Outcome>
+    ensures { (caps : c.Caps) (old new : ShelfMeaning) → first_fault caps network.now ≡ None
+        → WritesText (IsRegionFile caps format network.now) old new (O.meaning out.old) (O.meaning out.new) (end_of result) }
+{
+    let Ok(bytes) = encode(alloc, network, format) else {
         return Err(Outcome::OutOfMemory);
     };
-    write_text(out, &bytes)?;
-    Ok(())
+    write_text(out, &bytes)
 }
 
 /// What a region that was compiled consists of, and what was left out of it.

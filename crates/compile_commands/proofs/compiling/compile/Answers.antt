@@ -6,7 +6,6 @@ use Rattle.opl_reader.specs.ObjectLists.{ObjectLists}
 use Rattle.gtfs_tables.specs.FeedLists.{FeedLists}
 use Rattle.region_file.specs.declared.format.Format.{Format}
 use Rattle.run_steps.specs.Sayings.{Saying, WritesText}
-use Rattle.run_steps.proofs.Steps.{text_fails}
 use Rattle.compile_commands.specs.Feeds.{OnFeed}
 use Rattle.compile_commands.specs.Builds.{OnBuild}
 use Rattle.compile_commands.proofs.Steps.{map_fails, on_map, feed_fails, on_feed, build_fails}
@@ -57,48 +56,16 @@ returns-in_err-region g c =
     (on_feed caps mid new new out out c.args.feed.now (behind_feed caps c.args.days c.args.format objects) tables c.in_ok-tables.ensures.ok c.in_ok-tables.ensures.later _
     (build_fails caps new new out out objects tables c.args.days (λ n. WritesText (IsRegionFile caps c.args.format n)) _ c.in_err-region.ensures.err refl)))
 
-pub returns-in_err-write_text : goal.returns-in_err-write_text
-returns-in_err-write_text g c =
-    let p = err_from_is_err_and c.from_residual-in_err-write_text.result c.from_residual-in_err-write_text.ensures.1 in
-    let before = g.O.Sink.meaning c.args.out.now in
-    let after = g.O.Sink.meaning c.write_text.new.out in
-    let caps = c.args.caps.now in
-    let mid = g.F.Shelf.meaning c.read_map.new.shelf in
-    let new = g.F.Shelf.meaning c.read_feed_in.new.shelf in
-    let objects = c.in_ok-objects.objects in
-    let tables = c.in_ok-tables.tables in
-    let n = c.in_ok-region.region.network in
-    rw (p.1, p.2)
-    (on_map caps (g.F.Shelf.meaning c.args.shelf.now) mid new before after c.args.map.now
-    (behind_map caps c.args.feed.now c.args.days c.args.format) objects c.in_ok-objects.ensures.ok c.in_ok-objects.ensures.later _
-    (on_feed caps mid new new before after c.args.feed.now (behind_feed caps c.args.days c.args.format objects) tables c.in_ok-tables.ensures.ok c.in_ok-tables.ensures.later _
-    (inr (inr (
-      n,
-      c.in_ok-region.ensures.ok,
-      text_fails new new before after (IsRegionFile caps c.args.format n) c.in-Ok.text.items
-          (record { text = c.in-Ok.ensures.spelled; spells = c.in-Ok.ensures.again caps c.in_ok-region.ensures.faultless }) _
-          (rw (← c.deref.ensures.value) c.in_err-write_text.ensures.err),
-    )))))
-
 pub returns : goal.returns
 returns g c =
     let before = g.O.Sink.meaning c.args.out.now in
-    let after = g.O.Sink.meaning c.write_text.new.out in
+    let after = g.O.Sink.meaning c.write_compiled.new.out in
     let caps = c.args.caps.now in
     let mid = g.F.Shelf.meaning c.read_map.new.shelf in
     let new = g.F.Shelf.meaning c.read_feed_in.new.shelf in
     let objects = c.in_ok-objects.objects in
     let tables = c.in_ok-tables.tables in
-    let n = c.in_ok-region.region.network in
     on_map caps (g.F.Shelf.meaning c.args.shelf.now) mid new before after c.args.map.now
     (behind_map caps c.args.feed.now c.args.days c.args.format) objects c.in_ok-objects.ensures.ok c.in_ok-objects.ensures.later _
     (on_feed caps mid new new before after c.args.feed.now (behind_feed caps c.args.days c.args.format objects) tables c.in_ok-tables.ensures.ok c.in_ok-tables.ensures.later _
-    (inr (inr (
-      n,
-      c.in_ok-region.ensures.ok,
-      record {
-        out = c.in-Ok.text.items;
-        is = record { text = c.in-Ok.ensures.spelled; spells = c.in-Ok.ensures.again caps c.in_ok-region.ensures.faultless };
-        appended = rw (← c.deref.ensures.value) c.in_ok-write_text.ensures.ok;
-      },
-    ))))
+    (inr (inr (c.in_ok-region.region.network, c.in_ok-region.ensures.ok, c.write_compiled.ensures caps new new c.in_ok-region.ensures.faultless))))
