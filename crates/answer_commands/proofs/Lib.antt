@@ -2,3 +2,4 @@ pub mod LentLemmas
 pub mod SettledLemmas
 pub mod BlockLemmas
 pub mod CompleteLemmas
+pub mod BothLemmas

@@ -6,6 +6,8 @@ use Rattle.hierarchy.specs.Lists.{HierarchyLists}
 use Rattle.journey.specs.Best.{IsBlock}
 use Rattle.planning.specs.Settled.{Settled}
 use Rattle.line_blocks.specs.Blocks.{AreBlocks, BeginsBlocks}
+use Rattle.line_blocks.specs.QueryLines.{query_lines}
+use Rattle.run_steps.specs.Sayings.{Saying, Writes}
 
 -- the line that tells how many labels searches had
 abbrev pub settled_line : ℕ → List ℕ
@@ -22,3 +24,7 @@ BeginsAnswer n None lines out = BeginsBlocks (IsBlock n) lines out
 BeginsAnswer n (Some h) lines out =
     BeginsBlocks (IsBlock n) lines out
     ⊎ ((blocks : List ℕ) × (sum : ℕ) × (count : ℕ) × AreBlocks (IsBlock n) lines blocks × Settled n (Some h) lines sum × (out ≡ blocks ++ take count (settled_line sum)))
+
+-- an answer is written, or a front of one
+abbrev pub WritesAnswer : NetworkLists → Option HierarchyLists → List ℕ → Saying
+WritesAnswer n h text = Writes (IsAnswer n h (query_lines text)) (BeginsAnswer n h (query_lines text))

@@ -2,21 +2,21 @@
 
 ghost use Rattle.std.specs.Prelude.{◌≡◌, IfOk, IfSome, option_map};
 ghost use Rattle.hierarchy.specs.Soundness.{IsSound};
-ghost use Rattle.line_blocks.specs.QueryLines.{query_lines};
 ghost use Rattle.plan_base.specs.Shelves.{ShelfMeaning};
-ghost use Rattle.run_steps.specs.Sayings.{Writes, end_of};
-ghost use Rattle.answer_commands.specs.Answers.{IsAnswer, BeginsAnswer, settled_line};
+ghost use Rattle.run_steps.specs.declared.outcome.FileRole.TheVariants.{Queries};
+ghost use Rattle.run_steps.specs.Sayings.{OnFile, end_of};
+ghost use Rattle.answer_commands.specs.Answers.{WritesAnswer, settled_line};
 ghost use Rattle.answer_commands.specs.Commands.{SaysAnswer};
 
+use crate::reading::read_both;
 use hierarchy::Hierarchy;
-use hierarchy_commands::read_if_named;
 use line_blocks::{LineBlocks, write_blocks};
 use mode_network::Network;
 use plain_texts::push_decimal;
 use plan_base::{Caps, Shelf, Sink};
 use planning::block_of;
 use product_search::Workspace;
-use run_steps::{FileRole, Outcome, read_file, read_region, write_text};
+use run_steps::{FileRole, Outcome, read_file, write_text};
 use std::alloc::{AllocError, Global};
 
 /// The blocks of lines that ask for a best journey, by a hierarchy, if there is one. The labels of searches over it are counted.
@@ -62,18 +62,34 @@ pub fn answer<F: Shelf, O: Sink, E: Sink>(
 ) -> Result<(), Outcome>
     ensures { SaysAnswer caps.now region.now queries.now (option_map (λ it. it.now) hierarchy.entry) (F.meaning shelf.old) (F.meaning shelf.new) (O.meaning out.old) (O.meaning out.new) (end_of result) }
 {
-    let network = read_region(alloc, shelf, region, caps, notes)?;
-    let hierarchy = read_if_named(alloc, shelf, hierarchy, &network, notes)?;
-    let text = read_file(alloc, shelf, queries, FileRole::Queries, notes)?;
-    write_answer(
+    let (network, hierarchy) = read_both(alloc, region, hierarchy, shelf, notes, caps)?;
+    answer_over(
         alloc,
         &network,
         hierarchy.as_ref(),
         queries,
-        &text,
+        shelf,
         out,
         notes,
     )
+}
+
+/// Reads the queries file of this path, and writes the block of each query line, by the hierarchy, if there is one, which
+/// the line `settled` follows.
+fn answer_over<F: Shelf, O: Sink, E: Sink>(
+    alloc: Global,
+    network: &Network,
+    hierarchy: Option<&Hierarchy>,
+    path: &str,
+    shelf: &mut F,
+    out: &mut O,
+    notes: &mut E,
+) -> Result<(), Outcome>
+    requires { IfSome hierarchy (λ h. IsSound network.now h.now) }
+    ensures { OnFile Queries path.now (WritesAnswer network.now (option_map (λ h. h.now) hierarchy.entry)) (F.meaning shelf.old) (F.meaning shelf.new) (O.meaning out.old) (O.meaning out.new) (end_of result) }
+{
+    let text = read_file(alloc, shelf, path, FileRole::Queries, notes)?;
+    write_answer(alloc, network, hierarchy, path, &text, out, notes)
 }
 
 /// Writes the block of each query line of a queries file, and behind them, with a hierarchy, how many labels the searches
@@ -88,8 +104,7 @@ fn write_answer<O: Sink, E: Sink>(
     notes: &mut E,
 ) -> Result<(), Outcome>
     requires { IfSome hierarchy (λ h. IsSound network.now h.now) }
-    ensures { (old new : ShelfMeaning) → Writes (IsAnswer network.now (option_map (λ h. h.now) hierarchy.entry) (query_lines text.now))
-        (BeginsAnswer network.now (option_map (λ h. h.now) hierarchy.entry) (query_lines text.now)) old new (O.meaning out.old) (O.meaning out.new) (end_of result) }
+    ensures { (old new : ShelfMeaning) → WritesAnswer network.now (option_map (λ h. h.now) hierarchy.entry) text.now old new (O.meaning out.old) (O.meaning out.new) (end_of result) }
 {
     let best = BestBlocks { network, hierarchy };
     let settled = write_blocks(alloc, &best, path, text, out, notes)?;

@@ -4,18 +4,19 @@ ghost use Rattle.std.specs.Prelude.{IfOk, IfSome, option_map};
 ghost use Rattle.plain_texts.specs.Lines.{IsLine};
 ghost use Rattle.hierarchy.specs.Soundness.{IsSound};
 ghost use Rattle.planning.specs.Plans.{IsRead};
-ghost use Rattle.run_steps.specs.Sayings.{end_of};
+ghost use Rattle.plan_base.specs.Shelves.{ShelfMeaning};
+ghost use Rattle.run_steps.specs.Sayings.{WritesText, end_of};
 ghost use Rattle.answer_commands.specs.Commands.{SaysCertify};
 ghost use Rattle.answer_commands.specs.Outputs.{IsCertificateFor, IsCertified};
 
+use crate::reading::read_both;
 use certificate::{Certificate, print};
 use hierarchy::Hierarchy;
-use hierarchy_commands::read_if_named;
 use journey::{BlockBody, Query, QueryFault, block, read_query};
 use mode_network::Network;
 use plan_base::{Caps, Shelf, Sink};
 use planning::{FoundPlan, find_plan};
-use run_steps::{Outcome, read_region, write_text};
+use run_steps::{Outcome, write_text};
 use std::alloc::{AllocError, Global};
 
 /// Reads the region of this name, and the hierarchy, if one is named, and writes the certificate of a query line, or its
@@ -32,13 +33,25 @@ pub fn certify<F: Shelf, O: Sink, E: Sink>(
 ) -> Result<(), Outcome>
     ensures { SaysCertify caps.now region.now query.now (option_map (λ it. it.now) hierarchy.entry) (F.meaning shelf.old) (F.meaning shelf.new) (O.meaning out.old) (O.meaning out.new) (end_of result) }
 {
-    let network = read_region(alloc, shelf, region, caps, notes)?;
-    let hierarchy = read_if_named(alloc, shelf, hierarchy, &network, notes)?;
-    let Ok(text) = certified(alloc, &network, hierarchy.as_ref(), query.as_bytes()) else {
+    let (network, hierarchy) = read_both(alloc, region, hierarchy, shelf, notes, caps)?;
+    write_certified(alloc, &network, hierarchy.as_ref(), query.as_bytes(), out)
+}
+
+/// Writes the certificate of a query line, or its block where the line is refused.
+fn write_certified<O: Sink>(
+    alloc: Global,
+    network: &Network,
+    hierarchy: Option<&Hierarchy>,
+    line: &[u8],
+    out: &mut O,
+) -> Result<(), Outcome>
+    requires { IfSome hierarchy (λ h. IsSound network.now h.now) }
+    ensures { (old new : ShelfMeaning) → WritesText (IsCertified network.now (option_map (λ h. h.now) hierarchy.entry) line.now) old new (O.meaning out.old) (O.meaning out.new) (end_of result) }
+{
+    let Ok(text) = certified(alloc, network, hierarchy, line) else {
         return Err(Outcome::OutOfMemory);
     };
-    write_text(out, &text)?;
-    Ok(())
+    write_text(out, &text)
 }
 
 /// The text of the certificate of a query line, or its block where the line is refused.
@@ -84,6 +97,5 @@ fn certificate_text(
         result: best,
         labels,
     };
-    let text = print(alloc, &certificate)?;
-    Ok(text)
+    print(alloc, &certificate)
 }

@@ -4,6 +4,7 @@
 mod answering;
 mod certifying;
 mod laws;
+mod reading;
 mod verifying;
 
 pub use answering::answer;

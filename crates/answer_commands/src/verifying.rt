@@ -8,14 +8,14 @@ ghost use Rattle.run_steps.specs.Sayings.{end_of};
 ghost use Rattle.answer_commands.specs.Commands.{SaysVerify};
 ghost use Rattle.answer_commands.specs.Outputs.{best_certificates, body_of};
 
+use crate::reading::read_both;
 use certificate::{CertFault, CertVerdict, Certificate, read};
 use certificate_steps::{Certificates, write_verified};
 use hierarchy::Hierarchy;
-use hierarchy_commands::read_if_named;
 use journey::{BlockBody, block};
 use mode_network::{Journey, Network};
 use plan_base::{Caps, Shelf, Sink, Time};
-use run_steps::{Outcome, read_region};
+use run_steps::Outcome;
 use std::alloc::{AllocError, Global};
 
 /// Certificates of earliest arrival, whose labels are over a hierarchy, if there is one.
@@ -69,8 +69,7 @@ pub fn verify<F: Shelf, O: Sink, E: Sink>(
 ) -> Result<(), Outcome>
     ensures { SaysVerify caps.now region.now certificate.now (option_map (λ it. it.now) hierarchy.entry) (F.meaning shelf.old) (F.meaning shelf.new) (O.meaning out.old) (O.meaning out.new) (end_of result) }
 {
-    let network = read_region(alloc, shelf, region, caps, notes)?;
-    let hierarchy = read_if_named(alloc, shelf, hierarchy, &network, notes)?;
+    let (network, hierarchy) = read_both(alloc, region, hierarchy, shelf, notes, caps)?;
     verify_over(
         alloc,
         &network,
