@@ -1,7 +1,11 @@
 //! The commands `few` and `latest`: the block of each query line of a file.
 
-ghost use Rattle.run_steps.specs.Sayings.{end_of};
-ghost use Rattle.late_commands.specs.Commands.{SaysFew, SaysLatest};
+ghost use Rattle.plan_base.specs.Shelves.{ShelfMeaning};
+ghost use Rattle.few_boardings.specs.Blocks.{IsFewBlock};
+ghost use Rattle.latest_departure.specs.Blocks.{IsLateBlock};
+ghost use Rattle.run_steps.specs.declared.outcome.FileRole.TheVariants.{Queries};
+ghost use Rattle.run_steps.specs.Sayings.{OnFile, end_of};
+ghost use Rattle.late_commands.specs.Commands.{SaysFew, SaysLatest, WritesBlocks};
 
 use few_boardings::few_block;
 use latest_departure::{Backwards, late_block};
@@ -76,10 +80,24 @@ pub fn few<F: Shelf, O: Sink, E: Sink>(
     ensures { SaysFew caps.now region.now queries.now (F.meaning shelf.old) (F.meaning shelf.new) (O.meaning out.old) (O.meaning out.new) (end_of result) }
 {
     let network = read_region(alloc, shelf, region, caps, notes)?;
-    let text = read_file(alloc, shelf, queries, FileRole::Queries, notes)?;
-    let few = FewBlocks { network: &network };
-    write_blocks(alloc, &few, queries, &text, out, notes)?;
-    Ok(())
+    few_over(alloc, &network, queries, shelf, out, notes)
+}
+
+/// Reads the queries file of this path, and writes for each query line the block of the journeys that are worth their
+/// boardings.
+fn few_over<F: Shelf, O: Sink, E: Sink>(
+    alloc: Global,
+    network: &Network,
+    path: &str,
+    shelf: &mut F,
+    out: &mut O,
+    notes: &mut E,
+) -> Result<(), Outcome>
+    ensures { OnFile Queries path.now (WritesBlocks (IsFewBlock network.now)) (F.meaning shelf.old) (F.meaning shelf.new) (O.meaning out.old) (O.meaning out.new) (end_of result) }
+{
+    let text = read_file(alloc, shelf, path, FileRole::Queries, notes)?;
+    let few = FewBlocks { network };
+    write_all(alloc, &few, path, &text, out, notes)
 }
 
 /// Reads the region and the queries file of these names, and writes for each query line the block of the latest departure.
@@ -95,13 +113,56 @@ pub fn latest<F: Shelf, O: Sink, E: Sink>(
     ensures { SaysLatest caps.now region.now queries.now (F.meaning shelf.old) (F.meaning shelf.new) (O.meaning out.old) (O.meaning out.new) (end_of result) }
 {
     let network = read_region(alloc, shelf, region, caps, notes)?;
-    let text = read_file(alloc, shelf, queries, FileRole::Queries, notes)?;
-    let Ok(backwards) = Backwards::new(alloc, &network) else {
+    latest_over(alloc, &network, queries, shelf, out, notes)
+}
+
+/// Reads the queries file of this path, and writes for each query line the block of the latest departure.
+fn latest_over<F: Shelf, O: Sink, E: Sink>(
+    alloc: Global,
+    network: &Network,
+    path: &str,
+    shelf: &mut F,
+    out: &mut O,
+    notes: &mut E,
+) -> Result<(), Outcome>
+    ensures { OnFile Queries path.now (WritesBlocks (IsLateBlock network.now)) (F.meaning shelf.old) (F.meaning shelf.new) (O.meaning out.old) (O.meaning out.new) (end_of result) }
+{
+    let text = read_file(alloc, shelf, path, FileRole::Queries, notes)?;
+    write_late(alloc, network, path, &text, out, notes)
+}
+
+/// Writes for each query line of a queries file the block of the latest departure.
+fn write_late<O: Sink, E: Sink>(
+    alloc: Global,
+    network: &Network,
+    path: &str,
+    text: &[u8],
+    out: &mut O,
+    notes: &mut E,
+) -> Result<(), Outcome>
+    ensures { (old new : ShelfMeaning) → WritesBlocks (IsLateBlock network.now) text.now old new (O.meaning out.old) (O.meaning out.new) (end_of result) }
+{
+    let Ok(backwards) = Backwards::new(alloc, network) else {
         return Err(Outcome::OutOfMemory);
     };
     let late = LateBlocks {
         backwards: &backwards,
     };
-    write_blocks(alloc, &late, queries, &text, out, notes)?;
+    write_all(alloc, &late, path, text, out, notes)
+}
+
+/// Writes a right block of each query line of a queries file, of which nothing is counted.
+fn write_all<B: LineBlocks, O: Sink, E: Sink>(
+    alloc: Global,
+    blocks: &B,
+    path: &str,
+    text: &[u8],
+    out: &mut O,
+    notes: &mut E,
+) -> Result<(), Outcome>
+    requires { B.may blocks.now }
+    ensures { (old new : ShelfMeaning) → WritesBlocks (B.is_block blocks.now) text.now old new (O.meaning out.old) (O.meaning out.new) (end_of result) }
+{
+    write_blocks(alloc, blocks, path, text, out, notes)?;
     Ok(())
 }

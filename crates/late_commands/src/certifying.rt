@@ -4,7 +4,8 @@ ghost use Rattle.std.specs.Prelude.{◌<◌, ◌^◌, IfOk};
 ghost use Rattle.plain_texts.specs.Lines.{IsLine};
 ghost use Rattle.mode_expression.specs.Form.{form_of, IsUsable};
 ghost use Rattle.journey.specs.Queries.{IsQuery};
-ghost use Rattle.run_steps.specs.Sayings.{end_of};
+ghost use Rattle.plan_base.specs.Shelves.{ShelfMeaning};
+ghost use Rattle.run_steps.specs.Sayings.{WritesText, end_of};
 ghost use Rattle.late_commands.specs.Outputs.{IsLateCertificateFor, IsLateCertified};
 ghost use Rattle.late_commands.specs.Commands.{SaysCertifyLatest};
 
@@ -28,11 +29,22 @@ pub fn certify_latest<F: Shelf, O: Sink, E: Sink>(
     ensures { SaysCertifyLatest caps.now region.now query.now (F.meaning shelf.old) (F.meaning shelf.new) (O.meaning out.old) (O.meaning out.new) (end_of result) }
 {
     let network = read_region(alloc, shelf, region, caps, notes)?;
-    let Ok(text) = certified(alloc, &network, query.as_bytes()) else {
+    write_certified(alloc, &network, query.as_bytes(), out)
+}
+
+/// Writes the late certificate of a query line, or its block where the line is refused.
+fn write_certified<O: Sink>(
+    alloc: Global,
+    network: &Network,
+    line: &[u8],
+    out: &mut O,
+) -> Result<(), Outcome>
+    ensures { (old new : ShelfMeaning) → WritesText (IsLateCertified network.now line.now) old new (O.meaning out.old) (O.meaning out.new) (end_of result) }
+{
+    let Ok(text) = certified(alloc, network, line) else {
         return Err(Outcome::OutOfMemory);
     };
-    write_text(out, &text)?;
-    Ok(())
+    write_text(out, &text)
 }
 
 /// The text of the late certificate of a query line, or its block where the line is refused.
@@ -61,6 +73,5 @@ fn certificate_text(alloc: Global, network: &Network, query: Query) -> Result<Ve
     ensures { IfOk result (λ text. IsLateCertificateFor network.now query.line text.items) }
 {
     let certificate = certify_late(alloc, network, query)?;
-    let text = print_late(alloc, &certificate)?;
-    Ok(text)
+    print_late(alloc, &certificate)
 }

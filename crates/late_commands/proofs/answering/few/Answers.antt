@@ -1,38 +1,8 @@
-use Rattle.std.proofs.Common.{inl, inr, refl, sym, subst}
-use Rattle.std.proofs.lemmas.Result.{err_from_is_err_and}
-use Rattle.plan_base.specs.Shelves.{HasRead}
-use Rattle.run_steps.specs.Sayings.{most_bytes}
 use Rattle.run_steps.proofs.Steps.{on_region}
-use Rattle.few_boardings.specs.Blocks.{IsFewBlock}
-use Rattle.line_blocks.specs.QueryLines.{query_lines}
-use Rattle.line_blocks.specs.Blocks.{AreBlocks, BeginsBlocks}
-use Rattle.line_blocks.proofs.OutcomeLemmas.{blocks_fail}
 use Rattle.late_commands.proofs.answering.few.Goals as goal
 
-pub returns-in_err-text : goal.returns-in_err-text
-returns-in_err-text g c =
-    let p = err_from_is_err_and c.from_residual-in_err-text.result c.from_residual-in_err-text.ensures.1 in
-    let out = g.O.Sink.meaning c.args.out.now in
-    rw (p.1, p.2)
-    (on_region (g.F.Shelf.meaning c.args.shelf.now) (g.F.Shelf.meaning c.read_region.new.shelf) (g.F.Shelf.meaning c.read_file.new.shelf) out out c.args.region.now
-    c.args.caps.now _ c.in_ok-network.network c.in_ok-network.ensures.ok c.in_ok-network.ensures.later _ (inl (c.in_err-text.ensures.err, refl)))
-
-pub returns-in_err-write_blocks : goal.returns-in_err-write_blocks
-returns-in_err-write_blocks g c =
-    let p = err_from_is_err_and c.from_residual-in_err-write_blocks.result c.from_residual-in_err-write_blocks.ensures.1 in
-    let before = g.O.Sink.meaning c.args.out.now in
-    let after = g.O.Sink.meaning c.write_blocks.new.out in
-    let mid = g.F.Shelf.meaning c.read_region.new.shelf in
-    let new = g.F.Shelf.meaning c.read_file.new.shelf in
-    let IsBlock = IsFewBlock c.in_ok-network.network in
-    let lines = query_lines c.deref.result.now in
-    rw (p.1, p.2)
-    (on_region (g.F.Shelf.meaning c.args.shelf.now) mid new before after c.args.region.now
-    c.args.caps.now _ c.in_ok-network.network c.in_ok-network.ensures.ok c.in_ok-network.ensures.later _
-    (inr (record {
-      bytes = c.deref.result.now;
-      file = subst (HasRead mid c.args.queries.now most_bytes) (sym c.deref.ensures.value) c.in_ok-text.ensures.ok;
-      mid = new;
-      later = c.in_ok-text.ensures.later;
-      says = blocks_fail IsBlock lines (AreBlocks IsBlock lines) (BeginsBlocks IsBlock lines) (λ out begins. begins) new new before after _ c.in_err-write_blocks.ensures.err;
-    })))
+pub returns : goal.returns
+returns g c =
+    on_region (g.F.Shelf.meaning c.args.shelf.now) (g.F.Shelf.meaning c.read_region.new.shelf) (g.F.Shelf.meaning c.few_over.new.shelf)
+    (g.O.Sink.meaning c.args.out.now) (g.O.Sink.meaning c.few_over.new.out) c.args.region.now
+    c.args.caps.now _ c.in_ok-network.network c.in_ok-network.ensures.ok c.in_ok-network.ensures.later _ c.few_over.ensures

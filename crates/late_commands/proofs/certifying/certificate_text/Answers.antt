@@ -1,4 +1,6 @@
+use Rattle.std.proofs.lemmas.Result.{IfOk-weaker}
 use Rattle.late_commands.proofs.certifying.certificate_text.Goals as goal
 
 pub returns : goal.returns
-returns c = record { claim = c.in_ok-certificate.certificate; text = c.in_ok-text.ensures; of = c.in_ok-certificate.ensures }
+returns c =
+    IfOk-weaker c.print_late.result _ _ (λ text is. record { claim = c.in_ok-certificate.certificate; text = is; of = c.in_ok-certificate.ensures }) c.print_late.ensures

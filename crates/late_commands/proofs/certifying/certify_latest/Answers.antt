@@ -1,16 +1,11 @@
-use Rattle.std.proofs.lemmas.Result.{err_from_is_err_and}
-use Rattle.run_steps.proofs.Steps.{on_region, text_fails}
+use Rattle.run_steps.proofs.Steps.{on_region}
+use Rattle.run_steps.specs.Sayings.{WritesText}
 use Rattle.late_commands.specs.Outputs.{IsLateCertified}
 use Rattle.late_commands.proofs.certifying.certify_latest.Goals as goal
 
-pub returns-in_err-write_text : goal.returns-in_err-write_text
-returns-in_err-write_text g c =
-    let p = err_from_is_err_and c.from_residual-in_err-write_text.result c.from_residual-in_err-write_text.ensures.1 in
-    let before = g.O.Sink.meaning c.args.out.now in
-    let after = g.O.Sink.meaning c.write_text.new.out in
+pub returns : goal.returns
+returns g c =
     let new = g.F.Shelf.meaning c.read_region.new.shelf in
-    rw (p.1, p.2)
-    (on_region (g.F.Shelf.meaning c.args.shelf.now) new new before after c.args.region.now
-    c.args.caps.now _ c.in_ok-network.network c.in_ok-network.ensures.ok c.in_ok-network.ensures.later _
-    (text_fails new new before after (IsLateCertified c.in_ok-network.network c.args.query.now) c.in-Ok.text.items (rw c.as_bytes.ensures.value at c.in-Ok.ensures) _
-    (rw (← c.deref.ensures.value) c.in_err-write_text.ensures.err)))
+    on_region (g.F.Shelf.meaning c.args.shelf.now) new new (g.O.Sink.meaning c.args.out.now) (g.O.Sink.meaning c.write_certified.new.out) c.args.region.now
+    c.args.caps.now (λ n. WritesText (IsLateCertified n c.args.query.now)) c.in_ok-network.network c.in_ok-network.ensures.ok c.in_ok-network.ensures.later _
+    (rw c.as_bytes.ensures.value at c.write_certified.ensures new new)
