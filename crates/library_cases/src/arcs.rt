@@ -4,63 +4,74 @@ ghost use Rattle.std.specs.Prelude.{◌≡◌, ◌<◌, Some, IfSome, length};
 ghost use Rattle.search_laws.specs.GraphLaws.{HasArc};
 ghost use Rattle.plain_graph.specs.PlainArcs.{plain_meaning};
 
+use crate::{out, parts};
 use case_script::words;
-use mode_network::Network;
+use mode_network::{Journey, Network};
 use plain_graph::Plain;
 use plan_base::Time;
 use product_search::{Hop, Walk};
 use search_laws::Graph;
-use std::io;
 use timetable_arcs::{Instance, Timetable};
 use unpack::from_plain;
 
 /// `arcs REGION T`: the arcs out of each node, and when each arrives that is taken at this time.
-pub fn arcs(rt: &HostRuntime, network: &Network, time: &[u8]) -> io::Result<()> {
+pub fn arcs(rt: &HostRuntime, network: &Network, time: &[u8]) {
     let plain = Plain::new(network);
-    print!(rt; "the arcs of the graph")?;
+    out::text(rt, "the arcs of the graph");
     for v in 0..plain.nodes() {
-        print_arcs(rt, &plain, v, Time::from(words::number(time)))?;
+        print_arcs(rt, &plain, v, Time::from(words::number(time)));
     }
-    Ok(())
 }
 
-fn print_arcs(rt: &HostRuntime, plain: &Plain<'_>, v: u32, t: Time) -> io::Result<()> {
+fn print_arcs(rt: &HostRuntime, plain: &Plain<'_>, v: u32, t: Time) {
     if v >= plain.nodes() || t >= 1_000_000_000_000_000_000_000 {
-        return Ok(());
+        return;
     }
     for i in 0..plain.arcs(v) {
-        let (arc, own) = (plain.arc_at(v, i), plain.plain_arc(v, i));
-        let (to, letter) = (arc.to, arc.letter);
-        let (ride, at) = (plain.ride(v, i), plain.arrive(v, i, t));
-        print!(rt;
-            "\n{v}, {i}: {own:?} to {to}, letter {letter:?}, ride {ride:?}, arrives {at:?}"
-        )?;
+        let arc = plain.arc_at(v, i);
+        out::shown(rt, "\n", &v);
+        out::shown(rt, ", ", &i);
+        out::debug(rt, ": ", &plain.plain_arc(v, i));
+        out::shown(rt, " to ", &arc.to);
+        out::debug(rt, ", letter ", &arc.letter);
+        out::debug(rt, ", ride ", &plain.ride(v, i));
+        out::debug(rt, ", arrives ", &plain.arrive(v, i, t));
     }
-    Ok(())
 }
 
 /// `unpacked REGION V T I`: the steps of the walk by the arc at place I of those out of a node, taken at a time.
-pub fn unpacked(rt: &HostRuntime, network: &Network, words: &[u8]) -> io::Result<()> {
-    let (v, rest) = words::cut(words);
-    let (t, i) = words::cut(rest);
-    let (node, at) = (words::node(v), Time::from(words::number(t)));
+pub fn unpacked(rt: &HostRuntime, network: &Network, words: &[u8]) {
+    let (node, at) = (parts::node(words, 0), Time::from(parts::number(words, 1)));
     let plain = Plain::new(network);
-    match hop(&plain, node, at, words::number(i)) {
-        Some(hop) => {
-            let hops = vec![in rt.alloc(); hop]?;
-            let walk = Walk {
-                node,
-                state: 0,
-                at,
-                hops,
-            };
-            let journey = from_plain(rt.alloc(), &plain, &walk)?;
-            let (start, at) = (journey.start, journey.at);
-            let steps = journey.steps.as_slice();
-            print!(rt; "from {start} at {at}: {steps:?}")
-        }
-        None => print!(rt; "no arc, or it never arrives"),
+    match hop(&plain, node, at, parts::number(words, 2)) {
+        Some(hop) => print_walk(rt, &plain, node, at, hop),
+        None => out::text(rt, "no arc, or it never arrives"),
     }
+}
+
+/// Prints the steps of the walk from a node by a hop.
+fn print_walk(rt: &HostRuntime, plain: &Plain<'_>, node: u32, at: Time, hop: Hop)
+    requires has { HasArc (plain_meaning plain.now.network.now plain.now.timetable.now) node hop.arc }
+    requires arrives { (plain_meaning plain.now.network.now plain.now.timetable.now).arrive node hop.arc at ≡ Some hop.at }
+    requires to { hop.to ≡ ((plain_meaning plain.now.network.now plain.now.timetable.now).arc_at node hop.arc).to }
+{
+    if let Ok(hops) = vec![in rt.alloc(); hop] {
+        let walk = Walk {
+            node,
+            state: 0,
+            at,
+            hops,
+        };
+        if let Ok(journey) = from_plain(rt.alloc(), plain, &walk) {
+            print_journey(rt, &journey);
+        }
+    }
+}
+
+fn print_journey(rt: &HostRuntime, journey: &Journey) {
+    out::shown(rt, "from ", &journey.start);
+    out::shown(rt, " at ", &journey.at);
+    out::debug(rt, ": ", &journey.steps);
 }
 
 /// The hop by the arc at place `i` of those out of `v`, taken at `t`.
@@ -88,61 +99,57 @@ fn hop(plain: &Plain<'_>, v: u32, t: Time, i: u64) -> Option<Hop>
 }
 
 /// `patterns REGION`: the patterns of the timetable, and the rides from each stop.
-pub fn patterns(rt: &HostRuntime, network: &Network) -> io::Result<()> {
+pub fn patterns(rt: &HostRuntime, network: &Network) {
     let table = network.timetable();
-    let count = table.patterns();
-    print!(rt; "{count} patterns")?;
-    for p in 0..count {
-        let (letter, calls) = (table.pattern_letter(p), table.pattern_calls(p).len());
-        print!(rt; "\n{p}: letter {letter}, {calls} calls")?;
+    out::shown(rt, "", &table.patterns());
+    out::text(rt, " patterns");
+    for p in 0..table.patterns() {
+        out::shown(rt, "\n", &p);
+        out::shown(rt, ": letter ", &table.pattern_letter(p));
+        out::shown(rt, ", ", &table.pattern_calls(p).len());
+        out::text(rt, " calls");
     }
     for v in 0..network.nodes() {
         if let Some(stop) = network.stop_at(v) {
-            print_rides(rt, table, stop)?;
+            print_rides(rt, table, stop);
         }
     }
-    Ok(())
 }
 
 /// The places to board at a stop, and its rides.
-fn print_rides(rt: &HostRuntime, table: &Timetable, stop: u32) -> io::Result<()>
+fn print_rides(rt: &HostRuntime, table: &Timetable, stop: u32)
     requires { stop < table.now.stops }
 {
     for board in table.boards(stop) {
-        print!(rt; "\nstop {stop}: {board:?}")?;
+        out::shown(rt, "\nstop ", &stop);
+        out::debug(rt, ": ", board);
     }
     for i in 0..table.rides(stop) {
-        let ride = table.ride(stop, i);
-        print!(rt; "\nstop {stop}: {ride:?}")?;
+        out::shown(rt, "\nstop ", &stop);
+        out::debug(rt, ": ", &table.ride(stop, i));
     }
-    Ok(())
 }
 
 /// `runs REGION PATTERN CALL TIME`: the next run of a pattern that leaves a call at a time or later, and the last that is there by then.
-pub fn runs(rt: &HostRuntime, network: &Network, words: &[u8]) -> io::Result<()> {
-    let (p, rest) = words::cut(words);
-    let (call, time) = words::cut(rest);
-    let (p, call, time) = (
-        words::node(p),
-        words::node(call),
-        Time::from(words::number(time)),
-    );
+pub fn runs(rt: &HostRuntime, network: &Network, words: &[u8]) {
+    let (p, call) = (parts::node(words, 0), parts::node(words, 1));
+    let time = Time::from(parts::number(words, 2));
     let table = network.timetable();
     if p >= table.patterns() || call as usize >= table.pattern_calls(p).len() {
-        return print!(rt; "no such call");
+        out::text(rt, "no such call");
+    } else {
+        print_run(rt, "next ", table.next(p, call, time));
+        print_run(rt, ", last ", table.last(p, call, time));
     }
-    print!(rt; "next ")?;
-    print_run(rt, table.next(p, call, time))?;
-    print!(rt; ", last ")?;
-    print_run(rt, table.last(p, call, time))
 }
 
-fn print_run(rt: &HostRuntime, run: Option<Instance>) -> io::Result<()> {
+fn print_run(rt: &HostRuntime, before: &str, run: Option<Instance>) {
+    out::text(rt, before);
     match run {
         Some(run) => {
-            let (trip, day) = (run.trip, run.day);
-            print!(rt; "trip {trip} of day {day}")
+            out::shown(rt, "trip ", &run.trip);
+            out::shown(rt, " of day ", &run.day);
         }
-        None => print!(rt; "none"),
+        None => out::text(rt, "none"),
     }
 }

@@ -3,80 +3,82 @@
 ghost use Rattle.std.specs.Prelude.{◌<◌};
 ghost use Rattle.mode_expression.specs.Form.{form_of, IsUsable};
 
+use crate::{out, parts};
 use automaton::{Collapsed, OneState, Positions};
-use case_script::words;
 use mode_expression::{Expr, Letter, parse};
 use search_laws::Labels;
-use std::io;
 
 /// `accepts WORD EXPR`, the letters of the word parted by `,`: whether the positions accept the word, and whether the
 /// collapsed automaton does.
-pub fn accepts(rt: &HostRuntime, words: &[u8]) -> io::Result<()> {
-    let (word, text) = words::cut(words);
-    match parse(rt.alloc(), text) {
-        Ok(expr) => print_accepted(rt, &expr, word),
-        Err(fault) => print!(rt; "{fault}"),
+pub fn accepts(rt: &HostRuntime, words: &[u8]) {
+    match parse(rt.alloc(), parts::behind(words, 1)) {
+        Ok(expr) => print_accepted(rt, &expr, parts::word(words, 0)),
+        Err(fault) => out::shown(rt, "", &fault),
     }
 }
 
-fn print_accepted(rt: &HostRuntime, expr: &Expr, word: &[u8]) -> io::Result<()>
+fn print_accepted(rt: &HostRuntime, expr: &Expr, word: &[u8])
     requires { IsUsable (form_of expr.now) }
 {
-    let positions = Positions::of(rt.alloc(), expr)?;
-    let exactly = is_accepted(&positions, word);
-    let collapsed = is_accepted(&Collapsed::new(positions), word);
-    print!(rt; "positions {exactly}, collapsed {collapsed}")
+    if let Ok(positions) = Positions::of(rt.alloc(), expr) {
+        out::shown(rt, "positions ", &is_accepted(&positions, word));
+        let collapsed = Collapsed::new(positions);
+        out::shown(rt, ", collapsed ", &is_accepted(&collapsed, word));
+    }
 }
 
 /// `one WORD`: whether the automaton of one state accepts a word, as it does each.
-pub fn one(rt: &HostRuntime, word: &[u8]) -> io::Result<()> {
-    let (count, accepted) = (OneState.states(), is_accepted(&OneState, word));
-    print!(rt; "{count} state; accepted {accepted}")
+pub fn one(rt: &HostRuntime, word: &[u8]) {
+    out::shown(rt, "", &OneState.states());
+    out::shown(rt, " state; accepted ", &is_accepted(&OneState, word));
 }
 
 /// `size EXPRESSION`: how many states the position automaton has, and how many moves its last one.
-pub fn size(rt: &HostRuntime, text: &[u8]) -> io::Result<()> {
+pub fn size(rt: &HostRuntime, text: &[u8]) {
     match parse(rt.alloc(), text) {
         Ok(expr) => print_size(rt, &expr),
-        Err(fault) => print!(rt; "{fault}"),
+        Err(fault) => out::shown(rt, "", &fault),
     }
 }
 
-fn print_size(rt: &HostRuntime, expr: &Expr) -> io::Result<()>
+fn print_size(rt: &HostRuntime, expr: &Expr)
     requires { IsUsable (form_of expr.now) }
 {
-    let positions = Positions::of(rt.alloc(), expr)?;
-    let count = positions.states();
-    let moves = match count.checked_sub(1) {
-        Some(last) => positions.moves(last),
-        None => 0,
-    };
-    print!(rt; "{count} states; the last has {moves} moves")
+    if let Ok(positions) = Positions::of(rt.alloc(), expr) {
+        let count = positions.states();
+        let moves = match count.checked_sub(1) {
+            Some(last) => positions.moves(last),
+            None => 0,
+        };
+        out::shown(rt, "", &count);
+        out::shown(rt, " states; the last has ", &moves);
+        out::text(rt, " moves");
+    }
 }
 
 /// `states EXPR`: the moves of each state of the positions, and of the collapsed automaton; a move as the bits of its
 /// letters and the state that it leads to.
-pub fn states(rt: &HostRuntime, text: &[u8]) -> io::Result<()> {
+pub fn states(rt: &HostRuntime, text: &[u8]) {
     match parse(rt.alloc(), text) {
         Ok(expr) => print_automata(rt, &expr),
-        Err(fault) => print!(rt; "{fault}"),
+        Err(fault) => out::shown(rt, "", &fault),
     }
 }
 
-fn print_automata(rt: &HostRuntime, expr: &Expr) -> io::Result<()>
+fn print_automata(rt: &HostRuntime, expr: &Expr)
     requires { IsUsable (form_of expr.now) }
 {
-    let positions = Positions::of(rt.alloc(), expr)?;
-    print_states(rt, &positions)?;
-    print!(rt; "\ncollapsed ")?;
-    print_states(rt, &Collapsed::new(positions))
+    if let Ok(positions) = Positions::of(rt.alloc(), expr) {
+        print_states(rt, "", &positions);
+        print_states(rt, "\ncollapsed ", &Collapsed::new(positions));
+    }
 }
 
 /// Whether the automaton, of at most 128 states, reads the letters from one of its start states to an accepting one.
 fn is_accepted<L: Labels>(labels: &L, word: &[u8]) -> bool {
     let mut here = starts(labels);
-    for name in word.split(|byte| *byte == b',') {
-        if let Some(letter) = Letter::from_name(name) {
+    for i in 0..parts::count(word, b',') {
+        if let Some(letter) = Letter::from_name(parts::part(word, b',', i)) {
             here = after(labels, here, letter.number());
         }
     }
@@ -99,12 +101,21 @@ fn after<L: Labels>(labels: &L, here: u128, letter: u8) -> u128 {
     let mut next = 0;
     for state in 0..labels.states() {
         if here & bit(state) != 0 {
-            for i in 0..labels.moves(state) {
-                let step = labels.move_at(state, i);
-                if letter < 14 && step.letters >> letter & 1 == 1 {
-                    next |= bit(step.to);
-                }
-            }
+            next |= moved(labels, state, letter);
+        }
+    }
+    next
+}
+
+/// The states after a letter that is read in a state.
+fn moved<L: Labels>(labels: &L, state: u32, letter: u8) -> u128
+    requires { state < (L.automaton labels.now).states }
+{
+    let mut next = 0;
+    for i in 0..labels.moves(state) {
+        let step = labels.move_at(state, i);
+        if letter < 14 && step.letters >> letter & 1 == 1 {
+            next |= bit(step.to);
         }
     }
     next
@@ -123,34 +134,34 @@ fn bit(state: u32) -> u128 {
     1u128 << (state % 128)
 }
 
-fn print_states<L: Labels>(rt: &HostRuntime, labels: &L) -> io::Result<()> {
-    let count = labels.states();
-    print!(rt; "{count} states:")?;
-    for state in 0..count {
-        print_moves(rt, labels, state)?;
+fn print_states<L: Labels>(rt: &HostRuntime, before: &str, labels: &L) {
+    out::shown(rt, before, &labels.states());
+    out::text(rt, " states:");
+    for state in 0..labels.states() {
+        print_moves(rt, labels, state);
     }
-    Ok(())
 }
 
 /// The moves of a state by some letter, if there are any.
-fn print_moves<L: Labels>(rt: &HostRuntime, labels: &L, state: u32) -> io::Result<()>
+fn print_moves<L: Labels>(rt: &HostRuntime, labels: &L, state: u32)
     requires { state < (L.automaton labels.now).states }
 {
-    let mut moves = 0u32;
+    let mut some = false;
     for i in 0..labels.moves(state) {
         let step = labels.move_at(state, i);
-        let (letters, to) = (step.letters, step.to);
-        if letters != 0 {
-            if moves == 0 {
-                print!(rt; " {state}[{letters:x}>{to}")?;
+        if step.letters != 0 {
+            if !some {
+                out::shown(rt, " ", &state);
+                out::text(rt, "[");
             } else {
-                print!(rt; " {letters:x}>{to}")?;
+                out::text(rt, " ");
             }
-            moves = moves.saturating_add(1);
+            out::hexadecimal(rt, "", u128::from(step.letters));
+            out::shown(rt, ">", &step.to);
+            some = true;
         }
     }
-    if moves != 0 {
-        print!(rt; "]")?;
+    if some {
+        out::text(rt, "]");
     }
-    Ok(())
 }

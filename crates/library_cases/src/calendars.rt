@@ -2,39 +2,30 @@
 //!
 //! A region's days are given as `FIRST COUNT RULE`, where RULE names a text, or is `-` for days of 24 hours.
 
+use crate::{out, parts};
 use case_script::{Script, words};
 use plan_base::Time;
 use service_days::{Days, RangeFault, ServiceRule, is_date, read_date};
 use std::alloc::{AllocError, Global};
-use std::io;
 
 /// `date TEXT`: whether a number is a date, and which one the digits are.
-pub fn date(rt: &HostRuntime, text: &[u8]) -> io::Result<()> {
-    let is = is_date(words::node(text));
-    let read = read_date(text);
-    print!(rt; "a date: {is}; read as {read:?}")
+pub fn date(rt: &HostRuntime, text: &[u8]) {
+    out::shown(rt, "a date: ", &is_date(words::node(text)));
+    out::debug(rt, "; read as ", &read_date(text));
 }
 
 /// What a call answers of the days that its first three words give.
-pub fn of_days(rt: &HostRuntime, script: &Script, call: &str, words: &[u8]) -> io::Result<()> {
-    let (first, rest) = words::cut(words);
-    let (count, rest) = words::cut(rest);
-    let (rule, rest) = words::cut(rest);
-    match days_of(rt.alloc(), first, count, script, rule) {
-        Ok(days) => answer(rt, script, &days, call, rest),
-        Err(fault) => print!(rt; "{fault:?}"),
+pub fn of_days(rt: &HostRuntime, script: &Script, call: &str, words: &[u8]) {
+    match days_of(rt.alloc(), script, words) {
+        Ok(days) => answer(rt, script, &days, call, parts::behind(words, 3)),
+        Err(fault) => out::debug(rt, "", &fault),
     }
 }
 
 /// The days of a first date, a count, and a rule.
-fn days_of(
-    alloc: Global,
-    first: &[u8],
-    count: &[u8],
-    script: &Script,
-    rule: &[u8],
-) -> Result<Days, RangeFault> {
-    let (first, count) = (words::node(first), words::node(count));
+fn days_of(alloc: Global, script: &Script, words: &[u8]) -> Result<Days, RangeFault> {
+    let (first, count) = (parts::node(words, 0), parts::node(words, 1));
+    let rule = parts::word(words, 2);
     if rule == b"-".as_slice() {
         Days::new(alloc, first, count)
     } else {
@@ -49,66 +40,58 @@ fn days_of(
 /// - `clock MS`: how a time is printed, and as what that is read again;
 /// - `moment TEXT`: the time that the text of this name spells;
 /// - `service WEEKDAYS FROM TO ADDED REMOVED`: the days of a service.
-fn answer(
-    rt: &HostRuntime,
-    script: &Script,
-    days: &Days,
-    call: &str,
-    words: &[u8],
-) -> io::Result<()> {
+fn answer(rt: &HostRuntime, script: &Script, days: &Days, call: &str, words: &[u8]) {
     match call {
         "days" => print_days(rt, days),
-        "day" => {
-            let day = days.day_of(words::node(words));
-            print!(rt; "{day:?}")
-        }
+        "day" => out::debug(rt, "", &days.day_of(words::node(words))),
         "clock" => clock(rt, days, words),
-        "moment" => {
-            let read = days.read_clock(script.text(words));
-            print!(rt; "{read:?}")
-        }
+        "moment" => out::debug(rt, "", &days.read_clock(script.text(words))),
         _ => service(rt, days, words),
     }
 }
 
-fn print_days(rt: &HostRuntime, days: &Days) -> io::Result<()> {
-    let (first, count, numbers) = (days.first(), days.count(), days.numbers());
-    let zone = crate::texts::of(days.zone().unwrap_or(b"no zone"));
-    print!(rt; "{first}, {count} days, {zone}")?;
-    for day in 0..numbers {
-        let (date, base) = (days.date(day), days.base(day));
-        print!(rt; "\n{day}: {date} from {base}")?;
+fn print_days(rt: &HostRuntime, days: &Days) {
+    print_range(rt, days);
+    for day in 0..days.numbers() {
+        out::shown(rt, "\n", &day);
+        out::shown(rt, ": ", &days.date(day));
+        out::shown(rt, " from ", &days.base(day));
     }
-    Ok(())
 }
 
-fn clock(rt: &HostRuntime, days: &Days, word: &[u8]) -> io::Result<()> {
+/// Prints the first date, the count of the days and their zone.
+pub fn print_range(rt: &HostRuntime, days: &Days) {
+    out::shown(rt, "", &days.first());
+    out::shown(rt, ", ", &days.count());
+    out::text(rt, " days, ");
+    out::bytes(rt, days.zone().unwrap_or(b"no zone"));
+}
+
+fn clock(rt: &HostRuntime, days: &Days, word: &[u8]) {
     let time = if word == b"last".as_slice() {
         u128::MAX
     } else {
         Time::from(words::number(word))
     };
-    let text = days.clock_text(rt.alloc(), time)?;
-    let read = days.read_clock(text.as_bytes());
-    print!(rt; "{text}, read as {read:?}")
+    if let Ok(text) = days.clock_text(rt.alloc(), time) {
+        out::text(rt, &text);
+        out::debug(rt, ", read as ", &days.read_clock(text.as_bytes()));
+    }
 }
 
 /// WEEKDAYS is seven digits, Monday first, or `-` for no rule; ADDED and REMOVED are dates that commas part.
-fn service(rt: &HostRuntime, days: &Days, words: &[u8]) -> io::Result<()> {
-    let (weekdays, rest) = words::cut(words);
-    let (from, rest) = words::cut(rest);
-    let (to, rest) = words::cut(rest);
-    let (added, removed) = words::cut(rest);
-    let rule = rule_of(weekdays, words::node(from), words::node(to));
-    let added = dates(rt.alloc(), added)?;
-    let removed = dates(rt.alloc(), removed)?;
-    let set = days.days_of(rule, &added, &removed).0;
-    print!(rt; "{set:b}")
+fn service(rt: &HostRuntime, days: &Days, words: &[u8]) {
+    if let Ok(added) = dates(rt.alloc(), parts::word(words, 3)) {
+        if let Ok(removed) = dates(rt.alloc(), parts::behind(words, 4)) {
+            let set = days.days_of(rule_of(words), &added, &removed).0;
+            let _ = print!(rt; "{set:b}");
+        }
+    }
 }
 
-/// The weekly rule of seven digits, if there is one.
-fn rule_of(digits: &[u8], first: u32, last: u32) -> Option<ServiceRule> {
-    let [mon, tue, wed, thu, fri, sat, sun] = digits else {
+/// The weekly rule of seven digits and two dates, if there is one.
+fn rule_of(words: &[u8]) -> Option<ServiceRule> {
+    let [mon, tue, wed, thu, fri, sat, sun] = parts::word(words, 0) else {
         return None;
     };
     let weekdays = [
@@ -122,15 +105,16 @@ fn rule_of(digits: &[u8], first: u32, last: u32) -> Option<ServiceRule> {
     ];
     Some(ServiceRule {
         weekdays,
-        first,
-        last,
+        first: parts::node(words, 1),
+        last: parts::node(words, 2),
     })
 }
 
 /// The dates that commas part; none where there is no word.
 fn dates(alloc: Global, word: &[u8]) -> Result<Vec<u32>, AllocError> {
     let mut dates = Vec::new(alloc);
-    for date in word.split(|byte| *byte == b',') {
+    for i in 0..parts::count(word, b',') {
+        let date = parts::part(word, b',', i);
         if !date.is_empty() && date != b"-".as_slice() {
             dates.push(words::node(date))?;
         }

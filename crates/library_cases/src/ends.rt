@@ -1,140 +1,177 @@
 //! What files are read from and output is written to: in memory, and a folder's.
 
-use crate::texts;
+use crate::{out, parts};
 use case_script::{Script, words};
 use plan_base::{
     FolderShelf, MemoryShelf, MemorySink, ReadFault, Shelf, Sink, StreamSink, read_whole, write_all,
 };
 use std::alloc::{AllocError, Global};
 use std::collections::BTreeMap;
-use std::{fs, io};
+use std::fs;
 
 /// `whole TEXT NAME CAP [K ..]`: the text of this name as the file `a`, the K-th reads of which fail; what reading the file NAME
 /// whole answers, of at most CAP bytes.
-pub fn whole(rt: &HostRuntime, script: &Script, words: &[u8]) -> io::Result<()> {
-    let (text, rest) = words::cut(words);
-    let (name, rest) = words::cut(rest);
-    let (cap, fail) = words::cut(rest);
-    let mut shelf = shelf_of(rt.alloc(), script.text(text), fail)?;
-    let cap = words::number(cap);
-    print_read(rt, read_whole(rt.alloc(), &mut shelf, texts::of(name), cap))
+pub fn whole(rt: &HostRuntime, script: &Script, words: &[u8]) {
+    let text = script.text(parts::word(words, 0));
+    let (name, cap) = (out::of(parts::word(words, 1)), parts::number(words, 2));
+    if let Ok(mut shelf) = shelf_of(rt.alloc(), text, parts::behind(words, 3)) {
+        print_whole(rt, &mut shelf, name, cap);
+    }
+}
+
+/// Prints what reading a file whole answers, of at most so many bytes.
+fn print_whole<S: Shelf>(rt: &HostRuntime, shelf: &mut S, name: &str, cap: u64) {
+    print_read(rt, read_whole(rt.alloc(), shelf, name, cap));
 }
 
 /// `reads TEXT ROOM AT ..`: what reads of the text of this name answer from each place in turn, into the same room.
-pub fn reads(rt: &HostRuntime, script: &Script, words: &[u8]) -> io::Result<()> {
-    let (text, rest) = words::cut(words);
-    let (room, places) = words::cut(rest);
-    let mut shelf = shelf_of(rt.alloc(), script.text(text), b"")?;
-    let mut room = vec![in rt.alloc(); b'.'; words::number(room) as usize]?;
-    print_reads(rt, &mut shelf, &mut room, places)
+pub fn reads(rt: &HostRuntime, script: &Script, words: &[u8]) {
+    let text = script.text(parts::word(words, 0));
+    let size = parts::number(words, 1) as usize;
+    if let Ok(mut shelf) = shelf_of(rt.alloc(), text, b"") {
+        if let Ok(mut room) = vec![in rt.alloc(); b'.'; size] {
+            print_reads(rt, &mut shelf, &mut room, parts::behind(words, 2));
+        }
+    }
 }
 
-fn print_reads(
-    rt: &HostRuntime,
-    shelf: &mut MemoryShelf,
-    room: &mut [u8],
-    places: &[u8],
-) -> io::Result<()> {
-    for at in places.split(|byte| *byte == b' ') {
-        let answer = shelf.read("a", words::number(at), room);
-        let bytes = texts::of(room);
-        print!(rt; "{answer:?} {bytes}; ")?;
+fn print_reads(rt: &HostRuntime, shelf: &mut MemoryShelf, room: &mut [u8], places: &[u8]) {
+    for i in 0..parts::count(places, b' ') {
+        let answer = shelf.read("a", parts::number(places, i), room);
+        out::debug(rt, "", &answer);
+        print_room(rt, room);
+        out::text(rt, "; ");
     }
-    Ok(())
 }
 
 /// `written_to ROOM MOST K BYTES`: whether all bytes were written to a sink with room for so many, of which each write takes so many
 /// at most and the K-th write fails; and what was.
-pub fn written_to(rt: &HostRuntime, words: &[u8]) -> io::Result<()> {
-    let (room, rest) = words::cut(words);
-    let (most, rest) = words::cut(rest);
-    let (fail, bytes) = words::cut(rest);
-    let (room, most) = (words::number(room) as usize, words::number(most) as usize);
-    let fail = vec![in rt.alloc(); words::number(fail)]?;
-    let mut sink = MemorySink::new(rt.alloc(), room, most.max(1), fail)?;
-    let whole = write_all(&mut sink, bytes).is_ok();
-    let written = texts::of(sink.bytes());
-    print!(rt; "whole {whole}: {written}")
+pub fn written_to(rt: &HostRuntime, words: &[u8]) {
+    if let Ok(mut sink) = sink_of(rt.alloc(), words) {
+        let whole = write_all(&mut sink, parts::behind(words, 3)).is_ok();
+        out::shown(rt, "whole ", &whole);
+        out::text(rt, ": ");
+        out::bytes(rt, sink.bytes());
+    }
+}
+
+fn sink_of(alloc: Global, words: &[u8]) -> Result<MemorySink, AllocError> {
+    let (room, most) = (parts::number(words, 0), parts::number(words, 1));
+    let fail = vec![in alloc; parts::number(words, 2)]?;
+    MemorySink::new(alloc, room as usize, (most as usize).max(1), fail)
 }
 
 /// `folder`: what is read of files that are written to the folder of the run: one of two pieces; none; the folder itself; one that is
 /// replaced while it is read. And what a stream with room for four bytes says to five.
-pub fn folder(rt: &HostRuntime) -> io::Result<()> {
-    let written = write(rt, "written.txt", b"first ", b"second")?;
-    print!(rt; "written {written}")?;
-    for (name, cap) in [
-        ("written.txt", 12),
-        ("written.txt", 11),
-        ("absent.txt", 12),
-        (".", 12),
-        ("written.txt/below", 12),
-    ] {
-        print!(rt; "\n{name}: ")?;
-        print_read(
-            rt,
-            read_whole(rt.alloc(), &mut FolderShelf::new(rt), name, cap),
-        )?;
-    }
-    fs::remove_file(rt, "written.txt")?;
-    print_replaced(rt)?;
-    let mut room = [0u8; 4];
+pub fn folder(rt: &HostRuntime) {
+    out::shown(
+        rt,
+        "written ",
+        &write(rt, "written.txt", "first ", "second"),
+    );
+    print_file(rt, "written.txt", 12);
+    print_file(rt, "written.txt", 11);
+    print_file(rt, "absent.txt", 12);
+    print_file(rt, ".", 12);
+    print_file(rt, "written.txt/below", 12);
+    remove(rt, "written.txt");
+    let mut room = [b'.'; 4];
+    print_replaced(rt, &mut room);
     let full = write_all(&mut StreamSink::new(room.as_mut_slice()), b"12345").is_ok();
-    print!(rt; "\nfive bytes fit into four: {full}")
+    out::shown(rt, "\nfive bytes fit into four: ", &full);
+}
+
+/// Prints what is read of a file in the folder of the run, of at most so many bytes.
+fn print_file(rt: &HostRuntime, name: &str, cap: u64) {
+    out::text(rt, "\n");
+    out::text(rt, name);
+    out::text(rt, ": ");
+    print_whole(rt, &mut FolderShelf::new(rt), name, cap);
 }
 
 /// Writes a file of two pieces to the folder of the run; whether all was written.
-fn write(rt: &HostRuntime, name: &str, front: &[u8], back: &[u8]) -> io::Result<bool> {
-    let mut sink = StreamSink::new(fs::create(rt, name)?);
-    Ok(write_all(&mut sink, front).is_ok() && write_all(&mut sink, back).is_ok())
+fn write(rt: &HostRuntime, name: &str, front: &str, back: &str) -> bool {
+    match fs::create(rt, name) {
+        Ok(file) => {
+            let mut sink = StreamSink::new(file);
+            write_all(&mut sink, front.as_bytes()).is_ok()
+                && write_all(&mut sink, back.as_bytes()).is_ok()
+        }
+        Err(_) => false,
+    }
 }
 
-/// What is read of a file, piece by piece, that is replaced behind the first piece.
-fn print_replaced(rt: &HostRuntime) -> io::Result<()> {
-    let old = write(rt, "old.txt", b"old ", b"bytes")?;
-    let written = write(rt, "new.txt", b"new", b"")? && old;
-    let mut shelf = FolderShelf::new(rt);
-    let mut room = [b'.'; 4];
-    let first = shelf.read("old.txt", 0, &mut room);
-    fs::rename(rt, "new.txt", "old.txt")?;
-    let next = shelf.read("old.txt", 4, &mut room);
-    let old = room;
-    let again = shelf.read("old.txt", 0, &mut room);
-    fs::remove_file(rt, "old.txt")?;
-    let (old, new) = (texts::of(&old), texts::of(&room));
-    print!(rt; "\nwritten {written}, first {first:?}, next {next:?} {old}, again {again:?} {new}")
+fn remove(rt: &HostRuntime, name: &str) {
+    let _ = fs::remove_file(rt, name);
+}
+
+/// What is read of a file, piece by piece, into the room of a piece, that is replaced behind the first piece.
+fn print_replaced(rt: &HostRuntime, room: &mut [u8]) {
+    let old = write(rt, "old.txt", "old ", "bytes");
+    let new = write(rt, "new.txt", "new", "");
+    out::shown(rt, "\nwritten ", &(old && new));
+    print_pieces(rt, &mut FolderShelf::new(rt), room);
+    remove(rt, "old.txt");
+}
+
+fn print_pieces<S: Shelf>(rt: &HostRuntime, shelf: &mut S, room: &mut [u8]) {
+    print_piece(rt, shelf, ", first ", 0, room);
+    let _ = fs::rename(rt, "new.txt", "old.txt");
+    print_piece(rt, shelf, ", next ", 4, room);
+    print_room(rt, room);
+    print_piece(rt, shelf, ", again ", 0, room);
+    print_room(rt, room);
+}
+
+/// Reads a piece of the file that is replaced.
+fn print_piece<S: Shelf>(
+    rt: &HostRuntime,
+    shelf: &mut S,
+    before: &str,
+    from: u64,
+    room: &mut [u8],
+) {
+    let answer = shelf.read("old.txt", from, room);
+    out::debug(rt, before, &answer);
+}
+
+fn print_room(rt: &HostRuntime, room: &[u8]) {
+    out::text(rt, " ");
+    out::bytes(rt, room);
 }
 
 /// A shelf with the file `a`, whose reads of these numbers fail.
 fn shelf_of(alloc: Global, bytes: &[u8], fail: &[u8]) -> Result<MemoryShelf, AllocError> {
-    let files = files_of(alloc, bytes)?;
+    let mut files = BTreeMap::new(alloc);
+    put_file(alloc, &mut files, bytes)?;
     Ok(MemoryShelf::new(files, numbers_of(alloc, fail)?))
 }
 
-fn files_of(alloc: Global, bytes: &[u8]) -> Result<BTreeMap<String, Vec<u8>>, AllocError> {
-    let mut files = BTreeMap::new(alloc);
+fn put_file(
+    alloc: Global,
+    files: &mut BTreeMap<String, Vec<u8>>,
+    bytes: &[u8],
+) -> Result<(), AllocError> {
     let name = String::from_str(alloc, "a")?;
     files.insert(name, Vec::from_slice(alloc, bytes)?)?;
-    Ok(files)
+    Ok(())
 }
 
 fn numbers_of(alloc: Global, words: &[u8]) -> Result<Vec<u64>, AllocError> {
     let mut numbers = Vec::new(alloc);
-    for word in words.split(|byte| *byte == b' ') {
-        numbers.push(words::number(word))?;
+    for i in 0..parts::count(words, b' ') {
+        numbers.push(parts::number(words, i))?;
     }
     Ok(numbers)
 }
 
-fn print_read(rt: &HostRuntime, read: Result<Vec<u8>, ReadFault>) -> io::Result<()> {
+fn print_read(rt: &HostRuntime, read: Result<Vec<u8>, ReadFault>) {
     match read {
-        Ok(bytes) if bytes.len() < 100 => {
-            let text = texts::of(&bytes);
-            print!(rt; "{text}")
-        }
+        Ok(bytes) if bytes.len() < 100 => out::bytes(rt, &bytes),
         Ok(bytes) => {
-            let count = bytes.len();
-            print!(rt; "{count} bytes")
+            out::shown(rt, "", &bytes.len());
+            out::text(rt, " bytes");
         }
-        Err(fault) => print!(rt; "{fault:?}"),
+        Err(fault) => out::debug(rt, "", &fault),
     }
 }

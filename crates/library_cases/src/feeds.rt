@@ -1,83 +1,88 @@
 //! Timetable feeds.
 
-use crate::texts;
+use crate::{out, parts};
 use case_script::{Script, words};
-use gtfs_tables::{Feed, FeedFiles, read_feed};
-use std::io;
+use gtfs_tables::{Feed, FeedFault, FeedFiles, read_feed};
 
 /// `feed FOLDER [KIND MOST]`: the rows of the feed whose files are the texts in a folder; or its first fault, in both spellings.
-pub fn feed(rt: &HostRuntime, script: &Script, words: &[u8]) -> io::Result<()> {
-    let (folder, limit) = words::cut(words);
+pub fn feed(rt: &HostRuntime, script: &Script, words: &[u8]) {
+    let folder = parts::word(words, 0);
     let files = FeedFiles {
-        agency: file(script, folder, b"/agency.txt"),
-        stops: file(script, folder, b"/stops.txt"),
-        routes: file(script, folder, b"/routes.txt"),
-        calendar: file(script, folder, b"/calendar.txt"),
-        calendar_dates: file(script, folder, b"/calendar_dates.txt"),
-        trips: file(script, folder, b"/trips.txt"),
-        frequencies: file(script, folder, b"/frequencies.txt"),
-        stop_times: file(script, folder, b"/stop_times.txt"),
+        agency: file(script, folder, "/agency.txt"),
+        stops: file(script, folder, "/stops.txt"),
+        routes: file(script, folder, "/routes.txt"),
+        calendar: file(script, folder, "/calendar.txt"),
+        calendar_dates: file(script, folder, "/calendar_dates.txt"),
+        trips: file(script, folder, "/trips.txt"),
+        frequencies: file(script, folder, "/frequencies.txt"),
+        stop_times: file(script, folder, "/stop_times.txt"),
     };
-    match read_feed(rt.alloc(), &files, &words::caps(limit)) {
+    let caps = words::caps(parts::behind(words, 1));
+    match read_feed(rt.alloc(), &files, &caps) {
         Ok(feed) => print_feed(rt, &feed),
-        Err(fault) => print!(rt; "{fault:?}: {fault}"),
+        Err(fault) => print_fault(rt, &fault),
     }
 }
 
 /// The text of a folder and a file name, if there is one.
-fn file<'a>(script: &'a Script, folder: &[u8], name: &[u8]) -> Option<&'a [u8]> {
+fn file<'a>(script: &'a Script, folder: &[u8], name: &str) -> Option<&'a [u8]> {
     for text in script.texts() {
-        if text.name.strip_prefix(folder) == Some(name) {
+        if text.name.strip_prefix(folder) == Some(name.as_bytes()) {
             return Some(&text.bytes);
         }
     }
     None
 }
 
-fn print_feed(rt: &HostRuntime, feed: &Feed) -> io::Result<()> {
-    print!(rt; "a feed")?;
+fn print_fault(rt: &HostRuntime, fault: &FeedFault) {
+    out::debug(rt, "", fault);
+    out::shown(rt, ": ", fault);
+}
+
+fn print_feed(rt: &HostRuntime, feed: &Feed) {
+    out::text(rt, "a feed");
     for row in &feed.stops {
-        let id = texts::of(row.id.as_bytes());
-        let (number, place) = (row.row, row.place);
-        print!(rt; "\nstop {id}, row {number}: {place:?}")?;
+        print_row(rt, "\nstop ", row.id.as_bytes(), row.row);
+        out::debug(rt, ": ", &row.place);
     }
     for row in &feed.routes {
-        let id = texts::of(row.id.as_bytes());
-        let (number, letter) = (row.row, row.letter);
-        print!(rt; "\nroute {id}, row {number}: letter {letter}")?;
+        print_row(rt, "\nroute ", row.id.as_bytes(), row.row);
+        out::shown(rt, ": letter ", &row.letter);
     }
-    print_services(rt, feed)?;
-    print_trips(rt, feed)
+    print_services(rt, feed);
+    print_trips(rt, feed);
 }
 
-fn print_services(rt: &HostRuntime, feed: &Feed) -> io::Result<()> {
+/// Prints the id of a row behind a text, and its number.
+fn print_row(rt: &HostRuntime, before: &str, id: &[u8], row: u64) {
+    out::text(rt, before);
+    out::bytes(rt, id);
+    out::shown(rt, ", row ", &row);
+}
+
+fn print_services(rt: &HostRuntime, feed: &Feed) {
     for row in &feed.services {
-        let id = texts::of(row.id.as_bytes());
-        let (number, rule) = (row.row, row.rule);
-        print!(rt; "\nservice {id}, row {number}: {rule:?}")?;
+        print_row(rt, "\nservice ", row.id.as_bytes(), row.row);
+        out::debug(rt, ": ", &row.rule);
     }
     for row in &feed.dates {
-        let id = texts::of(row.id.as_bytes());
-        let (number, date, added) = (row.row, row.date, row.added);
-        print!(rt; "\ndate of {id}, row {number}: {date}, added {added}")?;
+        print_row(rt, "\ndate of ", row.id.as_bytes(), row.row);
+        out::shown(rt, ": ", &row.date);
+        out::shown(rt, ", added ", &row.added);
     }
-    Ok(())
 }
 
-fn print_trips(rt: &HostRuntime, feed: &Feed) -> io::Result<()> {
+fn print_trips(rt: &HostRuntime, feed: &Feed) {
     for row in &feed.trips {
-        let (id, service) = (
-            texts::of(row.id.as_bytes()),
-            texts::of(row.service.as_bytes()),
-        );
-        let (number, route) = (row.row, row.route);
-        print!(rt; "\ntrip {id}, row {number}: route {route}, service {service}")?;
+        print_row(rt, "\ntrip ", row.id.as_bytes(), row.row);
+        out::shown(rt, ": route ", &row.route);
+        out::text(rt, ", service ");
+        out::bytes(rt, row.service.as_bytes());
     }
     for row in &feed.frequencies {
-        print!(rt; "\n{row:?}")?;
+        out::debug(rt, "\n", row);
     }
     for row in &feed.calls {
-        print!(rt; "\n{row:?}")?;
+        out::debug(rt, "\n", row);
     }
-    Ok(())
 }

@@ -13,36 +13,45 @@ mod feeds;
 mod hierarchies;
 mod maps;
 mod networks;
+mod out;
+mod parts;
 mod places;
 mod queries;
 mod roads;
 mod texts;
 
 use case_script::{Script, words};
+use std::alloc::AllocError;
 use std::{fs, io};
 
 fn main(rt: HostRuntime) -> io::Result<()> {
     let cases = fs::read(&rt, "cases")?;
+    play(&rt, &cases)?;
+    Ok(())
+}
+
+/// Prints each case, and what its call answers.
+fn play(rt: &HostRuntime, cases: &[u8]) -> Result<(), AllocError> {
     let mut script = Script::new(rt.alloc());
     for line in cases.split(|byte| *byte == b'\n') {
         if !script.takes(rt.alloc(), line)? {
-            print_case(&rt, &script, line)?;
+            print_case(rt, &script, line);
         }
     }
     Ok(())
 }
 
 /// Prints a case, and what its call answers.
-fn print_case(rt: &HostRuntime, script: &Script, line: &[u8]) -> io::Result<()> {
-    let case = texts::of(line);
-    println!(rt; "{case}")?;
+fn print_case(rt: &HostRuntime, script: &Script, line: &[u8]) {
+    out::bytes(rt, line);
+    out::text(rt, "\n");
     let (call, words) = words::cut(line);
-    answer(rt, script, texts::of(call), words)?;
-    println!(rt; "")
+    answer(rt, script, out::of(call), words);
+    out::text(rt, "\n");
 }
 
-/// Prints what a call answers.
-fn answer(rt: &HostRuntime, script: &Script, call: &str, words: &[u8]) -> io::Result<()> {
+/// Prints what a call answers that is about texts or files.
+fn answer(rt: &HostRuntime, script: &Script, call: &str, words: &[u8]) {
     match call {
         "digits" => texts::digits(rt, words),
         "written" => texts::written(rt, words),
@@ -52,6 +61,13 @@ fn answer(rt: &HostRuntime, script: &Script, call: &str, words: &[u8]) -> io::Re
         "reads" => ends::reads(rt, script, words),
         "written_to" => ends::written_to(rt, words),
         "folder_of_run" => ends::folder(rt),
+        _ => answer_of_places(rt, script, call, words),
+    }
+}
+
+/// Prints what a call answers that is about places, dates or days.
+fn answer_of_places(rt: &HostRuntime, script: &Script, call: &str, words: &[u8]) {
+    match call {
         "degrees" => places::degrees(rt, words),
         "length" => places::length(rt, words),
         "walk" => places::walk(rt, words),
@@ -59,22 +75,32 @@ fn answer(rt: &HostRuntime, script: &Script, call: &str, words: &[u8]) -> io::Re
         "set" => places::set(rt, words),
         "limits" => places::limits(rt, words),
         "date" => calendars::date(rt, words),
-        _ => answer_of_texts(rt, script, call, words),
-    }
-}
-
-/// Prints what a call answers that is about days, maps, feeds or expressions.
-fn answer_of_texts(rt: &HostRuntime, script: &Script, call: &str, words: &[u8]) -> io::Result<()> {
-    match call {
         "days" | "day" | "clock" | "moment" | "service" => {
             calendars::of_days(rt, script, call, words)
         }
+        _ => answer_of_files(rt, script, call, words),
+    }
+}
+
+/// Prints what a call answers that is about a map, a feed, a region, a hierarchy or a certificate.
+fn answer_of_files(rt: &HostRuntime, script: &Script, call: &str, words: &[u8]) {
+    match call {
         "map" => maps::map(rt, script, words),
         "cuts" => maps::cuts(rt, script.text(words)),
         "bytewise" => maps::bytewise(rt, script.text(words)),
         "again" => maps::again(rt, script, words),
         "roads" => roads::roads(rt, script, words),
         "feed" => feeds::feed(rt, script, words),
+        "region" => networks::region(rt, script, words),
+        "hierarchy" => hierarchies::hierarchy(rt, script, words),
+        "certificate" => certificates::certificate(rt, script.text(words)),
+        _ => answer_of_expressions(rt, script, call, words),
+    }
+}
+
+/// Prints what a call answers that is about expressions or automata, or about a network.
+fn answer_of_expressions(rt: &HostRuntime, script: &Script, call: &str, words: &[u8]) {
+    match call {
         "expression" => expressions::expression(rt, words),
         "spelled" => expressions::expression(rt, script.text(words)),
         "letters" => expressions::letters(rt),
@@ -82,9 +108,6 @@ fn answer_of_texts(rt: &HostRuntime, script: &Script, call: &str, words: &[u8]) 
         "one" => automata::one(rt, words),
         "size" => automata::size(rt, words),
         "states" => automata::states(rt, words),
-        "region" => networks::region(rt, script, words),
-        "hierarchy" => hierarchies::hierarchy(rt, script, words),
-        "certificate" => certificates::certificate(rt, script.text(words)),
         _ => networks::of_network(rt, script, call, words),
     }
 }

@@ -1,55 +1,55 @@
 //! Maps in OPL.
 
-use crate::texts;
+use crate::{out, parts};
 use case_script::{Script, words};
-use opl_reader::{Objects, Opl, OplFault, OsmWay};
+use opl_reader::{Objects, Opl, OplFault, OsmNode, OsmWay};
 use plan_base::Caps;
 use std::alloc::{AllocError, Global};
-use std::io;
 
 /// `map TEXT [KIND MOST]`: the objects of a map, or its fault.
-pub fn map(rt: &HostRuntime, script: &Script, words: &[u8]) -> io::Result<()> {
-    let (name, limit) = words::cut(words);
-    match read(rt.alloc(), words::caps(limit), script.text(name), b"") {
+pub fn map(rt: &HostRuntime, script: &Script, words: &[u8]) {
+    let text = script.text(parts::word(words, 0));
+    let caps = words::caps(parts::behind(words, 1));
+    match read(rt.alloc(), caps, text, b"") {
         Ok(objects) => print_objects(rt, &objects),
-        Err(fault) => print!(rt; "{fault:?}"),
+        Err(fault) => out::debug(rt, "", &fault),
     }
 }
 
 /// `cuts TEXT`: whether each cut of a map into two pieces gives the same as the whole.
-pub fn cuts(rt: &HostRuntime, text: &[u8]) -> io::Result<()> {
-    let whole = told(rt.alloc(), read(rt.alloc(), Caps::FULL, text, b""))?;
-    let mut same = true;
-    for cut in 0..=text.len() {
-        let (front, back) = text.split_at(cut);
-        same = same
-            && is_told_so(
-                rt.alloc(),
-                read(rt.alloc(), Caps::FULL, front, back),
-                &whole,
-            )?;
+pub fn cuts(rt: &HostRuntime, text: &[u8]) {
+    if let Ok(whole) = told(rt.alloc(), text, b"") {
+        let mut same = true;
+        for cut in 0..=text.len() {
+            let (front, back) = text.split_at(cut);
+            same = same && is_told_so(rt.alloc(), front, back, &whole);
+        }
+        out::shown(rt, "all the same: ", &same);
     }
-    print!(rt; "all the same: {same}")
+}
+
+/// Whether two pieces of a map give what is told.
+fn is_told_so(alloc: Global, front: &[u8], back: &[u8], whole: &str) -> bool {
+    match told(alloc, front, back) {
+        Ok(told) => told.as_str() == whole,
+        Err(_) => false,
+    }
+}
+
+/// What two pieces of a map give, told.
+fn told(alloc: Global, front: &[u8], back: &[u8]) -> Result<String, AllocError> {
+    tell(alloc, &read(alloc, Caps::FULL, front, back))
+}
+
+fn tell(alloc: Global, read: &Result<Objects, OplFault>) -> Result<String, AllocError> {
+    format!(in alloc; "{read:?}")
 }
 
 /// `bytewise TEXT`: whether a map gives the same when it is fed byte by byte.
-pub fn bytewise(rt: &HostRuntime, text: &[u8]) -> io::Result<()> {
-    let whole = told(rt.alloc(), read(rt.alloc(), Caps::FULL, text, b""))?;
-    let same = is_told_so(rt.alloc(), read_bytewise(rt.alloc(), text), &whole)?;
-    print!(rt; "the same: {same}")
-}
-
-fn is_told_so(
-    alloc: Global,
-    read: Result<Objects, OplFault>,
-    whole: &str,
-) -> Result<bool, AllocError> {
-    let told = told(alloc, read)?;
-    Ok(told.as_str() == whole)
-}
-
-fn told(alloc: Global, read: Result<Objects, OplFault>) -> Result<String, AllocError> {
-    format!(in alloc; "{read:?}")
+pub fn bytewise(rt: &HostRuntime, text: &[u8]) {
+    if let Ok(told) = tell(rt.alloc(), &read_bytewise(rt.alloc(), text)) {
+        out::shown(rt, "the same: ", &is_told_so(rt.alloc(), text, b"", &told));
+    }
 }
 
 /// What a text gives that is fed byte by byte. What is fed behind a fault changes nothing.
@@ -62,17 +62,19 @@ fn read_bytewise(alloc: Global, text: &[u8]) -> Result<Objects, OplFault> {
 }
 
 /// `again TEXT [KIND MOST]`: what the reader answers to a map, to a line feed and to nothing behind it, and at the end.
-pub fn again(rt: &HostRuntime, script: &Script, words: &[u8]) -> io::Result<()> {
-    let (name, limit) = words::cut(words);
-    let mut opl = Opl::new(rt.alloc(), words::caps(limit));
-    let first = opl.feed(script.text(name)).err();
-    let second = opl.feed(b"\n").err();
-    let third = opl.feed(b"").err();
-    let end = opl.finish().err();
-    print!(rt; "{first:?}, {second:?}, {third:?}, {end:?}")?;
-    match end {
-        Some(fault) => print!(rt; "\n{fault}"),
-        None => Ok(()),
+pub fn again(rt: &HostRuntime, script: &Script, words: &[u8]) {
+    let caps = words::caps(parts::behind(words, 1));
+    let mut opl = Opl::new(rt.alloc(), caps);
+    out::debug(rt, "", &opl.feed(script.text(parts::word(words, 0))).err());
+    out::debug(rt, ", ", &opl.feed(b"\n").err());
+    out::debug(rt, ", ", &opl.feed(b"").err());
+    print_end(rt, opl.finish().err());
+}
+
+fn print_end(rt: &HostRuntime, end: Option<OplFault>) {
+    out::debug(rt, ", ", &end);
+    if let Some(fault) = end {
+        out::shown(rt, "\n", &fault);
     }
 }
 
@@ -84,28 +86,32 @@ pub fn read(alloc: Global, caps: Caps, front: &[u8], back: &[u8]) -> Result<Obje
     opl.finish()
 }
 
-fn print_objects(rt: &HostRuntime, objects: &Objects) -> io::Result<()> {
+fn print_objects(rt: &HostRuntime, objects: &Objects) {
     for node in &objects.nodes {
-        let (id, place, amenity) = (node.id, node.place, node.amenity);
-        let (lat, lon) = (place.lat, place.lon);
-        print!(rt; "node {id} at {lat} {lon} {amenity:?}; ")?;
+        print_node(rt, node);
     }
     for way in &objects.ways {
-        print_way(rt, way)?;
+        print_way(rt, way);
     }
-    print!(rt; "no fault")
+    out::text(rt, "no fault");
 }
 
-fn print_way(rt: &HostRuntime, way: &OsmWay) -> io::Result<()> {
-    let id = way.id;
-    print!(rt; "way {id}")?;
+fn print_node(rt: &HostRuntime, node: &OsmNode) {
+    out::shown(rt, "node ", &node.id);
+    out::shown(rt, " at ", &node.place.lat);
+    out::shown(rt, " ", &node.place.lon);
+    out::debug(rt, " ", &node.amenity);
+    out::text(rt, "; ");
+}
+
+fn print_way(rt: &HostRuntime, way: &OsmWay) {
+    out::shown(rt, "way ", &way.id);
     for tag in way.tags.as_slice() {
-        let (key, value) = (texts::of(tag.0.as_slice()), texts::of(tag.1.as_slice()));
-        print!(rt; " {key}={value}")?;
+        out::shown(rt, " ", &out::of(tag.0.as_slice()));
+        out::shown(rt, "=", &out::of(tag.1.as_slice()));
     }
     for piece in way.pieces.as_slice() {
-        let ids = piece.as_slice();
-        print!(rt; " {ids:?}")?;
+        out::debug(rt, " ", &piece.as_slice());
     }
-    print!(rt; "; ")
+    out::text(rt, "; ");
 }

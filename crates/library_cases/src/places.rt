@@ -1,119 +1,149 @@
 //! Places, lengths and durations, sets of days, and limits.
 
+use crate::{out, parts};
 use case_script::words;
 use geo_length::{Grid, duration_ms, length_mm, read_degrees};
 use plain_texts::read_id;
 use plan_base::{Caps, DaySet, Kind, Place};
 use std::alloc::{AllocError, Global};
-use std::io;
 
 /// `degrees MOST TEXT`: the ten-millionths of a degree that a text spells, of at most so many degrees.
-pub fn degrees(rt: &HostRuntime, words: &[u8]) -> io::Result<()> {
-    let (most, text) = words::cut(words);
-    let degrees = read_degrees(text, words::node(most).min(180));
-    print!(rt; "{degrees:?}")
+pub fn degrees(rt: &HostRuntime, words: &[u8]) {
+    let most = parts::node(words, 0).min(180);
+    out::debug(rt, "", &read_degrees(parts::behind(words, 1), most));
 }
 
 /// `length LAT LON LAT LON`: the millimetres between two places, and how long a walk takes.
-pub fn length(rt: &HostRuntime, words: &[u8]) -> io::Result<()> {
-    let (from, rest) = cut_place(words);
-    let (to, _) = cut_place(rest);
-    match (from, to) {
-        (Some(from), Some(to)) => {
-            let length = length_mm(from, to);
-            let ms = duration_ms(length, 1400);
-            print!(rt; "{length} mm, {ms:?} ms")
-        }
-        (from, to) => print!(rt; "places {from:?}, {to:?}"),
+pub fn length(rt: &HostRuntime, words: &[u8]) {
+    let (from, to) = (place_at(words, 0), place_at(words, 2));
+    if let (Some(from), Some(to)) = (from, to) {
+        print_length(rt, from, to);
+    } else {
+        out::debug(rt, "places ", &from);
+        out::debug(rt, ", ", &to);
     }
 }
 
+fn print_length(rt: &HostRuntime, from: Place, to: Place) {
+    let mm = length_mm(from, to);
+    out::shown(rt, "", &mm);
+    out::debug(rt, " mm, ", &duration_ms(mm, 1400));
+    out::text(rt, " ms");
+}
+
 /// `walk MM`: how long a walk of this length takes.
-pub fn walk(rt: &HostRuntime, words: &[u8]) -> io::Result<()> {
-    let ms = duration_ms(words::number(words).min(1 << 39), 1400);
-    print!(rt; "{ms:?} ms")
+pub fn walk(rt: &HostRuntime, words: &[u8]) {
+    out::debug(
+        rt,
+        "",
+        &duration_ms(words::number(words).min(1 << 39), 1400),
+    );
+    out::text(rt, " ms");
+}
+
+/// How often the grid is asked, how often it finds a point, and how often the look at all points agrees.
+#[derive(Clone, Copy)]
+struct Asked {
+    asked: u32,
+    found: u32,
+    agree: u32,
 }
 
 /// `nearest LAT,.. LON,.. : LAT,.. LON,.. : WITHIN ..`: of two points at each of the first latitudes and longitudes, the one nearest
 /// to each place of the others within each length, by the grid; and on how many the look at all points agrees.
-pub fn nearest(rt: &HostRuntime, words: &[u8]) -> io::Result<()> {
-    let (lats, rest) = words::cut(words);
-    let (lons, rest) = words::cut(rest);
-    let (_, rest) = words::cut(rest);
-    let points = points_of(rt.alloc(), lats, lons)?;
-    let (asked, found, agree) = asked_of(rt.alloc(), &points, rest)?;
-    print!(rt; "{asked} asked, {found} found, {agree} as a look at all points finds")
-}
-
-/// How often the grid is asked, how often it finds a point, and how often the look at all points agrees.
-fn asked_of(
-    alloc: Global,
-    points: &[(i64, Place)],
-    words: &[u8],
-) -> Result<(u32, u32, u32), AllocError> {
-    let (lats, rest) = words::cut(words);
-    let (lons, rest) = words::cut(rest);
-    let (_, withins) = words::cut(rest);
-    let places = places_of(alloc, lats, lons)?;
-    let grid = Grid::build(alloc, points)?;
-    let (mut asked, mut found, mut agree) = (0u32, 0u32, 0u32);
-    for here in &places {
-        for within in withins.split(|byte| *byte == b' ') {
-            let within = words::number(within);
-            let nearest = grid.nearest(*here, within);
-            asked = asked.saturating_add(1);
-            found = found.saturating_add(u32::from(nearest.is_some()));
-            agree = agree.saturating_add(u32::from(nearest == nearest_of(points, *here, within)));
+pub fn nearest(rt: &HostRuntime, words: &[u8]) {
+    if let Ok(points) = points_of(rt.alloc(), words) {
+        if let Ok(grid) = Grid::build(rt.alloc(), &points) {
+            print_asked(rt, ask_all(&grid, &points, parts::behind(words, 3)));
         }
     }
-    Ok((asked, found, agree))
 }
 
-/// The places at each of the latitudes and longitudes.
-fn places_of(alloc: Global, lats: &[u8], lons: &[u8]) -> Result<Vec<Place>, AllocError> {
-    let mut places = Vec::new(alloc);
-    for lat in lats.split(|byte| *byte == b',') {
-        for lon in lons.split(|byte| *byte == b',') {
-            if let Some(place) = place(lat, lon) {
-                places.push(place)?;
-            }
+fn print_asked(rt: &HostRuntime, asked: Asked) {
+    out::shown(rt, "", &asked.asked);
+    out::shown(rt, " asked, ", &asked.found);
+    out::shown(rt, " found, ", &asked.agree);
+    out::text(rt, " as a look at all points finds");
+}
+
+/// Asks for the point nearest to each place at the latitudes and longitudes.
+fn ask_all(grid: &Grid, points: &[(i64, Place)], words: &[u8]) -> Asked {
+    let mut asked = Asked {
+        asked: 0,
+        found: 0,
+        agree: 0,
+    };
+    for i in 0..places(words) {
+        if let Some(here) = place_of(words, i) {
+            ask(&mut asked, grid, points, here, parts::behind(words, 3));
         }
     }
-    Ok(places)
+    asked
+}
+
+/// Asks for the point nearest to a place, within each length.
+fn ask(asked: &mut Asked, grid: &Grid, points: &[(i64, Place)], here: Place, withins: &[u8]) {
+    for i in 0..parts::count(withins, b' ') {
+        let within = parts::number(withins, i);
+        let nearest = grid.nearest(here, within);
+        let agree = nearest == nearest_of(points, here, within);
+        asked.asked = asked.asked.saturating_add(1);
+        asked.found = asked.found.saturating_add(u32::from(nearest.is_some()));
+        asked.agree = asked.agree.saturating_add(u32::from(agree));
+    }
+}
+
+/// How many places there are at the latitudes of the first word and the longitudes of the second.
+fn places(words: &[u8]) -> u32 {
+    let lats = parts::count(parts::word(words, 0), b',');
+    lats.saturating_mul(parts::count(parts::word(words, 1), b','))
+}
+
+/// The place at the latitudes of the first word and the longitudes of the second that comes behind so many others.
+fn place_of(words: &[u8], behind: u32) -> Option<Place> {
+    let (lats, lons) = (parts::word(words, 0), parts::word(words, 1));
+    let count = parts::count(lons, b',').max(1);
+    let lat = parts::part(lats, b',', behind / count);
+    place(lat, parts::part(lons, b',', behind % count))
 }
 
 /// Two points at each place, whose ids differ in their signs.
-fn points_of(alloc: Global, lats: &[u8], lons: &[u8]) -> Result<Vec<(i64, Place)>, AllocError> {
+fn points_of(alloc: Global, words: &[u8]) -> Result<Vec<(i64, Place)>, AllocError> {
     let mut points = Vec::new(alloc);
-    let mut id: i64 = 0;
-    for place in &places_of(alloc, lats, lons)? {
-        id = id.wrapping_add(1);
-        points.push((id, *place))?;
-        points.push((id.wrapping_neg(), *place))?;
+    for i in 0..places(words) {
+        if let Some(place) = place_of(words, i) {
+            let id = i64::from(i) + 1;
+            points.push((id, place))?;
+            points.push((-id, place))?;
+        }
     }
     Ok(points)
 }
 
 /// The nearest point, of equal ones that of the least id, by a look at all.
 fn nearest_of(points: &[(i64, Place)], here: Place, within: u64) -> Option<(i64, u64)> {
-    let mut best: Option<(u64, i64)> = None;
+    let mut best: Option<(i64, u64)> = None;
     for point in points {
         let mm = length_mm(here, point.1);
-        if mm <= within {
-            best = match best {
-                Some(other) if other <= (mm, point.0) => Some(other),
-                _ => Some((mm, point.0)),
-            };
+        if mm <= within && is_nearer((point.0, mm), best) {
+            best = Some((point.0, mm));
         }
     }
-    best.map(|(mm, id)| (id, mm))
+    best
 }
 
-/// The place of the first two words, if there is one, and the words behind.
-pub fn cut_place(words: &[u8]) -> (Option<Place>, &[u8]) {
-    let (lat, rest) = words::cut(words);
-    let (lon, rest) = words::cut(rest);
-    (place(lat, lon), rest)
+/// Whether a point is nearer than another one, or as near with a lesser id.
+fn is_nearer(point: (i64, u64), other: Option<(i64, u64)>) -> bool {
+    match other {
+        Some(other) => point.1 < other.1 || (point.1 == other.1 && point.0 < other.0),
+        None => true,
+    }
+}
+
+/// The place that two words spell, of which the first stands behind so many others.
+pub fn place_at(words: &[u8], behind: u32) -> Option<Place> {
+    let words = parts::behind(words, behind);
+    place(parts::word(words, 0), parts::word(words, 1))
 }
 
 fn place(lat: &[u8], lon: &[u8]) -> Option<Place> {
@@ -124,42 +154,41 @@ fn place(lat: &[u8], lon: &[u8]) -> Option<Place> {
 }
 
 /// `set DAY,.. : DAY ..`: the set of the first days, and which of the others are in it.
-pub fn set(rt: &HostRuntime, words: &[u8]) -> io::Result<()> {
-    let (members, rest) = words::cut(words);
-    let (_, asked) = words::cut(rest);
+pub fn set(rt: &HostRuntime, words: &[u8]) {
+    let (members, asked) = (parts::word(words, 0), parts::behind(words, 2));
     let mut set = DaySet::new();
-    for day in members.split(|byte| *byte == b',') {
-        set = set.with_day(words::node(day) % 128);
+    for i in 0..parts::count(members, b',') {
+        set = set.with_day(words::node(parts::part(members, b',', i)) % 128);
     }
-    let bits = set.0;
-    print!(rt; "{bits:x}:")?;
-    for day in asked.split(|byte| *byte == b' ') {
-        let there = set.contains(words::node(day));
-        print!(rt; " {there}")?;
+    out::hexadecimal(rt, "", set.0);
+    out::text(rt, ":");
+    for i in 0..parts::count(asked, b' ') {
+        out::shown(rt, " ", &set.contains(parts::node(asked, i)));
     }
-    Ok(())
 }
 
 /// `limits [KIND MOST] ..`: the most of each kind, and the most that may be set.
-pub fn limits(rt: &HostRuntime, words: &[u8]) -> io::Result<()> {
+pub fn limits(rt: &HostRuntime, words: &[u8]) {
     let caps = words::caps(words);
-    for kind in [
-        Kind::Nodes,
-        Kind::Arcs,
-        Kind::Links,
-        Kind::Stops,
-        Kind::Trips,
-        Kind::Calls,
-        Kind::OsmNodes,
-        Kind::Ways,
-        Kind::Refs,
-        Kind::Routes,
-        Kind::Services,
-        Kind::Dates,
-    ] {
-        let (name, most, full) = (kind.name(), caps.most(kind), kind.most());
-        print!(rt; "{name} {most} of {full}; ")?;
-    }
+    limit(rt, &caps, Kind::Nodes);
+    limit(rt, &caps, Kind::Arcs);
+    limit(rt, &caps, Kind::Links);
+    limit(rt, &caps, Kind::Stops);
+    limit(rt, &caps, Kind::Trips);
+    limit(rt, &caps, Kind::Calls);
+    limit(rt, &caps, Kind::OsmNodes);
+    limit(rt, &caps, Kind::Ways);
+    limit(rt, &caps, Kind::Refs);
+    limit(rt, &caps, Kind::Routes);
+    limit(rt, &caps, Kind::Services);
+    limit(rt, &caps, Kind::Dates);
     let same = caps.stops == caps.most(Kind::Stops) && caps.nodes == caps.most(Kind::Nodes);
-    print!(rt; "as the fields say: {same}")
+    out::shown(rt, "as the fields say: ", &same);
+}
+
+fn limit(rt: &HostRuntime, caps: &Caps, kind: Kind) {
+    out::shown(rt, "", &kind.name());
+    out::shown(rt, " ", &caps.most(kind));
+    out::shown(rt, " of ", &kind.most());
+    out::text(rt, "; ");
 }

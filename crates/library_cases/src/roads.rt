@@ -1,20 +1,21 @@
 //! Road arcs of maps.
 
 use crate::maps::read;
-use case_script::{Script, words};
+use crate::{out, parts};
+use case_script::Script;
 use opl_reader::Objects;
 use plan_base::Caps;
 use road_profile::road_arcs;
 use std::alloc::{AllocError, Global};
-use std::io;
 
 /// `roads TEXT [TAGS]`: the road arcs of a map; with tags, of the map and a way with these between nodes 1 and 2.
-pub fn roads(rt: &HostRuntime, script: &Script, words: &[u8]) -> io::Result<()> {
-    let (name, tags) = words::cut(words);
-    let way = way_of(rt.alloc(), tags)?;
-    match read(rt.alloc(), Caps::FULL, script.text(name), &way) {
-        Ok(objects) => print_arcs(rt, &objects),
-        Err(fault) => print!(rt; "{fault:?}"),
+pub fn roads(rt: &HostRuntime, script: &Script, words: &[u8]) {
+    let map = script.text(parts::word(words, 0));
+    if let Ok(way) = way_of(rt.alloc(), parts::behind(words, 1)) {
+        match read(rt.alloc(), Caps::FULL, map, &way) {
+            Ok(objects) => print_arcs(rt, &objects),
+            Err(fault) => out::debug(rt, "", &fault),
+        }
     }
 }
 
@@ -29,10 +30,15 @@ fn way_of(alloc: Global, tags: &[u8]) -> Result<Vec<u8>, AllocError> {
     Ok(line)
 }
 
-fn print_arcs(rt: &HostRuntime, objects: &Objects) -> io::Result<()> {
-    for row in &road_arcs(rt.alloc(), objects)? {
-        let (from, to, mode, ms) = (row.from, row.to, row.mode, row.ms);
-        print!(rt; "{from} to {to} by {mode} in {ms}; ")?;
+fn print_arcs(rt: &HostRuntime, objects: &Objects) {
+    if let Ok(rows) = road_arcs(rt.alloc(), objects) {
+        for row in &rows {
+            out::shown(rt, "", &row.from);
+            out::shown(rt, " to ", &row.to);
+            out::shown(rt, " by ", &row.mode);
+            out::shown(rt, " in ", &row.ms);
+            out::text(rt, "; ");
+        }
+        out::text(rt, "no more");
     }
-    print!(rt; "no more")
 }
