@@ -7,6 +7,7 @@ mod arcs;
 mod automata;
 mod calendars;
 mod certificates;
+mod drawn;
 mod ends;
 mod expressions;
 mod feeds;
@@ -98,7 +99,7 @@ fn answer_of_files(rt: &HostRuntime, script: &Script, call: &str, words: &[u8]) 
     }
 }
 
-/// Prints what a call answers that is about expressions or automata, or about a network.
+/// Prints what a call answers that is about expressions, automata or drawn graphs, or about a network.
 fn answer_of_expressions(rt: &HostRuntime, script: &Script, call: &str, words: &[u8]) {
     match call {
         "expression" => expressions::expression(rt, words),
@@ -108,6 +109,8 @@ fn answer_of_expressions(rt: &HostRuntime, script: &Script, call: &str, words: &
         "one" => automata::one(rt, words),
         "size" => automata::size(rt, words),
         "states" => automata::states(rt, words),
+        "searches" => drawn::searches(rt, words),
+        "lists" => drawn::lists(rt, words),
         _ => networks::of_network(rt, script, call, words),
     }
 }

@@ -1,7 +1,7 @@
-//! A graph and an automaton that are drawn from a number.
+//! A graph and an automaton that are drawn from a number, and what is asked of a search over them.
 
 ghost use Rattle.std.specs.Prelude.{◌≡◌, ◌<◌, ◌≤◌, ◌^◌, None};
-ghost use Rattle.search_cases.specs.Towns.{drawn, letter_drawn, timed, town, rules, town_lawful, rules_lawful};
+ghost use Rattle.library_cases.specs.Towns.{drawn, letter_drawn, timed, town, rules, town_lawful, rules_lawful};
 
 use search_laws::{Graph, GraphArc, Labels, Leg, Move, Steady, Time};
 
@@ -135,5 +135,31 @@ impl Labels for Rules {
 
     fn accepts(&self, q: u32) -> bool {
         draw(self.seed, q, 0, 9, 2) == 0
+    }
+}
+
+/// What a search over a graph and an automaton that are drawn from a number is asked.
+#[derive(Clone, Copy)]
+pub struct Asked {
+    pub town: Town,
+    pub rules: Rules,
+    pub starts: [u32; 3],
+    pub targets: [u32; 1],
+    pub dep: u32,
+    ghost soon: { dep < 6 },
+}
+
+impl Asked {
+    /// What is drawn from a number.
+    pub fn new(seed: u32) -> Asked {
+        let town = Town::new(seed, 2 + seed % 4);
+        let rules = Rules::new(seed / 2, 1 + seed % 3);
+        Asked {
+            town,
+            rules,
+            starts: [seed % 2, 0, seed % 2],
+            targets: [town.nodes - 1],
+            dep: seed % 6,
+        }
     }
 }
