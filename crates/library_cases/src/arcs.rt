@@ -29,13 +29,13 @@ fn print_arcs(rt: &HostRuntime, plain: &Plain<'_>, v: u32, t: Time) {
     }
     for i in 0..plain.arcs(v) {
         let arc = plain.arc_at(v, i);
-        out::shown(rt, "\n", &v);
-        out::shown(rt, ", ", &i);
-        out::debug(rt, ": ", &plain.plain_arc(v, i));
-        out::shown(rt, " to ", &arc.to);
-        out::debug(rt, ", letter ", &arc.letter);
-        out::debug(rt, ", ride ", &plain.ride(v, i));
-        out::debug(rt, ", arrives ", &plain.arrive(v, i, t));
+        out::shown(rt, "\n", v);
+        out::shown(rt, ", ", i);
+        out::debug(rt, ": ", plain.plain_arc(v, i));
+        out::shown(rt, " to ", arc.to);
+        out::debug(rt, ", letter ", arc.letter);
+        out::debug(rt, ", ride ", plain.ride(v, i));
+        out::debug(rt, ", arrives ", plain.arrive(v, i, t));
     }
 }
 
@@ -69,8 +69,8 @@ fn print_walk(rt: &HostRuntime, plain: &Plain<'_>, node: u32, at: Time, hop: Hop
 }
 
 fn print_journey(rt: &HostRuntime, journey: &Journey) {
-    out::shown(rt, "from ", &journey.start);
-    out::shown(rt, " at ", &journey.at);
+    out::shown(rt, "from ", journey.start);
+    out::shown(rt, " at ", journey.at);
     out::debug(rt, ": ", &journey.steps);
 }
 
@@ -101,12 +101,12 @@ fn hop(plain: &Plain<'_>, v: u32, t: Time, i: u64) -> Option<Hop>
 /// `patterns REGION`: the patterns of the timetable, and the rides from each stop.
 pub fn patterns(rt: &HostRuntime, network: &Network) {
     let table = network.timetable();
-    out::shown(rt, "", &table.patterns());
+    out::shown(rt, "", table.patterns());
     out::text(rt, " patterns");
     for p in 0..table.patterns() {
-        out::shown(rt, "\n", &p);
-        out::shown(rt, ": letter ", &table.pattern_letter(p));
-        out::shown(rt, ", ", &table.pattern_calls(p).len());
+        out::shown(rt, "\n", p);
+        out::shown(rt, ": letter ", table.pattern_letter(p));
+        out::shown(rt, ", ", table.pattern_calls(p).len());
         out::text(rt, " calls");
     }
     for v in 0..network.nodes() {
@@ -121,12 +121,12 @@ fn print_rides(rt: &HostRuntime, table: &Timetable, stop: u32)
     requires { stop < table.now.stops }
 {
     for board in table.boards(stop) {
-        out::shown(rt, "\nstop ", &stop);
+        out::shown(rt, "\nstop ", stop);
         out::debug(rt, ": ", board);
     }
     for i in 0..table.rides(stop) {
-        out::shown(rt, "\nstop ", &stop);
-        out::debug(rt, ": ", &table.ride(stop, i));
+        out::shown(rt, "\nstop ", stop);
+        out::debug(rt, ": ", table.ride(stop, i));
     }
 }
 
@@ -147,8 +147,8 @@ fn print_run(rt: &HostRuntime, before: &str, run: Option<Instance>) {
     out::text(rt, before);
     match run {
         Some(run) => {
-            out::shown(rt, "trip ", &run.trip);
-            out::shown(rt, " of day ", &run.day);
+            out::shown(rt, "trip ", run.trip);
+            out::shown(rt, " of day ", run.day);
         }
         None => out::text(rt, "none"),
     }

@@ -21,16 +21,16 @@ fn print_accepted(rt: &HostRuntime, expr: &Expr, word: &[u8])
     requires { IsUsable (form_of expr.now) }
 {
     if let Ok(positions) = Positions::of(rt.alloc(), expr) {
-        out::shown(rt, "positions ", &is_accepted(&positions, word));
+        out::shown(rt, "positions ", is_accepted(&positions, word));
         let collapsed = Collapsed::new(positions);
-        out::shown(rt, ", collapsed ", &is_accepted(&collapsed, word));
+        out::shown(rt, ", collapsed ", is_accepted(&collapsed, word));
     }
 }
 
 /// `one WORD`: whether the automaton of one state accepts a word, as it does each.
 pub fn one(rt: &HostRuntime, word: &[u8]) {
-    out::shown(rt, "", &OneState.states());
-    out::shown(rt, " state; accepted ", &is_accepted(&OneState, word));
+    out::shown(rt, "", OneState.states());
+    out::shown(rt, " state; accepted ", is_accepted(&OneState, word));
 }
 
 /// `size EXPRESSION`: how many states the position automaton has, and how many moves its last one.
@@ -50,8 +50,8 @@ fn print_size(rt: &HostRuntime, expr: &Expr)
             Some(last) => positions.moves(last),
             None => 0,
         };
-        out::shown(rt, "", &count);
-        out::shown(rt, " states; the last has ", &moves);
+        out::shown(rt, "", count);
+        out::shown(rt, " states; the last has ", moves);
         out::text(rt, " moves");
     }
 }
@@ -135,7 +135,7 @@ fn bit(state: u32) -> u128 {
 }
 
 fn print_states<L: Labels>(rt: &HostRuntime, before: &str, labels: &L) {
-    out::shown(rt, before, &labels.states());
+    out::shown(rt, before, labels.states());
     out::text(rt, " states:");
     for state in 0..labels.states() {
         print_moves(rt, labels, state);
@@ -151,13 +151,13 @@ fn print_moves<L: Labels>(rt: &HostRuntime, labels: &L, state: u32)
         let step = labels.move_at(state, i);
         if step.letters != 0 {
             if !some {
-                out::shown(rt, " ", &state);
+                out::shown(rt, " ", state);
                 out::text(rt, "[");
             } else {
                 out::text(rt, " ");
             }
             out::hexadecimal(rt, "", u128::from(step.letters));
-            out::shown(rt, ">", &step.to);
+            out::shown(rt, ">", step.to);
             some = true;
         }
     }

@@ -10,8 +10,8 @@ use std::alloc::{AllocError, Global};
 
 /// `date TEXT`: whether a number is a date, and which one the digits are.
 pub fn date(rt: &HostRuntime, text: &[u8]) {
-    out::shown(rt, "a date: ", &is_date(words::node(text)));
-    out::debug(rt, "; read as ", &read_date(text));
+    out::shown(rt, "a date: ", is_date(words::node(text)));
+    out::debug(rt, "; read as ", read_date(text));
 }
 
 /// What a call answers of the days that its first three words give.
@@ -43,9 +43,9 @@ fn days_of(alloc: Global, script: &Script, words: &[u8]) -> Result<Days, RangeFa
 fn answer(rt: &HostRuntime, script: &Script, days: &Days, call: &str, words: &[u8]) {
     match call {
         "days" => print_days(rt, days),
-        "day" => out::debug(rt, "", &days.day_of(words::node(words))),
+        "day" => out::debug(rt, "", days.day_of(words::node(words))),
         "clock" => clock(rt, days, words),
-        "moment" => out::debug(rt, "", &days.read_clock(script.text(words))),
+        "moment" => out::debug(rt, "", days.read_clock(script.text(words))),
         _ => service(rt, days, words),
     }
 }
@@ -53,16 +53,16 @@ fn answer(rt: &HostRuntime, script: &Script, days: &Days, call: &str, words: &[u
 fn print_days(rt: &HostRuntime, days: &Days) {
     print_range(rt, days);
     for day in 0..days.numbers() {
-        out::shown(rt, "\n", &day);
-        out::shown(rt, ": ", &days.date(day));
-        out::shown(rt, " from ", &days.base(day));
+        out::shown(rt, "\n", day);
+        out::shown(rt, ": ", days.date(day));
+        out::shown(rt, " from ", days.base(day));
     }
 }
 
 /// Prints the first date, the count of the days and their zone.
 pub fn print_range(rt: &HostRuntime, days: &Days) {
-    out::shown(rt, "", &days.first());
-    out::shown(rt, ", ", &days.count());
+    out::shown(rt, "", days.first());
+    out::shown(rt, ", ", days.count());
     out::text(rt, " days, ");
     out::bytes(rt, days.zone().unwrap_or(b"no zone"));
 }
@@ -75,7 +75,7 @@ fn clock(rt: &HostRuntime, days: &Days, word: &[u8]) {
     };
     if let Ok(text) = days.clock_text(rt.alloc(), time) {
         out::text(rt, &text);
-        out::debug(rt, ", read as ", &days.read_clock(text.as_bytes()));
+        out::debug(rt, ", read as ", days.read_clock(text.as_bytes()));
     }
 }
 

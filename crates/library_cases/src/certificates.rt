@@ -15,7 +15,7 @@ pub fn certificate(rt: &HostRuntime, text: &[u8]) {
     match read(rt.alloc(), text) {
         Ok(certificate) => {
             let same = out::is_text(print(rt.alloc(), &certificate), text);
-            out::shown(rt, "a certificate, printed as the same text: ", &same);
+            out::shown(rt, "a certificate, printed as the same text: ", same);
         }
         Err(fault) => out::debug(rt, "", &fault),
     }
@@ -26,7 +26,7 @@ pub fn verdict(rt: &HostRuntime, network: &Network, text: &[u8]) {
     match read(rt.alloc(), text) {
         Ok(certificate) => {
             if let Ok(verdict) = verify(rt.alloc(), network, None, &certificate) {
-                out::debug(rt, "", &verdict);
+                out::debug(rt, "", verdict);
             }
         }
         Err(fault) => out::debug(rt, "", &fault),
@@ -81,7 +81,7 @@ fn print_journey(rt: &HostRuntime, network: &Network, journey: Journey, line: &B
     } else if journey.start >= network.nodes() {
         out::text(rt, "no such node");
     } else if !is_real(network, &journey) {
-        out::debug(rt, "first bad step ", &first_bad(network, &journey));
+        out::debug(rt, "first bad step ", first_bad(network, &journey));
     } else {
         print_ends(rt, network, &journey);
         print_block(rt, network, journey, line);
@@ -93,8 +93,8 @@ fn print_ends(rt: &HostRuntime, network: &Network, journey: &Journey)
     requires real { IsReal network.now journey.now }
 {
     let (node, at) = ends(network, journey);
-    out::shown(rt, "to ", &node);
-    out::shown(rt, " at ", &at);
+    out::shown(rt, "to ", node);
+    out::shown(rt, " at ", at);
     if let Ok(letters) = word(rt.alloc(), network, journey) {
         out::debug(rt, ", letters ", &letters);
     }

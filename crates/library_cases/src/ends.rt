@@ -38,7 +38,7 @@ pub fn reads(rt: &HostRuntime, script: &Script, words: &[u8]) {
 fn print_reads(rt: &HostRuntime, shelf: &mut MemoryShelf, room: &mut [u8], places: &[u8]) {
     for i in 0..parts::count(places, b' ') {
         let answer = shelf.read("a", parts::number(places, i), room);
-        out::debug(rt, "", &answer);
+        out::debug(rt, "", answer);
         print_room(rt, room);
         out::text(rt, "; ");
     }
@@ -49,7 +49,7 @@ fn print_reads(rt: &HostRuntime, shelf: &mut MemoryShelf, room: &mut [u8], place
 pub fn written_to(rt: &HostRuntime, words: &[u8]) {
     if let Ok(mut sink) = sink_of(rt.alloc(), words) {
         let whole = write_all(&mut sink, parts::behind(words, 3)).is_ok();
-        out::shown(rt, "whole ", &whole);
+        out::shown(rt, "whole ", whole);
         out::text(rt, ": ");
         out::bytes(rt, sink.bytes());
     }
@@ -64,11 +64,7 @@ fn sink_of(alloc: Global, words: &[u8]) -> Result<MemorySink, AllocError> {
 /// `folder`: what is read of files that are written to the folder of the run: one of two pieces; none; the folder itself; one that is
 /// replaced while it is read. And what a stream with room for four bytes says to five.
 pub fn folder(rt: &HostRuntime) {
-    out::shown(
-        rt,
-        "written ",
-        &write(rt, "written.txt", "first ", "second"),
-    );
+    out::shown(rt, "written ", write(rt, "written.txt", "first ", "second"));
     print_file(rt, "written.txt", 12);
     print_file(rt, "written.txt", 11);
     print_file(rt, "absent.txt", 12);
@@ -78,7 +74,7 @@ pub fn folder(rt: &HostRuntime) {
     let mut room = [b'.'; 4];
     print_replaced(rt, &mut room);
     let full = write_all(&mut StreamSink::new(room.as_mut_slice()), b"12345").is_ok();
-    out::shown(rt, "\nfive bytes fit into four: ", &full);
+    out::shown(rt, "\nfive bytes fit into four: ", full);
 }
 
 /// Prints what is read of a file in the folder of the run, of at most so many bytes.
@@ -109,7 +105,7 @@ fn remove(rt: &HostRuntime, name: &str) {
 fn print_replaced(rt: &HostRuntime, room: &mut [u8]) {
     let old = write(rt, "old.txt", "old ", "bytes");
     let new = write(rt, "new.txt", "new", "");
-    out::shown(rt, "\nwritten ", &(old && new));
+    out::shown(rt, "\nwritten ", (old && new));
     print_pieces(rt, &mut FolderShelf::new(rt), room);
     remove(rt, "old.txt");
 }
@@ -132,7 +128,7 @@ fn print_piece<S: Shelf>(
     room: &mut [u8],
 ) {
     let answer = shelf.read("old.txt", from, room);
-    out::debug(rt, before, &answer);
+    out::debug(rt, before, answer);
 }
 
 fn print_room(rt: &HostRuntime, room: &[u8]) {
@@ -169,7 +165,7 @@ fn print_read(rt: &HostRuntime, read: Result<Vec<u8>, ReadFault>) {
     match read {
         Ok(bytes) if bytes.len() < 100 => out::bytes(rt, &bytes),
         Ok(bytes) => {
-            out::shown(rt, "", &bytes.len());
+            out::shown(rt, "", bytes.len());
             out::text(rt, " bytes");
         }
         Err(fault) => out::debug(rt, "", &fault),

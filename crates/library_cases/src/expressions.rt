@@ -17,7 +17,7 @@ fn print_expression(rt: &HostRuntime, expr: &Expr) {
     if let Ok(spelled) = expr.to_string(rt.alloc()) {
         let same = is_spelled_so(rt.alloc(), &spelled);
         out::text(rt, &spelled);
-        out::shown(rt, ", which spells the same: ", &same);
+        out::shown(rt, ", which spells the same: ", same);
     }
 }
 
@@ -40,21 +40,21 @@ fn is_written_so(alloc: Global, expr: &Expr, text: &str) -> bool {
 /// `letters`: each letter by its number: its name, whether it is a road's, and whether the name gives it again.
 pub fn letters(rt: &HostRuntime) {
     for number in 0..16 {
-        out::shown(rt, "", &number);
+        out::shown(rt, "", number);
         match Letter::from_number(number) {
             Some(letter) => print_letter(rt, letter),
             None => out::text(rt, ": no letter\n"),
         }
     }
-    out::debug(rt, "any: ", &Letter::from_name(b"any"));
+    out::debug(rt, "any: ", Letter::from_name(b"any"));
 }
 
 fn print_letter(rt: &HostRuntime, letter: Letter) {
     let name = letter.name();
     let same = Letter::from_name(name.as_bytes()) == Some(letter);
-    out::shown(rt, ": ", &name);
-    out::shown(rt, ", number ", &letter.number());
-    out::shown(rt, ", road ", &letter.is_road());
-    out::shown(rt, ", by its name ", &same);
+    out::shown(rt, ": ", name);
+    out::shown(rt, ", number ", letter.number());
+    out::shown(rt, ", road ", letter.is_road());
+    out::shown(rt, ", by its name ", same);
     out::text(rt, "\n");
 }

@@ -43,11 +43,11 @@ fn print_feed(rt: &HostRuntime, feed: &Feed) {
     out::text(rt, "a feed");
     for row in &feed.stops {
         print_row(rt, "\nstop ", row.id.as_bytes(), row.row);
-        out::debug(rt, ": ", &row.place);
+        out::debug(rt, ": ", row.place);
     }
     for row in &feed.routes {
         print_row(rt, "\nroute ", row.id.as_bytes(), row.row);
-        out::shown(rt, ": letter ", &row.letter);
+        out::shown(rt, ": letter ", row.letter);
     }
     print_services(rt, feed);
     print_trips(rt, feed);
@@ -57,25 +57,25 @@ fn print_feed(rt: &HostRuntime, feed: &Feed) {
 fn print_row(rt: &HostRuntime, before: &str, id: &[u8], row: u64) {
     out::text(rt, before);
     out::bytes(rt, id);
-    out::shown(rt, ", row ", &row);
+    out::shown(rt, ", row ", row);
 }
 
 fn print_services(rt: &HostRuntime, feed: &Feed) {
     for row in &feed.services {
         print_row(rt, "\nservice ", row.id.as_bytes(), row.row);
-        out::debug(rt, ": ", &row.rule);
+        out::debug(rt, ": ", row.rule);
     }
     for row in &feed.dates {
         print_row(rt, "\ndate of ", row.id.as_bytes(), row.row);
-        out::shown(rt, ": ", &row.date);
-        out::shown(rt, ", added ", &row.added);
+        out::shown(rt, ": ", row.date);
+        out::shown(rt, ", added ", row.added);
     }
 }
 
 fn print_trips(rt: &HostRuntime, feed: &Feed) {
     for row in &feed.trips {
         print_row(rt, "\ntrip ", row.id.as_bytes(), row.row);
-        out::shown(rt, ": route ", &row.route);
+        out::shown(rt, ": route ", row.route);
         out::text(rt, ", service ");
         out::bytes(rt, row.service.as_bytes());
     }

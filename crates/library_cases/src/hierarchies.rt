@@ -19,7 +19,7 @@ pub fn hierarchy(rt: &HostRuntime, script: &Script, words: &[u8]) {
 
 fn print_hierarchy(rt: &HostRuntime, h: &Hierarchy, bytes: &[u8], count: u32) {
     let same = out::is_text(encode(rt.alloc(), h), bytes);
-    out::shown(rt, "written as the same bytes: ", &same);
+    out::shown(rt, "written as the same bytes: ", same);
     for v in 0..count {
         print_node(rt, h, v);
     }
@@ -32,11 +32,11 @@ fn print_hierarchy(rt: &HostRuntime, h: &Hierarchy, bytes: &[u8], count: u32) {
 
 /// How high a node is, and which entries lead from it and into it.
 fn print_node(rt: &HostRuntime, h: &Hierarchy, v: u32) {
-    out::shown(rt, "\n", &v);
-    out::shown(rt, ": height ", &h.height(v));
-    out::shown(rt, ", contracted ", &h.contracted(v));
-    out::debug(rt, ", entries from ", &h.entries_from(v));
-    out::debug(rt, ", into ", &h.entries_into(v));
+    out::shown(rt, "\n", v);
+    out::shown(rt, ": height ", h.height(v));
+    out::shown(rt, ", contracted ", h.contracted(v));
+    out::debug(rt, ", entries from ", h.entries_from(v));
+    out::debug(rt, ", into ", h.entries_into(v));
 }
 
 /// Of two nodes: which is above the other, their entry, and the witness past node 1.
@@ -45,8 +45,8 @@ fn print_pair(rt: &HostRuntime, h: &Hierarchy, u: u32, v: u32) {
         out::debug(rt, "\n", entry);
     }
     if h.above(u, v) {
-        out::shown(rt, "\n", &u);
-        out::shown(rt, " is above ", &v);
+        out::shown(rt, "\n", u);
+        out::shown(rt, " is above ", v);
     }
     if let Some(witness) = h.witness_for(1, u, v) {
         out::debug(rt, "\npast 1: ", &witness.nodes);
@@ -66,9 +66,9 @@ impl Progress for Silent {
 pub fn contracted(rt: &HostRuntime, network: &Network, keep: &[u8]) {
     if let Ok(h) = contract(rt.alloc(), network, words::node(keep), &mut Silent) {
         let shortcuts = shortcuts(&h);
-        out::debug(rt, "order ", &h.order());
-        out::shown(rt, ", ", &h.entries().len().saturating_sub(shortcuts));
-        out::shown(rt, " arcs, ", &shortcuts);
+        out::debug(rt, "order ", h.order());
+        out::shown(rt, ", ", h.entries().len().saturating_sub(shortcuts));
+        out::shown(rt, " arcs, ", shortcuts);
         out::text(rt, " shortcuts");
     }
 }

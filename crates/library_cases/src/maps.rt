@@ -24,7 +24,7 @@ pub fn cuts(rt: &HostRuntime, text: &[u8]) {
             let (front, back) = text.split_at(cut);
             same = same && is_told_so(rt.alloc(), front, back, &whole);
         }
-        out::shown(rt, "all the same: ", &same);
+        out::shown(rt, "all the same: ", same);
     }
 }
 
@@ -48,7 +48,7 @@ fn tell(alloc: Global, read: &Result<Objects, OplFault>) -> Result<String, Alloc
 /// `bytewise TEXT`: whether a map gives the same when it is fed byte by byte.
 pub fn bytewise(rt: &HostRuntime, text: &[u8]) {
     if let Ok(told) = tell(rt.alloc(), &read_bytewise(rt.alloc(), text)) {
-        out::shown(rt, "the same: ", &is_told_so(rt.alloc(), text, b"", &told));
+        out::shown(rt, "the same: ", is_told_so(rt.alloc(), text, b"", &told));
     }
 }
 
@@ -65,9 +65,9 @@ fn read_bytewise(alloc: Global, text: &[u8]) -> Result<Objects, OplFault> {
 pub fn again(rt: &HostRuntime, script: &Script, words: &[u8]) {
     let caps = words::caps(parts::behind(words, 1));
     let mut opl = Opl::new(rt.alloc(), caps);
-    out::debug(rt, "", &opl.feed(script.text(parts::word(words, 0))).err());
-    out::debug(rt, ", ", &opl.feed(b"\n").err());
-    out::debug(rt, ", ", &opl.feed(b"").err());
+    out::debug(rt, "", opl.feed(script.text(parts::word(words, 0))).err());
+    out::debug(rt, ", ", opl.feed(b"\n").err());
+    out::debug(rt, ", ", opl.feed(b"").err());
     print_end(rt, opl.finish().err());
 }
 
@@ -97,21 +97,21 @@ fn print_objects(rt: &HostRuntime, objects: &Objects) {
 }
 
 fn print_node(rt: &HostRuntime, node: &OsmNode) {
-    out::shown(rt, "node ", &node.id);
-    out::shown(rt, " at ", &node.place.lat);
-    out::shown(rt, " ", &node.place.lon);
-    out::debug(rt, " ", &node.amenity);
+    out::shown(rt, "node ", node.id);
+    out::shown(rt, " at ", node.place.lat);
+    out::shown(rt, " ", node.place.lon);
+    out::debug(rt, " ", node.amenity);
     out::text(rt, "; ");
 }
 
 fn print_way(rt: &HostRuntime, way: &OsmWay) {
-    out::shown(rt, "way ", &way.id);
+    out::shown(rt, "way ", way.id);
     for tag in way.tags.as_slice() {
-        out::shown(rt, " ", &out::of(tag.0.as_slice()));
-        out::shown(rt, "=", &out::of(tag.1.as_slice()));
+        out::shown(rt, " ", out::of(tag.0.as_slice()));
+        out::shown(rt, "=", out::of(tag.1.as_slice()));
     }
     for piece in way.pieces.as_slice() {
-        out::debug(rt, " ", &piece.as_slice());
+        out::debug(rt, " ", piece.as_slice());
     }
     out::text(rt, "; ");
 }

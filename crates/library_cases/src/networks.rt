@@ -17,7 +17,7 @@ pub fn region(rt: &HostRuntime, script: &Script, words: &[u8]) {
         Ok(network) => {
             let written = encode(rt.alloc(), &network, Format::Text);
             let same = out::is_text(written, text);
-            out::shown(rt, "a network, written as the same text: ", &same);
+            out::shown(rt, "a network, written as the same text: ", same);
         }
         Err(fault) => out::debug(rt, "", &fault),
     }
@@ -53,9 +53,9 @@ fn answer(rt: &HostRuntime, script: &Script, network: &Network, call: &str, word
 /// `network REGION`: what a network says of its days, nodes and trips.
 fn print_network(rt: &HostRuntime, network: &Network) {
     calendars::print_range(rt, network.days());
-    out::shown(rt, "; ", &network.nodes());
-    out::shown(rt, " nodes, ", &network.arcs().len());
-    out::shown(rt, " arcs, ", &network.links().len());
+    out::shown(rt, "; ", network.nodes());
+    out::shown(rt, " nodes, ", network.arcs().len());
+    out::shown(rt, " arcs, ", network.links().len());
     out::text(rt, " links");
     for v in 0..network.nodes() {
         print_node(rt, network, v);
@@ -68,14 +68,14 @@ fn print_network(rt: &HostRuntime, network: &Network) {
 /// A node: its key, its mode, the places of its arcs and links, and whether it has a link; of a stop its name too.
 fn print_node(rt: &HostRuntime, network: &Network, v: u32) {
     if v < network.nodes() {
-        out::shown(rt, "\n", &v);
-        out::debug(rt, ": ", &network.node(v).key);
+        out::shown(rt, "\n", v);
+        out::debug(rt, ": ", network.node(v).key);
         out::text(rt, " ");
         print_name(rt, network, v);
-        out::debug(rt, "mode ", &network.mode(v));
-        out::debug(rt, ", arcs ", &network.arcs_from(v));
-        out::debug(rt, ", links ", &network.links_from(v));
-        out::shown(rt, ", linked ", &network.has_link(v));
+        out::debug(rt, "mode ", network.mode(v));
+        out::debug(rt, ", arcs ", network.arcs_from(v));
+        out::debug(rt, ", links ", network.links_from(v));
+        out::shown(rt, ", linked ", network.has_link(v));
     }
 }
 
@@ -84,7 +84,7 @@ fn print_name(rt: &HostRuntime, network: &Network, v: u32) {
     if let Some(stop) = network.stop_at(v) {
         out::bytes(rt, network.stop_name(stop));
         let node = network.stop_node(stop);
-        out::shown(rt, " of node ", &node);
+        out::shown(rt, " of node ", node);
         out::text(rt, ", ");
     }
 }
@@ -92,7 +92,7 @@ fn print_name(rt: &HostRuntime, network: &Network, v: u32) {
 fn print_trip(rt: &HostRuntime, trip: &Trip) {
     out::text(rt, "\ntrip ");
     out::bytes(rt, trip.name.as_bytes());
-    out::shown(rt, " by ", &trip.letter);
+    out::shown(rt, " by ", trip.letter);
     out::hexadecimal(rt, " on ", trip.days.0);
     out::text(rt, ":");
     for call in &trip.calls {
@@ -101,27 +101,27 @@ fn print_trip(rt: &HostRuntime, trip: &Trip) {
 }
 
 fn print_call(rt: &HostRuntime, call: &Call) {
-    out::shown(rt, " ", &call.stop);
-    out::shown(rt, " at ", &call.arr);
-    out::shown(rt, "-", &call.dep);
-    out::shown(rt, " board ", &call.board);
-    out::shown(rt, " alight ", &call.alight);
+    out::shown(rt, " ", call.stop);
+    out::shown(rt, " at ", call.arr);
+    out::shown(rt, "-", call.dep);
+    out::shown(rt, " board ", call.board);
+    out::shown(rt, " alight ", call.alight);
     out::text(rt, ";");
 }
 
 /// `times REGION U V`: the durations of the arc and the link from one node to another.
 fn times(rt: &HostRuntime, network: &Network, words: &[u8]) {
     let (u, v) = (parts::node(words, 0), parts::node(words, 1));
-    out::debug(rt, "arc ", &network.arc_ms(u, v));
-    out::debug(rt, ", link ", &network.link_ms(u, v));
+    out::debug(rt, "arc ", network.arc_ms(u, v));
+    out::debug(rt, ", link ", network.link_ms(u, v));
 }
 
 /// `near REGION LAT LON`: the road node nearest to a place and how far it is, and the nodes that a query may mean by the place.
 fn near(rt: &HostRuntime, network: &Network, words: &[u8]) {
     match places::place_at(words, 0) {
         Some(place) => {
-            out::debug(rt, "nearest ", &network.nearest_road(place));
-            out::debug(rt, ", copies ", &network.copies(&Endpoint::Near(place)));
+            out::debug(rt, "nearest ", network.nearest_road(place));
+            out::debug(rt, ", copies ", network.copies(&Endpoint::Near(place)));
         }
         None => out::text(rt, "no place"),
     }
@@ -130,9 +130,9 @@ fn near(rt: &HostRuntime, network: &Network, words: &[u8]) {
 /// `copies REGION ID NAME`: the nodes that a query may mean by an OSM id, and by a stop's name.
 fn copies(rt: &HostRuntime, network: &Network, words: &[u8]) {
     let id = read_id(parts::word(words, 0)).unwrap_or(i64::MIN);
-    out::debug(rt, "by id ", &network.copies(&Endpoint::Road(id)));
+    out::debug(rt, "by id ", network.copies(&Endpoint::Road(id)));
     if let Ok(stop) = stop_named(rt.alloc(), parts::behind(words, 1)) {
-        out::debug(rt, ", by name ", &network.copies(&stop));
+        out::debug(rt, ", by name ", network.copies(&stop));
     }
 }
 

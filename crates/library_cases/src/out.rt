@@ -27,12 +27,12 @@ pub fn is_text(written: Result<Vec<u8>, AllocError>, text: &[u8]) -> bool {
 }
 
 /// Prints a value behind a text.
-pub fn shown<T: Display>(rt: &HostRuntime, before: &str, value: &T) {
+pub fn shown<T: Display + Copy>(rt: &HostRuntime, before: &str, value: T) {
     let _ = print!(rt; "{before}{value}");
 }
 
 /// Prints a value behind a text, as the code of a value is written.
-pub fn debug<T: Debug>(rt: &HostRuntime, before: &str, value: &T) {
+pub fn debug<T: Debug + Copy>(rt: &HostRuntime, before: &str, value: T) {
     let _ = print!(rt; "{before}{value:?}");
 }
 

@@ -10,7 +10,7 @@ use std::alloc::{AllocError, Global};
 /// `degrees MOST TEXT`: the ten-millionths of a degree that a text spells, of at most so many degrees.
 pub fn degrees(rt: &HostRuntime, words: &[u8]) {
     let most = parts::node(words, 0).min(180);
-    out::debug(rt, "", &read_degrees(parts::behind(words, 1), most));
+    out::debug(rt, "", read_degrees(parts::behind(words, 1), most));
 }
 
 /// `length LAT LON LAT LON`: the millimetres between two places, and how long a walk takes.
@@ -19,25 +19,21 @@ pub fn length(rt: &HostRuntime, words: &[u8]) {
     if let (Some(from), Some(to)) = (from, to) {
         print_length(rt, from, to);
     } else {
-        out::debug(rt, "places ", &from);
-        out::debug(rt, ", ", &to);
+        out::debug(rt, "places ", from);
+        out::debug(rt, ", ", to);
     }
 }
 
 fn print_length(rt: &HostRuntime, from: Place, to: Place) {
     let mm = length_mm(from, to);
-    out::shown(rt, "", &mm);
-    out::debug(rt, " mm, ", &duration_ms(mm, 1400));
+    out::shown(rt, "", mm);
+    out::debug(rt, " mm, ", duration_ms(mm, 1400));
     out::text(rt, " ms");
 }
 
 /// `walk MM`: how long a walk of this length takes.
 pub fn walk(rt: &HostRuntime, words: &[u8]) {
-    out::debug(
-        rt,
-        "",
-        &duration_ms(words::number(words).min(1 << 39), 1400),
-    );
+    out::debug(rt, "", duration_ms(words::number(words).min(1 << 39), 1400));
     out::text(rt, " ms");
 }
 
@@ -60,9 +56,9 @@ pub fn nearest(rt: &HostRuntime, words: &[u8]) {
 }
 
 fn print_asked(rt: &HostRuntime, asked: Asked) {
-    out::shown(rt, "", &asked.asked);
-    out::shown(rt, " asked, ", &asked.found);
-    out::shown(rt, " found, ", &asked.agree);
+    out::shown(rt, "", asked.asked);
+    out::shown(rt, " asked, ", asked.found);
+    out::shown(rt, " found, ", asked.agree);
     out::text(rt, " as a look at all points finds");
 }
 
@@ -163,7 +159,7 @@ pub fn set(rt: &HostRuntime, words: &[u8]) {
     out::hexadecimal(rt, "", set.0);
     out::text(rt, ":");
     for i in 0..parts::count(asked, b' ') {
-        out::shown(rt, " ", &set.contains(parts::node(asked, i)));
+        out::shown(rt, " ", set.contains(parts::node(asked, i)));
     }
 }
 
@@ -183,12 +179,12 @@ pub fn limits(rt: &HostRuntime, words: &[u8]) {
     limit(rt, &caps, Kind::Services);
     limit(rt, &caps, Kind::Dates);
     let same = caps.stops == caps.most(Kind::Stops) && caps.nodes == caps.most(Kind::Nodes);
-    out::shown(rt, "as the fields say: ", &same);
+    out::shown(rt, "as the fields say: ", same);
 }
 
 fn limit(rt: &HostRuntime, caps: &Caps, kind: Kind) {
-    out::shown(rt, "", &kind.name());
-    out::shown(rt, " ", &caps.most(kind));
-    out::shown(rt, " of ", &kind.most());
+    out::shown(rt, "", kind.name());
+    out::shown(rt, " ", caps.most(kind));
+    out::shown(rt, " of ", kind.most());
     out::text(rt, "; ");
 }

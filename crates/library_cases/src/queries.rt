@@ -15,7 +15,7 @@ pub fn query(rt: &HostRuntime, network: &Network, line: &[u8]) {
 fn print_query(rt: &HostRuntime, network: &Network, query: &Query) {
     print_copies(rt, network, "from ", &query.from);
     print_copies(rt, network, " to ", &query.to);
-    out::shown(rt, " at ", &query.depart);
+    out::shown(rt, " at ", query.depart);
     out::shown(rt, " by ", &query.expr);
 }
 

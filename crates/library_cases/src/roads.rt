@@ -33,10 +33,10 @@ fn way_of(alloc: Global, tags: &[u8]) -> Result<Vec<u8>, AllocError> {
 fn print_arcs(rt: &HostRuntime, objects: &Objects) {
     if let Ok(rows) = road_arcs(rt.alloc(), objects) {
         for row in &rows {
-            out::shown(rt, "", &row.from);
-            out::shown(rt, " to ", &row.to);
-            out::shown(rt, " by ", &row.mode);
-            out::shown(rt, " in ", &row.ms);
+            out::shown(rt, "", row.from);
+            out::shown(rt, " to ", row.to);
+            out::shown(rt, " by ", row.mode);
+            out::shown(rt, " in ", row.ms);
             out::text(rt, "; ");
         }
         out::text(rt, "no more");

@@ -14,13 +14,13 @@ const NUMBERS: u128 = 1_000_000_000_000_000_000_000_000_000_000;
 
 /// `digits TEXT`: what a text spells as each kind of number.
 pub fn digits(rt: &HostRuntime, text: &[u8]) {
-    out::debug(rt, "number ", &read_number(text, NUMBERS));
-    out::debug(rt, ", below 8 ", &read_number(text, 8));
-    out::debug(rt, ", below 7 ", &read_number(text, 7));
-    out::debug(rt, "\nid ", &read_id(text));
-    out::debug(rt, ", degrees ", &read_signed(text, 900_000_001));
-    out::debug(rt, ", days ", &read_hexadecimal(text));
-    out::debug(rt, ", fixed ", &read_fixed(text));
+    out::debug(rt, "number ", read_number(text, NUMBERS));
+    out::debug(rt, ", below 8 ", read_number(text, 8));
+    out::debug(rt, ", below 7 ", read_number(text, 7));
+    out::debug(rt, "\nid ", read_id(text));
+    out::debug(rt, ", degrees ", read_signed(text, 900_000_001));
+    out::debug(rt, ", days ", read_hexadecimal(text));
+    out::debug(rt, ", fixed ", read_fixed(text));
 }
 
 /// `written NUMBER`: how a number is written in each way.
@@ -44,8 +44,8 @@ fn push_number(out: &mut Vec<u8>, number: i64, fixed: u32) -> Result<(), AllocEr
 
 /// `name TEXT`: whether the text of this name is a name, and the name that stands for it as an id.
 pub fn name(rt: &HostRuntime, bytes: &[u8]) {
-    out::shown(rt, "a name: ", &is_name(bytes));
-    out::shown(rt, ", ", &is_made(rt.alloc(), bytes));
+    out::shown(rt, "a name: ", is_name(bytes));
+    out::shown(rt, ", ", is_made(rt.alloc(), bytes));
     if bytes.is_empty() || bytes.len() >= 1 << 30 {
         return;
     }
@@ -76,7 +76,7 @@ pub fn lines(rt: &HostRuntime, text: &[u8]) {
         let Some((line, behind)) = split_line(rest) else {
             break;
         };
-        out::shown(rt, "ended ", &next_line(rest).is_some());
+        out::shown(rt, "ended ", next_line(rest).is_some());
         print_words(rt, line);
         rest = behind;
     }
@@ -87,7 +87,7 @@ fn print_words(rt: &HostRuntime, line: &[u8]) {
     out::text(rt, ":");
     if let Ok(words) = words_of(rt.alloc(), line) {
         for word in &words {
-            out::shown(rt, " [", &out::of(word));
+            out::shown(rt, " [", out::of(word));
             out::text(rt, "]");
         }
     }

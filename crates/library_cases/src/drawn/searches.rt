@@ -22,8 +22,8 @@ pub fn searches(rt: &HostRuntime, count: &[u8]) {
         searches = searches.saturating_add(2);
         same = same.saturating_add(u32::from(plain) + u32::from(bounded));
     }
-    out::shown(rt, "", &same);
-    out::shown(rt, " of ", &searches);
+    out::shown(rt, "", same);
+    out::shown(rt, " of ", searches);
     out::text(
         rt,
         " searches answer what the enumeration of all walks does",

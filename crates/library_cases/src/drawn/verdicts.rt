@@ -57,8 +57,8 @@ pub fn lists(rt: &HostRuntime, count: &[u8]) {
 }
 
 fn print_verdicts(rt: &HostRuntime, verdicts: &Verdicts) {
-    out::shown(rt, "", &verdicts.same);
-    out::shown(rt, " of ", &verdicts.lists);
+    out::shown(rt, "", verdicts.same);
+    out::shown(rt, " of ", verdicts.lists);
     out::text(
         rt,
         " lists have the verdict of the clauses tried one by one",
@@ -66,8 +66,8 @@ fn print_verdicts(rt: &HostRuntime, verdicts: &Verdicts) {
     for clause in 0..10 {
         let count = verdicts.of_clause[clause];
         if count > 0 {
-            out::shown(rt, "\nclause ", &clause);
-            out::shown(rt, ": ", &count);
+            out::shown(rt, "\nclause ", clause);
+            out::shown(rt, ": ", count);
         }
     }
 }
