@@ -16,7 +16,8 @@ use mode_network::{Journey, Network};
 use phase_graph::{GraphInUse, ends_in, starts_in};
 use plan_base::Time;
 use product_search::{
-    Best, Counted, Found, Label, Walk, Workspace, search, search_best_with, search_counted_with,
+    Best, Found, FoundWithCount, Label, Walk, Workspace, search, search_best_with,
+    search_counted_with,
 };
 use std::alloc::{AllocError, Global};
 use unpack::from_graph;
@@ -149,7 +150,7 @@ fn find_over(
         query.depart,
         None,
     )?;
-    let Counted {
+    let FoundWithCount {
         arrival: _,
         labels,
         walk,

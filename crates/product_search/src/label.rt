@@ -45,7 +45,7 @@ pub struct Found {
 
 /// The answer of a search that counts its labels.
 #[derive(Drop)]
-pub struct Counted {
+pub struct FoundWithCount {
     /// The least arrival, or None where no walk counts.
     pub arrival: Option<Time>,
     /// How many labels there are.

@@ -24,7 +24,7 @@ mod verdict;
 mod workspace;
 
 pub use checking::check_labels;
-pub use label::{Best, Counted, Found, Hop, Label, Walk};
-pub use searching::{search, search_best_with, search_counted_with, search_with};
+pub use label::{Best, Found, FoundWithCount, Hop, Label, Walk};
+pub use searching::{search, search_best_with, search_counted_with};
 pub use verdict::LabelVerdict;
 pub use workspace::Workspace;

@@ -6,7 +6,7 @@ ghost use Rattle.product_search.specs.Listed.{AreLeastLabels, HasLeastLabels};
 ghost use Rattle.product_search.specs.Answer.{IsArrival, IsWalkFor, IsInTime, last_time};
 ghost use Rattle.product_search.specs.Closed.{IsClosed};
 
-use crate::label::{Best, Counted, Found};
+use crate::label::{Best, Found, FoundWithCount};
 use crate::listing::{count_labels, list_labels};
 use crate::retrace::walk_to;
 use crate::settling::{arrival_of, settle_all};
@@ -47,48 +47,9 @@ pub fn search<G: Graph, L: Labels>(
         f.arrival f.labels.items) }
     ensures times { IfOk result (IsInTime dep) }
 {
-    let mut workspace = Workspace::new(alloc);
-    let found = search_with(
-        alloc,
-        &mut workspace,
-        graph,
-        labels,
-        starts,
-        targets,
-        dep,
-        bound,
-    )?;
-    Ok(found)
-}
-
-/// The same, with lists and a table that are kept for the next search. Where a search fails, the next one makes new ones.
-pub fn search_with<G: Graph, L: Labels>(
-    alloc: Global,
-    workspace: &mut Workspace,
-    graph: &G,
-    labels: &L,
-    starts: &[u32],
-    targets: &[u32],
-    dep: Time,
-    bound: Option<Time>,
-) -> Result<Found, AllocError>
-    requires starts { All (λ v. v < (G.meaning graph.now).nodes) starts.now }
-    requires targets { All (λ v. v < (G.meaning graph.now).nodes) targets.now }
-    requires dep { dep < 2 ^ 64 }
-    requires bound { IsWithin bound dep }
-    ensures arrival { IfOk result (λ f. IsArrival (G.meaning graph.now) (L.automaton labels.now) starts.now targets.now dep
-        bound f.arrival) }
-    ensures walk { IfOk result (λ f. IsWalkFor (G.meaning graph.now) (L.automaton labels.now) starts.now targets.now dep
-        f.arrival f.walk) }
-    ensures labels { IfOk result (λ f. AreLeastLabels (G.meaning graph.now) (L.automaton labels.now) starts.now dep
-        bound f.arrival f.labels.items) }
-    ensures closed { bound ≡ None → IfOk result (λ f. IsClosed (G.meaning graph.now) (L.automaton labels.now) starts.now targets.now dep
-        f.arrival f.labels.items) }
-    ensures times { IfOk result (IsInTime dep) }
-{
     let explored = settle_all(
         alloc,
-        workspace.take(alloc),
+        Workspace::new(alloc),
         graph,
         labels,
         starts,
@@ -99,7 +60,6 @@ pub fn search_with<G: Graph, L: Labels>(
     let arrival = arrival_of(explored.end);
     let labels = list_labels(alloc, &explored.frontier, arrival)?;
     let walk = walk_to(alloc, &explored.frontier, explored.end)?;
-    workspace.put(explored.frontier);
     Ok(Found {
         arrival,
         labels,
@@ -107,7 +67,8 @@ pub fn search_with<G: Graph, L: Labels>(
     })
 }
 
-/// The same as [`search_with`] with the count of the labels in place of these.
+/// The same as [`search`] with the count of the labels in place of these, with lists and a table that are kept for the next search.
+/// Where a search fails, the next one makes new ones.
 pub fn search_counted_with<G: Graph, L: Labels>(
     alloc: Global,
     workspace: &mut Workspace,
@@ -117,7 +78,7 @@ pub fn search_counted_with<G: Graph, L: Labels>(
     targets: &[u32],
     dep: Time,
     bound: Option<Time>,
-) -> Result<Counted, AllocError>
+) -> Result<FoundWithCount, AllocError>
     requires starts { All (λ v. v < (G.meaning graph.now).nodes) starts.now }
     requires dep { dep < 2 ^ 64 }
     requires bound { IsWithin bound dep }
@@ -143,14 +104,14 @@ pub fn search_counted_with<G: Graph, L: Labels>(
     let labels = count_labels(&explored.frontier, arrival);
     let walk = walk_to(alloc, &explored.frontier, explored.end)?;
     workspace.put(explored.frontier);
-    Ok(Counted {
+    Ok(FoundWithCount {
         arrival,
         labels,
         walk,
     })
 }
 
-/// The same as [`search_with`] without the labels.
+/// The same as [`search_counted_with`] without the count.
 pub fn search_best_with<G: Graph, L: Labels>(
     alloc: Global,
     workspace: &mut Workspace,

@@ -4,7 +4,7 @@ use Rattle.product_search.proofs.EndLemmas.{arrives}
 use Rattle.product_search.proofs.ListLemmas.{least_labels, reached_listed, labels_in_time}
 use Rattle.product_search.proofs.ClosureLemmas.{labels_closed}
 use Rattle.product_search.proofs.TrailLemmas.{searched, parents_of, link_of, walk_for, arrival_in_time, walk_soon}
-use Rattle.product_search.proofs.searching.search_with.Goals as goal
+use Rattle.product_search.proofs.searching.search.Goals as goal
 
 pub walk_to-requires-clause-parents : goal.walk_to-requires-clause-parents
 walk_to-requires-clause-parents g c =
