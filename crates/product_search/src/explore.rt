@@ -122,6 +122,7 @@ fn offer_to_states<G: Graph, L: Labels>(
 }
 
 /// Offers what the steady arcs of a settled node lead to, in a state after their letter.
+#[inline(always)]
 fn offer_legs<G: Graph, L: Labels>(
     frontier: &mut Frontier,
     graph: &G,

@@ -26,6 +26,7 @@ use std::alloc::{AllocError, Global};
 
 /// The line that a text spells, if it may stand here, and the place behind it. The words of the text are left in
 /// `words`.
+#[inline(always)]
 #[tactic(auto, unfolding(crate::specs::Sections::line_at))]
 fn line_behind<'a>(
     alloc: Global,

@@ -74,6 +74,7 @@ fn switch_of(fields: &[&[u8]]) -> Option<Line>
     }
 }
 
+#[inline(always)]
 #[tactic(auto, unfolding(crate::specs::Kinds::arc_of_words))]
 fn arc_of(fields: &[&[u8]]) -> Option<Arc>
     ensures { result ≡ spec.arc_of_words (map (λ w. w.now) fields.now) }
@@ -257,6 +258,8 @@ fn kind_of(alloc: Global, kind: &[u8], fields: &[&[u8]]) -> Result<Option<Line>,
 
 /// The line that a text spells; `None` exactly where it spells none. The words of the text are left in `words`, so
 /// that one list serves many lines.
+// Apart from its caller, since what a line of days holds is else moved about for each line.
+#[inline(never)]
 #[tactic(auto, unfolding(crate::specs::Kinds::line_of))]
 pub fn line_of<'a>(
     alloc: Global,
