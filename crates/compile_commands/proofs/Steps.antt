@@ -1,8 +1,8 @@
 -- What the steps of compiling answer, put together to what the run says.
-use Rattle.std.proofs.Common.{ℕ, inl, inr, List, Ok, Err, refl, sym, subst}
-use Rattle.std.specs.Prelude.{⊤, Result, IfErr, OnOk}
+use Rattle.std.proofs.Common.{ℕ, inl, inr, List, refl, sym, subst}
+use Rattle.std.specs.Prelude.{Result}
 use Rattle.plan_base.specs.Shelves.{ShelfMeaning, IsLater}
-use Rattle.plan_base.specs.Sinks.{SinkMeaning, Appended}
+use Rattle.plan_base.specs.Sinks.{SinkMeaning}
 use Rattle.plan_base.specs.declared.limits.Caps.{Caps}
 use Rattle.service_days.specs.DaysMeaning.{DaysMeaning}
 use Rattle.opl_reader.specs.ObjectLists.{ObjectLists}
@@ -13,9 +13,8 @@ use Rattle.mode_network.specs.NetworkLists.{NetworkLists}
 use Rattle.run_steps.specs.declared.outcome.Outcome.{Outcome}
 use Rattle.run_steps.specs.declared.outcome.Outcome.TheVariants.{Done, Usage, Missing, ReadFault, TooLong, WriteFault, BadRegion, BadFeed, Invalid, BadCertificate, BadHierarchy, Unsound, OutOfMemory}
 use Rattle.run_steps.specs.declared.outcome.SourceFault.TheVariants as source
-use Rattle.run_steps.specs.Sayings.{Saying, IsUnwritten, WritesText, end_of}
-use Rattle.run_steps.specs.Working.{IsTextOutcome}
-use Rattle.run_steps.proofs.Steps.{not_earlier, text_fails}
+use Rattle.run_steps.specs.Sayings.{Saying, IsUnwritten}
+use Rattle.run_steps.proofs.Steps.{not_earlier}
 use Rattle.compile_commands.specs.Maps.{OnObjects, OnMap}
 use Rattle.compile_commands.specs.Feeds.{OnLists, OnFeed}
 use Rattle.compile_commands.specs.Builds.{OnBuild}
@@ -94,12 +93,6 @@ module _ (caps : Caps) (old mid new : ShelfMeaning) (before after : SinkMeaning)
     later = later;
     says = subst (λ (r : Result FeedLists FeedFault). OnLists r rest mid new before after outcome) (sym has.spells) says;
   })
-
--- a text was written, whole or a front of it
-pub text_ends : (old new : ShelfMeaning) (before after : SinkMeaning) (IsText : List ℕ → Type 0) (text : List ℕ) → IsText text → (result : Result ⊤ Outcome)
-    → OnOk result (Appended before after text) → IfErr result (IsTextOutcome before after text) → WritesText IsText old new before after (end_of result)
-text_ends old new before after IsText text is (Ok done) appended none = record { out = text; is = is; appended = appended }
-text_ends old new before after IsText text is (Err outcome) none fails = text_fails old new before after IsText text is outcome fails
 
 -- the map and the feed gave no region
 module _ (caps : Caps) (old new : ShelfMeaning) (before after : SinkMeaning) (objects : ObjectLists) (feed : FeedLists) (days : DaysMeaning) where

@@ -1,9 +1,9 @@
 -- What the steps of a run answer, put together to what the run says.
 use Rattle.std.proofs.Common.{◌≡◌, ℕ, ◌<◌, ◌≤◌, ◌∙◌, inl, inr, List, Option, Some, None, Ok, Err, take, refl, sym, subst, arith, rules}
-use Rattle.std.specs.Prelude.{Result, IfSome, IsSomeAnd, length}
+use Rattle.std.specs.Prelude.{⊤, Result, IfErr, IfSome, IsSomeAnd, OnOk, length}
 use Rattle.plan_base.specs.Counts.{Rose}
 use Rattle.plan_base.specs.Shelves.{ShelfMeaning, IsLater, Told}
-use Rattle.plan_base.specs.Sinks.{SinkMeaning}
+use Rattle.plan_base.specs.Sinks.{SinkMeaning, Appended}
 use Rattle.plan_base.specs.declared.limits.Caps.{Caps}
 use Rattle.mode_network.specs.NetworkLists.{NetworkLists}
 use Rattle.mode_network.specs.Rules.{first_fault}
@@ -13,7 +13,7 @@ use Rattle.region_file.specs.Regions.{behind_head, lists_by, network_of, or_faul
 use Rattle.run_steps.specs.declared.outcome.Outcome.{Outcome}
 use Rattle.run_steps.specs.declared.outcome.Outcome.TheVariants.{Done, Usage, Missing, ReadFault, TooLong, WriteFault, BadRegion, BadFeed, Invalid, BadCertificate, BadHierarchy, Unsound, OutOfMemory}
 use Rattle.run_steps.specs.declared.outcome.FileRole.{FileRole}
-use Rattle.run_steps.specs.Sayings.{Saying, IsUnread, IsUnreadable, IsUnwritten, WritesText, most_bytes}
+use Rattle.run_steps.specs.Sayings.{Saying, IsUnread, IsUnreadable, IsUnwritten, WritesText, end_of, most_bytes}
 use Rattle.run_steps.specs.Regions.{OnNetwork, OnRegion}
 use Rattle.run_steps.specs.Working.{HasRegion, IsRegionOutcome, IsTextOutcome}
 
@@ -87,6 +87,12 @@ module _ (old new : ShelfMeaning) (before after : SinkMeaning) where
   text_fails IsText text is (BadCertificate line) none = none
   text_fails IsText text is (BadHierarchy fault) none = none
   text_fails IsText text is (Unsound clause at by) none = none
+
+  -- it was, or a front of it
+  pub text_ends : (IsText : List ℕ → Type 0) (text : List ℕ) → IsText text → (result : Result ⊤ Outcome)
+      → OnOk result (Appended before after text) → IfErr result (IsTextOutcome before after text) → WritesText IsText old new before after (end_of result)
+  text_ends IsText text is (Ok done) appended none = record { out = text; is = is; appended = appended }
+  text_ends IsText text is (Err outcome) none fails = text_fails IsText text is outcome fails
 
 -- ---- what is read
 

@@ -1,5 +1,5 @@
 use Rattle.compile_commands.specs.Outputs.{IsRegionFile}
-use Rattle.compile_commands.proofs.Steps.{text_ends}
+use Rattle.run_steps.proofs.Steps.{text_ends}
 use Rattle.compile_commands.proofs.compiling.write_network.Goals as goal
 
 pub returns : goal.returns
