@@ -107,7 +107,7 @@ pub(crate) fn leaves_into(times: &mut Vec<u64>, source: &Source<'_>) -> Result<(
 
 /// How many copies of a trip are kept, and how many are late.
 #[derive(Clone, Copy)]
-pub(crate) struct Counted {
+pub(crate) struct CopyCounts {
     pub(crate) kept: u64,
     pub(crate) late: u64,
 }
@@ -120,7 +120,7 @@ fn starts(start: u64, end: u64, headway: u64) -> u64
     end.saturating_sub(start).div_ceil(headway)
 }
 
-fn count_row(before: u64, row: &FrequencyRow) -> Counted
+fn count_row(before: u64, row: &FrequencyRow) -> CopyCounts
     requires { 1 ≤ row.now.headway }
     ensures kept { result.kept ≡ length (leaves_by before row.now) }
     ensures late { result.late ≡ length (spec.departures_by row.now) - length (leaves_by before row.now) }
@@ -129,32 +129,32 @@ fn count_row(before: u64, row: &FrequencyRow) -> Counted
     let headway = u64::from(row.headway);
     let kept = starts(start, end.min(before), headway);
     let all = starts(start, end, headway);
-    Counted {
+    CopyCounts {
         kept,
         late: all.saturating_sub(kept),
     }
 }
 
-impl Counted {
+impl CopyCounts {
     ghost use Rattle.std.specs.Prelude.{◌≡◌, ◌+◌, IfSome};
 
     /// Both together; `None` where a count is past 64 bits.
-    fn and(self, other: Counted) -> Option<Counted>
+    fn and(self, other: CopyCounts) -> Option<CopyCounts>
         ensures { IfSome result (λ sum. (sum.kept ≡ self.kept + other.kept) × (sum.late ≡ self.late + other.late)) }
     {
-        Some(Counted {
+        Some(CopyCounts {
             kept: self.kept.checked_add(other.kept)?,
             late: self.late.checked_add(other.late)?,
         })
     }
 }
 
-fn count_rows(before: u64, rows: &[FrequencyRow]) -> Option<Counted>
+fn count_rows(before: u64, rows: &[FrequencyRow]) -> Option<CopyCounts>
     requires { AllByRecursion (λ row. 1 ≤ row.headway) rows.now }
     ensures kept { IfSome result (λ all. all.kept ≡ kept_by before rows.now) }
     ensures late { IfSome result (λ all. all.late ≡ late_by before rows.now) }
 {
-    let mut all = Counted { kept: 0, late: 0 };
+    let mut all = CopyCounts { kept: 0, late: 0 };
     let mut rest = rows;
     while let [row, after @ ..] = rest {
         all = all.and(count_row(before, row))?;
@@ -165,25 +165,25 @@ fn count_rows(before: u64, rows: &[FrequencyRow]) -> Option<Counted>
 
 /// How many copies of a trip are kept and how many are late, counted without making one; `None` where a count is past 64
 /// bits.
-pub(crate) fn count_copies(source: &Source<'_>) -> Option<Counted>
+pub(crate) fn count_copies(source: &Source<'_>) -> Option<CopyCounts>
     requires { AllByRecursion (λ row. 1 ≤ row.headway) source.now.frequencies.now }
     ensures kept { IfSome result (λ counted. counted.kept ≡ length (spec.leaves_of (lists_of source.now))) }
     ensures late { IfSome result (λ counted. counted.late ≡ late_copies (lists_of source.now)) }
 {
     if !runs(source) {
-        return Some(Counted { kept: 0, late: 0 });
+        return Some(CopyCounts { kept: 0, late: 0 });
     }
     let before = kept_before(source.calls);
     let first = u64::from(first_departure(source.calls));
     if source.frequencies.is_empty() {
         Some(if first < before {
-            Counted { kept: 1, late: 0 }
+            CopyCounts { kept: 1, late: 0 }
         } else {
-            Counted { kept: 0, late: 1 }
+            CopyCounts { kept: 0, late: 1 }
         })
     } else if are_exact(source.frequencies) {
         count_rows(before, source.frequencies)
     } else {
-        Some(Counted { kept: 0, late: 0 })
+        Some(CopyCounts { kept: 0, late: 0 })
     }
 }

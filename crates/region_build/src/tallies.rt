@@ -7,7 +7,7 @@ ghost use Rattle.region_build.specs.Compiled.{kind_over};
 ghost use Rattle.region_build.specs.Sources.{lists_of};
 ghost use Rattle.region_build.specs.Tallies.{IsTally};
 
-use crate::headways::{Counted, count_copies};
+use crate::headways::{CopyCounts, count_copies};
 use crate::left::LeftOut;
 use crate::sources::Source;
 use gtfs_tables::CallRow;
@@ -99,12 +99,12 @@ impl Tally {
     };
 
     /// With one trip more; `None` where a count is past its bits.
-    fn with(self, source: &Source<'_>, counted: Counted) -> Option<Tally>
+    fn with(self, source: &Source<'_>, counted: CopyCounts) -> Option<Tally>
         requires kept { counted.kept ≡ length (leaves_of (lists_of source.now)) }
         requires late { counted.late ≡ late_copies (lists_of source.now) }
         ensures { IfSome result (λ more. (sources : List SourceLists) → IsTally sources self → IsTally (sources ++ lists_of source.now ∷ []) more) }
     {
-        let Counted { kept, late } = counted;
+        let CopyCounts { kept, late } = counted;
         let calls = u128::from(kept).checked_mul(source.calls.len() as u128)?;
         Some(Tally {
             trips: self.trips.checked_add(kept)?,
