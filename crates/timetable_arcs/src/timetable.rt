@@ -135,7 +135,8 @@ impl Timetable {
         Some(self.next_placed(p, call, t)?.run)
     }
 
-    /// The same run with its place among those of the pattern, where those before it stand that arrive no later at any call.
+    /// The run that [`Timetable::next`] tells, and its place among the runs of the pattern. Those that stand before it arrive no later at
+    /// any call.
     pub fn next_placed(&self, p: u32, call: u32, t: Time) -> Option<PlacedRun>
         requires pattern { p < length self.now.patterns }
         requires call { call < length (pattern_trip self.now p).calls }
