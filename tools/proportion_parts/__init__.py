@@ -1,0 +1,1 @@
+"""What tools/proportion is made of: files of any size, the families of calls over them, and what is measured."""
