@@ -1,8 +1,9 @@
 -- Parts of the clauses, as the check decides them.
-use Rattle.std.specs.Prelude.{◌≡◌, ℕ, ◌+◌, ◌-◌, ◌<◌, ◌≤◌, ◌^◌, List, [], ◌∷◌, Option, Some, All, slice_get}
+use Rattle.std.specs.Prelude.{◌≡◌, ◌≢◌, ℕ, ◌+◌, ◌-◌, ◌<◌, ◌≤◌, ◌^◌, List, [], ◌∷◌, Option, Some, All, slice_get}
 use Rattle.hierarchy.specs.declared.entry.Entry.{Entry}
+use Rattle.hierarchy.specs.declared.rises.Rise.{Rise}
 use Rattle.hierarchy.specs.Lists.{HierarchyLists, IsAbove}
-use Rattle.hierarchy.specs.Soundness.{HasEntry, PairsAreBridged, PairIsBridged, NodeIsBridged}
+use Rattle.hierarchy.specs.Soundness.{HasEntry, IsBridged, PairsAreBridged, PairIsBridged, NodeIsBridged}
 use Rattle.hierarchy.specs.FirstBroken.{FailsFirst}
 
 -- the weights of two entries can be added
@@ -33,6 +34,10 @@ pub record CanStep (h : HierarchyLists) (x u y have left : ℕ) : Type 0 where
 abbrev pub CanWalk : HierarchyLists → ℕ → ℕ → List ℕ → ℕ → Type 0
 CanWalk h x u [] have = Unit {0}
 CanWalk h x u (y ∷ nodes) have = (left : ℕ) × CanStep h x u y have left × CanWalk h x y nodes left
+
+-- an entry to x is bridged with one up from there
+abbrev pub RiseIsBridged : HierarchyLists → ℕ → Entry → Rise → Type 0
+RiseIsBridged h x a rise = rise.to ≢ a.from → IsBridged h x a.from rise.to (a.weight + rise.weight)
 
 -- the first entry to x, and the first entry from x, that are not bridged
 pub record FirstUnbridgedAt (h : HierarchyLists) (x at by : ℕ) : Type 0 where

@@ -3,11 +3,11 @@
 ghost use Rattle.std.specs.Prelude.{◌≡◌, ◌<◌, ◌^◌, ◌↔◌, All, IsTrue, MatchOption};
 ghost use Rattle.hierarchy.specs.Soundness.{IsBridged, ArePairAt, PairIsBridged, PairsAreBridged, NodeIsBridged};
 ghost use Rattle.hierarchy.specs.FirstBroken.{FailsFirst};
-ghost use Rattle.hierarchy_check.specs.Light.{IsLight, FirstUnbridgedAt, FirstUnbridged};
+ghost use Rattle.hierarchy_check.specs.Light.{IsLight, FirstUnbridgedAt, FirstUnbridged, RiseIsBridged};
 
 use crate::entries::has_lighter;
 use crate::witnesses::has_witness;
-use hierarchy::{Entry, Hierarchy};
+use hierarchy::{Entry, Hierarchy, Rise};
 
 /// The place in the order of the first node with two entries that are not bridged, and the places of these.
 pub(crate) fn first_unbridged(h: &Hierarchy) -> Option<(u64, u64, u64)>
@@ -49,13 +49,38 @@ fn unbridged_after(h: &Hierarchy, x: u32, entry: Entry) -> Option<u64>
         (PairsAreBridged h.now x entry)
         (FailsFirst (PairIsBridged h.now x entry) h.now.entries) }
 {
-    if h.above(entry.from, x) {
-        unbridged_from(h, x, entry)
-    } else {
+    if !h.above(entry.from, x) || rises_are_bridged(h, x, entry) {
         None
+    } else {
+        unbridged_from(h, x, entry)
     }
 }
 
+/// Whether an entry to a node is bridged with each entry that leads up from there. Others need no bridge, so that a node with
+/// many entries down costs no more than its entries up.
+fn rises_are_bridged(h: &Hierarchy, x: u32, entry: Entry) -> bool
+    requires light { IsLight h.now.entries }
+    requires weight { entry.weight < 2 ^ 56 }
+    ensures { IsTrue result → PairsAreBridged h.now x entry }
+{
+    for rise in h.rises_from(x) {
+        if !rise_is_bridged(h, x, entry, *rise) {
+            return false;
+        }
+    }
+    true
+}
+
+/// Whether an entry to a node is bridged with one up from there.
+fn rise_is_bridged(h: &Hierarchy, x: u32, entry: Entry, rise: Rise) -> bool
+    requires first { entry.weight < 2 ^ 56 }
+    requires second { rise.weight < 2 ^ 56 }
+    ensures { IsTrue result → RiseIsBridged h.now x entry rise }
+{
+    rise.to == entry.from || is_bridged(h, x, entry.from, rise.to, entry.weight + rise.weight)
+}
+
+/// The first entry from a node that is not bridged with this one to it.
 fn unbridged_from(h: &Hierarchy, x: u32, entry: Entry) -> Option<u64>
     requires light { IsLight h.now.entries }
     requires weight { entry.weight < 2 ^ 56 }
