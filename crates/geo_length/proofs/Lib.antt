@@ -1,3 +1,4 @@
+pub mod BoxLaws
 pub mod LengthLaws
 pub mod NearestLaws
 pub mod RootLaws

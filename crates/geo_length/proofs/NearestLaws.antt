@@ -1,5 +1,5 @@
 -- Laws of the nearest point.
-use Rattle.std.proofs.Common.{◌≡◌, ℕ, ℤ, ◌<◌, ◌≤◌, ◌≤ℤ◌, List, [], ◌∷◌, ◌++◌, Option, Some, None, Bool, true, false, ◌&&◌, ◌||◌, nat_lt, nat_eq, int_le, if◌then◌else◌, ◌⊎◌, inl, inr, ⊎_elim, refl, sym, ap, ap₂, ◌∙◌, append_assoc, arith}
+use Rattle.std.proofs.Common.{◌≡◌, ℕ, ℤ, ◌<◌, ◌≤◌, ◌≤ℤ◌, List, [], ◌∷◌, ◌++◌, Option, Some, None, Bool, true, false, ◌&&◌, ◌||◌, nat_lt, nat_eq, int_le, if◌then◌else◌, ◌⊎◌, inl, inr, ⊎_elim, refl, ap, ap₂, ◌∙◌, append_assoc, arith}
 use Rattle.std.specs.List.{All}
 use Rattle.std.specs.List.Sorted.{IsPermutation}
 use Rattle.std.proofs.lemmas.Bool.{cases_lt, le-ltb, lt-ltb}
@@ -10,13 +10,13 @@ use Rattle.std.proofs.lemmas.List.Elements.{All-nil, All-cons, All-append, All-p
 use Rattle.std.proofs.lemmas.List.Sorted.{All-permutation, Contains-permutation, IsPermutation-append_comm, IsPermutation-append_right}
 use Rattle.plan_base.specs.declared.places.Place.{Place}
 use Rattle.geo_length.specs.Lengths.{length_between}
-use Rattle.geo_length.specs.Nearest.{IsClosest, IsNearest, Point, TakesIn, length_to, limit_of, nearer_of}
+use Rattle.geo_length.specs.Nearest.{ComesLater, IsClosest, IsNearest, Point, TakesIn, length_to, limit_of, nearer_of}
 
 -- the test whether the best so far comes no later than a point
 abbrev later_test : ℤ × ℕ → ℤ → ℕ → Bool
 later_test best id mm = nat_lt best.1 mm || (nat_eq best.1 mm && int_le best.0 id)
 
-later_first : (best : ℤ × ℕ) (id : ℤ) (mm : ℕ) → later_test best id mm ≡ true → (best.1 ≤ mm) × (best.1 ≡ mm → best.0 ≤ℤ id)
+later_first : (best : ℤ × ℕ) (id : ℤ) (mm : ℕ) → later_test best id mm ≡ true → (best.1 ≤ mm) × (mm ≡ best.1 → best.0 ≤ℤ id)
 later_first best id mm h = grind (arith, nat_tests, ints)
 
 sooner_first : (best : ℤ × ℕ) (id : ℤ) (mm : ℕ) → later_test best id mm ≡ false → (mm ≤ best.1) × (mm ≡ best.1 → id ≤ℤ best.0)
@@ -76,11 +76,17 @@ module _ (place : Place) (within : ℕ) where
   takes_behind xs ys a b c first second =
       record { joined = λ seen h. IsNearest-permutation (seen ++ (ys ++ xs)) (seen ++ (xs ++ ys)) c (IsPermutation-append_right seen (ys ++ xs) (xs ++ ys) (IsPermutation-append_comm ys xs)) ((takes_append ys xs a b c first second).joined seen h) }
 
-  -- points that are too far change nothing
-  pub takes_far : (xs : List Point) (best : Option (ℤ × ℕ)) → All (λ point. limit_of within best < length_to place point) xs → TakesIn xs place within best best
-  takes_far xs None far = record { joined = λ seen h. All-append (λ point. within < length_to place point) seen xs h far }
-  takes_far xs (Some best) far =
-      let farther = λ (point : Point). best.1 < length_to place point in
+  -- a point that is too far comes later
+  pub far_later : (best : Option (ℤ × ℕ)) (point : Point) → limit_of within best < length_to place point → ComesLater place within best point
+  far_later None point far = far
+  far_later (Some best) point far = (omega (arith, far), λ same. absurd (omega (arith, far, same)))
+
+  -- points that come later change nothing
+  pub takes_later : (xs : List Point) (best : Option (ℤ × ℕ)) → All (ComesLater place within best) xs → TakesIn xs place within best best
+  takes_later xs None later = record { joined = λ seen h. All-append (λ point. within < length_to place point) seen xs h later }
+  takes_later xs (Some best) later =
+      let as_far = λ (point : Point). best.1 ≤ length_to place point in
+      let no_lower = λ (point : Point). length_to place point ≡ best.1 → best.0 ≤ℤ point.0 in
       record {
         joined = λ seen h. (
           h.0,
@@ -88,27 +94,14 @@ module _ (place : Place) (within : ℕ) where
             at = h.1.at;
             given = Contains-append_left seen xs (best.0, h.1.at) h.1.given;
             length_is = h.1.length_is;
-            closest = All-append (λ point. best.1 ≤ length_to place point) seen xs h.1.closest (All-weaker farther (λ point. best.1 ≤ length_to place point) (λ point more. omega (arith, more)) xs far);
-            first = All-append (λ point. length_to place point ≡ best.1 → best.0 ≤ℤ point.0) seen xs h.1.first (All-weaker farther (λ point. length_to place point ≡ best.1 → best.0 ≤ℤ point.0) (λ point more same. absurd (omega (arith, more, same))) xs far);
+            closest = All-append as_far seen xs h.1.closest (All-weaker (ComesLater place within (Some best)) as_far (λ point later. later.0) xs later);
+            first = All-append no_lower seen xs h.1.first (All-weaker (ComesLater place within (Some best)) no_lower (λ point later. later.1) xs later);
           },
         );
       }
 
-  -- a point that does not come before the best so far changes nothing
-  takes_later : (best : ℤ × ℕ) (id : ℤ) (at : Place) → best.1 ≤ length_between place at → (best.1 ≡ length_between place at → best.0 ≤ℤ id) → TakesIn ((id, at) ∷ []) place within (Some best) (Some best)
-  takes_later best id at later first =
-      record {
-        joined = λ seen h. (
-          h.0,
-          record {
-            at = h.1.at;
-            given = Contains-append_left seen ((id, at) ∷ []) (best.0, h.1.at) h.1.given;
-            length_is = h.1.length_is;
-            closest = All-push (λ point. best.1 ≤ length_to place point) seen (id, at) h.1.closest later;
-            first = All-push (λ point. length_to place point ≡ best.1 → best.0 ≤ℤ point.0) seen (id, at) h.1.first (λ same. first (sym same));
-          },
-        );
-      }
+  pub takes_one_later : (best : Option (ℤ × ℕ)) (point : Point) → ComesLater place within best point → TakesIn (point ∷ []) place within best best
+  takes_one_later best point later = takes_later (point ∷ []) best (All-cons (ComesLater place within best) point [] later (All-nil (ComesLater place within best)))
 
   -- a point that comes no later than the best so far takes its place
   takes_sooner : (best : ℤ × ℕ) (id : ℤ) (at : Place) → length_between place at ≤ best.1 → (length_between place at ≡ best.1 → id ≤ℤ best.0) → TakesIn ((id, at) ∷ []) place within (Some best) (Some (id, length_between place at))
@@ -152,11 +145,11 @@ module _ (place : Place) (within : ℕ) where
   pub takes_point : (best : Option (ℤ × ℕ)) (point : Point) → TakesIn (point ∷ []) place within best (nearer_of within best point.0 (length_to place point))
   takes_point None point =
       ⊎_elim
-      (λ t. rw t.0 (takes_far (point ∷ []) None (All-cons (λ point. within < length_to place point) point [] t.1 (All-nil (λ point. within < length_to place point)))))
+      (λ t. rw t.0 (takes_one_later None point t.1))
       (λ t. rw t.0 (takes_first point.0 point.1 t.1))
       (ltb_tells within (length_to place point))
   takes_point (Some best) point = by_test (later_test best point.0 (length_to place point)) refl
     where
       by_test : (b : Bool) → later_test best point.0 (length_to place point) ≡ b → TakesIn (point ∷ []) place within (Some best) (if b then Some best else Some (point.0, length_to place point))
-      by_test true e = takes_later best point.0 point.1 (later_first best point.0 _ e).0 (later_first best point.0 _ e).1
+      by_test true e = takes_one_later (Some best) point (later_first best point.0 _ e)
       by_test false e = takes_sooner best point.0 point.1 (sooner_first best point.0 _ e).0 (sooner_first best point.0 _ e).1

@@ -9,6 +9,9 @@ pub record IsInside (bounds : Bounds) (place : Place) : Type 0 where
   pub west : bounds.low.lon ≤ℤ place.lon
   pub east : place.lon ≤ℤ bounds.high.lon
 
--- each of the points is inside
+-- a point is inside, and its id is no lower than the least
+abbrev pub IsWithin : Bounds → ℤ × Place → Type 0
+IsWithin bounds point = IsInside bounds point.1 × (bounds.least_id ≤ℤ point.0)
+
 abbrev pub AreInside : Bounds → List (ℤ × Place) → Type 0
-AreInside bounds points = All (λ point. IsInside bounds point.1) points
+AreInside bounds points = All (IsWithin bounds) points

@@ -33,6 +33,11 @@ abbrev pub limit_of : ℕ → Option (ℤ × ℕ) → ℕ
 limit_of within None = within
 limit_of within (Some nearest) = nearest.1
 
+-- the point does not come before the nearest so far: it is farther away, or as far with no lower id; or it is past the limit
+abbrev pub ComesLater : Place → ℕ → Option (ℤ × ℕ) → Point → Type 0
+ComesLater place within None point = within < length_to place point
+ComesLater place within (Some nearest) point = (nearest.1 ≤ length_to place point) × (length_to place point ≡ nearest.1 → nearest.0 ≤ℤ point.0)
+
 -- the nearest with a point of this id and length too
 abbrev pub nearer_of : ℕ → Option (ℤ × ℕ) → ℤ → ℕ → Option (ℤ × ℕ)
 nearer_of within None id mm = if nat_lt within mm then None else Some (id, mm)

@@ -1,22 +1,26 @@
-//! Boxes of places.
+//! Boxes around points.
 
 use plan_base::Place;
 
-/// A box from a south-western corner to a north-eastern one.
+/// A box around points from a south-western corner to a north-eastern one, and the least of their ids.
 #[derive(Clone, Copy, Debug)]
 pub struct Bounds {
     pub low: Place,
     pub high: Place,
+    pub least_id: i64,
 }
 
 impl Bounds {
+    ghost use Rattle.std.specs.Prelude.{◌≡◌, ◌≤ℤ◌};
     ghost use Rattle.plan_base.specs.declared.places.Place.{Place};
-    ghost use Rattle.geo_length.specs.Boxes.{AreInside, IsInside};
+    ghost use Rattle.geo_length.specs.Boxes.{AreInside, IsInside, IsWithin};
+    ghost use Rattle.geo_length.specs.Nearest.{Point};
 
     /// The least box around this one and a place.
     fn with(self, place: Place) -> Bounds
         ensures place { IsInside result place }
         ensures kept { (other : Place) → IsInside self other → IsInside result other }
+        ensures least { result.least_id ≡ self.least_id }
     {
         Bounds {
             low: Place {
@@ -27,15 +31,39 @@ impl Bounds {
                 lat: self.high.lat.max(place.lat),
                 lon: self.high.lon.max(place.lon),
             },
+            least_id: self.least_id,
         }
+    }
+
+    /// The same box with an id that is no higher than this one.
+    fn with_id(self, id: i64) -> Bounds
+        ensures low { result.low ≡ self.low }
+        ensures high { result.high ≡ self.high }
+        ensures id { result.least_id ≤ℤ id }
+        ensures kept { result.least_id ≤ℤ self.least_id }
+    {
+        Bounds {
+            low: self.low,
+            high: self.high,
+            least_id: self.least_id.min(id),
+        }
+    }
+
+    /// The least box around this one and a point.
+    fn with_point(self, id: i64, place: Place) -> Bounds
+        ensures point { IsWithin result (id, place) }
+        ensures kept { (other : Point) → IsWithin self other → IsWithin result other }
+    {
+        self.with(place).with_id(id)
     }
 
     /// The least box around this one and another that is not empty.
     pub fn around(self, other: Bounds) -> Bounds
-        ensures kept { (place : Place) → IsInside self place → IsInside result place }
-        ensures other { (place : Place) → IsInside other place → IsInside result place }
+        ensures kept { (point : Point) → IsWithin self point → IsWithin result point }
+        ensures other { (point : Point) → IsWithin other point → IsWithin result point }
     {
-        self.with(other.low).with(other.high)
+        let corners = self.with(other.low).with(other.high);
+        corners.with_id(other.least_id)
     }
 
     /// The least box around all of the points.
@@ -44,7 +72,7 @@ impl Bounds {
     {
         let mut bounds = EMPTY;
         for point in points {
-            bounds = bounds.with(point.1);
+            bounds = bounds.with_point(point.0, point.1);
         }
         bounds
     }
@@ -59,4 +87,5 @@ const EMPTY: Bounds = Bounds {
         lat: -900_000_000,
         lon: -1_800_000_000,
     },
+    least_id: i64::MAX,
 };

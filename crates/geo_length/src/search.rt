@@ -2,7 +2,8 @@
 
 ghost use Rattle.std.specs.Prelude.{◌≡◌, ◌≤◌, ◌<◌, ◌∷◌, [], true};
 ghost use Rattle.geo_length.specs.Lengths.{length_between};
-ghost use Rattle.geo_length.specs.Nearest.{TakesIn, limit_of, nearer_of};
+ghost use Rattle.geo_length.specs.Boxes.{IsWithin};
+ghost use Rattle.geo_length.specs.Nearest.{ComesLater, Point, TakesIn, limit_of, nearer_of};
 ghost use Rattle.geo_length.specs.Trees.{AreBounded};
 
 use crate::boxes::Bounds;
@@ -86,8 +87,19 @@ fn with_points(
     nearest
 }
 
+// Whether no point of a box matters: each is surely past the nearest so far, or as far with no lower id.
+fn is_passed_over(bounds: Bounds, place: Place, within: u64, best: Option<(i64, u64)>) -> bool
+    ensures { result ≡ true → (point : Point) → IsWithin bounds point → ComesLater place within best point }
+{
+    let least = least_mm(&bounds, place);
+    match best {
+        Some((id, mm)) => mm < least || mm == least && id <= bounds.least_id,
+        None => within < least,
+    }
+}
+
 /// The nearest of the points before and of these, within a length, by their tree. The nearer half of them is searched
-/// first, and points whose box is too far are passed over.
+/// first, and boxes of points that come later are passed over.
 pub fn with_tree(
     tree: &Tree,
     points: &[(i64, Place)],
@@ -98,7 +110,7 @@ pub fn with_tree(
     requires { AreBounded tree.now points.now }
     ensures { TakesIn points.now place within best result }
 {
-    if limit(best, within) < least_mm(&bounds_of(tree), place) {
+    if is_passed_over(bounds_of(tree), place, within, best) {
         return best;
     }
     match tree {

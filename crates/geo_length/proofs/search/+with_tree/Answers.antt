@@ -1,18 +1,18 @@
-use Rattle.std.proofs.Common.{◌<◌, sym, subst, arith}
+use Rattle.std.proofs.Common.{sym, subst}
 use Rattle.std.proofs.lemmas.List.Elements.{All-weaker}
-use Rattle.geo_length.specs.Boxes.{IsInside}
-use Rattle.geo_length.specs.Nearest.{Point, TakesIn, length_to, limit_of}
+use Rattle.geo_length.specs.Boxes.{IsWithin}
+use Rattle.geo_length.specs.Nearest.{ComesLater, TakesIn}
 use Rattle.geo_length.specs.Trees.{bounds_of}
-use Rattle.geo_length.proofs.NearestLaws.{takes_far, takes_append, takes_behind}
+use Rattle.geo_length.proofs.NearestLaws.{takes_later, takes_append, takes_behind}
 use Rattle.geo_length.proofs.TreeLaws.{all_inside}
 use Rattle.geo_length.proofs.search.+with_tree.Goals as goal
 
-pub returns-then-limit-least_mm : goal.returns-then-limit-least_mm
-returns-then-limit-least_mm t c =
-    let inside = λ (point : Point). IsInside (bounds_of c.args.tree.now) point.1 in
-    let far = λ (point : Point). limit_of c.args.within c.args.best < length_to c.args.place point in
-    let least = rw c.bounds_of.ensures at c.least_mm.ensures in
-    takes_far c.args.place c.args.within _ c.args.best (All-weaker inside far (λ point there. omega (arith, least point.1 there, c.limit.ensures, c.if-limit-least_mm.true)) c.args.points.now (all_inside c.args.tree.now c.args.points.now c.requires))
+pub returns-then-is_passed_over : goal.returns-then-is_passed_over
+returns-then-is_passed_over t c =
+    let later = rw c.bounds_of.ensures at c.is_passed_over.ensures in
+    takes_later c.args.place c.args.within c.args.points.now c.args.best
+    (All-weaker (IsWithin (bounds_of c.args.tree.now)) (ComesLater c.args.place c.args.within c.args.best) (later c.if-is_passed_over.true) c.args.points.now
+    (all_inside c.args.tree.now c.args.points.now c.requires))
 
 pub returns-then-least_mm : goal.returns-then-least_mm
 returns-then-least_mm t c =

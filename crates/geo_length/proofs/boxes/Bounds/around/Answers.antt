@@ -1,19 +1,17 @@
 use Rattle.std.proofs.Common.{arith}
 use Rattle.std.proofs.lemmas.Int.{ints}
-use Rattle.plan_base.specs.declared.places.Place.{Place}
-use Rattle.geo_length.specs.Boxes.{IsInside}
-use Rattle.geo_length.specs.declared.boxes.Bounds.{Bounds}
+use Rattle.geo_length.proofs.BoxLaws.{between, still_within}
 use Rattle.geo_length.proofs.boxes.Bounds.around.Goals as goal
 
--- between two corners that are inside
-between : (bounds around : Bounds) (place : Place) → IsInside around bounds.low → IsInside around bounds.high → IsInside bounds place → IsInside around place
-between bounds around place low high inside = record {
-  south = omega (arith, ints, low.south, inside.south);
-  north = omega (arith, ints, high.north, inside.north);
-  west = omega (arith, ints, low.west, inside.west);
-  east = omega (arith, ints, high.east, inside.east);
-}
+pub returns-clause-kept : goal.returns-clause-kept
+returns-clause-kept c = λ point inside.
+    let end = c.with_id.ensures in
+    still_within c.with_id.result c.with-corners.result point end.low end.high
+    (omega (arith, ints, end.kept, c.with-corners.ensures.least, c.with.ensures.least, inside.1))
+    (c.with-corners.ensures.kept point.1 (c.with.ensures.kept point.1 inside.0))
 
 pub returns-clause-other : goal.returns-clause-other
-returns-clause-other c = λ place inside.
-    between c.args.other c.with-2.result place (c.with-2.ensures.kept c.args.other.low c.with.ensures.place) c.with-2.ensures.place inside
+returns-clause-other c = λ point inside.
+    let end = c.with_id.ensures in
+    still_within c.with_id.result c.with-corners.result point end.low end.high (omega (arith, ints, end.id, inside.1))
+    (between c.args.other c.with-corners.result point.1 (c.with-corners.ensures.kept c.args.other.low c.with.ensures.place) c.with-corners.ensures.place inside.0)
