@@ -128,7 +128,13 @@ impl Column {
             Column::HeadwaySecs => "a number of 1 to 9 digits, and not zero",
             Column::ExactTimes => "empty, 0 or 1",
             Column::PickupType | Column::DropOffType => "empty, or a digit from 0 to 3",
-            _ => "0 or 1",
+            Column::Monday
+            | Column::Tuesday
+            | Column::Wednesday
+            | Column::Thursday
+            | Column::Friday
+            | Column::Saturday
+            | Column::Sunday => "0 or 1",
         }
     }
 
@@ -139,7 +145,31 @@ impl Column {
             Column::RouteId => "routes.txt",
             Column::TripId => "trips.txt",
             Column::ServiceId => "calendar.txt or calendar_dates.txt",
-            _ => "its table",
+            Column::AgencyTimezone
+            | Column::LocationType
+            | Column::StopLat
+            | Column::StopLon
+            | Column::RouteType
+            | Column::Monday
+            | Column::Tuesday
+            | Column::Wednesday
+            | Column::Thursday
+            | Column::Friday
+            | Column::Saturday
+            | Column::Sunday
+            | Column::StartDate
+            | Column::EndDate
+            | Column::Date
+            | Column::ExceptionType
+            | Column::StartTime
+            | Column::EndTime
+            | Column::HeadwaySecs
+            | Column::ExactTimes
+            | Column::StopSequence
+            | Column::ArrivalTime
+            | Column::DepartureTime
+            | Column::PickupType
+            | Column::DropOffType => "its table",
         }
     }
 }
