@@ -1,3 +1,4 @@
+#!/usr/bin/env python3
 """grid.py N: the region text of a foot grid of N by N corners, with an arc each way between neighbours."""
 import sys
 n = int(sys.argv[1])

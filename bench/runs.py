@@ -1,3 +1,4 @@
+#!/usr/bin/env python3
 """runs.py KIND TRIPS DAYS: the region text of two stops and TRIPS buses between them, on the seven lead days and DAYS days.
 KIND is `plain` (each bus is there after the one before), `overtake` (each is there before the one before), or `tie` (all leave and
 arrive together)."""
