@@ -46,9 +46,9 @@ Services = dict[str, Service]
 def read_services(feed: Feed, report: Report) -> Services:
     """The services of both calendar files; an empty file is as one that is not there."""
     services: Services = {}
-    if feed.has(SPANS):
+    if feed.has(SPANS, report):
         _read_spans(feed, services, report)
-    if feed.has(DATES):
+    if feed.has(DATES, report):
         _read_dates(feed, services, report)
     return services
 
@@ -60,7 +60,8 @@ def _read_spans(feed: Feed, services: Services, report: Report) -> None:
         if not ident or ident in services:
             report.drop("rows with the id of an earlier row, or without one", f"{place}: service_id {quoted(ident)}")
         elif not all(day in ("0", "1") for day in days) or first is None or last is None:
-            report.drop("rows that can't be read", f"{place}: service {quoted(ident)}; weekdays are 0 or 1, and dates as 20240701")
+            report.drop("rows that can't be read",
+                        f"{place}: service {quoted(ident)}; weekdays are 0 or 1, and dates as 20240701")
         else:
             services[ident] = Service("".join(days), first, last)
 
@@ -70,8 +71,8 @@ def _read_dates(feed: Feed, services: Services, report: Report) -> None:
         place = feed.place(DATES, number)
         day = date_of(date)
         if not ident or day is None or kind not in ("1", "2"):
-            report.drop("rows that can't be read", f"{place}: service {quoted(ident)}, date {quoted(date)}, exception_type {quoted(kind)}; "
-                        "a date is as 20240701, and the type 1 or 2")
+            report.drop("rows that can't be read", f"{place}: service {quoted(ident)}, date {quoted(date)}, exception_type "
+                        f"{quoted(kind)}; a date is as 20240701, and the type 1 or 2")
         elif day in services.setdefault(ident, Service()).dates:
             report.drop("rows with the id of an earlier row, or without one", f"{place}: service_id {quoted(ident)} on {date}")
         else:

@@ -59,7 +59,8 @@ def _times(feed: Feed, row: int, clocks: tuple[str, str], report: Report) -> tup
     """Both times of a call; where one is said it is both, and one that can't be read is not said."""
     for text in clocks:
         if text and seconds_of(text) is None:
-            report.change("times that can't be read, taken as not said", f"{feed.place(TABLE, row)}: {quoted(text)}; a time is as 08:00:00")
+            report.change("times that can't be read, taken as not said",
+                          f"{feed.place(TABLE, row)}: {quoted(text)}; a time is as 08:00:00")
     arrive, depart = map(seconds_of, clocks)
     return (depart if arrive is None else arrive), (arrive if depart is None else depart)
 
@@ -68,7 +69,8 @@ def _types(feed: Feed, row: int, types: list[str], report: Report) -> tuple[str,
     """Who may board and alight; a type that is none is as none said."""
     for kind in types:
         if kind not in ("", "0", "1", "2", "3"):
-            report.change("pickup and drop-off types that are none, taken as not said", f"{feed.place(TABLE, row)}: {quoted(kind)}; 0 to 3")
+            report.change("pickup and drop-off types that are none, taken as not said",
+                          f"{feed.place(TABLE, row)}: {quoted(kind)}; 0 to 3")
     pickup, drop_off = (kind if kind in ("0", "1", "2", "3") else "" for kind in types)
     return pickup, drop_off
 

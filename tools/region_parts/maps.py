@@ -176,8 +176,8 @@ class Map:
         for mode in MODES:
             lost = islands(pair for ident, way in self.ways.items() if mode in modes[ident] for pair in self.streets(way))
             for ident, way in self.ways.items():
-                if mode in modes[ident] and any(a in lost for a, _ in self.streets(way)) and \
-                        all(a in lost for a, _ in self.streets(way)):
+                corners = [corner for corner, _ in self.streets(way)] if mode in modes[ident] else []
+                if corners and all(corner in lost for corner in corners):
                     modes[ident].discard(mode)
                     way.tags[OWN_TAG[mode]] = "no"
                     self._report.drop(f"ways on an island of the {mode} layer, of fewer than 50 nodes", f"way {ident}")
@@ -199,8 +199,8 @@ class Map:
             for ident, way in sorted(streets.items()):
                 tags = {key: value for key, value in way.tags.items() if key in PROFILE_TAGS}
                 writer.add_way(osmium.osm.mutable.Way(id=ident, nodes=list(way.members), tags=tags))
-                for node in way.members if "name" in way.tags and modes_of(way.tags) else ():
-                    names.add_street(node, way.tags["name"])
+                for corner in way.members if "name" in way.tags and modes_of(way.tags) else ():
+                    names.add_street(corner, way.tags["name"])
         finally:
             writer.close()
 

@@ -2,21 +2,25 @@
 
 import csv
 import io
+import lzma
 import os
 import pathlib
 import shutil
 import stat
+import struct
 import zipfile
 import zlib
 from collections.abc import Iterator
 from typing import BinaryIO
 
 from .faults import Stop, quoted, shown
+from .report import Report
 
 TABLES = ("agency.txt", "stops.txt", "routes.txt", "calendar.txt", "calendar_dates.txt", "trips.txt", "frequencies.txt",
           "stop_times.txt")
 MOST_BYTES = 1 << 30  # of one table: as many as the planner reads
-FAULTS = (OSError, EOFError, RuntimeError, NotImplementedError, zipfile.BadZipFile, zlib.error)  # of a read, in a zip file or not
+# of a read, in a zip file or not
+FAULTS = OSError, EOFError, RuntimeError, NotImplementedError, ValueError, zipfile.BadZipFile, zlib.error, lzma.LZMAError, struct.error
 IDS = {"stop_id", "parent_station", "route_id", "service_id", "trip_id"}  # taken as they stand; from others spaces are dropped
 
 Row = tuple[int, list[str]]
@@ -67,7 +71,8 @@ class Feed:
         folders = {name.removesuffix("stop_times.txt") for name in self._zip.namelist()
                    if name.rpartition("/")[2] == "stop_times.txt" and not name.startswith("__MACOSX/")}
         if len(folders) != 1:
-            raise Stop(f"{shown(self.path)} has {len(folders)} files stop_times.txt; one feed has one: unpack it, and name its folder")
+            raise Stop(f"{shown(self.path)} has {len(folders)} files stop_times.txt, and one feed has one; unpack it, and name a "
+                       "folder of it")
         self._folder = folders.pop()
 
     def named(self, table: str) -> str:
@@ -77,12 +82,15 @@ class Feed:
     def place(self, table: str, row: int) -> str:
         return f"{self.label}{table}, row {row}"
 
-    def has(self, table: str) -> bool:
+    def has(self, table: str, report: Report) -> bool:
         """Whether the table is there, and not empty."""
         if not self._is_there(table):
             return False
         with self.open(table) as file:
-            return bool(file.peek(1))
+            if not file.peek(1):
+                report.change("empty tables, taken as not there", self.named(table))
+                return False
+        return True
 
     def _is_there(self, table: str) -> bool:
         if self._zip is not None:
@@ -158,8 +166,8 @@ def zone_of(feeds: list[Feed]) -> str | None:
     for feed in feeds:
         for row, zone in feed.zones():
             if found is not None and zone and zone != found[0]:
-                raise Stop(f"{feed.place('agency.txt', row)}: the zone {quoted(zone)} is not that of {found[1]}, {quoted(found[0])}; a "
-                           "region has one: make one of each, or give the one rule of both by --zone")
+                raise Stop(f"{feed.place('agency.txt', row)}: the zone {quoted(zone)} is not that of {found[1]}, {quoted(found[0])}; "
+                           "a region has one zone: make a region of each, or give the one rule of both by --zone")
             if zone and found is None:
                 found = zone, feed.place("agency.txt", row)
     return found[0] if found else None

@@ -15,7 +15,7 @@ METRES_PER_DEGREE = 111_320
 
 @dataclass
 class StopRow:
-    """A row of stops.txt: a stop, or something else that has stops as its children. Places are degrees, as the planner reads them."""
+    """A row of stops.txt: a stop, or something else that may have stops as children. Degrees are as the planner reads them."""
 
     row: int
     name: str
@@ -69,7 +69,8 @@ def read_stops(feed: Feed, report: Report) -> Stops:
         if not ident or ident in stops.rows:
             report.drop("rows with the id of an earlier row, or without one", f"{place}: stop_id {quoted(ident)}")
         elif kind == "" and (row.lat is None or row.lon is None):
-            report.drop("stops without a place", f"{place}: stop {quoted(ident)} at {quoted(lat)}, {quoted(lon)}; degrees are as 52.5163")
+            report.drop("stops without a place",
+                        f"{place}: stop {quoted(ident)} at {quoted(lat)}, {quoted(lon)}; degrees are as 52.5163")
         else:
             stops.rows[ident] = row
     for ident, row in stops.rows.items():

@@ -2,6 +2,7 @@
 
 import csv
 import pathlib
+from collections.abc import Callable
 from contextlib import ExitStack
 
 from .forms import WEEKDAYS
@@ -23,15 +24,15 @@ class Tables:
 
     def __init__(self, folder: pathlib.Path) -> None:
         self._folder = folder
-        self._writers: dict[str, "csv._writer"] = {}
+        self._rows: dict[str, Callable[[tuple[object, ...]], object]] = {}
 
     def __enter__(self) -> "Tables":
         self._folder.mkdir(exist_ok=True)
         self._files = ExitStack()
         for name, columns in COLUMNS.items():
             file = self._files.enter_context(open(self._folder / name, "w", encoding="utf-8", newline=""))
-            self._writers[name] = csv.writer(file, lineterminator="\n")
-            self._writers[name].writerow(columns)
+            self._rows[name] = csv.writer(file, lineterminator="\n").writerow
+            self._rows[name](columns)
         return self
 
     def __exit__(self, *raised: object) -> None:
@@ -39,4 +40,4 @@ class Tables:
 
     def write(self, name: str, *fields: object) -> None:
         """A row of the table, in the order of its columns."""
-        self._writers[name].writerow(fields)
+        self._rows[name](fields)
