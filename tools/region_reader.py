@@ -69,7 +69,7 @@ class Region:
         self.path = path
         self._counts: tuple[int, ...] = ()
         if os.path.exists(path) and not os.path.isfile(path):
-            raise BadRegion(path, None, "this is no file")
+            raise BadRegion(path, None, "this is no file; a region is read more than once, so a pipe can't be one")
         with self._open() as file:
             magic = file.read(8)
             self.format = 2 if magic in MAGICS else 1

@@ -245,6 +245,6 @@ def read(paths: list[str], handler: "osmium.SimpleHandler") -> None:
             raise Stop(f"{shown(path)}: there is no such map file")
         try:
             handler.apply_file(os.path.abspath(path))
-        except (RuntimeError, ValueError, UnicodeError) as error:
+        except (RuntimeError, ValueError, osmium.InvalidLocationError) as error:
             raise Stop(f"{shown(path)} is no map that osmium reads: {shown(str(error)).strip()}; a map is named as city.osm.pbf, "
                        "city.osm, city.osm.bz2 or city.opl") from error
