@@ -3,6 +3,7 @@
 import datetime
 import pathlib
 from collections.abc import Iterator
+from contextlib import suppress
 
 from .calendars import Service, read_services
 from .calls import TABLE, Call, filled, goes_back, in_order, read_calls
@@ -16,8 +17,8 @@ from .tables import Tables
 from .trips import TRIPS, Headway, Route, Trip, read_headways, read_routes, read_trips
 
 
-class Timetable:
-    """What the feeds give: the zone of their agencies, and from when to when they have service."""
+class ServiceSpan:
+    """From when to when the feeds have service."""
 
     def __init__(self) -> None:
         self.first, self.last = datetime.date.max, datetime.date.min
@@ -37,35 +38,42 @@ class Timetable:
         if self.first > self.last:
             raise Stop("no trip of the feed runs on any day; OUT.report lists what was dropped, and --as-it-is leaves all as it is")
         if not self.first <= date <= self.last:
-            raise Stop(f"the feed has service from {self.first:%Y%m%d} to {self.last:%Y%m%d}, and not on {date:%Y%m%d}; take a first date "
-                       "between them", 2)
+            raise Stop(f"the feed has service from {self.first:%Y%m%d} to {self.last:%Y%m%d}, and not on {date:%Y%m%d}; take a first "
+                       "date between them", 2)
 
 
-def prepare(paths: list[str], folder: pathlib.Path, zone: bool, names: Names, report: Report) -> tuple[Timetable, str | None]:
-    """Writes one feed of these into the folder. Answers its days, and the zone of its agencies, if that is asked for."""
-    timetable, feeds = Timetable(), feeds_of(paths)
+def prepare(paths: list[str], folder: pathlib.Path, zone: bool, names: Names, report: Report) -> tuple[ServiceSpan, str | None]:
+    """Writes one feed of these into the folder. Answers from when to when it has service, and its zone, if that is asked for."""
+    span, feeds = ServiceSpan(), feeds_of(paths)
     name = zone_of(feeds) if zone else None
     with Tables(folder) as tables:
         tables.write("agency.txt", name or "UTC")
         for feed in feeds:
             if feed.prefix:
                 report.fact(f"the ids of {shown(feed.path)} begin with {feed.prefix}")
-            Preparation(feed, tables, names, report).run(timetable)
-    return timetable, name
+            Preparation(feed, tables, names, report).run(span)
+    return span, name
 
 
 def copy_as_it_is(path: str, folder: pathlib.Path, zone: bool, names: Names) -> str | None:
     """Writes the tables of the feed into the folder, byte for byte. Answers the zone of its agencies, if that is asked for."""
-    feed, unseen = Feed(path, "", ""), Report()
+    feed = Feed(path, "", "")
     feed.copy_to(folder)
     name = zone_of([feed]) if zone else None
+    with suppress(Stop):  # what the planner refuses it says itself
+        _take_names(feed, names)
+    return name
+
+
+def _take_names(feed: Feed, names: Names) -> None:
+    """The names of the stops and trips of a feed."""
+    unseen = Report()
     stops, services, routes = read_stops(feed, unseen), read_services(feed, unseen), read_routes(feed, unseen)
     for ident, row in stops.rows.items():
         if stops.is_stop(ident):
             names.add_stop(name_of(ident), row.name, float(row.lat or 0), float(row.lon or 0))
     for ident, trip in read_trips(feed, routes, services, unseen).items():
         names.add_trip(name_of(ident), routes[trip.route].name, trip.headsign)
-    return name
 
 
 class Preparation:
@@ -74,7 +82,7 @@ class Preparation:
     def __init__(self, feed: Feed, tables: Tables, names: Names, report: Report) -> None:
         self._feed, self._tables, self._names, self._report = feed, tables, names, report
 
-    def run(self, timetable: Timetable) -> None:
+    def run(self, span: ServiceSpan) -> None:
         """Reads the feed whole, and writes what is kept."""
         feed, report = self._feed, self._report
         stops, services, routes = read_stops(feed, report), read_services(feed, report), read_routes(feed, report)
@@ -83,7 +91,7 @@ class Preparation:
         calls = dict(self._whole(read_calls(feed, stops, trips, report), trips, stops))
         trips = {ident: trip for ident, trip in trips.items() if ident in calls}
         used = {trip.service: services[trip.service] for trip in trips.values()}
-        timetable.add(feed, list(used.values()), report)
+        span.add(feed, list(used.values()), report)
         self._write_stops(stops)
         self._write_services(used)
         self._write_trips(trips, routes, [headway for headway in headways if headway.trip in trips])

@@ -45,9 +45,9 @@ class Objects:
         self._report = report
 
     def add(self, ident: int, entry: Entry) -> None:
-        """Takes a version; the highest one stays, and of equal ones the first."""
+        """Takes a version; the highest one stays, and of equal ones the first. The same one in another map is no other."""
         before = self.kept.get(ident)
-        if before is not None:
+        if before is not None and before != entry:
             self._report.drop("versions of objects that are not the newest", f"{self.kind} {ident}, version "
                               f"{min(before.version, entry.version)}")
         if before is None or entry.version > before.version:

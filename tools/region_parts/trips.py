@@ -86,7 +86,8 @@ def read_headways(feed: Feed, trips: dict[str, Trip], report: Report) -> list[He
             report.drop("rows of a trip that is not there", f"{place}: trip {quoted(trip)}")
         elif seconds_of(start) is None or seconds_of(end) is None or not number_of(headway) or exact not in ("", "0", "1"):
             report.drop("trips with a headway that can't be read", f"{place}: trip {quoted(trip)}: "
-                        f"{', '.join(map(quoted, fields))}; times are as 08:00:00, headway_secs is a number from 1 on, and exact_times 0 or 1")
+                        f"{', '.join(map(quoted, fields))}; times are as 08:00:00, headway_secs is a number from 1 on, "
+                        "and exact_times 0 or 1")
             del trips[trip]
         else:
             headways.append(Headway(trip, fields))
