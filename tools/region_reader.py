@@ -19,6 +19,7 @@ import datetime
 import functools
 import io
 import os
+import re
 import struct
 import zoneinfo
 from collections.abc import Callable, Iterator
@@ -47,6 +48,8 @@ class BadRegion(Exception):
 @functools.cache
 def zone(rule: str) -> datetime.tzinfo:
     """The zone of a POSIX rule; ValueError where the text is none. No file is looked for: the rule is all that is read."""
+    if not re.fullmatch("[!-~]{1,64}", rule):
+        raise ValueError("a rule is 1 to 64 printable bytes")
     head = b"TZif2" + bytes(15) + struct.pack(">6I", 0, 0, 0, 0, 1, 4) + struct.pack(">iBB", 0, 0, 0) + b"UTC\0"
     return zoneinfo.ZoneInfo.from_file(io.BytesIO(head + head + b"\n" + rule.encode("ascii") + b"\n"))
 
@@ -111,7 +114,7 @@ class Region:
         try:
             self.first = datetime.datetime.strptime(date, "%Y%m%d").date()
             self.count, self.rule = int(count), rule
-            if len(date) != 8 or not 1 <= self.count <= 60 or rule is not None and not 1 <= len(rule) <= 64:
+            if len(date) != 8 or not 1 <= self.count <= 60:
                 raise ValueError
             noon(self.first, rule)
         except (ValueError, OverflowError, UnicodeError):

@@ -22,3 +22,9 @@ def zone_rule(name: str | None) -> str:
     if not rule or not rule.isprintable() or " " in rule:
         raise Stop(f"the file of the zone {name} has no rule at its end; {EXAMPLE}")
     return rule
+
+
+def rule_of(text: str | None) -> str | None:
+    """A POSIX rule as it stands, and of the name of a zone, such as Europe/Berlin, its rule."""
+    is_name = text is not None and "/" in text and NAME.fullmatch(text) and (ZONES / text).is_file()
+    return zone_rule(text) if is_name else text
