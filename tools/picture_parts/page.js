@@ -48,7 +48,12 @@
     choose(b.dataset.choice);
     history.replaceState(null, "", "#" + b.dataset.link);
   }));
-  addEventListener("hashchange", () => { const button = linked(); if (button) choose(button.dataset.choice); });
+  function follow(button) {
+    if (!button) return;
+    choose(button.dataset.choice);
+    button.scrollIntoView({ block: "nearest" });
+  }
+  addEventListener("hashchange", () => follow(linked()));
   document.getElementById("answers").addEventListener("click", event => {
     const button = event.target.closest(".show");
     if (!button) return;
@@ -97,5 +102,5 @@
   });
   addEventListener("resize", draw);
   addEventListener("beforeprint", fit);
-  if (buttons.length) choose((linked() ?? buttons[0]).dataset.choice);
+  follow(linked() ?? buttons[0]);
 })();
