@@ -3,6 +3,7 @@
 Texts are decoded as UTF-8 with surrogate escapes, so that a name of any bytes can be looked for in the region.
 """
 
+import datetime
 import re
 from collections.abc import Callable
 from dataclasses import dataclass, field
@@ -12,8 +13,9 @@ from .faults import Fault, shown
 
 LETTERS = ("foot", "bike", "car", "tram", "metro", "rail", "bus", "ferry", "cable", "lift", "funicular", "trolley",
            "monorail", "other")
+ROADS = "foot:", "bike:", "car:"
 NODE = re.compile(r"(?:foot|bike|car|switch):-?[0-9]{1,18}|stop:[^ ]+")
-CLOCK = re.compile(r"([0-9]{8}) ([0-9]{2,}):([0-5][0-9]):([0-5][0-9])\.([0-9]{3})")
+CLOCK = re.compile(r"([0-9]{8}) ([0-9]{2,9}):([0-5][0-9]):([0-5][0-9])\.([0-9]{3})")
 
 
 @dataclass(frozen=True, slots=True)
@@ -142,7 +144,7 @@ def _block(lines: Lines, number: int) -> Block:
 def _journey(lines: Lines) -> Journey:
     line, boardings, depart = lines.number, None, None
     if (count := lines.after("boardings")) is not None:
-        if not count.isdecimal():
+        if not re.fullmatch("[0-9]{1,9}", count):
             raise lines.fault("“boardings” wants a number")
         boardings = int(count)
         lines.advance()
@@ -158,28 +160,37 @@ def _journey(lines: Lines) -> Journey:
     start, _, clock = lines.expect("from").partition(" ")
     journey = Journey(line, arrive, word, lines.number, _node(lines, start), _clock(lines, clock), [], depart, boardings)
     lines.advance()
-    while (step := _step(lines)) is not None:
+    node = start
+    while (step := _step(lines, node)) is not None:
         journey.steps.append(step)
+        node = step.node or node
         lines.advance()
     return journey
 
 
-def _step(lines: Lines) -> Step | None:
+def _step(lines: Lines, node: str) -> Step | None:
     """The step that the line spells, or None where it is no step line."""
     kind, _, rest = lines.text.partition(" ")
     if lines.text == "stand":
+        if not node.startswith(ROADS):
+            raise lines.fault("a stand is at a road node, and the line before leads to none")
         return Step("stand", lines.number)
     if kind == "wait":
         return Step("wait", lines.number, clock=_clock(lines, rest))
     if kind in ("road", "link"):
-        node, _, clock = rest.partition(" ")
-        return Step(kind, lines.number, _node(lines, node), _clock(lines, clock))
+        there, _, clock = rest.partition(" ")
+        if kind == "road" and not (node.startswith(ROADS) and there.startswith(ROADS)):
+            raise lines.fault("a road leads from a road node to another")
+        return Step(kind, lines.number, _node(lines, there), _clock(lines, clock))
     if kind == "ride":
         words = rest.split(" ")
         if len(words) != 6 or words[0] not in LETTERS[3:]:
             raise lines.fault("this is no ride")
-        letter, date, node, day, time, name = words
-        return Step("ride", lines.number, _node(lines, node), _clock(lines, f"{day} {time}"), letter, date, name)
+        letter, date, stop, day, time, name = words
+        if not (node.startswith("stop:") and stop.startswith("stop:")):
+            raise lines.fault("a ride leads from a stop to a stop")
+        _clock(lines, f"{date} 00:00:00.000")
+        return Step("ride", lines.number, _node(lines, stop), _clock(lines, f"{day} {time}"), letter, date, name)
     return None
 
 
@@ -188,6 +199,10 @@ def _clock(lines: Lines, text: str) -> Clock:
     if not match:
         raise lines.fault(f"“{shown(text)[:40]}” is no clock text")
     date, hours, minutes, seconds, ms = match.groups()
+    try:
+        datetime.date(int(date[:4]), int(date[4:6]), int(date[6:]))
+    except ValueError:
+        raise lines.fault(f"“{date}” is no date") from None
     return Clock(date, ((int(hours) * 60 + int(minutes)) * 60 + int(seconds)) * 1000 + int(ms))
 
 

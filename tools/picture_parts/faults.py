@@ -1,4 +1,6 @@
-"""What can be wrong with a file that was handed in."""
+"""What can be wrong with a file that was handed in, and how its texts are shown."""
+
+import re
 
 
 class Fault(Exception):
@@ -9,6 +11,12 @@ class Fault(Exception):
         super().__init__(f"{place}: {why}")
 
 
+def printed(text: str) -> str:
+    """The text as a terminal may have it: what is no printable character becomes its escape, such as \\x1b."""
+    return "".join(sign if sign.isprintable() else sign.encode("unicode_escape", "surrogatepass").decode() for sign in text)
+
+
 def shown(text: str) -> str:
-    """The text as it may be printed: bytes that are no UTF-8 become the replacement character."""
-    return text.encode("utf-8", "surrogateescape").decode("utf-8", "replace")
+    """The text as a page may have it: bytes that are no UTF-8, and control characters, become the replacement character."""
+    return re.sub("[\\x00-\\x08\\x0b-\\x1f\\x7f-\\x9f\\u202a-\\u202e\\u2066-\\u2069]", "\ufffd",
+                  text.encode("utf-8", "surrogateescape").decode("utf-8", "replace"))

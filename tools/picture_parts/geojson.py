@@ -5,33 +5,36 @@ from collections.abc import Iterator
 
 from .blocks import Block, Journey
 from .faults import shown
-from .legs import LINK, WAIT, Leg, Reader, metres, minutes, name_of, plain_name
-from .region import Days, Survey
+from .legs import LINK, WAIT, Known, Leg, metres, minutes
+from .names import plain_name
+from .region import Survey
 
 
-def lines_of(blocks: list[Block], reader: Reader, days: Days, found: Survey) -> Iterator[str]:
+def lines_of(blocks: list[Block], known: Known) -> Iterator[str]:
     """The text, line by line; each feature is a line of its own."""
     yield '{"type": "FeatureCollection", "features": ['
     mark = ""
     for block in blocks:
         for journey in block.journeys:
-            for number, leg in enumerate(reader.legs(journey, found), 1):
-                yield mark + json.dumps(_feature(block, journey, number, leg, days, found), ensure_ascii=False)
+            for number, leg in enumerate(known.reader.legs(journey, known.found), 1):
+                yield mark + json.dumps(_feature(block, journey, number, leg, known), ensure_ascii=False)
                 mark = ","
     yield "]}"
 
 
-def _feature(block: Block, journey: Journey, number: int, leg: Leg, days: Days, found: Survey) -> dict:
+def _feature(block: Block, journey: Journey, number: int, leg: Leg, known: Known) -> dict:
     kind = leg.kind if leg.kind in (LINK, WAIT) else "leg"
+    route, headsign = known.names.route(leg.name) if leg.name else (None, None)
     properties = {
         "query": block.number, "line": shown(block.query), "boardings": journey.boardings, "part": number,
         "kind": kind, "letter": leg.letter, "name": plain_name(leg.name) or None,
+        "route": route, "headsign": headsign,
         "from": shown(leg.path[0]), "to": shown(leg.path[-1]),
-        "from_name": name_of(leg.path[0]), "to_name": name_of(leg.path[-1]),
+        "from_name": known.names.node(leg.path[0]), "to_name": known.names.node(leg.path[-1]),
         "depart": str(leg.depart), "arrive": str(leg.arrive),
-        "minutes": round(minutes(leg, days), 3), "metres": round(metres(leg, found)),
+        "minutes": round(minutes(leg, known.days), 3), "metres": round(metres(leg, known.found)),
     }
-    return {"type": "Feature", "geometry": _geometry(leg, found), "properties": properties}
+    return {"type": "Feature", "geometry": _geometry(leg, known.found), "properties": properties}
 
 
 def _geometry(leg: Leg, found: Survey) -> dict:

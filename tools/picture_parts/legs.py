@@ -1,11 +1,12 @@
 """Journeys as a traveller reads them: leg by leg, with waits and changes between."""
 
 import math
-import re
 from dataclasses import dataclass, field
 
 from .blocks import LETTERS, Block, Clock, Journey, Step
-from .faults import Fault, shown
+from .faults import Fault
+from .names import Names
+from .queries import nodes_of, query_of
 from .region import Call, Days, RideWish, Survey
 
 METRES_PER_UNIT = 0.011132  # of latitude: 10^-7 degree
@@ -34,9 +35,11 @@ class Leg:
 
 @dataclass
 class Wishes:
-    """What journeys want of a region: nodes with a line that names each, rides, and ways (kind, from, to, ms) by line."""
+    """What blocks want of a region: nodes with a line that names each, rides, ways (kind, from, to, ms) by line, and the nodes
+    that the ends of queries without a journey may stand for, which need not be there."""
 
     nodes: dict[str, int] = field(default_factory=dict)
+    ends: set[str] = field(default_factory=set)
     rides: set[RideWish] = field(default_factory=set)
     ways: dict[tuple[str, str, str, int], int] = field(default_factory=dict)
 
@@ -51,6 +54,8 @@ class Reader:
         """All that the journeys of the blocks want of the region."""
         wishes = Wishes()
         for block in blocks:
+            if not block.journeys and (query := query_of(block)) is not None:
+                wishes.ends.update(nodes_of(query.start) + nodes_of(query.end))
             for journey in block.journeys:
                 wishes.nodes.setdefault(journey.start, journey.start_line)
                 for node, clock, step in self._steps(journey):
@@ -83,8 +88,6 @@ class Reader:
         """The steps, each with the node and the clock before it."""
         node, clock = journey.start, journey.start_clock
         for step in journey.steps:
-            if step.kind == "ride" and not node.startswith("stop:"):
-                raise Fault(self._file, step.line, "a ride begins at a stop, and the line before leads to none")
             yield node, clock, step
             node, clock = step.node or node, step.clock or clock
         if clock != journey.arrive:
@@ -114,25 +117,19 @@ class Reader:
         return legs
 
 
+@dataclass
+class Known:
+    """What is known of the region where journeys are drawn, and what people call its nodes and trips."""
+
+    reader: Reader
+    days: Days
+    found: Survey
+    names: Names
+
+
 def mode_of(node: str) -> str:
     """The layer of a road node; `stop` and `switch` for the others."""
     return node.partition(":")[0]
-
-
-def plain_name(name: str) -> str:
-    """A name of the region as people write it: `%20%` is a space."""
-    def character(match: re.Match[str]) -> str:
-        number = int(match[1], 16)
-        return chr(number) if number < 0x110000 and not 0xD800 <= number < 0xE000 else match[0]
-    return shown(re.sub(r"%([0-9a-fA-F]{1,6})%", character, name))
-
-
-def name_of(node: str) -> str:
-    """A node as a traveller is told of it."""
-    kind, _, name = node.partition(":")
-    if kind == "stop":
-        return plain_name(name)
-    return f"switch {name}" if kind == "switch" else f"corner {name}"
 
 
 def metres(leg: Leg, found: Survey) -> float:
@@ -144,8 +141,8 @@ def metres(leg: Leg, found: Survey) -> float:
 def between(a: tuple[int, int], b: tuple[int, int]) -> float:
     """Metres between two places, by the formula for lengths with the width of a whole degree of latitude."""
     degree = abs(a[0] + b[0]) // 20_000_000
-    east = abs(a[1] - b[1])
-    east = min(east, 3_600_000_000 - east) * math.cos(math.radians(degree))
+    turn = abs(a[1] - b[1])
+    east = min(turn, 3_600_000_000 - turn) * math.cos(math.radians(degree))
     return METRES_PER_UNIT * math.hypot(a[0] - b[0], east)
 
 

@@ -33,15 +33,27 @@
   }
   function choose(value) {
     light(null);
-    every(".journey, .answer", value, (e, is) => e.classList.toggle("chosen", is));
+    every(".journey, .ends, .answer", value, (e, is) => e.classList.toggle("chosen", is));
     every(".choice", value, (e, is) => is ? e.setAttribute("aria-current", "true") : e.removeAttribute("aria-current"));
-    const journey = document.querySelector(".journey.chosen"), answer = document.querySelector("section.chosen");
-    if (journey) { box = journey.dataset.box.split(" ").map(Number); fit(); }
+    const answer = document.querySelector("section.chosen");
+    box = document.querySelector(".journey.chosen, .ends.chosen").dataset.box.split(" ").map(Number);
+    fit();
     said.textContent = document.querySelector(".choice[aria-current]").textContent;
     document.getElementById("map-title").textContent = "Map of " + answer.querySelector("h2").textContent;
     document.getElementById("answers").scrollTop = 0;
   }
-  buttons.forEach(b => b.addEventListener("click", () => choose(b.dataset.choice)));
+  // the answer that the address names, as #7
+  const linked = () => buttons.find(b => "#" + b.dataset.link === location.hash);
+  buttons.forEach(b => b.addEventListener("click", () => {
+    choose(b.dataset.choice);
+    history.replaceState(null, "", "#" + b.dataset.link);
+  }));
+  function follow(button) {
+    if (!button) return;
+    choose(button.dataset.choice);
+    button.scrollIntoView({ block: "nearest" });
+  }
+  addEventListener("hashchange", () => follow(linked()));
   document.getElementById("answers").addEventListener("click", event => {
     const button = event.target.closest(".show");
     if (!button) return;
@@ -90,5 +102,5 @@
   });
   addEventListener("resize", draw);
   addEventListener("beforeprint", fit);
-  if (buttons.length) choose(buttons[0].dataset.choice);
+  follow(linked() ?? buttons[0]);
 })();

@@ -8,16 +8,17 @@ from dataclasses import dataclass
 
 from .blocks import Block, Clock, Journey
 from .faults import shown
-from .legs import LINK, WAIT, Leg, Reader, metres, mode_of, name_of, plain_name
-from .region import Days, Survey
+from .legs import LINK, WAIT, Known, Leg, metres, mode_of
+from .queries import ends_of, query_of
 from .streets import Point
 
 HERE = pathlib.Path(__file__).parent
 SHRINK = 10  # how many units of 10^-7 degree of latitude are one unit of the drawing, some 11 cm
-MARGIN = 900  # of the drawing, around a journey: some 100 m
+MARGIN = 900  # of the drawing, around a journey: some 100 m at least
 WORDS = {LINK: "to or from a stop or switch", WAIT: "wait", "foot": "on foot", "bike": "by bike", "car": "by car", "other": "other transit"}
 REFUSALS = {
-    "shape": "the line is no query: it has fewer than five parts, or FROM or TO is no endpoint",
+    "shape": "the line is no query: it has fewer than five parts, or FROM or TO is no endpoint; a space in a stop's name is "
+             "written %20%",
     "clock": "the date or the time cannot be read",
     "range": "the region's timetable does not have the date",
     "from": "the region does not have the node, the stop or the street where the journey begins",
@@ -57,10 +58,12 @@ class Frame:
 class Page:
     """Writes the page of some blocks."""
 
-    def __init__(self, title: str, blocks: list[Block], reader: Reader, days: Days, found: Survey) -> None:
-        self._title, self._blocks, self._reader = title, blocks, reader
-        self._days, self._found = days, found
-        places = [found.place(node) for node in found.numbers]
+    def __init__(self, title: str, blocks: list[Block], known: Known) -> None:
+        self._title, self._blocks, self._reader = title, blocks, known.reader
+        self._days, self._found, self._names = known.days, known.found, known.names
+        places = [known.found.place(node) for node in known.found.numbers]
+        places += [place for block in blocks if not block.journeys for _, _, place in ends_of(block, known.found)]
+        self._all = places
         self._frame = Frame(*(sum(axis) // len(places) for axis in zip(*places))) if places else Frame(0, 0)
 
     def parts(self, near: list[list[Point]], far: list[list[Point]]) -> Iterator[str]:
@@ -84,7 +87,9 @@ class Page:
     def _choices(self) -> Iterator[tuple[Block, Journey | None]]:
         """What can be chosen: each journey, and each block that has none."""
         for block in self._blocks:
-            yield from ((block, journey) for journey in block.journeys or [None])
+            yield from ((block, journey) for journey in block.journeys)
+            if not block.journeys:
+                yield block, None
 
     def _summary(self) -> str:
         journeys = sum(bool(block.journeys) for block in self._blocks)
@@ -96,8 +101,9 @@ class Page:
     def _list(self, choices: list[tuple[Block, Journey | None]]) -> Iterator[str]:
         yield "<nav aria-label='Queries'>\n<h2>Queries</h2>\n<ol>\n"
         for number, (block, journey) in enumerate(choices):
-            ends, expression = _parts_of(block.query)
-            yield (f"<li value='{block.number}'><button type='button' class='choice' data-choice='{number}'>"
+            ends, expression = self._parts_of(block)
+            yield (f"<li value='{block.number}'><button type='button' class='choice' data-choice='{number}' "
+                   f"data-link='{_link(block, journey)}'>"
                    f"<b>{_text(expression)}</b><span>{_text(ends)}</span><i>{_text(_result(block, journey))}</i>"
                    "</button></li>\n")
         yield "</ol>\n</nav>\n"
@@ -116,17 +122,14 @@ class Page:
             for start in range(0, len(chains), 100):
                 yield f"<path class='{kind}' d='{''.join(map(self._frame.line, chains[start:start + 100]))}'/>\n"
         yield "</g>\n"
-        for number, (_, journey) in enumerate(choices):
-            if journey is not None:
-                yield from self._drawing(number, journey)
+        for number, (block, journey) in enumerate(choices):
+            yield from self._drawing(number, journey) if journey is not None else self._ends(number, block)
         yield "</svg>\n" + self._legend(choices) + "</figure>\n"
 
     def _drawing(self, number: int, journey: Journey) -> Iterator[str]:
         legs = self._reader.legs(journey, self._found)
         places = [self._found.place(node) for leg in legs for node in leg.path] or [self._found.place(journey.start)]
-        xs, ys = zip(*map(self._frame.xy, places))
-        box = (min(xs) - MARGIN, min(ys) - MARGIN, max(xs) - min(xs) + 2 * MARGIN, max(ys) - min(ys) + 2 * MARGIN)
-        yield f"<g class='journey' data-choice='{number}' data-box='{' '.join(map(str, box))}'>\n"
+        yield f"<g class='journey' data-choice='{number}' data-box='{self._box(places)}'>\n"
         for k, leg in enumerate(legs):
             if leg.kind != WAIT:
                 line = self._frame.line([self._found.place(node) for node in leg.path])
@@ -135,16 +138,32 @@ class Page:
         yield from self._marks(journey, legs)
         yield "</g>\n"
 
+    def _ends(self, number: int, block: Block) -> Iterator[str]:
+        """The ends of a query that has no journey, where they have places; else the map shows all that there is."""
+        ends = ends_of(block, self._found)
+        yield f"<g class='ends' data-choice='{number}' data-box='{self._box([place for _, _, place in ends] or self._all)}'>\n"
+        for letter, end, place in ends:
+            yield self._letter(letter, place, self._end(end))
+        yield "</g>\n"
+
+    def _box(self, places: list[Point]) -> str:
+        """The part of the drawing around these places: its corner, its width and its height."""
+        xs, ys = zip(*map(self._frame.xy, places or [(self._frame.lat, self._frame.lon)]))
+        width, height = max(xs) - min(xs), max(ys) - min(ys)
+        margin = max(MARGIN, width // 16, height // 16)
+        box = (min(xs) - margin, min(ys) - margin, width + 2 * margin, height + 2 * margin)
+        return " ".join(map(str, box))
+
     def _marks(self, journey: Journey, legs: list[Leg]) -> Iterator[str]:
         """Stops between as dots, waits, names of the stops and switches in use, the start and the end."""
         named: dict[str, str] = {}
         for leg in legs:
             for call in leg.calls[1:-1]:
                 clock = self._days.clock(call.arrive, leg.depart.date)
-                yield self._mark(call.stop, "<circle class='dot' r='3'/>", f"{name_of(call.stop)}, {clock.hms()}")
+                yield self._mark(call.stop, "<circle class='dot' r='3'/>", f"{self._names.node(call.stop)}, {clock.hms()}")
             for node in (leg.path if leg.kind == LINK else (leg.path[0], leg.path[-1])):
                 if node.startswith(("stop:", "switch:")):
-                    named.setdefault(node, name_of(node))
+                    named.setdefault(node, self._names.node(node))
         end = legs[-1].path[-1] if legs else journey.start
         places = [self._frame.xy(self._found.place(node))[0] for leg in legs for node in leg.path]
         middle = (min(places, default=0) + max(places, default=0)) / 2
@@ -162,16 +181,33 @@ class Page:
                 yield self._mark(leg.path[0], "<path class='wait' d='M-5-22h10l-10 14h10z'/>"
                                  f"<text class='waits' x='8' y='-11'>{text}</text>", text)
         for node, letter, clock in ((journey.start, "A", journey.start_clock), (end, "B", journey.arrive)):
-            what = f"{'Start' if letter == 'A' else 'End'}: {name_of(node)}, {clock.hms()}"
-            yield self._mark(node, f"<circle class='end' r='9'/><text class='end' y='4.5'>{letter}</text>", what)
+            yield self._letter(letter, self._found.place(node), f"{self._names.node(node)}, {clock.hms()}")
+
+    def _letter(self, letter: str, place: Point, what: str) -> str:
+        """A for the start, or B for the end."""
+        drawn = f"<circle class='end' r='9'/><text class='end' y='4.5'>{letter}</text>"
+        return self._drawn(place, drawn, f"{'Start' if letter == 'A' else 'End'}: {what}")
 
     def _mark(self, node: str, drawn: str, title: str) -> str:
-        x, y = self._frame.xy(self._found.place(node))
+        return self._drawn(self._found.place(node), drawn, title)
+
+    def _drawn(self, place: Point, drawn: str, title: str) -> str:
+        x, y = self._frame.xy(place)
         return f"<g class='mark' style='--x:{x}px;--y:{y}px'><title>{_text(title)}</title>{drawn}</g>\n"
 
     def _told(self, leg: Leg) -> str:
-        return (f"{_by(leg)} from {name_of(leg.path[0])}, {leg.depart.hms()}, "
-                f"to {name_of(leg.path[-1])}, {leg.arrive.hms()}")
+        return (f"{self._by(leg)} from {self._names.node(leg.path[0])}, {leg.depart.hms()}, "
+                f"to {self._names.node(leg.path[-1])}, {leg.arrive.hms()}")
+
+    def _by(self, leg: Leg) -> str:
+        if leg.calls:
+            return f"{leg.kind} {self._names.trip(leg.name)}"
+        if leg.kind != LINK:
+            return WORDS[leg.kind]
+        first, last = mode_of(leg.path[0]), mode_of(leg.path[-1])
+        if last in ("stop", "switch"):
+            return "change" if first == last else f"to the {last}"
+        return f"from the {first}" if first in ("stop", "switch") else "change"
 
     def _legend(self, choices: list[tuple[Block, Journey | None]]) -> str:
         kinds = {leg.kind: leg for _, journey in choices if journey for leg in self._reader.legs(journey, self._found)}
@@ -183,9 +219,11 @@ class Page:
 
     def _answer(self, number: int, block: Block, journey: Journey | None) -> str:
         head = (f"<section class='answer' data-choice='{number}' aria-labelledby='h{number}'>\n"
-                f"<h2 id='h{number}' tabindex='-1'>Query {block.number}</h2>\n<p><code>{_text(block.query)}</code></p>\n")
+                f"<h2 id='h{number}' tabindex='-1'>Query {block.number}</h2>\n<p><code>{_text(block.query)}</code> "
+                f"<a href='#{_link(block, journey)}' title='A link to this answer'>#{_link(block, journey)}</a></p>\n")
         if journey is None:
-            return f"{head}<p class='none'>{_text(self._without(block))}</p>\n</section>\n"
+            ends = "" if ends_of(block, self._found) else "<p>Neither end has a place on the map.</p>\n"
+            return f"{head}<p class='none'>{_text(self._without(block))}</p>\n{ends}</section>\n"
         legs = self._reader.legs(journey, self._found)
         rows = "".join(self._row(k, leg) for k, leg in enumerate(legs))
         facts = [("Leaves", journey.start_clock), ("Arrives", journey.arrive)]
@@ -203,11 +241,11 @@ class Page:
 
     def _row(self, k: int, leg: Leg) -> str:
         length = metres(leg, self._found)
-        start = _text(name_of(leg.path[0])) + self._between(leg)
+        start = _text(self._names.node(leg.path[0])) + self._between(leg)
         cells = [f"<th scope='row'><button type='button' class='show' data-leg='{k}' "
                  f"aria-label='Show part {k + 1} on the map'>{k + 1}</button></th>",
-                 f"<td class='by'>{_swatch(leg)} {_text(_by(leg))}</td>", f"<td class='from'>{start}</td>",
-                 f"<td class='to'>{_text(name_of(leg.path[-1]))}</td>" if len(leg.path) > 1 else "<td class='to'></td>",
+                 f"<td class='by'>{_swatch(leg)} {_text(self._by(leg))}</td>", f"<td class='from'>{start}</td>",
+                 f"<td class='to'>{_text(self._names.node(leg.path[-1]))}</td>" if len(leg.path) > 1 else "<td class='to'></td>",
                  f"<td class='time' data-clock='{leg.depart}'>{leg.depart.hms()}</td>",
                  f"<td class='time' data-clock='{leg.arrive}'>{leg.arrive.hms()}</td>",
                  f"<td class='time'>{self._span(leg.depart, leg.arrive)}</td>",
@@ -222,11 +260,11 @@ class Page:
     def _between(self, leg: Leg) -> str:
         """What lies between the ends: a ride's stops, or the switches and stops of a change."""
         if leg.calls[1:-1]:
-            stops = "".join(f"<li>{_text(name_of(call.stop))}, "
+            stops = "".join(f"<li>{_text(self._names.node(call.stop))}, "
                             f"{self._days.clock(call.arrive, leg.depart.date).hms()}</li>" for call in leg.calls[1:-1])
             count = len(leg.calls) - 2
             return f"<details><summary>{count} {'stop' if count == 1 else 'stops'} between</summary><ol>{stops}</ol></details>"
-        via = [name_of(node) for node in leg.path[1:-1] if node.startswith(("stop:", "switch:"))]
+        via = [self._names.node(node) for node in leg.path[1:-1] if node.startswith(("stop:", "switch:"))]
         return f" <small>by way of {_text(', '.join(via))}</small>" if leg.kind == LINK and via else ""
 
     def _without(self, block: Block) -> str:
@@ -235,6 +273,17 @@ class Page:
         kind = " ".join(word for word in block.refusal.split(" ") if not word.isdecimal())
         meaning = REFUSALS.get(kind)
         return f"Refused ({shown(block.refusal)})" + (f": {meaning}." if meaning else ".")
+
+    def _parts_of(self, block: Block) -> tuple[str, str]:
+        """A query line's ends with its date and time, and its expression; a line that is none as it is."""
+        query = query_of(block)
+        if query is None:
+            return "", shown(block.query)
+        return f"{self._end(query.start)} → {self._end(query.end)}, {query.when}", shown(query.expression)
+
+    def _end(self, endpoint: str) -> str:
+        """An endpoint of a query line as people are told of it."""
+        return self._names.stop(endpoint[1:]) if endpoint.startswith("s") else shown(endpoint)
 
     def _no_journey(self) -> str:
         """What it means that there is none, by the command that the other blocks come from."""
@@ -246,13 +295,10 @@ class Page:
         return "No way of the region travels like this, however late it arrives."
 
 
-def _parts_of(query: str) -> tuple[str, str]:
-    """A query line's ends with its date and time, and its expression."""
-    fields = shown(query).split(" ", 4)
-    if len(fields) < 5:
-        return "", shown(query)
-    ends = [plain_name(end[1:]) if end.startswith("s") else end for end in fields[:2]]
-    return f"{ends[0]} → {ends[1]}, {fields[2]} {fields[3]}", fields[4]
+def _link(block: Block, journey: Journey | None) -> str:
+    """What stands behind # in a link to the answer: the block's number, and of its second journey on that one's."""
+    place = block.journeys.index(journey) if journey is not None else 0
+    return f"{block.number}.{place + 1}" if place else str(block.number)
 
 
 def _result(block: Block, journey: Journey | None) -> str:
@@ -274,17 +320,6 @@ def _text(text: str) -> str:
 
 def _class(leg: Leg) -> str:
     return f"{leg.kind} ride" if leg.calls else leg.kind
-
-
-def _by(leg: Leg) -> str:
-    if leg.calls:
-        return f"{leg.kind} {plain_name(leg.name)}"
-    if leg.kind != LINK:
-        return WORDS[leg.kind]
-    first, last = mode_of(leg.path[0]), mode_of(leg.path[-1])
-    if last in ("stop", "switch"):
-        return "change" if first == last else f"to the {last}"
-    return f"from the {first}" if first in ("stop", "switch") else "change"
 
 
 def _swatch(leg: Leg) -> str:

@@ -3,8 +3,9 @@
 import math
 from collections.abc import Iterable
 
-from .faults import Fault
-from .region import Survey, numbered_lines
+from region_reader import Region
+
+from .region import Survey
 
 CELL = 25_000  # 10^-7 degree of latitude: a cell is some 280 m high
 NEAR, FAR = 2, 1  # how much of the streets in a cell is kept
@@ -108,25 +109,17 @@ def _turn(chain: list[Point], point: Point) -> tuple[float, Point]:
     return -(ahead[0] * aside[0] + ahead[1] * aside[1]) / math.hypot(*aside) / math.hypot(*ahead), point
 
 
-def read_streets(path: str, found: Survey, near: Neighbourhood, wanted: dict[tuple[str, int, int, int], int]) \
+def read_streets(region: Region, found: Survey, near: Neighbourhood, wanted: dict[tuple[str, int, int, int], int]) \
         -> tuple[Thinned, Thinned]:
     """The near and the far streets of the region. Of the ways in `wanted`, by node numbers, what is found is taken out."""
     zones = bytes(near.zone(lat, lon) for lat, lon in zip(found.lats, found.lons))
     starts = {start for _, start, _, _ in wanted}
     close, far = Thinned(NEAR_LIMIT, 1), Thinned(FAR_LIMIT, FAR_RASTER)
-    for at, line in numbered_lines(path):
-        arc = line.startswith(b"arc ")
-        if not arc and not line.startswith(b"link "):
-            if line.startswith(b"trip "):
-                break
-            continue
-        try:
-            a, b, ms = map(int, line.split()[1:])
-            zone = zones[a] | zones[b]
-        except (ValueError, IndexError):
-            raise Fault(path, at, "this is no line “arc FROM TO MS” or “link FROM TO MS” of nodes of the region") from None
+    for kind, a, b, ms in region.records({"arc", "link"}):
+        if not (0 <= a < len(zones) and 0 <= b < len(zones)):
+            raise region.bad(f"this is no line “{kind} FROM TO MS” of nodes of the region: {a}, {b}, {ms}")
         if a in starts:
-            wanted.pop(("road" if arc else "link", a, b, ms), None)
-        if zone and arc:
+            wanted.pop(("road" if kind == "arc" else "link", a, b, ms), None)
+        if kind == "arc" and (zone := zones[a] | zones[b]):
             (close if zone & NEAR else far).add((found.lats[a], found.lons[a]), (found.lats[b], found.lons[b]))
     return close, far
