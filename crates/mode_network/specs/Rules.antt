@@ -1,4 +1,5 @@
 use Rattle.std.specs.Prelude.{[], ◌∷◌, ◌≡◌, ℕ, ℤ, pos, ◌+◌, ◌<◌, ◌≤◌, ◌^◌, ◌==◌, ◌&&◌, nat_lt, nat_le, Bool, true, false, not, if◌then◌else◌, List, length, Option, None, Some, All, AllPairs, slice_index_or, option_map}
+use Rattle.std.specs.List.Sorted.{IsPermutation, IsSorted}
 use Rattle.std.specs.Cmp.Lexicographic.{slice_cmp}
 use Rattle.std.specs.List.{position}
 use Rattle.std.specs.Ordering.{ordering_then, nat_cmp, int_cmp, is_lt}
@@ -37,6 +38,11 @@ name_cmp = slice_cmp nat_cmp
 -- by the node that an arc leaves, and then by the node that it leads to
 abbrev pub arc_cmp : Arc → Arc → Ordering
 arc_cmp a b = ordering_then (nat_cmp a.from b.from) (nat_cmp a.to b.to)
+
+-- these arcs in the order of the nodes that they lead from and to
+pub record AreInOrder (given arcs : List Arc) : Type 0 where
+  pub same : IsPermutation given arcs
+  pub ascend : IsSorted arc_cmp arcs
 
 -- the first row that is not above the row before it; the rows are counted from k
 abbrev pub first_unsorted : {X : Type 0} → (X → X → Ordering) → ℕ → List X → Option ℕ

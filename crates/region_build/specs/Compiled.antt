@@ -12,12 +12,13 @@ use Rattle.road_profile.specs.Legs.{place_at}
 use Rattle.road_profile.specs.declared.rows.RoadRow.{RoadRow}
 use Rattle.gtfs_tables.specs.FeedLists.{FeedLists}
 use Rattle.mode_network.specs.NetworkLists.{NetworkLists}
+use Rattle.mode_network.specs.Rules.{AreInOrder}
 use Rattle.mode_network.specs.declared.nodes.Arc.{Arc}
 use Rattle.mode_network.specs.declared.nodes.Node.{Node}
 use Rattle.region_build.specs.Copies.{expanded}
 use Rattle.region_build.specs.Ends.{AreEnds, End}
 use Rattle.region_build.specs.Links.{AreLinks}
-use Rattle.region_build.specs.Roads.{AreInOrder, arcs_of, road_nodes}
+use Rattle.region_build.specs.Roads.{arcs_of, road_nodes}
 use Rattle.region_build.specs.Sources.{AreSources, SourceLists}
 use Rattle.region_build.specs.StopNames.{AreEntries, stop_nodes, stop_number}
 use Rattle.region_build.specs.Switches.{AreSwitches, switch_node}

@@ -12,7 +12,7 @@ use Rattle.mode_network.specs.declared.nodes.Node.{Node}
 use Rattle.mode_network.specs.declared.nodes.NodeKey.{NodeKey}
 use Rattle.mode_network.specs.declared.nodes.NodeKey.TheVariants.{Road, Stop, Switch}
 use Rattle.region_build.specs.Ends.{End, number_of}
-use Rattle.region_build.specs.Roads.{AreInOrder}
+use Rattle.mode_network.specs.Rules.{AreInOrder}
 use Rattle.region_build.specs.declared.links.Join.{Join}
 use Rattle.region_build.specs.declared.stops.StopEntry.{StopEntry}
 

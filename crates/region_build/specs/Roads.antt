@@ -1,12 +1,10 @@
 -- The road nodes and the road arcs of a region.
 use Rattle.std.specs.Prelude.{ℕ, ℤ, List, Option, option_to_list, option_and_then, option_map}
 use Rattle.std.specs.List.{flat_map}
-use Rattle.std.specs.List.Sorted.{IsPermutation, IsSorted}
 use Rattle.plan_base.specs.declared.places.Place.{Place}
 use Rattle.mode_network.specs.declared.nodes.Arc.{Arc}
 use Rattle.mode_network.specs.declared.nodes.Node.{Node}
 use Rattle.mode_network.specs.declared.nodes.NodeKey.TheVariants.{Road}
-use Rattle.mode_network.specs.Rules.{arc_cmp}
 use Rattle.road_profile.specs.declared.rows.RoadRow.{RoadRow}
 use Rattle.region_build.specs.Ends.{End, number_of}
 
@@ -26,8 +24,3 @@ arc_of ends row = arc_between (number_of ends (row.from, row.mode)) (number_of e
 
 abbrev pub arcs_of : List End → List RoadRow → List Arc
 arcs_of ends rows = flat_map (λ row. option_to_list (arc_of ends row)) rows
-
--- these arcs in the order of the nodes that they lead from and to
-pub record AreInOrder (given arcs : List Arc) : Type 0 where
-  pub same : IsPermutation given arcs
-  pub ascend : IsSorted arc_cmp arcs

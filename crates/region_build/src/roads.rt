@@ -3,6 +3,7 @@
 ghost use Rattle.std.specs.Prelude.{◌≡◌, ◌<◌, ◌^◌, ◌++◌, length, option_to_list, IfOk, OnOk};
 ghost use Rattle.std.specs.HashMap.{get};
 ghost use Rattle.std.specs.Ordering.{int_eq};
+ghost use Rattle.mode_network.specs.Rules.{AreInOrder};
 ghost use Rattle.region_build.specs.Roads as spec;
 
 use crate::ends::Ends;
@@ -83,7 +84,7 @@ fn arcs_between(alloc: Global, ends: &Ends, rows: &[RoadRow]) -> Result<Vec<Arc>
 
 /// These arcs in the order of their ends.
 pub(crate) fn in_order(mut arcs: Vec<Arc>) -> Result<Vec<Arc>, AllocError>
-    ensures { IfOk result (λ sorted. spec.AreInOrder arcs.items sorted.items) }
+    ensures { IfOk result (λ sorted. AreInOrder arcs.items sorted.items) }
 {
     arcs.sort_by_key(|arc| (arc.from, arc.to))?;
     Ok(arcs)
@@ -96,7 +97,7 @@ pub(crate) fn road_arcs_between(
     rows: &[RoadRow],
 ) -> Result<Vec<Arc>, AllocError>
     requires { length ends.now < 2 ^ 32 }
-    ensures { IfOk result (λ arcs. spec.AreInOrder (spec.arcs_of ends.now rows.now) arcs.items) }
+    ensures { IfOk result (λ arcs. AreInOrder (spec.arcs_of ends.now rows.now) arcs.items) }
 {
     let arcs = arcs_between(alloc, ends, rows)?;
     in_order(arcs)

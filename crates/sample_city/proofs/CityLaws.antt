@@ -155,6 +155,6 @@ city_parts n network size is = record {
   stops_are = λ k d below. subst (λ (stops : List Node). k < length stops → IsStop k (get_or stops k d).key) (sym is.stops) (λ there. rw (zero-add k) at (stop_nodes_keep 0 is.city k d there)) below;
   switches_are = subst (All IsSwitchNode) (sym is.switches) (switches_are n);
   one_name_each = ap length is.names ∙ length-map is.city (λ (stop : CityStop). stop.name) ∙ sym (ap length is.stops ∙ stop_nodes_long 0 is.city);
-  arcs_last = All-permutation Lasts (city_arcs n (road_number network.roads)) network.arcs is.arcs (flat_map-all Lasts (arcs_at n (road_number network.roads)) (arcs_last_at (road_number network.roads) n) (corners n));
-  links_last = All-permutation Lasts (city_links n (road_number network.roads) (length network.roads) is.city) network.links is.links (links_last_all (road_number network.roads) n (length network.roads) is.city);
+  arcs_last = All-permutation Lasts (city_arcs n (road_number network.roads)) network.arcs is.arcs.same (flat_map-all Lasts (arcs_at n (road_number network.roads)) (arcs_last_at (road_number network.roads) n) (corners n));
+  links_last = All-permutation Lasts (city_links n (road_number network.roads) (length network.roads) is.city) network.links is.links.same (links_last_all (road_number network.roads) n (length network.roads) is.city);
 }

@@ -1,10 +1,10 @@
 -- The sample city.
 use Rattle.std.specs.Prelude.{◌≡◌, ℕ, List, length, map}
-use Rattle.std.specs.List.Sorted.{IsPermutation}
+use Rattle.std.specs.List.Sorted.{IsPermutation, IsSorted}
 use Rattle.service_days.specs.Days.{plain_days}
 use Rattle.plan_base.specs.declared.limits.Caps.{Caps}
 use Rattle.mode_network.specs.NetworkLists.{NetworkLists}
-use Rattle.mode_network.specs.Rules.{IsFaultOf}
+use Rattle.mode_network.specs.Rules.{AreInOrder, IsFaultOf, name_cmp}
 use Rattle.mode_network.specs.declared.faults.NetFault.{NetFault}
 use Rattle.mode_network.specs.declared.faults.NetFault.TheVariants.{OutOfMemory}
 use Rattle.sample_city.specs.Roads.{city_arcs, city_roads, road_number}
@@ -12,18 +12,18 @@ use Rattle.sample_city.specs.Stops.{city_links, city_stops, city_switches, stop_
 use Rattle.sample_city.specs.Trips.{city_trips}
 use Rattle.sample_city.specs.declared.stops.CityStop.{CityStop}
 
--- A network is this city. By the rules of networks its stops ascend by their names, and its arcs and links by their ends,
--- so there is one such network for each n.
+-- A network is this city: its stops ascend by their names, and its arcs and links by their ends.
 pub record IsSampleCity (n : ℕ) (network : NetworkLists) : Type 0 where
   pub city : List CityStop
   pub city_is : IsPermutation (city_stops n) city
+  pub ascend : IsSorted (λ a b. name_cmp a.name b.name) city
   pub days : network.days ≡ plain_days 20240304 3
   pub roads : network.roads ≡ city_roads n
   pub names : network.stop_names ≡ map (λ (stop : CityStop). stop.name) city
   pub stops : network.stops ≡ stop_nodes 0 city
   pub switches : network.switches ≡ city_switches n
-  pub arcs : IsPermutation (city_arcs n (road_number network.roads)) network.arcs
-  pub links : IsPermutation (city_links n (road_number network.roads) (length network.roads) city) network.links
+  pub arcs : AreInOrder (city_arcs n (road_number network.roads)) network.arcs
+  pub links : AreInOrder (city_links n (road_number network.roads) (length network.roads) city) network.links
   pub trips : network.trips ≡ city_trips n city
 
 -- why there is no such network within these limits

@@ -2,9 +2,8 @@
 
 ghost use Rattle.std.specs.Prelude.{◌≡◌, ◌<◌, ◌≤◌, ◌^◌, None, IfErr, IfOk, OnOk, length};
 ghost use Rattle.std.specs.List.{flat_map};
-ghost use Rattle.std.specs.List.Sorted.{IsPermutation};
 ghost use Rattle.service_days.specs.Days.{plain_days};
-ghost use Rattle.mode_network.specs.Rules.{AreParts, first_fault};
+ghost use Rattle.mode_network.specs.Rules.{AreInOrder, AreParts, first_fault};
 ghost use Rattle.sample_city.specs.Roads.{arcs_at, road_number};
 ghost use Rattle.sample_city.specs.Stops.{city_links};
 ghost use Rattle.sample_city.specs.SampleCity.{IsRefusal, IsSampleCity};
@@ -59,8 +58,8 @@ fn city_ways(
     requires size { n ≤ 300 }
     requires few_roads { length roads.now < 2 ^ 31 }
     requires few_stops { length city.now < 2 ^ 31 }
-    ensures arcs { IfOk result (λ ways. IsPermutation (flat_map (arcs_at n (road_number roads.now)) corners.now) ways.arcs.items) }
-    ensures links { IfOk result (λ ways. IsPermutation (city_links n (road_number roads.now) (length roads.now) city.now) ways.links.items) }
+    ensures arcs { IfOk result (λ ways. AreInOrder (flat_map (arcs_at n (road_number roads.now)) corners.now) ways.arcs.items) }
+    ensures links { IfOk result (λ ways. AreInOrder (city_links n (road_number roads.now) (length roads.now) city.now) ways.links.items) }
 {
     let numbers = road_numbers(alloc, roads)?;
     let arcs = city_arcs(alloc, &numbers, n, corners)?;

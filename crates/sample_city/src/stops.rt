@@ -3,7 +3,8 @@
 ghost use Rattle.std.specs.Prelude.{◌≡◌, ◌+◌, ◌<◌, ◌≤◌, ◌^◌, ◌++◌, length, map, option_to_list, IfOk, OnOk};
 ghost use Rattle.std.specs.HashMap.{get};
 ghost use Rattle.std.specs.List.{flat_map};
-ghost use Rattle.std.specs.List.Sorted.{IsPermutation};
+ghost use Rattle.std.specs.List.Sorted.{IsPermutation, IsSorted};
+ghost use Rattle.mode_network.specs.Rules.{AreInOrder, name_cmp};
 ghost use Rattle.sample_city.specs.Roads.{is_end};
 ghost use Rattle.sample_city.specs.Stops as spec;
 
@@ -81,7 +82,8 @@ fn all_stops(alloc: Global, corners: &[Corner]) -> Result<Vec<CityStop>, AllocEr
 }
 
 fn in_order(mut stops: Vec<CityStop>) -> Result<Vec<CityStop>, AllocError>
-    ensures { IfOk result (λ sorted. IsPermutation stops.items sorted.items) }
+    ensures same { IfOk result (λ sorted. IsPermutation stops.items sorted.items) }
+    ensures ascend { IfOk result (λ sorted. IsSorted (λ a b. name_cmp a.name b.name) sorted.items) }
 {
     stops.sort_by(|a, b| a.name.as_bytes().cmp(b.name.as_bytes()))?;
     Ok(stops)
@@ -89,7 +91,8 @@ fn in_order(mut stops: Vec<CityStop>) -> Result<Vec<CityStop>, AllocError>
 
 /// The stops of all corners, in the order of their names.
 pub(crate) fn city_stops(alloc: Global, corners: &[Corner]) -> Result<Vec<CityStop>, AllocError>
-    ensures { IfOk result (λ stops. IsPermutation (flat_map (λ at. option_to_list (spec.stop_at at)) corners.now) stops.items) }
+    ensures are { IfOk result (λ stops. IsPermutation (flat_map (λ at. option_to_list (spec.stop_at at)) corners.now) stops.items) }
+    ensures ascend { IfOk result (λ stops. IsSorted (λ a b. name_cmp a.name b.name) stops.items) }
 {
     let stops = all_stops(alloc, corners)?;
     in_order(stops)
@@ -245,7 +248,7 @@ pub(crate) fn city_links(
     requires some { 1 ≤ n }
     requires size { n ≤ 300 }
     requires few { roads + length stops.now + 1 < 2 ^ 32 }
-    ensures { IfOk result (λ links. IsPermutation (spec.city_links n (get is_end numbers.now.by_end) roads stops.now) links.items) }
+    ensures { IfOk result (λ links. AreInOrder (spec.city_links n (get is_end numbers.now.by_end) roads stops.now) links.items) }
 {
     let mut links = Vec::new(alloc);
     push_stop_links(&mut links, numbers, roads, stops)?;

@@ -3,7 +3,7 @@
 ghost use Rattle.std.specs.Prelude.{◌≡◌, ◌<◌, ◌^◌, ◌++◌, option_to_list, IfOk, OnOk};
 ghost use Rattle.std.specs.HashMap.{get};
 ghost use Rattle.std.specs.List.{flat_map};
-ghost use Rattle.std.specs.List.Sorted.{IsPermutation};
+ghost use Rattle.mode_network.specs.Rules.{AreInOrder};
 ghost use Rattle.sample_city.specs.Roads as spec;
 
 use crate::corners::{Corner, is_car_line};
@@ -43,7 +43,7 @@ pub(crate) fn push_arc(arcs: &mut Vec<Arc>, arc: Option<Arc>) -> Result<(), Allo
 
 /// These arcs in the order of their ends.
 pub(crate) fn in_order(mut arcs: Vec<Arc>) -> Result<Vec<Arc>, AllocError>
-    ensures { IfOk result (λ sorted. IsPermutation arcs.items sorted.items) }
+    ensures { IfOk result (λ sorted. AreInOrder arcs.items sorted.items) }
 {
     arcs.sort_by_key(|arc| (arc.from, arc.to))?;
     Ok(arcs)
@@ -185,7 +185,7 @@ pub(crate) fn city_arcs(
     n: u32,
     corners: &[Corner],
 ) -> Result<Vec<Arc>, AllocError>
-    ensures { IfOk result (λ arcs. IsPermutation (flat_map (spec.arcs_at n (get spec.is_end numbers.now.by_end)) corners.now) arcs.items) }
+    ensures { IfOk result (λ arcs. AreInOrder (flat_map (spec.arcs_at n (get spec.is_end numbers.now.by_end)) corners.now) arcs.items) }
 {
     let arcs = all_arcs(alloc, numbers, n, corners)?;
     in_order(arcs)

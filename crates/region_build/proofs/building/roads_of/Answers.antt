@@ -5,7 +5,8 @@ use Rattle.opl_reader.specs.declared.objects.OsmNode.{OsmNode}
 use Rattle.road_profile.specs.Legs.{place_at}
 use Rattle.road_profile.specs.declared.rows.RoadRow.{RoadRow}
 use Rattle.region_build.specs.Ends.{AreEnds}
-use Rattle.region_build.specs.Roads.{AreInOrder, arcs_of, road_nodes}
+use Rattle.mode_network.specs.Rules.{AreInOrder}
+use Rattle.region_build.specs.Roads.{arcs_of, road_nodes}
 use Rattle.region_build.proofs.building.roads_of.Goals as goal
 
 pub returns-clause-are : goal.returns-clause-are
