@@ -30,4 +30,4 @@ late_printable n q (Some j) late = late.1
 
 pub late_right : (n : NetworkLists) (line : List ℕ) (q : Asked) → Asks n line q → (found : Option Route) → IsLate n q found → (block : List ℕ) → IsAnswerBlock n line found block → IsLateBlock n line block
 late_right n line q asks None none block tells = inr (inr (record { asked = q; asks = asks; none = none; block_is = tells }))
-late_right n line q asks (Some j) late block tells = inr (inl (record { asked = q; asks = asks; journey = j; latest = late.0; tells = tells }))
+late_right n line q asks (Some j) late block tells = inr (inl (record { asked = q; asks = asks; journey = j; right = late.0; tells = tells }))

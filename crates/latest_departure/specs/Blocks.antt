@@ -6,7 +6,7 @@ use Rattle.mode_network.specs.NetworkLists.{NetworkLists}
 use Rattle.mode_network.specs.Journeys.{Route}
 use Rattle.journey.specs.Best.{Asked, Asks, IsRefusedBlock}
 use Rattle.journey.specs.Texts.{IsJourneyText, block_text}
-use Rattle.latest_departure.specs.Late.{IsLatest, HasNoneInTime}
+use Rattle.latest_departure.specs.Late.{IsLatest, IsBestLate, HasNoneInTime}
 
 -- what is printed of a journey: when it departs, and then what any block prints of it
 pub record IsLateText (n : NetworkLists) (j : Route) (text : List ℕ) : Type 0 where
@@ -20,12 +20,16 @@ pub record IsBlockOf (n : NetworkLists) (line : List ℕ) (j : Route) (block : L
   pub told : IsLateText n j text
   pub block_is : block ≡ block_text line text
 
--- the block of a journey that starts at the latest departure
-pub record IsJourneyBlock (n : NetworkLists) (line block : List ℕ) : Type 0 where
+-- which journey a block may tell of a network, for what is asked
+abbrev pub JourneyRule : Type 1
+JourneyRule = NetworkLists → Asked → Route → Type 0
+
+-- the block of a journey that it may tell
+pub record IsJourneyBlock (IsRight : JourneyRule) (n : NetworkLists) (line block : List ℕ) : Type 0 where
   pub asked : Asked
   pub asks : Asks n line asked
   pub journey : Route
-  pub latest : IsLatest n asked journey
+  pub right : IsRight n asked journey
   pub tells : IsBlockOf n line journey block
 
 -- the block of the answer that there is none
@@ -40,6 +44,10 @@ abbrev pub IsAnswerBlock : NetworkLists → List ℕ → Option Route → List �
 IsAnswerBlock n line (Some j) block = IsBlockOf n line j block
 IsAnswerBlock n line None block = block ≡ block_text line (with_feed (codes "no journey"))
 
--- the right late block of a query line
+-- the right late block of a query line: that of its refusal, of the best journey for its deadline, or of the answer that there is none
 abbrev pub IsLateBlock : NetworkLists → List ℕ → List ℕ → Type 0
-IsLateBlock n line block = IsRefusedBlock n line block ⊎ IsJourneyBlock n line block ⊎ IsNothingBlock n line block
+IsLateBlock n line block = IsRefusedBlock n line block ⊎ IsJourneyBlock IsBestLate n line block ⊎ IsNothingBlock n line block
+
+-- what a late certificate shows of its line: the block of a journey that starts at the latest departure, or of the answer that there is none
+abbrev pub IsShownBlock : NetworkLists → List ℕ → List ℕ → Type 0
+IsShownBlock n line block = IsJourneyBlock IsLatest n line block ⊎ IsNothingBlock n line block

@@ -1,5 +1,5 @@
 -- The latest departure for a deadline. Of a query line the date and the time are the deadline.
-use Rattle.std.specs.Prelude.{ℕ, ◌≤◌, List, slice_index}
+use Rattle.std.specs.Prelude.{◌≡◌, ℕ, ◌≤◌, List, slice_index}
 use Rattle.mode_expression.specs.Form.{IsWordOf}
 use Rattle.mode_network.specs.NetworkLists.{NetworkLists}
 use Rattle.mode_network.specs.Journeys.{Route, IsJourney}
@@ -30,6 +30,11 @@ pub record IsInTime (n : NetworkLists) (q : Asked) (j : Route) : Type 0 where
 pub record IsLatest (n : NetworkLists) (q : Asked) (j : Route) : Type 0 where
   pub in_time : IsInTime n q j
   pub latest : (k : Route) → IsInTime n q k → k.at ≤ j.at
+
+-- the best journey for a deadline: no journey that is in time starts later, and of those that start then none arrives earlier
+pub record IsBestLate (n : NetworkLists) (q : Asked) (j : Route) : Type 0 where
+  pub latest : IsLatest n q j
+  pub first : (k : Route) (other : IsInTime n q k) → k.at ≡ j.at → latest.in_time.arrival ≤ other.arrival
 
 -- no journey is in time
 abbrev pub HasNoneInTime : NetworkLists → Asked → Type 0

@@ -122,8 +122,8 @@ fn query_block(
     Ok(block)
 }
 
-/// The right late block of a query line: that of its refusal, of a journey that starts at the latest departure, or of the
-/// answer that there is none.
+/// The right late block of a query line: that of its refusal, of the best journey for its deadline, or of the answer that
+/// there is none.
 ///
 /// The table of what leads to each node and the workspace serve many lines.
 pub fn late_block(
