@@ -7,15 +7,15 @@ use Rattle.mode_network.specs.Journeys.{Route}
 use Rattle.journey.specs.Blocks.{IsPrintable}
 use Rattle.journey.specs.Best.{Asked, Asks}
 use Rattle.journey.proofs.CopyLemmas.{copy_in_range}
-use Rattle.latest_departure.specs.Blocks.{IsAnswerBlock, IsLateBlock}
+use Rattle.latest_departure.specs.Blocks.{IsAnswerBlock, IsShownBlock}
 use Rattle.latest_departure.specs.ValidLate.{LateClaim, LateHolds, IsValidLate, IsLateResult, ProvesLate}
 use Rattle.late_certificate.specs.Texts.{FitsLateResult, IsLateText}
 use Rattle.late_commands.specs.Outputs.{IsLateShown}
 
 -- what a certificate proves is right to say
-proved_block : (n : NetworkLists) (line : List ℕ) (q : Asked) → Asks n line q → (result : Option Route) → IsLateResult n q result → (block : List ℕ) → IsAnswerBlock n line result block → IsLateBlock n line block
-proved_block n line q asks None none block tells = inr (inr (record { asked = q; asks = asks; none = none; block_is = tells }))
-proved_block n line q asks (Some j) latest block tells = inr (inl (record { asked = q; asks = asks; journey = j; latest = latest; tells = tells }))
+proved_block : (n : NetworkLists) (line : List ℕ) (q : Asked) → Asks n line q → (result : Option Route) → IsLateResult n q result → (block : List ℕ) → IsAnswerBlock n line result block → IsShownBlock n line block
+proved_block n line q asks None none block tells = inr (record { asked = q; asks = asks; none = none; block_is = tells })
+proved_block n line q asks (Some j) latest block tells = inl (record { asked = q; asks = asks; journey = j; right = latest; tells = tells })
 
 -- what a certificate claims can be printed
 claimed_printable : (n : NetworkLists) → IsNetwork n → (q : Asked) (result : Option Route) → LateHolds n q result → FitsLateResult result → IfSome result (IsPrintable n)
