@@ -119,6 +119,7 @@ module _ (n : NetworkLists) (network : IsNetwork n) (table : TableLists) (q : As
         below = omega arith;
         boards = omega arith;
         answers = answers;
+        boarded = record { end = _; arrival = _; letters = _; are = takes.boarded };
         least = λ k u below k_answers. subst (λ t. t ≤ u) (sym takes.arrives) (least.least u (arrives k u k_answers (omega arith)));
         printable = record {
           node = copy_in_range n network q.from j.start answers.starts_at_copy;

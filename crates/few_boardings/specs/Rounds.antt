@@ -5,6 +5,7 @@ use Rattle.product_search.specs.declared.label.Walk.{Walk}
 use Rattle.mode_network.specs.NetworkLists.{NetworkLists}
 use Rattle.mode_network.specs.Journeys.{Route, AreSteps}
 use Rattle.unpack.specs.Unpacking.{ArePlainHops, IsSoon, end_of, arrival_of, letters_of}
+use Rattle.journey.specs.Boarded.{AreOnTime, BoardsOnTime}
 use Rattle.journey.specs.Best.{Asked, Answers}
 use Rattle.few_boardings.specs.declared.boardings.FewRow.{FewRow}
 use Rattle.few_boardings.specs.declared.boardings.Found.{Found}
@@ -23,6 +24,8 @@ pub record TakesHops (n : NetworkLists) (table : TableLists) (arrival : ℕ) (wa
   pub at : found.row.journey.at ≡ walk.at
   pub real : AreSteps n found.row.journey.start found.row.journey.at found.row.journey.steps (end_of walk.node walk.hops.items)
       (arrival_of walk.at walk.hops.items) (letters_of n table walk.node walk.hops.items)
+  pub boarded : AreOnTime n found.row.journey.start found.row.journey.at found.row.journey.steps (end_of walk.node walk.hops.items)
+      (arrival_of walk.at walk.hops.items) (letters_of n table walk.node walk.hops.items)
   pub soon : All IsSoon found.row.journey.steps
 
 -- the journey of a walk with its arrival, if both are there
@@ -37,6 +40,7 @@ pub record IsLeastFound (n : NetworkLists) (q : Asked) (limit : ℕ) (found : Fo
   pub below : found.row.boardings < limit
   pub boards : rides found.row.journey ≡ found.row.boardings
   pub answers : Answers n q found.row.journey found.arrival
+  pub boarded : BoardsOnTime n found.row.journey
   pub least : (k : Route) (u : ℕ) → rides k < limit → Answers n q k u → found.arrival ≤ u
   pub printable : IsPrintableRow n found.row
 

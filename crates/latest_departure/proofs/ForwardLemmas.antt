@@ -103,6 +103,7 @@ module _ (n : NetworkLists) (network : IsNetwork n) (table : TableLists) (q : As
       record {
         leaves = leaves;
         best = record { arrival = a; answers = answers; least = λ k t k_answers. least.0.least t (arrives k t k_answers) };
+        boarded = record { end = _; arrival = _; letters = _; are = takes.boarded };
         printable = record {
           node = copy_in_range n network q.from j.start answers.starts_at_copy;
           times = record { at = omega arith; waits = λ k d h. has_time (slice_index_or j.steps k d) (takes.soon k d h) };

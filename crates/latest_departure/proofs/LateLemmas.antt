@@ -214,4 +214,4 @@ module _ (n : NetworkLists) (q : Asked) (g : GraphMeaning) (l : LabelsMeaning) (
       absurd (none there.0 there.1.arrival (answers_from (deadline q - a) there.0 there.1 (omega arith)))
   late_found a least (Some j) is =
       let there = in_time_of n q g l starts targets reads walks journeys to from late rises a least.0.reached least.1 in
-      (first_is_best a least there.0 there.1 there.2 j is, is.printable)
+      (record { best = first_is_best a least there.0 there.1 there.2 j is; boarded = is.boarded }, is.printable)

@@ -6,7 +6,7 @@ use Rattle.mode_network.specs.NetworkLists.{NetworkLists}
 use Rattle.mode_network.specs.Journeys.{Route}
 use Rattle.journey.specs.Best.{Asked, Asks, IsRefusedBlock}
 use Rattle.journey.specs.Texts.{IsJourneyText, block_text}
-use Rattle.latest_departure.specs.Late.{IsLatest, IsBestLate, HasNoneInTime}
+use Rattle.latest_departure.specs.Late.{IsLatest, IsToldLate, HasNoneInTime}
 
 -- what is printed of a journey: when it departs, and then what any block prints of it
 pub record IsLateText (n : NetworkLists) (j : Route) (text : List ℕ) : Type 0 where
@@ -46,7 +46,7 @@ IsAnswerBlock n line None block = block ≡ block_text line (with_feed (codes "n
 
 -- the right late block of a query line: that of its refusal, of the best journey for its deadline, or of the answer that there is none
 abbrev pub IsLateBlock : NetworkLists → List ℕ → List ℕ → Type 0
-IsLateBlock n line block = IsRefusedBlock n line block ⊎ IsJourneyBlock IsBestLate n line block ⊎ IsNothingBlock n line block
+IsLateBlock n line block = IsRefusedBlock n line block ⊎ IsJourneyBlock IsToldLate n line block ⊎ IsNothingBlock n line block
 
 -- what a late certificate shows of its line: the block of a journey that starts at the latest departure, or of the answer that there is none
 abbrev pub IsShownBlock : NetworkLists → List ℕ → List ℕ → Type 0

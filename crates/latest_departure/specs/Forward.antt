@@ -5,6 +5,7 @@ use Rattle.mode_network.specs.NetworkLists.{NetworkLists}
 use Rattle.mode_network.specs.Journeys.{Route, AreSteps}
 use Rattle.product_search.specs.declared.label.Walk.{Walk}
 use Rattle.unpack.specs.Unpacking.{ArePlainHops, IsSoon, end_of, arrival_of, letters_of}
+use Rattle.journey.specs.Boarded.{AreOnTime, BoardsOnTime}
 use Rattle.journey.specs.Best.{Asked, IsBest, HasNone}
 use Rattle.journey.specs.Blocks.{IsPrintable}
 
@@ -12,10 +13,11 @@ use Rattle.journey.specs.Blocks.{IsPrintable}
 abbrev pub leaving : Asked → ℕ → Asked
 leaving q t = record q { depart = t }
 
--- the journey leaves when it is asked for, and arrives first
+-- the journey leaves when it is asked for, and arrives first; each of its rides is boarded when it departs
 pub record IsFirst (n : NetworkLists) (q : Asked) (j : Route) : Type 0 where
   pub leaves : j.at ≡ q.depart
   pub best : IsBest n q j
+  pub boarded : BoardsOnTime n j
   pub printable : IsPrintable n j
 
 -- such a journey, or None where no journey answers
@@ -33,6 +35,7 @@ pub record TakesHops (n : NetworkLists) (table : TableLists) (walk : Walk) (j : 
   pub start : j.start ≡ walk.node
   pub at : j.at ≡ walk.at
   pub real : AreSteps n j.start j.at j.steps (end_of walk.node walk.hops.items) (arrival_of walk.at walk.hops.items) (letters_of n table walk.node walk.hops.items)
+  pub boarded : AreOnTime n j.start j.at j.steps (end_of walk.node walk.hops.items) (arrival_of walk.at walk.hops.items) (letters_of n table walk.node walk.hops.items)
   pub soon : All IsSoon j.steps
 
 -- the journey of a walk, if there is one

@@ -4,6 +4,7 @@ use Rattle.mode_expression.specs.Form.{IsWordOf}
 use Rattle.mode_network.specs.NetworkLists.{NetworkLists}
 use Rattle.mode_network.specs.Journeys.{Route, IsJourney}
 use Rattle.mode_network.specs.Copies.{IsCopy}
+use Rattle.journey.specs.Boarded.{BoardsOnTime}
 use Rattle.journey.specs.Best.{Asked}
 
 abbrev pub deadline : Asked → ℕ
@@ -35,6 +36,11 @@ pub record IsLatest (n : NetworkLists) (q : Asked) (j : Route) : Type 0 where
 pub record IsBestLate (n : NetworkLists) (q : Asked) (j : Route) : Type 0 where
   pub latest : IsLatest n q j
   pub first : (k : Route) (other : IsInTime n q k) → k.at ≡ j.at → latest.in_time.arrival ≤ other.arrival
+
+-- the journey that is told: the best one, each of whose rides is boarded when it departs
+pub record IsToldLate (n : NetworkLists) (q : Asked) (j : Route) : Type 0 where
+  pub best : IsBestLate n q j
+  pub boarded : BoardsOnTime n j
 
 -- no journey is in time
 abbrev pub HasNoneInTime : NetworkLists → Asked → Type 0

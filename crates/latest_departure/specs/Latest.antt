@@ -17,13 +17,13 @@ use Rattle.journey.specs.Best.{Asked}
 use Rattle.journey.specs.Blocks.{IsPrintable}
 use Rattle.journey.specs.CopyLists.{AreTheCopies}
 use Rattle.latest_departure.specs.declared.source.Source.{Source}
-use Rattle.latest_departure.specs.Late.{IsBestLate, HasNoneInTime, deadline, first_moment}
+use Rattle.latest_departure.specs.Late.{IsToldLate, HasNoneInTime, deadline, first_moment}
 use Rattle.latest_departure.specs.Reversed.{IsReversed}
 use Rattle.latest_departure.specs.MirrorArcs.{mirror_meaning, AreSources}
 
--- a best journey for the deadline, or None where no journey is in time
+-- a best journey for the deadline, whose rides are boarded when they depart; or None where no journey is in time
 abbrev pub IsLate : NetworkLists → Asked → Option Route → Type 0
-IsLate n q (Some j) = IsBestLate n q j × IsPrintable n j
+IsLate n q (Some j) = IsToldLate n q j × IsPrintable n j
 IsLate n q None = HasNoneInTime n q
 
 -- the time before the deadline that the search looks at: back to the region's first date
