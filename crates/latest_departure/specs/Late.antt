@@ -1,5 +1,5 @@
 -- The latest departure for a deadline. Of a query line the date and the time are the deadline.
-use Rattle.std.specs.Prelude.{◌≡◌, ℕ, ◌≤◌, List, slice_index}
+use Rattle.std.specs.Prelude.{◌≡◌, ℕ, ◌≤◌, List, Option, Some, None, slice_index}
 use Rattle.mode_expression.specs.Form.{IsWordOf}
 use Rattle.mode_network.specs.NetworkLists.{NetworkLists}
 use Rattle.mode_network.specs.Journeys.{Route, IsJourney}
@@ -45,3 +45,13 @@ pub record IsToldLate (n : NetworkLists) (q : Asked) (j : Route) : Type 0 where
 -- no journey is in time
 abbrev pub HasNoneInTime : NetworkLists → Asked → Type 0
 HasNoneInTime n q = (k : Route) → IsInTime n q k → ⊥
+
+-- no journey that is in time starts later than this one; or none is in time
+abbrev pub IsLateResult : NetworkLists → Asked → Option Route → Type 0
+IsLateResult n q (Some j) = IsLatest n q j
+IsLateResult n q None = HasNoneInTime n q
+
+-- the journey that is told, or that none is in time
+abbrev pub IsToldResult : NetworkLists → Asked → Option Route → Type 0
+IsToldResult n q (Some j) = IsToldLate n q j
+IsToldResult n q None = HasNoneInTime n q
