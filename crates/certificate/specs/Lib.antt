@@ -5,6 +5,7 @@ pub mod Sections
 pub mod Texts
 pub mod Reading
 pub mod Valid
+pub mod Claimed
 pub mod Verdicts
 pub mod StateSets
 pub mod Walked
