@@ -3,6 +3,7 @@ pub mod Lines
 pub mod Kinds
 pub mod Sections
 pub mod Texts
+pub mod Making
 pub mod Reading
 pub mod Valid
 pub mod Claimed
