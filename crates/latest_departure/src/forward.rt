@@ -3,7 +3,8 @@
 ghost use Rattle.std.specs.Prelude.{◌<◌, ◌^◌, IfOk};
 ghost use Rattle.mode_expression.specs.Form.{form_of, IsUsable};
 ghost use Rattle.journey.specs.Best.{asked_by};
-ghost use Rattle.latest_departure.specs.Forward.{IsFirstIfAny, IsPlainWalk, IsUnpacked, leaving};
+ghost use Rattle.unpack.specs.Taken.{IsPlainWalk};
+ghost use Rattle.latest_departure.specs.Forward.{IsFirstIfAny, IsUnpacked, leaving};
 ghost use Rattle.latest_departure.specs.Latest.{AreEnds};
 
 use crate::search::LateSearch;
