@@ -1,6 +1,7 @@
 pub mod KindLaws
 pub mod SectionLaws
 pub mod OneLine
+pub mod Making
 pub mod Again
 pub mod Found
 pub mod TextLemmas

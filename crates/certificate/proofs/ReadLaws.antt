@@ -1,19 +1,17 @@
 -- What the bytes of a certificate spell: the laws of the whole.
-use Rattle.std.proofs.Common.{◌≡◌, ℕ, List, [], ◌∷◌, ◌++◌, map, refl, ap, sym, ◌∙◌, subst, Bool, true, false, cond, inl, inr}
+use Rattle.std.proofs.Common.{◌≡◌, ℕ, List, [], ◌∷◌, ◌++◌, map, refl, ap, sym, ◌∙◌, subst, Bool, true, false, cond}
 use Rattle.std.specs.Prelude.{Option, Some, None, Result, Ok, Err, All, fold, codes, IfOk, IfErr}
 use Rattle.std.specs.List.{AllByRecursion, slice_split, onto_first}
 use Rattle.std.proofs.lemmas.List.Elements.{All-nil, All-cons, All-append, All-drop}
 use Rattle.plain_texts.specs.Lines.{IsLine, is_feed, pieces, spaced}
-use Rattle.plain_texts.specs.Course.{Course, whole, bad, trailing, lines_from}
-use Rattle.plain_texts.proofs.Pieces.{pieces_lines, text_of_lines}
+use Rattle.plain_texts.specs.Course.{lines_from}
+use Rattle.plain_texts.proofs.Pieces.{text_of_lines}
 use Rattle.plain_texts.proofs.Spaced.{spaced_is_line}
-use Rattle.plain_texts.proofs.Course.{has_pieces, course_takes, course_bad, course_trailing, course_again}
 use Rattle.mode_network.specs.declared.steps.Step.{Step}
 use Rattle.mode_network.specs.declared.steps.Step.TheVariants.{Wait, Road, Link, Stand, Ride}
 use Rattle.mode_network.specs.Journeys.{Route}
 use Rattle.journey.specs.Ends.{HasTime}
 use Rattle.journey.specs.declared.verdict.CertFault.{CertFault}
-use Rattle.journey.specs.declared.verdict.CertFault.TheVariants.{BadLine, OutOfMemory}
 use Rattle.product_search.specs.declared.label.Label.{Label}
 use Rattle.certificate.specs.declared.lines.Line.{Line}
 use Rattle.certificate.specs.declared.lines.Line.TheVariants as line
@@ -22,18 +20,14 @@ use Rattle.certificate.specs.Certificates.{Claim}
 use Rattle.certificate.specs.Lines.{FitsLine, FitsStep, HasLabelTime, spelled}
 use Rattle.certificate.specs.Sections.{due_behind, is_last, line_at}
 use Rattle.certificate.specs.Texts.{FitsCertificate, FitsResult, IsCertText, cert_lines, cert_text, label_lines, result_lines}
-use Rattle.certificate.specs.Reading.{Gives, HasCause, cert_of, nothing, put, put_all}
+use Rattle.certificate.specs.Reading.{HasCause, cert_of, nothing, put}
 use Rattle.certificate.proofs.FitLemmas.{both_parts, of_both}
+use Rattle.certificate.proofs.Making.{made_of, read_again, gives_cause as gives_cause_by}
+use Rattle.certificate.specs.Making.{made_by, Gives}
 use Rattle.certificate.proofs.KindLaws.{IsInWords, words_are_words}
 use Rattle.certificate.proofs.SectionLaws.{reads_lines}
 use Rattle.certificate.proofs.Again.{made_again, runs_to_end}
 use Rattle.certificate.proofs.Found.{cert_is}
-
-pub same_Ok : {A E : Type 0} (x y : A) → ◌≡◌ {A = Result A E} (Ok x) (Ok y) → x ≡ y
-same_Ok x y e = cc
-
-same_Err : {A E : Type 0} (x y : E) → ◌≡◌ {A = Result A E} (Err x) (Err y) → x ≡ y
-same_Err x y e = cc
 
 -- No piece of a text has a line feed in it.
 pub pieces_are_lines : (text : List ℕ) → AllByRecursion IsLine (pieces text)
@@ -79,20 +73,15 @@ fits c h query =
 -- What is read is spelled so.
 found : (bytes : List ℕ) (c : Claim) → cert_of bytes ≡ Ok c → IsCertText bytes c
 unfolding cert_of cert_text
-found bytes c e = by_course (lines_from line_at is_last due.Head 1 (pieces bytes)) refl e
-  where
-    by_course : (course : Course Line) → lines_from line_at is_last due.Head 1 (pieces bytes) ≡ course → put_all nothing course ≡ Ok c → IsCertText bytes c
-    by_course (whole ls) is e =
-        let h = course_takes spelled FitsLine due_behind is_last line_at reads_lines (pieces bytes) due.Head 1 ls is in
-        let cert = cert_is ls h.place h.runs h.last in
-        let made : cert.0 ≡ c = sym (made_again cert.0) ∙ ap (fold put nothing) (sym cert.1) ∙ same_Ok (fold put nothing ls) c e in
-        let lines : ls ≡ cert_lines c = cert.1 ∙ ap cert_lines made in
-        let are : pieces bytes ≡ map spelled (cert_lines c) ++ [] ∷ [] = h.are ∙ ap (λ x. map spelled x ++ [] ∷ []) lines in
-        let each = subst (λ ps. AllByRecursion IsLine ps) are (pieces_are_lines bytes) in
-        let all = subst (λ x. AllByRecursion FitsLine x) lines h.fits in
-        record { fits = fits c all (query_is_line c.line each.1.0); lines = all; spelled = text_of_lines bytes (map spelled (cert_lines c)) are }
-    by_course (bad k) is e = absurd (cc)
-    by_course (trailing k) is e = absurd (cc)
+found bytes c e =
+    let (ls, h, makes) = made_of spelled FitsLine due_behind is_last line_at reads_lines due.Head refl put nothing bytes c e in
+    let cert = cert_is ls h.place h.runs h.last in
+    let made : cert.0 ≡ c = sym (made_again cert.0) ∙ ap (fold put nothing) (sym cert.1) ∙ makes in
+    let lines : ls ≡ cert_lines c = cert.1 ∙ ap cert_lines made in
+    let are : pieces bytes ≡ map spelled (cert_lines c) ++ [] ∷ [] = h.are ∙ ap (λ x. map spelled x ++ [] ∷ []) lines in
+    let each = subst (λ ps. AllByRecursion IsLine ps) are (pieces_are_lines bytes) in
+    let all = subst (λ x. AllByRecursion FitsLine x) lines h.fits in
+    record { fits = fits c all (query_is_line c.line each.1.0); lines = all; spelled = text_of_lines bytes (map spelled (cert_lines c)) are }
 
 -- all lines but the query line are words
 pub mapped_in_words : {X : Type 0} (f : X → Line) → ((x : X) → IsInWords (f x)) → (xs : List X) → AllByRecursion IsInWords (map f xs)
@@ -120,24 +109,9 @@ all_lines c query h =
 pub again : (bytes : List ℕ) (c : Claim) → IsCertText bytes c → cert_of bytes ≡ Ok c
 unfolding cert_of cert_text
 again bytes c h =
-    ap (λ x. put_all nothing (lines_from line_at is_last due.Head 1 (pieces x))) h.spelled
-    ∙ ap (λ x. put_all nothing (lines_from line_at is_last due.Head 1 x)) (pieces_lines (map spelled (cert_lines c)) (all_lines c h.fits.line h.lines))
-    ∙ ap (put_all nothing) (course_again spelled FitsLine due_behind is_last line_at reads_lines (cert_lines c) due.Head due.Nothing 1 refl (runs_to_end c) refl h.lines)
+    ap (λ x. made_by put nothing (lines_from line_at is_last due.Head 1 (pieces x))) h.spelled
+    ∙ read_again spelled FitsLine due_behind is_last line_at reads_lines due.Head refl put nothing (cert_lines c) due.Nothing (runs_to_end c) refl h.lines (all_lines c h.fits.line h.lines)
     ∙ ap Ok (made_again c)
-
--- The line that is named is the first that may not stand, or that of the bytes behind the end.
-cause : (bytes : List ℕ) (k : ℕ) → cert_of bytes ≡ Err (BadLine k) → HasCause bytes (BadLine k)
-unfolding cert_of
-cause bytes k e = by_course (lines_from line_at is_last due.Head 1 (pieces bytes)) refl e
-  where
-    by_course : (course : Course Line) → lines_from line_at is_last due.Head 1 (pieces bytes) ≡ course → put_all nothing course ≡ Err (BadLine k) → HasCause bytes (BadLine k)
-    by_course (whole ls) is e = absurd (cc)
-    by_course (bad n) is e =
-        let same : n ≡ k = cc e in
-        inl (course_bad spelled FitsLine due_behind is_last line_at reads_lines (pieces bytes) due.Head 1 k refl (has_pieces bytes) (is ∙ ap bad same))
-    by_course (trailing n) is e =
-        let same : n ≡ k = cc e in
-        inr (course_trailing spelled FitsLine due_behind is_last line_at reads_lines (pieces bytes) due.Head 1 k (is ∙ ap trailing same))
 
 -- The clauses of read, from what it gives.
 pub gives_found : (bytes : List ℕ) (r : Result Claim CertFault) → Gives r (cert_of bytes) → IfOk r (IsCertText bytes)
@@ -148,6 +122,5 @@ pub gives_only : (bytes : List ℕ) (r : Result Claim CertFault) → Gives r (ce
 gives_only bytes r e c h = subst (λ x. Gives r x) (again bytes c h) e
 
 pub gives_cause : (bytes : List ℕ) (r : Result Claim CertFault) → Gives r (cert_of bytes) → IfErr r (HasCause bytes)
-gives_cause bytes (Ok c) e = tt
-gives_cause bytes (Err (BadLine k)) e = cause bytes k e
-gives_cause bytes (Err OutOfMemory) e = tt
+unfolding cert_of
+gives_cause = gives_cause_by spelled FitsLine due_behind is_last line_at reads_lines due.Head refl put nothing

@@ -28,7 +28,7 @@ use Rattle.mode_network.proofs.RuleLemmas.{some_is}
 use Rattle.journey.specs.declared.fault.QueryFault.{QueryFault}
 use Rattle.journey.specs.declared.verdict.CertVerdict.{CertVerdict}
 use Rattle.journey.specs.declared.verdict.CertVerdict.TheVariants.{Valid, Invalid}
-use Rattle.journey.specs.Best.{Asked, Asks, Answers}
+use Rattle.journey.specs.Best.{Asked, Asks}
 use Rattle.journey.specs.CopyLists.{AreTheCopies}
 use Rattle.journey.specs.Faults.{number_of}
 use Rattle.journey.specs.Queries.{IsRefused}
@@ -39,7 +39,10 @@ use Rattle.journey.proofs.StepLemmas.{step_once, steps_once}
 use Rattle.journey.proofs.WalkLemmas.{bad_not_taken}
 use Rattle.certificate.specs.Certificates.{Claim}
 use Rattle.certificate.specs.Valid.{Setting, ResultHolds, claimed_arrival}
-use Rattle.certificate.specs.Verdicts.{FailsFirst, JourneyFails, IsResultVerdict, IsCertVerdict, VerdictIsUnique, as_verdict}
+use Rattle.certificate.specs.declared.claimed.Goal.{Goal}
+use Rattle.certificate.specs.Claimed.{IsTimely, FailsFirst, JourneyFails, IsAsClaimed}
+use Rattle.certificate.specs.Verdicts.{goal_of, IsResultVerdict, IsCertVerdict, VerdictIsUnique, as_verdict}
+use Rattle.certificate.proofs.VerdictLemmas.{answers_as_claimed}
 
 -- ---- the first place where something fails
 
@@ -245,22 +248,23 @@ module _ (n : NetworkLists) (network : IsNetwork n) (q : Asked) (arrival : ℕ) 
       let ends = steps_once n network j.start j.at j.steps w u a.letters w2 u2 b.letters a.steps b.steps in
       (ends.0, ends.1, a.word_is ∙ (ap collapse ends.2 ∙ sym b.word_is))
 
-  -- a journey that answers fails in no clause
-  answers_fails_not : Answers n q j arrival → (clause at : ℕ) → JourneyFails n q arrival j clause at → ⊥
-  answers_fails_not a clause at (inl fails) = fails.fails (record { at_copy = a.starts_at_copy; not_before = a.not_before })
-  answers_fails_not a clause at (inr (inl fails)) =
-      bad_not_taken n network j.start j.at j.steps at fails.bad (record { end = a.end; arrival = arrival; letters = a.real.letters; are = a.real.steps })
-  answers_fails_not a clause at (inr (inr fails)) = by_end fails.bad
+module _ (n : NetworkLists) (network : IsNetwork n) (q : Asked) (goal : Goal) (j : Route) where
+  -- a journey that is as it is claimed fails in no clause
+  pub as_claimed_fails_not : IsAsClaimed n q goal j → (clause at : ℕ) → JourneyFails n q goal j clause at → ⊥
+  as_claimed_fails_not a clause at (inl fails) = fails.fails a.starts
+  as_claimed_fails_not a clause at (inr (inl fails)) =
+      bad_not_taken n network j.start j.at j.steps at fails.bad (record { end = a.end; arrival = a.time; letters = a.real.letters; are = a.real.steps })
+  as_claimed_fails_not a clause at (inr (inr fails)) = by_end fails.bad
     where
-      same : (a.end ≡ fails.end) × (arrival ≡ fails.time) × (a.word ≡ fails.word)
-      same = journey_once a.end arrival a.word fails.end fails.time fails.word a.real fails.real
+      same : (a.end ≡ fails.end) × (a.time ≡ fails.time) × (a.word ≡ fails.word)
+      same = journey_once n network q a.time j a.end a.time a.word fails.end fails.time fails.word a.real fails.real
 
-      by_end : FailsFirst (IsCopy n q.to fails.end) (fails.time ≡ arrival) (IsWordOf q.form fails.word) at → ⊥
+      by_end : FailsFirst (IsCopy n q.to fails.end) (IsTimely goal.arrival fails.time) (IsWordOf q.form fails.word) at → ⊥
       by_end (inl (e, none)) = none (subst (IsCopy n q.to) same.0 a.ends_at_copy)
-      by_end (inr (inl (e, first, none))) = none (sym same.1)
+      by_end (inr (inl (e, first, none))) = none (subst (IsTimely goal.arrival) same.1 a.timely)
       by_end (inr (inr (e, first, second, none))) = none (subst (IsWordOf q.form) same.2 a.denoted)
 
-  fails_once : (c at d by : ℕ) → JourneyFails n q arrival j c at → JourneyFails n q arrival j d by → (c ≡ d) × (at ≡ by)
+  pub fails_once : (c at d by : ℕ) → JourneyFails n q goal j c at → JourneyFails n q goal j d by → (c ≡ d) × (at ≡ by)
   fails_once c at d by (inl x) (inl y) = (x.clause_is ∙ sym y.clause_is, x.place ∙ sym y.place)
   fails_once c at d by (inl x) (inr (inl y)) = absurd (x.fails y.starts)
   fails_once c at d by (inl x) (inr (inr y)) = absurd (x.fails y.starts)
@@ -272,12 +276,50 @@ module _ (n : NetworkLists) (network : IsNetwork n) (q : Asked) (arrival : ℕ) 
   fails_once c at d by (inr (inr x)) (inr (inl y)) =
       absurd (bad_not_taken n network j.start j.at j.steps by y.bad (record { end = x.end; arrival = x.time; letters = x.real.letters; are = x.real.steps }))
   fails_once c at d by (inr (inr x)) (inr (inr y)) =
-      let same = journey_once x.end x.time x.word y.end y.time y.word x.real y.real in (
+      let same = journey_once n network q x.time j x.end x.time x.word y.end y.time y.word x.real y.real in (
         x.clause_is ∙ sym y.clause_is,
-        fails_first_once (IsCopy n q.to x.end) (x.time ≡ arrival) (IsWordOf q.form x.word) (IsCopy n q.to y.end) (y.time ≡ arrival) (IsWordOf q.form y.word)
-            (subst (IsCopy n q.to) same.0) (subst (IsCopy n q.to) (sym same.0)) (λ e. sym same.1 ∙ e) (λ e. same.1 ∙ e)
+        fails_first_once (IsCopy n q.to x.end) (IsTimely goal.arrival x.time) (IsWordOf q.form x.word) (IsCopy n q.to y.end) (IsTimely goal.arrival y.time) (IsWordOf q.form y.word)
+            (subst (IsCopy n q.to) same.0) (subst (IsCopy n q.to) (sym same.0)) (subst (IsTimely goal.arrival) same.1) (subst (IsTimely goal.arrival) (sym same.1))
             (subst (IsWordOf q.form) same.2) (subst (IsWordOf q.form) (sym same.2)) at by x.bad y.bad,
       )
+
+-- ---- what a verdict is said by, whatever is claimed
+
+-- the line is refused, with the fault of a number; or what it asks decides
+abbrev pub ByLine : NetworkLists → List ℕ → (Asked → CertVerdict → Type 0) → CertVerdict → Type 0
+ByLine n line ByAsked r =
+    ((fault : QueryFault) × (at : ℕ) × IsRefused n line fault × (number_of fault ≡ Some at) × (r ≡ Invalid 1 at)) ⊎ ((asked : Asked) × Asks n line asked × ByAsked asked r)
+
+pub same_by_line : (n : NetworkLists) (line : List ℕ) (ByAsked : Asked → CertVerdict → Type 0) → ((asked : Asked) (r s : CertVerdict) → ByAsked asked r → ByAsked asked s → r ≡ s)
+    → (r s : CertVerdict) → ByLine n line ByAsked r → ByLine n line ByAsked s → r ≡ s
+same_by_line n line ByAsked once r s (inl (a, at, x, p, e)) (inl (b, by, y, q, f)) =
+    let same : Err a ≡ Err b = reading_is_unique n line (Err a) (Err b) x y in
+    let number : at ≡ by = cc in
+    e ∙ (ap (λ k. Invalid 1 k) number ∙ sym f)
+same_by_line n line ByAsked once r s (inl (a, at, x, p, e)) (inr (asked, y, _)) = let same = reading_is_unique n line (Err a) (Ok asked) x y in cc
+same_by_line n line ByAsked once r s (inr (asked, x, _)) (inl (b, by, y, q, f)) = let same = reading_is_unique n line (Ok asked) (Err b) x y in cc
+same_by_line n line ByAsked once r s (inr (a, x, p)) (inr (b, y, q)) =
+    let same : Ok a ≡ Ok b = reading_is_unique n line (Ok a) (Ok b) x y in
+    let asks : a ≡ b = cc in
+    once b r s (subst (λ (asked : Asked). ByAsked asked r) asks p) q
+
+-- a clause fails of the result; or it holds, and the labels decide
+abbrev pub ByResult : (ℕ → ℕ → Type 0) → Type 0 → (CertVerdict → Type 0) → CertVerdict → Type 0
+ByResult Fails Holds ByLabels r = ((clause : ℕ) × (at : ℕ) × Fails clause at × (r ≡ Invalid clause at)) ⊎ (Holds × ByLabels r)
+
+pub same_by_result : (Fails : ℕ → ℕ → Type 0) (Holds : Type 0) (ByLabels : CertVerdict → Type 0) → ((a at b by : ℕ) → Fails a at → Fails b by → Invalid a at ≡ Invalid b by)
+    → (Holds → (clause at : ℕ) → Fails clause at → ⊥) → ((r s : CertVerdict) → ByLabels r → ByLabels s → r ≡ s)
+    → (r s : CertVerdict) → ByResult Fails Holds ByLabels r → ByResult Fails Holds ByLabels s → r ≡ s
+same_by_result Fails Holds ByLabels once never labels r s (inl (a, at, x, e)) (inl (b, by, y, f)) = e ∙ (once a at b by x y ∙ sym f)
+same_by_result Fails Holds ByLabels once never labels r s (inl (a, at, x, e)) (inr (holds, y)) = absurd (never holds a at x)
+same_by_result Fails Holds ByLabels once never labels r s (inr (holds, x)) (inl (b, by, y, f)) = absurd (never holds b by y)
+same_by_result Fails Holds ByLabels once never labels r s (inr (_, x)) (inr (_, y)) = labels r s x y
+
+-- a journey fails in one clause, at one place
+pub one_fault : (n : NetworkLists) → IsNetwork n → (q : Asked) (goal : Goal) (j : Route) (a at b by : ℕ) → JourneyFails n q goal j a at → JourneyFails n q goal j b by → Invalid a at ≡ Invalid b by
+one_fault n network q goal j a at b by one other =
+    let same = fails_once n network q goal j a at b by one other in
+    ap (λ k. Invalid k at) same.0 ∙ ap (λ k. Invalid b k) same.1
 
 -- ---- the verdict on a certificate, clause by clause
 
@@ -287,14 +329,9 @@ module _ (n : NetworkLists) (network : IsNetwork n) (h : Option HierarchyLists) 
   ByLabels asked r = (s : Setting n h c.line) × (s.asked ≡ asked) × ((v : LabelVerdict)
       × IsVerdict s.graph (collapsed s.automaton) (starts_in h s.origins) (ends_in h s.targets) s.asked.depart (claimed_arrival c.result) c.labels v × (r ≡ as_verdict v))
 
-  abbrev ByResult : Asked → CertVerdict → Type 0
-  ByResult asked r = ((clause : ℕ) × (at : ℕ) × IsResultVerdict n asked c.result (Invalid clause at) × (r ≡ Invalid clause at)) ⊎ (ResultHolds n asked c.result × ByLabels asked r)
-
   abbrev ByPhases : Asked → CertVerdict → Type 0
-  ByPhases asked r = ((c.phases ≡ is_some h → ⊥) × (r ≡ Invalid 2 0)) ⊎ ((c.phases ≡ is_some h) × ByResult asked r)
-
-  abbrev ByLine : CertVerdict → Type 0
-  ByLine r = ((fault : QueryFault) × (at : ℕ) × IsRefused n c.line fault × (number_of fault ≡ Some at) × (r ≡ Invalid 1 at)) ⊎ ((asked : Asked) × Asks n c.line asked × ByPhases asked r)
+  ByPhases asked r = ((c.phases ≡ is_some h → ⊥) × (r ≡ Invalid 2 0))
+      ⊎ ((c.phases ≡ is_some h) × ByResult (λ clause at. IsResultVerdict n asked c.result (Invalid clause at)) (ResultHolds n asked c.result) (ByLabels asked) r)
 
   same_by_labels : (asked : Asked) (r s : CertVerdict) → ByLabels asked r → ByLabels asked s → r ≡ s
   same_by_labels asked r s (x, same_x, (v, first, e)) (y, same_y, (w, second, f)) =
@@ -315,39 +352,21 @@ module _ (n : NetworkLists) (network : IsNetwork n) (h : Option HierarchyLists) 
   -- a result that holds fails in no clause
   holds_fails_not : (asked : Asked) (result : Option (ℕ × Route)) → ResultHolds n asked result → (clause at : ℕ) → IsResultVerdict n asked result (Invalid clause at) → ⊥
   holds_fails_not asked None holds clause at fails = cc
-  holds_fails_not asked (Some claimed) holds clause at fails = answers_fails_not n network asked claimed.0 claimed.1 holds clause at fails
+  holds_fails_not asked (Some claimed) holds clause at fails =
+      as_claimed_fails_not n network asked (goal_of asked claimed.0) claimed.1 (answers_as_claimed n asked claimed.0 claimed.1 holds) clause at fails
 
   result_fails_once : (asked : Asked) (result : Option (ℕ × Route)) (a at b by : ℕ) → IsResultVerdict n asked result (Invalid a at) → IsResultVerdict n asked result (Invalid b by) → Invalid a at ≡ Invalid b by
   result_fails_once asked None a at b by one other = cc
-  result_fails_once asked (Some claimed) a at b by one other =
-      let same = fails_once n network asked claimed.0 claimed.1 a at b by one other in
-      ap (λ k. Invalid k at) same.0 ∙ ap (λ k. Invalid b k) same.1
-
-  same_by_result : (asked : Asked) (r s : CertVerdict) → ByResult asked r → ByResult asked s → r ≡ s
-  same_by_result asked r s (inl (a, at, x, e)) (inl (b, by, y, f)) = e ∙ (result_fails_once asked c.result a at b by x y ∙ sym f)
-  same_by_result asked r s (inl (a, at, x, e)) (inr (holds, y)) = absurd (holds_fails_not asked c.result holds a at x)
-  same_by_result asked r s (inr (holds, x)) (inl (b, by, y, f)) = absurd (holds_fails_not asked c.result holds b by y)
-  same_by_result asked r s (inr (_, x)) (inr (_, y)) = same_by_labels asked r s x y
+  result_fails_once asked (Some claimed) a at b by one other = one_fault n network asked (goal_of asked claimed.0) claimed.1 a at b by one other
 
   same_by_phases : (asked : Asked) (r s : CertVerdict) → ByPhases asked r → ByPhases asked s → r ≡ s
   same_by_phases asked r s (inl (p, e)) (inl (q, f)) = e ∙ sym f
   same_by_phases asked r s (inl (p, e)) (inr (q, y)) = absurd (p q)
   same_by_phases asked r s (inr (p, x)) (inl (q, f)) = absurd (q p)
-  same_by_phases asked r s (inr (p, x)) (inr (q, y)) = same_by_result asked r s x y
+  same_by_phases asked r s (inr (p, x)) (inr (q, y)) =
+      same_by_result _ _ (ByLabels asked) (result_fails_once asked c.result) (holds_fails_not asked c.result) (same_by_labels asked) r s x y
 
-  same_by_line : (r s : CertVerdict) → ByLine r → ByLine s → r ≡ s
-  same_by_line r s (inl (a, at, x, p, e)) (inl (b, by, y, q, f)) =
-      let same : Err a ≡ Err b = reading_is_unique n c.line (Err a) (Err b) x y in
-      let number : at ≡ by = cc in
-      e ∙ (ap (λ k. Invalid 1 k) number ∙ sym f)
-  same_by_line r s (inl (a, at, x, p, e)) (inr (asked, y, _)) = let same = reading_is_unique n c.line (Err a) (Ok asked) x y in cc
-  same_by_line r s (inr (asked, x, _)) (inl (b, by, y, q, f)) = let same = reading_is_unique n c.line (Ok asked) (Err b) x y in cc
-  same_by_line r s (inr (a, x, p)) (inr (b, y, q)) =
-      let same : Ok a ≡ Ok b = reading_is_unique n c.line (Ok a) (Ok b) x y in
-      let asks : a ≡ b = cc in
-      same_by_phases b r s (subst (λ (asked : Asked). ByPhases asked r) asks p) q
-
-  lines_of : (r : CertVerdict) → IsCertVerdict n h c r → ByLine r
+  lines_of : (r : CertVerdict) → IsCertVerdict n h c r → ByLine n c.line ByPhases r
   lines_of Valid valid = inr (valid.setting.asked, valid.setting.asks, inr (valid.phases, inr (valid.holds, (valid.setting, refl, (Closed, valid.closed, refl)))))
   lines_of (Invalid clause at) (inl f) = inl (f.fault, at, f.refused, f.number, ap (λ k. Invalid k at) f.clause_is)
   lines_of (Invalid clause at) (inr (inl f)) = inr (f.asked, f.asks, inl (f.phases, ap₂ Invalid f.clause_is f.place))
@@ -355,4 +374,5 @@ module _ (n : NetworkLists) (network : IsNetwork n) (h : Option HierarchyLists) 
   lines_of (Invalid clause at) (inr (inr (inr f))) = inr (f.setting.asked, f.setting.asks, inr (f.phases, inr (f.holds, (f.setting, refl, (Open clause at, f.open_at, refl)))))
 
 pub verdict_is_unique : VerdictIsUnique
-verdict_is_unique n network h sound c one other p q = same_by_line n network h sound c one other (lines_of n network h sound c one p) (lines_of n network h sound c other q)
+verdict_is_unique n network h sound c one other p q =
+    same_by_line n c.line (ByPhases n network h sound c) (same_by_phases n network h sound c) one other (lines_of n network h sound c one p) (lines_of n network h sound c other q)

@@ -3,8 +3,10 @@ pub mod Lines
 pub mod Kinds
 pub mod Sections
 pub mod Texts
+pub mod Making
 pub mod Reading
 pub mod Valid
+pub mod Claimed
 pub mod Verdicts
 pub mod StateSets
 pub mod Walked

@@ -1,16 +1,16 @@
 -- What the lines of a certificate text make, and what is wrong with bytes that are no certificate.
-use Rattle.std.specs.Prelude.{◌≡◌, ℕ, List, [], ◌∷◌, ◌++◌, Some, None, option_map, Result, Ok, Err, fold, false, ◌⊎◌}
+use Rattle.std.specs.Prelude.{ℕ, List, [], ◌∷◌, ◌++◌, Some, None, option_map, Result, false}
 use Rattle.plain_texts.specs.Lines.{pieces}
-use Rattle.plain_texts.specs.Course.{Course, whole, bad, trailing, lines_from, IsFirstBad, IsTrailing}
+use Rattle.plain_texts.specs.Course.{lines_from}
 use Rattle.mode_network.specs.declared.steps.Step.{Step}
 use Rattle.mode_network.specs.Journeys.{Route}
 use Rattle.journey.specs.declared.verdict.CertFault.{CertFault}
-use Rattle.journey.specs.declared.verdict.CertFault.TheVariants.{BadLine, OutOfMemory}
 use Rattle.certificate.specs.declared.lines.Line.{Line}
 use Rattle.certificate.specs.declared.lines.Line.TheVariants as line
 use Rattle.certificate.specs.declared.due.Due.TheVariants as due
 use Rattle.certificate.specs.Certificates.{Claim}
 use Rattle.certificate.specs.Lines.{FitsLine, spelled}
+use Rattle.certificate.specs.Making.{made_by, IsCause}
 use Rattle.certificate.specs.Sections.{due_behind, is_last, line_at}
 
 -- no line yet
@@ -37,24 +37,10 @@ put c (line.Labels count) = c
 put c (line.Label label) = record c { labels = c.labels ++ label ∷ [] }
 put c line.End = c
 
--- the certificate of all lines of a course, or its fault
-abbrev pub put_all : Claim → Course Line → Result Claim CertFault
-put_all c (whole lines) = Ok (fold put c lines)
-put_all c (bad at) = Err (BadLine at)
-put_all c (trailing at) = Err (BadLine at)
-
 -- what bytes spell: a certificate, or the first line that may not stand where it does
 unfoldable pub cert_of : List ℕ → Result Claim CertFault
-cert_of bytes = put_all nothing (lines_from line_at is_last due.Head 1 (pieces bytes))
+cert_of bytes = made_by put nothing (lines_from line_at is_last due.Head 1 (pieces bytes))
 
--- What a function returned is what is defined, unless memory ran out.
-abbrev pub Gives : Result Claim CertFault → Result Claim CertFault → Type 0
-Gives (Ok c) defined = defined ≡ Ok c
-Gives (Err OutOfMemory) defined = Unit {0}
-Gives (Err (BadLine at)) defined = defined ≡ Err (BadLine at)
-
--- Why bytes are refused: this line is the first that may not stand where it does, or bytes follow the end, where this line would be. That memory ran out has no cause.
+-- Why bytes are refused.
 abbrev pub HasCause : List ℕ → CertFault → Type 0
-HasCause bytes (BadLine at) =
-    IsFirstBad spelled FitsLine due_behind is_last due.Head 1 (pieces bytes) at ⊎ IsTrailing spelled FitsLine due_behind is_last due.Head 1 (pieces bytes) at
-HasCause bytes OutOfMemory = Unit {0}
+HasCause bytes fault = IsCause spelled FitsLine due_behind is_last due.Head bytes fault

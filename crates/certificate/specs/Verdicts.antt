@@ -1,5 +1,5 @@
 -- The first clause of a certificate that fails, at the first place where it does.
-use Rattle.std.specs.Prelude.{◌≡◌, ℕ, ◌≤◌, ◌↔◌, ◌⊎◌, is_some, List, Option, Some, None}
+use Rattle.std.specs.Prelude.{◌≡◌, ℕ, ◌↔◌, ◌⊎◌, is_some, List, Option, Some, None}
 use Rattle.mode_expression.specs.Form.{Form, IsWordOf}
 use Rattle.search_laws.specs.LabelLaws.{LabelsMeaning, Accepts}
 use Rattle.search_laws.specs.Collapse.{collapse}
@@ -12,17 +12,18 @@ use Rattle.hierarchy.specs.Lists.{HierarchyLists}
 use Rattle.phase_graph.specs.InUse.{IsSoundIfGiven, starts_in, ends_in}
 use Rattle.mode_network.specs.NetworkLists.{NetworkLists}
 use Rattle.mode_network.specs.Rules.{IsNetwork}
-use Rattle.mode_network.specs.Journeys.{Route, IsJourney}
-use Rattle.mode_network.specs.Copies.{IsCopy}
+use Rattle.mode_network.specs.Journeys.{Route}
 use Rattle.journey.specs.declared.fault.QueryFault.{QueryFault}
 use Rattle.journey.specs.declared.query.Query.{Query}
 use Rattle.journey.specs.declared.verdict.CertVerdict.{CertVerdict}
 use Rattle.journey.specs.declared.verdict.CertVerdict.TheVariants.{Valid, Invalid}
 use Rattle.journey.specs.Faults.{number_of}
 use Rattle.journey.specs.Queries.{IsRefused}
-use Rattle.journey.specs.Real.{IsFirstBad}
 use Rattle.journey.specs.Best.{Asked, Asks, Answers}
+use Rattle.certificate.specs.declared.claimed.Arrival.TheVariants.{At}
+use Rattle.certificate.specs.declared.claimed.Goal.{Goal}
 use Rattle.certificate.specs.Certificates.{Claim}
+use Rattle.certificate.specs.Claimed.{JourneyFails}
 use Rattle.certificate.specs.Valid.{Setting, ResultHolds, claimed_arrival, IsValid}
 
 -- what is claimed of a query, by labels of phases where a hierarchy is given
@@ -35,10 +36,10 @@ AreDenoted form l = (word : List ℕ) → Accepts l word ↔ IsWordOf form (coll
 
 -- ---- clause 1: the line is refused, with the fault of this number
 
-pub record LineFails (n : NetworkLists) (c : Claim) (clause at : ℕ) : Type 0 where
+pub record LineFails (n : NetworkLists) (line : List ℕ) (clause at : ℕ) : Type 0 where
   pub clause_is : clause ≡ 1
   pub fault : QueryFault
-  pub refused : IsRefused n c.line fault
+  pub refused : IsRefused n line fault
   pub number : number_of fault ≡ Some at
 
 -- ---- clause 2: the line is a query, and the labels are of phases without a hierarchy, or are not with one
@@ -52,49 +53,14 @@ pub record PhasesFail (n : NetworkLists) (h : Option HierarchyLists) (c : Claim)
 
 -- ---- clauses 3 to 5: of the journey that is claimed
 
--- the journey starts at a copy of the origin, at the departure or later
-pub record StartsWell (n : NetworkLists) (q : Asked) (j : Route) : Type 0 where
-  pub at_copy : IsCopy n q.from j.start
-  pub not_before : q.depart ≤ j.at
-
-pub record StartFails (n : NetworkLists) (q : Asked) (j : Route) (clause at : ℕ) : Type 0 where
-  pub clause_is : clause ≡ 3
-  pub place : at ≡ 0
-  pub fails : StartsWell n q j → ⊥
-
--- the step at this place is the first that is none
-pub record StepFails (n : NetworkLists) (q : Asked) (j : Route) (clause at : ℕ) : Type 0 where
-  pub clause_is : clause ≡ 4
-  pub starts : StartsWell n q j
-  pub bad : IsFirstBad n j.start j.at j.steps at
-
--- the first of three facts that fails has this place, from 0
-abbrev pub FailsFirst : Type 0 → Type 0 → Type 0 → ℕ → Type 0
-FailsFirst P Q R at = ((at ≡ 0) × (P → ⊥)) ⊎ ((at ≡ 1) × P × (Q → ⊥)) ⊎ ((at ≡ 2) × P × Q × (R → ⊥))
-
--- the place of the first of three facts that fails; or all hold
-abbrev pub IsFirstFailing : Type 0 → Type 0 → Type 0 → Option ℕ → Type 0
-IsFirstFailing P Q R (Some at) = FailsFirst P Q R at
-IsFirstFailing P Q R None = P × Q × R
-
--- the journey is real, but ends at no copy of the destination, or arrives at another time than is claimed, or has a word that is not
--- denoted
-pub record EndFails (n : NetworkLists) (q : Asked) (arrival : ℕ) (j : Route) (clause at : ℕ) : Type 0 where
-  pub clause_is : clause ≡ 5
-  pub starts : StartsWell n q j
-  pub end : ℕ
-  pub time : ℕ
-  pub word : List ℕ
-  pub real : IsJourney n j end time word
-  pub bad : FailsFirst (IsCopy n q.to end) (time ≡ arrival) (IsWordOf q.form word) at
-
-abbrev pub JourneyFails : NetworkLists → Asked → ℕ → Route → ℕ → ℕ → Type 0
-JourneyFails n q arrival j clause at = StartFails n q j clause at ⊎ StepFails n q j clause at ⊎ EndFails n q arrival j clause at
+-- it starts at the departure or later, and arrives when that is claimed
+abbrev pub goal_of : Asked → ℕ → Goal
+goal_of q arrival = record { earliest = q.depart; arrival = At arrival }
 
 -- the verdict on a journey that is claimed with an arrival
 abbrev pub IsJourneyVerdict : NetworkLists → Asked → ℕ → Route → CertVerdict → Type 0
 IsJourneyVerdict n q arrival j Valid = Answers n q j arrival
-IsJourneyVerdict n q arrival j (Invalid clause at) = JourneyFails n q arrival j clause at
+IsJourneyVerdict n q arrival j (Invalid clause at) = JourneyFails n q (goal_of q arrival) j clause at
 
 -- the verdict on a result, which is skipped where it is claimed that no journey answers
 abbrev pub IsResultVerdict : NetworkLists → Asked → Option (ℕ × Route) → CertVerdict → Type 0
@@ -126,7 +92,7 @@ pub record LabelsFail (n : NetworkLists) (h : Option HierarchyLists) (c : Claim)
 -- The certificate is valid; or the clause is the first that fails, at its first place.
 abbrev pub IsCertVerdict : NetworkLists → Option HierarchyLists → Claim → CertVerdict → Type 0
 IsCertVerdict n h c Valid = IsValid n h c
-IsCertVerdict n h c (Invalid clause at) = LineFails n c clause at ⊎ PhasesFail n h c clause at ⊎ ResultFails n h c clause at ⊎ LabelsFail n h c clause at
+IsCertVerdict n h c (Invalid clause at) = LineFails n c.line clause at ⊎ PhasesFail n h c clause at ⊎ ResultFails n h c clause at ⊎ LabelsFail n h c clause at
 
 -- ---- laws
 

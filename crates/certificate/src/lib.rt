@@ -2,6 +2,7 @@
 #![tactic(auto)]
 
 pub mod certificate;
+pub mod claimed;
 pub mod due;
 pub mod kinds;
 mod laws;

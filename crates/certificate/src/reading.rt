@@ -6,7 +6,8 @@ ghost use Rattle.plain_texts.specs.Lines.{pieces};
 ghost use Rattle.certificate.specs.Certificates.{Claim};
 ghost use Rattle.certificate.specs.Sections.{is_last, line_at};
 ghost use Rattle.certificate.specs.Texts.{IsCertText};
-ghost use Rattle.certificate.specs.Reading.{Gives, HasCause, cert_of};
+ghost use Rattle.certificate.specs.Making.{Gives};
+ghost use Rattle.certificate.specs.Reading.{HasCause, cert_of};
 
 use crate::certificate::Certificate;
 use crate::due::Due;

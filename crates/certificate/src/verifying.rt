@@ -1,7 +1,6 @@
 //! The check of a certificate.
 
-ghost use Rattle.std.specs.Prelude.{◌≡◌, ◌≤◌, ◌↔◌, ℕ, List, Some, [], Contains, IfOk, IfSome, IsTrue, is_some, option_map};
-ghost use Rattle.search_laws.specs.LabelLaws.{Accepts};
+ghost use Rattle.std.specs.Prelude.{◌≡◌, ◌↔◌, ℕ, Some, [], IfOk, IfSome, IsTrue, is_some, option_map};
 ghost use Rattle.mode_expression.specs.Form.{form_of, IsUsable};
 ghost use Rattle.hierarchy.specs.Soundness.{IsSound};
 ghost use Rattle.journey.specs.Best.{Asks, asked_by};
@@ -10,12 +9,12 @@ ghost use Rattle.journey.specs.declared.verdict.CertVerdict.TheVariants.{Valid, 
 ghost use Rattle.journey.specs.Ends.{HasTimes};
 ghost use Rattle.journey.specs.Faults.{number_of};
 ghost use Rattle.certificate.specs.Valid.{HaveTimes, Proves, claimed_arrival};
-ghost use Rattle.certificate.specs.Verdicts.{claim_on, AreDenoted, IsCertVerdict, IsJourneyVerdict, IsResultVerdict, IsFirstFailing, as_verdict};
+ghost use Rattle.certificate.specs.Verdicts.{claim_on, AreDenoted, IsCertVerdict, IsResultVerdict, as_verdict};
 ghost use Rattle.certificate.specs.StateSets.{AreAfter};
 
 use crate::certificate::Certificate;
+use crate::claimed::{Arrival, Goal, journey_verdict};
 use crate::state_sets::StateSets;
-use crate::walked::{Walked, walk};
 use automaton::{Collapsed, Positions};
 use hierarchy::Hierarchy;
 use journey::{CertVerdict, Query, QueryFault, copies, read_query};
@@ -152,78 +151,17 @@ fn result_verdict<L: Labels>(
     ensures { IsResultVerdict network.now (asked_by query.now) claimed.now result }
 {
     match claimed {
-        Some((arrival, journey)) => journey_verdict(
-            network, query, labels, starts, targets, states, *arrival, journey,
-        ),
+        Some((arrival, journey)) => {
+            let goal = Goal {
+                earliest: query.depart,
+                arrival: Arrival::At(*arrival),
+            };
+            journey_verdict(
+                network, query, goal, labels, starts, targets, states, journey,
+            )
+        }
         None => CertVerdict::Valid,
     }
-}
-
-/// The verdict on a journey that is claimed with an arrival, by clauses 3 to 5.
-fn journey_verdict<L: Labels>(
-    network: &Network,
-    query: &Query,
-    labels: &L,
-    starts: &[u32],
-    targets: &[u32],
-    states: StateSets,
-    arrival: Time,
-    journey: &Journey,
-) -> CertVerdict
-    requires times { HasTimes journey.now }
-    requires starts { AreTheCopies network.now query.now.from starts.now }
-    requires targets { AreTheCopies network.now query.now.to targets.now }
-    requires denotes { AreDenoted (form_of query.now.expr) (L.automaton labels.now) }
-    requires states { AreAfter (L.automaton labels.now) [] states }
-    ensures { IsJourneyVerdict network.now (asked_by query.now) arrival journey.now result }
-{
-    if !starts_well(query, starts, journey) {
-        return CertVerdict::Invalid { clause: 3, at: 0 };
-    }
-    match walk(network, labels, journey, states) {
-        Ok(walked) => match first_bad_end(labels, targets, arrival, &walked) {
-            Some(at) => CertVerdict::Invalid { clause: 5, at },
-            None => CertVerdict::Valid,
-        },
-        Err(at) => CertVerdict::Invalid { clause: 4, at },
-    }
-}
-
-/// Whether a journey starts at one of the nodes, at the departure or later.
-fn starts_well(query: &Query, starts: &[u32], journey: &Journey) -> bool
-    ensures { IsTrue result ↔ (Contains starts.now journey.now.start × (query.now.depart ≤ journey.now.at)) }
-{
-    contains(starts, journey.start) && query.depart <= journey.at
-}
-
-/// The place of the first that fails of a journey that was walked: it ends at a target, it arrives as is claimed, and the
-/// automaton accepts its letters.
-fn first_bad_end<L: Labels>(
-    labels: &L,
-    targets: &[u32],
-    arrival: Time,
-    walked: &Walked,
-) -> Option<u64>
-    requires { (letters : List ℕ) × AreAfter (L.automaton labels.now) letters walked.now.states }
-    ensures { (letters : List ℕ) → AreAfter (L.automaton labels.now) letters walked.now.states
-        → IsFirstFailing (Contains targets.now walked.now.node) (walked.now.at ≡ arrival) (Accepts (L.automaton labels.now) letters) result }
-{
-    if !contains(targets, walked.node) {
-        Some(0)
-    } else if walked.at != arrival {
-        Some(1)
-    } else if !walked.states.accepts(labels) {
-        Some(2)
-    } else {
-        None
-    }
-}
-
-/// Whether a list of nodes has the node.
-pub fn contains(nodes: &[u32], node: u32) -> bool
-    ensures { IsTrue result ↔ Contains nodes.now node }
-{
-    nodes.contains(&node)
 }
 
 /// The arrival that is claimed, if a journey is.

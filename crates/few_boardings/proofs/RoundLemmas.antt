@@ -69,6 +69,7 @@ module _ (n : NetworkLists) (q : Asked) where
     };
     answers = least.answers;
     boards = least.boards;
+    boarded = least.boarded;
   }
     where
       later_than : (fewer : Option Found) → IsLeastBelow n q f.row.boardings fewer → is_later fewer f.arrival ≡ true

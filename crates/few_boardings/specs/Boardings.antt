@@ -6,6 +6,7 @@ use Rattle.mode_network.specs.declared.steps.Step.TheVariants.{Wait, Road, Link,
 use Rattle.mode_network.specs.NetworkLists.{NetworkLists}
 use Rattle.mode_network.specs.Journeys.{Route}
 use Rattle.journey.specs.Best.{Asked, Answers}
+use Rattle.journey.specs.Boarded.{BoardsOnTime}
 use Rattle.journey.specs.Blocks.{IsPrintable}
 use Rattle.few_boardings.specs.declared.boardings.FewRow.{FewRow}
 
@@ -33,12 +34,13 @@ pub record IsListed (n : NetworkLists) (q : Asked) (boardings t : ℕ) : Type 0 
   pub least : IsLeastBy n q boardings t
   pub later : (k : Route) (u : ℕ) → rides k < boardings → Answers n q k u → t < u
 
--- the journey of a row answers with as many rides as the row says, and arrives when the list says
+-- the journey of a row answers with as many rides as the row says, each boarded when it departs, and arrives when the list says
 pub record IsRow (n : NetworkLists) (q : Asked) (row : FewRow) : Type 0 where
   pub arrival : ℕ
   pub listed : IsListed n q row.boardings arrival
   pub answers : Answers n q row.journey arrival
   pub boards : rides row.journey ≡ row.boardings
+  pub boarded : BoardsOnTime n row.journey
 
 -- the rows by rising boardings: one for each number of boardings that is listed, and no other
 pub record AreRows (n : NetworkLists) (q : Asked) (rows : List FewRow) : Type 0 where

@@ -3,31 +3,23 @@ use Rattle.std.specs.Prelude.{◌≡◌, ℕ, min, ◌+◌, ◌<◌, ◌≤◌, 
 use Rattle.timetable_arcs.specs.Patterns.{TableLists}
 use Rattle.product_search.specs.declared.label.Walk.{Walk}
 use Rattle.mode_network.specs.NetworkLists.{NetworkLists}
-use Rattle.mode_network.specs.Journeys.{Route, AreSteps}
-use Rattle.unpack.specs.Unpacking.{ArePlainHops, IsSoon, end_of, arrival_of, letters_of}
+use Rattle.mode_network.specs.Journeys.{Route}
+use Rattle.unpack.specs.Taken.{TakesHops}
+use Rattle.journey.specs.Boarded.{BoardsOnTime}
 use Rattle.journey.specs.Best.{Asked, Answers}
 use Rattle.few_boardings.specs.declared.boardings.FewRow.{FewRow}
 use Rattle.few_boardings.specs.declared.boardings.Found.{Found}
 use Rattle.few_boardings.specs.Boardings.{rides, IsRow, IsPrintableRow}
 
--- a walk that was found, if there is one, is one of the network's graph
-abbrev pub IsPlainWalk : NetworkLists → TableLists → Option Walk → Type 0
-IsPlainWalk n table None = Unit {0}
-IsPlainWalk n table (Some walk) = ArePlainHops n table walk.node walk.at walk.hops.items
-
--- the journey takes the hops of the walk one after the other, and its rides are counted
-pub record TakesHops (n : NetworkLists) (table : TableLists) (arrival : ℕ) (walk : Walk) (found : Found) : Type 0 where
+-- the journey takes the hops of the walk, and its rides are counted
+pub record IsCountedFor (n : NetworkLists) (table : TableLists) (arrival : ℕ) (walk : Walk) (found : Found) : Type 0 where
   pub arrives : found.arrival ≡ arrival
   pub boards : found.row.boardings ≡ min (rides found.row.journey) 255
-  pub start : found.row.journey.start ≡ walk.node
-  pub at : found.row.journey.at ≡ walk.at
-  pub real : AreSteps n found.row.journey.start found.row.journey.at found.row.journey.steps (end_of walk.node walk.hops.items)
-      (arrival_of walk.at walk.hops.items) (letters_of n table walk.node walk.hops.items)
-  pub soon : All IsSoon found.row.journey.steps
+  pub takes : TakesHops n table walk found.row.journey
 
 -- the journey of a walk with its arrival, if both are there
 abbrev pub IsUnpacked : NetworkLists → TableLists → Option ℕ → Option Walk → Option Found → Type 0
-IsUnpacked n table (Some arrival) (Some walk) (Some found) = TakesHops n table arrival walk found
+IsUnpacked n table (Some arrival) (Some walk) (Some found) = IsCountedFor n table arrival walk found
 IsUnpacked n table (Some arrival) (Some walk) None = ⊥
 IsUnpacked n table (Some arrival) None found = found ≡ None
 IsUnpacked n table None walk found = found ≡ None
@@ -37,6 +29,7 @@ pub record IsLeastFound (n : NetworkLists) (q : Asked) (limit : ℕ) (found : Fo
   pub below : found.row.boardings < limit
   pub boards : rides found.row.journey ≡ found.row.boardings
   pub answers : Answers n q found.row.journey found.arrival
+  pub boarded : BoardsOnTime n found.row.journey
   pub least : (k : Route) (u : ℕ) → rides k < limit → Answers n q k u → found.arrival ≤ u
   pub printable : IsPrintableRow n found.row
 

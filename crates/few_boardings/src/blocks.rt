@@ -2,52 +2,17 @@
 
 ghost use Rattle.std.specs.Prelude.{◌≡◌, [], ◌∷◌, ◌<◌, ◌^◌, All, IfOk, OnOk};
 ghost use Rattle.mode_expression.specs.Form.{form_of, IsUsable};
-ghost use Rattle.journey.specs.Blocks.{AddsText, IsPrintable};
+ghost use Rattle.journey.specs.Blocks.{AddsText, IsFramed};
 ghost use Rattle.journey.specs.Queries.{IsQuery};
-ghost use Rattle.journey.specs.Texts.{IsJourneyText};
 ghost use Rattle.few_boardings.specs.Boardings.{IsPrintableRow};
-ghost use Rattle.few_boardings.specs.Blocks.{AreTold, IsFewText, IsBlockOf, IsFewBlock};
+ghost use Rattle.few_boardings.specs.Blocks.{AreTold, IsFewText, IsFewBlock};
 
 use crate::boardings::{FewRow, few_with};
-use journey::{BlockBody, Query, QueryFault, block, read_query};
-use mode_network::{Journey, Network};
+use journey::{BlockBody, Query, QueryFault, block, framed, push_journey, read_query};
+use mode_network::Network;
 use plain_texts::{push_decimal, push_line_feed};
 use product_search::Workspace;
 use std::alloc::{AllocError, Global};
-
-/// What stands before and behind the body of the block of an empty line: `query` with a space and a line feed, and `end`
-/// with a line feed.
-const BEFORE: usize = 7;
-
-const BEHIND: usize = 4;
-
-/// A journey with the same start, time and steps.
-fn copied(alloc: Global, journey: &Journey) -> Result<Journey, AllocError>
-    ensures { IfOk result (λ copy. copy ≡ journey.now) }
-{
-    let steps = Vec::from_slice(alloc, &journey.steps)?;
-    Ok(Journey {
-        start: journey.start,
-        at: journey.at,
-        steps,
-    })
-}
-
-/// Appends what a block prints of a journey.
-fn push_journey(
-    alloc: Global,
-    out: &mut Vec<u8>,
-    network: &Network,
-    journey: &Journey,
-) -> Result<(), AllocError>
-    requires { IsPrintable network.now journey.now }
-    ensures { OnOk result (AddsText (IsJourneyText network.now journey.now) out.old.items out.new.items) }
-{
-    let journey = copied(alloc, journey)?;
-    let text = block(alloc, network, b"", &BlockBody::Journey(journey))?;
-    out.extend_from_slice(&text[BEFORE..text.len() - BEHIND])?;
-    Ok(())
-}
 
 /// Appends a row: the line `boardings`, and what a block prints of its journey.
 fn push_row(
@@ -108,15 +73,12 @@ fn rows_block(
     rows: &[FewRow],
 ) -> Result<Vec<u8>, AllocError>
     requires { All (IsPrintableRow network.now) rows.now }
-    ensures { IfOk result (λ block. IsBlockOf network.now line.now rows.now block.items) }
+    ensures { IfOk result (λ block. IsFramed (IsFewText network.now rows.now) line.now block.items) }
 {
-    let mut out = Vec::new(alloc);
-    out.extend_from_slice(b"query ")?;
-    out.extend_from_slice(line)?;
-    push_line_feed(&mut out)?;
-    push_body(alloc, &mut out, network, rows)?;
-    out.extend_from_slice(b"end\n")?;
-    Ok(out)
+    let mut text = Vec::new(alloc);
+    push_body(alloc, &mut text, network, rows)?;
+    let block = framed(alloc, line, &text)?;
+    Ok(block)
 }
 
 /// The right block of a line that is this query.

@@ -5,8 +5,9 @@ ghost use Rattle.std.specs.List.{count_by};
 ghost use Rattle.mode_expression.specs.Form.{form_of, IsUsable};
 ghost use Rattle.journey.specs.Best.{asked_by};
 ghost use Rattle.journey.specs.Queries.{IsQuery};
+ghost use Rattle.unpack.specs.Taken.{IsPlainWalk};
 ghost use Rattle.few_boardings.specs.Boardings.{is_ride, AreRows, HasNoneByFew, IsPrintableRow};
-ghost use Rattle.few_boardings.specs.Rounds.{IsLeastBelow, IsPlainWalk, IsUnpacked, is_later, kept};
+ghost use Rattle.few_boardings.specs.Rounds.{IsLeastBelow, IsUnpacked, is_later, kept};
 
 use crate::counted::Counted;
 use automaton::{Collapsed, Positions};

@@ -1,5 +1,5 @@
 -- Which journeys answer a query, and which answer is the best.
-use Rattle.std.specs.Prelude.{◌≡◌, ℕ, ◌≤◌, List}
+use Rattle.std.specs.Prelude.{◌≡◌, ℕ, ◌≤◌, ◌⊎◌, List}
 use Rattle.plain_texts.specs.Lines.{with_feed}
 use Rattle.mode_expression.specs.Form.{Form, form_of, IsWordOf}
 use Rattle.mode_network.specs.declared.endpoints.Endpoint.{Endpoint}
@@ -11,7 +11,7 @@ use Rattle.journey.specs.declared.answer.BlockBody.TheVariants.{Journey, Nothing
 use Rattle.journey.specs.declared.fault.QueryFault.{QueryFault}
 use Rattle.journey.specs.declared.query.Query.{Query}
 use Rattle.journey.specs.Queries.{IsQuery, IsRefused}
-use Rattle.journey.specs.Blocks.{IsBlockText}
+use Rattle.journey.specs.Blocks.{IsFramed, IsBlockText}
 use Rattle.journey.specs.Texts.{refusal_text, block_text}
 
 -- what is asked: journeys from a copy of one endpoint to a copy of another, at a time or later, with a word of a form
@@ -54,6 +54,20 @@ pub record IsRefusedBlock (n : NetworkLists) (line block : List ℕ) : Type 0 wh
   pub fault : QueryFault
   pub refused : IsRefused n line fault
   pub block_is : block ≡ block_text line (with_feed (refusal_text fault))
+
+-- which bodies are right for what is asked
+abbrev pub BodyRule : Type 1
+BodyRule = Asked → List ℕ → Type 0
+
+-- the block of a line that asks something, with a right body
+pub record IsAnsweredBlock (n : NetworkLists) (IsBody : BodyRule) (line block : List ℕ) : Type 0 where
+  pub asked : Asked
+  pub asks : Asks n line asked
+  pub tells : IsFramed (IsBody asked) line block
+
+-- the block of a refused line, or of one that asks something
+abbrev pub IsRightBlock : NetworkLists → BodyRule → List ℕ → List ℕ → Type 0
+IsRightBlock n IsBody line block = IsRefusedBlock n line block ⊎ IsAnsweredBlock n IsBody line block
 
 -- what is right to say of a line: a best journey, that there is none, or the fault with which the line is refused
 abbrev pub IsRightBody : NetworkLists → List ℕ → BlockBody → Type 0

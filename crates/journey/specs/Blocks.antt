@@ -26,11 +26,15 @@ IsBodyText n (Journey j) text = IsJourneyText n j text
 IsBodyText n Nothing text = text ≡ with_feed (codes "no journey")
 IsBodyText n (Refused fault) text = text ≡ with_feed (refusal_text fault)
 
--- the block of a line with this body
-pub record IsBlockText (n : NetworkLists) (line : List ℕ) (body : BlockBody) (block : List ℕ) : Type 0 where
+-- the block of a line whose body has the property
+pub record IsFramed (IsBody : List ℕ → Type 0) (line block : List ℕ) : Type 0 where
   pub text : List ℕ
-  pub is_body : IsBodyText n body text
+  pub is_body : IsBody text
   pub block_is : block ≡ block_text line text
+
+-- the block of a line with this body
+abbrev pub IsBlockText : NetworkLists → List ℕ → BlockBody → List ℕ → Type 0
+IsBlockText n line body block = IsFramed (IsBodyText n body) line block
 
 -- a text that has the property was added at the end
 pub record AddsText (P : List ℕ → Type 0) (old new : List ℕ) : Type 0 where

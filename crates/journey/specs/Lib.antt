@@ -5,6 +5,7 @@ pub mod Queries
 pub mod CopyLists
 pub mod Words
 pub mod Ends
+pub mod Boarded
 pub mod Rides
 pub mod Real
 pub mod Texts

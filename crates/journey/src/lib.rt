@@ -22,7 +22,7 @@ pub use copy_list::copies;
 pub use fault::QueryFault;
 pub use laws::{block_fixes_its_journey, reading_is_unique};
 pub use mode_network::{Journey, Step};
-pub use printing::block;
+pub use printing::{block, framed, push_journey};
 pub use query::{Query, read_query};
 pub use real::{ends, first_bad, is_real, word};
 pub use step_ends::{StepEnd, step_end};

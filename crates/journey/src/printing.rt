@@ -1,7 +1,7 @@
 //! How blocks are printed.
 
-ghost use Rattle.std.specs.Prelude.{IfOk, OnOk};
-ghost use Rattle.journey.specs.Texts.{IsJourneyText};
+ghost use Rattle.std.specs.Prelude.{◌≡◌, IfOk, OnOk};
+ghost use Rattle.journey.specs.Texts.{IsJourneyText, block_text};
 ghost use Rattle.journey.specs.Blocks.{IsPrintable, IsPrintableBody, IsBodyText, IsBlockText, AddsText};
 
 use crate::answer::BlockBody;
@@ -32,7 +32,8 @@ fn push_steps(
     Ok(())
 }
 
-fn push_journey(
+/// Appends what a block prints of a journey.
+pub fn push_journey(
     alloc: Global,
     out: &mut Vec<u8>,
     network: &Network,
@@ -68,7 +69,20 @@ fn push_body(
     Ok(())
 }
 
-/// The block of a query line: the line, what is answered, and the line `end`.
+/// The block of a query line: the line, a body, and the line `end`.
+pub fn framed(alloc: Global, line: &[u8], body: &[u8]) -> Result<Vec<u8>, AllocError>
+    ensures { IfOk result (λ block. block.items ≡ block_text line.now body.now) }
+{
+    let mut out = Vec::new(alloc);
+    out.extend_from_slice(b"query ")?;
+    out.extend_from_slice(line)?;
+    push_line_feed(&mut out)?;
+    out.extend_from_slice(body)?;
+    out.extend_from_slice(b"end\n")?;
+    Ok(out)
+}
+
+/// The block of a query line with what is answered.
 pub fn block(
     alloc: Global,
     network: &Network,
@@ -78,11 +92,8 @@ pub fn block(
     requires { IsPrintableBody network.now body.now }
     ensures { IfOk result (λ block. IsBlockText network.now line.now body.now block.items) }
 {
-    let mut out = Vec::new(alloc);
-    out.extend_from_slice(b"query ")?;
-    out.extend_from_slice(line)?;
-    push_line_feed(&mut out)?;
-    push_body(alloc, &mut out, network, body)?;
-    out.extend_from_slice(b"end\n")?;
-    Ok(out)
+    let mut text = Vec::new(alloc);
+    push_body(alloc, &mut text, network, body)?;
+    let block = framed(alloc, line, &text)?;
+    Ok(block)
 }

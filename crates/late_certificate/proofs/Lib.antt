@@ -1,6 +1,5 @@
 mod KindLaws
 mod SectionLaws
-mod OneLine
 mod Again
 mod Found
 mod TextLemmas

@@ -1,22 +1,22 @@
 -- What the bytes of a late certificate spell: the laws of the whole.
-use Rattle.std.proofs.Common.{◌≡◌, ℕ, List, [], ◌∷◌, ◌++◌, map, refl, ap, sym, ◌∙◌, subst, inl, inr, arith}
+use Rattle.std.proofs.Common.{◌≡◌, ℕ, List, [], ◌∷◌, ◌++◌, map, refl, ap, sym, ◌∙◌, subst, arith}
 use Rattle.std.specs.Prelude.{Option, Some, None, Result, Ok, Err, codes, fold, IfOk, IfErr}
 use Rattle.std.specs.List.{AllByRecursion}
 use Rattle.plain_texts.specs.Lines.{IsLine, pieces}
-use Rattle.plain_texts.specs.Course.{Course, whole, bad, trailing, lines_from}
-use Rattle.plain_texts.proofs.Pieces.{pieces_lines, text_of_lines}
+use Rattle.plain_texts.specs.Course.{lines_from}
+use Rattle.plain_texts.proofs.Pieces.{text_of_lines}
 use Rattle.plain_texts.proofs.Spaced.{spaced_is_line, word_by_test, decimal_is_word}
-use Rattle.plain_texts.proofs.Course.{has_pieces, course_takes, course_bad, course_trailing, course_again}
 use Rattle.mode_network.specs.Journeys.{Route}
 use Rattle.journey.specs.declared.verdict.CertFault.{CertFault}
-use Rattle.journey.specs.declared.verdict.CertFault.TheVariants.{BadLine, OutOfMemory}
 use Rattle.certificate.specs.declared.lines.Line.{Line as UsualLine}
 use Rattle.certificate.specs.declared.lines.Line.TheVariants as usual
 use Rattle.certificate.specs.Lines as usual_lines
 use Rattle.certificate.specs.Texts.{label_lines}
 use Rattle.certificate.proofs.FitLemmas.{both_parts, of_both}
+use Rattle.certificate.proofs.Making.{made_of, read_again, gives_cause as gives_cause_by}
+use Rattle.certificate.specs.Making.{made_by, Gives}
 use Rattle.certificate.proofs.KindLaws.{IsInWords}
-use Rattle.certificate.proofs.ReadLaws.{same_Ok, pieces_are_lines, query_is_line, query_line, steps_have_times, labels_have_times, mapped_in_words, each_is_line as usual_are_lines}
+use Rattle.certificate.proofs.ReadLaws.{pieces_are_lines, query_is_line, query_line, steps_have_times, labels_have_times, mapped_in_words, each_is_line as usual_are_lines}
 use Rattle.latest_departure.specs.ValidLate.{LateClaim}
 use Rattle.late_certificate.specs.declared.lines.Line.{Line}
 use Rattle.late_certificate.specs.declared.lines.Line.TheVariants as line
@@ -25,7 +25,7 @@ use Rattle.certificate.specs.declared.due.Due.TheVariants as usual_due
 use Rattle.late_certificate.specs.Lines.{FitsLine, spelled}
 use Rattle.late_certificate.specs.Sections.{due_behind, is_last, line_at}
 use Rattle.late_certificate.specs.Texts.{FitsLate, FitsLateResult, IsLateText, late_lines, late_text, result_lines}
-use Rattle.late_certificate.specs.Reading.{Gives, HasCause, late_of, nothing, put, put_all}
+use Rattle.late_certificate.specs.Reading.{HasCause, late_of, nothing, put}
 use Rattle.late_certificate.proofs.SectionLaws.{reads_lines}
 use Rattle.late_certificate.proofs.Again.{made_again, runs_to_end}
 use Rattle.late_certificate.proofs.Found.{late_is}
@@ -45,20 +45,15 @@ fits c h query =
 -- What is read is spelled so.
 found : (bytes : List ℕ) (c : LateClaim) → late_of bytes ≡ Ok c → IsLateText bytes c
 unfolding late_of late_text
-found bytes c e = by_course (lines_from line_at is_last due.Head 1 (pieces bytes)) refl e
-  where
-    by_course : (course : Course Line) → lines_from line_at is_last due.Head 1 (pieces bytes) ≡ course → put_all nothing course ≡ Ok c → IsLateText bytes c
-    by_course (whole ls) is e =
-        let h = course_takes spelled FitsLine due_behind is_last line_at reads_lines (pieces bytes) due.Head 1 ls is in
-        let late = late_is ls h.place h.runs h.last in
-        let made : late.0 ≡ c = sym (made_again late.0) ∙ ap (fold put nothing) (sym late.1) ∙ same_Ok (fold put nothing ls) c e in
-        let lines : ls ≡ late_lines c = late.1 ∙ ap late_lines made in
-        let are : pieces bytes ≡ map spelled (late_lines c) ++ [] ∷ [] = h.are ∙ ap (λ x. map spelled x ++ [] ∷ []) lines in
-        let each = subst (λ ps. AllByRecursion IsLine ps) are (pieces_are_lines bytes) in
-        let all = subst (λ x. AllByRecursion FitsLine x) lines h.fits in
-        record { fits = fits c all (query_is_line c.line each.1.0); lines = all; spelled = text_of_lines bytes (map spelled (late_lines c)) are }
-    by_course (bad k) is e = absurd (cc)
-    by_course (trailing k) is e = absurd (cc)
+found bytes c e =
+    let (ls, h, makes) = made_of spelled FitsLine due_behind is_last line_at reads_lines due.Head refl put nothing bytes c e in
+    let cert = late_is ls h.place h.runs h.last in
+    let made : cert.0 ≡ c = sym (made_again cert.0) ∙ ap (fold put nothing) (sym cert.1) ∙ makes in
+    let lines : ls ≡ late_lines c = cert.1 ∙ ap late_lines made in
+    let are : pieces bytes ≡ map spelled (late_lines c) ++ [] ∷ [] = h.are ∙ ap (λ x. map spelled x ++ [] ∷ []) lines in
+    let each = subst (λ ps. AllByRecursion IsLine ps) are (pieces_are_lines bytes) in
+    let all = subst (λ x. AllByRecursion FitsLine x) lines h.fits in
+    record { fits = fits c all (query_is_line c.line each.1.0); lines = all; spelled = text_of_lines bytes (map spelled (late_lines c)) are }
 
 -- all lines but the query line are words
 usual_lines_are : (ls : List UsualLine) → AllByRecursion IsInWords ls → AllByRecursion FitsLine (map line.Usual ls) → AllByRecursion IsLine (map spelled (map line.Usual ls))
@@ -96,24 +91,9 @@ all_lines c query h =
 pub again : (bytes : List ℕ) (c : LateClaim) → IsLateText bytes c → late_of bytes ≡ Ok c
 unfolding late_of late_text
 again bytes c h =
-    ap (λ x. put_all nothing (lines_from line_at is_last due.Head 1 (pieces x))) h.spelled
-    ∙ ap (λ x. put_all nothing (lines_from line_at is_last due.Head 1 x)) (pieces_lines (map spelled (late_lines c)) (all_lines c h.fits.line h.lines))
-    ∙ ap (put_all nothing) (course_again spelled FitsLine due_behind is_last line_at reads_lines (late_lines c) due.Head (due.Usual usual_due.Nothing) 1 refl (runs_to_end c) refl h.lines)
+    ap (λ x. made_by put nothing (lines_from line_at is_last due.Head 1 (pieces x))) h.spelled
+    ∙ read_again spelled FitsLine due_behind is_last line_at reads_lines due.Head refl put nothing (late_lines c) (due.Usual usual_due.Nothing) (runs_to_end c) refl h.lines (all_lines c h.fits.line h.lines)
     ∙ ap Ok (made_again c)
-
--- The line that is named is the first that may not stand, or that of the bytes behind the end.
-cause : (bytes : List ℕ) (k : ℕ) → late_of bytes ≡ Err (BadLine k) → HasCause bytes (BadLine k)
-unfolding late_of
-cause bytes k e = by_course (lines_from line_at is_last due.Head 1 (pieces bytes)) refl e
-  where
-    by_course : (course : Course Line) → lines_from line_at is_last due.Head 1 (pieces bytes) ≡ course → put_all nothing course ≡ Err (BadLine k) → HasCause bytes (BadLine k)
-    by_course (whole ls) is e = absurd (cc)
-    by_course (bad n) is e =
-        let same : n ≡ k = cc e in
-        inl (course_bad spelled FitsLine due_behind is_last line_at reads_lines (pieces bytes) due.Head 1 k refl (has_pieces bytes) (is ∙ ap bad same))
-    by_course (trailing n) is e =
-        let same : n ≡ k = cc e in
-        inr (course_trailing spelled FitsLine due_behind is_last line_at reads_lines (pieces bytes) due.Head 1 k (is ∙ ap trailing same))
 
 -- The clauses of read, from what it gives.
 pub gives_found : (bytes : List ℕ) (r : Result LateClaim CertFault) → Gives r (late_of bytes) → IfOk r (IsLateText bytes)
@@ -124,6 +104,5 @@ pub gives_only : (bytes : List ℕ) (r : Result LateClaim CertFault) → Gives r
 gives_only bytes r e c h = subst (λ x. Gives r x) (again bytes c h) e
 
 pub gives_cause : (bytes : List ℕ) (r : Result LateClaim CertFault) → Gives r (late_of bytes) → IfErr r (HasCause bytes)
-gives_cause bytes (Ok c) e = tt
-gives_cause bytes (Err (BadLine k)) e = cause bytes k e
-gives_cause bytes (Err OutOfMemory) e = tt
+unfolding late_of
+gives_cause = gives_cause_by spelled FitsLine due_behind is_last line_at reads_lines due.Head refl put nothing

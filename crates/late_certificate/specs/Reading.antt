@@ -1,13 +1,13 @@
 -- What the lines of a late certificate's text make, and what is wrong with bytes that are no late certificate.
-use Rattle.std.specs.Prelude.{◌≡◌, ℕ, List, [], ◌∷◌, ◌++◌, Some, None, option_map, Result, Ok, Err, fold, ◌⊎◌}
+use Rattle.std.specs.Prelude.{ℕ, List, [], ◌∷◌, ◌++◌, Some, None, option_map, Result}
 use Rattle.plain_texts.specs.Lines.{pieces}
-use Rattle.plain_texts.specs.Course.{Course, whole, bad, trailing, lines_from, IsFirstBad, IsTrailing}
+use Rattle.plain_texts.specs.Course.{lines_from}
 use Rattle.mode_network.specs.declared.steps.Step.{Step}
 use Rattle.mode_network.specs.Journeys.{Route}
 use Rattle.journey.specs.declared.verdict.CertFault.{CertFault}
-use Rattle.journey.specs.declared.verdict.CertFault.TheVariants.{BadLine, OutOfMemory}
 use Rattle.certificate.specs.declared.lines.Line.{Line as UsualLine}
 use Rattle.certificate.specs.declared.lines.Line.TheVariants as usual
+use Rattle.certificate.specs.Making.{made_by, IsCause}
 use Rattle.latest_departure.specs.ValidLate.{LateClaim}
 use Rattle.late_certificate.specs.declared.lines.Line.{Line}
 use Rattle.late_certificate.specs.declared.lines.Line.TheVariants as line
@@ -44,24 +44,10 @@ put c line.Head = c
 put c (line.Depart at) = record c { result = Some (record { start = 0; at = at; steps = [] }) }
 put c (line.Usual said) = put_usual c said
 
--- the certificate of all lines of a course, or its fault
-abbrev pub put_all : LateClaim → Course Line → Result LateClaim CertFault
-put_all c (whole lines) = Ok (fold put c lines)
-put_all c (bad at) = Err (BadLine at)
-put_all c (trailing at) = Err (BadLine at)
-
 -- what bytes spell: a late certificate, or the first line that may not stand where it does
 unfoldable pub late_of : List ℕ → Result LateClaim CertFault
-late_of bytes = put_all nothing (lines_from line_at is_last due.Head 1 (pieces bytes))
+late_of bytes = made_by put nothing (lines_from line_at is_last due.Head 1 (pieces bytes))
 
--- What a function returned is what is defined, unless memory ran out.
-abbrev pub Gives : Result LateClaim CertFault → Result LateClaim CertFault → Type 0
-Gives (Ok c) defined = defined ≡ Ok c
-Gives (Err OutOfMemory) defined = Unit {0}
-Gives (Err (BadLine at)) defined = defined ≡ Err (BadLine at)
-
--- Why bytes are refused: this line is the first that may not stand where it does, or bytes follow the end, where this line would be. That memory ran out has no cause.
+-- Why bytes are refused.
 abbrev pub HasCause : List ℕ → CertFault → Type 0
-HasCause bytes (BadLine at) =
-    IsFirstBad spelled FitsLine due_behind is_last due.Head 1 (pieces bytes) at ⊎ IsTrailing spelled FitsLine due_behind is_last due.Head 1 (pieces bytes) at
-HasCause bytes OutOfMemory = Unit {0}
+HasCause bytes fault = IsCause spelled FitsLine due_behind is_last due.Head bytes fault

@@ -4,7 +4,8 @@ ghost use Rattle.std.specs.Prelude.{◌≡◌, IfOk, IfErr};
 ghost use Rattle.latest_departure.specs.ValidLate.{LateClaim};
 ghost use Rattle.late_certificate.specs.Sections.{line_at};
 ghost use Rattle.late_certificate.specs.Texts.{IsLateText};
-ghost use Rattle.late_certificate.specs.Reading.{Gives, HasCause, late_of};
+ghost use Rattle.certificate.specs.Making.{Gives};
+ghost use Rattle.late_certificate.specs.Reading.{HasCause, late_of};
 
 use crate::due::Due;
 use crate::kinds::line_of;

@@ -1,25 +1,24 @@
 //! The check of a late certificate.
 
-ghost use Rattle.std.specs.Prelude.{◌≡◌, ◌<◌, ◌≤◌, ◌+◌, ◌^◌, ◌↔◌, ℕ, List, [], Contains, IfOk, IfSome, IsTrue};
-ghost use Rattle.search_laws.specs.LabelLaws.{Accepts};
+ghost use Rattle.std.specs.Prelude.{◌≡◌, ◌<◌, ◌≤◌, ◌^◌, [], IfOk, IfSome};
 ghost use Rattle.mode_expression.specs.Form.{form_of, IsUsable};
 ghost use Rattle.journey.specs.Best.{Asked, Asks, asked_by};
 ghost use Rattle.journey.specs.CopyLists.{AreTheCopies};
 ghost use Rattle.journey.specs.declared.verdict.CertVerdict.TheVariants.{Valid};
 ghost use Rattle.journey.specs.Ends.{HasTimes};
 ghost use Rattle.certificate.specs.StateSets.{AreAfter};
-ghost use Rattle.certificate.specs.Verdicts.{AreDenoted, IsFirstFailing};
+ghost use Rattle.certificate.specs.Verdicts.{AreDenoted};
 ghost use Rattle.latest_departure.specs.Late.{first_moment};
 ghost use Rattle.latest_departure.specs.Latest as late;
 ghost use Rattle.latest_departure.specs.ValidLate.{ProvesLate, late_bound};
 ghost use Rattle.mode_network.specs.NetworkLists.{NetworkLists};
-ghost use Rattle.late_certificate.specs.Verdicts.{claim_on, HaveTimes, IsLateVerdict, IsJourneyVerdict, IsResultVerdict};
+ghost use Rattle.late_certificate.specs.Verdicts.{claim_on, HaveTimes, IsLateVerdict, IsResultVerdict};
 
 use crate::late::LateCertificate;
 use automaton::{Collapsed, Positions};
+use certificate::claimed::{Arrival, Goal, journey_verdict};
 use certificate::state_sets::StateSets;
-use certificate::verifying::{as_verdict, contains, refused};
-use certificate::walked::{Walked, walk};
+use certificate::verifying::{as_verdict, refused};
 use journey::{CertVerdict, Query, read_query};
 use latest_departure::{Backwards, LateSearch};
 use mode_network::{Journey, Network};
@@ -146,77 +145,22 @@ fn result_verdict<L: Labels>(
     ensures { IsResultVerdict network.now (asked_by query.now) claimed.now result }
 {
     match claimed {
-        Some(journey) => journey_verdict(
-            network,
-            query,
-            first,
-            labels,
-            origins,
-            destinations,
-            states,
-            journey,
-        ),
+        Some(journey) => {
+            let goal = Goal {
+                earliest: first,
+                arrival: Arrival::By(query.depart),
+            };
+            journey_verdict(
+                network,
+                query,
+                goal,
+                labels,
+                origins,
+                destinations,
+                states,
+                journey,
+            )
+        }
         None => CertVerdict::Valid,
-    }
-}
-
-/// The verdict on a journey that is claimed, by clauses 3 to 5.
-fn journey_verdict<L: Labels>(
-    network: &Network,
-    query: &Query,
-    first: Time,
-    labels: &L,
-    origins: &[u32],
-    destinations: &[u32],
-    states: StateSets,
-    journey: &Journey,
-) -> CertVerdict
-    requires times { HasTimes journey.now }
-    requires first { first ≡ first_moment network.now }
-    requires origins { AreTheCopies network.now query.now.from origins.now }
-    requires destinations { AreTheCopies network.now query.now.to destinations.now }
-    requires denotes { AreDenoted (form_of query.now.expr) (L.automaton labels.now) }
-    requires states { AreAfter (L.automaton labels.now) [] states }
-    ensures { IsJourneyVerdict network.now (asked_by query.now) journey.now result }
-{
-    if !starts_well(first, origins, journey) {
-        return CertVerdict::Invalid { clause: 3, at: 0 };
-    }
-    match walk(network, labels, journey, states) {
-        Ok(walked) => match first_bad_end(labels, destinations, query.depart, &walked) {
-            Some(at) => CertVerdict::Invalid { clause: 5, at },
-            None => CertVerdict::Valid,
-        },
-        Err(at) => CertVerdict::Invalid { clause: 4, at },
-    }
-}
-
-/// Whether a journey starts at one of the nodes, not before the region's first date.
-fn starts_well(first: Time, origins: &[u32], journey: &Journey) -> bool
-    ensures { IsTrue result ↔ (Contains origins.now journey.now.start × (first ≤ journey.now.at)) }
-{
-    contains(origins, journey.start) && first <= journey.at
-}
-
-/// The place of the first that fails of a journey that was walked: it ends at a destination, it arrives by the deadline, and
-/// the automaton accepts its letters.
-fn first_bad_end<L: Labels>(
-    labels: &L,
-    destinations: &[u32],
-    deadline: Time,
-    walked: &Walked,
-) -> Option<u64>
-    requires { (letters : List ℕ) × AreAfter (L.automaton labels.now) letters walked.now.states }
-    ensures { (letters : List ℕ) → AreAfter (L.automaton labels.now) letters walked.now.states
-        → IsFirstFailing (Contains destinations.now walked.now.node) (walked.now.at ≤ deadline) (Accepts (L.automaton labels.now) letters) result }
-{
-    if !contains(destinations, walked.node) {
-        Some(0)
-    } else if walked.at > deadline {
-        Some(1)
-    } else if !walked.states.accepts(labels) {
-        Some(2)
-    } else {
-        None
     }
 }

@@ -1,21 +1,16 @@
 -- What a late certificate proves is right to say, and can be printed.
-use Rattle.std.proofs.Common.{ℕ, inl, inr, List, Option, Some, None}
+use Rattle.std.proofs.Common.{ℕ, List, Option, Some, None}
 use Rattle.std.specs.Prelude.{IfSome}
 use Rattle.mode_network.specs.NetworkLists.{NetworkLists}
 use Rattle.mode_network.specs.Rules.{IsNetwork}
 use Rattle.mode_network.specs.Journeys.{Route}
 use Rattle.journey.specs.Blocks.{IsPrintable}
-use Rattle.journey.specs.Best.{Asked, Asks}
+use Rattle.journey.specs.Best.{Asked}
 use Rattle.journey.proofs.CopyLemmas.{copy_in_range}
-use Rattle.latest_departure.specs.Blocks.{IsAnswerBlock, IsLateBlock}
-use Rattle.latest_departure.specs.ValidLate.{LateClaim, LateHolds, IsValidLate, IsLateResult, ProvesLate}
+use Rattle.latest_departure.specs.Blocks.{IsAnswerBlock}
+use Rattle.latest_departure.specs.ValidLate.{LateClaim, LateHolds, IsValidLate, ProvesLate}
 use Rattle.late_certificate.specs.Texts.{FitsLateResult, IsLateText}
 use Rattle.late_commands.specs.Outputs.{IsLateShown}
-
--- what a certificate proves is right to say
-proved_block : (n : NetworkLists) (line : List ℕ) (q : Asked) → Asks n line q → (result : Option Route) → IsLateResult n q result → (block : List ℕ) → IsAnswerBlock n line result block → IsLateBlock n line block
-proved_block n line q asks None none block tells = inr (inr (record { asked = q; asks = asks; none = none; block_is = tells }))
-proved_block n line q asks (Some j) latest block tells = inr (inl (record { asked = q; asks = asks; journey = j; latest = latest; tells = tells }))
 
 -- what a certificate claims can be printed
 claimed_printable : (n : NetworkLists) → IsNetwork n → (q : Asked) (result : Option Route) → LateHolds n q result → FitsLateResult result → IfSome result (IsPrintable n)
@@ -29,6 +24,16 @@ claimed_printable n network q (Some j) in_time fits = record {
 pub valid_printable : (n : NetworkLists) → IsNetwork n → (bytes : List ℕ) (c : LateClaim) → IsLateText bytes c → IsValidLate n c → IfSome c.result (IsPrintable n)
 valid_printable n network bytes c text valid = claimed_printable n network valid.setting.asked c.result valid.holds text.fits.result
 
+-- what a certificate proves is right to say
 pub shown_block : (n : NetworkLists) (bytes : List ℕ) (c : LateClaim) (block : List ℕ) → IsLateText bytes c → IsValidLate n c → ProvesLate n c → IsAnswerBlock n c.line c.result block → IsLateShown n bytes block
-shown_block n bytes c block text valid proves tells =
-    record { claim = c; text = text; valid = valid; tells = tells; right = proved_block n c.line proves.asked proves.asks c.result proves.right block tells }
+shown_block n bytes c block text valid proves tells = record {
+  claim = c;
+  text = text;
+  valid = valid;
+  tells = tells;
+  right = record {
+    asked = proves.asked;
+    asks = proves.asks;
+    tells = record { text = tells.text; is_body = record { result = c.result; right = proves.right; told = tells.is_body }; block_is = tells.block_is };
+  };
+}

@@ -4,7 +4,7 @@ use Rattle.mode_network.specs.NetworkLists.{NetworkLists}
 use Rattle.journey.specs.declared.verdict.CertFault.TheVariants.{BadLine}
 use Rattle.journey.specs.declared.verdict.CertVerdict.TheVariants as verdict
 use Rattle.journey.specs.Best.{IsRefusedBlock}
-use Rattle.latest_departure.specs.Blocks.{IsAnswerBlock, IsLateBlock}
+use Rattle.latest_departure.specs.Blocks.{IsAnswerBlock, IsShownBlock}
 use Rattle.latest_departure.specs.ValidLate.{LateClaim, IsValidLate}
 use Rattle.late_certificate.specs.Texts.{IsLateText}
 use Rattle.late_certificate.specs.Reading.{late_of}
@@ -22,13 +22,13 @@ pub record IsLateCertificateFor (n : NetworkLists) (line out : List ℕ) : Type 
 abbrev pub IsLateCertified : NetworkLists → List ℕ → List ℕ → Type 0
 IsLateCertified n line out = IsRefusedBlock n line out ⊎ IsLateCertificateFor n line out
 
--- the bytes are the text of a valid late certificate, and the block is that of its line and its result, which is the right late block of that line
+-- the bytes are the text of a valid late certificate, and the block is that of its line and its result, of which the certificate proves what it tells
 pub record IsLateShown (n : NetworkLists) (bytes block : List ℕ) : Type 0 where
   pub claim : LateClaim
   pub text : IsLateText bytes claim
   pub valid : IsValidLate n claim
   pub tells : IsAnswerBlock n claim.line claim.result block
-  pub right : IsLateBlock n claim.line block
+  pub right : IsShownBlock n claim.line block
 
 -- certificates of the latest departure
 abbrev pub late_certificates : NetworkLists → CertificateKind

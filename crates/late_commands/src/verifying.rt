@@ -78,5 +78,5 @@ fn claimed_block(
         result,
         labels: _,
     } = certificate;
-    answer_block(alloc, network, line.as_slice(), result)
+    answer_block(alloc, network, line.as_slice(), &result)
 }

@@ -59,12 +59,12 @@ module _ (n : NetworkLists) (rules : KeepsRules n) (line : List ℕ) (q : Asked)
       → IsArrival (graph_of n q m) (labels_of n q m) m.starts m.targets 0 (Some (span n q)) moment → closed_before (span n q) moment ≡ late_bound n q result
   bound_is None none None first = refl
   bound_is None none (Some moment) least = let there = starts_then moment least in absurd (none there.0 there.1)
-  bound_is (Some j) is None first = let at = is_moment j is.0.in_time None first in absurd (let e = at.1 in cc)
+  bound_is (Some j) is None first = let at = is_moment j is.0.best.latest.in_time None first in absurd (let e = at.1 in cc)
   bound_is (Some j) is (Some moment) least =
       let there = starts_then moment least in
-      let no_later = is.0.latest there.0 there.1 in
+      let no_later = is.0.best.latest.latest there.0 there.1 in
       let from = there.2 in
-      let at = is_moment j is.0.in_time (Some moment) least in
+      let at = is_moment j is.0.best.latest.in_time (Some moment) least in
       let same = some_is at.1 in
       let low = at.2 in
       let le = at.3 in
@@ -72,7 +72,7 @@ module _ (n : NetworkLists) (rules : KeepsRules n) (line : List ℕ) (q : Asked)
 
   holds : (result : Option Route) → IsLate n q result → LateHolds n q result
   holds None none = tt
-  holds (Some j) is = is.0.in_time
+  holds (Some j) is = is.0.best.latest.in_time
 
 pub late_is_valid : (n : NetworkLists) → KeepsRules n → (line : List ℕ) (q : Asked) → Asks n line q → (result : Option Route) → IsLate n q result → (labels : List Label)
     → AreLateLabels n q labels → IsValidLate n (record { line = line; result = result; labels = labels })

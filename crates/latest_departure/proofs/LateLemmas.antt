@@ -1,6 +1,6 @@
 -- A least mirrored moment is that of a latest departure.
 use Rattle.std.proofs.Common.{◌≡◌, ℕ, ◌-◌, ◌^◌, ◌<◌, ◌≤◌, ◌∙◌, ◌==◌, ◌&&◌, nat_lt, cond, Bool, true, false, List, [], ◌∷◌, ◌++◌, Option, Some, None, refl, sym, ap, subst, arith}
-use Rattle.std.specs.Prelude.{◌↔◌, All, reverse, slice_index_or}
+use Rattle.std.specs.Prelude.{◌↔◌, reverse}
 use Rattle.std.specs.List.{range_with_len}
 use Rattle.std.proofs.lemmas.Bool.Decides.{nat_tests}
 use Rattle.std.proofs.lemmas.List.{reverse-reverse, reverse-append}
@@ -10,29 +10,18 @@ use Rattle.search_laws.specs.Collapse.{collapse}
 use Rattle.search_laws.specs.GraphLaws.{GraphMeaning}
 use Rattle.search_laws.specs.LabelLaws.{LabelsMeaning, Accepts}
 use Rattle.search_laws.specs.Walks.{wait, ArrivesAt, word_from}
-use Rattle.product_search.specs.declared.label.Walk.{Walk}
-use Rattle.product_search.specs.Answer.{IsArrival, IsWalkTo, IsWalkFor}
-use Rattle.product_search.proofs.HopLemmas.{reads_of_hops}
+use Rattle.product_search.specs.Answer.{IsArrival}
 use Rattle.automaton.specs.Collapsed.{collapsed, FitsCollapsed, AcceptsCollapsed}
 use Rattle.mode_expression.specs.Form.{Form, IsWordOf}
 use Rattle.mode_network.specs.NetworkLists.{NetworkLists}
-use Rattle.mode_network.specs.Rules.{IsNetwork}
 use Rattle.mode_network.specs.declared.steps.Step.{Step}
-use Rattle.mode_network.specs.declared.steps.Step.TheVariants.{Wait, Road, Link, Stand, Ride}
 use Rattle.mode_network.specs.Journeys.{Route, AreSteps}
 use Rattle.mode_network.proofs.RuleLemmas.{both}
-use Rattle.mode_network.specs.Copies.{IsCopy}
-use Rattle.journey.specs.Best.{Asked}
-use Rattle.journey.specs.Blocks.{IsPrintable}
-use Rattle.journey.specs.Ends.{HasTime}
+use Rattle.journey.specs.Best.{Asked, Answers}
 use Rattle.journey.specs.CopyLists.{AreTheCopies}
-use Rattle.journey.proofs.CopyLemmas.{copy_in_range}
-use Rattle.unpack.specs.Unpacking.{IsSoon}
-use Rattle.unpack.specs.PhaseUnpacking.{letters_in}
-use Rattle.unpack.proofs.UnpackLemmas.{hops_in, hops_end_in, hops_letters_in}
-use Rattle.latest_departure.specs.Late.{deadline, first_moment, IsInTime}
+use Rattle.latest_departure.specs.Forward.{IsFirst, IsFirstIfAny, leaving}
+use Rattle.latest_departure.specs.Late.{deadline, first_moment, IsInTime, IsBestLate, HasNoneInTime}
 use Rattle.latest_departure.specs.Latest.{IsLate, span}
-use Rattle.latest_departure.specs.MirrorWalk.{GoesBack, IsWalkBy, IsWayBack}
 use Rattle.latest_departure.specs.Mirrored.{MirrorsAreJourneys, JourneysAreMirrors}
 use Rattle.latest_departure.specs.Reversed.{IsReversed, AcceptsReversed, all_moves}
 
@@ -164,80 +153,65 @@ module _ (n : NetworkLists) (q : Asked) (g : GraphMeaning) (l : LabelsMeaning) (
         refl,
       )
 
-module _ (n : NetworkLists) (network : IsNetwork n) (q : Asked) (g : GraphMeaning) (l : LabelsMeaning) (starts targets : List ℕ) (reads : IsMirrorOf q.form l)
-    (journeys : JourneysAreMirrors n g (deadline q)) (to : AreTheCopies n q.to starts) (from : AreTheCopies n q.from targets)
-    (late : first_moment n ≤ deadline q) (small : deadline q < 2 ^ 57)
+module _ (n : NetworkLists) (q : Asked) (g : GraphMeaning) (l : LabelsMeaning) (starts targets : List ℕ) (reads : IsMirrorOf q.form l)
+    (walks : MirrorsAreJourneys n g (deadline q)) (journeys : JourneysAreMirrors n g (deadline q)) (to : AreTheCopies n q.to starts) (from : AreTheCopies n q.from targets)
+    (late : first_moment n ≤ deadline q)
     (rises : (v t : ℕ) (steps : List Step) (w u : ℕ) (letters : List ℕ) → AreSteps n v t steps w u letters → t ≤ u) where
-  -- a walk that is found ends within the span
-  pub walk_by : (moment : Option ℕ) (walk : Option Walk) → IsArrival g l starts targets 0 (Some (span n q)) moment → IsWalkFor g l starts targets 0 moment walk
-      → IsWalkBy g (deadline q) walk
-  walk_by None None first is = tt
-  walk_by None (Some w) first is = absurd is
-  walk_by (Some a) None first is = absurd is
-  walk_by (Some a) (Some w) first is =
-      let ends = hops_end_in g l w.hops.items w.node w.state w.at is.end is.final a is.hops in
-      let within = first.1 in
-      (hops_in g l w.hops.items w.node w.state w.at is.end is.final a is.hops, omega (arith, ends.1))
-
-  -- a journey that goes back on it is in time
-  back_in_time : (a : ℕ) (w : Walk) (j : Route) → IsWalkTo g l starts targets 0 a w → a ≤ span n q → GoesBack n g (deadline q) w j → IsInTime n q j × (j.at ≡ deadline q - a)
-  back_in_time a w j is within back =
-      let letters = letters_in g w.node w.hops.items in
-      let ends = hops_end_in g l w.hops.items w.node w.state w.at is.end is.final a is.hops in
-      let same = hops_letters_in g l w.hops.items w.node w.state w.at is.end is.final a is.hops in
-      let read = reads_of_hops g l w.hops.items w.node w.state w.at is.end is.final a is.hops in
-      let accepted : Accepts l letters = subst (Accepts l) (sym same) (w.state, is.final, is.is_state, is.is_start, read, is.accepts) in
-      let at : j.at ≡ deadline q - a = back.at ∙ ap (λ u. deadline q - u) ends.1 in
-      let by = back.by in (
-        record {
-          end = w.node;
-          arrival = back.arrival;
-          word = collapse (reverse letters);
-          starts_at_copy = subst (IsCopy n q.from) (sym (back.start ∙ ends.0)) ((from.are is.end).0 is.ends_there);
-          not_before = omega (arith, at);
-          real = record { letters = reverse letters; steps = back.real; word_is = refl };
-          ends_at_copy = (to.are w.node).0 is.starts_there;
-          by_deadline = omega arith;
-          denoted = (reads (reverse letters)).0 (subst (Accepts l) (sym (reverse-reverse letters)) accepted);
-        },
-        at,
-      )
-
-  has_time : (step : Step) → IsSoon step → HasTime step
-  has_time (Wait until) soon = omega arith
-  has_time (Road to) soon = tt
-  has_time (Link to) soon = tt
-  has_time Stand soon = tt
-  has_time (Ride trip day board alight) soon = tt
-
-  printable : (j : Route) → IsInTime n q j → j.at ≤ deadline q → All IsSoon j.steps → IsPrintable n j
-  printable j in_time at soon = record {
-    node = copy_in_range n network q.from j.start in_time.starts_at_copy;
-    times = record { at = omega arith; waits = λ k d h. has_time (slice_index_or j.steps k d) (soon k d h) };
-    taken = record { end = _; arrival = _; letters = _; are = in_time.real.steps };
+  -- a journey that is in time answers what is asked from its start on
+  answers_from : (t : ℕ) (k : Route) (is : IsInTime n q k) → t ≤ k.at → Answers n (leaving q t) k is.arrival
+  answers_from t k is le = record {
+    end = is.end;
+    word = is.word;
+    starts_at_copy = is.starts_at_copy;
+    not_before = le;
+    real = is.real;
+    ends_at_copy = is.ends_at_copy;
+    denoted = is.denoted;
   }
 
-  -- no journey that is in time starts later; and where there is no walk, none is in time
-  pub late_found : (moment : Option ℕ) (walk : Option Walk) (found : Option Route) → IsArrival g l starts targets 0 (Some (span n q)) moment
-      → IsWalkFor g l starts targets 0 moment walk → IsWayBack n g (deadline q) walk found → IsLate n q found
-  late_found None None None none is back = λ k in_time.
+  -- where no walk is within the span, no journey is in time
+  pub none_in_time : IsArrival g l starts targets 0 (Some (span n q)) None → HasNoneInTime n q
+  none_in_time none k in_time =
       let there = arrives n q g l starts targets reads journeys to from rises k in_time in
       let early = in_time.not_before in
       none (deadline q - k.at) (omega arith) there.0
-  late_found None None (Some j) none is back = absurd back
-  late_found None (Some w) found none is back = absurd is
-  late_found (Some a) None found least is back = absurd is
-  late_found (Some a) (Some w) None least is back = absurd back
-  late_found (Some a) (Some w) (Some j) least is back =
-      let there = back_in_time a w j is least.1 back in
-      let at = there.1 in (
-        record {
-          in_time = there.0;
+
+  -- the journey that leaves at the least moment and arrives first is in time, and the best one
+  first_is_best : (a : ℕ) → IsArrival g l starts targets 0 (Some (span n q)) (Some a) → (k : Route) → IsInTime n q k → k.at ≡ deadline q - a
+      → (j : Route) → IsFirst n (leaving q (deadline q - a)) j → IsBestLate n q j
+  first_is_best a least k other then j is =
+      let leaves = is.leaves in
+      let answers = is.best.answers in
+      let soon = is.best.least k other.arrival (answers_from (deadline q - a) k other (omega arith)) in
+      let by = other.by_deadline in
+      let early = other.not_before in
+      record {
+        latest = record {
+          in_time = record {
+            end = answers.end;
+            arrival = is.best.arrival;
+            word = answers.word;
+            starts_at_copy = answers.starts_at_copy;
+            not_before = omega arith;
+            real = answers.real;
+            ends_at_copy = answers.ends_at_copy;
+            by_deadline = omega arith;
+            denoted = answers.denoted;
+          };
           latest = λ k in_time.
-              let other = arrives n q g l starts targets reads journeys to from rises k in_time in
-              let early = other.1 in
-              let first = least.0.least (deadline q - k.at) other.0 in
+              let there = arrives n q g l starts targets reads journeys to from rises k in_time in
+              let before = there.1 in
+              let first = least.0.least (deadline q - k.at) there.0 in
               omega arith;
-        },
-        printable j there.0 (omega arith) back.soon,
-      )
+        };
+        first = λ k in_time same. is.best.least k in_time.arrival (answers_from (deadline q - a) k in_time (omega arith));
+      }
+
+  pub late_found : (a : ℕ) → IsArrival g l starts targets 0 (Some (span n q)) (Some a) → (found : Option Route) → IsFirstIfAny n (leaving q (deadline q - a)) found → IsLate n q found
+  late_found a least None none =
+      let there = in_time_of n q g l starts targets reads walks journeys to from late rises a least.0.reached least.1 in
+      let then = there.2 in
+      absurd (none there.0 there.1.arrival (answers_from (deadline q - a) there.0 there.1 (omega arith)))
+  late_found a least (Some j) is =
+      let there = in_time_of n q g l starts targets reads walks journeys to from late rises a least.0.reached least.1 in
+      (record { best = first_is_best a least there.0 there.1 there.2 j is; boarded = is.boarded }, is.printable)

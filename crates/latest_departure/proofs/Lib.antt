@@ -8,7 +8,7 @@ pub mod EntryLemmas
 pub mod RowLemmas
 pub mod WayLemmas
 pub mod DeadlineLemmas
-pub mod MirrorHops
+pub mod ForwardLemmas
 pub mod LateLemmas
 pub mod TextLemmas
 pub mod ValidLemmas

@@ -1,24 +1,24 @@
 -- What a search for a deadline finds.
-use Rattle.std.proofs.Common.{ℕ, ◌≤◌, List, Option, Some}
+use Rattle.std.proofs.Common.{ℕ, ◌-◌, ◌≤◌, List, Option, Some, None}
 use Rattle.mode_expression.specs.Form.{IsUsable}
 use Rattle.search_laws.specs.GraphLaws.{GraphMeaning}
 use Rattle.search_laws.specs.LabelLaws.{LabelsMeaning}
-use Rattle.product_search.specs.declared.label.Walk.{Walk}
-use Rattle.product_search.specs.Answer.{IsArrival, IsWalkFor}
+use Rattle.product_search.specs.Answer.{IsArrival}
 use Rattle.mode_network.specs.declared.steps.Step.{Step}
 use Rattle.mode_network.specs.Journeys.{Route, AreSteps}
 use Rattle.journey.specs.Best.{Asked}
 use Rattle.automaton.specs.Collapsed.{collapsed}
 use Rattle.latest_departure.specs.declared.search.LateSearch.{LateSearch}
 use Rattle.latest_departure.specs.BackLists.{BackLists, IsBackwards, rows_of, mirrored}
-use Rattle.latest_departure.specs.Late.{deadline}
+use Rattle.latest_departure.specs.Late.{deadline, HasNoneInTime}
 use Rattle.latest_departure.specs.Latest.{IsLate, span, Mirroring}
-use Rattle.latest_departure.specs.MirrorWalk.{IsWalkBy, IsWayBack}
+use Rattle.latest_departure.specs.Forward.{IsFirstIfAny, leaving}
+use Rattle.latest_departure.specs.Mirrored.{MirrorsAreJourneys, JourneysAreMirrors}
 use Rattle.latest_departure.specs.Meanings.{reversed_meaning}
 use Rattle.latest_departure.specs.Searches.{IsSearchFor}
-use Rattle.latest_departure.proofs.LateLemmas.{IsMirrorOf, walk_by, late_found}
+use Rattle.latest_departure.proofs.LateLemmas.{IsMirrorOf, none_in_time, late_found}
 use Rattle.latest_departure.proofs.MirrorWalks.{steps_rise}
-use Rattle.latest_departure.proofs.ValidLemmas.{reads_of, over_journeys}
+use Rattle.latest_departure.proofs.ValidLemmas.{reads_of, over_walks, over_journeys}
 
 module _ (b : BackLists) (keeps : IsBackwards b) (q : Asked) (s : LateSearch) (is : IsSearchFor b q s) where
   -- what the search goes over
@@ -49,12 +49,15 @@ module _ (b : BackLists) (keeps : IsBackwards b) (q : Asked) (s : LateSearch) (i
     rises : (v t : ℕ) (steps : List Step) (w u : ℕ) (letters : List ℕ) → AreSteps b.network v t steps w u letters → t ≤ u
     rises = steps_rise b.network keeps.network b.table keeps.keeps keeps.of
 
-    pub search_walk : (moment : Option ℕ) (walk : Option Walk) → IsArrival g l s.starts.items s.targets.items 0 (Some (span b.network q)) moment
-        → IsWalkFor g l s.starts.items s.targets.items 0 moment walk → IsWalkBy g (deadline q) walk
-    search_walk = walk_by b.network keeps.network q g l s.starts.items s.targets.items reads (over_journeys b.network keeps.network q is.small over)
-        is.ends.destination is.ends.origin is.not_before is.small rises
+    walks : MirrorsAreJourneys b.network g (deadline q)
+    walks = over_walks b.network keeps.network q is.small over
 
-    pub search_late : (moment : Option ℕ) (walk : Option Walk) (found : Option Route) → IsArrival g l s.starts.items s.targets.items 0 (Some (span b.network q)) moment
-        → IsWalkFor g l s.starts.items s.targets.items 0 moment walk → IsWayBack b.network g (deadline q) walk found → IsLate b.network q found
-    search_late = late_found b.network keeps.network q g l s.starts.items s.targets.items reads (over_journeys b.network keeps.network q is.small over)
-        is.ends.destination is.ends.origin is.not_before is.small rises
+    journeys : JourneysAreMirrors b.network g (deadline q)
+    journeys = over_journeys b.network keeps.network q is.small over
+
+    pub search_none : IsArrival g l s.starts.items s.targets.items 0 (Some (span b.network q)) None → HasNoneInTime b.network q
+    search_none = none_in_time b.network q g l s.starts.items s.targets.items reads walks journeys is.ends.destination is.ends.origin is.not_before rises
+
+    pub search_late : (moment : ℕ) → IsArrival g l s.starts.items s.targets.items 0 (Some (span b.network q)) (Some moment) → (found : Option Route)
+        → IsFirstIfAny b.network (leaving q (deadline q - moment)) found → IsLate b.network q found
+    search_late = late_found b.network q g l s.starts.items s.targets.items reads walks journeys is.ends.destination is.ends.origin is.not_before rises

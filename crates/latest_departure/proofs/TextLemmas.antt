@@ -1,5 +1,5 @@
 -- The text of a late block.
-use Rattle.std.proofs.Common.{◌≡◌, ℕ, List, ◌++◌, append_assoc, Option, Some, None, inl, inr, refl, ap, ◌∙◌}
+use Rattle.std.proofs.Common.{◌≡◌, ℕ, List, ◌++◌, append_assoc, Option, Some, None, inr, refl, ap, ◌∙◌}
 use Rattle.std.specs.Prelude.{IfSome}
 use Rattle.std.specs.Prelude.{codes}
 use Rattle.plain_texts.specs.Lines.{with_feed}
@@ -10,6 +10,7 @@ use Rattle.journey.specs.Blocks.{AddsText}
 use Rattle.journey.specs.Texts.{IsJourneyText}
 use Rattle.journey.specs.Best.{Asked, Asks}
 use Rattle.journey.specs.Blocks.{IsPrintable}
+use Rattle.latest_departure.specs.Late.{IsToldResult}
 use Rattle.latest_departure.specs.Latest.{IsLate}
 use Rattle.latest_departure.specs.Blocks.{IsLateText, IsAnswerBlock, IsLateBlock}
 
@@ -28,6 +29,13 @@ pub late_printable : (n : NetworkLists) (q : Asked) (found : Option Route) → I
 late_printable n q None none = tt
 late_printable n q (Some j) late = late.1
 
+told_result : (n : NetworkLists) (q : Asked) (found : Option Route) → IsLate n q found → IsToldResult n q found
+told_result n q None none = none
+told_result n q (Some j) late = late.0
+
 pub late_right : (n : NetworkLists) (line : List ℕ) (q : Asked) → Asks n line q → (found : Option Route) → IsLate n q found → (block : List ℕ) → IsAnswerBlock n line found block → IsLateBlock n line block
-late_right n line q asks None none block tells = inr (inr (record { asked = q; asks = asks; none = none; block_is = tells }))
-late_right n line q asks (Some j) late block tells = inr (inl (record { asked = q; asks = asks; journey = j; latest = late.0; tells = tells }))
+late_right n line q asks found late block tells = inr (record {
+  asked = q;
+  asks = asks;
+  tells = record { text = tells.text; is_body = record { result = found; right = told_result n q found late; told = tells.is_body }; block_is = tells.block_is };
+})

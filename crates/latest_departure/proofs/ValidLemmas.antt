@@ -16,10 +16,10 @@ use Rattle.mode_network.specs.Journeys.{Route, AreSteps}
 use Rattle.journey.specs.Rides.{KeepsRules}
 use Rattle.journey.specs.Best.{Asked, Asks}
 use Rattle.journey.specs.CopyLists.{AreTheCopies}
-use Rattle.latest_departure.specs.Late.{deadline}
+use Rattle.latest_departure.specs.Late.{deadline, IsLateResult}
 use Rattle.latest_departure.specs.Latest.{ReadsFromEnds, Mirroring, graph_of, labels_of}
 use Rattle.latest_departure.specs.Mirrored.{JourneysAreMirrors, MirrorsAreJourneys}
-use Rattle.latest_departure.specs.ValidLate.{LateHolds, late_bound, IsLateResult, ValidLateProves}
+use Rattle.latest_departure.specs.ValidLate.{LateHolds, late_bound, ValidLateProves}
 use Rattle.latest_departure.proofs.DeadlineLemmas.{deadline_is_small}
 use Rattle.latest_departure.proofs.LateLemmas.{IsMirrorOf, mirror_of, arrives}
 use Rattle.latest_departure.proofs.MirrorLaws.{mirror_lawful}

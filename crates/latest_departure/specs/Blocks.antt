@@ -1,12 +1,13 @@
 -- The block of a query line that asks for the latest departure.
-use Rattle.std.specs.Prelude.{◌≡◌, ℕ, Option, Some, None, List, ◌++◌, ◌⊎◌, codes}
+use Rattle.std.specs.Prelude.{◌≡◌, ℕ, Option, Some, None, List, ◌++◌, codes}
 use Rattle.plain_texts.specs.Lines.{with_feed}
 use Rattle.service_days.specs.Clock.{clock_text_of}
 use Rattle.mode_network.specs.NetworkLists.{NetworkLists}
 use Rattle.mode_network.specs.Journeys.{Route}
-use Rattle.journey.specs.Best.{Asked, Asks, IsRefusedBlock}
-use Rattle.journey.specs.Texts.{IsJourneyText, block_text}
-use Rattle.latest_departure.specs.Late.{IsLatest, HasNoneInTime}
+use Rattle.journey.specs.Best.{Asked, IsAnsweredBlock, IsRightBlock}
+use Rattle.journey.specs.Blocks.{IsFramed}
+use Rattle.journey.specs.Texts.{IsJourneyText}
+use Rattle.latest_departure.specs.Late.{IsToldResult, IsLateResult}
 
 -- what is printed of a journey: when it departs, and then what any block prints of it
 pub record IsLateText (n : NetworkLists) (j : Route) (text : List ℕ) : Type 0 where
@@ -14,32 +15,29 @@ pub record IsLateText (n : NetworkLists) (j : Route) (text : List ℕ) : Type 0 
   pub told : IsJourneyText n j own
   pub text_is : text ≡ with_feed (codes "depart " ++ clock_text_of n.days j.at) ++ own
 
--- the block of a line with this journey
-pub record IsBlockOf (n : NetworkLists) (line : List ℕ) (j : Route) (block : List ℕ) : Type 0 where
-  pub text : List ℕ
-  pub told : IsLateText n j text
-  pub block_is : block ≡ block_text line text
-
--- the block of a journey that starts at the latest departure
-pub record IsJourneyBlock (n : NetworkLists) (line block : List ℕ) : Type 0 where
-  pub asked : Asked
-  pub asks : Asks n line asked
-  pub journey : Route
-  pub latest : IsLatest n asked journey
-  pub tells : IsBlockOf n line journey block
-
--- the block of the answer that there is none
-pub record IsNothingBlock (n : NetworkLists) (line block : List ℕ) : Type 0 where
-  pub asked : Asked
-  pub asks : Asks n line asked
-  pub none : HasNoneInTime n asked
-  pub block_is : block ≡ block_text line (with_feed (codes "no journey"))
+-- what is printed of a journey, or of the answer that none is in time
+abbrev pub IsResultText : NetworkLists → Option Route → List ℕ → Type 0
+IsResultText n (Some j) text = IsLateText n j text
+IsResultText n None text = text ≡ with_feed (codes "no journey")
 
 -- the block of a line with this journey, or with the answer that there is none
 abbrev pub IsAnswerBlock : NetworkLists → List ℕ → Option Route → List ℕ → Type 0
-IsAnswerBlock n line (Some j) block = IsBlockOf n line j block
-IsAnswerBlock n line None block = block ≡ block_text line (with_feed (codes "no journey"))
+IsAnswerBlock n line result block = IsFramed (IsResultText n result) line block
 
--- the right late block of a query line
+-- which results are right for what is asked
+abbrev pub ResultRule : Type 1
+ResultRule = NetworkLists → Asked → Option Route → Type 0
+
+-- the body with a result that is right
+pub record IsResultBody (IsRight : ResultRule) (n : NetworkLists) (q : Asked) (text : List ℕ) : Type 0 where
+  pub result : Option Route
+  pub right : IsRight n q result
+  pub told : IsResultText n result text
+
+-- the right late block of a query line: that of its refusal, of the best journey for its deadline, or of the answer that none is in time
 abbrev pub IsLateBlock : NetworkLists → List ℕ → List ℕ → Type 0
-IsLateBlock n line block = IsRefusedBlock n line block ⊎ IsJourneyBlock n line block ⊎ IsNothingBlock n line block
+IsLateBlock n line block = IsRightBlock n (IsResultBody IsToldResult n) line block
+
+-- what a late certificate shows of its line: the block of a journey that starts at the latest departure, or of the answer that none is in time
+abbrev pub IsShownBlock : NetworkLists → List ℕ → List ℕ → Type 0
+IsShownBlock n line block = IsAnsweredBlock n (IsResultBody IsLateResult n) line block

@@ -1,9 +1,10 @@
 -- The latest departure for a deadline. Of a query line the date and the time are the deadline.
-use Rattle.std.specs.Prelude.{ℕ, ◌≤◌, List, slice_index}
+use Rattle.std.specs.Prelude.{◌≡◌, ℕ, ◌≤◌, List, Option, Some, None, slice_index}
 use Rattle.mode_expression.specs.Form.{IsWordOf}
 use Rattle.mode_network.specs.NetworkLists.{NetworkLists}
 use Rattle.mode_network.specs.Journeys.{Route, IsJourney}
 use Rattle.mode_network.specs.Copies.{IsCopy}
+use Rattle.journey.specs.Boarded.{BoardsOnTime}
 use Rattle.journey.specs.Best.{Asked}
 
 abbrev pub deadline : Asked → ℕ
@@ -31,6 +32,26 @@ pub record IsLatest (n : NetworkLists) (q : Asked) (j : Route) : Type 0 where
   pub in_time : IsInTime n q j
   pub latest : (k : Route) → IsInTime n q k → k.at ≤ j.at
 
+-- the best journey for a deadline: no journey that is in time starts later, and of those that start then none arrives earlier
+pub record IsBestLate (n : NetworkLists) (q : Asked) (j : Route) : Type 0 where
+  pub latest : IsLatest n q j
+  pub first : (k : Route) (other : IsInTime n q k) → k.at ≡ j.at → latest.in_time.arrival ≤ other.arrival
+
+-- the journey that is told: the best one, each of whose rides is boarded when it departs
+pub record IsToldLate (n : NetworkLists) (q : Asked) (j : Route) : Type 0 where
+  pub best : IsBestLate n q j
+  pub boarded : BoardsOnTime n j
+
 -- no journey is in time
 abbrev pub HasNoneInTime : NetworkLists → Asked → Type 0
 HasNoneInTime n q = (k : Route) → IsInTime n q k → ⊥
+
+-- no journey that is in time starts later than this one; or none is in time
+abbrev pub IsLateResult : NetworkLists → Asked → Option Route → Type 0
+IsLateResult n q (Some j) = IsLatest n q j
+IsLateResult n q None = HasNoneInTime n q
+
+-- the journey that is told, or that none is in time
+abbrev pub IsToldResult : NetworkLists → Asked → Option Route → Type 0
+IsToldResult n q (Some j) = IsToldLate n q j
+IsToldResult n q None = HasNoneInTime n q

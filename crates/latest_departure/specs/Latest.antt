@@ -1,4 +1,4 @@
--- What is answered for a deadline: a journey that starts at the latest departure, and the labels of the search.
+-- What is answered for a deadline: the best journey, and the labels of the search.
 use Rattle.std.specs.Prelude.{ℕ, ◌-◌, ◌<◌, List, length, All, Option, Some, None}
 use Rattle.search_laws.specs.GraphLaws.{GraphMeaning}
 use Rattle.search_laws.specs.LabelLaws.{LabelsMeaning, IsLawfulLabels}
@@ -17,13 +17,13 @@ use Rattle.journey.specs.Best.{Asked}
 use Rattle.journey.specs.Blocks.{IsPrintable}
 use Rattle.journey.specs.CopyLists.{AreTheCopies}
 use Rattle.latest_departure.specs.declared.source.Source.{Source}
-use Rattle.latest_departure.specs.Late.{IsLatest, HasNoneInTime, deadline, first_moment}
+use Rattle.latest_departure.specs.Late.{IsToldLate, HasNoneInTime, deadline, first_moment}
 use Rattle.latest_departure.specs.Reversed.{IsReversed}
 use Rattle.latest_departure.specs.MirrorArcs.{mirror_meaning, AreSources}
 
--- a journey that starts at the latest departure, or None where no journey is in time
+-- a best journey for the deadline, whose rides are boarded when they depart; or None where no journey is in time
 abbrev pub IsLate : NetworkLists → Asked → Option Route → Type 0
-IsLate n q (Some j) = IsLatest n q j × IsPrintable n j
+IsLate n q (Some j) = IsToldLate n q j × IsPrintable n j
 IsLate n q None = HasNoneInTime n q
 
 -- the time before the deadline that the search looks at: back to the region's first date

@@ -11,6 +11,6 @@ pub mod Inside
 pub mod MirrorWays
 pub mod Mirrored
 pub mod Latest
-pub mod MirrorWalk
+pub mod Forward
 pub mod Searches
 pub mod ValidLate

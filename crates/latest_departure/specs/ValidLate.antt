@@ -6,7 +6,7 @@ use Rattle.mode_network.specs.NetworkLists.{NetworkLists}
 use Rattle.mode_network.specs.Journeys.{Route}
 use Rattle.journey.specs.Rides.{KeepsRules}
 use Rattle.journey.specs.Best.{Asked, Asks}
-use Rattle.latest_departure.specs.Late.{deadline, IsInTime, IsLatest, HasNoneInTime}
+use Rattle.latest_departure.specs.Late.{deadline, IsInTime, IsLateResult}
 use Rattle.latest_departure.specs.Latest.{span, Mirroring, graph_of, labels_of}
 
 -- what is claimed of a query line: a journey that starts at the latest departure, or that none is in time; and labels in mirrored time
@@ -41,11 +41,6 @@ pub record IsValidLate (n : NetworkLists) (c : LateClaim) : Type 0 where
   pub setting : LateSetting n c.line
   pub holds : LateHolds n setting.asked c.result
   pub closed : LateLabelsAreClosed n c setting
-
--- no journey that is in time starts later than the one that is claimed; or none is in time
-abbrev pub IsLateResult : NetworkLists → Asked → Option Route → Type 0
-IsLateResult n asked (Some claimed) = IsLatest n asked claimed
-IsLateResult n asked None = HasNoneInTime n asked
 
 -- the line asks this, and the result is right
 pub record ProvesLate (n : NetworkLists) (c : LateClaim) : Type 0 where

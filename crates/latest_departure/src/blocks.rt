@@ -6,23 +6,16 @@ ghost use Rattle.mode_expression.specs.Form.{form_of, IsUsable};
 ghost use Rattle.service_days.specs.Clock.{clock_text_of};
 ghost use Rattle.journey.specs.Blocks.{AddsText, IsPrintable};
 ghost use Rattle.journey.specs.Queries.{IsQuery};
-ghost use Rattle.journey.specs.Texts.{IsJourneyText};
-ghost use Rattle.latest_departure.specs.Blocks.{IsLateText, IsBlockOf, IsAnswerBlock, IsLateBlock};
+ghost use Rattle.latest_departure.specs.Blocks.{IsLateText, IsResultText, IsAnswerBlock, IsLateBlock};
 
 use crate::backwards::Backwards;
 use crate::departing::find_latest;
-use journey::{BlockBody, Query, QueryFault, block, read_query};
+use journey::{BlockBody, Query, QueryFault, block, framed, push_journey, read_query};
 use mode_network::{Journey, Network};
 use plain_texts::push_line_feed;
 use product_search::Workspace;
 use search_laws::Time;
 use std::alloc::{AllocError, Global};
-
-/// What stands before and behind the body of the block of an empty line: `query` with a space and a line feed, and `end`
-/// with a line feed.
-const BEFORE: usize = 7;
-
-const BEHIND: usize = 4;
 
 /// The line of a departure.
 fn push_departure(out: &mut Vec<u8>, network: &Network, t: Time) -> Result<(), AllocError>
@@ -33,53 +26,36 @@ fn push_departure(out: &mut Vec<u8>, network: &Network, t: Time) -> Result<(), A
     push_line_feed(out)
 }
 
-/// Appends what any block prints of a journey.
-fn push_journey(
-    alloc: Global,
-    out: &mut Vec<u8>,
-    network: &Network,
-    journey: Journey,
-) -> Result<(), AllocError>
-    requires { IsPrintable network.now journey }
-    ensures { OnOk result (AddsText (IsJourneyText network.now journey) out.old.items out.new.items) }
-{
-    let text = block(alloc, network, b"", &BlockBody::Journey(journey))?;
-    out.extend_from_slice(&text[BEFORE..text.len() - BEHIND])?;
-    Ok(())
-}
-
 /// Appends when a journey departs, and then what any block prints of it.
 fn push_late(
     alloc: Global,
     out: &mut Vec<u8>,
     network: &Network,
-    journey: Journey,
+    journey: &Journey,
 ) -> Result<(), AllocError>
-    requires { IsPrintable network.now journey }
-    ensures { OnOk result (AddsText (IsLateText network.now journey) out.old.items out.new.items) }
+    requires { IsPrintable network.now journey.now }
+    ensures { OnOk result (AddsText (IsLateText network.now journey.now) out.old.items out.new.items) }
 {
     push_departure(out, network, journey.at)?;
     push_journey(alloc, out, network, journey)?;
     Ok(())
 }
 
-/// The block of a line with this journey.
-fn journey_block(
+/// Appends what is printed of a journey, or of the answer that there is none.
+fn push_answer(
     alloc: Global,
+    out: &mut Vec<u8>,
     network: &Network,
-    line: &[u8],
-    journey: Journey,
-) -> Result<Vec<u8>, AllocError>
-    requires { IsPrintable network.now journey }
-    ensures { IfOk result (λ block. IsBlockOf network.now line.now journey block.items) }
+    answer: &Option<Journey>,
+) -> Result<(), AllocError>
+    requires { IfSome answer.now (IsPrintable network.now) }
+    ensures { OnOk result (AddsText (IsResultText network.now answer.now) out.old.items out.new.items) }
 {
-    let mut out = Vec::new(alloc);
-    out.extend_from_slice(b"query ")?;
-    out.extend_from_slice(line)?;
-    push_line_feed(&mut out)?;
-    push_late(alloc, &mut out, network, journey)?;
-    out.extend_from_slice(b"end\n")?;
-    Ok(out)
+    match answer {
+        Some(journey) => push_late(alloc, out, network, journey)?,
+        None => out.extend_from_slice(b"no journey\n")?,
+    }
+    Ok(())
 }
 
 /// The block of a line with a journey, or with the answer that there is none.
@@ -87,21 +63,15 @@ pub fn answer_block(
     alloc: Global,
     network: &Network,
     line: &[u8],
-    journey: Option<Journey>,
+    answer: &Option<Journey>,
 ) -> Result<Vec<u8>, AllocError>
-    requires { IfSome journey (IsPrintable network.now) }
-    ensures { IfOk result (λ block. IsAnswerBlock network.now line.now journey block.items) }
+    requires { IfSome answer.now (IsPrintable network.now) }
+    ensures { IfOk result (λ block. IsAnswerBlock network.now line.now answer.now block.items) }
 {
-    match journey {
-        Some(journey) => {
-            let block = journey_block(alloc, network, line, journey)?;
-            Ok(block)
-        }
-        None => {
-            let block = block(alloc, network, line, &BlockBody::Nothing)?;
-            Ok(block)
-        }
-    }
+    let mut text = Vec::new(alloc);
+    push_answer(alloc, &mut text, network, answer)?;
+    let block = framed(alloc, line, &text)?;
+    Ok(block)
 }
 
 /// The right late block of a line that is this query.
@@ -118,12 +88,12 @@ fn query_block(
     ensures { IfOk result (λ block. IsLateBlock backwards.now.network line.now block.items) }
 {
     let journey = find_latest(alloc, workspace, backwards, query)?;
-    let block = answer_block(alloc, backwards.network(), line, journey)?;
+    let block = answer_block(alloc, backwards.network(), line, &journey)?;
     Ok(block)
 }
 
-/// The right late block of a query line: that of its refusal, of a journey that starts at the latest departure, or of the
-/// answer that there is none.
+/// The right late block of a query line: that of its refusal, of the best journey for its deadline, or of the answer that
+/// there is none.
 ///
 /// The table of what leads to each node and the workspace serve many lines.
 pub fn late_block(

@@ -1,54 +1,64 @@
 //! The latest departure.
 
-ghost use Rattle.std.specs.Prelude.{◌<◌, ◌^◌, All, IfOk};
+ghost use Rattle.std.specs.Prelude.{◌<◌, ◌^◌, Some, All, IfOk};
 ghost use Rattle.mode_expression.specs.Form.{form_of, IsUsable};
+ghost use Rattle.product_search.specs.Answer.{IsArrival};
+ghost use Rattle.automaton.specs.Collapsed.{collapsed};
 ghost use Rattle.journey.specs.Best.{asked_by};
 ghost use Rattle.journey.specs.Queries.{IsQuery};
 ghost use Rattle.latest_departure.specs.BackLists.{mirrored};
-ghost use Rattle.latest_departure.specs.Latest.{IsLate, AreLateLabels};
-ghost use Rattle.latest_departure.specs.MirrorWalk.{IsWalkBy, IsWayBack};
+ghost use Rattle.latest_departure.specs.Latest.{IsLate, AreLateLabels, span};
+ghost use Rattle.latest_departure.specs.Meanings.{reversed_meaning};
+ghost use Rattle.latest_departure.specs.Searches.{IsSearchFor};
 
 use crate::backwards::Backwards;
-use crate::mirror::Mirror;
-use crate::mirror_walk::from_mirror;
+use crate::forward::first_from;
 use crate::search::LateSearch;
 use journey::Query;
 use mode_network::{Journey, Network};
-use product_search::{
-    Best, Found, Label, Walk, Workspace, search as search_labels, search_best_with,
-};
+use product_search::{Best, Found, Label, Workspace, search as search_labels, search_best_with};
+use search_laws::Time;
 use std::alloc::{AllocError, Global};
 
-/// What is answered for a deadline: a journey that starts at the latest departure, if any journey is in time, and the
-/// labels of the search.
+/// What is answered for a deadline: the best journey, if any journey is in time, and the labels of the search.
 #[derive(Drop)]
 pub struct Late {
     pub journey: Option<Journey>,
     pub labels: Vec<Label>,
 }
 
-/// The journey of a walk that was found, if one was.
-fn journey_of(
+/// The best journey for a deadline, if there is a least mirrored moment within the span: the one that leaves then and arrives
+/// first.
+fn best_at(
     alloc: Global,
-    mirror: &Mirror<'_>,
-    walk: &Option<Walk>,
+    workspace: &mut Workspace,
+    backwards: &Backwards<'_>,
+    query: &Query,
+    search: &LateSearch<'_>,
+    moment: Option<Time>,
 ) -> Result<Option<Journey>, AllocError>
-    requires { IsWalkBy (mirrored mirror.now.backwards.now mirror.now.deadline) mirror.now.deadline walk.now }
-    ensures { IfOk result (IsWayBack mirror.now.backwards.now.network (mirrored mirror.now.backwards.now mirror.now.deadline) mirror.now.deadline walk.now) }
+    requires usable { IsUsable (form_of query.now.expr) }
+    requires search { IsSearchFor backwards.now (asked_by query.now) search.now }
+    requires moment { IsArrival (mirrored backwards.now query.now.depart) (collapsed (reversed_meaning search.now.automaton.inner))
+        search.now.starts.items search.now.targets.items 0 (Some (span backwards.now.network (asked_by query.now))) moment }
+    ensures { IfOk result (IsLate backwards.now.network (asked_by query.now)) }
 {
-    match walk {
-        Some(walk) => {
-            let journey = from_mirror(alloc, mirror, walk)?;
-            Ok(Some(journey))
+    backwards.known();
+    match moment {
+        Some(moment) => {
+            let at = query.depart - moment;
+            let journey = first_from(alloc, workspace, backwards.network(), query, search, at)?;
+            Ok(journey)
         }
         None => Ok(None),
     }
 }
 
-/// A journey that is at the destination by the deadline, and starts as late as any that is; None exactly where none is in time.
+/// A journey that is at the destination by the deadline and starts as late as any that is, and of those that start then
+/// arrives first; None exactly where none is in time.
 ///
-/// The time of a query is the deadline. The journey takes the arcs of the walk that the search finds, each as soon as it can.
-/// The table of what leads to each node and the workspace serve many queries.
+/// The time of a query is the deadline. The departure is found by a search through mirrored time, and the journey by one from
+/// there on. The table of what leads to each node and the workspace serve many queries.
 pub fn find_latest(
     alloc: Global,
     workspace: &mut Workspace,
@@ -59,7 +69,6 @@ pub fn find_latest(
     requires usable { IsUsable (form_of query.now.expr) }
     ensures { IfOk result (IsLate backwards.now.network (asked_by query.now)) }
 {
-    backwards.known();
     let search = LateSearch::new(alloc, backwards, query)?;
     let found = search_best_with(
         alloc,
@@ -71,9 +80,8 @@ pub fn find_latest(
         0,
         Some(search.span),
     )?;
-    let Best { arrival: _, walk } = found;
-    let journey = journey_of(alloc, &search.mirror, &walk)?;
-    Ok(journey)
+    let Best { arrival, walk: _ } = found;
+    best_at(alloc, workspace, backwards, query, &search, arrival)
 }
 
 /// What is answered for a deadline, with a table and a workspace of its own: such a journey, and exactly the labels of the
@@ -85,6 +93,7 @@ pub fn latest(alloc: Global, network: &Network, query: &Query) -> Result<Late, A
     ensures labels { IfOk result (λ late. AreLateLabels network.now (asked_by query.now) late.labels.items) }
     ensures times { IfOk result (λ late. All (λ x. x.at < 10 ^ 30) late.labels.items) }
 {
+    let mut workspace = Workspace::new(alloc);
     let backwards = Backwards::new(alloc, network)?;
     backwards.known();
     let search = LateSearch::new(alloc, &backwards, query)?;
@@ -98,10 +107,10 @@ pub fn latest(alloc: Global, network: &Network, query: &Query) -> Result<Late, A
         Some(search.span),
     )?;
     let Found {
-        arrival: _,
+        arrival,
         labels,
-        walk,
+        walk: _,
     } = found;
-    let journey = journey_of(alloc, &search.mirror, &walk)?;
+    let journey = best_at(alloc, &mut workspace, &backwards, query, &search, arrival)?;
     Ok(Late { journey, labels })
 }

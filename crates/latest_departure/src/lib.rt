@@ -1,12 +1,13 @@
-//! The latest departure for a deadline, by a search through the network in mirrored time.
+//! The latest departure for a deadline, by a search through the network in mirrored time, and the journey that leaves then and
+//! arrives first.
 #![tactic(auto)]
 
 mod backwards;
 mod blocks;
 mod departing;
+mod forward;
 mod laws;
 mod mirror;
-mod mirror_walk;
 mod reversed;
 mod search;
 mod source;

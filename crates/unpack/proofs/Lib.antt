@@ -1,2 +1,3 @@
 pub mod UnpackLemmas
+pub mod TakenLemmas
 pub mod PhaseLemmas

@@ -39,7 +39,8 @@ use Rattle.phase_graph.specs.Arcs.{phase_node}
 use Rattle.phase_graph.specs.PhaseArcs.{phase_arc, arc_of, arrival_of as arrives_along, entry_at, node_of, is_down}
 use Rattle.phase_graph.proofs.GraphLemmas.{half}
 use Rattle.phase_graph.proofs.WordLemmas.{same_letter, again}
-use Rattle.unpack.specs.Unpacking.{AreHopsIn, AreOnTime, IsSoon, with_wait, end_of, arrival_of, letters_of}
+use Rattle.journey.specs.Boarded.{AreOnTime}
+use Rattle.unpack.specs.Unpacking.{AreHopsIn, IsSoon, with_wait, end_of, arrival_of, letters_of}
 use Rattle.unpack.specs.PhaseUnpacking.{letters_in, IsUnpacked, GoesOn, GoesOnByArc, road_step, GoesOnByRoads, AreWaiting, weight_of, ArePartsOf}
 use Rattle.unpack.proofs.UnpackLemmas.{leaves, behind, arc_soon, are_real, plain_letters}
 

@@ -20,6 +20,7 @@ use Rattle.mode_network.specs.NetworkLists.{NetworkLists}
 use Rattle.mode_network.specs.Rules.{IsNetwork}
 use Rattle.mode_network.specs.Timetables.{IsTimetableOf}
 use Rattle.mode_network.specs.Journeys.{IsStep, AreSteps}
+use Rattle.journey.specs.Boarded.{AreOnTime, DepartsAt}
 use Rattle.product_search.specs.declared.label.Hop.{Hop}
 use Rattle.plain_graph.specs.declared.plain.PlainArc.{PlainArc}
 use Rattle.plain_graph.specs.declared.plain.PlainArc.TheVariants.{Road as RoadArc, Link as LinkArc, Stand as StandArc, Ride as RideArc}
@@ -29,7 +30,7 @@ use Rattle.plain_graph.specs.OutArcs.{IsOut, out_of}
 use Rattle.plain_graph.specs.Rides.{alights_within, takes}
 use Rattle.plain_graph.proofs.Same.{step_at}
 use Rattle.unpack.specs.PhaseUnpacking.{letters_in}
-use Rattle.unpack.specs.Unpacking.{AreHopsIn, ArePlainHops, HaveArcs, AreOnTime, DepartsAt, IsSoon, leaves_at, with_wait, steps_of, end_of, arrival_of, letters_of}
+use Rattle.unpack.specs.Unpacking.{AreHopsIn, ArePlainHops, HaveArcs, IsSoon, leaves_at, with_wait, steps_of, end_of, arrival_of, letters_of}
 
 module _ (n : NetworkLists) (network : IsNetwork n) (table : TableLists) (keeps : IsTable table) (of : IsTimetableOf n table) where
   -- a step leaves at t or later, and can be taken then; where it is a ride, it departs then

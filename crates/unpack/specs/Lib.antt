@@ -1,2 +1,3 @@
 pub mod Unpacking
+pub mod Taken
 pub mod PhaseUnpacking

@@ -12,7 +12,8 @@ use Rattle.hierarchy.specs.Hops.{Hop as RoadHop, AreHops, total}
 use Rattle.hierarchy.specs.Lists.{HierarchyLists}
 use Rattle.product_search.specs.declared.label.Hop.{Hop}
 use Rattle.phase_graph.specs.PhaseArcs.{phase_meaning, node_of}
-use Rattle.unpack.specs.Unpacking.{AreOnTime, IsSoon}
+use Rattle.journey.specs.Boarded.{AreOnTime}
+use Rattle.unpack.specs.Unpacking.{IsSoon}
 
 -- the letters of hops through a graph, from v on
 abbrev pub letters_in : GraphMeaning → ℕ → List Hop → List ℕ

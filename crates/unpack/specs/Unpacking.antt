@@ -1,12 +1,10 @@
 -- The journey of a walk through the graph of a network.
-use Rattle.std.specs.Prelude.{◌≡◌, ℕ, ◌<◌, ◌^◌, nat_lt, List, [], ◌∷◌, ◌++◌, Option, Some, None, option_to_list, slice_index_or, if◌then◌else◌}
+use Rattle.std.specs.Prelude.{◌≡◌, ℕ, ◌<◌, ◌^◌, nat_lt, List, [], ◌∷◌, ◌++◌, Option, Some, None, option_to_list, if◌then◌else◌}
 use Rattle.search_laws.specs.GraphLaws.{GraphMeaning, HasArc}
-use Rattle.timetable_arcs.specs.Trips.{departure_of}
-use Rattle.timetable_arcs.specs.Patterns.{TableLists, departs, no_trip, no_call}
+use Rattle.timetable_arcs.specs.Patterns.{TableLists, departs}
 use Rattle.mode_network.specs.declared.steps.Step.{Step}
 use Rattle.mode_network.specs.declared.steps.Step.TheVariants.{Wait, Road, Link, Stand, Ride}
 use Rattle.mode_network.specs.NetworkLists.{NetworkLists}
-use Rattle.mode_network.specs.Journeys.{IsStep, AreSteps}
 use Rattle.product_search.specs.declared.label.Hop.{Hop}
 use Rattle.plain_graph.specs.PlainArcs.{plain_meaning, plain_arc, graph_arc}
 use Rattle.plain_graph.specs.Simulation.{step_of}
@@ -55,22 +53,6 @@ letters_of n table v (hop ∷ hops) = option_to_list (graph_arc n table v (plain
 abbrev pub HaveArcs : NetworkLists → TableLists → ℕ → List Hop → Type 0
 HaveArcs n table v [] = Unit {0}
 HaveArcs n table v (hop ∷ hops) = HasArc (plain_meaning n table) v hop.arc × HaveArcs n table hop.to hops
-
--- the step is no ride, or one that departs at t
-abbrev pub DepartsAt : NetworkLists → ℕ → Step → Type 0
-DepartsAt n t (Wait until) = Unit {0}
-DepartsAt n t (Road to) = Unit {0}
-DepartsAt n t (Link to) = Unit {0}
-DepartsAt n t Stand = Unit {0}
-DepartsAt n t (Ride trip day board alight) =
-    t ≡ departure_of n.days.bases day (slice_index_or (slice_index_or n.trips trip no_trip).calls board no_call)
-
--- the steps lead from v at t to w at u, these are their letters, and each ride is boarded when it departs
-abbrev pub AreOnTime : NetworkLists → ℕ → ℕ → List Step → ℕ → ℕ → List ℕ → Type 0
-AreOnTime n v t [] w u letters = AreSteps n v t [] w u letters
-AreOnTime n v t (step ∷ steps) w u letters =
-    (v1 : ℕ) × (t1 : ℕ) × (letter : Option ℕ) × (rest : List ℕ)
-    × IsStep n v t step v1 t1 letter × DepartsAt n t step × AreOnTime n v1 t1 steps w u rest × (letters ≡ option_to_list letter ++ rest)
 
 -- a wait ends when runs still run, which is below 2 ^ 41
 abbrev pub IsSoon : Step → Type 0

@@ -2,10 +2,11 @@
 
 ghost use Rattle.std.specs.Prelude.{◌≡◌, ◌++◌, IfOk, OnOk, All};
 ghost use Rattle.mode_network.specs.Journeys.{AreSteps};
+ghost use Rattle.journey.specs.Boarded.{AreOnTime};
 ghost use Rattle.plain_graph.specs.Rides.{IsKnownRide, IsRideOf};
 ghost use Rattle.plain_graph.specs.declared.plain.PlainArc.TheVariants as plain_arc;
 ghost use Rattle.plain_graph.specs.Simulation.{step_of};
-ghost use Rattle.unpack.specs.Unpacking.{ArePlainHops, HaveArcs, AreOnTime, IsSoon, steps_of, with_wait, end_of, arrival_of, letters_of};
+ghost use Rattle.unpack.specs.Unpacking.{ArePlainHops, HaveArcs, IsSoon, steps_of, with_wait, end_of, arrival_of, letters_of};
 
 use mode_network::{Journey, Step};
 use plain_graph::{Plain, PlainArc};

@@ -6,23 +6,19 @@ use Rattle.automaton.specs.Meanings.{position_meaning}
 use Rattle.automaton.specs.declared.positions.Positions.{Positions}
 use Rattle.mode_expression.specs.Form.{Denotes, form_of}
 use Rattle.journey.specs.Best.{asked_by}
+use Rattle.unpack.proofs.TakenLemmas.{walk_is_plain}
 use Rattle.few_boardings.specs.Counted.{counted}
 use Rattle.few_boardings.specs.Rounds.{IsLeastBelow}
-use Rattle.few_boardings.proofs.FoundLemmas.{few_of, walk_is_plain, found_below}
+use Rattle.few_boardings.proofs.FoundLemmas.{few_of, found_below}
 use Rattle.few_boardings.proofs.boardings.least_below.Goals as goal
 
 pub unpacked-requires : goal.unpacked-requires
 unpacked-requires c =
     let n = c.args.network.now in
-    let collapsing = c.new-collapsed.result in
-    let inner = position_meaning collapsing.inner in
-    let same = sym c.new-collapsed.ensures.same in
-    let denotes = subst (λ (p : Positions). (word : List ℕ) → Accepts (position_meaning p) word ↔ Denotes c.args.query.now.expr word) same c.in_ok-of.ensures.accepts in
-    let collapses = subst (λ (p : Positions). AcceptsCollapsed (position_meaning p)) same c.new-collapsed.ensures.accepts in
-    let few = few_of (form_of c.args.query.now.expr) inner (c.args.limit - 1) denotes collapses c.new-labels.ensures.accepts in
+    let inner = position_meaning c.new-collapsed.result.inner in
     let walk = rw (c.new-plain.ensures.network, c.deref.ensures.value, c.deref-2.ensures.value, c.new-labels.ensures.same, c.new-labels.ensures.limit) at c.in_ok-best.ensures.walk in
-    rw c.new-plain.ensures.network (walk_is_plain n c.known.ensures c.new-plain.result.timetable.now (asked_by c.args.query.now) (counted (collapsed inner) (c.args.limit - 1)) (c.args.limit - 1)
-    c.in_ok-starts.starts.items c.in_ok-targets.targets.items few c.new-plain.ensures.journeys c.in_ok-starts.ensures.are c.in_ok-targets.ensures.are _ _ walk)
+    rw c.new-plain.ensures.network (walk_is_plain n c.new-plain.result.timetable.now (asked_by c.args.query.now) (counted (collapsed inner) (c.args.limit - 1))
+    c.in_ok-starts.starts.items c.in_ok-targets.targets.items c.in_ok-starts.ensures.are c.in_ok-targets.ensures.are _ _ walk)
 
 pub returns : goal.returns
 returns c =

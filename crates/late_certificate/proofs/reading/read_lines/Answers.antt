@@ -4,23 +4,23 @@ use Rattle.plain_texts.specs.Course.{lines_from}
 use Rattle.plain_texts.specs.Lines.{next_line_of, pieces}
 use Rattle.late_certificate.specs.declared.due.Due.TheVariants as due
 use Rattle.late_certificate.specs.Sections.{is_last, line_at}
-use Rattle.late_certificate.specs.Reading.{late_of, put, put_all}
-use Rattle.certificate.proofs.OneLine.{is_some}
-use Rattle.late_certificate.proofs.OneLine.{no_line, bad_line, last_line, more_lines, good_line}
+use Rattle.certificate.specs.Making.{made_by}
+use Rattle.late_certificate.specs.Reading.{late_of, put}
+use Rattle.certificate.proofs.OneLine.{is_some, no_line, bad_line, last_line, more_lines, good_line}
 use Rattle.late_certificate.proofs.reading.read_lines.Goals as goal
 
 pub loop-line-init : goal.loop-line-init
 unfolding late_of
-loop-line-init c = (ap (λ x. put_all x (lines_from line_at is_last due.Head 1 (pieces c.args.text.now))) c.nothing-certificate.ensures, omega arith)
+loop-line-init c = (ap (λ x. made_by put x (lines_from line_at is_last due.Head 1 (pieces c.args.text.now))) c.nothing-certificate.ensures, omega arith)
 
 pub returns-in_default : goal.returns-in_default
-returns-in_default c = sym c.loop-line.invariant.0 ∙ no_line c.loop-line.certificate c.loop-line.place c.loop-line.at c.loop-line.rest.now (sym c.in_default.ensures.line)
+returns-in_default c = sym c.loop-line.invariant.0 ∙ no_line put line_at is_last c.loop-line.certificate c.loop-line.place c.loop-line.at c.loop-line.rest.now (sym c.in_default.ensures.line)
 
 pub returns-in_default-2 : goal.returns-in_default-2
 returns-in_default-2 c =
     let cut : next_line_of c.loop-line.rest.now ≡ Some (c.in-Some.line.now, c.in-Some.behind.now) = search rules in
     let unread : line_at c.loop-line.place c.in-Some.line.now ≡ None = search rules in
-    sym c.loop-line.invariant.0 ∙ bad_line c.loop-line.certificate c.loop-line.place c.loop-line.at c.loop-line.rest.now _ _ cut unread
+    sym c.loop-line.invariant.0 ∙ bad_line put line_at is_last c.loop-line.certificate c.loop-line.place c.loop-line.at c.loop-line.rest.now _ _ cut unread
 
 pub returns-then-not-is_empty : goal.returns-then-not-is_empty
 returns-then-not-is_empty c =
@@ -28,7 +28,7 @@ returns-then-not-is_empty c =
     let read : line_at c.loop-line.place c.in-Some.line.now ≡ Some (c.in-Some-2.line, c.in-Some-2.next) = search rules in
     let last : is_last c.in-Some-2.next ≡ true = search rules in
     let some : 0 < length c.in-Some.behind.now = is_some c.in-Some.behind.now (sym c.is_empty.ensures ∙ c.if-not-is_empty.true) in
-    sym c.loop-line.invariant.0 ∙ more_lines c.loop-line.certificate c.loop-line.place c.loop-line.at c.loop-line.rest.now _ _ _ _ cut read last some
+    sym c.loop-line.invariant.0 ∙ more_lines put line_at is_last c.loop-line.certificate c.loop-line.place c.loop-line.at c.loop-line.rest.now _ _ _ _ cut read last some
 
 pub returns-then-is_last : goal.returns-then-is_last
 returns-then-is_last c =
@@ -37,7 +37,7 @@ returns-then-is_last c =
     let last : is_last c.in-Some-2.next ≡ true = search rules in
     let none : length c.in-Some.behind.now ≡ 0 = search rules in
     let put_is : c.put.new.certificate ≡ put c.loop-line.certificate c.in-Some-2.line = search rules in
-    sym c.loop-line.invariant.0 ∙ last_line c.loop-line.certificate c.loop-line.place c.loop-line.at c.loop-line.rest.now _ _ _ _ cut read last none ∙ ap Ok (sym put_is)
+    sym c.loop-line.invariant.0 ∙ last_line put line_at is_last c.loop-line.certificate c.loop-line.place c.loop-line.at c.loop-line.rest.now _ _ _ _ cut read last none ∙ ap Ok (sym put_is)
 
 pub loop-line-preserved : goal.loop-line-preserved
 loop-line-preserved c =
@@ -45,7 +45,7 @@ loop-line-preserved c =
     let read : line_at c.loop-line.place c.in-Some.line.now ≡ Some (c.in-Some-2.line, c.in-Some-2.next) = search rules in
     let going : is_last c.in-Some-2.next ≡ false = search rules in
     let put_is : c.put.new.certificate ≡ put c.loop-line.certificate c.in-Some-2.line = search rules in
-    let step = good_line c.loop-line.certificate c.loop-line.place c.loop-line.at c.loop-line.rest.now _ _ _ _ cut read going in
-    let kept : put_all c.put.new.certificate (lines_from line_at is_last c.in-Some-2.next (c.loop-line.at + 1) (pieces c.in-Some.behind.now)) ≡ late_of c.args.text.now
-    = ap (λ n. put_all n (lines_from line_at is_last c.in-Some-2.next (c.loop-line.at + 1) (pieces c.in-Some.behind.now))) put_is ∙ sym step ∙ c.loop-line.invariant.0 in
+    let step = good_line put line_at is_last c.loop-line.certificate c.loop-line.place c.loop-line.at c.loop-line.rest.now _ _ _ _ cut read going in
+    let kept : made_by put c.put.new.certificate (lines_from line_at is_last c.in-Some-2.next (c.loop-line.at + 1) (pieces c.in-Some.behind.now)) ≡ late_of c.args.text.now
+    = ap (λ n. made_by put n (lines_from line_at is_last c.in-Some-2.next (c.loop-line.at + 1) (pieces c.in-Some.behind.now))) put_is ∙ sym step ∙ c.loop-line.invariant.0 in
     (kept, omega (arith, c.in-Some.ensures.shorter))

@@ -2,12 +2,13 @@ use Rattle.std.proofs.Common.{◌≡◌, ◌≤◌, ◌+◌, length}
 use Rattle.plain_texts.specs.Course.{lines_from}
 use Rattle.plain_texts.specs.Lines.{pieces}
 use Rattle.late_certificate.specs.Sections.{is_last, line_at}
-use Rattle.late_certificate.specs.Reading.{late_of, put_all}
+use Rattle.certificate.specs.Making.{made_by}
+use Rattle.late_certificate.specs.Reading.{late_of, put}
 use Rattle.late_certificate.proofs.reading.read_lines.Given as goal
 
 abbrev pub invariant-loop-line : goal.invariant-loop-line
 invariant-loop-line l =
-    (put_all l.certificate (lines_from line_at is_last l.place l.at (pieces l.rest)) ≡ late_of l.fn.text)
+    (made_by put l.certificate (lines_from line_at is_last l.place l.at (pieces l.rest)) ≡ late_of l.fn.text)
     × (l.at + length l.rest ≤ length l.fn.text + 1)
 
 abbrev pub decreases-loop-line : goal.decreases-loop-line

@@ -2,7 +2,7 @@ use Rattle.std.proofs.Common.{subst}
 use Rattle.mode_network.specs.NetworkLists.{NetworkLists}
 use Rattle.journey.specs.Best.{asked_by}
 use Rattle.latest_departure.specs.Latest.{IsLate, AreLateLabels}
-use Rattle.latest_departure.proofs.SearchLemmas.{over, search_walk, search_late}
+use Rattle.latest_departure.proofs.SearchLemmas.{over}
 use Rattle.latest_departure.proofs.departing.latest.Goals as goal
 
 pub search-requires-clause-starts : goal.search-requires-clause-starts
@@ -11,21 +11,13 @@ search-requires-clause-starts c = rw (c.in_ok-search.ensures.backwards, c.deref.
 pub search-requires-clause-targets : goal.search-requires-clause-targets
 search-requires-clause-targets c = rw (c.in_ok-search.ensures.backwards, c.deref-2.ensures.value) c.in_ok-search.ensures.ends.target_nodes
 
-pub journey_of-requires : goal.journey_of-requires
-journey_of-requires c =
+pub best_at-requires-clause-moment : goal.best_at-requires-clause-moment
+best_at-requires-clause-moment c =
     let is = c.in_ok-search.ensures in
-    let arrival = rw (is.backwards, is.by, is.back_to, c.deref.ensures.value, c.deref-2.ensures.value) at c.in_ok-found.ensures.arrival in
-    let walk = rw (is.backwards, is.by, c.deref.ensures.value, c.deref-2.ensures.value) at c.in_ok-found.ensures.walk in
-    rw (is.backwards, is.by) (search_walk c.in_ok-backwards.backwards c.known.ensures (asked_by c.args.query.now) c.in_ok-search.search is c.requires.usable _ _ arrival walk)
+    rw (is.backwards, is.by, is.back_to, c.deref.ensures.value, c.deref-2.ensures.value) at c.in_ok-found.ensures.arrival
 
 pub returns-clause-journey : goal.returns-clause-journey
-returns-clause-journey c =
-    let is = c.in_ok-search.ensures in
-    let arrival = rw (is.backwards, is.by, is.back_to, c.deref.ensures.value, c.deref-2.ensures.value) at c.in_ok-found.ensures.arrival in
-    let walk = rw (is.backwards, is.by, c.deref.ensures.value, c.deref-2.ensures.value) at c.in_ok-found.ensures.walk in
-    let back = rw (is.backwards, is.by) at c.in_ok-journey.ensures in
-    subst (λ (n : NetworkLists). IsLate n (asked_by c.args.query.now) c.in_ok-journey.journey) c.in_ok-backwards.ensures
-    (search_late c.in_ok-backwards.backwards c.known.ensures (asked_by c.args.query.now) c.in_ok-search.search is c.requires.usable _ _ _ arrival walk back)
+returns-clause-journey c = subst (λ (n : NetworkLists). IsLate n (asked_by c.args.query.now) c.in_ok-journey.journey) c.in_ok-backwards.ensures c.in_ok-journey.ensures
 
 pub returns-clause-labels : goal.returns-clause-labels
 returns-clause-labels c =

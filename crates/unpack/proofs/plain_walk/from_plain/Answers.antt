@@ -2,7 +2,8 @@ use Rattle.std.proofs.Common.{List, ◌∙◌, ap, sym, subst}
 use Rattle.std.specs.Prelude.{All}
 use Rattle.timetable_arcs.specs.Table.{IsTable}
 use Rattle.mode_network.specs.declared.steps.Step.{Step}
-use Rattle.unpack.specs.Unpacking.{AreOnTime, IsSoon, steps_of, end_of, arrival_of, letters_of}
+use Rattle.journey.specs.Boarded.{AreOnTime}
+use Rattle.unpack.specs.Unpacking.{IsSoon, steps_of, end_of, arrival_of, letters_of}
 use Rattle.unpack.proofs.UnpackLemmas.{hops_on_time, are_real, have_arcs, steps_soon}
 use Rattle.unpack.proofs.plain_walk.from_plain.Goals as goal
 

@@ -1,0 +1,33 @@
+-- Of the journeys that leave at a time or later, one that leaves then and arrives first.
+use Rattle.std.specs.Prelude.{◌≡◌, ℕ, Option, Some, None}
+use Rattle.timetable_arcs.specs.Patterns.{TableLists}
+use Rattle.mode_network.specs.NetworkLists.{NetworkLists}
+use Rattle.mode_network.specs.Journeys.{Route}
+use Rattle.product_search.specs.declared.label.Walk.{Walk}
+use Rattle.unpack.specs.Taken.{TakesHops}
+use Rattle.journey.specs.Boarded.{BoardsOnTime}
+use Rattle.journey.specs.Best.{Asked, IsBest, HasNone}
+use Rattle.journey.specs.Blocks.{IsPrintable}
+
+-- the same, asked from this time on
+abbrev pub leaving : Asked → ℕ → Asked
+leaving q t = record q { depart = t }
+
+-- the journey leaves when it is asked for, and arrives first; each of its rides is boarded when it departs
+pub record IsFirst (n : NetworkLists) (q : Asked) (j : Route) : Type 0 where
+  pub leaves : j.at ≡ q.depart
+  pub best : IsBest n q j
+  pub boarded : BoardsOnTime n j
+  pub printable : IsPrintable n j
+
+-- such a journey, or None where no journey answers
+abbrev pub IsFirstIfAny : NetworkLists → Asked → Option Route → Type 0
+IsFirstIfAny n q None = HasNone n q
+IsFirstIfAny n q (Some j) = IsFirst n q j
+
+-- the journey of a walk, if there is one
+abbrev pub IsUnpacked : NetworkLists → TableLists → Option Walk → Option Route → Type 0
+IsUnpacked n table None None = Unit {0}
+IsUnpacked n table None (Some j) = ⊥
+IsUnpacked n table (Some walk) None = ⊥
+IsUnpacked n table (Some walk) (Some j) = TakesHops n table walk j
