@@ -249,7 +249,8 @@ fn clear_at(first: &mut Vec<u32>, chain: usize)
     }
 }
 
-/// A count as a number of 32 bits; fails where it has more.
+/// A count as a number of 32 bits. At 2^32 - 1 product states it fails as if memory had run out: a link, which is a number
+/// and 1, would not fit.
 fn number_of(count: usize) -> Result<u32, AllocError>
     ensures count { IfOk result (λ n. n ≡ count) }
     ensures small { IfOk result (λ n. n + 1 < 2 ^ 32) }

@@ -21,7 +21,7 @@ use std::alloc::{AllocError, Global};
 /// a node twice. The answer has the arrival, a walk without waits that has it, and the least arrivals of all
 /// product states that are reached before, or where no walk counts, of all that are reached within the bound.
 /// Without a bound the labels are closed, as `check_labels` looks for it. No time in the answer is above `dep + 2^98`.
-/// Fails where memory runs out.
+/// Fails where memory runs out, and where 2^32 - 1 product states are reached.
 ///
 /// The method is Dijkstra's, over pairs of a node and a state, as Barrett, Jacob and Marathe use it for languages.
 pub fn search<G: Graph, L: Labels>(
