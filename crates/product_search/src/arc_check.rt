@@ -8,8 +8,8 @@ ghost use Rattle.product_search.specs.Closed.{IsListedBy, IsInOrderAt, ArcIsList
 use crate::label::Label;
 use crate::listing::is_before;
 use crate::lookup::is_listed;
-use crate::moves::has_letter;
-use search_laws::{Graph, GraphArc, Labels, Move, Time};
+use crate::moves::{has_letter, letters_after};
+use search_laws::{Graph, GraphArc, Labels, Move, Time, is_open};
 
 /// The first label with an arc that leads to an unlisted product state, or to one that is listed too late.
 pub(crate) fn first_open_arcs<G: Graph, L: Labels>(
@@ -33,7 +33,7 @@ pub(crate) fn first_open_arcs<G: Graph, L: Labels>(
     None
 }
 
-/// Whether all arcs of a label lead to what is listed.
+/// Whether all arcs of a label lead to what is listed. Those by which no move leaves its state are passed over, letter by letter.
 fn arcs_are_listed<G: Graph, L: Labels>(
     graph: &G,
     labels: &L,
@@ -47,8 +47,16 @@ fn arcs_are_listed<G: Graph, L: Labels>(
     requires time { label.at < 2 ^ 127 }
     ensures { IsTrue result ↔ ArcsAreListed (G.meaning graph.now) (L.automaton labels.now) arrival list.now label }
 {
-    for i in 0..graph.arcs(label.node) {
-        if !arc_is_listed(graph, labels, arrival, list, label, i) {
+    let letters = letters_after(labels, label.state);
+    let arcs = graph.arcs(label.node);
+    let mut i = 0;
+    'arcs: while i < arcs {
+        let arc = graph.arc_at(label.node, i);
+        if !is_open(letters, arc.letter) {
+            i = graph.past_letter(label.node, i);
+        } else if arc_is_listed(graph, labels, arrival, list, label, i) {
+            i += 1;
+        } else {
             return false;
         }
     }

@@ -80,7 +80,7 @@ fn letter_sets<L: Labels>(alloc: Global, labels: &L) -> Result<Vec<u32>, AllocEr
 }
 
 /// The letters by which moves leave a state, as bits.
-fn letters_after<L: Labels>(labels: &L, state: u32) -> u32
+pub(crate) fn letters_after<L: Labels>(labels: &L, state: u32) -> u32
     requires { state < (L.automaton labels.now).states }
     ensures { HasLetters (L.automaton labels.now) state result }
 {

@@ -105,6 +105,17 @@ pub trait Graph {
         requires time { t < 2 ^ 127 }
         ensures { result ≡ (meaning self.now).arrive v i t };
 
+    /// A place behind `i` such that all arcs of the node `v` from `i` up to there have one letter, or none. It may be the next.
+    fn past_letter(&self, v: u32, i: u64) -> u64
+        requires node { v < (meaning self.now).nodes }
+        requires arc { i < (meaning self.now).arcs v }
+        ensures later { i < result }
+        ensures within { result ≤ (meaning self.now).arcs v }
+        ensures same { (k : ℕ) → i ≤ k → k < result → ((meaning self.now).arc_at v k).letter ≡ ((meaning self.now).arc_at v i).letter }
+    {
+        self.arcs(v).min(i + 1)
+    }
+
     /// The steady arcs of a node.
     ghost steady_of: { Self → ℕ → Steady };
 
