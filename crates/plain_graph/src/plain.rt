@@ -12,7 +12,9 @@ ghost use Rattle.plain_graph.specs.Rides.{IsPastBoard};
 ghost use Rattle.plain_graph.specs.Lawful.{IsLawfulGraph-prop};
 
 use mode_network::{Arc, Network};
-use search_laws::{GivenRun, GivenRuns, Graph, GraphArc, Leg, Steady, Time, Way, is_open};
+use search_laws::{
+    GivenRun, GivenRuns, Graph, GraphArc, Leg, Steady, Time, Way, is_open, moving_letters,
+};
 use std::alloc::AllocError;
 use timetable_arcs::{Board, Call, PlacedRun, Ride, Timetable};
 
@@ -567,11 +569,13 @@ impl Graph for Plain<'_> {
         v: u32,
         t: Time,
         letters: u32,
+        leaving: u32,
         state: u32,
         given: &mut GivenRuns,
         ways: &mut Vec<Way>,
     ) -> Result<(), AllocError> {
-        self.push_fresh_past_roads(v, t, letters, state, given, ways)
+        let moving = moving_letters(letters, leaving, self.network.mode(v));
+        self.push_fresh_past_roads(v, t, moving, state, given, ways)
     }
 
     ghost lawful = { λ g. g.lawful };

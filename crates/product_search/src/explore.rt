@@ -13,7 +13,8 @@ use search_laws::{GivenRuns, Graph, GraphArc, Labels, Steady, Time, Way};
 use std::alloc::AllocError;
 
 /// Offers what each arc out of a settled product state leads to within the bound, but for rides as good as those that its
-/// state was given, which are reached already. Notes the runs whose rides it offers. What `ways` holds is lost.
+/// state was given and arcs that lead back to it at once, as what these lead to is reached already. Notes the runs whose rides it
+/// offers. What `ways` holds is lost.
 ///
 /// The steady arcs are offered one by one, and the others from a list.
 pub(crate) fn explore<G: Graph, L: Labels>(
@@ -32,6 +33,7 @@ pub(crate) fn explore<G: Graph, L: Labels>(
     requires time { from.at < 2 ^ 127 }
     requires right { IsQueueRight frontier.old }
     requires settled { IsSettledBy frontier.old from.at }
+    requires here { IsReachedBy frontier.old from.node from.state from.at }
     requires given { AreGivenReached (G.rides graph.now) (L.automaton labels.now) bound frontier.old given.old }
     ensures right { OnOk result (IsQueueRight frontier.new) }
     ensures offers { OnOk result (Offers frontier.old frontier.new
@@ -43,8 +45,10 @@ pub(crate) fn explore<G: Graph, L: Labels>(
     let steady = graph.steady(from.node);
     explore_steady(frontier, graph, labels, moves, bound, from, steady)?;
     ways.clear();
-    let letters = moves.letters_of(from.state);
-    graph.fresh_ways(from.node, from.at, letters, from.state, given, ways)?;
+    let state = from.state;
+    let letters = moves.letters_of(state);
+    let leaving = moves.leaving(state);
+    graph.fresh_ways(from.node, from.at, letters, leaving, state, given, ways)?;
     explore_ways(frontier, labels, moves, bound, from, ways)?;
     Ok(())
 }

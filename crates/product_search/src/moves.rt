@@ -1,7 +1,7 @@
 //! The moves of an automaton as a search looks them up.
 
 ghost use Rattle.std.specs.Prelude.{◌≡◌, [], ◌+◌, ◌*◌, ◌<◌, length, IfOk, IsTrue, IsBitSet, ◌↔◌, slice_index, slice_index_or};
-ghost use Rattle.product_search.specs.MoveTables.{IsTableOf, AreTargets, HasLetters, AreTargetLists, AreLetterSets};
+ghost use Rattle.product_search.specs.MoveTables.{IsTableOf, AreTargets, HasLetters, AreTargetLists, AreLetterSets, HasLeaving, AreLeavingSets};
 
 use search_laws::{Labels, Move};
 use std::alloc::{AllocError, Global};
@@ -37,6 +37,8 @@ impl Targets {
 pub(crate) struct MoveTable {
     /// For each state the letters of its moves, as bits.
     pub letters: Vec<u32>,
+    /// For each state the letters of its moves that lead to another one, as bits.
+    pub leaving: Vec<u32>,
     /// For each state and then each letter, where its moves lead to.
     pub targets: Vec<Targets>,
 }
@@ -47,6 +49,7 @@ impl MoveTable {
     {
         Ok(MoveTable {
             letters: letter_sets(alloc, labels)?,
+            leaving: leaving_sets(alloc, labels)?,
             targets: target_lists(alloc, labels)?,
         })
     }
@@ -57,6 +60,14 @@ impl MoveTable {
         ensures { result ≡ slice_index self.now.letters.items state }
     {
         self.letters[state as usize]
+    }
+
+    /// The letters of the moves that lead from a state to another one, as bits.
+    pub fn leaving(&self, state: u32) -> u32
+        requires { state < length self.now.leaving.items }
+        ensures { result ≡ slice_index self.now.leaving.items state }
+    {
+        self.leaving[state as usize]
     }
 
     /// The states that the moves by a letter lead to from a state.
@@ -87,6 +98,32 @@ pub(crate) fn letters_after<L: Labels>(labels: &L, state: u32) -> u32
     let mut letters = 0;
     for j in 0..labels.moves(state) {
         letters |= labels.move_at(state, j).letters;
+    }
+    letters
+}
+
+/// The letters of the moves that lead from each state to another one.
+fn leaving_sets<L: Labels>(alloc: Global, labels: &L) -> Result<Vec<u32>, AllocError>
+    ensures { IfOk result (λ sets. AreLeavingSets (L.automaton labels.now) sets.items) }
+{
+    let mut sets = Vec::new(alloc);
+    for state in 0..labels.states() {
+        sets.push(letters_leaving(labels, state))?;
+    }
+    Ok(sets)
+}
+
+/// The letters of the moves that lead from a state to another one, as bits.
+fn letters_leaving<L: Labels>(labels: &L, state: u32) -> u32
+    requires { state < (L.automaton labels.now).states }
+    ensures { HasLeaving (L.automaton labels.now) state result }
+{
+    let mut letters = 0;
+    for j in 0..labels.moves(state) {
+        let step = labels.move_at(state, j);
+        if step.to != state {
+            letters |= step.letters;
+        }
     }
     letters
 }
