@@ -1,6 +1,7 @@
 //! The arcs out of a settled product state, each offered to the frontier.
 
 ghost use Rattle.std.specs.Prelude.{◌≡◌, ℕ, ◌+◌, ◌<◌, ◌≤◌, ◌^◌, false, None, Some, All, OnOk, IfSome, IsTrue, IsBitSet, ◌↔◌};
+ghost use Rattle.search_laws.specs.Letters.{IsLetter};
 ghost use Rattle.search_laws.specs.LabelLaws.{AllAfter, Follows};
 ghost use Rattle.product_search.specs.Reach.{IsWithin};
 ghost use Rattle.product_search.specs.Waiting.{IsQueueRight};
@@ -200,7 +201,7 @@ fn explore_ways<L: Labels>(
 ) -> Result<(), AllocError>
     requires table { IsTableOf (L.automaton labels.now) moves.now }
     requires state { from.state < (L.automaton labels.now).states }
-    requires letters { All (λ way. IfSome way.arc.letter (λ c. c < 14)) ways.now }
+    requires letters { All (λ way. IfSome way.arc.letter IsLetter) ways.now }
     requires times { All (λ way. from.at ≤ way.at) ways.now }
     requires right { IsQueueRight frontier.old }
     requires settled { IsSettledBy frontier.old from.at }
@@ -226,7 +227,7 @@ fn explore_way<L: Labels>(
 ) -> Result<(), AllocError>
     requires table { IsTableOf (L.automaton labels.now) moves.now }
     requires state { from.state < (L.automaton labels.now).states }
-    requires letter { IfSome way.arc.letter (λ c. c < 14) }
+    requires letter { IfSome way.arc.letter IsLetter }
     requires time { from.at ≤ way.at }
     requires right { IsQueueRight frontier.old }
     requires settled { IsSettledBy frontier.old from.at }
@@ -276,7 +277,7 @@ fn offer_states<L: Labels>(
 ) -> Result<(), AllocError>
     requires table { IsTableOf (L.automaton labels.now) moves.now }
     requires state { state < (L.automaton labels.now).states }
-    requires letter { IfSome arc.letter (λ c. c < 14) }
+    requires letter { IfSome arc.letter IsLetter }
     requires waits { way.settled ≡ false }
     requires right { IsQueueRight frontier.old }
     requires settled { IsSettledBy frontier.old way.at }
@@ -310,7 +311,7 @@ fn offer_moves<L: Labels>(
 ) -> Result<(), AllocError>
     requires table { IsTableOf (L.automaton labels.now) moves.now }
     requires state { state < (L.automaton labels.now).states }
-    requires letter { letter < 14 }
+    requires letter { IsLetter letter }
     requires waits { way.settled ≡ false }
     requires right { IsQueueRight frontier.old }
     requires settled { IsSettledBy frontier.old way.at }

@@ -1,14 +1,12 @@
 //! The moves of an automaton as a search looks them up.
 
-ghost use Rattle.std.specs.Prelude.{◌≡◌, [], ◌+◌, ◌*◌, ◌<◌, length, IfOk, IsTrue, IsBitSet, ◌↔◌, slice_index, slice_index_or};
+ghost use Rattle.std.specs.Prelude.{◌≡◌, [], ◌+◌, ◌*◌, ◌<◌, length, IfOk, slice_index, slice_index_or};
+ghost use Rattle.search_laws.specs.Letters.{IsLetter};
 ghost use Rattle.product_search.specs.MoveTables.{IsTableOf, AreTargets, HasLetters, AreTargetLists, AreLetterSets, HasLeaving, AreLeavingSets};
 
-use search_laws::{Labels, Move};
+use search_laws::{LETTERS, Labels};
 use std::alloc::{AllocError, Global};
 use std::marker::Model;
-
-/// How many letters there are.
-const LETTERS: u32 = 14;
 
 /// The states that moves by one letter lead to. A contract sees them as a list.
 #[derive(Drop)]
@@ -75,7 +73,7 @@ impl MoveTable {
         requires { 14 * state + letter < length self.now.targets.items }
         ensures { result.now ≡ slice_index_or self.now.targets.items (14 * state + letter) [] }
     {
-        self.targets[14 * state as usize + letter as usize].as_slice()
+        self.targets[LETTERS as usize * state as usize + letter as usize].as_slice()
     }
 }
 
@@ -147,23 +145,15 @@ fn targets_by<L: Labels>(
     letter: u8,
 ) -> Result<Targets, AllocError>
     requires state { state < (L.automaton labels.now).states }
-    requires letter { letter < 14 }
+    requires letter { IsLetter letter }
     ensures { IfOk result (AreTargets (L.automaton labels.now) state letter) }
 {
     let mut states = Vec::new(alloc);
     for j in 0..labels.moves(state) {
         let step = labels.move_at(state, j);
-        if has_letter(step, letter) {
+        if step.has_letter(letter) {
             states.push(step.to)?;
         }
     }
     Ok(Targets { states })
-}
-
-/// Whether a move is by the letter.
-pub(crate) fn has_letter(step: Move, letter: u8) -> bool
-    requires { letter < 14 }
-    ensures { IsTrue result ↔ IsBitSet step.letters letter }
-{
-    step.letters & (1 << letter) != 0
 }

@@ -2,6 +2,7 @@
 
 ghost use Rattle.std.specs.Prelude.{◌≡◌, ℕ, ◌<◌, ◌≤◌, ◌^◌, ◌++◌, [], OnOk, IfSome, IfNone};
 ghost use Rattle.search_laws.specs.GraphLaws.{GraphMeaning, IsLawfulGraph};
+ghost use Rattle.search_laws.specs.Letters.{IsLetter};
 ghost use Rattle.search_laws.specs.Ways.{IsLeg, is_open, moving_letters, open_way, ways_past};
 ghost use Rattle.search_laws.specs.Fresh.{RunRides, AddsMoving};
 
@@ -11,7 +12,7 @@ use std::alloc::AllocError;
 
 /// An arc as its node lists it: the node that it leads to, and the letter that it adds to the word, if any.
 ///
-/// Letters are below 14. An arc without a letter leaves the state of an automaton as it is.
+/// Letters are below [`LETTERS`](crate::LETTERS). An arc without a letter leaves the state of an automaton as it is.
 #[derive(Clone, Copy)]
 pub struct GraphArc {
     pub to: u32,
@@ -45,7 +46,7 @@ pub struct Way {
 
 /// Whether a letter is in a set, of which it is a bit, or there is none.
 pub fn is_open(letters: u32, letter: Option<u8>) -> bool
-    requires { IfSome letter (λ c. c < 14) }
+    requires { IfSome letter IsLetter }
     ensures { result ≡ is_open letters letter }
 {
     match letter {
@@ -58,7 +59,7 @@ pub fn is_open(letters: u32, letter: Option<u8>) -> bool
 /// or none if the letter is outside `leaving`, so that they need not be asked for.
 #[inline(always)]
 pub fn moving_letters(letters: u32, leaving: u32, letter: Option<u8>) -> u32
-    requires { IfSome letter (λ c. c < 14) }
+    requires { IfSome letter IsLetter }
     ensures { result ≡ moving_letters letters leaving letter }
 {
     if is_open(leaving, letter) { letters } else { 0 }
@@ -72,7 +73,7 @@ pub fn push_way(
     arc: GraphArc,
     at: Option<Time>,
 ) -> Result<(), AllocError>
-    requires { IfSome arc.letter (λ c. c < 14) }
+    requires { IfSome arc.letter IsLetter }
     ensures { OnOk result (ways.new.items ≡ ways.old.items ++ open_way letters place arc at) }
 {
     if is_open(letters, arc.letter) {
