@@ -1,4 +1,5 @@
-ghost use Rattle.std.specs.Prelude.{ℕ, ◌<◌, List, All};
+ghost use Rattle.std.specs.Prelude.{ℕ, List, All};
+ghost use Rattle.search_laws.specs.Letters.{IsLetter};
 ghost use Rattle.search_laws.specs.LabelLaws.{Accepts};
 ghost use Rattle.automaton.specs.Collapsed.{one_state};
 ghost use Rattle.automaton.specs.OneStateLaws.{one_lawful, one_road};
@@ -44,5 +45,5 @@ impl RoadLabels for OneState {
 
 /// The automaton of one state accepts each word of the fourteen letters.
 pub fn one_state_accepts()
-    ensures { (word : List ℕ) → All (λ c. c < 14) word → Accepts one_state word }
+    ensures { (word : List ℕ) → All IsLetter word → Accepts one_state word }
 {}

@@ -1,21 +1,12 @@
--- Walks of moves, as walks over numbered arcs; so a least arrival over these is the best of the network itself.
-use Rattle.std.proofs.Common.{◌≡◌, ℕ, ◌≤◌, Bool, true, false, List, [], ◌∷◌, ◌++◌, None, refl, sym, ap, subst, ◌∙◌, arith}
-use Rattle.std.specs.Prelude.{Option, Contains, option_to_list, ◌↔◌}
-use Rattle.search_laws.specs.Collapse.{collapse}
+-- Walks of moves, as walks over numbered arcs, and conversely.
+use Rattle.std.proofs.Common.{◌≡◌, ℕ, Bool, List, [], ◌∷◌, ◌++◌, None, refl, sym, ap, subst, ◌∙◌, arith}
+use Rattle.std.specs.Prelude.{Option, option_to_list}
 use Rattle.search_laws.specs.GraphLaws.{GraphMeaning}
-use Rattle.search_laws.specs.LabelLaws.{LabelsMeaning, Accepts}
-use Rattle.search_laws.specs.Walks.{WalkStep, wait, arc, IsWalk, word_from, ArrivesAt, IsLeast}
-use Rattle.mode_network.specs.declared.steps.Step.{Step}
-use Rattle.mode_network.specs.declared.steps.Step.TheVariants.{Wait}
+use Rattle.search_laws.specs.Walks.{WalkStep, wait, arc, IsWalk, word_from}
 use Rattle.mode_network.specs.NetworkLists.{NetworkLists}
-use Rattle.mode_network.specs.Rules.{IsNetwork}
-use Rattle.mode_network.specs.Journeys.{AreSteps}
 use Rattle.hierarchy.specs.Lists.{HierarchyLists}
-use Rattle.hierarchy.specs.Soundness.{IsSound}
 use Rattle.phase_graph.specs.Moves.{PhaseMove, rest, rise, fall, cross, stand, IsMove, AreMoves}
-use Rattle.phase_graph.specs.Arcs.{phase_node, IsRest, IsPhaseGraph, HasWalk, HasMoves, PhaseGraphsHaveMoves, PhaseGraphsHaveNoOthers, AreEnds}
-use Rattle.phase_graph.proofs.JourneyLemmas as journeys
-use Rattle.phase_graph.proofs.RoadLemmas as roads
+use Rattle.phase_graph.specs.Arcs.{phase_node, IsRest, IsPhaseGraph, HasWalk, HasMoves, PhaseGraphsHaveMoves, PhaseGraphsHaveNoOthers}
 
 module _ (n : NetworkLists) (h : HierarchyLists) (targets : List ℕ) (g : GraphMeaning) (is : IsPhaseGraph n h targets g) where
   -- a move but a rest is an arc, and then a wait
@@ -89,78 +80,3 @@ phase_graphs_have_moves n h targets g is = walk_of n h targets g is
 
 pub phase_graphs_have_no_others : PhaseGraphsHaveNoOthers
 phase_graphs_have_no_others n h targets g is = moves_of n h targets g is
-
--- ---- the best arrival
-
--- a journey from an origin, at the departure or later, reaches a target at t, with a word that D says is allowed
-pub record Reaches (n : NetworkLists) (origins targets : List ℕ) (dep : ℕ) (D : List ℕ → Type 0) (t : ℕ) : Type 0 where
-  pub start : ℕ
-  pub at : ℕ
-  pub steps : List Step
-  pub end : ℕ
-  pub letters : List ℕ
-  pub starts_there : Contains origins start
-  pub not_before : dep ≤ at
-  pub ends_there : Contains targets end
-  pub real : AreSteps n start at steps end t letters
-  pub allowed : D (collapse letters)
-
--- two numbers of nodes are one only where the nodes are
-same_node : (v w : ℕ) (a b : Bool) → phase_node v a ≡ phase_node w b → v ≡ w
-same_node v w false false e = omega arith
-same_node v w false true e = absurd (omega arith)
-same_node v w true false e = absurd (omega arith)
-same_node v w true true e = omega arith
-
-module _ (n : NetworkLists) (h : HierarchyLists) (origins targets : List ℕ) (network : IsNetwork n) (sound : IsSound n h) (g : GraphMeaning) (is : IsPhaseGraph n h targets g)
-    (l : LabelsMeaning) (D : List ℕ → Type 0) (accepts : (word : List ℕ) → Accepts l word ↔ D (collapse word)) (starts ends : List ℕ) (are : AreEnds h origins targets starts ends) (dep : ℕ) where
-  -- each journey has an accepted walk that arrives no later
-  pub arrives_by : (t : ℕ) → Reaches n origins targets dep D t → (s : ℕ) × (s ≤ t) × ArrivesAt g l starts ends dep s
-  arrives_by t r =
-      let waited : AreSteps n r.start dep (Wait r.at ∷ r.steps) r.end t r.letters = (r.start, r.at, None, r.letters, (r.not_before, refl, refl, refl), r.real, refl) in
-      let p = journeys.has_phase_walk n h targets network sound (Wait r.at ∷ r.steps) r.start dep r.end t r.letters waited r.ends_there in
-      let w = walk_of n h targets g is p.moves r.start false dep r.end p.down p.at p.letters p.walk in (
-        p.at,
-        p.no_later,
-        record {
-          start = phase_node r.start false;
-          end = phase_node r.end p.down;
-          steps = w.steps;
-          starts_there = are.starts_there r.start r.starts_there;
-          ends_there = are.ends_there (phase_node r.end p.down) (record { target = r.end; down = p.down; listed = r.ends_there; contracted = p.at_target; is = refl });
-          walk = w.walk;
-          word = subst (Accepts l) (sym w.word_is) ((accepts p.letters).1 (subst D (sym p.same_word) r.allowed));
-        },
-      )
-
-  -- and each accepted walk a journey that arrives then
-  pub reaches_of : (t : ℕ) → ArrivesAt g l starts ends dep t → Reaches n origins targets dep D t
-  reaches_of t a =
-      let start = are.only_starts a.start a.starts_there in
-      let end = are.only_ends a.end a.ends_there in
-      let walk = subst (λ p. IsWalk g p dep a.steps a.end t) start.is a.walk in
-      let m = moves_of n h targets g is a.steps start.origin false dep a.end t walk in
-      let word = word_from g (phase_node start.origin false) a.steps in
-      let j = roads.has_journey n h network sound targets m.moves start.origin false dep m.to m.end t word m.walk in
-      let there : m.to ≡ end.target = same_node m.to end.target m.end end.down (sym m.is ∙ end.is) in
-      let told : D (collapse word) = (accepts word).0 (subst (λ p. Accepts l (word_from g p a.steps)) start.is a.word) in
-      record {
-        start = start.origin;
-        at = dep;
-        steps = j.steps;
-        end = end.target;
-        letters = j.told;
-        starts_there = start.listed;
-        not_before = omega arith;
-        ends_there = end.listed;
-        real = subst (λ w. AreSteps n start.origin dep j.steps w t j.told) there j.real;
-        allowed = subst D (sym j.same_word) told;
-      }
-
-  -- a least arrival over the arcs is the best of the network itself
-  pub best_of_least : (t : ℕ) → IsLeast g l starts ends dep t → Reaches n origins targets dep D t × ((s : ℕ) → Reaches n origins targets dep D s → t ≤ s)
-  best_of_least t least = (reaches_of t least.reached, λ s r. (let a = arrives_by s r in let first = least.least a.0 a.2 in omega (arith, a.1)))
-
-  -- and where nothing arrives no journey does
-  pub none_of_none : ((t : ℕ) → ArrivesAt g l starts ends dep t → ⊥) → (t : ℕ) → Reaches n origins targets dep D t → ⊥
-  none_of_none none t r = let a = arrives_by t r in none a.0 a.2

@@ -2,6 +2,7 @@
 use Rattle.std.proofs.Common.{◌≡◌, ℕ, ◌+◌, ◌-◌, ◌*◌, ◌/◌, ◌%◌, ◌^◌, ◌<◌, ◌≤◌, ◌∙◌, cond, nat_lt, nat_eq, Bool, true, false, List, length, get_or, Option, Some, None, refl, ap, arith}
 use Rattle.std.specs.Prelude.{IfSome}
 use Rattle.std.proofs.lemmas.Bool.{eqb-true, eqb-false, ltb-true, ltb-false}
+use Rattle.search_laws.specs.Letters.{IsLetter}
 use Rattle.search_laws.specs.GraphLaws.{GraphMeaning, HasArc, IsLawfulGraph}
 use Rattle.timetable_arcs.specs.Patterns.{TableLists}
 use Rattle.timetable_arcs.specs.Table.{IsTable}
@@ -122,7 +123,7 @@ module _ (n : NetworkLists) (h : HierarchyLists) (network : IsNetwork n) (rules 
   layer : (place : ℕ) → place < length h.entries → FitsLayer n (entry_at h place)
   layer place lt = sound.in_layers place no_entry lt
 
-  mode_fits : (v : ℕ) (o : Option ℕ) → mode_at n.roads v ≡ o → IfSome o (λ c. c < 14)
+  mode_fits : (v : ℕ) (o : Option ℕ) → mode_at n.roads v ≡ o → IfSome o IsLetter
   mode_fits v None e = tt
   mode_fits v (Some mode) e = let low = mode_is_road n network v mode e in omega (arith, low.1)
 
@@ -142,7 +143,7 @@ module _ (n : NetworkLists) (h : HierarchyLists) (network : IsNetwork n) (rules 
   to_fits v down (Down place) node is = let f = layer place is.0 in in_nodes (entry_at h place).to true (length (nodes_of n)) (road_inside n h network sound (entry_at h place).to f.mode f.to_mode)
   to_fits v down (Other place) node is = in_nodes (plain.arc_at v place).to down (length (nodes_of n)) (laws.to_in_range v place (plain_has v place down node is))
 
-  letter_fits : (v : ℕ) (down : Bool) (a : PhaseArc) → v < length (nodes_of n) → IsKnown v down a → IfSome (arc_of n t h v down a).letter (λ c. c < 14)
+  letter_fits : (v : ℕ) (down : Bool) (a : PhaseArc) → v < length (nodes_of n) → IsKnown v down a → IfSome (arc_of n t h v down a).letter IsLetter
   letter_fits v down (Up place) node is = mode_fits v _ refl
   letter_fits v down (Down place) node is = mode_fits v _ refl
   letter_fits v down (Other place) node is = laws.letter_in_range v place (plain_has v place down node is)

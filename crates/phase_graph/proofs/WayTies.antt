@@ -5,12 +5,12 @@ use Rattle.std.proofs.Math.Seq.{set-append_seam, get_or-append_seam, drop-append
 use Rattle.std.proofs.lemmas.List.{drop_more, drop_all, take_more, take_all, take-append-drop, length-append, length-map, length-take-le, length-drop, get_or-drop, map-append}
 use Rattle.std.proofs.lemmas.List.Elements.{All-cons, All-nil, All-append, All-contains, All-weaker}
 use Rattle.search_laws.specs.GraphLaws.{GraphMeaning}
-use Rattle.search_laws.specs.Fresh.{AreFresh, AddsFresh}
-use Rattle.search_laws.specs.Ways.{is_open, way_if, open_way, way_at, ways_from, ways_past}
+use Rattle.search_laws.specs.Fresh.{AreFresh, AddsFresh, StandsStill, AreMoving, AddsMoving}
+use Rattle.search_laws.specs.Ways.{is_open, moving_letters, way_if, open_way, way_at, ways_from, ways_past}
 use Rattle.search_laws.specs.declared.given.GivenRuns.{GivenRuns}
 use Rattle.search_laws.specs.declared.graph.GraphArc.{GraphArc}
 use Rattle.search_laws.specs.declared.graph.Way.{Way}
-use Rattle.search_laws.proofs.FreshLemmas.{LeadsElsewhere, adds_all, adds_more, fresh_elsewhere}
+use Rattle.search_laws.proofs.FreshLemmas.{LeadsElsewhere, adds_all, adds_more, fresh_elsewhere, moving_all, moving_append, moving_asked}
 use Rattle.search_laws.proofs.WayLemmas.{ways_more, ways_split}
 use Rattle.timetable_arcs.specs.Patterns.{TableLists}
 use Rattle.timetable_arcs.specs.Table.{IsTable}
@@ -25,7 +25,7 @@ use Rattle.plain_graph.specs.BoardWays.{plain_rides}
 use Rattle.plain_graph.specs.PlainArcs.{plain_meaning, count_from, inner_arcs_at, rides_from_stop, graph_arc, arrival}
 use Rattle.plain_graph.specs.Lawful.{plain_lawful}
 use Rattle.plain_graph.specs.declared.plain.PlainArc.{PlainArc}
-use Rattle.plain_graph.proofs.PlaceTies.{stand_at}
+use Rattle.plain_graph.proofs.PlaceTies.{stand_at, past_roads_stand}
 use Rattle.phase_graph.specs.declared.phases.PhaseArc.{PhaseArc}
 use Rattle.phase_graph.specs.declared.phases.PhaseArc.TheVariants.{Down, Other}
 use Rattle.phase_graph.specs.Arcs.{phase_node}
@@ -211,15 +211,41 @@ module _ (n : NetworkLists) (h : HierarchyLists) (t : TableLists) (marks : List 
         (fresh_elsewhere before_descent anew (renumbered 0 0) (leads_before (count_from n.arcs (node_of p)) (ups + downs)) (leads_before 0 0) (plain_rides n t) state old new past_roads fresh are),
   )
 
-  -- those that fall, and what is fresh of the others
-  pub fresh_joined : (state : ℕ) (old new : GivenRuns) (before first second : List Way) → first ≡ before ++ from ups downs
-      → AddsFresh (phase_rides n t) state old new (from (ups + downs) (others_at n t (node_of p) (is_down p))) first second
-      → AddsFresh (phase_rides n t) state old new (ways_past g p time letters ups) before second
-  fresh_joined state old new before first second e f =
+  -- behind the entries, all arcs with a letter stand still, where no move by that leads to another state
+  others_stand : (leaving : ℕ) → is_open leaving letter ≡ false → (k at c : ℕ) → ups + downs ≤ k → g.arrive p k time ≡ Some at → (g.arc_at p k).letter ≡ Some c
+      → StandsStill p time leaving (record { place = k; arc = g.arc_at p k; at = at })
+  others_stand leaving closed k at c from arrives is =
+      let place = first_other n (node_of p) (is_down p) + (k - ups - downs) in
+      let here : k ≡ ups + downs + (place - first_other n (node_of p) (is_down p)) = omega (arith, from) in
+      let there : arc_there k ≡ Other place = ap arc_there here ∙ other_is n h (node_of p) (is_down p) place (omega arith) in
+      let arc : g.arc_at p k ≡ arc_of n t h (node_of p) (is_down p) (Other place) = ap (arc_of n t h (node_of p) (is_down p)) there in
+      let letter_is : (g.arc_at p k).letter ≡ (plain.arc_at (node_of p) place).letter = ap (λ (a : GraphArc). a.letter) arc in
+      let stand = past_roads_stand n t (node_of p) time leaving closed place at c (omega arith)
+      (sym (ap (arrival_of n t h marks (node_of p) time) there) ∙ arrives) (sym letter_is ∙ is) in
+      let to : phase_node (plain.arc_at (node_of p) place).to (is_down p) ≡ p = ap (λ w. phase_node w (is_down p)) stand.to ∙ whole p in
+      record {
+        to = ap (λ (a : GraphArc). a.to) arc ∙ to;
+        at = stand.at;
+        letter = stand.letter;
+        by = letter_is ∙ stand.by;
+        stays = stand.stays;
+      }
+
+  -- those that fall, and what is fresh of the others, of which those that stand still are not asked for
+  pub moving_joined : (asked leaving state : ℕ) (old new : GivenRuns) (before first second : List Way) → asked ≡ moving_letters letters leaving letter → first ≡ before ++ from ups downs
+      → AddsFresh (phase_rides n t) state old new (ways_from g p time asked (ups + downs) (others_at n t (node_of p) (is_down p))) first second
+      → AddsMoving (phase_rides n t) state p time leaving old new (ways_past g p time letters ups) before second
+  moving_joined asked leaving state old new before first second is falls adds =
       let others = others_at n t (node_of p) (is_down p) in
       let rest : ups + downs + others - ups ≡ downs + others = omega arith in
-      subst (λ (ws : List Way). AddsFresh (phase_rides n t) state old new ws before second) (sym (ap (from ups) rest ∙ ways_split g p time letters ups downs others))
-      (adds_more (phase_rides n t) state old old new (from ups downs) (from (ups + downs) others) before first second (adds_all (phase_rides n t) state old (from ups downs) before first e) f)
+      let moving : List Way = ways_from g p time asked (ups + downs) others in (
+        from ups downs ++ moving,
+        subst (λ (ws : List Way). AreMoving p time leaving ws (from ups downs ++ moving)) (sym (ap (from ups) rest ∙ ways_split g p time letters ups downs others))
+            (moving_append p time leaving (from ups downs) (from (ups + downs) others) (from ups downs) moving (moving_all p time leaving (from ups downs))
+            (subst (λ x. AreMoving p time leaving (from (ups + downs) others) (ways_from g p time x (ups + downs) others)) (sym is)
+            (moving_asked g p time letters leaving (ups + downs) letter (others_stand leaving) (ups + downs) others (omega arith)))),
+        adds_more (phase_rides n t) state old old new (from ups downs) moving before first second (adds_all (phase_rides n t) state old (from ups downs) before first falls) adds,
+      )
 
   -- in the descent: the one that stands
   stand_is : is_down p ≡ true → (mode : ℕ) → letter ≡ Some mode → from (ups + downs) (others_at n t (node_of p) (is_down p)) ≡ open_way letters (ups + downs) (record { to = p; letter = Some mode }) (Some time)

@@ -1,9 +1,9 @@
 -- The phase graph as a graph of numbered nodes and arcs.
-use Rattle.std.specs.Prelude.{◌≡◌, ℕ, ◌+◌, ◌*◌, ◌≤◌, Bool, true, false, List, Option, Some, Contains}
+use Rattle.std.specs.Prelude.{◌≡◌, ℕ, ◌+◌, ◌*◌, ◌≤◌, Bool, true, false, List, Option, Some}
 use Rattle.search_laws.specs.GraphLaws.{GraphMeaning, HasArc}
 use Rattle.search_laws.specs.Walks.{WalkStep, IsWalk, word_from}
 use Rattle.mode_network.specs.NetworkLists.{NetworkLists}
-use Rattle.hierarchy.specs.Lists.{HierarchyLists, IsContracted}
+use Rattle.hierarchy.specs.Lists.{HierarchyLists}
 use Rattle.phase_graph.specs.Moves.{PhaseMove, rest, rise, fall, cross, stand, IsMove, AreMoves}
 
 -- each node has two numbers: before the descent, and in it
@@ -65,26 +65,3 @@ abbrev pub PhaseGraphsHaveNoOthers : Type 0
 PhaseGraphsHaveNoOthers = (n : NetworkLists) (h : HierarchyLists) (targets : List ℕ) (g : GraphMeaning) → IsPhaseGraph n h targets g
     → (steps : List WalkStep) (v : ℕ) (down : Bool) (t q u : ℕ) → IsWalk g (phase_node v down) t steps q u
     → HasMoves n h targets v down t q u (word_from g (phase_node v down) steps)
-
--- the numbers that a search starts at: those of the origins, before the descent
-abbrev pub AreStarts : List ℕ → List ℕ → Type 0
-AreStarts origins starts = (v : ℕ) → Contains origins v → Contains starts (phase_node v false)
-
-pub record IsStartOf (origins : List ℕ) (p : ℕ) : Type 0 where
-  pub origin : ℕ
-  pub listed : Contains origins origin
-  pub is : p ≡ phase_node origin false
-
--- the numbers that it ends at: those of the targets, before the descent, and in it where they are contracted
-pub record IsEndOf (h : HierarchyLists) (targets : List ℕ) (p : ℕ) : Type 0 where
-  pub target : ℕ
-  pub down : Bool
-  pub listed : Contains targets target
-  pub contracted : down ≡ true → IsContracted h.order target
-  pub is : p ≡ phase_node target down
-
-pub record AreEnds (h : HierarchyLists) (origins targets starts ends : List ℕ) : Type 0 where
-  pub starts_there : AreStarts origins starts
-  pub only_starts : (p : ℕ) → Contains starts p → IsStartOf origins p
-  pub ends_there : (p : ℕ) → IsEndOf h targets p → Contains ends p
-  pub only_ends : (p : ℕ) → Contains ends p → IsEndOf h targets p

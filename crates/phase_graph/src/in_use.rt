@@ -106,13 +106,18 @@ impl Graph for GraphInUse<'_> {
         v: u32,
         t: Time,
         letters: u32,
+        leaving: u32,
         state: u32,
         given: &mut GivenRuns,
         ways: &mut Vec<Way>,
     ) -> Result<(), AllocError> {
         match self {
-            GraphInUse::Plain(plain) => plain.fresh_ways(v, t, letters, state, given, ways),
-            GraphInUse::Phases(phases) => phases.fresh_ways(v, t, letters, state, given, ways),
+            GraphInUse::Plain(plain) => {
+                plain.fresh_ways(v, t, letters, leaving, state, given, ways)
+            }
+            GraphInUse::Phases(phases) => {
+                phases.fresh_ways(v, t, letters, leaving, state, given, ways)
+            }
         }
     }
 

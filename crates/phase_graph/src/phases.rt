@@ -13,7 +13,7 @@ use crate::marks::marks;
 use hierarchy::{Entry, Hierarchy, Rise};
 use mode_network::Network;
 use plain_graph::{Plain, PlainArc};
-use search_laws::{GivenRuns, Graph, GraphArc, Leg, Steady, Time, Way, is_open};
+use search_laws::{GivenRuns, Graph, GraphArc, Leg, Steady, Time, Way, is_open, moving_letters};
 use std::alloc::{AllocError, Global};
 
 /// An arc out of a node of the phase graph.
@@ -552,12 +552,14 @@ impl Graph for Phases<'_> {
         p: u32,
         t: Time,
         letters: u32,
+        leaving: u32,
         state: u32,
         given: &mut GivenRuns,
         ways: &mut Vec<Way>,
     ) -> Result<(), AllocError> {
+        let moving = moving_letters(letters, leaving, self.network().mode(p / 2));
         self.push_falls(p, t, letters, ways)?;
-        self.push_fresh_others(p, t, letters, state, given, ways)
+        self.push_fresh_others(p, t, moving, state, given, ways)
     }
 
     ghost lawful = { λ g. g.lawful };

@@ -88,7 +88,7 @@ module _ (n : NetworkLists) (t : TableLists) (time letters v : ℕ) where
       (ways_are_rides (place + 1) rides (λ j lt. let next : place + 1 + j ≡ place + suc j = omega arith in ap (plain_arc n t v) next ∙ are (suc j) (omega (arith, lt))))
 
   module _ (stop : ℕ) (found : stop_at n v ≡ Some stop) (no_road : mode_at n.roads v ≡ None) where
-    at_ride : (j : ℕ) → plain_arc n t v (count_from n.arcs v + count_from n.links v + j) ≡ Ride (slice_index_or (rides_at t stop) j no_ride)
+    pub at_ride : (j : ℕ) → plain_arc n t v (count_from n.arcs v + count_from n.links v + j) ≡ Ride (slice_index_or (rides_at t stop) j no_ride)
     at_ride j =
         let i = count_from n.arcs v + count_from n.links v + j in
         let rides : rides_of n t v ≡ rides_at t stop = ap (rides_from_stop t) found in

@@ -1,9 +1,11 @@
 -- The road arcs, the links and the arc that stands, as the ways at their places.
-use Rattle.std.proofs.Common.{◌≡◌, ℕ, ◌+◌, ◌-◌, ◌<◌, List, [], ◌∷◌, ◌++◌, length, true, false, cond, Some, None, refl, sym, ◌∙◌, ap, append_assoc, append-nil, arith}
+use Rattle.std.proofs.Common.{◌≡◌, ℕ, ◌+◌, ◌-◌, ◌<◌, ◌≤◌, ◌⊎◌, inl, inr, Bool, nat_lt, List, [], ◌∷◌, ◌++◌, length, true, false, cond, Some, None, refl, sym, ◌∙◌, ap, append_assoc, append-nil, arith}
 use Rattle.std.specs.Prelude.{Option, slice_index_or, is_some}
-use Rattle.std.proofs.lemmas.Bool.{le-ltb, lt-ltb}
+use Rattle.std.proofs.lemmas.Bool.{false≢true, le-ltb, lt-ltb}
 use Rattle.search_laws.specs.Ways.{is_open, open_way, way_at, ways_from}
 use Rattle.search_laws.specs.declared.graph.Way.{Way}
+use Rattle.search_laws.specs.Fresh.{StandsStill}
+use Rattle.search_laws.proofs.FreshLemmas.{closed_unset}
 use Rattle.search_laws.proofs.WayLemmas.{ways_more}
 use Rattle.timetable_arcs.specs.Patterns.{TableLists}
 use Rattle.timetable_arcs.specs.Rides.{rides_at, boards_at}
@@ -102,6 +104,41 @@ module _ (n : NetworkLists) (t : TableLists) (time letters v : ℕ) where
       let count : length (rides_of n t v) ≡ length (rides_at t stop) = ap (λ (o : Option ℕ). length (rides_from_stop t o)) found in
       let all : inner_arcs_at n t v ≡ length (rides_at t stop) = omega (arith, stands, count) in
       ap (from (roads + links)) all ∙ stop_ways n t time letters v stop found none
+
+-- behind the road arcs of a road node come its links, and one that stands
+module _ (n : NetworkLists) (t : TableLists) (v mode : ℕ) (has : mode_at n.roads v ≡ Some mode) where
+  pub link_or_stand : (k : ℕ) → count_from n.arcs v ≤ k → ((x : Arc) × (plain_arc n t v k ≡ Link x)) ⊎ (plain_arc n t v k ≡ Stand)
+  link_or_stand k from = go (nat_lt (k - count_from n.arcs v) (count_from n.links v)) refl where
+    past : nat_lt k (count_from n.arcs v) ≡ false
+    past = le-ltb k (count_from n.arcs v) from
+
+    some : is_some (mode_at n.roads v) ≡ true
+    some = ap is_some has
+
+    go : (b : Bool) → nat_lt (k - count_from n.arcs v) (count_from n.links v) ≡ b → ((x : Arc) × (plain_arc n t v k ≡ Link x)) ⊎ (plain_arc n t v k ≡ Stand)
+    go true e = inl (slice_index_or n.links ((range_from n.links v).0 + (k - count_from n.arcs v)) no_arc, rw (past, e) refl)
+    go false e = inr (rw (past, e, some) refl)
+
+-- so each of them with a letter stands still, where no move by that leads to another state
+pub past_roads_stand : (n : NetworkLists) (t : TableLists) (v time leaving : ℕ) → is_open leaving (mode_at n.roads v) ≡ false → (k at c : ℕ) → count_from n.arcs v ≤ k
+    → (plain_meaning n t).arrive v k time ≡ Some at → ((plain_meaning n t).arc_at v k).letter ≡ Some c
+    → StandsStill v time leaving (record { place = k; arc = (plain_meaning n t).arc_at v k; at = at })
+past_roads_stand n t v time leaving closed k at c from arrives is = by_mode (mode_at n.roads v) refl where
+  by_mode : (o : Option ℕ) → mode_at n.roads v ≡ o → StandsStill v time leaving (record { place = k; arc = (plain_meaning n t).arc_at v k; at = at })
+  by_mode None e = absurd (false≢true (sym closed ∙ ap (is_open leaving) e))
+  by_mode (Some mode) e = elim (link_or_stand n t v mode e k from) [
+    | inl (x, link) ↦ (let none : None ≡ Some c = sym (ap (λ (a : PlainArc). (graph_arc n t v a).letter) link) ∙ is in cc)
+    | inr stand ↦ (let now : Some time ≡ Some at = sym (ap (arrival t time) stand) ∙ arrives in
+        let same : time ≡ at = cc in
+        let letter : mode_at n.roads v ≡ Some c = sym (ap (λ (a : PlainArc). (graph_arc n t v a).letter) stand) ∙ is in
+        record {
+          to = ap (λ (a : PlainArc). (graph_arc n t v a).to) stand;
+          at = sym same;
+          letter = c;
+          by = is;
+          stays = closed_unset leaving c (ap (is_open leaving) (sym letter) ∙ closed);
+        })
+  ]
 
 pub nothing_more : (before more : List Way) → more ≡ [] → before ≡ before ++ more
 nothing_more before more none = sym (append-nil before) ∙ ap (λ (ws : List Way). before ++ ws) (sym none)

@@ -4,6 +4,7 @@ use Rattle.std.specs.Prelude.{IfSome, option_map}
 use Rattle.std.proofs.Props.{props}
 use Rattle.std.specs.List.{list_all}
 use Rattle.std.proofs.lemmas.Bool.{leb-true}
+use Rattle.search_laws.specs.Letters.{IsLetter}
 use Rattle.search_laws.specs.GraphLaws.{GraphMeaning, IsLawfulGraph}
 use Rattle.timetable_arcs.specs.declared.trips.Instance.{Instance}
 use Rattle.timetable_arcs.specs.declared.rides.Ride.{Ride as RideCalls}
@@ -29,7 +30,7 @@ use Rattle.plain_graph.specs.Rides.{alights_within, rides_on, takes}
 pub IsLawfulGraph-prop : (g : GraphMeaning) → IsProp (IsLawfulGraph g)
 IsLawfulGraph-prop g = hlevel props
 
-pub transit_letter : (days stops : ℕ) (trip : TripLists) → IsKeptTrip days stops trip → trip.letter < 14
+pub transit_letter : (days stops : ℕ) (trip : TripLists) → IsKeptTrip days stops trip → IsLetter trip.letter
 transit_letter days stops trip kept =
     let letter = nat_le 3 trip.letter && nat_le trip.letter 13 in
     let calls = letter && nat_le 2 (length trip.calls) in
@@ -66,11 +67,11 @@ module _ (n : NetworkLists) (network : IsNetwork n) (t : TableLists) (table : Is
   leads_in_range v Stand out = node_of v Stand out
   leads_in_range v (Ride ride) out = stops_in_range (pattern_call t ride.pattern ride.alight).stop (alights_at_stop out.stop ride out.ride_at)
 
-  mode_fits : (v : ℕ) (o : Option ℕ) → mode_at n.roads v ≡ o → IfSome o (λ c. c < 14)
+  mode_fits : (v : ℕ) (o : Option ℕ) → mode_at n.roads v ≡ o → IfSome o IsLetter
   mode_fits v None e = tt
   mode_fits v (Some mode) e = let low = mode_is_road n network v mode e in omega (arith, low.1)
 
-  letter_fits : (v : ℕ) (a : PlainArc) → IsOut n t v a → IfSome (graph_arc n t v a).letter (λ c. c < 14)
+  letter_fits : (v : ℕ) (a : PlainArc) → IsOut n t v a → IfSome (graph_arc n t v a).letter IsLetter
   letter_fits v (Road arc) out = mode_fits v _ refl
   letter_fits v (Link link) out = tt
   letter_fits v Stand out = mode_fits v _ refl

@@ -1,14 +1,15 @@
 -- What is true of the ride that an arc stands for.
 use Rattle.std.proofs.Common.{◌≡◌, ℕ, ◌<◌, ◌≤◌, length, Some, arith}
+use Rattle.std.specs.Prelude.{slice_index_or}
 use Rattle.timetable_arcs.specs.declared.trips.Instance.{Instance}
 use Rattle.timetable_arcs.specs.declared.rides.Ride.{Ride}
 use Rattle.timetable_arcs.specs.Patterns.{TableLists, IsIn, trip_at, pattern_trip, departs, arrives}
-use Rattle.timetable_arcs.specs.Rides.{IsRideAt}
+use Rattle.timetable_arcs.specs.Rides.{rides_at, IsRideAt}
 use Rattle.timetable_arcs.specs.Table.{IsTable}
 use Rattle.timetable_arcs.proofs.TableLemmas.{never_back, next_is}
 use Rattle.plain_graph.specs.declared.plain.PlainArc.{PlainArc}
 use Rattle.plain_graph.specs.declared.plain.PlainArc.TheVariants.{Road as RoadArc, Link as LinkArc, Stand as StandArc, Ride as RideArc}
-use Rattle.plain_graph.specs.PlainArcs.{run_at}
+use Rattle.plain_graph.specs.PlainArcs.{run_at, no_ride}
 
 -- a ride along a pattern, from some stop
 pub record IsRideOf (t : TableLists) (ride : Ride) : Type 0 where
@@ -35,3 +36,9 @@ module _ (t : TableLists) (table : IsTable t) (stop : ℕ) (ride : Ride) (is : I
   -- the run that it takes is one of its pattern, and departs at the time or later
   pub takes : (time : ℕ) (run : Instance) → run_at t time ride ≡ Some run → IsIn t ride.pattern run × (time ≤ departs t run ride.board)
   takes time run e = next_is t table ride.pattern ride.board time run e
+
+-- the place is behind the one of the ride i from a stop, and all rides up to it are along the same pattern
+pub record IsPastBoard (t : TableLists) (stop i past : ℕ) : Type 0 where
+  pub later : i < past
+  pub within : past ≤ length (rides_at t stop)
+  pub same : (k : ℕ) → i ≤ k → k < past → (slice_index_or (rides_at t stop) k no_ride).pattern ≡ (slice_index_or (rides_at t stop) i no_ride).pattern

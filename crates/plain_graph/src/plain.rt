@@ -2,15 +2,19 @@
 
 ghost use Rattle.std.specs.Prelude.{◌≡◌, ◌<◌, ◌+◌, ◌^◌, ◌++◌, ◌∷◌, OnOk, IfOk, length};
 ghost use Rattle.timetable_arcs.specs.Rides.{rides_at};
+ghost use Rattle.timetable_arcs.specs.RideTables.{end_of};
 ghost use Rattle.search_laws.specs.GraphLaws.{IsLawfulGraph};
 ghost use Rattle.mode_network.specs.NetworkLists.{nodes_of};
 ghost use Rattle.mode_network.specs.Rules.{IsNetwork, IsNetwork-prop};
 ghost use Rattle.mode_network.specs.Timetables.{IsTimetableOf, IsTimetableOf-prop};
 ghost use Rattle.plain_graph.specs.PlainArcs.{plain_meaning};
+ghost use Rattle.plain_graph.specs.Rides.{IsPastBoard};
 ghost use Rattle.plain_graph.specs.Lawful.{IsLawfulGraph-prop};
 
 use mode_network::{Arc, Network};
-use search_laws::{GivenRun, GivenRuns, Graph, GraphArc, Leg, Steady, Time, Way, is_open};
+use search_laws::{
+    GivenRun, GivenRuns, Graph, GraphArc, Leg, Steady, Time, Way, is_open, moving_letters,
+};
 use std::alloc::AllocError;
 use timetable_arcs::{Board, Call, PlacedRun, Ride, Timetable};
 
@@ -465,6 +469,27 @@ fn rides_at(timetable: &Timetable, stop: u32) -> u64
     timetable.rides(stop)
 }
 
+/// How many rides from a stop begin at the boards before this place.
+fn rides_before(boards: &[Board], rides: u64, place: usize) -> u64
+    ensures { result ≡ end_of boards.now rides place }
+{
+    match boards.get(place) {
+        Some(board) => board.before,
+        None => rides,
+    }
+}
+
+/// The place behind the last ride from a stop that begins at the same board as the one at this place.
+fn past_board(timetable: &Timetable, stop: u32, i: u64) -> u64
+    requires stop { stop < timetable.now.stops }
+    requires ride { i < length (rides_at timetable.now stop) }
+    ensures { IsPastBoard timetable.now stop i result }
+{
+    let boards = timetable.boards(stop);
+    let place = boards.partition_point(|board| board.before <= i);
+    rides_before(boards, timetable.rides(stop), place)
+}
+
 impl Graph for Plain<'_> {
     ghost use Rattle.plain_graph.specs.PlainArcs.{plain_meaning, roads_at};
     ghost use Rattle.plain_graph.specs.BoardWays.{plain_rides};
@@ -502,6 +527,19 @@ impl Graph for Plain<'_> {
         }
     }
 
+    fn past_letter(&self, v: u32, i: u64) -> u64 {
+        self.timetable.known();
+        let (first_arc, past_arc) = self.network.arcs_from(v);
+        let (first_link, past_link) = self.network.links_from(v);
+        let outer = (past_arc - first_arc) as u64 + (past_link - first_link) as u64;
+        match (self.network.mode(v), self.network.stop_at(v)) {
+            (None, Some(stop)) if outer <= i => {
+                outer + past_board(self.timetable, stop, i - outer)
+            }
+            _ => self.arcs(v).min(i + 1),
+        }
+    }
+
     ghost steady_of = { λ g v. roads_at g.network.now v };
 
     #[inline(always)]
@@ -531,11 +569,13 @@ impl Graph for Plain<'_> {
         v: u32,
         t: Time,
         letters: u32,
+        leaving: u32,
         state: u32,
         given: &mut GivenRuns,
         ways: &mut Vec<Way>,
     ) -> Result<(), AllocError> {
-        self.push_fresh_past_roads(v, t, letters, state, given, ways)
+        let moving = moving_letters(letters, leaving, self.network.mode(v));
+        self.push_fresh_past_roads(v, t, moving, state, given, ways)
     }
 
     ghost lawful = { λ g. g.lawful };

@@ -1,9 +1,9 @@
 -- What a search was given before is reached, and stays so.
 use Rattle.std.proofs.Common.{◌≡◌, ℕ, inl, inr, List, [], ◌++◌, sym, ◌∙◌, ap, subst, arith}
-use Rattle.std.specs.Prelude.{Option, All}
-use Rattle.std.proofs.lemmas.List.Elements.{All-contains}
+use Rattle.std.specs.Prelude.{Option, All, Contains}
+use Rattle.std.proofs.lemmas.List.Elements.{All-weaker, All-contains}
 use Rattle.search_laws.specs.LabelLaws.{LabelsMeaning, AllAfter}
-use Rattle.search_laws.specs.Fresh.{Knows, IsAsGood, HasAsGood, RunRides, AreFresh, AddsFresh}
+use Rattle.search_laws.specs.Fresh.{Knows, IsAsGood, HasAsGood, RunRides, AreFresh, AreMoving, AddsMoving}
 use Rattle.search_laws.specs.declared.graph.GraphArc.{GraphArc}
 use Rattle.search_laws.specs.declared.graph.Way.{Way}
 use Rattle.search_laws.specs.declared.given.GivenRun.{GivenRun}
@@ -14,11 +14,24 @@ use Rattle.product_search.specs.Exploring.{IsReachedBy, Offers, WayIsReached, Ar
 use Rattle.product_search.proofs.OfferLemmas.{reached_keeps, all_after_weaker}
 use Rattle.product_search.proofs.ReachLemmas.{within_down}
 
--- an empty list goes on with the fresh ways alone
-pub fresh_alone : {rides : RunRides} {state : ℕ} {old new : GivenRuns} {ways before after read : List Way} → AddsFresh rides state old new ways before after → before ≡ [] → read ≡ after
-    → AreFresh rides state old new ways read
-fresh_alone {rides} {state} {old} {new} {ways} (fresh, is, are) empty same =
-    subst (AreFresh rides state old new ways) (sym (same ∙ is ∙ ap (λ (xs : List Way). xs ++ fresh) empty)) are
+-- the ways that were read are what is fresh of those that move
+pub record AreRead (rides : RunRides) (state v t leaving : ℕ) (old new : GivenRuns) (ways read : List Way) : Type 0 where
+  pub moving : List Way
+  pub parts : AreMoving v t leaving ways moving
+  pub fresh : AreFresh rides state old new moving read
+
+-- an empty list goes on with them alone
+pub read_alone : {rides : RunRides} {state v t leaving : ℕ} {old new : GivenRuns} {ways before after read : List Way} → AddsMoving rides state v t leaving old new ways before after
+    → before ≡ [] → read ≡ after → AreRead rides state v t leaving old new ways read
+read_alone {rides} {state} {old = old} {new = new} (moving, parts, (fresh, is, are)) empty same = record {
+  moving = moving;
+  parts = parts;
+  fresh = subst (AreFresh rides state old new moving) (sym (same ∙ is ∙ ap (λ (xs : List Way). xs ++ fresh) empty)) are;
+}
+
+pub read_among : {rides : RunRides} {state v t leaving : ℕ} {old new : GivenRuns} {ways read : List Way} → AreRead rides state v t leaving old new ways read → All (Contains ways) read
+read_among {ways = ways} {read = read} are =
+    All-weaker (Contains are.moving) (Contains ways) (λ way has. All-contains (Contains ways) are.moving way are.parts.are has) read are.fresh.are
 
 module _ (l : LabelsMeaning) (bound : Option ℕ) where
   -- what a way leads to is reached, if it is by one as good

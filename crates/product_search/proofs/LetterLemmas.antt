@@ -30,3 +30,20 @@ letters_more l q n letters has j c lt set = elim (cases_lt j n) [
   | inl below ↦ or_first letters (l.move_at q n).letters c (has j c below set)
   | inr ge ↦ (let e : j ≡ n = omega arith in or_second letters (l.move_at q n).letters c (subst (λ k. IsBitSet (l.move_at q k).letters c) e set))
 ]
+
+-- the letters of those of the first n moves of q that lead to another state are among these
+abbrev pub HasLeavingBelow : LabelsMeaning → ℕ → ℕ → ℕ → Type 0
+HasLeavingBelow l q n letters = (j c : ℕ) → j < n → IsBitSet (l.move_at q j).letters c → ((l.move_at q j).to ≡ q → ⊥) → IsBitSet letters c
+
+-- one move more that leads to another state, and one that does not
+pub leaving_more : (l : LabelsMeaning) (q n letters : ℕ) → HasLeavingBelow l q n letters → HasLeavingBelow l q (n + 1) (bit_or letters (l.move_at q n).letters)
+leaving_more l q n letters has j c lt set leaves = elim (cases_lt j n) [
+  | inl below ↦ or_first letters (l.move_at q n).letters c (has j c below set leaves)
+  | inr ge ↦ (let e : j ≡ n = omega arith in or_second letters (l.move_at q n).letters c (subst (λ k. IsBitSet (l.move_at q k).letters c) e set))
+]
+
+pub leaving_same : (l : LabelsMeaning) (q n letters : ℕ) → HasLeavingBelow l q n letters → (l.move_at q n).to ≡ q → HasLeavingBelow l q (n + 1) letters
+leaving_same l q n letters has stays j c lt set leaves = elim (cases_lt j n) [
+  | inl below ↦ has j c below set leaves
+  | inr ge ↦ (let e : j ≡ n = omega arith in absurd (leaves (subst (λ k. (l.move_at q k).to ≡ q) (sym e) stays)))
+]

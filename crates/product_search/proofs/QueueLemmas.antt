@@ -1,5 +1,5 @@
 -- The rows and the queue of a frontier, change by change.
-use Rattle.std.proofs.Common.{◌≡◌, ◌≢◌, ℕ, ◌+◌, ◌-◌, ◌<◌, ◌≤◌, Bool, true, false, not, ◌==◌, cond, List, [], ◌∷◌, ◌++◌, length, get_or, map, Some, None, zero, suc, inl, inr, refl, sym, ◌∙◌, ap, subst, add-one, arith}
+use Rattle.std.proofs.Common.{◌≡◌, ◌≢◌, ℕ, ◌+◌, ◌-◌, ◌*◌, ◌/◌, ◌<◌, ◌≤◌, Bool, true, false, not, ◌==◌, cond, List, [], ◌∷◌, ◌++◌, length, get_or, map, Some, None, zero, suc, inl, inr, refl, sym, ◌∙◌, ap, subst, add-one, arith}
 use Rattle.std.specs.Prelude.{◌^◌, Option, slice_get, slice_index, slice_set, if◌then◌else◌}
 use Rattle.std.specs.List.{AllByRecursion, IsDistinct}
 use Rattle.std.specs.Map.{keys_of}
@@ -9,6 +9,7 @@ use Rattle.std.proofs.lemmas.Bool.Decides.{nat_tests}
 use Rattle.std.proofs.lemmas.List.{length-set}
 use Rattle.std.proofs.lemmas.Option.{slice_get_within}
 use Rattle.std.proofs.lemmas.Map.Keys.{IsDistinct-cons}
+use Rattle.std.proofs.Math.Nat.{mul-div_cancel}
 use Rattle.product_search.specs.declared.frontier.Reached.{Reached}
 use Rattle.product_search.specs.declared.frontier.Entry.{Entry}
 use Rattle.product_search.specs.declared.row.Row.{Row}
@@ -16,8 +17,8 @@ use Rattle.product_search.specs.declared.frontier.Settled.{Settled}
 use Rattle.product_search.specs.declared.frontier.Frontier.{Frontier}
 use Rattle.product_search.specs.declared.key.Key.{Key}
 use Rattle.product_search.specs.Queued.{entry_of, Queued, TakesIn, GivesLeast, GivesNone}
-use Rattle.product_search.specs.Waiting.{state_eq, made, settled_now, keyed, rows, reached_in, reached_at, waits_at, IsAt, IsNowhere, IsApart, KeepsNumbers, IsIndexed, IsClear, IsBehind, IsLast, Waits, IsQueueRight, is_same, offered, IsOffered, IsSetAt, NobodyWaits, SameReached, SettlesLeast, AreKept, bar_of, key_of}
-use Rattle.product_search.proofs.RowLemmas.{row_parts, key_read, entry_read}
+use Rattle.product_search.specs.Waiting.{state_eq, made, settled_now, keyed, rows, reached_in, reached_at, waits_at, IsAt, IsNowhere, IsApart, KeepsNumbers, chain_of, chain_in, IsIndexed, IsClear, IsBehind, IsLast, Waits, IsQueueRight, is_same, offered, IsOffered, IsSetAt, NobodyWaits, SameReached, SettlesLeast, AreKept, bar_of, key_of}
+use Rattle.product_search.proofs.RowLemmas.{key_read, entry_read}
 
 -- ---- equal keys
 
@@ -265,7 +266,7 @@ module _ (old new : Frontier) (n v q c : ℕ) (way : Reached) (right : IsQueueRi
         subst (λ u. Queued new.queue u k) at (subst (λ j. Queued new.queue way.at j) (sym same) put.there))
   ]
 
-  pub right_put : IsIndexed new → AreKept new.keys.items new.entries.items → length new.entries.items < 2 ^ 32 → IsQueueRight new
+  pub right_put : IsIndexed new.chains.count (rows new) new.first.items → AreKept new.keys.items new.entries.items → length new.entries.items < 2 ^ 32 → IsQueueRight new
   right_put indexed kept few = record {
     queue = put.right;
     waits = put_waits;
@@ -277,89 +278,98 @@ module _ (old new : Frontier) (n v q c : ℕ) (way : Reached) (right : IsQueueRi
 
 -- ---- the chains
 
--- the rows are of the same nodes, and chained alike
-pub record SameLinks (old new : List Row) : Type 0 where
-  pub back : (k : ℕ) (e : Row) → slice_get new k ≡ Some e → (d : Row) × (slice_get old k ≡ Some d) × (d.node ≡ e.node) × (d.next ≡ e.next)
-  pub forth : (k : ℕ) (d : Row) → slice_get old k ≡ Some d → (e : Row) × (slice_get new k ≡ Some e) × (e.node ≡ d.node)
+-- a chain is of one node
+pub same_node : (count v w q : ℕ) → 0 < count → chain_of count v q ≡ chain_of count w q → v ≡ w
+same_node count v w q some same =
+    let e : v * count ≡ w * count = omega (arith, same) in
+    sym (mul-div_cancel v some) ∙ ap (λ n. n / count) e ∙ mul-div_cancel w some
 
-pub links_set : (old new : List Row) (n v q c : ℕ) (way : Reached) (at : IsAt old v q n) → (at.row).next ≡ c → Changes old new n v q c way → SameLinks old new
-links_set old new n v q c way at next changes = record { back = back; forth = forth } where
-  back : (k : ℕ) (e : Row) → slice_get new k ≡ Some e → (d : Row) × (slice_get old k ≡ Some d) × (d.node ≡ e.node) × (d.next ≡ e.next)
+chain_at : (count : ℕ) (rs : List Row) (v q k : ℕ) (at : IsAt rs v q k) → chain_in count (at.row) ≡ chain_of count v q
+chain_at count rs v q k at = ap (λ w. chain_of count w (at.row).state) at.node ∙ ap (λ r. chain_of count v r) at.state
+
+-- the rows are in the same chains, and linked alike
+pub record SameLinks (count : ℕ) (old new : List Row) : Type 0 where
+  pub back : (k : ℕ) (e : Row) → slice_get new k ≡ Some e → (d : Row) × (slice_get old k ≡ Some d) × (chain_in count d ≡ chain_in count e) × (d.next ≡ e.next)
+  pub forth : (k : ℕ) (d : Row) → slice_get old k ≡ Some d → (e : Row) × (slice_get new k ≡ Some e) × (chain_in count e ≡ chain_in count d)
+
+pub links_set : (count : ℕ) (old new : List Row) (n v q c : ℕ) (way : Reached) (at : IsAt old v q n) → (at.row).next ≡ c → Changes old new n v q c way → SameLinks count old new
+links_set count old new n v q c way at next changes = record { back = back; forth = forth } where
+  back : (k : ℕ) (e : Row) → slice_get new k ≡ Some e → (d : Row) × (slice_get old k ≡ Some d) × (chain_in count d ≡ chain_in count e) × (d.next ≡ e.next)
   back k e is = elim (cases_eq k n) [
     | inr other ↦ (e, changes.others k e other is, refl, refl)
     | inl same ↦ (let h : Some (made v q c way) ≡ Some e = sym changes.there ∙ subst (λ j. slice_get new j ≡ Some e) same is in
         let p : made v q c way ≡ e = cc in
-        (at.row, subst (λ j. slice_get old j ≡ Some (at.row)) (sym same) at.known, at.node ∙ ap (λ (y : Row). y.node) p, next ∙ ap (λ (y : Row). y.next) p))
+        (at.row, subst (λ j. slice_get old j ≡ Some (at.row)) (sym same) at.known, chain_at count old v q n at ∙ ap (chain_in count) p, next ∙ ap (λ (y : Row). y.next) p))
   ]
 
-  forth : (k : ℕ) (d : Row) → slice_get old k ≡ Some d → (e : Row) × (slice_get new k ≡ Some e) × (e.node ≡ d.node)
+  forth : (k : ℕ) (d : Row) → slice_get old k ≡ Some d → (e : Row) × (slice_get new k ≡ Some e) × (chain_in count e ≡ chain_in count d)
   forth k d is = elim (cases_eq k n) [
     | inr other ↦ (d, changes.stay k d other is, refl)
-    | inl same ↦ (let p = changes.place d (subst (λ j. slice_get old j ≡ Some d) same is) in
-        (made v q c way, subst (λ j. slice_get new j ≡ Some (made v q c way)) (sym same) changes.there, sym p.0))
+    | inl same ↦ (let known = subst (λ j. slice_get old j ≡ Some d) same is in
+        let p = changes.place d known in (
+          made v q c way,
+          subst (λ j. slice_get new j ≡ Some (made v q c way)) (sym same) changes.there,
+          sym (chain_at count old v q n (record { row = d; known = known; node = p.0; state = p.1 })),
+        ))
   ]
 
-last_links : (old new : List Row) → SameLinks old new → (v below b c : ℕ) → below ≡ b → IsLast old v below c → IsLast new v b c
-last_links old new links v below b c same last = rw (sym same) (record {
-  none_after = λ k e is le lt node. (let d = links.back k e is in last.none_after k d.0 d.1 le lt (d.2 ∙ node));
+last_links : (count : ℕ) (old new : List Row) → SameLinks count old new → (v below b c : ℕ) → below ≡ b → IsLast count old v below c → IsLast count new v b c
+last_links count old new links v below b c same last = rw (sym same) (record {
+  none_after = λ k e is le lt chain. (let d = links.back k e is in last.none_after k d.0 d.1 le lt (d.2 ∙ chain));
   there = λ k at. (let p = last.there k at in let e = links.forth k p.1 p.2 in (p.0, e.0, e.1, e.2 ∙ p.3));
 })
 
-pub indexed_links : (old new : Frontier) → IsIndexed old → new.first.items ≡ old.first.items → length (rows new) ≡ length (rows old)
-    → SameLinks (rows old) (rows new) → IsIndexed new
-indexed_links old new indexed first size links = record {
-  first = λ v. subst (λ xs. IsLast (rows new) v (length (rows new)) (slice_index xs v)) (sym first)
-      (last_links (rows old) (rows new) links v (length (rows old)) (length (rows new)) (slice_index old.first.items v) (sym size) (indexed.first v));
+pub indexed_links : (count : ℕ) (old new : List Row) (first : List ℕ) → IsIndexed count old first → length new ≡ length old → SameLinks count old new → IsIndexed count new first
+indexed_links count old new first indexed size links = record {
+  first_of = λ v. last_links count old new links v (length old) (length new) (slice_index first v) (sym size) (indexed.first_of v);
   next = λ k e is. (let d = links.back k e is in
-      subst (λ v. IsLast (rows new) v k e.next) d.2 (subst (λ c. IsLast (rows new) (d.0).node k c) d.3
-      (last_links (rows old) (rows new) links (d.0).node k k (d.0).next refl (indexed.next k d.0 d.1))));
+      subst (λ v. IsLast count new v k e.next) d.2 (subst (λ c. IsLast count new (chain_in count d.0) k c) d.3
+      (last_links count old new links (chain_in count d.0) k k (d.0).next refl (indexed.next k d.0 d.1))));
 }
 
-pub same_links : (rs : List Row) → SameLinks rs rs
-same_links rs = record { back = λ k e is. (e, is, refl, refl); forth = λ k d is. (d, is, refl) }
-
 -- the index after a first way
-module _ (old new : Frontier) (n v q c : ℕ) (way : Reached) (indexed : IsIndexed old) (last : n ≡ length (rows old)) (next : c ≡ slice_index old.first.items v)
-    (changes : Changes (rows old) (rows new) n v q c way) (size : length (rows new) ≡ n + 1)
-    (here : slice_index new.first.items v ≡ n + 1) (others : (w : ℕ) → (w ≡ v → ⊥) → slice_index new.first.items w ≡ slice_index old.first.items w) where
-  is_old : (k : ℕ) (e : Row) → k < n → slice_get (rows new) k ≡ Some e → slice_get (rows old) k ≡ Some e
+module _ (count : ℕ) (old new : List Row) (first_old first_new : List ℕ) (n v q c : ℕ) (way : Reached) (indexed : IsIndexed count old first_old) (last : n ≡ length old)
+    (next : c ≡ slice_index first_old (chain_of count v q)) (changes : Changes old new n v q c way) (size : length new ≡ n + 1)
+    (here : slice_index first_new (chain_of count v q) ≡ n + 1)
+    (others : (b : ℕ) → (b ≡ chain_of count v q → ⊥) → slice_index first_new b ≡ slice_index first_old b) where
+  is_old : (k : ℕ) (e : Row) → k < n → slice_get new k ≡ Some e → slice_get old k ≡ Some e
   is_old k e lt is = changes.others k e (λ same. omega arith) is
 
-  last_more : (w below c2 : ℕ) → below ≤ n → IsLast (rows old) w below c2 → IsLast (rows new) w below c2
-  last_more w below c2 le was = record {
-    none_after = λ k e is from lt node. was.none_after k e (is_old k e (omega arith) is) from lt node;
+  last_more : (b below c2 : ℕ) → below ≤ n → IsLast count old b below c2 → IsLast count new b below c2
+  last_more b below c2 le was = record {
+    none_after = λ k e is from lt chain. was.none_after k e (is_old k e (omega arith) is) from lt chain;
     there = λ k at. (let p = was.there k at in (p.0, p.1, changes.stay k p.1 (λ same. (let lt : k < below = p.0 in omega arith)) p.2, p.3));
   }
 
-  made_last : (e : Row) → slice_get (rows new) n ≡ Some e → made v q c way ≡ e
+  made_last : (e : Row) → slice_get new n ≡ Some e → made v q c way ≡ e
   made_last e is = let h : Some (made v q c way) ≡ Some e = sym changes.there ∙ is in cc
 
-  first_new : (w : ℕ) → IsLast (rows new) w (length (rows new)) (slice_index new.first.items w)
-  first_new w = elim (cases_eq w v) [
-    | inl same ↦ subst (λ a. IsLast (rows new) a (length (rows new)) (slice_index new.first.items a)) (sym same) (rw (here, size) (record {
-      none_after = λ k e is from lt node. omega arith;
-      there = λ k at. (let same_k : k ≡ n = omega arith in (omega arith, made v q c way, subst (λ j. slice_get (rows new) j ≡ Some (made v q c way)) (sym same_k) changes.there, refl));
+  first_more : (b : ℕ) → IsLast count new b (length new) (slice_index first_new b)
+  first_more b = elim (cases_eq b (chain_of count v q)) [
+    | inl same ↦ subst (λ a. IsLast count new a (length new) (slice_index first_new a)) (sym same) (rw (here, size) (record {
+      none_after = λ k e is from lt chain. omega arith;
+      there = λ k at. (let same_k : k ≡ n = omega arith in (omega arith, made v q c way, subst (λ j. slice_get new j ≡ Some (made v q c way)) (sym same_k) changes.there, refl));
     }))
-    | inr other ↦ (let was = indexed.first w in rw (others w other, size) (record {
-      none_after = λ k e is from lt node. elim (cases_eq k n) [
-        | inl same_k ↦ other (sym node ∙ sym (ap (λ (y : Row). y.node) (made_last e (subst (λ j. slice_get (rows new) j ≡ Some e) same_k is))))
-        | inr not_k ↦ was.none_after k e (is_old k e (omega arith) is) from (omega arith) node
+    | inr other ↦ (let was = indexed.first_of b in rw (others b other, size) (record {
+      none_after = λ k e is from lt chain. elim (cases_eq k n) [
+        | inl same_k ↦ other (sym chain ∙ sym (ap (chain_in count) (made_last e (subst (λ j. slice_get new j ≡ Some e) same_k is))))
+        | inr not_k ↦ was.none_after k e (is_old k e (omega arith) is) from (omega arith) chain
       ];
       there = λ k at. (let p = was.there k at in (omega (arith, p.0), p.1, changes.stay k p.1 (λ same_k. omega (arith, p.0)) p.2, p.3));
     }))
   ]
 
-  next_new : (k : ℕ) (e : Row) → slice_get (rows new) k ≡ Some e → IsLast (rows new) e.node k e.next
-  next_new k e is = elim (cases_eq k n) [
-    | inl same ↦ (let p = made_last e (subst (λ j. slice_get (rows new) j ≡ Some e) same is) in
-        subst (λ (y : Row). IsLast (rows new) y.node k y.next) p
-        (last_more v k c (omega arith) (rw (same ∙ last, next) (indexed.first v))))
-    | inr other ↦ (let lt : k < n + 1 = subst (λ m. k < m) size (slice_get_within (rows new) k e is) in
-        last_more e.node k e.next (omega arith) (indexed.next k e (is_old k e (omega arith) is)))
+  next_more : (k : ℕ) (e : Row) → slice_get new k ≡ Some e → IsLast count new (chain_in count e) k e.next
+  next_more k e is = elim (cases_eq k n) [
+    | inl same ↦ (let p = made_last e (subst (λ j. slice_get new j ≡ Some e) same is) in
+        subst (λ (y : Row). IsLast count new (chain_in count y) k y.next) p
+        (last_more (chain_of count v q) k c (omega arith) (rw (same ∙ last, next) (indexed.first_of (chain_of count v q)))))
+    | inr other ↦ (let lt : k < n + 1 = subst (λ m. k < m) size (slice_get_within new k e is) in
+        last_more (chain_in count e) k e.next (omega arith) (indexed.next k e (is_old k e (omega arith) is)))
   ]
 
-  pub indexed_more : IsIndexed new
-  indexed_more = record { first = first_new; next = next_new }
+  pub indexed_more : IsIndexed count new first_new
+  indexed_more = record { first_of = first_more; next = next_more }
 
 -- ---- what an offer leaves
 
@@ -421,14 +431,14 @@ module _ (old new : Frontier) (t n : ℕ) (right : IsQueueRight old) (popped : G
   still k u e waits other = popped.stays u k (right.waits k u e waits) other
 
   -- by a stale one nobody waits
-  pub right_stale : new.first.items ≡ old.first.items → rows new ≡ rows old → AreKept new.keys.items new.entries.items → new.entries.items ≡ old.entries.items
+  pub right_stale : IsIndexed new.chains.count (rows old) new.first.items → rows new ≡ rows old → AreKept new.keys.items new.entries.items → new.entries.items ≡ old.entries.items
       → ((e : Row) → Waits (rows old) n t e → ⊥) → IsQueueRight new
-  right_stale first same kept entries stale = record {
+  right_stale indexed same kept entries stale = record {
     queue = popped.right;
     waits = λ k u e waits. (let was : Waits (rows old) k u e = subst (λ rs. Waits rs k u e) same waits in
         still k u e was (λ is. let p = entry_parts t n u k is in stale e (subst (λ j. Waits (rows old) j t e) (sym p.1) (subst (λ s. Waits (rows old) k s e) (sym p.0) was))));
     apart = subst (λ rs. IsApart rs) (sym same) right.apart;
-    indexed = indexed_links old new right.indexed first (ap length same) (subst (λ rs. SameLinks (rows old) rs) (sym same) (same_links (rows old)));
+    indexed = subst (λ rs. IsIndexed new.chains.count rs new.first.items) (sym same) indexed;
     kept = kept;
     few = rw entries right.few;
   }
@@ -453,14 +463,14 @@ module _ (old new : Frontier) (t n : ℕ) (right : IsQueueRight old) (popped : G
           (λ is. let p = entry_parts t n u k is in other (sym p.1))
     ]
 
-    pub right_settled : new.first.items ≡ old.first.items → AreKept new.keys.items new.entries.items → new.entries.items ≡ old.entries.items → IsQueueRight new
+    pub right_settled : IsIndexed new.chains.count (rows old) new.first.items → AreKept new.keys.items new.entries.items → new.entries.items ≡ old.entries.items → IsQueueRight new
     unfolding at_row
-    right_settled first kept entries = record {
+    right_settled indexed kept entries = record {
       queue = popped.right;
       waits = settled_waits;
       apart = apart_still (rows old) (rows new) n e.node e.state e.next (record e.known { settled = true }) changes right.apart;
-      indexed = indexed_links old new right.indexed first (ap length set ∙ length-set (rows old) n (settled_now e))
-          (links_set (rows old) (rows new) n e.node e.state e.next (record e.known { settled = true }) at_row refl changes);
+      indexed = indexed_links new.chains.count (rows old) (rows new) new.first.items indexed (ap length set ∙ length-set (rows old) n (settled_now e))
+          (links_set new.chains.count (rows old) (rows new) n e.node e.state e.next (record e.known { settled = true }) at_row refl changes);
       kept = kept;
       few = rw entries right.few;
     }
@@ -495,13 +505,13 @@ nobody first f right same empty w r u = go (waits_at (reached_at first w r) u) r
       absurd (empty u by.0 (right.waits by.0 u by.1 by.2))
 
 -- the queue is empty
-pub right_same : (old new : Frontier) → IsQueueRight old → new.keys.items ≡ old.keys.items → new.entries.items ≡ old.entries.items → new.first.items ≡ old.first.items
-    → GivesNone old.queue new.queue → IsQueueRight new
-right_same old new right keys entries first empty = let same : rows new ≡ rows old = rw (keys, entries) refl in record {
+pub right_same : (old new : Frontier) → IsQueueRight old → new.keys.items ≡ old.keys.items → new.entries.items ≡ old.entries.items
+    → IsIndexed new.chains.count (rows old) new.first.items → GivesNone old.queue new.queue → IsQueueRight new
+right_same old new right keys entries indexed empty = let same : rows new ≡ rows old = rw (keys, entries) refl in record {
   queue = empty.right;
   waits = λ k t e waits. absurd (empty.none t k (right.waits k t e (subst (λ rs. Waits rs k t e) same waits)));
   apart = subst (λ rs. IsApart rs) (sym same) right.apart;
-  indexed = indexed_links old new right.indexed first (ap length same) (subst (λ rs. SameLinks (rows old) rs) (sym same) (same_links (rows old)));
+  indexed = subst (λ rs. IsIndexed new.chains.count rs new.first.items) (sym same) indexed;
   kept = rw (keys, entries) right.kept;
   few = rw entries right.few;
 }
@@ -559,22 +569,23 @@ module _ (f : Frontier) (right : IsQueueRight f) (v q k : ℕ) (there : IsAt (ro
     pub kept_top : y.at ≤ way.at → offered (reached_at f v q) way ≡ reached_at f v q
     kept_top from = ap (λ o. offered o way) known_here ∙ from_top (there.row).known way (omega (arith, from, at_here)) ∙ sym known_here
 
--- ---- a node's chain
+-- ---- a chain
 
--- the product state is not behind c, and c stands for a row of the node
-pub record IsSought (rs : List Row) (v q c : ℕ) : Type 0 where
+-- the product state is not behind c, and c stands for a row of its chain
+pub record IsSought (count : ℕ) (rs : List Row) (v q c : ℕ) : Type 0 where
   pub none_after : (k : ℕ) (e : Row) → slice_get rs k ≡ Some e → c ≤ k → e.node ≡ v → e.state ≡ q → ⊥
-  pub there : (k : ℕ) → c ≡ suc k → (e : Row) × (slice_get rs k ≡ Some e) × (e.node ≡ v)
+  pub there : (k : ℕ) → c ≡ suc k → (e : Row) × (slice_get rs k ≡ Some e) × (chain_in count e ≡ chain_of count v q)
 
-pub sought_first : (f : Frontier) → IsIndexed f → (v q c : ℕ) → c ≡ slice_index f.first.items v → IsSought (rows f) v q c
-sought_first f indexed v q c is = rw is (let last = indexed.first v in record {
-  none_after = λ k e known from node state. last.none_after k e known from (slice_get_within (rows f) k e known) node;
+pub sought_first : (count : ℕ) (rs : List Row) (first : List ℕ) → IsIndexed count rs first → (v q c : ℕ) → c ≡ slice_index first (chain_of count v q) → IsSought count rs v q c
+sought_first count rs first indexed v q c is = rw is (let last = indexed.first_of (chain_of count v q) in record {
+  none_after = λ k e known from node state. last.none_after k e known from (slice_get_within rs k e known)
+      (chain_at count rs v q k (record { row = e; known = known; node = node; state = state }));
   there = λ k at. (let p = last.there k at in (p.1, p.2, p.3));
 })
 
-module _ (f : Frontier) (right : IsQueueRight f) (v q c : ℕ) (x : Key) (some : c ≢ 0) (sought : IsSought (rows f) v q c) (read : x ≡ get_or f.keys.items (c - 1) x) where
+module _ (f : Frontier) (right : IsQueueRight f) (v q c : ℕ) (x : Key) (some : c ≢ 0) (sought : IsSought f.chains.count (rows f) v q c) (read : x ≡ get_or f.keys.items (c - 1) x) where
   -- the row whose key was read
-  sought_row : (e : Row) × (slice_get (rows f) (c - 1) ≡ Some e) × (e.node ≡ v) × (key_of e ≡ x)
+  sought_row : (e : Row) × (slice_get (rows f) (c - 1) ≡ Some e) × (chain_in f.chains.count e ≡ chain_of f.chains.count v q) × (key_of e ≡ x)
   sought_row =
       let p = sought.there (c - 1) (omega (arith, some)) in
       (p.0, p.1, p.2, sym (key_read f.keys.items f.entries.items (c - 1) x p.0 right.kept read p.1))
@@ -583,19 +594,26 @@ module _ (f : Frontier) (right : IsQueueRight f) (v q c : ℕ) (x : Key) (some :
   same_state = ap (λ (y : Key). y.state) sought_row.3
 
   pub sought_found : x.state ≡ q → IsAt (rows f) v q (c - 1)
-  sought_found state = record { row = sought_row.0; known = sought_row.1; node = sought_row.2; state = same_state ∙ state }
+  sought_found state =
+      let in_state : (sought_row.0).state ≡ q = same_state ∙ state in
+      record {
+        row = sought_row.0;
+        known = sought_row.1;
+        node = same_node f.chains.count (sought_row.0).node v q f.chains.some (ap (λ r. chain_of f.chains.count (sought_row.0).node r) (sym in_state) ∙ sought_row.2);
+        state = in_state;
+      }
 
-  sought_last : IsLast (rows f) v (c - 1) x.next
-  sought_last = subst (λ n. IsLast (rows f) v (c - 1) n) (ap (λ (y : Key). y.next) sought_row.3)
-      (subst (λ w. IsLast (rows f) w (c - 1) (sought_row.0).next) sought_row.2 (right.indexed.next (c - 1) sought_row.0 sought_row.1))
+  sought_last : IsLast f.chains.count (rows f) (chain_of f.chains.count v q) (c - 1) x.next
+  sought_last = subst (λ n. IsLast f.chains.count (rows f) (chain_of f.chains.count v q) (c - 1) n) (ap (λ (y : Key). y.next) sought_row.3)
+      (subst (λ b. IsLast f.chains.count (rows f) b (c - 1) (sought_row.0).next) sought_row.2 (right.indexed.next (c - 1) sought_row.0 sought_row.1))
 
-  pub sought_next : (x.state ≡ q → ⊥) → IsSought (rows f) v q x.next
+  pub sought_next : (x.state ≡ q → ⊥) → IsSought f.chains.count (rows f) v q x.next
   sought_next differs = record {
     none_after = λ k e known from node state. elim (cases_eq k (c - 1)) [
       | inl same ↦ (let h : Some (sought_row.0) ≡ Some e = sym sought_row.1 ∙ subst (λ j. slice_get (rows f) j ≡ Some e) same known in
           let p : sought_row.0 ≡ e = cc in differs (sym same_state ∙ ap (λ (y : Row). y.state) p ∙ state))
       | inr other ↦ elim (cases_lt k (c - 1)) [
-        | inl lt ↦ sought_last.none_after k e known from lt node
+        | inl lt ↦ sought_last.none_after k e known from lt (chain_at f.chains.count (rows f) v q k (record { row = e; known = known; node = node; state = state }))
         | inr ge ↦ sought.none_after k e known (omega (arith, ge, other)) node state
       ]
     ];
@@ -608,33 +626,30 @@ module _ (f : Frontier) (right : IsQueueRight f) (v q c : ℕ) (x : Key) (some :
     go zero e = omega (arith, some)
     go (suc k) e = let p = (sought_last.there k e).0 in omega (arith, p, some)
 
-pub sought_none : (rs : List Row) (v q c : ℕ) → c ≡ 0 → IsSought rs v q c → IsNowhere rs v q
-sought_none rs v q c is sought k at = sought.none_after k (at.row) at.known (omega (arith, is)) at.node at.state
+pub sought_none : (count : ℕ) (rs : List Row) (v q c : ℕ) → c ≡ 0 → IsSought count rs v q c → IsNowhere rs v q
+sought_none count rs v q c is sought k at = sought.none_after k (at.row) at.known (omega (arith, is)) at.node at.state
 
-pub sought_within : (rs : List Row) (v q c : ℕ) → c ≢ 0 → IsSought rs v q c → c - 1 < length rs
-sought_within rs v q c some sought = let p = sought.there (c - 1) (omega (arith, some)) in slice_get_within rs (c - 1) p.0 p.1
+pub sought_within : (count : ℕ) (rs : List Row) (v q c : ℕ) → c ≢ 0 → IsSought count rs v q c → c - 1 < length rs
+sought_within count rs v q c some sought = let p = sought.there (c - 1) (omega (arith, some)) in slice_get_within rs (c - 1) p.0 p.1
 
 -- ---- the table is cleared
 
-pub behind_first : (f : Frontier) → IsIndexed f → IsBehind f.entries.items f.first.items 0
-behind_first f indexed v k is =
-    let p = (indexed.first v).there k is in
-    let parts = row_parts f.keys.items f.entries.items k p.1 p.2 in
-    (k, omega arith, parts.1, parts.3, ap (λ (r : Row). r.node) parts.4 ∙ p.3)
+pub behind_first : (count : ℕ) (rs : List Row) (first : List ℕ) → IsIndexed count rs first → IsBehind count rs first 0
+behind_first count rs first indexed v k is = let p = (indexed.first_of v).there k is in (k, omega arith, p.1, p.2, p.3)
 
-pub behind_next : (es : List Entry) (old new : List ℕ) (i : ℕ) (x : Entry) → slice_get es i ≡ Some x → IsBehind es old i
-    → slice_index new x.node ≡ 0 → ((v : ℕ) → v ≢ x.node → slice_index new v ≡ slice_index old v) → IsBehind es new (i + 1)
-behind_next es old new i x known behind here others v k is = elim (cases_eq v x.node) [
-  | inl same ↦ (let e : slice_index new x.node ≡ suc k = subst (λ w. slice_index new w ≡ suc k) same is in absurd (omega (arith, e, here)))
+pub behind_next : (count : ℕ) (rs : List Row) (old new : List ℕ) (i : ℕ) (x : Row) → slice_get rs i ≡ Some x → IsBehind count rs old i
+    → slice_index new (chain_in count x) ≡ 0 → ((v : ℕ) → v ≢ chain_in count x → slice_index new v ≡ slice_index old v) → IsBehind count rs new (i + 1)
+behind_next count rs old new i x known behind here others v k is = elim (cases_eq v (chain_in count x)) [
+  | inl same ↦ (let e : slice_index new (chain_in count x) ≡ suc k = subst (λ w. slice_index new w ≡ suc k) same is in absurd (omega (arith, e, here)))
   | inr other ↦ (let b = behind v k (sym (others v other) ∙ is) in elim (cases_eq b.0 i) [
     | inr later ↦ (b.0, omega (arith, b.1, later), b.2, b.3, b.4)
-    | inl same ↦ (let h : Some x ≡ Some b.2 = sym known ∙ subst (λ j. slice_get es j ≡ Some b.2) same b.3 in
-        let p : x ≡ b.2 = cc in absurd (other (sym b.4 ∙ ap (λ (y : Entry). y.node) (sym p))))
+    | inl same ↦ (let h : Some x ≡ Some b.2 = sym known ∙ subst (λ j. slice_get rs j ≡ Some b.2) same b.3 in
+        let p : x ≡ b.2 = cc in absurd (other (sym b.4 ∙ ap (chain_in count) (sym p))))
   ])
 ]
 
-pub behind_all : (es : List Entry) (first : List ℕ) (i : ℕ) → length es ≤ i → IsBehind es first i → IsClear first
-behind_all es first i all behind v = go (slice_index first v) refl where
+pub behind_all : (count : ℕ) (rs : List Row) (first : List ℕ) (i : ℕ) → length rs ≤ i → IsBehind count rs first i → IsClear first
+behind_all count rs first i all behind v = go (slice_index first v) refl where
   go : (m : ℕ) → slice_index first v ≡ m → slice_index first v ≡ 0
   go zero e = e
-  go (suc k) e = let b = behind v k e in let lt = slice_get_within es b.0 b.2 b.3 in absurd (omega (arith, b.1, lt, all))
+  go (suc k) e = let b = behind v k e in let lt = slice_get_within rs b.0 b.2 b.3 in absurd (omega (arith, b.1, lt, all))

@@ -43,7 +43,7 @@ row_there (d ∷ ks) [] n k e key entry = cc
 row_there (d ∷ ks) (b ∷ es) zero k e key entry = let p : d ≡ k = cc in let q : b ≡ e = cc in ap (λ x. Some (row_of x b)) p ∙ ap (λ x. Some (row_of k x)) q
 row_there (d ∷ ks) (b ∷ es) (suc n) k e key entry = row_there ks es n k e key entry
 
-rows_length : (ks : List Key) (es : List Entry) → length ks ≡ length es → length (rows_of ks es) ≡ length es
+pub rows_length : (ks : List Key) (es : List Entry) → length ks ≡ length es → length (rows_of ks es) ≡ length es
 rows_length [] [] same = refl
 rows_length [] (e ∷ es) same = absurd (omega arith)
 rows_length (k ∷ ks) [] same = absurd (omega arith)

@@ -1,13 +1,13 @@
 -- The arcs that a graph says can be taken, but for what was given before, and what they lead to.
 use Rattle.std.proofs.Common.{◌≡◌, ℕ, ◌<◌, ◌≤◌, ◌^◌, inl, inr, Bool, true, false, not, nat_eq, List, Some, None, refl, sym, ◌∙◌, ap, subst}
-use Rattle.std.specs.Prelude.{Option, All, Contains, IfSome, IsBitSet}
+use Rattle.std.specs.Prelude.{◌⊎◌, Option, All, Contains, IfSome, IsBitSet}
 use Rattle.std.specs.Int.Bits.{bit_and}
-use Rattle.std.proofs.lemmas.Bool.{false≢true, eqb-true, cases_lt}
+use Rattle.std.proofs.lemmas.Bool.{false≢true, eqb-true, cases_lt, cases_eq}
 use Rattle.std.proofs.lemmas.List.Elements.{All-weaker, All-contains}
 use Rattle.search_laws.specs.GraphLaws.{GraphMeaning, IsLawfulGraph}
 use Rattle.search_laws.specs.LabelLaws.{LabelsMeaning, AllAfter, Follows}
 use Rattle.search_laws.specs.Ways.{is_open, ways_past, IsWay}
-use Rattle.search_laws.specs.Fresh.{RunRides, IsCovered}
+use Rattle.search_laws.specs.Fresh.{RunRides, IsCovered, StandsStill, AreMoving}
 use Rattle.search_laws.specs.declared.given.GivenRuns.{GivenRuns}
 use Rattle.search_laws.specs.declared.graph.GraphArc.{GraphArc}
 use Rattle.search_laws.specs.declared.graph.Way.{Way}
@@ -15,6 +15,7 @@ use Rattle.search_laws.proofs.WayLemmas.{ways_are, ways_there}
 use Rattle.product_search.specs.declared.frontier.Reached.{Reached}
 use Rattle.product_search.specs.declared.frontier.Settled.{Settled}
 use Rattle.product_search.specs.declared.frontier.Frontier.{Frontier}
+use Rattle.product_search.specs.MoveTables.{HasLeaving}
 use Rattle.product_search.specs.Exploring.{IsReachedBy, IsByWays, WayIsReached, IsSuccessor, ArcIsReached, AreGivenReached, way_by}
 use Rattle.product_search.proofs.GivenLemmas.{among_reached}
 
@@ -61,29 +62,47 @@ module _ (g : GraphMeaning) (l : LabelsMeaning) (bound : Option ℕ) (s : Settle
   none_after None P h = absurd (false≢true (sym h))
   none_after (Some c) P h = λ j lt by. absurd (has j c lt by (eqb-true (bit_and letters (2 ^ c)) 0 (not_false (nat_eq (bit_and letters (2 ^ c)) 0) h)))
 
-  -- what the arcs from a place on lead to is reached, if it is by these ways and by what was given before
-  arcs_past_reached : (rides : RunRides) (given : GivenRuns) (first : ℕ) (ways : List Way) → All (IsCovered rides s.state given ways) (ways_past g s.node s.at letters first)
-      → AreGivenReached rides l bound f given → All (WayIsReached l bound f s.state) ways
-      → (i : ℕ) → first ≤ i → i < g.arcs s.node → ArcIsReached g l bound f s.node s.state s.at i
-  arcs_past_reached rides given first ways covered before all i from lt u e within = by_letter (is_open letters (g.arc_at s.node i).letter) refl
-    where
-      way : Way
-      way = record { place = i; arc = g.arc_at s.node i; at = u }
+  -- what a way that stands still leads to is the product state itself, which is reached
+  stands_reached : (leaving : ℕ) → HasLeaving l s.state leaving → IsReachedBy f s.node s.state s.at → (way : Way) → StandsStill s.node s.at leaving way
+      → WayIsReached l bound f s.state way
+  stands_reached leaving leaves here way stands within =
+      subst (λ (o : Option ℕ). AllAfter l s.state o (λ r. IsReachedBy f way.arc.to r way.at)) (sym stands.by)
+      (λ j lt by. elim (cases_eq (l.move_at s.state j).to s.state) [
+        | inl same ↦ rw (stands.to, stands.at, same) here
+        | inr other ↦ absurd (stands.stays (leaves j stands.letter lt by other))
+      ])
 
-      by_letter : (b : Bool) → is_open letters (g.arc_at s.node i).letter ≡ b → AllAfter l s.state (g.arc_at s.node i).letter (λ r. IsReachedBy f (g.arc_at s.node i).to r u)
-      by_letter true h =
-          let there : Contains (ways_past g s.node s.at letters first) way = ways_there g s.node s.at letters first i u from lt e h in
-          elim (All-contains (IsCovered rides s.state given ways) (ways_past g s.node s.at letters first) way covered there) [
-            | inl found ↦ among_reached l bound f s.state ways way all found within
-            | inr was ↦ before s.state way was within
-          ]
-      by_letter false h = none_after (g.arc_at s.node i).letter (λ r. IsReachedBy f (g.arc_at s.node i).to r u) h
+  module _ (leaving first : ℕ) (leaves : HasLeaving l s.state leaving) (here : IsReachedBy f s.node s.state s.at) (moving : List Way)
+      (parts : AreMoving s.node s.at leaving (ways_past g s.node s.at letters first) moving) where
+    -- what the arcs from a place on lead to is reached, if it is by these ways and by what was given before
+    arcs_past_reached : (rides : RunRides) (given : GivenRuns) (ways : List Way) → All (IsCovered rides s.state given ways) moving
+        → AreGivenReached rides l bound f given → All (WayIsReached l bound f s.state) ways
+        → (i : ℕ) → first ≤ i → i < g.arcs s.node → ArcIsReached g l bound f s.node s.state s.at i
+    arcs_past_reached rides given ways covered before all i from lt u e within = by_letter (is_open letters (g.arc_at s.node i).letter) refl
+      where
+        way : Way
+        way = record { place = i; arc = g.arc_at s.node i; at = u }
 
-  -- so it is by all arcs, if it is by those before
-  pub arcs_reached : (rides : RunRides) (given : GivenRuns) (first : ℕ) (ways : List Way) → All (IsCovered rides s.state given ways) (ways_past g s.node s.at letters first)
-      → AreGivenReached rides l bound f given → All (WayIsReached l bound f s.state) ways
-      → ((i : ℕ) → i < first → ArcIsReached g l bound f s.node s.state s.at i) → (i : ℕ) → i < g.arcs s.node → ArcIsReached g l bound f s.node s.state s.at i
-  arcs_reached rides given first ways covered before all steady i lt = elim (cases_lt i first) [
-    | inl below ↦ steady i below
-    | inr from ↦ arcs_past_reached rides given first ways covered before all i from lt
-  ]
+        moves : Contains moving way → WayIsReached l bound f s.state way
+        moves has = elim (All-contains (IsCovered rides s.state given ways) moving way covered has) [
+          | inl found ↦ among_reached l bound f s.state ways way all found
+          | inr was ↦ before s.state way was
+        ]
+
+        by_letter : (b : Bool) → is_open letters (g.arc_at s.node i).letter ≡ b → AllAfter l s.state (g.arc_at s.node i).letter (λ r. IsReachedBy f (g.arc_at s.node i).to r u)
+        by_letter true h =
+            let there : Contains (ways_past g s.node s.at letters first) way = ways_there g s.node s.at letters first i u from lt e h in
+            elim (All-contains (λ (x : Way). Contains moving x ⊎ StandsStill s.node s.at leaving x) (ways_past g s.node s.at letters first) way parts.rest there) [
+              | inl has ↦ moves has within
+              | inr stands ↦ stands_reached leaving leaves here way stands within
+            ]
+        by_letter false h = none_after (g.arc_at s.node i).letter (λ r. IsReachedBy f (g.arc_at s.node i).to r u) h
+
+    -- so it is by all arcs, if it is by those before
+    pub arcs_reached : (rides : RunRides) (given : GivenRuns) (ways : List Way) → All (IsCovered rides s.state given ways) moving
+        → AreGivenReached rides l bound f given → All (WayIsReached l bound f s.state) ways
+        → ((i : ℕ) → i < first → ArcIsReached g l bound f s.node s.state s.at i) → (i : ℕ) → i < g.arcs s.node → ArcIsReached g l bound f s.node s.state s.at i
+    arcs_reached rides given ways covered before all steady i lt = elim (cases_lt i first) [
+      | inl below ↦ steady i below
+      | inr from ↦ arcs_past_reached rides given ways covered before all i from lt
+    ]

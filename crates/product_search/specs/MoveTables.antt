@@ -7,6 +7,10 @@ use Rattle.product_search.specs.declared.moves.MoveTable.{MoveTable}
 abbrev pub HasLetters : LabelsMeaning → ℕ → ℕ → Type 0
 HasLetters l q letters = (j c : ℕ) → j < l.moves q → IsBitSet (l.move_at q j).letters c → IsBitSet letters c
 
+-- the letters of those that lead to another state are among these
+abbrev pub HasLeaving : LabelsMeaning → ℕ → ℕ → Type 0
+HasLeaving l q letters = (j c : ℕ) → j < l.moves q → IsBitSet (l.move_at q j).letters c → ((l.move_at q j).to ≡ q → ⊥) → IsBitSet letters c
+
 -- these are the states that moves by the letter c lead to from q
 pub record AreTargets (l : LabelsMeaning) (q c : ℕ) (targets : List ℕ) : Type 0 where
   pub are : All (HasMove l q c) targets
@@ -16,6 +20,10 @@ pub record AreLetterSets (l : LabelsMeaning) (sets : List ℕ) : Type 0 where
   pub one_each : length sets ≡ l.states
   pub are : (q : ℕ) → q < l.states → HasLetters l q (slice_index sets q)
 
+pub record AreLeavingSets (l : LabelsMeaning) (sets : List ℕ) : Type 0 where
+  pub one_each : length sets ≡ l.states
+  pub are : (q : ℕ) → q < l.states → HasLeaving l q (slice_index sets q)
+
 -- 14 lists for each state, one for each letter
 pub record AreTargetLists (l : LabelsMeaning) (lists : List (List ℕ)) : Type 0 where
   pub one_each : length lists ≡ 14 * l.states
@@ -23,4 +31,5 @@ pub record AreTargetLists (l : LabelsMeaning) (lists : List (List ℕ)) : Type 0
 
 pub record IsTableOf (l : LabelsMeaning) (t : MoveTable) : Type 0 where
   pub letters : AreLetterSets l t.letters.items
+  pub leaving : AreLeavingSets l t.leaving.items
   pub targets : AreTargetLists l t.targets.items

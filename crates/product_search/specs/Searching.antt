@@ -1,5 +1,5 @@
 -- What the search keeps while it settles one product state after the other.
-use Rattle.std.specs.Prelude.{◌≡◌, ℕ, zero, suc, ◌+◌, ◌*◌, ◌^◌, ◌<◌, ◌≤◌, Bool, true, false, List, length, slice_index, Option, Some, None, IsTrue, Contains, ◌&&◌, if◌then◌else◌}
+use Rattle.std.specs.Prelude.{◌≡◌, ℕ, zero, suc, ◌+◌, ◌*◌, ◌^◌, ◌<◌, ◌≤◌, Bool, true, false, List, length, slice_index, Option, Some, None, IfSome, All, IsTrue, Contains, ◌&&◌, if◌then◌else◌}
 use Rattle.search_laws.specs.GraphLaws.{GraphMeaning, HasArc}
 use Rattle.search_laws.specs.LabelLaws.{LabelsMeaning, Follows}
 use Rattle.product_search.specs.declared.frontier.Reached.{Reached}
@@ -9,6 +9,8 @@ use Rattle.product_search.specs.declared.frontier.Frontier.{Frontier}
 use Rattle.product_search.specs.Reach.{IsReachedAt, IsWithin, IsToList, is_before}
 use Rattle.product_search.specs.Listed.{label_of}
 use Rattle.product_search.specs.declared.label.Label.{Label}
+use Rattle.product_search.specs.declared.label.Best.{Best}
+use Rattle.product_search.specs.Answer.{IsArrival, IsWalkFor, last_time}
 use Rattle.product_search.specs.Waiting.{keyed, rows, reached_at, waits_at, IsAt, IsLink, IsQueueRight}
 use Rattle.product_search.specs.Exploring.{StartIsReached, ArcIsReached}
 
@@ -110,6 +112,14 @@ IsExplored g l starts targets dep bound f (Some s) = IsSearched g l starts targe
 abbrev pub arrival_of : Option Settled → Option ℕ
 arrival_of None = None
 arrival_of (Some s) = Some s.at
+
+-- the frontier is that of a search which has come to this arrival, by this walk
+pub record IsSettlement (g : GraphMeaning) (l : LabelsMeaning) (starts targets : List ℕ) (dep : ℕ) (bound : Option ℕ) (f : Frontier) (best : Best) : Type 0 where
+  pub searched : IsSearched g l starts targets dep bound best.arrival f
+  pub arrival : IsArrival g l starts targets dep bound best.arrival
+  pub walk : IsWalkFor g l starts targets dep best.arrival best.walk
+  pub arrival_soon : IfSome best.arrival (λ a. a ≤ last_time dep)
+  pub walk_soon : IfSome best.walk (λ w. (w.at ≤ last_time dep) × All (λ h. h.at ≤ last_time dep) w.hops.items)
 
 -- ---- what it lists
 

@@ -1,5 +1,5 @@
 -- What is known of the product states, and who waits in the queue.
-use Rattle.std.specs.Prelude.{◌≡◌, ℕ, ◌≤◌, Bool, true, false, not, ◌&&◌, ◌||◌, ◌==◌, suc, ◌+◌, ◌<◌, List, map, length, slice_index, slice_get, Option, Some, None, nat_le, if◌then◌else◌, min, ◌-◌, ◌^◌}
+use Rattle.std.specs.Prelude.{◌≡◌, ℕ, ◌≤◌, Bool, true, false, not, ◌&&◌, ◌||◌, ◌==◌, suc, ◌+◌, ◌*◌, ◌%◌, ◌<◌, List, map, length, slice_index, slice_get, Option, Some, None, nat_le, if◌then◌else◌, min, ◌-◌, ◌^◌}
 use Rattle.std.specs.List.{zip}
 use Rattle.std.specs.Map.{lookup}
 use Rattle.product_search.specs.Queued.{Queued, IsQueue}
@@ -93,23 +93,31 @@ IsLink f v q c = (k : ℕ) × (c ≡ suc k) × IsAt (rows f) v q k
 abbrev pub KeepsNumbers : Frontier → Frontier → Type 0
 KeepsNumbers old new = (v q k : ℕ) → IsAt (rows old) v q k → IsAt (rows new) v q k
 
--- c stands for the last row of the node v below a number: it is its number and 1, or 0
-pub record IsLast (rs : List Row) (v below c : ℕ) : Type 0 where
-  pub none_after : (k : ℕ) (r : Row) → slice_get rs k ≡ Some r → c ≤ k → k < below → r.node ≡ v → ⊥
-  pub there : (k : ℕ) → c ≡ suc k → (k < below) × (r : Row) × (slice_get rs k ≡ Some r) × (r.node ≡ v)
+-- the chain of v and q, where each node has so many, among which its states are shared out
+abbrev pub chain_of : ℕ → ℕ → ℕ → ℕ
+chain_of count v q = v * count + q % count
 
--- no node has an entry
+abbrev pub chain_in : ℕ → Row → ℕ
+chain_in count r = chain_of count r.node r.state
+
+-- c stands for the last row of a chain below a number: it is its number and 1, or 0
+pub record IsLast (count : ℕ) (rs : List Row) (chain below c : ℕ) : Type 0 where
+  pub none_after : (k : ℕ) (r : Row) → slice_get rs k ≡ Some r → c ≤ k → k < below → chain_in count r ≡ chain → ⊥
+  pub there : (k : ℕ) → c ≡ suc k → (k < below) × (r : Row) × (slice_get rs k ≡ Some r) × (chain_in count r ≡ chain)
+
+-- no chain has an entry
 abbrev pub IsClear : List ℕ → Type 0
-IsClear first = (v : ℕ) → slice_index first v ≡ 0
+IsClear first = (chain : ℕ) → slice_index first chain ≡ 0
 
--- where the table has a number for a node, some entry from i on is of that node
-abbrev pub IsBehind : List Entry → List ℕ → ℕ → Type 0
-IsBehind es first i = (v k : ℕ) → slice_index first v ≡ suc k → (j : ℕ) × (i ≤ j) × (e : Entry) × (slice_get es j ≡ Some e) × (e.node ≡ v)
+-- where the table has a number for a chain, some row from i on is of that chain
+abbrev pub IsBehind : ℕ → List Row → List ℕ → ℕ → Type 0
+IsBehind count rs first i = (chain k : ℕ) → slice_index first chain ≡ suc k
+    → (j : ℕ) × (i ≤ j) × (r : Row) × (slice_get rs j ≡ Some r) × (chain_in count r ≡ chain)
 
--- the rows of each node are chained, from the last one to the first
-pub record IsIndexed (f : Frontier) : Type 0 where
-  pub first : (v : ℕ) → IsLast (rows f) v (length (rows f)) (slice_index f.first.items v)
-  pub next : (k : ℕ) (r : Row) → slice_get (rows f) k ≡ Some r → IsLast (rows f) r.node k r.next
+-- the rows of each chain are linked, from the last one to the first
+pub record IsIndexed (count : ℕ) (rs : List Row) (first : List ℕ) : Type 0 where
+  pub first_of : (chain : ℕ) → IsLast count rs chain (length rs) (slice_index first chain)
+  pub next : (k : ℕ) (r : Row) → slice_get rs k ≡ Some r → IsLast count rs (chain_in count r) k r.next
 
 -- the row with that number waits for the time t
 pub record Waits (rs : List Row) (k t : ℕ) (r : Row) : Type 0 where
@@ -129,7 +137,7 @@ pub record IsQueueRight (f : Frontier) : Type 0 where
   pub queue : IsQueue f.queue
   pub waits : (k t : ℕ) (r : Row) → Waits (rows f) k t r → Queued f.queue t k
   pub apart : IsApart (rows f)
-  pub indexed : IsIndexed f
+  pub indexed : IsIndexed f.chains.count (rows f) f.first.items
   pub kept : AreKept f.keys.items f.entries.items
   pub few : length f.entries.items < 2 ^ 32
 

@@ -1,6 +1,7 @@
 //! Clause 9: what the arcs of each label lead to before the arrival is listed by then.
 
 ghost use Rattle.std.specs.Prelude.{◌<◌, ◌^◌, ◌↔◌, All, Some, IfSome, IsTrue, IsBitSet, MatchOption, length};
+ghost use Rattle.search_laws.specs.Letters.{IsLetter};
 ghost use Rattle.search_laws.specs.LabelLaws.{AllAfter};
 ghost use Rattle.product_search.specs.Listed.{IsAscending};
 ghost use Rattle.product_search.specs.Closed.{IsListedBy, IsInOrderAt, ArcIsListed, ArcsAreListed, ArcsAreListedAt, HoldsBelow, FailsFirstAt};
@@ -8,8 +9,8 @@ ghost use Rattle.product_search.specs.Closed.{IsListedBy, IsInOrderAt, ArcIsList
 use crate::label::Label;
 use crate::listing::is_before;
 use crate::lookup::is_listed;
-use crate::moves::has_letter;
-use search_laws::{Graph, GraphArc, Labels, Move, Time};
+use crate::moves::letters_after;
+use search_laws::{Graph, GraphArc, Labels, Move, Time, is_open};
 
 /// The first label with an arc that leads to an unlisted product state, or to one that is listed too late.
 pub(crate) fn first_open_arcs<G: Graph, L: Labels>(
@@ -33,7 +34,7 @@ pub(crate) fn first_open_arcs<G: Graph, L: Labels>(
     None
 }
 
-/// Whether all arcs of a label lead to what is listed.
+/// Whether all arcs of a label lead to what is listed. Those by which no move leaves its state are passed over, letter by letter.
 fn arcs_are_listed<G: Graph, L: Labels>(
     graph: &G,
     labels: &L,
@@ -47,8 +48,16 @@ fn arcs_are_listed<G: Graph, L: Labels>(
     requires time { label.at < 2 ^ 127 }
     ensures { IsTrue result ↔ ArcsAreListed (G.meaning graph.now) (L.automaton labels.now) arrival list.now label }
 {
-    for i in 0..graph.arcs(label.node) {
-        if !arc_is_listed(graph, labels, arrival, list, label, i) {
+    let letters = letters_after(labels, label.state);
+    let arcs = graph.arcs(label.node);
+    let mut i = 0;
+    'arcs: while i < arcs {
+        let arc = graph.arc_at(label.node, i);
+        if !is_open(letters, arc.letter) {
+            i = graph.past_letter(label.node, i);
+        } else if arc_is_listed(graph, labels, arrival, list, label, i) {
+            i += 1;
+        } else {
             return false;
         }
     }
@@ -90,7 +99,7 @@ fn states_are_listed<L: Labels>(
 ) -> bool
     requires ascending { IsAscending list.now }
     requires state { state < (L.automaton labels.now).states }
-    requires letter { IfSome arc.letter (λ c. c < 14) }
+    requires letter { IfSome arc.letter IsLetter }
     ensures { IsTrue result ↔ AllAfter (L.automaton labels.now) state arc.letter (λ r. IsListedBy list.now arc.to r at) }
 {
     match arc.letter {
@@ -110,7 +119,7 @@ fn moves_are_listed<L: Labels>(
 ) -> bool
     requires ascending { IsAscending list.now }
     requires state { state < (L.automaton labels.now).states }
-    requires letter { letter < 14 }
+    requires letter { IsLetter letter }
     ensures { IsTrue result ↔ AllAfter (L.automaton labels.now) state (Some letter) (λ r. IsListedBy list.now to r at) }
 {
     for j in 0..labels.moves(state) {
@@ -124,8 +133,8 @@ fn moves_are_listed<L: Labels>(
 /// Whether a node is listed in the state that a move leads to, if it is by the letter.
 fn move_is_listed(list: &[Label], step: Move, to: u32, letter: u8, at: Time) -> bool
     requires ascending { IsAscending list.now }
-    requires letter { letter < 14 }
+    requires letter { IsLetter letter }
     ensures { IsTrue result ↔ (IsBitSet step.letters letter → IsListedBy list.now to step.to at) }
 {
-    !has_letter(step, letter) || is_listed(list, to, step.to, at)
+    !step.has_letter(letter) || is_listed(list, to, step.to, at)
 }

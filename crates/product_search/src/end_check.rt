@@ -1,6 +1,6 @@
 //! Clause 8: no label stands at a target in an accepting state.
 
-ghost use Rattle.std.specs.Prelude.{◌<◌, ◌↔◌, All, Contains, IsTrue, MatchOption, length};
+ghost use Rattle.std.specs.Prelude.{◌<◌, ◌↔◌, All, IsTrue, MatchOption, length};
 ghost use Rattle.product_search.specs.Closed.{IsNoEnd, IsNoEndAt, HoldsBelow, FailsFirstAt};
 
 use crate::label::Label;
@@ -26,12 +26,5 @@ fn is_no_end<L: Labels>(labels: &L, targets: &[u32], label: Label) -> bool
     requires { label.state < (L.automaton labels.now).states }
     ensures { IsTrue result ↔ IsNoEnd (L.automaton labels.now) targets.now label }
 {
-    !(labels.accepts(label.state) && contains(targets, label.node))
-}
-
-/// Whether a list of nodes has the node.
-fn contains(nodes: &[u32], node: u32) -> bool
-    ensures { IsTrue result ↔ Contains nodes.now node }
-{
-    nodes.contains(&node)
+    !(labels.accepts(label.state) && targets.contains(&label.node))
 }

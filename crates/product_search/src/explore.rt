@@ -1,6 +1,7 @@
 //! The arcs out of a settled product state, each offered to the frontier.
 
 ghost use Rattle.std.specs.Prelude.{◌≡◌, ℕ, ◌+◌, ◌<◌, ◌≤◌, ◌^◌, false, None, Some, All, OnOk, IfSome, IsTrue, IsBitSet, ◌↔◌};
+ghost use Rattle.search_laws.specs.Letters.{IsLetter};
 ghost use Rattle.search_laws.specs.LabelLaws.{AllAfter, Follows};
 ghost use Rattle.product_search.specs.Reach.{IsWithin};
 ghost use Rattle.product_search.specs.Waiting.{IsQueueRight};
@@ -13,7 +14,8 @@ use search_laws::{GivenRuns, Graph, GraphArc, Labels, Steady, Time, Way};
 use std::alloc::AllocError;
 
 /// Offers what each arc out of a settled product state leads to within the bound, but for rides as good as those that its
-/// state was given, which are reached already. Notes the runs whose rides it offers. What `ways` holds is lost.
+/// state was given and arcs that lead back to it at once, as what these lead to is reached already. Notes the runs whose rides it
+/// offers. What `ways` holds is lost.
 ///
 /// The steady arcs are offered one by one, and the others from a list.
 pub(crate) fn explore<G: Graph, L: Labels>(
@@ -32,6 +34,7 @@ pub(crate) fn explore<G: Graph, L: Labels>(
     requires time { from.at < 2 ^ 127 }
     requires right { IsQueueRight frontier.old }
     requires settled { IsSettledBy frontier.old from.at }
+    requires here { IsReachedBy frontier.old from.node from.state from.at }
     requires given { AreGivenReached (G.rides graph.now) (L.automaton labels.now) bound frontier.old given.old }
     ensures right { OnOk result (IsQueueRight frontier.new) }
     ensures offers { OnOk result (Offers frontier.old frontier.new
@@ -43,8 +46,10 @@ pub(crate) fn explore<G: Graph, L: Labels>(
     let steady = graph.steady(from.node);
     explore_steady(frontier, graph, labels, moves, bound, from, steady)?;
     ways.clear();
-    let letters = moves.letters_of(from.state);
-    graph.fresh_ways(from.node, from.at, letters, from.state, given, ways)?;
+    let state = from.state;
+    let letters = moves.letters_of(state);
+    let leaving = moves.leaving(state);
+    graph.fresh_ways(from.node, from.at, letters, leaving, state, given, ways)?;
     explore_ways(frontier, labels, moves, bound, from, ways)?;
     Ok(())
 }
@@ -196,7 +201,7 @@ fn explore_ways<L: Labels>(
 ) -> Result<(), AllocError>
     requires table { IsTableOf (L.automaton labels.now) moves.now }
     requires state { from.state < (L.automaton labels.now).states }
-    requires letters { All (λ way. IfSome way.arc.letter (λ c. c < 14)) ways.now }
+    requires letters { All (λ way. IfSome way.arc.letter IsLetter) ways.now }
     requires times { All (λ way. from.at ≤ way.at) ways.now }
     requires right { IsQueueRight frontier.old }
     requires settled { IsSettledBy frontier.old from.at }
@@ -222,7 +227,7 @@ fn explore_way<L: Labels>(
 ) -> Result<(), AllocError>
     requires table { IsTableOf (L.automaton labels.now) moves.now }
     requires state { from.state < (L.automaton labels.now).states }
-    requires letter { IfSome way.arc.letter (λ c. c < 14) }
+    requires letter { IfSome way.arc.letter IsLetter }
     requires time { from.at ≤ way.at }
     requires right { IsQueueRight frontier.old }
     requires settled { IsSettledBy frontier.old from.at }
@@ -272,7 +277,7 @@ fn offer_states<L: Labels>(
 ) -> Result<(), AllocError>
     requires table { IsTableOf (L.automaton labels.now) moves.now }
     requires state { state < (L.automaton labels.now).states }
-    requires letter { IfSome arc.letter (λ c. c < 14) }
+    requires letter { IfSome arc.letter IsLetter }
     requires waits { way.settled ≡ false }
     requires right { IsQueueRight frontier.old }
     requires settled { IsSettledBy frontier.old way.at }
@@ -306,7 +311,7 @@ fn offer_moves<L: Labels>(
 ) -> Result<(), AllocError>
     requires table { IsTableOf (L.automaton labels.now) moves.now }
     requires state { state < (L.automaton labels.now).states }
-    requires letter { letter < 14 }
+    requires letter { IsLetter letter }
     requires waits { way.settled ≡ false }
     requires right { IsQueueRight frontier.old }
     requires settled { IsSettledBy frontier.old way.at }

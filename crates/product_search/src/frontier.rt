@@ -3,6 +3,7 @@
 ghost use Rattle.std.specs.Prelude.{◌≡◌, ◌≢◌, ℕ, ◌<◌, ◌^◌, ◌++◌, false, true, None, Some, IfSome, IfNone, IfOk, OnOk, IsTrue, IsFalse, MatchOption, ◌∷◌, [], slice_get, slice_index, slice_set, ◌+◌, length};
 ghost use Rattle.product_search.specs.Waiting.{IsQueueRight, IsOffered, SettlesLeast, NobodyWaits, SameReached, KeepsNumbers, rows, rows_of, reached_at, offered, IsAt, IsNowhere, IsClear, IsBehind, settled_now, Waits, AreKept, is_waiting};
 
+use crate::chains::Chains;
 use crate::key::Key;
 use crate::queue::Queue;
 use crate::row::Row;
@@ -52,14 +53,15 @@ pub(crate) struct Frontier {
     pub entries: Vec<Entry>,
     /// For each entry its key.
     pub keys: Vec<Key>,
-    /// For each node the number of its last entry, and 1; or 0. Nodes past its end have none.
+    /// For each chain the number of its last entry, and 1; or 0. Chains past its end have none.
     pub first: Vec<u32>,
+    pub chains: Chains,
     pub queue: Queue,
 }
 
 impl Frontier {
-    /// A frontier with nothing reached, which uses the lists and the table of a workspace.
-    pub fn new(alloc: Global, workspace: Workspace) -> Frontier
+    /// A frontier with nothing reached, for an automaton with so many states. It uses the lists and the table of a workspace.
+    pub fn new(alloc: Global, workspace: Workspace, states: u32) -> Frontier
         ensures right { IsQueueRight result }
         ensures empty { (v q : ℕ) → reached_at result v q ≡ None }
     {
@@ -72,6 +74,7 @@ impl Frontier {
             entries,
             keys,
             first,
+            chains: Chains::of(states),
             queue: Queue::new(alloc),
         }
     }
@@ -82,7 +85,7 @@ impl Frontier {
         requires { IsQueueRight self.now }
         ensures { MatchOption result (IsNowhere (rows self.now) node state) (IsAt (rows self.now) node state) }
     {
-        let mut cursor = self.head(node);
+        let mut cursor = self.head(self.chains.place(node, state));
         'chain: while cursor != 0 {
             let key = self.keys[(cursor - 1) as usize];
             if key.state == state {
@@ -93,12 +96,12 @@ impl Frontier {
         None
     }
 
-    /// The number of the last entry of a node, and 1; or 0.
+    /// The number of the last entry of a chain, and 1; or 0.
     #[inline(always)]
-    fn head(&self, node: u32) -> u32
-        ensures { result ≡ slice_index self.now.first.items node }
+    fn head(&self, chain: usize) -> u32
+        ensures { result ≡ slice_index self.now.first.items chain }
     {
-        match self.first.get(node as usize) {
+        match self.first.get(chain) {
             None => 0,
             Some(cursor) => *cursor,
         }
@@ -136,8 +139,9 @@ impl Frontier {
         ensures offered { OnOk result (IsOffered self.old self.new node state way) }
     {
         let number = number_of(self.entries.len())?;
-        let next = self.head(node);
-        grow(&mut self.first, node)?;
+        let chain = self.chains.place(node, state);
+        let next = self.head(chain);
+        grow(&mut self.first, chain)?;
         push(
             &mut self.entries,
             &mut self.keys,
@@ -148,7 +152,7 @@ impl Frontier {
                 known: way,
             },
         )?;
-        self.first[node as usize] = number + 1;
+        self.first[chain] = number + 1;
         self.queue.push(way.at, number)?;
         Ok(())
     }
@@ -221,28 +225,32 @@ impl Frontier {
 }
 
 /// A table as it was before there were entries.
-pub(crate) fn cleared(entries: &[Entry], first: Vec<u32>) -> Vec<u32>
-    requires { IsBehind entries.now first.items 0 }
+pub(crate) fn cleared(entries: &[Entry], keys: &[Key], chains: Chains, first: Vec<u32>) -> Vec<u32>
+    requires keys { length keys.now ≡ length entries.now }
+    requires behind { IsBehind chains.count (rows_of keys.now entries.now) first.items 0 }
     ensures { IsClear result.items }
 {
     let mut first = first;
     'clear: for k in 0..entries.len() {
-        clear_at(&mut first, entries[k].node);
+        let key = keys[k];
+        let entry = entries[k];
+        clear_at(&mut first, chains.place(entry.node, key.state));
     }
     first
 }
 
-/// Clears what a table has for a node.
-fn clear_at(first: &mut Vec<u32>, node: u32)
-    ensures here { slice_index first.new.items node ≡ 0 }
-    ensures others { (v : ℕ) → v ≢ node → slice_index first.new.items v ≡ slice_index first.old.items v }
+/// Clears what a table has for a chain.
+fn clear_at(first: &mut Vec<u32>, chain: usize)
+    ensures here { slice_index first.new.items chain ≡ 0 }
+    ensures others { (v : ℕ) → v ≢ chain → slice_index first.new.items v ≡ slice_index first.old.items v }
 {
-    if (node as usize) < first.len() {
-        first[node as usize] = 0;
+    if chain < first.len() {
+        first[chain] = 0;
     }
 }
 
-/// A count as a number of 32 bits; fails where it has more.
+/// A count as a number of 32 bits. At 2^32 - 1 product states it fails as if memory had run out: a link, which is a number
+/// and 1, would not fit.
 fn number_of(count: usize) -> Result<u32, AllocError>
     ensures count { IfOk result (λ n. n ≡ count) }
     ensures small { IfOk result (λ n. n + 1 < 2 ^ 32) }
@@ -254,12 +262,12 @@ fn number_of(count: usize) -> Result<u32, AllocError>
     }
 }
 
-/// Makes a table of numbers long enough for a node.
-fn grow(first: &mut Vec<u32>, node: u32) -> Result<(), AllocError>
+/// Makes a table of numbers long enough for a chain.
+fn grow(first: &mut Vec<u32>, chain: usize) -> Result<(), AllocError>
     ensures same { OnOk result ((v : ℕ) → slice_index first.new.items v ≡ slice_index first.old.items v) }
-    ensures long { OnOk result (node < length first.new.items) }
+    ensures long { OnOk result (chain < length first.new.items) }
 {
-    'grow: while first.len() <= node as usize {
+    'grow: while first.len() <= chain {
         first.push(0)?;
     }
     Ok(())

@@ -11,7 +11,7 @@ use search_laws::Time;
 #[derive(Clone, Copy)]
 pub(crate) struct Key {
     pub state: u32,
-    /// The number of the entry before it that is of the same node, and 1; or 0.
+    /// The number of the entry before it in its chain, and 1; or 0.
     pub next: u32,
     /// 0 if it is settled, else its time and 1. A way is better if its time and 1 is less.
     ///

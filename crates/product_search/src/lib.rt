@@ -3,6 +3,7 @@
 #![tactic(auto)]
 
 mod arc_check;
+mod chains;
 mod checking;
 mod end_check;
 mod explore;

@@ -11,7 +11,7 @@ use crate::key::Key;
 pub(crate) struct Row {
     pub node: u32,
     pub state: u32,
-    /// The number of the entry before this one that is of the same node, and 1; or 0.
+    /// The number of the entry before this one in its chain, and 1; or 0.
     pub next: u32,
     pub known: Reached,
 }

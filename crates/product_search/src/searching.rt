@@ -5,7 +5,9 @@ ghost use Rattle.product_search.specs.Reach.{IsWithin};
 ghost use Rattle.product_search.specs.Listed.{AreLeastLabels, HasLeastLabels};
 ghost use Rattle.product_search.specs.Answer.{IsArrival, IsWalkFor, IsInTime, last_time};
 ghost use Rattle.product_search.specs.Closed.{IsClosed};
+ghost use Rattle.product_search.specs.Searching.{IsSettlement};
 
+use crate::frontier::Frontier;
 use crate::label::{Best, Found, FoundWithCount};
 use crate::listing::{count_labels, list_labels};
 use crate::retrace::walk_to;
@@ -21,7 +23,7 @@ use std::alloc::{AllocError, Global};
 /// a node twice. The answer has the arrival, a walk without waits that has it, and the least arrivals of all
 /// product states that are reached before, or where no walk counts, of all that are reached within the bound.
 /// Without a bound the labels are closed, as `check_labels` looks for it. No time in the answer is above `dep + 2^98`.
-/// Fails where memory runs out.
+/// Fails where memory runs out, and where 2^32 - 1 product states are reached.
 ///
 /// The method is Dijkstra's, over pairs of a node and a state, as Barrett, Jacob and Marathe use it for languages.
 pub fn search<G: Graph, L: Labels>(
@@ -47,23 +49,14 @@ pub fn search<G: Graph, L: Labels>(
         f.arrival f.labels.items) }
     ensures times { IfOk result (IsInTime dep) }
 {
-    let explored = settle_all(
-        alloc,
-        Workspace::new(alloc),
-        graph,
-        labels,
-        starts,
-        targets,
-        dep,
-        bound,
-    )?;
-    let arrival = arrival_of(explored.end);
-    let labels = list_labels(alloc, &explored.frontier, arrival)?;
-    let walk = walk_to(alloc, &explored.frontier, explored.end)?;
+    let workspace = Workspace::new(alloc);
+    let settled = settle(alloc, workspace, graph, labels, starts, targets, dep, bound)?;
+    let labels = list_labels(alloc, &settled.frontier, settled.best.arrival)?;
+    let Settlement { frontier: _, best } = settled;
     Ok(Found {
-        arrival,
+        arrival: best.arrival,
         labels,
-        walk,
+        walk: best.walk,
     })
 }
 
@@ -90,24 +83,15 @@ pub fn search_counted_with<G: Graph, L: Labels>(
         bound f.arrival f.labels) }
     ensures time { IfOk result (λ f. IfSome f.arrival (λ t. t ≤ last_time dep)) }
 {
-    let explored = settle_all(
-        alloc,
-        workspace.take(alloc),
-        graph,
-        labels,
-        starts,
-        targets,
-        dep,
-        bound,
-    )?;
-    let arrival = arrival_of(explored.end);
-    let labels = count_labels(&explored.frontier, arrival);
-    let walk = walk_to(alloc, &explored.frontier, explored.end)?;
-    workspace.put(explored.frontier);
+    let kept = workspace.take(alloc);
+    let settled = settle(alloc, kept, graph, labels, starts, targets, dep, bound)?;
+    let Settlement { frontier, best } = settled;
+    let labels = count_labels(&frontier, best.arrival);
+    workspace.put(frontier);
     Ok(FoundWithCount {
-        arrival,
+        arrival: best.arrival,
         labels,
-        walk,
+        walk: best.walk,
     })
 }
 
@@ -131,18 +115,42 @@ pub fn search_best_with<G: Graph, L: Labels>(
         f.arrival f.walk) }
     ensures time { IfOk result (λ f. IfSome f.arrival (λ t. t ≤ last_time dep)) }
 {
-    let explored = settle_all(
-        alloc,
-        workspace.take(alloc),
-        graph,
-        labels,
-        starts,
-        targets,
-        dep,
-        bound,
-    )?;
+    let kept = workspace.take(alloc);
+    let settled = settle(alloc, kept, graph, labels, starts, targets, dep, bound)?;
+    let Settlement { frontier, best } = settled;
+    workspace.put(frontier);
+    Ok(best)
+}
+
+/// What a search has settled, and the best that it came to.
+#[derive(Drop)]
+pub(crate) struct Settlement {
+    pub frontier: Frontier,
+    pub best: Best,
+}
+
+/// Settles product states up to the first end, and tells its arrival and the walk to it.
+fn settle<G: Graph, L: Labels>(
+    alloc: Global,
+    workspace: Workspace,
+    graph: &G,
+    labels: &L,
+    starts: &[u32],
+    targets: &[u32],
+    dep: Time,
+    bound: Option<Time>,
+) -> Result<Settlement, AllocError>
+    requires starts { All (λ v. v < (G.meaning graph.now).nodes) starts.now }
+    requires dep { dep < 2 ^ 64 }
+    requires bound { IsWithin bound dep }
+    ensures { IfOk result (λ s. IsSettlement (G.meaning graph.now) (L.automaton labels.now) starts.now targets.now dep bound
+        s.frontier s.best) }
+{
+    let explored = settle_all(alloc, workspace, graph, labels, starts, targets, dep, bound)?;
     let arrival = arrival_of(explored.end);
     let walk = walk_to(alloc, &explored.frontier, explored.end)?;
-    workspace.put(explored.frontier);
-    Ok(Best { arrival, walk })
+    Ok(Settlement {
+        frontier: explored.frontier,
+        best: Best { arrival, walk },
+    })
 }

@@ -40,7 +40,7 @@ pub(crate) fn settle_all<G: Graph, L: Labels>(
         e.frontier e.end) }
 {
     let ends = set_of(alloc, targets)?;
-    let mut frontier = Frontier::new(alloc, workspace);
+    let mut frontier = Frontier::new(alloc, workspace, labels.states());
     offer_starts(&mut frontier, labels, starts, dep)?;
     let moves = MoveTable::new(alloc, labels)?;
     let mut given = GivenRuns::new(alloc);

@@ -8,7 +8,7 @@ use crate::key::Key;
 use std::alloc::Global;
 use std::mem;
 
-/// Two lists and a table by node that searches use again. They are empty, and have room for what was reached so far.
+/// Two lists and a table by chain that searches use again. They are empty, and have room for what was reached so far.
 #[derive(Drop)]
 pub struct Workspace {
     pub(crate) entries: Vec<Entry>,
@@ -41,9 +41,10 @@ impl Workspace {
             mut entries,
             mut keys,
             first,
+            chains,
             queue: _queue,
         } = frontier;
-        let first = cleared(&entries, first);
+        let first = cleared(&entries, &keys, chains, first);
         entries.clear();
         keys.clear();
         *self = Workspace {

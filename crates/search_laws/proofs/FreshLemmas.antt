@@ -1,13 +1,17 @@
 -- Laws of what a search is given where it was given rides of the same runs before.
-use Rattle.std.proofs.Common.{◌≡◌, ℕ, inl, inr, List, [], ◌∷◌, ◌++◌, map, zero, suc, refl, sym, ◌∙◌, ap, subst, append_assoc, arith}
-use Rattle.std.specs.Prelude.{All, Contains}
+use Rattle.std.proofs.Common.{◌≡◌, ℕ, ◌+◌, ◌≤◌, Bool, true, false, not, nat_eq, cond, Some, None, inl, inr, List, [], ◌∷◌, ◌++◌, map, zero, suc, refl, sym, ◌∙◌, ap, subst, append_assoc, arith}
+use Rattle.std.specs.Prelude.{◌⊎◌, ◌^◌, Option, All, Contains, IsBitSet}
+use Rattle.std.specs.Int.Bits.{bit_and}
+use Rattle.std.proofs.lemmas.Bool.{false≢true, eqb-true}
 use Rattle.std.proofs.lemmas.List.{length-map, get_or-map}
-use Rattle.std.proofs.lemmas.List.Elements.{All-append, All-nil, All-map, All-contains, All-contains_itself, All-weaker, Contains-append_left, Contains-append_right, Contains-append_cases}
+use Rattle.std.proofs.lemmas.List.Elements.{All-append, All-nil, All-cons, All-map, All-contains, All-contains_itself, All-weaker, Contains-append_left, Contains-append_right, Contains-append_cases}
+use Rattle.search_laws.specs.GraphLaws.{GraphMeaning}
+use Rattle.search_laws.specs.Ways.{is_open, moving_letters, way_if, way_at, ways_from}
 use Rattle.search_laws.specs.declared.graph.GraphArc.{GraphArc}
 use Rattle.search_laws.specs.declared.graph.Way.{Way}
 use Rattle.search_laws.specs.declared.given.GivenRun.{GivenRun}
 use Rattle.search_laws.specs.declared.given.GivenRuns.{GivenRuns}
-use Rattle.search_laws.specs.Fresh.{IsNoted, IsAsGood, HasAsGood, RunRides, WasGiven, IsCovered, AreFresh, AddsFresh}
+use Rattle.search_laws.specs.Fresh.{IsNoted, IsAsGood, HasAsGood, RunRides, WasGiven, IsCovered, AreFresh, AddsFresh, StandsStill, AreMoving, AddsMoving}
 
 -- ---- as good
 
@@ -101,6 +105,80 @@ module _ (rides : RunRides) (state : ℕ) where
       → AddsFresh rides state old new (xs ++ ys) before after
   adds_more old mid new xs ys before between after (fresh, first, are) (more, second, are_more) =
       (fresh ++ more, second ∙ ap (λ (ways : List Way). ways ++ more) first ∙ append_assoc before fresh more, fresh_append old mid new xs ys fresh more are are_more)
+
+-- ---- those that move
+
+module _ (v t leaving : ℕ) where
+  pub moving_all : (ways : List Way) → AreMoving v t leaving ways ways
+  moving_all ways = record {
+    are = All-contains_itself ways;
+    rest = all_from (λ way. Contains ways way ⊎ StandsStill v t leaving way) ways (λ way has. inl has);
+  }
+
+  moving_none : (ways : List Way) → All (StandsStill v t leaving) ways → AreMoving v t leaving ways []
+  moving_none ways stand = record {
+    are = All-nil (Contains ways);
+    rest = All-weaker (StandsStill v t leaving) (λ way. Contains [] way ⊎ StandsStill v t leaving way) (λ way stands. inr stands) ways stand;
+  }
+
+  pub moving_append : (xs ys ms ns : List Way) → AreMoving v t leaving xs ms → AreMoving v t leaving ys ns → AreMoving v t leaving (xs ++ ys) (ms ++ ns)
+  moving_append xs ys ms ns first second = record {
+    are = All-append (Contains (xs ++ ys)) ms ns
+        (All-weaker (Contains xs) (Contains (xs ++ ys)) (λ way has. Contains-append_left xs ys way has) ms first.are)
+        (All-weaker (Contains ys) (Contains (xs ++ ys)) (λ way has. Contains-append_right xs ys way has) ns second.are);
+    rest = All-append (λ way. Contains (ms ++ ns) way ⊎ StandsStill v t leaving way) xs ys
+        (All-weaker (λ way. Contains ms way ⊎ StandsStill v t leaving way) (λ way. Contains (ms ++ ns) way ⊎ StandsStill v t leaving way)
+        (λ way moves. elim moves [ inl has ↦ inl (Contains-append_left ms ns way has) | inr stands ↦ inr stands ]) xs first.rest)
+        (All-weaker (λ way. Contains ns way ⊎ StandsStill v t leaving way) (λ way. Contains (ms ++ ns) way ⊎ StandsStill v t leaving way)
+        (λ way moves. elim moves [ inl has ↦ inl (Contains-append_right ms ns way has) | inr stands ↦ inr stands ]) ys second.rest);
+  }
+
+  -- all of them may be appended
+  pub adds_moving : (rides : RunRides) (state : ℕ) (old new : GivenRuns) (ways before after : List Way) → AddsFresh rides state old new ways before after
+      → AddsMoving rides state v t leaving old new ways before after
+  adds_moving rides state old new ways before after adds = (ways, moving_all ways, adds)
+
+  -- from a place on the arcs without a letter are those that move, where all others stand still
+  module _ (g : GraphMeaning) (letters first : ℕ)
+      (stand : (k at c : ℕ) → first ≤ k → g.arrive v k t ≡ Some at → (g.arc_at v k).letter ≡ Some c → StandsStill v t leaving (record { place = k; arc = g.arc_at v k; at = at }))
+    where
+      letterless_at : (k : ℕ) → first ≤ k → AreMoving v t leaving (way_at g v t letters k) (way_at g v t 0 k)
+      letterless_at k from = by_letter (g.arc_at v k).letter refl where
+        by_open : (b : Bool) (c : ℕ) (o : Option ℕ) → g.arrive v k t ≡ o → (g.arc_at v k).letter ≡ Some c → AreMoving v t leaving (cond b (way_if k (g.arc_at v k) o) []) []
+        by_open false c o e is = moving_all []
+        by_open true c None e is = moving_all []
+        by_open true c (Some at) e is = moving_none (record { place = k; arc = g.arc_at v k; at = at } ∷ [])
+            (All-cons (StandsStill v t leaving) (record { place = k; arc = g.arc_at v k; at = at }) [] (stand k at c from e is) (All-nil (StandsStill v t leaving)))
+
+        ways : List Way
+        ways = way_if k (g.arc_at v k) (g.arrive v k t)
+
+        by_letter : (o : Option ℕ) → (g.arc_at v k).letter ≡ o → AreMoving v t leaving (cond (is_open letters o) ways []) (cond (is_open 0 o) ways [])
+        by_letter None e = moving_all ways
+        by_letter (Some c) e = by_open (is_open letters (Some c)) c (g.arrive v k t) refl e
+
+      pub letterless : (i n : ℕ) → first ≤ i → AreMoving v t leaving (ways_from g v t letters i n) (ways_from g v t 0 i n)
+      letterless i zero from = moving_all []
+      letterless i (suc n) from =
+          moving_append (way_at g v t letters i) (ways_from g v t letters (i + 1) n) (way_at g v t 0 i) (ways_from g v t 0 (i + 1) n)
+          (letterless_at i from) (letterless (i + 1) n (omega (arith, from)))
+
+-- a letter outside a set is no bit of it
+pub closed_unset : (letters c : ℕ) → is_open letters (Some c) ≡ false → IsBitSet letters c → ⊥
+closed_unset letters c closed set = go (nat_eq (bit_and letters (2 ^ c)) 0) refl where
+  go : (b : Bool) → nat_eq (bit_and letters (2 ^ c)) 0 ≡ b → ⊥
+  go true e = set (eqb-true (bit_and letters (2 ^ c)) 0 e)
+  go false e = false≢true (sym closed ∙ ap not e)
+
+-- where a letter is outside the set those of the other arcs need not be asked for, if they stand still
+pub moving_asked : (g : GraphMeaning) (v t letters leaving first : ℕ) (letter : Option ℕ)
+    → (is_open leaving letter ≡ false → (k at c : ℕ) → first ≤ k → g.arrive v k t ≡ Some at → (g.arc_at v k).letter ≡ Some c
+    → StandsStill v t leaving (record { place = k; arc = g.arc_at v k; at = at }))
+    → (i n : ℕ) → first ≤ i → AreMoving v t leaving (ways_from g v t letters i n) (ways_from g v t (moving_letters letters leaving letter) i n)
+moving_asked g v t letters leaving first letter stand i n from = go (is_open leaving letter) refl where
+  go : (b : Bool) → is_open leaving letter ≡ b → AreMoving v t leaving (ways_from g v t letters i n) (ways_from g v t (cond b letters 0) i n)
+  go true e = moving_all v t leaving (ways_from g v t letters i n)
+  go false e = letterless v t leaving g letters first (stand e) i n from
 
 -- ---- the same ways elsewhere
 

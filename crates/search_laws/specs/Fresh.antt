@@ -1,5 +1,5 @@
 -- What a search is given of the arcs of a node where it was given rides of the same runs before.
-use Rattle.std.specs.Prelude.{◌≡◌, ℕ, ◌≤◌, ◌⊎◌, ◌++◌, List, Some, All, Contains}
+use Rattle.std.specs.Prelude.{◌≡◌, ℕ, ◌≤◌, ◌⊎◌, ◌++◌, List, Some, All, Contains, IsBitSet}
 use Rattle.search_laws.specs.declared.graph.Way.{Way}
 use Rattle.search_laws.specs.declared.given.GivenRun.{GivenRun}
 use Rattle.search_laws.specs.declared.given.GivenRuns.{GivenRuns}
@@ -53,3 +53,23 @@ pub record AreFresh (rides : RunRides) (state : ℕ) (old new : GivenRuns) (ways
 -- a list goes on with them
 abbrev pub AddsFresh : RunRides → ℕ → GivenRuns → GivenRuns → List Way → List Way → List Way → Type 0
 AddsFresh rides state old new ways before after = (fresh : List Way) × (after ≡ before ++ fresh) × AreFresh rides state old new ways fresh
+
+-- ---- ways that lead nowhere
+
+-- the way stands still: it leads to the node v itself, at the time t, by a letter outside the set
+pub record StandsStill (v t leaving : ℕ) (way : Way) : Type 0 where
+  pub to : way.arc.to ≡ v
+  pub at : way.at ≡ t
+  pub letter : ℕ
+  pub by : way.arc.letter ≡ Some letter
+  pub stays : IsBitSet leaving letter → ⊥
+
+-- some of these ways, which lack none but for those that stand still
+pub record AreMoving (v t leaving : ℕ) (ways moving : List Way) : Type 0 where
+  pub are : All (Contains ways) moving
+  pub rest : All (λ way. Contains moving way ⊎ StandsStill v t leaving way) ways
+
+-- a list goes on with what is fresh of those that move
+abbrev pub AddsMoving : RunRides → ℕ → ℕ → ℕ → ℕ → GivenRuns → GivenRuns → List Way → List Way → List Way → Type 0
+AddsMoving rides state v t leaving old new ways before after =
+    (moving : List Way) × AreMoving v t leaving ways moving × AddsFresh rides state old new moving before after

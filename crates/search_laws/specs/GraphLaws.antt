@@ -1,5 +1,6 @@
 -- What a graph answers, as functions on numbers, and the laws that every graph keeps.
 use Rattle.std.specs.Prelude.{◌≡◌, ℕ, ◌+◌, ◌^◌, ◌<◌, ◌≤◌, Option, Some, None, IfSome}
+use Rattle.search_laws.specs.Letters.{IsLetter}
 use Rattle.search_laws.specs.declared.graph.GraphArc.{GraphArc}
 
 pub record GraphMeaning : Type 0 where
@@ -17,7 +18,7 @@ pub record HasArc (g : GraphMeaning) (v i : ℕ) : Type 0 where
 pub record IsLawfulGraph (g : GraphMeaning) : Type 0 where
   pub few_nodes : g.nodes ≤ 2 ^ 25
   pub to_in_range : (v i : ℕ) → HasArc g v i → (g.arc_at v i).to < g.nodes
-  pub letter_in_range : (v i : ℕ) → HasArc g v i → IfSome (g.arc_at v i).letter (λ c. c < 14)
+  pub letter_in_range : (v i : ℕ) → HasArc g v i → IfSome (g.arc_at v i).letter IsLetter
   pub not_before : (v i t u : ℕ) → HasArc g v i → g.arrive v i t ≡ Some u → t ≤ u
   pub not_late : (v i t u : ℕ) → HasArc g v i → g.arrive v i t ≡ Some u → u ≤ t + 2 ^ 57
   pub rises : (v i s t a b : ℕ) → HasArc g v i → s ≤ t → g.arrive v i s ≡ Some a → g.arrive v i t ≡ Some b → a ≤ b

@@ -1,5 +1,6 @@
 -- What an automaton answers, as functions on numbers, the laws that it keeps, and the words that it accepts.
 use Rattle.std.specs.Prelude.{◌≡◌, ℕ, ◌^◌, ◌<◌, ◌≤◌, Bool, List, [], ◌∷◌, Option, Some, None, IsTrue, IsBitSet}
+use Rattle.search_laws.specs.Letters.{IsLetterSet}
 use Rattle.search_laws.specs.declared.labels.Move.{Move}
 
 pub record LabelsMeaning : Type 0 where
@@ -13,7 +14,7 @@ pub record IsLawfulLabels (l : LabelsMeaning) : Type 0 where
   pub few_states : l.states ≤ 2 ^ 16
   pub few_moves : (q : ℕ) → q < l.states → l.moves q ≤ 2 ^ 20
   pub to_in_range : (q i : ℕ) → q < l.states → i < l.moves q → (l.move_at q i).to < l.states
-  pub letters_in_range : (q i : ℕ) → q < l.states → i < l.moves q → (l.move_at q i).letters < 2 ^ 14
+  pub letters_in_range : (q i : ℕ) → q < l.states → i < l.moves q → IsLetterSet (l.move_at q i).letters
 
 -- the move at place i of q is by the letter c, and leads to r
 pub record IsMove (l : LabelsMeaning) (q c r i : ℕ) : Type 0 where

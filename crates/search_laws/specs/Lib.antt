@@ -1,3 +1,4 @@
+pub mod Letters
 pub mod GraphLaws
 pub mod LabelLaws
 pub mod Walks

@@ -12,6 +12,10 @@ abbrev pub is_open : ℕ → Option ℕ → Bool
 is_open letters None = true
 is_open letters (Some c) = not (bit_and letters (2 ^ c) == 0)
 
+-- the set, or no letter at all where this one is outside a second set
+abbrev pub moving_letters : ℕ → ℕ → Option ℕ → ℕ
+moving_letters letters leaving letter = if is_open leaving letter then letters else 0
+
 -- the arc at this place, if it arrives
 abbrev pub way_if : ℕ → GraphArc → Option ℕ → List Way
 way_if i arc None = []

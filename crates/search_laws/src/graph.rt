@@ -2,8 +2,9 @@
 
 ghost use Rattle.std.specs.Prelude.{◌≡◌, ℕ, ◌<◌, ◌≤◌, ◌^◌, ◌++◌, [], OnOk, IfSome, IfNone};
 ghost use Rattle.search_laws.specs.GraphLaws.{GraphMeaning, IsLawfulGraph};
-ghost use Rattle.search_laws.specs.Ways.{IsLeg, is_open, open_way, ways_past};
-ghost use Rattle.search_laws.specs.Fresh.{RunRides, AddsFresh};
+ghost use Rattle.search_laws.specs.Letters.{IsLetter};
+ghost use Rattle.search_laws.specs.Ways.{IsLeg, is_open, moving_letters, open_way, ways_past};
+ghost use Rattle.search_laws.specs.Fresh.{RunRides, AddsMoving};
 
 use crate::Time;
 use crate::given::GivenRuns;
@@ -11,7 +12,7 @@ use std::alloc::AllocError;
 
 /// An arc as its node lists it: the node that it leads to, and the letter that it adds to the word, if any.
 ///
-/// Letters are below 14. An arc without a letter leaves the state of an automaton as it is.
+/// Letters are below [`LETTERS`](crate::LETTERS). An arc without a letter leaves the state of an automaton as it is.
 #[derive(Clone, Copy)]
 pub struct GraphArc {
     pub to: u32,
@@ -45,13 +46,23 @@ pub struct Way {
 
 /// Whether a letter is in a set, of which it is a bit, or there is none.
 pub fn is_open(letters: u32, letter: Option<u8>) -> bool
-    requires { IfSome letter (λ c. c < 14) }
+    requires { IfSome letter IsLetter }
     ensures { result ≡ is_open letters letter }
 {
     match letter {
         None => true,
         Some(letter) => letters & (1 << letter) != 0,
     }
+}
+
+/// The letters to ask for where arcs by no other letter than this one lead on, and these lead back at once: all of `letters`,
+/// or none if the letter is outside `leaving`, so that they need not be asked for.
+#[inline(always)]
+pub fn moving_letters(letters: u32, leaving: u32, letter: Option<u8>) -> u32
+    requires { IfSome letter IsLetter }
+    ensures { result ≡ moving_letters letters leaving letter }
+{
+    if is_open(leaving, letter) { letters } else { 0 }
 }
 
 /// Appends an arc that arrives, if its letter is in the set or it has none.
@@ -62,7 +73,7 @@ pub fn push_way(
     arc: GraphArc,
     at: Option<Time>,
 ) -> Result<(), AllocError>
-    requires { IfSome arc.letter (λ c. c < 14) }
+    requires { IfSome arc.letter IsLetter }
     ensures { OnOk result (ways.new.items ≡ ways.old.items ++ open_way letters place arc at) }
 {
     if is_open(letters, arc.letter) {
@@ -105,6 +116,17 @@ pub trait Graph {
         requires time { t < 2 ^ 127 }
         ensures { result ≡ (meaning self.now).arrive v i t };
 
+    /// A place behind `i` such that all arcs of the node `v` from `i` up to there have one letter, or none. It may be the next.
+    fn past_letter(&self, v: u32, i: u64) -> u64
+        requires node { v < (meaning self.now).nodes }
+        requires arc { i < (meaning self.now).arcs v }
+        ensures later { i < result }
+        ensures within { result ≤ (meaning self.now).arcs v }
+        ensures same { (k : ℕ) → i ≤ k → k < result → ((meaning self.now).arc_at v k).letter ≡ ((meaning self.now).arc_at v i).letter }
+    {
+        self.arcs(v).min(i + 1)
+    }
+
     /// The steady arcs of a node.
     ghost steady_of: { Self → ℕ → Steady };
 
@@ -128,24 +150,26 @@ pub trait Graph {
 
     /// Appends the arcs of `v` but its steady ones that arrive if they are taken at `t`, by a letter of the set or by none, in
     /// order, for a search that has come to `v` in this state of its automaton. It may leave out rides where the state was given
-    /// rides as good, and it notes the runs whose rides it appends.
+    /// rides as good, and it notes the runs whose rides it appends. It may also leave out arcs that lead to `v` at once, by a letter
+    /// outside `leaving`: letters by which no move of the state leads to another one.
     ///
-    /// Letter c is in the set where bit c of `letters` is 1. Fails where memory runs out.
+    /// Letter c is in a set where bit c of it is 1. Fails where memory runs out.
     fn fresh_ways(
         &self,
         v: u32,
         t: Time,
         letters: u32,
+        leaving: u32,
         state: u32,
         given: &mut GivenRuns,
         ways: &mut Vec<Way>,
     ) -> Result<(), AllocError>
         requires node { v < (meaning self.now).nodes }
         requires time { t < 2 ^ 127 }
-        ensures { OnOk result (AddsFresh (rides self.now) state given.old given.new
+        ensures { OnOk result (AddsMoving (rides self.now) state v t leaving given.old given.new
             (ways_past (meaning self.now) v t letters (steady_of self.now v).count) ways.old.items ways.new.items) }
     {
-        let _ = (state, given.cells.len());
+        let _ = (leaving, state, given.cells.len());
         for i in self.steady(v).count..self.arcs(v) {
             push_way(ways, letters, i, self.arc_at(v, i), self.arrive(v, i, t))?;
         }

@@ -3,11 +3,27 @@
 ghost use Rattle.std.specs.Prelude.{◌≡◌, ◌<◌};
 ghost use Rattle.search_laws.specs.LabelLaws.{LabelsMeaning, IsLawfulLabels, IsRoadLabels};
 
+/// How many letters there are: they are the numbers below.
+pub const LETTERS: u32 = 14;
+
 /// A move of an automaton: to the state `to`, by each letter whose bit is set in `letters`.
 #[derive(Clone, Copy)]
 pub struct Move {
     pub letters: u32,
     pub to: u32,
+}
+
+impl Move {
+    ghost use Rattle.std.specs.Prelude.{◌↔◌, IsTrue, IsBitSet};
+    ghost use Rattle.search_laws.specs.Letters.{IsLetter};
+
+    /// Whether it is by the letter.
+    pub fn has_letter(self, letter: u8) -> bool
+        requires { IsLetter letter }
+        ensures { IsTrue result ↔ IsBitSet self.letters letter }
+    {
+        self.letters & (1 << letter) != 0
+    }
 }
 
 /// A nondeterministic automaton over the letters 0 to 13.

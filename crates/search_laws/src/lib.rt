@@ -7,8 +7,8 @@ mod graph;
 mod labels;
 
 pub use given::{GivenRun, GivenRuns};
-pub use graph::{Graph, GraphArc, Leg, Steady, Way, is_open, push_way};
-pub use labels::{Labels, Move, RoadLabels};
+pub use graph::{Graph, GraphArc, Leg, Steady, Way, is_open, moving_letters, push_way};
+pub use labels::{LETTERS, Labels, Move, RoadLabels};
 
 /// A moment, in milliseconds from an origin that the graph fixes.
 pub type Time = u128;

@@ -32,6 +32,12 @@ explore-requires-clause-settled g c =
     settled_by (g.G.Graph.meaning c.args.graph.now) (g.L.Labels.automaton c.args.labels.now) c.args.starts.now c.args.targets.now c.args.dep c.args.bound
     c.loop-settled.frontier c.settle_least.new.self c.in-Some.settled c.loop-settled.invariant.searching c.in-Some.ensures.least
 
+pub explore-requires-clause-here : goal.explore-requires-clause-here
+explore-requires-clause-here g c =
+    let s = c.in-Some.settled in
+    let least = c.in-Some.ensures.least in
+    reached_stays c.loop-settled.frontier c.settle_least.new.self s least s.node s.state s.at (least.entry, least.waited, omega (arith, least.at))
+
 pub explore-requires-clause-given : goal.explore-requires-clause-given
 explore-requires-clause-given g c =
     given_stays (g.L.Labels.automaton c.args.labels.now) c.args.bound (g.G.Graph.rides c.args.graph.now) c.loop-settled.frontier c.settle_least.new.self c.loop-settled.given

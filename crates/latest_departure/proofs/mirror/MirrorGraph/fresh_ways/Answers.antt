@@ -1,7 +1,7 @@
 use Rattle.std.proofs.Common.{[], ◌++◌, List, ◌∙◌, ap, sym}
 use Rattle.search_laws.specs.declared.graph.Way.{Way}
 use Rattle.search_laws.specs.Ways.{ways_past}
-use Rattle.search_laws.proofs.FreshLemmas.{adds_all}
+use Rattle.search_laws.proofs.FreshLemmas.{adds_all, adds_moving}
 use Rattle.search_laws.proofs.WayLemmas.{past_none}
 use Rattle.latest_departure.specs.BackLists.{mirrored}
 use Rattle.latest_departure.proofs.mirror.MirrorGraph.fresh_ways.Goals as goal
@@ -9,5 +9,8 @@ use Rattle.latest_departure.proofs.mirror.MirrorGraph.fresh_ways.Goals as goal
 pub returns : goal.returns
 returns c =
     let g = mirrored c.args.self.now.backwards.now c.args.self.now.deadline in
-    adds_all (λ _ _ _. []) c.args.state c.args.given.now (ways_past g c.args.v c.args.t c.args.letters 0) c.args.ways.now.items c.push_ways.new.ways.items
-    (c.in_ok-push_ways.ensures ∙ ap (λ (ws : List Way). c.args.ways.now.items ++ ws) (sym (past_none g c.args.v c.args.t c.args.letters)))
+    let ways = ways_past g c.args.v c.args.t c.args.letters 0 in
+    let before = c.args.ways.now.items in
+    adds_moving c.args.v c.args.t c.args.leaving (λ _ _ _. []) c.args.state c.args.given.now c.args.given.now ways before c.push_ways.new.ways.items
+    (adds_all (λ _ _ _. []) c.args.state c.args.given.now ways before c.push_ways.new.ways.items
+    (c.in_ok-push_ways.ensures ∙ ap (λ (ws : List Way). before ++ ws) (sym (past_none g c.args.v c.args.t c.args.letters))))

@@ -1,5 +1,10 @@
-use Rattle.std.proofs.Common.{◌≡◌, ◌+◌, ◌-◌, arith}
-use Rattle.plain_graph.specs.PlainArcs.{count_from, inner_arcs_at, arcs_at}
+use Rattle.std.proofs.Common.{◌≡◌, ◌+◌, ◌-◌, ap, ◌∙◌, arith}
+use Rattle.std.proofs.lemmas.Result.{on_ok_weaker}
+use Rattle.search_laws.specs.Ways.{moving_letters, ways_from}
+use Rattle.search_laws.proofs.FreshLemmas.{moving_asked}
+use Rattle.mode_network.specs.NetworkLists.{mode_at}
+use Rattle.plain_graph.specs.PlainArcs.{plain_meaning, count_from, inner_arcs_at, arcs_at}
+use Rattle.plain_graph.proofs.PlaceTies.{past_roads_stand}
 use Rattle.plain_graph.proofs.plain.PlainGraph.fresh_ways.Goals as goal
 
 pub returns : goal.returns
@@ -7,5 +12,16 @@ returns c =
     let n = c.args.self.now.network.now in
     let t = c.args.self.now.timetable.now in
     let v = c.args.v in
-    let rest : arcs_at n t v - count_from n.arcs v ≡ count_from n.links v + inner_arcs_at n t v = omega arith in
-    rw rest c.push_fresh_past_roads.ensures
+    let g = plain_meaning n t in
+    let roads = count_from n.arcs v in
+    let m = count_from n.links v + inner_arcs_at n t v in
+    let rest : arcs_at n t v - roads ≡ m = omega arith in
+    let asked : c.moving_letters-moving.result ≡ moving_letters c.args.letters c.args.leaving (mode_at n.roads v) =
+    c.moving_letters-moving.ensures ∙ ap (moving_letters c.args.letters c.args.leaving) c.mode.ensures in
+    rw rest (on_ok_weaker c.push_fresh_past_roads.result
+    (λ adds. (
+      ways_from g v c.args.t (c.moving_letters-moving.result) roads m,
+      rw asked (moving_asked g v c.args.t c.args.letters c.args.leaving roads (mode_at n.roads v) (past_roads_stand n t v c.args.t c.args.leaving) roads m (omega arith)),
+      adds,
+    ))
+    c.push_fresh_past_roads.ensures)

@@ -1,17 +1,17 @@
-use Rattle.std.proofs.Common.{arith}
+use Rattle.std.proofs.Common.{◌∙◌, ap, slice_index, arith}
 use Rattle.product_search.specs.Waiting.{rows}
 use Rattle.product_search.proofs.RowLemmas.{kept_length}
 use Rattle.product_search.proofs.QueueLemmas.{sought_first, sought_found, sought_next, sought_smaller, sought_within}
 use Rattle.product_search.proofs.frontier.Frontier.find.Goals as goal
 
 pub chain-init : goal.chain-init
-chain-init c = sought_first c.args.self.now c.requires.indexed c.args.node c.args.state c.head-cursor.result c.head-cursor.ensures
+chain-init c = sought_first c.args.self.now.chains.count (rows c.args.self.now) c.args.self.now.first.items c.requires.indexed c.args.node c.args.state c.head-cursor.result (c.head-cursor.ensures ∙ ap (slice_index c.args.self.now.first.items) c.place.ensures)
 
 pub index-key-requires : goal.index-key-requires
 index-key-requires c =
     omega (
       arith,
-      sought_within (rows c.args.self.now) c.args.node c.args.state c.chain.cursor c.chain-test.true c.chain.invariant,
+      sought_within c.args.self.now.chains.count (rows c.args.self.now) c.args.node c.args.state c.chain.cursor c.chain-test.true c.chain.invariant,
       kept_length c.args.self.now.keys.items c.args.self.now.entries.items c.requires.kept,
       c.requires.kept.as_long,
       (c.args.self.now.keys.ok).0,

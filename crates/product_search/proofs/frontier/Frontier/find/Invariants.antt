@@ -3,7 +3,7 @@ use Rattle.product_search.proofs.QueueLemmas.{IsSought}
 use Rattle.product_search.proofs.frontier.Frontier.find.Given as goal
 
 abbrev pub invariant-chain : goal.invariant-chain
-invariant-chain l = IsSought (rows l.self) l.node l.state l.cursor
+invariant-chain l = IsSought l.self.chains.count (rows l.self) l.node l.state l.cursor
 
 abbrev pub decreases-chain : goal.decreases-chain
 decreases-chain l = l.cursor

@@ -34,9 +34,9 @@ returns-in_ok-push-clause-right c =
     let changes = changes_set (rows old) (rows new) c.args.number c.args.node c.args.state next c.args.way c.requires.right.apart c.requires.there c.write.ensures.rows in
     let key = key_read old.keys.items old.entries.items c.args.number c.index.result.now (c.requires.there).row c.requires.right.kept c.index.ensures c.requires.there.known in
     right_put old new c.args.number c.args.node c.args.state next c.args.way c.requires.right changes c.in_ok-push.ensures
-    (indexed_links old new c.requires.right.indexed refl
+    (indexed_links old.chains.count (rows old) (rows new) old.first.items c.requires.right.indexed
     (ap length c.write.ensures.rows ∙ length-set (rows old) c.args.number (made c.args.node c.args.state next c.args.way))
-    (links_set (rows old) (rows new) c.args.number c.args.node c.args.state next c.args.way c.requires.there (ap (λ (y : Key). y.next) (sym key)) changes))
+    (links_set old.chains.count (rows old) (rows new) c.args.number c.args.node c.args.state next c.args.way c.requires.there (ap (λ (y : Key). y.next) (sym key)) changes))
     c.write.ensures.kept (omega (arith, c.write.ensures.entries, c.requires.right.few))
 
 pub returns-in_ok-push-clause-offered : goal.returns-in_ok-push-clause-offered

@@ -1,8 +1,8 @@
-use Rattle.std.proofs.Common.{sym, subst}
-use Rattle.product_search.specs.Waiting.{IsBehind}
+use Rattle.product_search.specs.Waiting.{rows}
 use Rattle.product_search.proofs.QueueLemmas.{behind_first}
 use Rattle.product_search.proofs.workspace.Workspace.put.Goals as goal
 
-pub cleared-first-requires : goal.cleared-first-requires
-cleared-first-requires c =
-    subst (λ es. IsBehind es c.args.frontier.first.items 0) (sym c.deref.ensures.value) (behind_first c.args.frontier c.requires.indexed)
+pub cleared-first-requires-clause-behind : goal.cleared-first-requires-clause-behind
+cleared-first-requires-clause-behind c =
+    let f = c.args.frontier in
+    rw (c.deref.ensures.value, c.deref-2.ensures.value) (behind_first f.chains.count (rows f) f.first.items c.requires.indexed)

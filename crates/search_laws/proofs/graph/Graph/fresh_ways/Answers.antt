@@ -2,7 +2,7 @@ use Rattle.std.proofs.Common.{◌≡◌, ◌-◌, ◌++◌, ◌∙◌, ap, arith
 use Rattle.search_laws.specs.declared.graph.Steady.{Steady}
 use Rattle.search_laws.specs.Ways.{ways_from, ways_past}
 use Rattle.search_laws.proofs.WayLemmas.{ways_pushed}
-use Rattle.search_laws.proofs.FreshLemmas.{adds_all}
+use Rattle.search_laws.proofs.FreshLemmas.{adds_all, adds_moving}
 use Rattle.search_laws.proofs.graph.Graph.fresh_ways.Goals as goal
 
 pub loop-i-preserved : goal.loop-i-preserved
@@ -18,6 +18,8 @@ returns g c =
     let count = ap (λ (steady : Steady). steady.count) c.steady-i.ensures.is in
     let first = (g.Self.Graph.steady_of c.args.self.now c.args.v).count in
     let all : c.loop-i.i - first ≡ meaning.arcs c.args.v - first = omega (arith, count) in
-    adds_all (g.Self.Graph.rides c.args.self.now) c.args.state c.args.given.now (ways_past meaning c.args.v c.args.t c.args.letters first)
-    c.args.ways.now.items c.loop-i.ways.items
-    (c.loop-i.invariant ∙ ap (λ n. c.args.ways.now.items ++ ways_from meaning c.args.v c.args.t c.args.letters first n) all)
+    let ways = ways_past meaning c.args.v c.args.t c.args.letters first in
+    let before = c.args.ways.now.items in
+    adds_moving c.args.v c.args.t c.args.leaving (g.Self.Graph.rides c.args.self.now) c.args.state c.args.given.now c.args.given.now ways before c.loop-i.ways.items
+    (adds_all (g.Self.Graph.rides c.args.self.now) c.args.state c.args.given.now ways before c.loop-i.ways.items
+    (c.loop-i.invariant ∙ ap (λ n. before ++ ways_from meaning c.args.v c.args.t c.args.letters first n) all))
