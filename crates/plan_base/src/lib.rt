@@ -3,7 +3,7 @@
 //!
 //! A shelf and a sink are traits whose ghost member is what they hold, as far as they tell it. Code
 //! above is generic over them and proved once; [`MemoryShelf`] and [`MemorySink`] tell everything,
-//! and [`FolderShelf`] and [`StreamSink`], over real files and streams, tell nothing of content.
+//! [`FolderShelf`], over the files of the system, tells nothing of content, and [`StreamSink`] what the stream tells.
 #![tactic(auto)]
 
 pub mod days;

@@ -1,12 +1,17 @@
-//! A shelf of real files and a sink over a real stream. They tell nothing of content.
+//! A shelf of real files, which tells nothing of content, and a sink over a stream, which tells what the stream tells.
 
 ghost use Rattle.std.specs.Prelude.{◌≤◌, length, IfOk};
+ghost use Rattle.std.specs.Io.{WritesAtMost};
+ghost use Rattle.std.specs.Io.KnownBytes.{WriteAppends};
 
 use crate::reading::{Shelf, ShelfError};
 use crate::writing::{Sink, SinkFailed};
 use std::fs;
 use std::io::{self, ErrorKind, Read, Seek, SeekFrom, Write};
 use std::rt::Files;
+
+// How often a read or a write is begun that the system interrupts before any byte.
+const MOST_TRIES: usize = 100;
 
 /// The files of the file system; a name is a path.
 ///
@@ -75,12 +80,25 @@ fn read_at<R: Files + AllocGlobal>(
         Some(opened) if opened.at == from && opened.path.as_deref() == Some(path) => opened,
         _ => open_at(rt, path, from)?,
     };
-    let n = opened.file.read(into)?;
+    let n = read_from(&mut opened.file, into)?;
     if n > 0 {
         opened.at = opened.at.saturating_add(n as u64);
         *open = Some(opened);
     }
     Ok(n)
+}
+
+// Reads what comes next; a read that was interrupted is begun again.
+fn read_from<I: Read>(file: &mut I, into: &mut [u8]) -> io::Result<usize>
+    ensures { IfOk result (λ n. n ≤ length into.old) }
+{
+    for _ in 1..MOST_TRIES {
+        match file.read(into) {
+            Err(error) if error.kind() == ErrorKind::Interrupted => {}
+            result => return result,
+        }
+    }
+    file.read(into)
 }
 
 // Opens the file at this path, to be read from there on. A pipe can be read from its start alone.
@@ -97,7 +115,7 @@ fn open_at<R: Files + AllocGlobal>(rt: &R, path: &str, from: u64) -> io::Result<
     })
 }
 
-/// A stream that bytes are written to.
+/// A stream that bytes are written to. It tells what the stream tells of what it holds.
 #[derive(Drop)]
 pub struct StreamSink<W: Write + Drop> {
     stream: W,
@@ -112,13 +130,11 @@ impl<W: Write + Drop> StreamSink<W> {
 }
 
 impl<W: Write + Drop> Sink for StreamSink<W> {
-    ghost use Rattle.std.specs.Prelude.{None};
-
-    ghost meaning = { λ s. record { bytes = None; faults = s.faults } };
+    ghost meaning = { λ s. record { bytes = W.contents s.stream; faults = s.faults } };
 
     /// A stream that takes nothing of a piece that is not empty counts as failed.
     fn write(&mut self, piece: &[u8]) -> Result<usize, SinkFailed> {
-        match self.stream.write(piece) {
+        match write_to(&mut self.stream, piece) {
             Ok(n) if n > 0 || piece.is_empty() => Ok(n),
             _ => {
                 self.faults = self.faults.saturating_add(1);
@@ -126,4 +142,18 @@ impl<W: Write + Drop> Sink for StreamSink<W> {
             }
         }
     }
+}
+
+// Writes a front of the piece; a write that was interrupted is begun again.
+fn write_to<W: Write>(stream: &mut W, piece: &[u8]) -> io::Result<usize>
+    ensures within { WritesAtMost result piece.now }
+    ensures bytes { WriteAppends (W.contents stream.old) (W.contents stream.new) result piece.now }
+{
+    for _ in 1..MOST_TRIES {
+        match stream.write(piece) {
+            Err(error) if error.kind() == ErrorKind::Interrupted => {}
+            result => return result,
+        }
+    }
+    stream.write(piece)
 }
