@@ -2,7 +2,7 @@
 use Rattle.std.proofs.Common.{ℕ, inl, inr, List, Option}
 use Rattle.std.specs.Prelude.{IfSome}
 use Rattle.plan_base.specs.Shelves.{ShelfMeaning}
-use Rattle.plan_base.specs.Sinks.{SinkMeaning}
+use Rattle.plan_base.specs.Sinks.{SinkMeaning, Stays}
 use Rattle.plan_base.specs.declared.limits.Caps.{Caps}
 use Rattle.mode_network.specs.NetworkLists.{NetworkLists}
 use Rattle.hierarchy.specs.Lists.{HierarchyLists}
@@ -10,22 +10,23 @@ use Rattle.hierarchy_commands.specs.Commands.{OnHierarchyIfNamed}
 use Rattle.hierarchy_commands.proofs.OutcomeLemmas.{named_fails, on_named}
 use Rattle.run_steps.specs.declared.outcome.Outcome.{Outcome}
 use Rattle.run_steps.specs.Regions.{OnRegion}
-use Rattle.run_steps.specs.Sayings.{Saying, IsUnwritten}
+use Rattle.run_steps.specs.Scene.{scene}
+use Rattle.run_steps.specs.Sayings.{Saying}
 use Rattle.run_steps.proofs.Steps.{region_fails, on_region}
 use Rattle.answer_commands.specs.Working.{HasBoth, IsBothOutcome}
 
 module _ (caps : Caps) (old mid new : ShelfMeaning) (before after : SinkMeaning) (region : List ℕ) (named : Option (List ℕ)) (rest : NetworkLists → Option HierarchyLists → Saying) where
   -- they were not both read
-  pub both_fail : (outcome : Outcome) → IsBothOutcome caps old new region named outcome → IsUnwritten before after
-      → OnRegion caps region (λ n. OnHierarchyIfNamed n named (rest n)) old new before after outcome
+  pub both_fail : (outcome : Outcome) → IsBothOutcome caps old new region named outcome → Stays before after
+      → OnRegion caps region (λ n. OnHierarchyIfNamed n named (rest n)) (scene old before) (scene new after) outcome
   both_fail outcome (inl fails) same = region_fails old old new before after region caps (λ n. OnHierarchyIfNamed n named (rest n)) outcome fails same
   both_fail outcome (inr lacks) same =
       on_region old lacks.mid new before after region caps (λ n. OnHierarchyIfNamed n named (rest n)) lacks.n lacks.has lacks.later outcome
       (named_fails lacks.mid new new before after lacks.n named (rest lacks.n) outcome lacks.lacks same)
 
   -- they were, and the rest says this
-  pub on_both : (n : NetworkLists) (h : Option HierarchyLists) → HasBoth caps old mid region named n h → (outcome : Outcome) → rest n h mid new before after outcome
-      → OnRegion caps region (λ n. OnHierarchyIfNamed n named (rest n)) old new before after outcome
+  pub on_both : (n : NetworkLists) (h : Option HierarchyLists) → HasBoth caps old mid region named n h → (outcome : Outcome) → rest n h (scene mid before) (scene new after) outcome
+      → OnRegion caps region (λ n. OnHierarchyIfNamed n named (rest n)) (scene old before) (scene new after) outcome
   on_both n h both outcome says =
       on_region old both.mid new before after region caps (λ n. OnHierarchyIfNamed n named (rest n)) n both.has both.later outcome
       (on_named both.mid mid new before after n named (rest n) h both.found outcome says)

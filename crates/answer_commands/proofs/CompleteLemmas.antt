@@ -10,7 +10,7 @@ use Rattle.certificate.specs.Reading.{cert_of}
 use Rattle.certificate.specs.Verdicts.{IsCertVerdict}
 use Rattle.certificate.proofs.ReadLaws.{again}
 use Rattle.certificate.proofs.UniqueLemmas.{verdict_is_unique}
-use Rattle.certificate_steps.proofs.CompleteLemmas.{verified_completes}
+use Rattle.run_steps.proofs.CertificateComplete.{verified_completes}
 use Rattle.hierarchy.specs.Lists.{HierarchyLists}
 use Rattle.hierarchy_commands.proofs.CompleteLemmas.{named_completes}
 use Rattle.phase_graph.specs.InUse.{IsSoundIfGiven}

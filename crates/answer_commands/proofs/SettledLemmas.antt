@@ -7,10 +7,11 @@ use Rattle.plan_base.proofs.MoreWritten.{appended_twice}
 use Rattle.mode_network.specs.NetworkLists.{NetworkLists}
 use Rattle.hierarchy.specs.Lists.{HierarchyLists}
 use Rattle.journey.specs.Best.{IsBlock}
-use Rattle.line_blocks.specs.Blocks.{AreBlocks, BeginsBlocks, WroteBlocks, AreCounted}
+use Rattle.run_steps.specs.Blocks.{AreBlocks, BeginsBlocks, WroteBlocks, AreCounted}
 use Rattle.planning.specs.Settled.{IsSettledBy, Settled}
 use Rattle.run_steps.specs.declared.outcome.Outcome.{Outcome}
 use Rattle.run_steps.specs.declared.outcome.Outcome.TheVariants.{Done, Usage, Missing, ReadFault, TooLong, WriteFault, BadRegion, BadFeed, Invalid, BadCertificate, BadHierarchy, Unsound, OutOfMemory}
+use Rattle.run_steps.specs.Scene.{scene}
 use Rattle.run_steps.specs.Sayings.{HasWritten, Writes}
 use Rattle.run_steps.specs.Working.{IsTextOutcome}
 use Rattle.run_steps.proofs.Steps.{rose_over}
@@ -45,7 +46,7 @@ module _ (n : NetworkLists) (h : Option HierarchyLists) (lines : List (List ℕ)
 
   -- a front of it is written
   pub settled_fails : (old new : ShelfMeaning) → is_some h ≡ true → before.faults ≤ mid.faults → WroteBlocks before mid (IsBlock n) lines → Settled n h lines sum
-      → (outcome : Outcome) → IsTextOutcome mid after (settled_line sum) outcome → Writes (IsAnswer n h lines) (BeginsAnswer n h lines) old new before after outcome
+      → (outcome : Outcome) → IsTextOutcome mid after (settled_line sum) outcome → Writes (IsAnswer n h lines) (BeginsAnswer n h lines) (scene old before) (scene new after) outcome
   settled_fails old new some le wrote settled WriteFault (rose, part) = (
     rose_over before.faults mid.faults after.faults le rose,
     record { out = wrote.out ++ take part.count (settled_line sum); is = front h some settled; appended = appended_twice before mid after _ _ wrote.appended part.front },

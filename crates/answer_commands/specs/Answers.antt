@@ -5,8 +5,8 @@ use Rattle.mode_network.specs.NetworkLists.{NetworkLists}
 use Rattle.hierarchy.specs.Lists.{HierarchyLists}
 use Rattle.journey.specs.Best.{IsBlock}
 use Rattle.planning.specs.Settled.{Settled}
-use Rattle.line_blocks.specs.Blocks.{AreBlocks, BeginsBlocks}
-use Rattle.line_blocks.specs.QueryLines.{query_lines}
+use Rattle.run_steps.specs.Blocks.{AreBlocks, BeginsBlocks}
+use Rattle.run_steps.specs.QueryLines.{query_lines}
 use Rattle.run_steps.specs.Sayings.{Saying, Writes}
 
 -- the line that tells how many labels searches had

@@ -1,7 +1,7 @@
 -- What each command says of a run by its outcome.
 use Rattle.std.specs.Prelude.{ℕ, List, Option}
 use Rattle.plan_base.specs.declared.limits.Caps.{Caps}
-use Rattle.certificate_steps.specs.Kinds.{SaysVerified}
+use Rattle.run_steps.specs.Certificates.{SaysVerified}
 use Rattle.hierarchy_commands.specs.Commands.{OnHierarchyIfNamed}
 use Rattle.run_steps.specs.declared.outcome.FileRole.TheVariants.{Queries}
 use Rattle.run_steps.specs.Regions.{OnRegion}

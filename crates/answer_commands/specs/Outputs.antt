@@ -13,7 +13,7 @@ use Rattle.certificate.specs.Texts.{IsCertText}
 use Rattle.certificate.specs.Reading.{cert_of}
 use Rattle.certificate.specs.Valid.{IsValid, Proves}
 use Rattle.certificate.specs.Verdicts.{IsCertVerdict}
-use Rattle.certificate_steps.specs.Kinds.{CertificateKind}
+use Rattle.run_steps.specs.Certificates.{CertificateKind}
 use Rattle.hierarchy.specs.Lists.{HierarchyLists}
 use Rattle.planning.specs.Plans.{AreTheLabels}
 

@@ -2,21 +2,20 @@
 
 ghost use Rattle.std.specs.Prelude.{◌≡◌, IfOk, IfSome, option_map};
 ghost use Rattle.hierarchy.specs.Soundness.{IsSound};
-ghost use Rattle.plan_base.specs.Shelves.{ShelfMeaning};
 ghost use Rattle.run_steps.specs.declared.outcome.FileRole.TheVariants.{Queries};
+ghost use Rattle.run_steps.specs.Scene.{scene};
 ghost use Rattle.run_steps.specs.Sayings.{OnFile, end_of};
 ghost use Rattle.answer_commands.specs.Answers.{WritesAnswer, settled_line};
 ghost use Rattle.answer_commands.specs.Commands.{SaysAnswer};
 
 use crate::reading::read_both;
 use hierarchy::Hierarchy;
-use line_blocks::{LineBlocks, write_blocks};
 use mode_network::Network;
 use plain_texts::push_decimal;
 use plan_base::{Caps, Shelf, Sink};
 use planning::block_of;
 use product_search::Workspace;
-use run_steps::{FileRole, Outcome, read_file, write_text};
+use run_steps::{FileRole, LineBlocks, Outcome, Ports, read_file, write_blocks, write_text};
 use std::alloc::{AllocError, Global};
 
 /// The blocks of lines that ask for a best journey, by a hierarchy, if there is one. The labels of searches over it are counted.
@@ -51,68 +50,62 @@ impl LineBlocks for BestBlocks<'_> {
 /// Reads the region of this name, the hierarchy, if one is named, and the queries file, and writes the block of each query
 /// line; with a hierarchy the line `settled` follows.
 pub fn answer<F: Shelf, O: Sink, E: Sink>(
-    alloc: Global,
+    ports: &mut Ports<F, O, E>,
     region: &str,
     queries: &str,
     hierarchy: Option<&str>,
-    shelf: &mut F,
-    out: &mut O,
-    notes: &mut E,
     caps: &Caps,
 ) -> Result<(), Outcome>
-    ensures { SaysAnswer caps.now region.now queries.now (option_map (λ it. it.now) hierarchy.entry) (F.meaning shelf.old) (F.meaning shelf.new) (O.meaning out.old) (O.meaning out.new) (end_of result) }
+    ensures { SaysAnswer caps.now region.now queries.now (option_map (λ it. it.now) hierarchy.entry)
+        (scene (F.meaning ports.old.shelf) (O.meaning ports.old.out))
+        (scene (F.meaning ports.new.shelf) (O.meaning ports.new.out)) (end_of result) }
 {
+    let alloc = ports.alloc;
+    let (shelf, notes) = (&mut ports.shelf, &mut ports.notes);
     let (network, hierarchy) = read_both(alloc, region, hierarchy, shelf, notes, caps)?;
-    answer_over(
-        alloc,
-        &network,
-        hierarchy.as_ref(),
-        queries,
-        shelf,
-        out,
-        notes,
-    )
+    answer_over(ports, &network, hierarchy.as_ref(), queries)
 }
 
 /// Reads the queries file of this path, and writes the block of each query line, by the hierarchy, if there is one, which
 /// the line `settled` follows.
 fn answer_over<F: Shelf, O: Sink, E: Sink>(
-    alloc: Global,
+    ports: &mut Ports<F, O, E>,
     network: &Network,
     hierarchy: Option<&Hierarchy>,
     path: &str,
-    shelf: &mut F,
-    out: &mut O,
-    notes: &mut E,
 ) -> Result<(), Outcome>
     requires { IfSome hierarchy (λ h. IsSound network.now h.now) }
-    ensures { OnFile Queries path.now (WritesAnswer network.now (option_map (λ h. h.now) hierarchy.entry)) (F.meaning shelf.old) (F.meaning shelf.new) (O.meaning out.old) (O.meaning out.new) (end_of result) }
+    ensures { OnFile Queries path.now (WritesAnswer network.now (option_map (λ h. h.now) hierarchy.entry))
+        (scene (F.meaning ports.old.shelf) (O.meaning ports.old.out))
+        (scene (F.meaning ports.new.shelf) (O.meaning ports.new.out)) (end_of result) }
 {
-    let text = read_file(alloc, shelf, path, FileRole::Queries, notes)?;
-    write_answer(alloc, network, hierarchy, path, &text, out, notes)
+    let role = FileRole::Queries;
+    let text = read_file(ports.alloc, &mut ports.shelf, path, role, &mut ports.notes)?;
+    write_answer(ports, network, hierarchy, path, &text)
 }
 
 /// Writes the block of each query line of a queries file, and behind them, with a hierarchy, how many labels the searches
 /// had. `notes` is told how many lines were answered.
-fn write_answer<O: Sink, E: Sink>(
-    alloc: Global,
+fn write_answer<F: Shelf, O: Sink, E: Sink>(
+    ports: &mut Ports<F, O, E>,
     network: &Network,
     hierarchy: Option<&Hierarchy>,
     path: &str,
     text: &[u8],
-    out: &mut O,
-    notes: &mut E,
 ) -> Result<(), Outcome>
     requires { IfSome hierarchy (λ h. IsSound network.now h.now) }
-    ensures { (old new : ShelfMeaning) → WritesAnswer network.now (option_map (λ h. h.now) hierarchy.entry) text.now old new (O.meaning out.old) (O.meaning out.new) (end_of result) }
+    ensures { WritesAnswer network.now (option_map (λ h. h.now) hierarchy.entry) text.now
+        (scene (F.meaning ports.old.shelf) (O.meaning ports.old.out))
+        (scene (F.meaning ports.new.shelf) (O.meaning ports.new.out)) (end_of result) }
 {
+    let alloc = ports.alloc;
     let best = BestBlocks { network, hierarchy };
-    let settled = write_blocks(alloc, &best, path, text, out, notes)?;
+    let settled = write_blocks(alloc, &best, path, text, &mut ports.out, &mut ports.notes)?;
     if hierarchy.is_some() {
         let Ok(line) = settled_line(alloc, settled) else {
             return Err(Outcome::OutOfMemory);
         };
-        write_text(out, &line)?;
+        write_text(&mut ports.out, &line)?;
     }
     Ok(())
 }

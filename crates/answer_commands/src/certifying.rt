@@ -5,6 +5,7 @@ ghost use Rattle.plain_texts.specs.Lines.{IsLine};
 ghost use Rattle.hierarchy.specs.Soundness.{IsSound};
 ghost use Rattle.planning.specs.Plans.{IsRead};
 ghost use Rattle.plan_base.specs.Shelves.{ShelfMeaning};
+ghost use Rattle.run_steps.specs.Scene.{scene};
 ghost use Rattle.run_steps.specs.Sayings.{WritesText, end_of};
 ghost use Rattle.answer_commands.specs.Commands.{SaysCertify};
 ghost use Rattle.answer_commands.specs.Outputs.{IsCertificateFor, IsCertified};
@@ -16,25 +17,27 @@ use journey::{BlockBody, Query, QueryFault, block, read_query};
 use mode_network::Network;
 use plan_base::{Caps, Shelf, Sink};
 use planning::{FoundPlan, find_plan};
-use run_steps::{Outcome, write_text};
+use run_steps::{Outcome, Ports, write_text};
 use std::alloc::{AllocError, Global};
 
 /// Reads the region of this name, and the hierarchy, if one is named, and writes the certificate of a query line, or its
 /// block where the line is refused.
 pub fn certify<F: Shelf, O: Sink, E: Sink>(
-    alloc: Global,
+    ports: &mut Ports<F, O, E>,
     region: &str,
     query: &str,
     hierarchy: Option<&str>,
-    shelf: &mut F,
-    out: &mut O,
-    notes: &mut E,
     caps: &Caps,
 ) -> Result<(), Outcome>
-    ensures { SaysCertify caps.now region.now query.now (option_map (λ it. it.now) hierarchy.entry) (F.meaning shelf.old) (F.meaning shelf.new) (O.meaning out.old) (O.meaning out.new) (end_of result) }
+    ensures { SaysCertify caps.now region.now query.now (option_map (λ it. it.now) hierarchy.entry)
+        (scene (F.meaning ports.old.shelf) (O.meaning ports.old.out))
+        (scene (F.meaning ports.new.shelf) (O.meaning ports.new.out)) (end_of result) }
 {
+    let alloc = ports.alloc;
+    let (shelf, notes) = (&mut ports.shelf, &mut ports.notes);
     let (network, hierarchy) = read_both(alloc, region, hierarchy, shelf, notes, caps)?;
-    write_certified(alloc, &network, hierarchy.as_ref(), query.as_bytes(), out)
+    let line = query.as_bytes();
+    write_certified(alloc, &network, hierarchy.as_ref(), line, &mut ports.out)
 }
 
 /// Writes the certificate of a query line, or its block where the line is refused.
@@ -46,7 +49,7 @@ fn write_certified<O: Sink>(
     out: &mut O,
 ) -> Result<(), Outcome>
     requires { IfSome hierarchy (λ h. IsSound network.now h.now) }
-    ensures { (old new : ShelfMeaning) → WritesText (IsCertified network.now (option_map (λ h. h.now) hierarchy.entry) line.now) old new (O.meaning out.old) (O.meaning out.new) (end_of result) }
+    ensures { (old new : ShelfMeaning) → WritesText (IsCertified network.now (option_map (λ h. h.now) hierarchy.entry) line.now) (scene old (O.meaning out.old)) (scene new (O.meaning out.new)) (end_of result) }
 {
     let Ok(text) = certified(alloc, network, hierarchy, line) else {
         return Err(Outcome::OutOfMemory);

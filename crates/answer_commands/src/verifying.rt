@@ -1,21 +1,21 @@
 //! The command `verify`: what a certificate shows.
 
 ghost use Rattle.std.specs.Prelude.{◌≡◌, IfOk, IfErr, IfSome, option_map};
-ghost use Rattle.certificate_steps.specs.Kinds.{SaysVerified};
+ghost use Rattle.run_steps.specs.Certificates.{SaysVerified};
 ghost use Rattle.hierarchy.specs.Soundness.{IsSound};
 ghost use Rattle.journey.specs.Blocks.{IsBlockText, IsPrintableBody};
+ghost use Rattle.run_steps.specs.Scene.{scene};
 ghost use Rattle.run_steps.specs.Sayings.{end_of};
 ghost use Rattle.answer_commands.specs.Commands.{SaysVerify};
 ghost use Rattle.answer_commands.specs.Outputs.{best_certificates, body_of};
 
 use crate::reading::read_both;
 use certificate::{CertFault, CertVerdict, Certificate, read};
-use certificate_steps::{Certificates, write_verified};
 use hierarchy::Hierarchy;
 use journey::{BlockBody, block};
 use mode_network::{Journey, Network};
 use plan_base::{Caps, Shelf, Sink, Time};
-use run_steps::Outcome;
+use run_steps::{Certificates, Outcome, Ports, write_verified};
 use std::alloc::{AllocError, Global};
 
 /// Certificates of earliest arrival, whose labels are over a hierarchy, if there is one.
@@ -58,45 +58,37 @@ impl Certificates for BestCertificates<'_> {
 /// Reads the region of this name, the hierarchy, if one is named, and the certificate file, and writes that it is valid and
 /// the block of its line and result.
 pub fn verify<F: Shelf, O: Sink, E: Sink>(
-    alloc: Global,
+    ports: &mut Ports<F, O, E>,
     region: &str,
     certificate: &str,
     hierarchy: Option<&str>,
-    shelf: &mut F,
-    out: &mut O,
-    notes: &mut E,
     caps: &Caps,
 ) -> Result<(), Outcome>
-    ensures { SaysVerify caps.now region.now certificate.now (option_map (λ it. it.now) hierarchy.entry) (F.meaning shelf.old) (F.meaning shelf.new) (O.meaning out.old) (O.meaning out.new) (end_of result) }
+    ensures { SaysVerify caps.now region.now certificate.now (option_map (λ it. it.now) hierarchy.entry)
+        (scene (F.meaning ports.old.shelf) (O.meaning ports.old.out))
+        (scene (F.meaning ports.new.shelf) (O.meaning ports.new.out)) (end_of result) }
 {
+    let alloc = ports.alloc;
+    let (shelf, notes) = (&mut ports.shelf, &mut ports.notes);
     let (network, hierarchy) = read_both(alloc, region, hierarchy, shelf, notes, caps)?;
-    verify_over(
-        alloc,
-        &network,
-        hierarchy.as_ref(),
-        certificate,
-        shelf,
-        out,
-        notes,
-    )
+    verify_over(ports, &network, hierarchy.as_ref(), certificate)
 }
 
 /// Reads the certificate of the file of this path, whose labels are over the hierarchy, if there is one, and writes that it
 /// is valid and the block of its line and result.
 fn verify_over<F: Shelf, O: Sink, E: Sink>(
-    alloc: Global,
+    ports: &mut Ports<F, O, E>,
     network: &Network,
     hierarchy: Option<&Hierarchy>,
     path: &str,
-    shelf: &mut F,
-    out: &mut O,
-    notes: &mut E,
 ) -> Result<(), Outcome>
     requires { IfSome hierarchy (λ h. IsSound network.now h.now) }
-    ensures { SaysVerified (best_certificates network.now (option_map (λ h. h.now) hierarchy.entry)) path.now (F.meaning shelf.old) (F.meaning shelf.new) (O.meaning out.old) (O.meaning out.new) (end_of result) }
+    ensures { SaysVerified (best_certificates network.now (option_map (λ h. h.now) hierarchy.entry)) path.now
+        (scene (F.meaning ports.old.shelf) (O.meaning ports.old.out))
+        (scene (F.meaning ports.new.shelf) (O.meaning ports.new.out)) (end_of result) }
 {
     let best = BestCertificates { network, hierarchy };
-    write_verified(alloc, &best, path, shelf, out, notes)
+    write_verified(ports, &best, path)
 }
 
 /// The block of what a certificate claims.

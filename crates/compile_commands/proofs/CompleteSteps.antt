@@ -16,10 +16,10 @@ use Rattle.mode_network.specs.NetworkLists.{NetworkLists}
 use Rattle.run_steps.specs.declared.outcome.FileRole.TheVariants as role
 use Rattle.run_steps.specs.declared.outcome.Outcome.{Outcome}
 use Rattle.run_steps.specs.declared.outcome.Outcome.TheVariants.{Done, Usage, Missing, ReadFault, TooLong, WriteFault, BadRegion, BadFeed, Invalid, BadCertificate, BadHierarchy, Unsound, OutOfMemory}
+use Rattle.run_steps.specs.Scene.{with_shelf}
 use Rattle.run_steps.specs.Sayings.{Saying, IsUnread, IsUnreadable, most_bytes}
 use Rattle.run_steps.specs.Complete.{Files, IsHeld, IsDoneOrMemory, Completes}
-use Rattle.run_steps.proofs.CompleteSteps.{file_completes, told_held, unread}
-use Rattle.run_steps.proofs.Steps.{rose_over}
+use Rattle.run_steps.proofs.CompleteSteps.{file_completes, quiet_later, told_held, unread}
 use Rattle.compile_commands.specs.Maps.{BeginsSo, OnObjects, OnMap}
 use Rattle.compile_commands.specs.Feeds.{AreTables, IsTable, IsTableUnread, OnLists, OnFeed, files_of, in_order, may_be_absent, path_of}
 use Rattle.compile_commands.specs.Builds.{OnBuild}
@@ -30,22 +30,21 @@ module _ (files : Files) where
 
   objects_complete : (caps : Caps) (P : ObjectLists → Type 0) (rest : ObjectLists → Saying) → ((objects : ObjectLists) → Completes files (P objects) (rest objects))
       → (bytes : List ℕ) → Completes files (SpellsObjects caps P bytes) (OnObjects (objects_of caps bytes) rest)
-  objects_complete caps P rest more bytes (objects, spells, p) old new before after outcome tells reads writes said =
-      more objects p old new before after outcome tells reads writes
-      (subst (λ (r : Result ObjectLists OplFault). OnObjects r rest old new before after outcome) spells said)
+  objects_complete caps P rest more bytes (objects, spells, p) old new outcome tells quiet said =
+      more objects p old new outcome tells quiet (subst (λ (r : Result ObjectLists OplFault). OnObjects r rest old new outcome) spells said)
 
   -- a map without fault is not refused early
   pub map_completes : (caps : Caps) (name : List ℕ) (P : ObjectLists → Type 0) (rest : ObjectLists → Saying) → ((objects : ObjectLists) → Completes files (P objects) (rest objects))
       → Completes files (IsHeld files name (SpellsObjects caps P)) (OnMap caps name rest)
-  map_completes caps name P rest more held old new before after outcome tells reads writes (inl (fault, shows, ends)) =
-      let front = told_held old files name held.bytes tells held.held (λ h. IsSomeAnd h (BeginsSo shows.bytes)) shows.front in
+  map_completes caps name P rest more held old new outcome tells quiet (inl (fault, shows, ends)) =
+      let front = told_held old.shelf files name held.bytes tells held.held (λ h. IsSomeAnd h (BeginsSo shows.bytes)) shows.front in
       let bad = shows.first.stays front.0 in
       let whole : objects_of caps held.bytes ≡ objects_of caps (shows.bytes ++ front.0) = ap (objects_of caps) front.1 in
       let good = held.fine.1 in
       absurd (cc)
-  map_completes caps name P rest more held old new before after outcome tells reads writes (inr on) =
+  map_completes caps name P rest more held old new outcome tells quiet (inr on) =
       file_completes files role.Opl name (SpellsObjects caps P) (λ bytes. OnObjects (objects_of caps bytes) rest) (objects_complete caps P rest more)
-      held old new before after outcome tells reads writes on
+      held old new outcome tells quiet on
 
   -- ---- feeds
 
@@ -137,22 +136,21 @@ module _ (files : Files) where
 
   pub feed_completes : (caps : Caps) (folder : List ℕ) (P : FeedLists → Type 0) (rest : FeedLists → Saying) → ((feed : FeedLists) → Completes files (P feed) (rest feed))
       → Completes files (IsFeedHeld caps files folder P) (OnFeed caps folder rest)
-  feed_completes caps folder P rest more held old new before after outcome tells reads writes (inl (cut, same)) =
+  feed_completes caps folder P rest more held old new outcome tells quiet (inl (cut, same)) =
       let one = held_among folder cut.earlier cut.table cut.later held.texts (subst (λ (tables : List FeedFile). AreTablesHeld files folder tables held.texts) cut.split held.held) in
-      table_unread old new folder cut.table one.0 one.1 tells reads outcome cut.unread
-  feed_completes caps folder P rest more held old new before after outcome tells reads writes (inr on) =
-      let texts : on.texts ≡ held.texts = same_texts old folder in_order held.texts on.texts tells held.held on.read in
+      table_unread old.shelf new.shelf folder cut.table one.0 one.1 tells quiet.shelf outcome cut.unread
+  feed_completes caps folder P rest more held old new outcome tells quiet (inr on) =
+      let texts : on.texts ≡ held.texts = same_texts old.shelf folder in_order held.texts on.texts tells held.held on.read in
       let spells : feed_of caps (files_of on.texts) ≡ Ok held.feed = ap (λ (t : List (Option (List ℕ))). feed_of caps (files_of t)) texts ∙ held.spells in
-      more held.feed held.fine on.mid new before after outcome (on.later.files ∙ tells)
-      (λ rose. reads (rose_over old.faults on.mid.faults new.faults on.later.faults rose)) writes
-      (subst (λ (r : Result FeedLists FeedFault). OnLists r rest on.mid new before after outcome) spells on.says)
+      more held.feed held.fine (with_shelf old on.mid) new outcome (on.later.files ∙ tells) (quiet_later old new on.mid on.later quiet)
+      (subst (λ (r : Result FeedLists FeedFault). OnLists r rest (with_shelf old on.mid) new outcome) spells on.says)
 
   -- ---- regions
 
   pub build_completes : (caps : Caps) (objects : ObjectLists) (feed : FeedLists) (days : DaysMeaning) (rest : NetworkLists → Saying) → ((n : NetworkLists) → Completes files (Unit {0}) (rest n))
       → Completes files (GivesRegion caps objects days feed) (OnBuild caps objects feed days rest)
-  build_completes caps objects feed days rest more gives old new before after outcome tells reads writes (inl (fault, has, ends)) = absurd (gives fault has)
-  build_completes caps objects feed days rest more gives old new before after outcome tells reads writes (inr (inl (e, same))) =
+  build_completes caps objects feed days rest more gives old new outcome tells quiet (inl (fault, has, ends)) = absurd (gives fault has)
+  build_completes caps objects feed days rest more gives old new outcome tells quiet (inr (inl (e, same))) =
       subst IsDoneOrMemory (sym e) tt
-  build_completes caps objects feed days rest more gives old new before after outcome tells reads writes (inr (inr (n, compiled, says))) =
-      more n tt old new before after outcome tells reads writes says
+  build_completes caps objects feed days rest more gives old new outcome tells quiet (inr (inr (n, compiled, says))) =
+      more n tt old new outcome tells quiet says

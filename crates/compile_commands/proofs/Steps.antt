@@ -2,7 +2,7 @@
 use Rattle.std.proofs.Common.{ℕ, inl, inr, List, refl, sym, subst}
 use Rattle.std.specs.Prelude.{Result}
 use Rattle.plan_base.specs.Shelves.{ShelfMeaning, IsLater}
-use Rattle.plan_base.specs.Sinks.{SinkMeaning}
+use Rattle.plan_base.specs.Sinks.{SinkMeaning, Stays}
 use Rattle.plan_base.specs.declared.limits.Caps.{Caps}
 use Rattle.service_days.specs.DaysMeaning.{DaysMeaning}
 use Rattle.opl_reader.specs.ObjectLists.{ObjectLists}
@@ -13,7 +13,8 @@ use Rattle.mode_network.specs.NetworkLists.{NetworkLists}
 use Rattle.run_steps.specs.declared.outcome.Outcome.{Outcome}
 use Rattle.run_steps.specs.declared.outcome.Outcome.TheVariants.{Done, Usage, Missing, ReadFault, TooLong, WriteFault, BadRegion, BadFeed, Invalid, BadCertificate, BadHierarchy, Unsound, OutOfMemory}
 use Rattle.run_steps.specs.declared.outcome.SourceFault.TheVariants as source
-use Rattle.run_steps.specs.Sayings.{Saying, IsUnwritten}
+use Rattle.run_steps.specs.Scene.{scene}
+use Rattle.run_steps.specs.Sayings.{Saying}
 use Rattle.run_steps.proofs.Steps.{not_earlier}
 use Rattle.compile_commands.specs.Maps.{OnObjects, OnMap}
 use Rattle.compile_commands.specs.Feeds.{OnLists, OnFeed}
@@ -22,15 +23,15 @@ use Rattle.compile_commands.specs.Working.{HasMap, HasFeed, IsMapOutcome, IsFeed
 
 module _ (caps : Caps) (old mid new : ShelfMeaning) (before after : SinkMeaning) (name : List ℕ) where
   -- the map was not read
-  pub map_fails : (rest : ObjectLists → Saying) (outcome : Outcome) → IsMapOutcome caps old new name outcome → IsUnwritten before after
-      → OnMap caps name rest old new before after outcome
+  pub map_fails : (rest : ObjectLists → Saying) (outcome : Outcome) → IsMapOutcome caps old new name outcome → Stays before after
+      → OnMap caps name rest (scene old before) (scene new after) outcome
   map_fails rest (BadFeed (source.Opl fault)) (inl shows) same = inl (fault, shows, (refl, same))
   map_fails rest (BadFeed (source.Opl fault)) (inr bad) same = inr (inr (record {
     bytes = bad.bytes;
     file = bad.file;
     mid = old;
     later = not_earlier old;
-    says = subst (λ (r : Result ObjectLists OplFault). OnObjects r rest old new before after (BadFeed (source.Opl fault))) (sym bad.first) (refl, same);
+    says = subst (λ (r : Result ObjectLists OplFault). OnObjects r rest (scene old before) (scene new after) (BadFeed (source.Opl fault))) (sym bad.first) (refl, same);
   }))
   map_fails rest (BadFeed (source.Feed fault)) none same = absurd none
   map_fails rest (BadFeed (source.Build fault)) none same = absurd none
@@ -49,24 +50,24 @@ module _ (caps : Caps) (old mid new : ShelfMeaning) (before after : SinkMeaning)
 
   -- it was, and the rest says this
   pub on_map : (rest : ObjectLists → Saying) (objects : ObjectLists) → HasMap caps old name objects → IsLater old mid
-      → (outcome : Outcome) → rest objects mid new before after outcome → OnMap caps name rest old new before after outcome
+      → (outcome : Outcome) → rest objects (scene mid before) (scene new after) outcome → OnMap caps name rest (scene old before) (scene new after) outcome
   on_map rest objects has later outcome says = inr (inr (record {
     bytes = has.bytes;
     file = has.file;
     mid = mid;
     later = later;
-    says = subst (λ (r : Result ObjectLists OplFault). OnObjects r rest mid new before after outcome) (sym has.spells) says;
+    says = subst (λ (r : Result ObjectLists OplFault). OnObjects r rest (scene mid before) (scene new after) outcome) (sym has.spells) says;
   }))
 
   -- the feed was not read
-  pub feed_fails : (rest : FeedLists → Saying) (outcome : Outcome) → IsFeedOutcome caps old new name outcome → IsUnwritten before after
-      → OnFeed caps name rest old new before after outcome
+  pub feed_fails : (rest : FeedLists → Saying) (outcome : Outcome) → IsFeedOutcome caps old new name outcome → Stays before after
+      → OnFeed caps name rest (scene old before) (scene new after) outcome
   feed_fails rest (BadFeed (source.Feed fault)) bad same = inr (record {
     texts = bad.texts;
     read = bad.read;
     mid = old;
     later = not_earlier old;
-    says = subst (λ (r : Result FeedLists FeedFault). OnLists r rest old new before after (BadFeed (source.Feed fault))) (sym bad.first) (refl, same);
+    says = subst (λ (r : Result FeedLists FeedFault). OnLists r rest (scene old before) (scene new after) (BadFeed (source.Feed fault))) (sym bad.first) (refl, same);
   })
   feed_fails rest (BadFeed (source.Opl fault)) unread same = inl (unread, same)
   feed_fails rest (BadFeed (source.Build fault)) unread same = inl (unread, same)
@@ -85,19 +86,19 @@ module _ (caps : Caps) (old mid new : ShelfMeaning) (before after : SinkMeaning)
 
   -- it was, and the rest says this
   pub on_feed : (rest : FeedLists → Saying) (feed : FeedLists) → HasFeed caps old name feed → IsLater old mid
-      → (outcome : Outcome) → rest feed mid new before after outcome → OnFeed caps name rest old new before after outcome
+      → (outcome : Outcome) → rest feed (scene mid before) (scene new after) outcome → OnFeed caps name rest (scene old before) (scene new after) outcome
   on_feed rest feed has later outcome says = inr (record {
     texts = has.texts;
     read = has.read;
     mid = mid;
     later = later;
-    says = subst (λ (r : Result FeedLists FeedFault). OnLists r rest mid new before after outcome) (sym has.spells) says;
+    says = subst (λ (r : Result FeedLists FeedFault). OnLists r rest (scene mid before) (scene new after) outcome) (sym has.spells) says;
   })
 
 -- the map and the feed gave no region
 module _ (caps : Caps) (old new : ShelfMeaning) (before after : SinkMeaning) (objects : ObjectLists) (feed : FeedLists) (days : DaysMeaning) where
-  pub build_fails : (rest : NetworkLists → Saying) (outcome : Outcome) → IsBuildOutcome caps objects feed days outcome → IsUnwritten before after
-      → OnBuild caps objects feed days rest old new before after outcome
+  pub build_fails : (rest : NetworkLists → Saying) (outcome : Outcome) → IsBuildOutcome caps objects feed days outcome → Stays before after
+      → OnBuild caps objects feed days rest (scene old before) (scene new after) outcome
   build_fails rest (BadFeed (source.Build fault)) has same = inl (fault, has, (refl, same))
   build_fails rest (BadFeed (source.Opl fault)) none same = absurd none
   build_fails rest (BadFeed (source.Feed fault)) none same = absurd none

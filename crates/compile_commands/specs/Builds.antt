@@ -13,6 +13,6 @@ use Rattle.run_steps.specs.Sayings.{Saying, Ends}
 
 -- what a map and a feed give over some days: a network, or their first fault; or memory runs out before it is known
 abbrev pub OnBuild : Caps → ObjectLists → FeedLists → DaysMeaning → (NetworkLists → Saying) → Saying
-OnBuild caps objects feed days rest old new before after outcome =
-    ((fault : BuildFault) × HasFault caps objects feed days fault × Ends (BadFeed (source.Build fault)) old new before after outcome)
-    ⊎ (Ends OutOfMemory old new before after outcome ⊎ ((n : NetworkLists) × IsCompiled caps objects feed days n × rest n old new before after outcome))
+OnBuild caps objects feed days rest old new outcome =
+    ((fault : BuildFault) × HasFault caps objects feed days fault × Ends (BadFeed (source.Build fault)) old new outcome)
+    ⊎ (Ends OutOfMemory old new outcome ⊎ ((n : NetworkLists) × IsCompiled caps objects feed days n × rest n old new outcome))

@@ -1,8 +1,8 @@
 -- What a run says that reads the files of a timetable feed.
-use Rattle.std.specs.Prelude.{◌≡◌, ℕ, ◌⊎◌, Bool, true, false, List, [], ◌∷◌, ◌++◌, codes, Option, Some, None, option_map, slice_get, unwrap_or, Result, Ok, Err}
+use Rattle.std.specs.Prelude.{◌≡◌, ℕ, ◌⊎◌, ⊤, Bool, true, false, List, [], ◌∷◌, ◌++◌, codes, Option, Some, None, option_map, slice_get, unwrap_or, Result, Ok, Err}
 use Rattle.std.specs.Borrow.{Bor}
 use Rattle.plan_base.specs.Shelves.{ShelfMeaning, IsLater, HasRead, Told}
-use Rattle.plan_base.specs.Sinks.{SinkMeaning}
+use Rattle.plan_base.specs.Sinks.{Stays}
 use Rattle.plan_base.specs.declared.limits.Caps.{Caps}
 use Rattle.gtfs_tables.specs.declared.files.FeedFile.{FeedFile}
 use Rattle.gtfs_tables.specs.declared.files.FeedFile.TheVariants as file
@@ -15,7 +15,8 @@ use Rattle.run_steps.specs.declared.outcome.FileRole.TheVariants.{Feed}
 use Rattle.run_steps.specs.declared.outcome.Outcome.{Outcome}
 use Rattle.run_steps.specs.declared.outcome.Outcome.TheVariants.{BadFeed}
 use Rattle.run_steps.specs.declared.outcome.SourceFault.TheVariants as source
-use Rattle.run_steps.specs.Sayings.{Saying, Ends, IsUnread, IsUnreadable, IsUnwritten, most_bytes}
+use Rattle.run_steps.specs.Scene.{Scene, with_shelf}
+use Rattle.run_steps.specs.Sayings.{Saying, Ends, IsUnread, IsUnreadable, most_bytes}
 
 -- the files of a feed in the order in which they are read
 abbrev pub in_order : List FeedFile
@@ -97,19 +98,19 @@ files_of texts = record {
 
 -- what the files give: the lists of the feed, or their first fault
 abbrev pub OnLists : Result FeedLists FeedFault → (FeedLists → Saying) → Saying
-OnLists (Ok feed) rest old new before after outcome = rest feed old new before after outcome
-OnLists (Err fault) rest old new before after outcome = Ends (BadFeed (source.Feed fault)) old new before after outcome
+OnLists (Ok feed) rest old new outcome = rest feed old new outcome
+OnLists (Err fault) rest old new outcome = Ends (BadFeed (source.Feed fault)) old new outcome
 
 -- all files were read, and the rest of the run says this of what they hold
-pub record HasTables (folder : List ℕ) (rest : List (Option (List ℕ)) → Saying) (old new : ShelfMeaning) (before after : SinkMeaning) (outcome : Outcome) : Type 0 where
+pub record HasTables (folder : List ℕ) (rest : List (Option (List ℕ)) → Saying) (old new : Scene ⊤) (outcome : Outcome) : Type 0 where
   pub texts : List (Option (List ℕ))
-  pub read : AreTables old folder in_order texts
+  pub read : AreTables old.shelf folder in_order texts
   pub mid : ShelfMeaning
-  pub later : IsLater old mid
-  pub says : rest texts mid new before after outcome
+  pub later : IsLater old.shelf mid
+  pub says : rest texts (with_shelf old mid) new outcome
 
 -- the files of a feed are read, one after the other
 abbrev pub OnFeed : Caps → List ℕ → (FeedLists → Saying) → Saying
-OnFeed caps folder rest old new before after outcome =
-    (IsFeedUnread old new folder in_order outcome × IsUnwritten before after)
-    ⊎ HasTables folder (λ texts. OnLists (feed_of caps (files_of texts)) rest) old new before after outcome
+OnFeed caps folder rest old new outcome =
+    (IsFeedUnread old.shelf new.shelf folder in_order outcome × Stays old.out new.out)
+    ⊎ HasTables folder (λ texts. OnLists (feed_of caps (files_of texts)) rest) old new outcome

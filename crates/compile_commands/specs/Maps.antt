@@ -23,15 +23,15 @@ pub record ShowsFault (caps : Caps) (shelf : ShelfMeaning) (name : List ℕ) (fa
 
 -- a map is refused before its end is read
 abbrev pub IsRefusedEarly : Caps → List ℕ → Saying
-IsRefusedEarly caps name old new before after outcome =
-    (fault : OplFault) × ShowsFault caps old name fault × Ends (BadFeed (source.Opl fault)) old new before after outcome
+IsRefusedEarly caps name old new outcome =
+    (fault : OplFault) × ShowsFault caps old.shelf name fault × Ends (BadFeed (source.Opl fault)) old new outcome
 
 -- what a map's bytes give: objects, or their first fault
 abbrev pub OnObjects : Result ObjectLists OplFault → (ObjectLists → Saying) → Saying
-OnObjects (Ok objects) rest old new before after outcome = rest objects old new before after outcome
-OnObjects (Err fault) rest old new before after outcome = Ends (BadFeed (source.Opl fault)) old new before after outcome
+OnObjects (Ok objects) rest old new outcome = rest objects old new outcome
+OnObjects (Err fault) rest old new outcome = Ends (BadFeed (source.Opl fault)) old new outcome
 
 -- a map is read: up to its first fault, or whole
 abbrev pub OnMap : Caps → List ℕ → (ObjectLists → Saying) → Saying
-OnMap caps name rest old new before after outcome =
-    IsRefusedEarly caps name old new before after outcome ⊎ OnFile role.Opl name (λ bytes. OnObjects (objects_of caps bytes) rest) old new before after outcome
+OnMap caps name rest old new outcome =
+    IsRefusedEarly caps name old new outcome ⊎ OnFile role.Opl name (λ bytes. OnObjects (objects_of caps bytes) rest) old new outcome

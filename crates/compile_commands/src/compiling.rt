@@ -4,6 +4,7 @@ ghost use Rattle.std.specs.Prelude.{◌≡◌, None};
 ghost use Rattle.plan_base.specs.Shelves.{ShelfMeaning};
 ghost use Rattle.plan_base.specs.declared.limits.Caps as c;
 ghost use Rattle.mode_network.specs.Rules.{first_fault};
+ghost use Rattle.run_steps.specs.Scene.{scene};
 ghost use Rattle.run_steps.specs.Sayings.{WritesText, end_of};
 ghost use Rattle.compile_commands.specs.Commands.{SaysCompile, SaysMigrate};
 ghost use Rattle.compile_commands.specs.Outputs.{IsRegionFile};
@@ -15,29 +16,29 @@ use mode_network::Network;
 use plan_base::{Caps, Shelf, Sink};
 use region_build::{LeftOut, Region};
 use region_file::{Format, encode};
-use run_steps::{Outcome, read_region, tell, write_text};
+use run_steps::{Outcome, Ports, read_region, tell, write_text};
 use service_days::Days;
 use std::alloc::{AllocError, Global};
 
 /// Reads the map of this name and the files of the feed in this folder, and writes the region of both over these days, in
 /// this format. `notes` is told how far it is, and what the region consists of.
 pub fn compile<F: Shelf, O: Sink, E: Sink>(
-    alloc: Global,
+    ports: &mut Ports<F, O, E>,
     map: &str,
     feed: &str,
     days: Days,
     format: Format,
-    shelf: &mut F,
-    out: &mut O,
-    notes: &mut E,
     caps: &Caps,
 ) -> Result<(), Outcome>
-    ensures { SaysCompile caps.now map.now feed.now days format (F.meaning shelf.old) (F.meaning shelf.new) (O.meaning out.old) (O.meaning out.new) (end_of result) }
+    ensures { SaysCompile caps.now map.now feed.now days format
+        (scene (F.meaning ports.old.shelf) (O.meaning ports.old.out))
+        (scene (F.meaning ports.new.shelf) (O.meaning ports.new.out)) (end_of result) }
 {
-    let objects = read_map(alloc, shelf, map, caps, notes)?;
-    let tables = read_feed_in(alloc, shelf, feed, caps, notes)?;
-    let region = built(alloc, objects, tables, days, feed, caps, notes)?;
-    write_compiled(alloc, &region, format, out, notes)
+    let alloc = ports.alloc;
+    let objects = read_map(alloc, &mut ports.shelf, map, caps, &mut ports.notes)?;
+    let tables = read_feed_in(alloc, &mut ports.shelf, feed, caps, &mut ports.notes)?;
+    let region = built(alloc, objects, tables, days, feed, caps, &mut ports.notes)?;
+    write_compiled(alloc, &region, format, &mut ports.out, &mut ports.notes)
 }
 
 /// Writes a region that was compiled, in this format. `notes` is told what it consists of.
@@ -49,7 +50,7 @@ fn write_compiled<O: Sink, E: Sink>(
     notes: &mut E,
 ) -> Result<(), Outcome>
     ensures { (caps : c.Caps) (old new : ShelfMeaning) → first_fault caps region.now.network ≡ None
-        → WritesText (IsRegionFile caps format region.now.network) old new (O.meaning out.old) (O.meaning out.new) (end_of result) }
+        → WritesText (IsRegionFile caps format region.now.network) (scene old (O.meaning out.old)) (scene new (O.meaning out.new)) (end_of result) }
 {
     let Ok(text) = encode(alloc, &region.network, format) else {
         return Err(Outcome::OutOfMemory);
@@ -64,18 +65,18 @@ fn write_compiled<O: Sink, E: Sink>(
 
 /// Reads the region of this name, and writes it anew in this format.
 pub fn migrate<F: Shelf, O: Sink, E: Sink>(
-    alloc: Global,
+    ports: &mut Ports<F, O, E>,
     region: &str,
     format: Format,
-    shelf: &mut F,
-    out: &mut O,
-    notes: &mut E,
     caps: &Caps,
 ) -> Result<(), Outcome>
-    ensures { SaysMigrate caps.now region.now format (F.meaning shelf.old) (F.meaning shelf.new) (O.meaning out.old) (O.meaning out.new) (end_of result) }
+    ensures { SaysMigrate caps.now region.now format
+        (scene (F.meaning ports.old.shelf) (O.meaning ports.old.out))
+        (scene (F.meaning ports.new.shelf) (O.meaning ports.new.out)) (end_of result) }
 {
-    let network = read_region(alloc, shelf, region, caps, notes)?;
-    write_network(alloc, &network, format, out)
+    let alloc = ports.alloc;
+    let network = read_region(alloc, &mut ports.shelf, region, caps, &mut ports.notes)?;
+    write_network(alloc, &network, format, &mut ports.out)
 }
 
 /// Writes a network in this format.
@@ -86,7 +87,7 @@ fn write_network<O: Sink>(
     out: &mut O,
 ) -> Result<(), Outcome>
     ensures { (caps : c.Caps) (old new : ShelfMeaning) → first_fault caps network.now ≡ None
-        → WritesText (IsRegionFile caps format network.now) old new (O.meaning out.old) (O.meaning out.new) (end_of result) }
+        → WritesText (IsRegionFile caps format network.now) (scene old (O.meaning out.old)) (scene new (O.meaning out.new)) (end_of result) }
 {
     let Ok(bytes) = encode(alloc, network, format) else {
         return Err(Outcome::OutOfMemory);

@@ -20,14 +20,14 @@ module _ (files : Files) where
   -- a hierarchy that is sound is read and checked
   sound_completes : (n : NetworkLists) (P : HierarchyLists → Type 0) (rest : HierarchyLists → Saying) → ((h : HierarchyLists) → IsHierarchy h × IsSound n h → Completes files (P h) (rest h))
       → (bytes : List ℕ) → Completes files (SpellsSound n P bytes) (OnSound n (hierarchy_of bytes) rest)
-  sound_completes n P rest more bytes (h, spells, sound, p) old new before after outcome tells reads writes said =
-      on (subst (λ (r : Result HierarchyLists HFileFault). OnSound n r rest old new before after outcome) spells said)
+  sound_completes n P rest more bytes (h, spells, sound, p) old new outcome tells quiet said =
+      on (subst (λ (r : Result HierarchyLists HFileFault). OnSound n r rest old new outcome) spells said)
     where
-      on : OnSound n (Ok h) rest old new before after outcome → IsDoneOrMemory outcome
+      on : OnSound n (Ok h) rest old new outcome → IsDoneOrMemory outcome
       on (inl (clause, at, by, broken, ends)) =
           let verdict = sound_verdict n h (Broken clause at by) broken sound in
           absurd (cc)
-      on (inr (rules, is, rests)) = more h (rules, is) p old new before after outcome tells reads writes rests
+      on (inr (rules, is, rests)) = more h (rules, is) p old new outcome tells quiet rests
 
   pub named_completes : (n : NetworkLists) (named : Option (List ℕ)) (P : Option HierarchyLists → Type 0) (rest : Option HierarchyLists → Saying)
       → ((h : Option HierarchyLists) → IfSome h (λ k. IsHierarchy k × IsSound n k) → Completes files (P h) (rest h)) → Completes files (IsSoundIfNamed files n named P) (OnHierarchyIfNamed n named rest)

@@ -2,7 +2,7 @@
 use Rattle.std.proofs.Common.{ℕ, inl, inr, List, Option, Some, None, refl, sym, subst}
 use Rattle.std.specs.Prelude.{Result, IfSome}
 use Rattle.plan_base.specs.Shelves.{ShelfMeaning}
-use Rattle.plan_base.specs.Sinks.{SinkMeaning}
+use Rattle.plan_base.specs.Sinks.{SinkMeaning, Stays}
 use Rattle.mode_network.specs.NetworkLists.{NetworkLists}
 use Rattle.hierarchy.specs.Lists.{HierarchyLists}
 use Rattle.hierarchy.specs.Soundness.{IsSound}
@@ -10,23 +10,24 @@ use Rattle.hierarchy_file.specs.declared.fault.HFileFault.{HFileFault}
 use Rattle.hierarchy_file.specs.Reading.{hierarchy_of}
 use Rattle.run_steps.specs.declared.outcome.Outcome.{Outcome}
 use Rattle.run_steps.specs.declared.outcome.Outcome.TheVariants.{Done, Usage, Missing, ReadFault, TooLong, WriteFault, BadRegion, BadFeed, Invalid, BadCertificate, BadHierarchy, Unsound, OutOfMemory}
-use Rattle.run_steps.specs.Sayings.{Saying, IsUnwritten}
+use Rattle.run_steps.specs.Scene.{scene}
+use Rattle.run_steps.specs.Sayings.{Saying}
 use Rattle.hierarchy_commands.specs.Commands.{OnSound, OnHierarchy, OnHierarchyIfNamed}
 use Rattle.hierarchy_commands.specs.Working.{AreUnsound, HasSound, HasUnsound, IsHierarchyOutcome, IsFoundSound, IsNamedOutcome}
 
 module _ (old mid new : ShelfMeaning) (before after : SinkMeaning) (name : List ℕ) (n : NetworkLists) where
   -- the bytes of a hierarchy spell none that is sound
-  unsound : (rest : HierarchyLists → Saying) (outcome : Outcome) → HasUnsound old mid n name outcome → IsUnwritten before after → OnHierarchy n name rest old mid before after outcome
+  unsound : (rest : HierarchyLists → Saying) (outcome : Outcome) → HasUnsound old mid n name outcome → Stays before after → OnHierarchy n name rest (scene old before) (scene mid after) outcome
   unsound rest outcome has same = by_outcome outcome has.unsound
     where
-      spelled : (o : Outcome) → OnSound n (hierarchy_of has.bytes) rest mid mid before after o → OnHierarchy n name rest old mid before after o
+      spelled : (o : Outcome) → OnSound n (hierarchy_of has.bytes) rest (scene mid before) (scene mid after) o → OnHierarchy n name rest (scene old before) (scene mid after) o
       spelled o says = inr (record { bytes = has.bytes; file = has.file; mid = mid; later = has.later; says = says })
 
-      by_outcome : (o : Outcome) → AreUnsound n has.bytes o → OnHierarchy n name rest old mid before after o
+      by_outcome : (o : Outcome) → AreUnsound n has.bytes o → OnHierarchy n name rest (scene old before) (scene mid after) o
       by_outcome (BadHierarchy fault) first =
-          spelled (BadHierarchy fault) (subst (λ (r : Result HierarchyLists HFileFault). OnSound n r rest mid mid before after (BadHierarchy fault)) (sym first) (refl, same))
+          spelled (BadHierarchy fault) (subst (λ (r : Result HierarchyLists HFileFault). OnSound n r rest (scene mid before) (scene mid after) (BadHierarchy fault)) (sym first) (refl, same))
       by_outcome (Unsound clause at by) (h, spells, broken) =
-          spelled (Unsound clause at by) (subst (λ (r : Result HierarchyLists HFileFault). OnSound n r rest mid mid before after (Unsound clause at by)) (sym spells) (inl (clause, at, by, broken, (refl, same))))
+          spelled (Unsound clause at by) (subst (λ (r : Result HierarchyLists HFileFault). OnSound n r rest (scene mid before) (scene mid after) (Unsound clause at by)) (sym spells) (inl (clause, at, by, broken, (refl, same))))
       by_outcome OutOfMemory none = inl (none, same)
       by_outcome Done none = absurd none
       by_outcome Usage none = absurd none
@@ -40,33 +41,33 @@ module _ (old mid new : ShelfMeaning) (before after : SinkMeaning) (name : List 
       by_outcome (BadCertificate line) none = absurd none
 
   -- no hierarchy was found that is sound
-  pub hierarchy_fails : (rest : HierarchyLists → Saying) (outcome : Outcome) → IsHierarchyOutcome old mid n name outcome → IsUnwritten before after
-      → OnHierarchy n name rest old mid before after outcome
+  pub hierarchy_fails : (rest : HierarchyLists → Saying) (outcome : Outcome) → IsHierarchyOutcome old mid n name outcome → Stays before after
+      → OnHierarchy n name rest (scene old before) (scene mid after) outcome
   hierarchy_fails rest outcome (inl unread) same = inl (unread, same)
   hierarchy_fails rest outcome (inr has) same = unsound rest outcome has same
 
   -- one was, and the rest says this
   pub on_hierarchy : (rest : HierarchyLists → Saying) (h : HierarchyLists) → HasSound old mid n name h
-      → (outcome : Outcome) → rest h mid new before after outcome → OnHierarchy n name rest old new before after outcome
+      → (outcome : Outcome) → rest h (scene mid before) (scene new after) outcome → OnHierarchy n name rest (scene old before) (scene new after) outcome
   on_hierarchy rest h has outcome says = inr (record {
     bytes = has.bytes;
     file = has.file;
     mid = mid;
     later = has.later;
-    says = subst (λ (r : Result HierarchyLists HFileFault). OnSound n r rest mid new before after outcome) (sym has.sound.0) (inr (has.sound.1, has.sound.2, says));
+    says = subst (λ (r : Result HierarchyLists HFileFault). OnSound n r rest (scene mid before) (scene new after) outcome) (sym has.sound.0) (inr (has.sound.1, has.sound.2, says));
   })
 
 -- ---- a hierarchy that may be named
 
 module _ (old mid new : ShelfMeaning) (before after : SinkMeaning) (n : NetworkLists) where
-  pub named_fails : (named : Option (List ℕ)) (rest : Option HierarchyLists → Saying) (outcome : Outcome) → IsNamedOutcome old mid n named outcome → IsUnwritten before after
-      → OnHierarchyIfNamed n named rest old mid before after outcome
+  pub named_fails : (named : Option (List ℕ)) (rest : Option HierarchyLists → Saying) (outcome : Outcome) → IsNamedOutcome old mid n named outcome → Stays before after
+      → OnHierarchyIfNamed n named rest (scene old before) (scene mid after) outcome
   named_fails None rest outcome none same = absurd none
   named_fails (Some name) rest outcome fails same = hierarchy_fails old mid new before after name n (λ h. rest (Some h)) outcome fails same
 
   pub on_named : (named : Option (List ℕ)) (rest : Option HierarchyLists → Saying) (h : Option HierarchyLists) → IsFoundSound old mid n named h
-      → (outcome : Outcome) → rest h mid new before after outcome → OnHierarchyIfNamed n named rest old new before after outcome
-  on_named None rest None same outcome says = subst (λ (s : ShelfMeaning). rest None s new before after outcome) same says
+      → (outcome : Outcome) → rest h (scene mid before) (scene new after) outcome → OnHierarchyIfNamed n named rest (scene old before) (scene new after) outcome
+  on_named None rest None same outcome says = subst (λ (s : ShelfMeaning). rest None (scene s before) (scene new after) outcome) same says
   on_named None rest (Some h) none outcome says = absurd none
   on_named (Some name) rest None none outcome says = absurd none
   on_named (Some name) rest (Some h) has outcome says = on_hierarchy old mid new before after name n (λ k. rest (Some k)) h has outcome says

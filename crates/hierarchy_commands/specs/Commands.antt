@@ -18,13 +18,13 @@ use Rattle.run_steps.specs.Sayings.{Saying, Ends, OnFile, WritesText}
 
 -- the hierarchy is not sound for the network: this is the first clause that fails, at its least place
 abbrev pub IsUnsound : NetworkLists → HierarchyLists → Saying
-IsUnsound n h old new before after outcome =
-    (clause : ℕ) × (at : ℕ) × (by : ℕ) × IsFirstBroken n h clause at by × Ends (Unsound clause at by) old new before after outcome
+IsUnsound n h old new outcome =
+    (clause : ℕ) × (at : ℕ) × (by : ℕ) × IsFirstBroken n h clause at by × Ends (Unsound clause at by) old new outcome
 
 -- what a hierarchy's bytes spell: one that is sound for the network, or not; or their first fault
 abbrev pub OnSound : NetworkLists → Result HierarchyLists HFileFault → (HierarchyLists → Saying) → Saying
-OnSound n (Ok h) rest old new before after outcome = IsUnsound n h old new before after outcome ⊎ (IsHierarchy h × IsSound n h × rest h old new before after outcome)
-OnSound n (Err fault) rest old new before after outcome = Ends (BadHierarchy fault) old new before after outcome
+OnSound n (Ok h) rest old new outcome = IsUnsound n h old new outcome ⊎ (IsHierarchy h × IsSound n h × rest h old new outcome)
+OnSound n (Err fault) rest old new outcome = Ends (BadHierarchy fault) old new outcome
 
 -- a hierarchy is read and checked
 abbrev pub OnHierarchy : NetworkLists → List ℕ → (HierarchyLists → Saying) → Saying

@@ -1,6 +1,7 @@
 //! The command `contract`: a hierarchy of a region's road layers.
 
 ghost use Rattle.std.specs.Prelude.{IfOk};
+ghost use Rattle.run_steps.specs.Scene.{scene};
 ghost use Rattle.run_steps.specs.Sayings.{end_of};
 ghost use Rattle.hierarchy_commands.specs.Commands.{IsContraction, SaysContract};
 
@@ -9,26 +10,26 @@ use hierarchy::Hierarchy;
 use hierarchy_file::encode;
 use mode_network::Network;
 use plan_base::{Caps, Shelf, Sink};
-use run_steps::{Outcome, read_region, tell, write_text};
+use run_steps::{Outcome, Ports, read_region, tell, write_text};
 use std::alloc::{AllocError, Global};
 
 /// Reads the region of this name, contracts its road layers, and writes the hierarchy. `notes` is told how far it is.
 pub fn contract<F: Shelf, O: Sink, E: Sink>(
-    alloc: Global,
+    ports: &mut Ports<F, O, E>,
     region: &str,
     keep: u32,
-    shelf: &mut F,
-    out: &mut O,
-    notes: &mut E,
     caps: &Caps,
 ) -> Result<(), Outcome>
-    ensures { SaysContract caps.now region.now keep (F.meaning shelf.old) (F.meaning shelf.new) (O.meaning out.old) (O.meaning out.new) (end_of result) }
+    ensures { SaysContract caps.now region.now keep
+        (scene (F.meaning ports.old.shelf) (O.meaning ports.old.out))
+        (scene (F.meaning ports.new.shelf) (O.meaning ports.new.out)) (end_of result) }
 {
-    let network = read_region(alloc, shelf, region, caps, notes)?;
-    let Ok(text) = contracted(alloc, &network, keep, notes) else {
+    let alloc = ports.alloc;
+    let network = read_region(alloc, &mut ports.shelf, region, caps, &mut ports.notes)?;
+    let Ok(text) = contracted(alloc, &network, keep, &mut ports.notes) else {
         return Err(Outcome::OutOfMemory);
     };
-    write_text(out, &text)?;
+    write_text(&mut ports.out, &text)?;
     Ok(())
 }
 

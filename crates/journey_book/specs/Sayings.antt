@@ -2,6 +2,7 @@
 use Rattle.std.specs.Prelude.{◌≡◌, ℕ, ◌<◌, ◌^◌, ◌⊎◌, ⊤, List, length, take, None, Result, Ok, Err, IsSomeAnd}
 use Rattle.plan_base.specs.Counts.{Rose}
 use Rattle.plan_base.specs.Shelves.{ShelfMeaning, IsLater, Told, HasRead}
+use Rattle.plan_base.specs.Sinks as sinks
 use Rattle.plan_base.specs.Sinks.{SinkMeaning, Appended}
 use Rattle.journey_book.specs.Books.{Book}
 use Rattle.journey_book.specs.Keepers.{KeeperMeaning, Becomes, Stays, Tells}
@@ -29,7 +30,7 @@ end_of (Err outcome) = outcome
 
 -- nothing is written
 abbrev pub IsUnwritten : Scene → Scene → Type 0
-IsUnwritten old new = new.out.bytes ≡ old.out.bytes
+IsUnwritten old new = sinks.Stays old.out new.out
 
 -- nothing is written, and the book stays
 abbrev pub IsUntouched : Scene → Scene → Type 0

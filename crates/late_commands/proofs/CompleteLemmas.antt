@@ -10,7 +10,7 @@ use Rattle.late_certificate.specs.Reading.{late_of}
 use Rattle.late_certificate.specs.Verdicts.{IsLateVerdict}
 use Rattle.late_certificate.proofs.ReadLaws.{again}
 use Rattle.late_certificate.proofs.UniqueLemmas.{late_verdict_is_unique}
-use Rattle.certificate_steps.proofs.CompleteLemmas.{verified_completes}
+use Rattle.run_steps.proofs.CertificateComplete.{verified_completes}
 use Rattle.run_steps.proofs.CompleteSteps.{file_completes, network_completes, writes_completes}
 use Rattle.late_commands.specs.Outputs.{late_certificates}
 use Rattle.late_commands.specs.Complete.{SpellsValidLate, FewCompletes, LatestCompletes, CertifyLatestCompletes, VerifyLatestCompletes}

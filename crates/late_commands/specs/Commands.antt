@@ -1,11 +1,11 @@
 -- What each command says of a run by its outcome.
 use Rattle.std.specs.Prelude.{◌≡◌, ℕ, List}
 use Rattle.plan_base.specs.declared.limits.Caps.{Caps}
-use Rattle.certificate_steps.specs.Kinds.{SaysVerified}
+use Rattle.run_steps.specs.Certificates.{SaysVerified}
 use Rattle.few_boardings.specs.Blocks.{IsFewBlock}
 use Rattle.latest_departure.specs.Blocks.{IsLateBlock}
-use Rattle.line_blocks.specs.QueryLines.{query_lines}
-use Rattle.line_blocks.specs.Blocks.{BlockRule, AreBlocks, BeginsBlocks}
+use Rattle.run_steps.specs.QueryLines.{query_lines}
+use Rattle.run_steps.specs.Blocks.{BlockRule, AreBlocks, BeginsBlocks}
 use Rattle.run_steps.specs.declared.outcome.FileRole.TheVariants.{Queries}
 use Rattle.run_steps.specs.Regions.{OnRegion}
 use Rattle.run_steps.specs.Sayings.{Saying, OnFile, Writes, WritesText}

@@ -10,7 +10,7 @@ use Rattle.late_certificate.specs.Texts.{IsLateText}
 use Rattle.late_certificate.specs.Reading.{late_of}
 use Rattle.late_certificate.specs.Verdicts.{IsLateVerdict}
 use Rattle.late_certificate.specs.Certified.{IsLateCertificateOf}
-use Rattle.certificate_steps.specs.Kinds.{CertificateKind}
+use Rattle.run_steps.specs.Certificates.{CertificateKind}
 
 -- the text of a valid certificate for the line, whose labels are those of the search; it proves what it claims
 pub record IsLateCertificateFor (n : NetworkLists) (line out : List ℕ) : Type 0 where

@@ -5,6 +5,7 @@ ghost use Rattle.plain_texts.specs.Lines.{IsLine};
 ghost use Rattle.mode_expression.specs.Form.{form_of, IsUsable};
 ghost use Rattle.journey.specs.Queries.{IsQuery};
 ghost use Rattle.plan_base.specs.Shelves.{ShelfMeaning};
+ghost use Rattle.run_steps.specs.Scene.{scene};
 ghost use Rattle.run_steps.specs.Sayings.{WritesText, end_of};
 ghost use Rattle.late_commands.specs.Outputs.{IsLateCertificateFor, IsLateCertified};
 ghost use Rattle.late_commands.specs.Commands.{SaysCertifyLatest};
@@ -13,23 +14,23 @@ use journey::{BlockBody, Query, QueryFault, block, read_query};
 use late_certificate::{certify_late, print_late};
 use mode_network::Network;
 use plan_base::{Caps, Shelf, Sink};
-use run_steps::{Outcome, read_region, write_text};
+use run_steps::{Outcome, Ports, read_region, write_text};
 use std::alloc::{AllocError, Global};
 
 /// Reads the region of this name, and writes the late certificate of a query line, or its block where the line is refused.
 pub fn certify_latest<F: Shelf, O: Sink, E: Sink>(
-    alloc: Global,
+    ports: &mut Ports<F, O, E>,
     region: &str,
     query: &str,
-    shelf: &mut F,
-    out: &mut O,
-    notes: &mut E,
     caps: &Caps,
 ) -> Result<(), Outcome>
-    ensures { SaysCertifyLatest caps.now region.now query.now (F.meaning shelf.old) (F.meaning shelf.new) (O.meaning out.old) (O.meaning out.new) (end_of result) }
+    ensures { SaysCertifyLatest caps.now region.now query.now
+        (scene (F.meaning ports.old.shelf) (O.meaning ports.old.out))
+        (scene (F.meaning ports.new.shelf) (O.meaning ports.new.out)) (end_of result) }
 {
-    let network = read_region(alloc, shelf, region, caps, notes)?;
-    write_certified(alloc, &network, query.as_bytes(), out)
+    let alloc = ports.alloc;
+    let network = read_region(alloc, &mut ports.shelf, region, caps, &mut ports.notes)?;
+    write_certified(alloc, &network, query.as_bytes(), &mut ports.out)
 }
 
 /// Writes the late certificate of a query line, or its block where the line is refused.
@@ -39,7 +40,7 @@ fn write_certified<O: Sink>(
     line: &[u8],
     out: &mut O,
 ) -> Result<(), Outcome>
-    ensures { (old new : ShelfMeaning) → WritesText (IsLateCertified network.now line.now) old new (O.meaning out.old) (O.meaning out.new) (end_of result) }
+    ensures { (old new : ShelfMeaning) → WritesText (IsLateCertified network.now line.now) (scene old (O.meaning out.old)) (scene new (O.meaning out.new)) (end_of result) }
 {
     let Ok(text) = certified(alloc, network, line) else {
         return Err(Outcome::OutOfMemory);

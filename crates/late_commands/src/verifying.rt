@@ -3,15 +3,15 @@
 ghost use Rattle.std.specs.Prelude.{IfOk, IfSome};
 ghost use Rattle.journey.specs.Blocks.{IsPrintable};
 ghost use Rattle.latest_departure.specs.Blocks.{IsAnswerBlock};
+ghost use Rattle.run_steps.specs.Scene.{scene};
 ghost use Rattle.run_steps.specs.Sayings.{end_of};
 ghost use Rattle.late_commands.specs.Commands.{SaysVerifyLatest};
 
-use certificate_steps::{Certificates, write_verified};
 use late_certificate::{CertFault, CertVerdict, LateCertificate, read_late, verify_late};
 use latest_departure::answer_block;
 use mode_network::Network;
 use plan_base::{Caps, Shelf, Sink};
-use run_steps::{Outcome, read_region};
+use run_steps::{Certificates, Outcome, Ports, read_region, write_verified};
 use std::alloc::{AllocError, Global};
 
 /// Certificates of the latest departure.
@@ -49,19 +49,24 @@ impl Certificates for LateCertificates<'_> {
 /// Reads the region and the late certificate's file of these names, and writes that it is valid and the late block of its line
 /// and result.
 pub fn verify_latest<F: Shelf, O: Sink, E: Sink>(
-    alloc: Global,
+    ports: &mut Ports<F, O, E>,
     region: &str,
     certificate: &str,
-    shelf: &mut F,
-    out: &mut O,
-    notes: &mut E,
     caps: &Caps,
 ) -> Result<(), Outcome>
-    ensures { SaysVerifyLatest caps.now region.now certificate.now (F.meaning shelf.old) (F.meaning shelf.new) (O.meaning out.old) (O.meaning out.new) (end_of result) }
+    ensures { SaysVerifyLatest caps.now region.now certificate.now
+        (scene (F.meaning ports.old.shelf) (O.meaning ports.old.out))
+        (scene (F.meaning ports.new.shelf) (O.meaning ports.new.out)) (end_of result) }
 {
-    let network = read_region(alloc, shelf, region, caps, notes)?;
+    let network = read_region(
+        ports.alloc,
+        &mut ports.shelf,
+        region,
+        caps,
+        &mut ports.notes,
+    )?;
     let late = LateCertificates { network: &network };
-    write_verified(alloc, &late, certificate, shelf, out, notes)
+    write_verified(ports, &late, certificate)
 }
 
 /// The late block of what a certificate claims.

@@ -1,3 +1,4 @@
+pub mod DiskLemmas
 pub mod MoreRead
 pub mod MoreWritten
 pub mod PlaceAgain

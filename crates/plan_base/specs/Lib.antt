@@ -11,6 +11,7 @@ pub mod PlaceOf
 pub mod Places
 pub mod ReadCauses
 pub mod ReadFaults
+pub mod Disks
 pub mod ShelfCauses
 pub mod Shelves
 pub mod Sinks

@@ -1,5 +1,4 @@
-use Rattle.std.specs.Prelude.{◌≡◌, ℕ, List, ◌++◌, take, Option}
-use Rattle.std.specs.Option.{option_map}
+use Rattle.std.specs.Prelude.{◌≡◌, ℕ, List, ◌++◌, take, Option, Some, IfSome}
 
 -- what was written to a sink, where it tells, and how often writing failed
 pub record SinkMeaning : Type 0 where
@@ -8,7 +7,11 @@ pub record SinkMeaning : Type 0 where
 
 -- the piece was appended; of a sink that tells nothing this says nothing
 abbrev pub Appended : SinkMeaning → SinkMeaning → List ℕ → Type 0
-Appended old new piece = new.bytes ≡ option_map (λ bytes. bytes ++ piece) old.bytes
+Appended old new piece = IfSome old.bytes (λ bytes. new.bytes ≡ Some (bytes ++ piece))
+
+-- what was told stays
+abbrev pub Stays : SinkMeaning → SinkMeaning → Type 0
+Stays old new = IfSome old.bytes (λ bytes. new.bytes ≡ Some bytes)
 
 -- a front of the piece was appended
 pub record AppendedPart (old new : SinkMeaning) (piece : List ℕ) : Type 0 where

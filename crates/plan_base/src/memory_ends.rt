@@ -4,7 +4,7 @@ ghost use Rattle.std.specs.Prelude.{◌≡◌, ◌<◌, ◌≤◌, ◌-◌, vec_
 ghost use Rattle.plan_base.specs.Counts.{Rose};
 ghost use Rattle.plan_base.specs.Shelves.{AreBytesAt, IsLater, Gave};
 ghost use Rattle.plan_base.specs.ShelfCauses.{HasCause};
-ghost use Rattle.plan_base.specs.Sinks.{Appended};
+ghost use Rattle.plan_base.specs.Sinks.{Appended, Stays};
 ghost use Rattle.plan_base.specs.MemoryAnswers.{count_after, counts_after, faults_after, read_answer, write_answer};
 ghost use Rattle.plan_base.specs.MemoryFiles.{files_of};
 
@@ -143,7 +143,7 @@ impl Sink for MemorySink {
         ensures some { 0 < length piece.now → IfOk result (λ n. 0 < n) }
         ensures within { IfOk result (λ n. n ≤ length piece.now) }
         ensures ok { IfOk result (λ n. Appended (sink_meaning self.old) (sink_meaning self.new) (take n piece.now)) }
-        ensures same { OnErr result ((sink_meaning self.new).bytes ≡ (sink_meaning self.old).bytes) }
+        ensures same { OnErr result (Stays (sink_meaning self.old) (sink_meaning self.new)) }
         ensures cause { OnErr result (Rose (sink_meaning self.old).faults (sink_meaning self.new).faults) }
         ensures exact { result ≡ write_answer (sink_fails self.old) (sink_writes self.new) (sink_most self.old) (sink_left self.old) (length piece.now) }
         ensures writes { sink_writes self.new ≡ count_after (sink_writes self.old) }

@@ -1,8 +1,8 @@
 //! Writing: the sink, and whole pieces to it.
 
-ghost use Rattle.std.specs.Prelude.{◌≡◌, ◌<◌, ◌≤◌, length, take, IfOk, OnOk, OnErr};
+ghost use Rattle.std.specs.Prelude.{◌<◌, ◌≤◌, length, take, IfOk, OnOk, OnErr};
 ghost use Rattle.plan_base.specs.Counts.{Rose};
-ghost use Rattle.plan_base.specs.Sinks.{SinkMeaning, Appended, AppendedPart};
+ghost use Rattle.plan_base.specs.Sinks.{SinkMeaning, Appended, AppendedPart, Stays};
 
 /// Writing failed.
 #[derive(Clone, Copy, Debug, PartialEq, Eq)]
@@ -21,7 +21,7 @@ pub trait Sink {
         ensures some { 0 < length piece.now → IfOk result (λ n. 0 < n) }
         ensures within { IfOk result (λ n. n ≤ length piece.now) }
         ensures ok { IfOk result (λ n. Appended (meaning self.old) (meaning self.new) (take n piece.now)) }
-        ensures same { OnErr result ((meaning self.new).bytes ≡ (meaning self.old).bytes) }
+        ensures same { OnErr result (Stays (meaning self.old) (meaning self.new)) }
         ensures cause { OnErr result (Rose (meaning self.old).faults (meaning self.new).faults) };
 }
 

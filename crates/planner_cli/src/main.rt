@@ -2,7 +2,7 @@
 #![tactic(auto)]
 
 use plan_base::{FolderShelf, StreamSink};
-use planner_core::{Outcome, run};
+use planner_core::{Outcome, Ports, run};
 use std::env;
 use std::io::{self, ErrorKind};
 use std::process::ExitCode;
@@ -10,16 +10,13 @@ use std::process::ExitCode;
 fn main(rt: HostRuntime) -> ExitCode {
     let outcome = match words(&rt) {
         Ok(words) => {
-            let mut shelf = FolderShelf::new(&rt);
-            let mut out = StreamSink::new(rt.stdout());
-            let mut notes = StreamSink::new(rt.stderr());
-            run(
-                rt.alloc(),
-                words.as_slice(),
-                &mut shelf,
-                &mut out,
-                &mut notes,
-            )
+            let mut ports = Ports {
+                alloc: rt.alloc(),
+                shelf: FolderShelf::new(&rt),
+                out: StreamSink::new(rt.stdout()),
+                notes: StreamSink::new(rt.stderr()),
+            };
+            run(&mut ports, words.as_slice())
         }
         Err(error) if error.kind() == ErrorKind::OutOfMemory => Outcome::OutOfMemory,
         Err(_) => Outcome::Usage,

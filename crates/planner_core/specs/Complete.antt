@@ -1,12 +1,9 @@
 -- What can be done: the files that a request names are there and without fault.
 use Rattle.std.specs.Prelude.{◌≡◌, ℕ, List, Some}
-use Rattle.plan_base.specs.Counts.{Rose}
-use Rattle.plan_base.specs.Shelves.{ShelfMeaning}
-use Rattle.plan_base.specs.Sinks.{SinkMeaning}
 use Rattle.plan_base.specs.declared.limits.Caps.{Caps}
 use Rattle.command_words.specs.Requests.{Request, AsksFor, compile, migrate, contract, answer, certify, verify, check, sample, latest, certify_latest, verify_latest, few}
-use Rattle.run_steps.specs.declared.outcome.Outcome.{Outcome}
-use Rattle.run_steps.specs.Complete.{Files, IsHeld, SpellsNetwork, IsDoneOrMemory}
+use Rattle.run_steps.specs.Complete.{Files, IsHeld, IsQuiet, SpellsNetwork, IsDoneOrMemory}
+use Rattle.run_steps.specs.Sayings.{Saying}
 use Rattle.compile_commands.specs.Complete.{GivesRegion, IsFeedHeld, SpellsObjects}
 use Rattle.hierarchy_commands.specs.Complete.{CanCheck, CanContract}
 use Rattle.answer_commands.specs.Complete.{CanAnswer, CanCertify, CanVerify}
@@ -28,6 +25,6 @@ CanBeDone caps files (verify_latest region certificate) = CanVerifyLatest caps f
 CanBeDone caps files (few region queries) = CanFew caps files region queries
 
 -- where the words ask for something, all of it can be done, and no count of faults rose, all of it is done, unless memory ran out
-abbrev pub IsComplete : Caps → List (List ℕ) → ShelfMeaning → ShelfMeaning → SinkMeaning → SinkMeaning → Outcome → Type 0
-IsComplete caps words old new before after outcome = (r : Request) (files : Files) → AsksFor words r → old.files ≡ Some files → CanBeDone caps files r
-    → (Rose old.faults new.faults → ⊥) → (Rose before.faults after.faults → ⊥) → IsDoneOrMemory outcome
+abbrev pub IsComplete : Caps → List (List ℕ) → Saying
+IsComplete caps words old new outcome =
+    (r : Request) (files : Files) → AsksFor words r → old.shelf.files ≡ Some files → CanBeDone caps files r → IsQuiet old new → IsDoneOrMemory outcome

@@ -3,6 +3,7 @@
 ghost use Rattle.std.specs.Prelude.{map, string_bytes};
 ghost use Rattle.plan_base.specs.declared.limits.Caps.{Caps};
 ghost use Rattle.command_words.specs.Requests.{AsksFor, IsPlainForm, Request, request_of};
+ghost use Rattle.run_steps.specs.Scene.{scene};
 ghost use Rattle.run_steps.specs.Sayings.{end_of};
 ghost use Rattle.planner_core.specs.Commands.{says};
 ghost use Rattle.planner_core.specs.Outcomes.{IsOutcome, AreFull};
@@ -16,21 +17,20 @@ use compile_commands::{compile, migrate};
 use hierarchy_commands::{check, contract};
 use late_commands::{certify_latest, few, latest, verify_latest};
 use plan_base::{Caps, Shelf, Sink, write_all};
-use run_steps::{Outcome, tell};
+use run_steps::{Outcome, Ports, tell};
 use sample_command::sample;
 use std::alloc::Global;
 
 /// Does what a command asks for.
 fn carry_out<F: Shelf, O: Sink, E: Sink>(
-    alloc: Global,
+    ports: &mut Ports<F, O, E>,
     command: Command<'_>,
-    shelf: &mut F,
-    out: &mut O,
-    notes: &mut E,
     caps: &Caps,
 ) -> Result<(), Outcome>
     requires { HasSize (request_of command) }
-    ensures { says caps.now (request_of command.entry) (F.meaning shelf.old) (F.meaning shelf.new) (O.meaning out.old) (O.meaning out.new) (end_of result) }
+    ensures { says caps.now (request_of command.entry)
+        (scene (F.meaning ports.old.shelf) (O.meaning ports.old.out))
+        (scene (F.meaning ports.new.shelf) (O.meaning ports.new.out)) (end_of result) }
 {
     match command {
         Command::Compile {
@@ -38,64 +38,57 @@ fn carry_out<F: Shelf, O: Sink, E: Sink>(
             feed,
             days,
             format,
-        } => compile(alloc, map, feed, days, format, shelf, out, notes, caps),
-        Command::Migrate { region, format } => {
-            migrate(alloc, region, format, shelf, out, notes, caps)
-        }
-        Command::Contract { region, keep } => {
-            contract(alloc, region, keep, shelf, out, notes, caps)
-        }
+        } => compile(ports, map, feed, days, format, caps),
+        Command::Migrate { region, format } => { migrate(ports, region, format, caps) }
+        Command::Contract { region, keep } => { contract(ports, region, keep, caps) }
         Command::Answer {
             region,
             queries,
             hierarchy,
-        } => answer(alloc, region, queries, hierarchy, shelf, out, notes, caps),
+        } => answer(ports, region, queries, hierarchy, caps),
         Command::Certify {
             region,
             query,
             hierarchy,
-        } => certify(alloc, region, query, hierarchy, shelf, out, notes, caps),
+        } => certify(ports, region, query, hierarchy, caps),
         Command::Verify {
             region,
             certificate: file,
             hierarchy,
-        } => verify(alloc, region, file, hierarchy, shelf, out, notes, caps),
-        Command::Check { region, hierarchy } => {
-            check(alloc, region, hierarchy, shelf, out, notes, caps)
-        }
-        Command::Sample { size } => sample(alloc, size, out, notes, caps),
-        Command::Latest { region, queries } => {
-            latest(alloc, region, queries, shelf, out, notes, caps)
-        }
-        Command::CertifyLatest { region, query } => {
-            certify_latest(alloc, region, query, shelf, out, notes, caps)
-        }
+        } => verify(ports, region, file, hierarchy, caps),
+        Command::Check { region, hierarchy } => { check(ports, region, hierarchy, caps) }
+        Command::Sample { size } => {
+            sample(ports.alloc, size, &mut ports.out, &mut ports.notes, caps)
+        },
+        Command::Latest { region, queries } => { latest(ports, region, queries, caps) }
+        Command::CertifyLatest { region, query } => { certify_latest(ports, region, query, caps) }
         Command::VerifyLatest {
             region,
             certificate,
-        } => verify_latest(alloc, region, certificate, shelf, out, notes, caps),
-        Command::Few { region, queries } => few(alloc, region, queries, shelf, out, notes, caps),
+        } => verify_latest(ports, region, certificate, caps),
+        Command::Few { region, queries } => few(ports, region, queries, caps),
     }
 }
 
 /// Does what a command with these words asks for, within these limits.
 pub fn run_within<F: Shelf, O: Sink, E: Sink>(
-    alloc: Global,
+    ports: &mut Ports<F, O, E>,
     words: &[String],
-    shelf: &mut F,
-    out: &mut O,
-    notes: &mut E,
     caps: &Caps,
 ) -> Outcome
-    ensures outcome { IsOutcome caps.now (map string_bytes words.now) (F.meaning shelf.old) (F.meaning shelf.new) (O.meaning out.old) (O.meaning out.new) result }
-    ensures complete { IsComplete caps.now (map string_bytes words.now) (F.meaning shelf.old) (F.meaning shelf.new) (O.meaning out.old) (O.meaning out.new) result }
+    ensures outcome { IsOutcome caps.now (map string_bytes words.now)
+        (scene (F.meaning ports.old.shelf) (O.meaning ports.old.out))
+        (scene (F.meaning ports.new.shelf) (O.meaning ports.new.out)) result }
+    ensures complete { IsComplete caps.now (map string_bytes words.now)
+        (scene (F.meaning ports.old.shelf) (O.meaning ports.old.out))
+        (scene (F.meaning ports.new.shelf) (O.meaning ports.new.out)) result }
 {
-    let command = match read_words(alloc, words) {
+    let command = match read_words(ports.alloc, words) {
         Ok(command) => command,
         Err(WordsFault::Refused) => return Outcome::Usage,
         Err(WordsFault::OutOfMemory) => return Outcome::OutOfMemory,
     };
-    match carry_out(alloc, command, shelf, out, notes, caps) {
+    match carry_out(ports, command, caps) {
         Ok(()) => Outcome::Done,
         Err(outcome) => outcome,
     }
@@ -112,24 +105,24 @@ pub fn run_within<F: Shelf, O: Sink, E: Sink>(
 /// the certificate's line and result, which is the right block of that line. `check` with a hierarchy file writes `sound`
 /// where the hierarchy is sound for the region. With the option `--hierarchy` the commands `answer`, `certify` and `verify`
 /// go over a hierarchy, which is checked at once; `answer` then tells behind the blocks how many labels its searches had.
-/// `sample` with a size writes the summary of a made city.
+/// `sample` with a size writes the summary of a made city. `few` with a queries file writes for each line the journeys that are
+/// worth their boardings, and `latest` the journey that departs last; `certify-latest` and `verify-latest` do for it what
+/// `certify` and `verify` do for the earliest arrival.
 ///
 /// The outcome says how the run ended. Where the shelf tells that all files are there, they are without fault, and no count
 /// of faults rose, all of the work is done, unless memory ran out. `notes` is told the outcome, for people, and
 /// where the words ask for nothing, what they may be. A fault of `notes` changes nothing.
-pub fn run<F: Shelf, O: Sink, E: Sink>(
-    alloc: Global,
-    words: &[String],
-    shelf: &mut F,
-    out: &mut O,
-    notes: &mut E,
-) -> Outcome
-    ensures outcome { (caps : Caps) × AreFull caps × IsOutcome caps (map string_bytes words.now) (F.meaning shelf.old) (F.meaning shelf.new) (O.meaning out.old) (O.meaning out.new) result }
-    ensures complete { (caps : Caps) × AreFull caps × IsComplete caps (map string_bytes words.now) (F.meaning shelf.old) (F.meaning shelf.new) (O.meaning out.old) (O.meaning out.new) result }
+pub fn run<F: Shelf, O: Sink, E: Sink>(ports: &mut Ports<F, O, E>, words: &[String]) -> Outcome
+    ensures outcome { (caps : Caps) × AreFull caps × IsOutcome caps (map string_bytes words.now)
+        (scene (F.meaning ports.old.shelf) (O.meaning ports.old.out))
+        (scene (F.meaning ports.new.shelf) (O.meaning ports.new.out)) result }
+    ensures complete { (caps : Caps) × AreFull caps × IsComplete caps (map string_bytes words.now)
+        (scene (F.meaning ports.old.shelf) (O.meaning ports.old.out))
+        (scene (F.meaning ports.new.shelf) (O.meaning ports.new.out)) result }
     ensures plain { (r : Request) → IsPlainForm (map string_bytes words.now) r → AsksFor (map string_bytes words.now) r }
 {
-    let outcome = run_within(alloc, words, shelf, out, notes, &Caps::FULL);
-    tell_end(alloc, words, outcome, notes);
+    let outcome = run_within(ports, words, &Caps::FULL);
+    tell_end(ports.alloc, words, outcome, &mut ports.notes);
     outcome
 }
 

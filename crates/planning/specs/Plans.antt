@@ -1,5 +1,5 @@
--- What a plan answers to a query, without a hierarchy and over one.
-use Rattle.std.specs.Prelude.{◌≡◌, ℕ, ◌<◌, ◌^◌, List, Option, Some, None, All, IfSome, option_map}
+-- What is found for a query, without a hierarchy and over one.
+use Rattle.std.specs.Prelude.{◌≡◌, ℕ, ◌<◌, ◌^◌, List, Option, Some, None, All, option_map}
 use Rattle.mode_expression.specs.Form.{form_of, IsUsable}
 use Rattle.search_laws.specs.GraphLaws.{GraphMeaning}
 use Rattle.search_laws.specs.LabelLaws.{LabelsMeaning}
@@ -18,8 +18,7 @@ use Rattle.journey.specs.Queries.{IsQuery}
 use Rattle.journey.specs.CopyLists.{AreTheCopies}
 use Rattle.journey.specs.Best.{Asked, IsBest, HasNone, asked_by}
 use Rattle.journey.specs.Blocks.{IsPrintable}
-use Rattle.journey.specs.Real.{EndsAt}
-use Rattle.certificate.specs.Lines.{HasLabelTime, IsTime}
+use Rattle.certificate.specs.Lines.{HasLabelTime}
 use Rattle.certificate.specs.Texts.{FitsResult}
 use Rattle.certificate.specs.Valid.{IsValid}
 use Rattle.certificate.specs.Verdicts.{claim_on}
@@ -49,11 +48,6 @@ pub record IsCertifiable (n : NetworkLists) (h : Option HierarchyLists) (q : Que
   pub valid : IsValid n h (claim_on q h found labels)
   pub asked : valid.setting.asked ≡ asked_by q
   pub result : FitsResult found
-  pub labels_fit : All HasLabelTime labels
-
--- the journey, if there is one, arrives at a time below 10 ^ 30, and so are those of the labels
-pub record AreInTime (n : NetworkLists) (journey : Option Route) (labels : List Label) : Type 0 where
-  pub arrival : IfSome journey (λ j. (w : ℕ) × (u : ℕ) × EndsAt n j w u × IsTime u)
   pub labels_fit : All HasLabelTime labels
 
 -- the labels over a graph: all product states that are reached before the least arrival, each with the least time at which it is

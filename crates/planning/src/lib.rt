@@ -5,4 +5,4 @@ pub mod blocks;
 pub mod plans;
 
 pub use blocks::block_of;
-pub use plans::{Answer, BestPlan, FoundPlan, find_best, find_plan, plan};
+pub use plans::{BestPlan, FoundPlan, find_best, find_plan};

@@ -5,7 +5,7 @@ ghost use Rattle.automaton.specs.Meanings.{position_meaning};
 ghost use Rattle.hierarchy.specs.Soundness.{IsSound};
 ghost use Rattle.journey.specs.Best.{asked_by};
 ghost use Rattle.phase_graph.specs.InUseGraph.{meaning_in_use, network_in, hierarchy_in};
-ghost use Rattle.planning.specs.Plans.{IsRead, IsPlan, AreTheLabels, AreInTime, IsCertifiable, both, route_of};
+ghost use Rattle.planning.specs.Plans.{IsRead, IsPlan, AreTheLabels, IsCertifiable, both, route_of};
 ghost use Rattle.planning.specs.Searched.{IsSearched, IsWalkOf, IsUnder};
 ghost use Rattle.planning.specs.Settled.{IsLabelCount};
 
@@ -21,13 +21,6 @@ use product_search::{
 };
 use std::alloc::{AllocError, Global};
 use unpack::from_graph;
-
-/// What a plan answers: a best journey, if any journey answers the query, and the labels of the search.
-#[derive(Drop)]
-pub struct Answer {
-    pub journey: Option<Journey>,
-    pub labels: Vec<Label>,
-}
 
 /// What is found for a query: a best journey and when it arrives, if any journey answers, and the labels of the search.
 #[derive(Drop)]
@@ -50,26 +43,6 @@ struct Searched<'a> {
     automaton: Collapsed<Positions>,
     starts: Vec<u32>,
     ends: Vec<u32>,
-}
-
-/// A best journey for a query, or none exactly where no journey answers it; and exactly the labels of the search over the
-/// network's graph, or, where a hierarchy is given, over its phase graph. The hierarchy is sound for the network; which one
-/// it is changes no arrival. The arrival and the times of the labels are below 10^30.
-pub fn plan(
-    alloc: Global,
-    network: &Network,
-    hierarchy: Option<&Hierarchy>,
-    query: &Query,
-) -> Result<Answer, AllocError>
-    requires sound { IfSome hierarchy (λ h. IsSound network.now h.now) }
-    requires read { IsRead network.now query.now }
-    ensures journey { IfOk result (λ answer. IsPlan network.now (asked_by query.now) answer.journey) }
-    ensures labels { IfOk result (λ answer. AreTheLabels network.now (option_map (λ h. h.now) hierarchy.entry) (asked_by query.now) answer.labels.items) }
-    ensures times { IfOk result (λ answer. AreInTime network.now answer.journey answer.labels.items) }
-{
-    let FoundPlan { best, labels } = find_plan(alloc, network, hierarchy, query)?;
-    let journey = journey_of(best);
-    Ok(Answer { journey, labels })
 }
 
 /// A best journey for a query, or none exactly where no journey answers it. Over a hierarchy, which is sound for the
@@ -162,18 +135,9 @@ fn find_over(
     })
 }
 
-/// A journey that was found with its arrival.
-fn journey_of(best: Option<(Time, Journey)>) -> Option<Journey>
-    ensures { result ≡ route_of best }
-{
-    match best {
-        Some((_, journey)) => Some(journey),
-        None => None,
-    }
-}
-
 /// A best journey for a query and when it arrives, or none exactly where no journey answers it; and exactly the labels of
-/// the search. A certificate of these is valid.
+/// the search over the network's graph, or, where a hierarchy is given, over its phase graph. The hierarchy is sound for the
+/// network; which one it is changes no arrival. A certificate of these is valid.
 pub fn find_plan(
     alloc: Global,
     network: &Network,

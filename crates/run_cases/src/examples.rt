@@ -51,23 +51,22 @@ fn is_written_back(rt: &HostRuntime, folder: &str) -> io::Result<bool> {
 fn written_back(alloc: Global, told: Told) -> Result<Told, AllocError> {
     let mut files = BTreeMap::new(alloc);
     files.insert(String::from_str(alloc, "bytes")?, told.out)?;
-    let mut shelf = MemoryShelf::new(files, Vec::new(alloc));
-    run_line(alloc, "", "migrate bytes --format 1", "", &mut shelf)
+    let shelf = MemoryShelf::new(files, Vec::new(alloc));
+    run_line(alloc, "", "migrate bytes --format 1", "", shelf)
 }
 
 /// Runs a line of words and more of them over the files of the system.
 fn run_in(rt: &HostRuntime, folder: &str, line: &str, more: &str) -> Result<Told, AllocError> {
-    let mut shelf = FolderShelf::new(rt);
-    run_line(rt.alloc(), folder, line, more, &mut shelf)
+    run_line(rt.alloc(), folder, line, more, FolderShelf::new(rt))
 }
 
 /// Runs a line of words and more of them. A word that begins with `/` names a file of the folder.
-fn run_line<F: Shelf>(
+fn run_line<F: Shelf + Drop>(
     alloc: Global,
     folder: &str,
     line: &str,
     more: &str,
-    shelf: &mut F,
+    shelf: F,
 ) -> Result<Told, AllocError> {
     let mut words = Vec::new(alloc);
     push_word(&mut words, alloc, "", "modeplan")?;

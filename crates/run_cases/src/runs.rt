@@ -3,7 +3,7 @@
 use crate::{print_text, text};
 use case_script::{Given, Script, words, words_and_files};
 use plan_base::{MemoryShelf, MemorySink, Shelf};
-use planner_core::Outcome;
+use planner_core::{Outcome, Ports};
 use std::alloc::{AllocError, Global};
 use std::io;
 
@@ -184,20 +184,26 @@ fn run_over(
     failing: Failing,
 ) -> Result<Told, AllocError> {
     let Given { words, files } = words_and_files(alloc, script, line)?;
-    let mut shelf = MemoryShelf::new(files, vec![in alloc; failing.read]?);
-    run_words(alloc, &words, &mut shelf, failing)
+    let shelf = MemoryShelf::new(files, vec![in alloc; failing.read]?);
+    run_words(alloc, &words, shelf, failing)
 }
 
 /// Runs words over files.
-pub fn run_words<F: Shelf>(
+pub fn run_words<F: Shelf + Drop>(
     alloc: Global,
     words: &[String],
-    shelf: &mut F,
+    shelf: F,
     failing: Failing,
 ) -> Result<Told, AllocError> {
-    let Sinks { mut out, mut notes } = Sinks::new(alloc, failing)?;
-    let outcome = planner_core::run(alloc, words, shelf, &mut out, &mut notes);
-    told_by(alloc, outcome, out.bytes(), notes.bytes())
+    let Sinks { out, notes } = Sinks::new(alloc, failing)?;
+    let mut ports = Ports {
+        alloc,
+        shelf,
+        out,
+        notes,
+    };
+    let outcome = planner_core::run(&mut ports, words);
+    told_by(alloc, outcome, ports.out.bytes(), ports.notes.bytes())
 }
 
 fn told_by(alloc: Global, outcome: Outcome, out: &[u8], notes: &[u8]) -> Result<Told, AllocError> {

@@ -1,8 +1,8 @@
 -- A run whose files are there and without fault ends with its work done, step by step.
 use Rattle.std.proofs.Common.{◌≡◌, ℕ, ◌<◌, ◌∙◌, inl, inr, List, Option, Some, None, subst, arith}
-use Rattle.std.specs.Prelude.{Result, length, IfSome, IsSomeAnd}
+use Rattle.std.specs.Prelude.{⊤, Result, length, IfSome, IsSomeAnd}
 use Rattle.plan_base.specs.Counts.{Rose}
-use Rattle.plan_base.specs.Shelves.{ShelfMeaning, Told}
+use Rattle.plan_base.specs.Shelves.{IsLater, ShelfMeaning, Told}
 use Rattle.plan_base.specs.declared.limits.Caps.{Caps}
 use Rattle.mode_network.specs.NetworkLists.{NetworkLists}
 use Rattle.mode_network.specs.Rules.{IsNetwork}
@@ -11,10 +11,15 @@ use Rattle.region_file.specs.Regions.{region_of}
 use Rattle.run_steps.specs.declared.outcome.FileRole.{FileRole}
 use Rattle.run_steps.specs.declared.outcome.Outcome.{Outcome}
 use Rattle.run_steps.specs.declared.outcome.Outcome.TheVariants.{Done, Usage, Missing, ReadFault, TooLong, WriteFault, BadRegion, BadFeed, Invalid, BadCertificate, BadHierarchy, Unsound, OutOfMemory}
+use Rattle.run_steps.specs.Scene.{Scene, with_shelf}
 use Rattle.run_steps.specs.Sayings.{Saying, IsUnread, OnFile, Writes, most_bytes}
 use Rattle.run_steps.specs.Regions.{OnNetwork}
-use Rattle.run_steps.specs.Complete.{Files, IsHeld, SpellsNetwork, IsDoneOrMemory, Completes}
+use Rattle.run_steps.specs.Complete.{Files, IsHeld, IsQuiet, SpellsNetwork, IsDoneOrMemory, Completes}
 use Rattle.run_steps.proofs.Steps.{rose_over}
+
+-- a run is quiet behind a read if it is so as a whole
+pub quiet_later : (old new : Scene ⊤) (mid : ShelfMeaning) → IsLater old.shelf mid → IsQuiet old new → IsQuiet (with_shelf old mid) new
+quiet_later old new mid later quiet = record { shelf = λ rose. quiet.shelf (rose_over old.shelf.faults mid.faults new.shelf.faults later.faults rose); out = quiet.out }
 
 -- what a shelf tells that holds these bytes
 pub told_held : (shelf : ShelfMeaning) (files : Files) (name bytes : List ℕ) → shelf.files ≡ Some files → files name ≡ Some bytes
@@ -46,30 +51,29 @@ module _ (files : Files) where
 
   pub file_completes : (file : FileRole) (name : List ℕ) (P : List ℕ → Type 0) (rest : List ℕ → Saying) → ((bytes : List ℕ) → Completes files (P bytes) (rest bytes))
       → Completes files (IsHeld files name P) (OnFile file name rest)
-  file_completes file name P rest more held old new before after outcome tells reads writes (inl (not, same)) = unread old new file name P held tells reads outcome not
-  file_completes file name P rest more held old new before after outcome tells reads writes (inr on) =
-      let file_is = told_held old files name held.bytes tells held.held (λ h. h ≡ Some on.bytes) on.file.file in
+  file_completes file name P rest more held old new outcome tells quiet (inl (not, same)) = unread old.shelf new.shelf file name P held tells quiet.shelf outcome not
+  file_completes file name P rest more held old new outcome tells quiet (inr on) =
+      let file_is = told_held old.shelf files name held.bytes tells held.held (λ h. h ≡ Some on.bytes) on.file.file in
       let bytes : held.bytes ≡ on.bytes = cc in
-      more on.bytes (subst P bytes held.fine) on.mid new before after outcome (on.later.files ∙ tells)
-      (λ rose. reads (rose_over old.faults on.mid.faults new.faults on.later.faults rose)) writes on.says
+      more on.bytes (subst P bytes held.fine) (with_shelf old on.mid) new outcome (on.later.files ∙ tells) (quiet_later old new on.mid on.later quiet) on.says
 
   pub network_completes : (caps : Caps) (P : NetworkLists → Type 0) (rest : NetworkLists → Saying) → ((n : NetworkLists) → IsNetwork n → Completes files (P n) (rest n))
       → (bytes : List ℕ) → Completes files (SpellsNetwork caps P bytes) (OnNetwork (region_of caps bytes) rest)
-  network_completes caps P rest more bytes (n, spells, p) old new before after outcome tells reads writes said =
-      let on = subst (λ (r : Result NetworkLists RegionFault). OnNetwork r rest old new before after outcome) spells said in
-      more n on.0 p old new before after outcome tells reads writes on.1
+  network_completes caps P rest more bytes (n, spells, p) old new outcome tells quiet said =
+      let on = subst (λ (r : Result NetworkLists RegionFault). OnNetwork r rest old new outcome) spells said in
+      more n on.0 p old new outcome tells quiet on.1
 
   pub writes_completes : (IsOut IsFront : List ℕ → Type 0) → Completes files (Unit {0}) (Writes IsOut IsFront)
-  writes_completes IsOut IsFront p old new before after Done tells reads writes is = tt
-  writes_completes IsOut IsFront p old new before after OutOfMemory tells reads writes is = tt
-  writes_completes IsOut IsFront p old new before after WriteFault tells reads writes (rose, front) = absurd (writes rose)
-  writes_completes IsOut IsFront p old new before after Usage tells reads writes none = none
-  writes_completes IsOut IsFront p old new before after (Missing file) tells reads writes none = none
-  writes_completes IsOut IsFront p old new before after (ReadFault file) tells reads writes none = none
-  writes_completes IsOut IsFront p old new before after (TooLong file) tells reads writes none = none
-  writes_completes IsOut IsFront p old new before after (BadRegion fault) tells reads writes none = none
-  writes_completes IsOut IsFront p old new before after (BadFeed fault) tells reads writes none = none
-  writes_completes IsOut IsFront p old new before after (Invalid clause at) tells reads writes none = none
-  writes_completes IsOut IsFront p old new before after (BadCertificate line) tells reads writes none = none
-  writes_completes IsOut IsFront p old new before after (BadHierarchy fault) tells reads writes none = none
-  writes_completes IsOut IsFront p old new before after (Unsound clause at by) tells reads writes none = none
+  writes_completes IsOut IsFront p old new Done tells quiet is = tt
+  writes_completes IsOut IsFront p old new OutOfMemory tells quiet is = tt
+  writes_completes IsOut IsFront p old new WriteFault tells quiet (rose, front) = absurd (quiet.out rose)
+  writes_completes IsOut IsFront p old new Usage tells quiet none = none
+  writes_completes IsOut IsFront p old new (Missing file) tells quiet none = none
+  writes_completes IsOut IsFront p old new (ReadFault file) tells quiet none = none
+  writes_completes IsOut IsFront p old new (TooLong file) tells quiet none = none
+  writes_completes IsOut IsFront p old new (BadRegion fault) tells quiet none = none
+  writes_completes IsOut IsFront p old new (BadFeed fault) tells quiet none = none
+  writes_completes IsOut IsFront p old new (Invalid clause at) tells quiet none = none
+  writes_completes IsOut IsFront p old new (BadCertificate line) tells quiet none = none
+  writes_completes IsOut IsFront p old new (BadHierarchy fault) tells quiet none = none
+  writes_completes IsOut IsFront p old new (Unsound clause at by) tells quiet none = none

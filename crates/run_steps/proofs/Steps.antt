@@ -3,7 +3,7 @@ use Rattle.std.proofs.Common.{◌≡◌, ℕ, ◌<◌, ◌≤◌, ◌∙◌, inl
 use Rattle.std.specs.Prelude.{⊤, Result, IfErr, IfSome, IsSomeAnd, OnOk, length}
 use Rattle.plan_base.specs.Counts.{Rose}
 use Rattle.plan_base.specs.Shelves.{ShelfMeaning, IsLater, Told}
-use Rattle.plan_base.specs.Sinks.{SinkMeaning, Appended}
+use Rattle.plan_base.specs.Sinks.{SinkMeaning, Appended, Stays}
 use Rattle.plan_base.specs.declared.limits.Caps.{Caps}
 use Rattle.mode_network.specs.NetworkLists.{NetworkLists}
 use Rattle.mode_network.specs.Rules.{first_fault}
@@ -13,7 +13,8 @@ use Rattle.region_file.specs.Regions.{behind_head, lists_by, network_of, or_faul
 use Rattle.run_steps.specs.declared.outcome.Outcome.{Outcome}
 use Rattle.run_steps.specs.declared.outcome.Outcome.TheVariants.{Done, Usage, Missing, ReadFault, TooLong, WriteFault, BadRegion, BadFeed, Invalid, BadCertificate, BadHierarchy, Unsound, OutOfMemory}
 use Rattle.run_steps.specs.declared.outcome.FileRole.{FileRole}
-use Rattle.run_steps.specs.Sayings.{Saying, IsUnread, IsUnreadable, IsUnwritten, WritesText, end_of, most_bytes}
+use Rattle.run_steps.specs.Scene.{scene}
+use Rattle.run_steps.specs.Sayings.{Saying, IsUnread, IsUnreadable, WritesText, end_of, most_bytes}
 use Rattle.run_steps.specs.Regions.{OnNetwork, OnRegion}
 use Rattle.run_steps.specs.Working.{HasRegion, IsRegionOutcome, IsTextOutcome}
 
@@ -73,7 +74,7 @@ later_twice old mid new first second = record {
 module _ (old new : ShelfMeaning) (before after : SinkMeaning) where
   -- the text was not written whole
   pub text_fails : (IsText : List ℕ → Type 0) (text : List ℕ) → IsText text → (outcome : Outcome) → IsTextOutcome before after text outcome
-      → WritesText IsText old new before after outcome
+      → WritesText IsText (scene old before) (scene new after) outcome
   text_fails IsText text is WriteFault (rose, part) = (rose, record { out = take part.count text; is = (text, part.count, is, refl); appended = part.front })
   text_fails IsText text is OutOfMemory none = absurd none
   text_fails IsText text is Done none = absurd none
@@ -90,7 +91,7 @@ module _ (old new : ShelfMeaning) (before after : SinkMeaning) where
 
   -- it was, or a front of it
   pub text_ends : (IsText : List ℕ → Type 0) (text : List ℕ) → IsText text → (result : Result ⊤ Outcome)
-      → OnOk result (Appended before after text) → IfErr result (IsTextOutcome before after text) → WritesText IsText old new before after (end_of result)
+      → OnOk result (Appended before after text) → IfErr result (IsTextOutcome before after text) → WritesText IsText (scene old before) (scene new after) (end_of result)
   text_ends IsText text is (Ok done) appended none = record { out = text; is = is; appended = appended }
   text_ends IsText text is (Err outcome) none fails = text_fails IsText text is outcome fails
 
@@ -101,14 +102,14 @@ not_earlier shelf = record { files = refl; misses = search rules; faults = searc
 
 module _ (old mid new : ShelfMeaning) (before after : SinkMeaning) (name : List ℕ) where
   -- the region was not read
-  pub region_fails : (caps : Caps) (rest : NetworkLists → Saying) (outcome : Outcome) → IsRegionOutcome caps old new name outcome → IsUnwritten before after
-      → OnRegion caps name rest old new before after outcome
+  pub region_fails : (caps : Caps) (rest : NetworkLists → Saying) (outcome : Outcome) → IsRegionOutcome caps old new name outcome → Stays before after
+      → OnRegion caps name rest (scene old before) (scene new after) outcome
   region_fails caps rest (BadRegion fault) bad same = inr (record {
     bytes = bad.bytes;
     file = bad.file;
     mid = old;
     later = not_earlier old;
-    says = subst (λ (r : Result NetworkLists RegionFault). OnNetwork r rest old new before after (BadRegion fault)) (sym bad.first) (refl, same);
+    says = subst (λ (r : Result NetworkLists RegionFault). OnNetwork r rest (scene old before) (scene new after) (BadRegion fault)) (sym bad.first) (refl, same);
   })
   region_fails caps rest (BadFeed fault) unread same = inl (unread, same)
   region_fails caps rest Done unread same = inl (unread, same)
@@ -125,13 +126,13 @@ module _ (old mid new : ShelfMeaning) (before after : SinkMeaning) (name : List 
 
   -- it was, and the rest says this
   pub on_region : (caps : Caps) (rest : NetworkLists → Saying) (n : NetworkLists) → HasRegion caps old name n → IsLater old mid
-      → (outcome : Outcome) → rest n mid new before after outcome → OnRegion caps name rest old new before after outcome
+      → (outcome : Outcome) → rest n (scene mid before) (scene new after) outcome → OnRegion caps name rest (scene old before) (scene new after) outcome
   on_region caps rest n has later outcome says = inr (record {
     bytes = has.bytes;
     file = has.file;
     mid = mid;
     later = later;
-    says = subst (λ (r : Result NetworkLists RegionFault). OnNetwork r rest mid new before after outcome) (sym has.spells) (has.rules, says);
+    says = subst (λ (r : Result NetworkLists RegionFault). OnNetwork r rest (scene mid before) (scene new after) outcome) (sym has.spells) (has.rules, says);
   })
 
 -- a network that a region spells is within the limits

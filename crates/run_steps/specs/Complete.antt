@@ -1,13 +1,12 @@
 -- When a run does all of its work: its files are there and without fault, and nothing failed.
-use Rattle.std.specs.Prelude.{◌≡◌, ℕ, ◌≤◌, List, length, Option, Some, Ok}
+use Rattle.std.specs.Prelude.{◌≡◌, ℕ, ◌≤◌, ⊤, List, length, Option, Some, Ok}
 use Rattle.plan_base.specs.Counts.{Rose}
-use Rattle.plan_base.specs.Shelves.{ShelfMeaning}
-use Rattle.plan_base.specs.Sinks.{SinkMeaning}
 use Rattle.plan_base.specs.declared.limits.Caps.{Caps}
 use Rattle.mode_network.specs.NetworkLists.{NetworkLists}
 use Rattle.region_file.specs.Regions.{region_of}
 use Rattle.run_steps.specs.declared.outcome.Outcome.{Outcome}
 use Rattle.run_steps.specs.declared.outcome.Outcome.TheVariants.{Done, OutOfMemory}
+use Rattle.run_steps.specs.Scene.{Scene}
 use Rattle.run_steps.specs.Sayings.{Saying, most_bytes}
 
 -- what a shelf that tells holds under each name
@@ -30,7 +29,11 @@ IsDoneOrMemory Done = Unit {0}
 IsDoneOrMemory OutOfMemory = Unit {0}
 IsDoneOrMemory _ = ⊥
 
+-- no count of faults rose
+pub record IsQuiet (old new : Scene ⊤) : Type 0 where
+  pub shelf : Rose old.shelf.faults new.shelf.faults → ⊥
+  pub out : Rose old.out.faults new.out.faults → ⊥
+
 -- where the shelf tells these files, they have P, and no count of faults rose, a run of which this is said has done all of its work, unless memory ran out
 abbrev pub Completes : Files → Type 0 → Saying → Type 0
-Completes files P S = P → (old new : ShelfMeaning) (before after : SinkMeaning) (outcome : Outcome) → old.files ≡ Some files
-    → (Rose old.faults new.faults → ⊥) → (Rose before.faults after.faults → ⊥) → S old new before after outcome → IsDoneOrMemory outcome
+Completes files P S = P → (old new : Scene ⊤) (outcome : Outcome) → old.shelf.files ≡ Some files → IsQuiet old new → S old new outcome → IsDoneOrMemory outcome

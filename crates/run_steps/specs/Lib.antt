@@ -1,5 +1,11 @@
+pub mod Scene
 pub mod Sayings
 pub mod Regions
+pub mod QueryLines
+pub mod Blocks
+pub mod Certificates
 pub mod Complete
 pub mod Statuses
 pub mod Working
+pub mod BlockCauses
+pub mod CertificateCauses

@@ -11,8 +11,8 @@ use Rattle.run_steps.specs.Sayings.{Saying, Ends, OnFile}
 
 -- what a region's bytes spell: a network, which keeps the rules of networks, or their first fault
 abbrev pub OnNetwork : Result NetworkLists RegionFault → (NetworkLists → Saying) → Saying
-OnNetwork (Ok n) rest old new before after outcome = IsNetwork n × rest n old new before after outcome
-OnNetwork (Err fault) rest old new before after outcome = Ends (BadRegion fault) old new before after outcome
+OnNetwork (Ok n) rest old new outcome = IsNetwork n × rest n old new outcome
+OnNetwork (Err fault) rest old new outcome = Ends (BadRegion fault) old new outcome
 
 -- a region is read
 abbrev pub OnRegion : Caps → List ℕ → (NetworkLists → Saying) → Saying

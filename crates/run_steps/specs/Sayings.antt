@@ -2,14 +2,15 @@
 use Rattle.std.specs.Prelude.{◌≡◌, ℕ, ◌<◌, ◌^◌, ◌⊎◌, ⊤, List, length, take, None, Result, Ok, Err, IsSomeAnd}
 use Rattle.plan_base.specs.Counts.{Rose}
 use Rattle.plan_base.specs.Shelves.{ShelfMeaning, IsLater, Told, HasRead}
-use Rattle.plan_base.specs.Sinks.{SinkMeaning, Appended}
+use Rattle.plan_base.specs.Sinks.{SinkMeaning, Appended, Stays}
+use Rattle.run_steps.specs.Scene.{Scene, SayingOf, with_shelf}
 use Rattle.run_steps.specs.declared.outcome.FileRole.{FileRole}
 use Rattle.run_steps.specs.declared.outcome.Outcome.{Outcome}
 use Rattle.run_steps.specs.declared.outcome.Outcome.TheVariants.{Done, Missing, ReadFault, TooLong, WriteFault, OutOfMemory}
 
--- A saying speaks of a run, or of the rest of one: of the shelf before and after, of the output before and after, and of the outcome.
+-- what is said of a run of the planner, by its outcome
 abbrev pub Saying : Type 1
-Saying = ShelfMeaning → ShelfMeaning → SinkMeaning → SinkMeaning → Outcome → Type 0
+Saying = SayingOf ⊤ Outcome
 
 -- how a step of a run ends the run, or that it goes on to its end
 abbrev pub end_of : Result ⊤ Outcome → Outcome
@@ -38,25 +39,22 @@ abbrev pub IsUnread : ShelfMeaning → ShelfMeaning → List ℕ → FileRole �
 IsUnread old new name file (Missing other) = (other ≡ file) × IsAbsent old new name
 IsUnread old new name file outcome = IsUnreadable old new name file outcome
 
-abbrev pub IsUnwritten : SinkMeaning → SinkMeaning → Type 0
-IsUnwritten before after = after.bytes ≡ before.bytes
-
 -- the run ends so, and nothing is written
 abbrev pub Ends : Outcome → Saying
-Ends end old new before after outcome = (outcome ≡ end) × IsUnwritten before after
+Ends end old new outcome = (outcome ≡ end) × Stays old.out new.out
 
 -- the file was read whole, and the rest of the run says this of its bytes
-pub record HasGoneOn (name : List ℕ) (rest : List ℕ → Saying) (old new : ShelfMeaning) (before after : SinkMeaning) (outcome : Outcome) : Type 0 where
+pub record HasGoneOn (name : List ℕ) (rest : List ℕ → Saying) (old new : Scene ⊤) (outcome : Outcome) : Type 0 where
   pub bytes : List ℕ
-  pub file : HasRead old name most_bytes bytes
+  pub file : HasRead old.shelf name most_bytes bytes
   pub mid : ShelfMeaning
-  pub later : IsLater old mid
-  pub says : rest bytes mid new before after outcome
+  pub later : IsLater old.shelf mid
+  pub says : rest bytes (with_shelf old mid) new outcome
 
 -- a file is read: it was not read whole, or the rest says this of its bytes
 abbrev pub OnFile : FileRole → List ℕ → (List ℕ → Saying) → Saying
-OnFile file name rest old new before after outcome =
-    (IsUnread old new name file outcome × IsUnwritten before after) ⊎ HasGoneOn name rest old new before after outcome
+OnFile file name rest old new outcome =
+    (IsUnread old.shelf new.shelf name file outcome × Stays old.out new.out) ⊎ HasGoneOn name rest old new outcome
 
 -- ---- writing
 
@@ -68,10 +66,10 @@ pub record HasWritten (P : List ℕ → Type 0) (before after : SinkMeaning) : T
 
 -- an output is written, whole where all is done; or a front of one
 abbrev pub Writes : (List ℕ → Type 0) → (List ℕ → Type 0) → Saying
-Writes IsOut IsFront old new before after Done = HasWritten IsOut before after
-Writes IsOut IsFront old new before after WriteFault = Rose before.faults after.faults × HasWritten IsFront before after
-Writes IsOut IsFront old new before after OutOfMemory = IsUnwritten before after ⊎ HasWritten IsFront before after
-Writes IsOut IsFront old new before after _ = ⊥
+Writes IsOut IsFront old new Done = HasWritten IsOut old.out new.out
+Writes IsOut IsFront old new WriteFault = Rose old.out.faults new.out.faults × HasWritten IsFront old.out new.out
+Writes IsOut IsFront old new OutOfMemory = Stays old.out new.out ⊎ HasWritten IsFront old.out new.out
+Writes IsOut IsFront old new _ = ⊥
 
 -- a text is written, or a front of one
 abbrev pub WritesText : (List ℕ → Type 0) → Saying

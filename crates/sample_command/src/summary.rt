@@ -4,6 +4,7 @@ ghost use Rattle.std.specs.Prelude.{◌≤◌, IfOk};
 ghost use Rattle.plan_base.specs.Shelves.{ShelfMeaning};
 ghost use Rattle.hierarchy.specs.Soundness.{IsSound};
 ghost use Rattle.contractor.specs.Contracted.{IsContracted};
+ghost use Rattle.run_steps.specs.Scene.{scene};
 ghost use Rattle.run_steps.specs.Sayings.{end_of};
 ghost use Rattle.sample_city.specs.SampleCity.{IsSampleCity};
 ghost use Rattle.sample_command.specs.Queries.{query_lines};
@@ -34,7 +35,7 @@ pub fn sample<O: Sink, E: Sink>(
 ) -> Result<(), Outcome>
     requires some { 1 ≤ n }
     requires size { n ≤ 300 }
-    ensures { (old new : ShelfMeaning) → spec.SaysSample n old new (O.meaning out.old) (O.meaning out.new) (end_of result) }
+    ensures { (old new : ShelfMeaning) → spec.SaysSample n (scene old (O.meaning out.old)) (scene new (O.meaning out.new)) (end_of result) }
 {
     let Ok(text) = summary(alloc, n, notes, caps) else {
         return Err(Outcome::OutOfMemory);

@@ -1,6 +1,7 @@
 use Rattle.std.proofs.Common.{List, ℕ, Option, Bor, refl}
 use Rattle.std.proofs.lemmas.Result.{err_from_is_err_and}
 use Rattle.std.specs.Prelude.{option_map}
+use Rattle.plan_base.proofs.MoreWritten.{stays_so}
 use Rattle.hierarchy.specs.Lists.{HierarchyLists}
 use Rattle.mode_network.specs.NetworkLists.{NetworkLists}
 use Rattle.run_steps.specs.declared.outcome.FileRole.TheVariants.{Queries}
@@ -20,15 +21,15 @@ answer_over-requires g c = lent_sound c.in_ok-network.network c.as_ref.result c.
 pub returns-in_err-network : goal.returns-in_err-network
 returns-in_err-network g c =
     let p = err_from_is_err_and c.from_residual.result c.from_residual.ensures.1 in
-    let out = g.O.Sink.meaning c.args.out.now in
+    let out = g.O.Sink.meaning c.args.ports.now.out in
     let new = g.F.Shelf.meaning c.read_both.new.shelf in
     rw (p.1, p.2)
-    (both_fail c.args.caps.now (g.F.Shelf.meaning c.args.shelf.now) new new out out c.args.region.now (option_map (λ (x : Bor (List ℕ)). x.now) c.args.hierarchy) (told c.args.queries.now) _ c.in_err-network.ensures.err refl)
+    (both_fail c.args.caps.now (g.F.Shelf.meaning c.args.ports.now.shelf) new new out out c.args.region.now (option_map (λ (x : Bor (List ℕ)). x.now) c.args.hierarchy) (told c.args.queries.now) _ c.in_err-network.ensures.err (stays_so out))
 
 pub returns : goal.returns
 returns g c =
     let mid = g.F.Shelf.meaning c.read_both.new.shelf in
-    let new = g.F.Shelf.meaning c.answer_over.new.shelf in
-    on_both c.args.caps.now (g.F.Shelf.meaning c.args.shelf.now) mid new (g.O.Sink.meaning c.args.out.now) (g.O.Sink.meaning c.answer_over.new.out) c.args.region.now
+    let new = g.F.Shelf.meaning c.answer_over.new.ports.shelf in
+    on_both c.args.caps.now (g.F.Shelf.meaning c.args.ports.now.shelf) mid new (g.O.Sink.meaning c.args.ports.now.out) (g.O.Sink.meaning c.answer_over.new.ports.out) c.args.region.now
     (option_map (λ (x : Bor (List ℕ)). x.now) c.args.hierarchy) (told c.args.queries.now) c.in_ok-network.network c.in_ok-network.hierarchy c.in_ok-network.ensures.ok _
     (rw c.as_ref.ensures.value at c.answer_over.ensures)

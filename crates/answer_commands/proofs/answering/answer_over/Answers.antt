@@ -8,8 +8,8 @@ returns g c =
     let new = g.F.Shelf.meaning c.read_file.new.shelf in
     inr (record {
       bytes = c.deref.result.now;
-      file = subst (HasRead (g.F.Shelf.meaning c.args.shelf.now) c.args.path.now most_bytes) (sym c.deref.ensures.value) c.in_ok-text.ensures.ok;
+      file = subst (HasRead (g.F.Shelf.meaning c.args.ports.now.shelf) c.args.path.now most_bytes) (sym c.deref.ensures.value) c.in_ok-text.ensures.ok;
       mid = new;
       later = c.in_ok-text.ensures.later;
-      says = c.write_answer.ensures new new;
+      says = c.write_answer.ensures;
     })

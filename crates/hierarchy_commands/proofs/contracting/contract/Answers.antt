@@ -6,11 +6,11 @@ use Rattle.hierarchy_commands.proofs.contracting.contract.Goals as goal
 pub returns-in_err-write_text : goal.returns-in_err-write_text
 returns-in_err-write_text g c =
     let p = err_from_is_err_and c.from_residual-in_err-write_text.result c.from_residual-in_err-write_text.ensures.1 in
-    let before = g.O.Sink.meaning c.args.out.now in
+    let before = g.O.Sink.meaning c.args.ports.now.out in
     let after = g.O.Sink.meaning c.write_text.new.out in
     let new = g.F.Shelf.meaning c.read_region.new.shelf in
     rw (p.1, p.2)
-    (on_region (g.F.Shelf.meaning c.args.shelf.now) new new before after c.args.region.now
+    (on_region (g.F.Shelf.meaning c.args.ports.now.shelf) new new before after c.args.region.now
     c.args.caps.now _ c.in_ok-network.network c.in_ok-network.ensures.ok c.in_ok-network.ensures.later _
     (text_fails new new before after (IsContraction c.in_ok-network.network c.args.keep) c.in-Ok.text.items c.in-Ok.ensures _
     (rw (← c.deref.ensures.value) c.in_err-write_text.ensures.err)))

@@ -1,4 +1,5 @@
 use Rattle.std.proofs.Common.{refl, subst, sym}
+use Rattle.plan_base.proofs.MoreWritten.{stays_so as unwritten}
 use Rattle.journey_book.specs.Reports.{IsRecheck}
 use Rattle.journey_book.specs.Sayings.{scene}
 use Rattle.journey_book.proofs.RunLemmas.{telling_fails, text_written}
@@ -18,4 +19,4 @@ returns-in-Err g c shelf =
     let after = g.K.Keeper.meaning c.recheck.new.keeper in
     let out = g.O.Sink.meaning c.args.out.now in
     rw (c.outcome_of_keeper.ensures)
-    (telling_fails (scene shelf before out) (scene shelf after out) (refl, c.in-Err.ensures.same) (IsRecheck c.args.network.now before) c.in-Err.fault c.in-Err.ensures.cause)
+    (telling_fails (scene shelf before out) (scene shelf after out) (unwritten out, c.in-Err.ensures.same) (IsRecheck c.args.network.now before) c.in-Err.fault c.in-Err.ensures.cause)

@@ -3,6 +3,6 @@ use Rattle.late_commands.proofs.verifying.verify_latest.Goals as goal
 
 pub returns : goal.returns
 returns g c =
-    on_region (g.F.Shelf.meaning c.args.shelf.now) (g.F.Shelf.meaning c.read_region.new.shelf) (g.F.Shelf.meaning c.write_verified.new.shelf)
-    (g.O.Sink.meaning c.args.out.now) (g.O.Sink.meaning c.write_verified.new.out) c.args.region.now
+    on_region (g.F.Shelf.meaning c.args.ports.now.shelf) (g.F.Shelf.meaning c.read_region.new.shelf) (g.F.Shelf.meaning c.write_verified.new.ports.shelf)
+    (g.O.Sink.meaning c.args.ports.now.out) (g.O.Sink.meaning c.write_verified.new.ports.out) c.args.region.now
     c.args.caps.now _ c.in_ok-network.network c.in_ok-network.ensures.ok c.in_ok-network.ensures.later _ c.write_verified.ensures

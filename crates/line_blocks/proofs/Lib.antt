@@ -1,2 +1,0 @@
-pub mod WriteLemmas
-pub mod OutcomeLemmas

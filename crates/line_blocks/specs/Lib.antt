@@ -1,3 +1,0 @@
-pub mod QueryLines
-pub mod Blocks
-pub mod Working
