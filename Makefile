@@ -12,7 +12,8 @@ MODEPLAN = crates/planner_cli/out/planner_cli
 PLANBOOK = crates/planbook/out/planbook
 ZSHDIR = share/zsh/site-functions
 TOOLS = answer-many check-certificate make-region picture
-PARTS = picture_parts region_parts
+PARTS = picture_parts region_parts certificate_parts
+MODULES = region_reader.py
 COMMIT = $(shell git rev-parse HEAD 2>/dev/null || cat COMMIT)
 DATE = $(shell git log -1 --format=%cs 2>/dev/null || date +%F)
 
@@ -39,6 +40,7 @@ install: manual
 	install -m 755 $(MODEPLAN) $(DESTDIR)$(PREFIX)/bin/modeplan
 	install -m 755 $(PLANBOOK) $(DESTDIR)$(PREFIX)/bin/planbook
 	cd tools && install -m 755 $(TOOLS) $(SHARE)/modeplan/tools
+	cd tools && install -m 644 $(MODULES) $(SHARE)/modeplan/tools
 	cd tools && for part in $(PARTS); do [ ! -d $$part ] || cp -r $$part $(SHARE)/modeplan/tools; done
 	find $(SHARE)/modeplan -name __pycache__ -prune -exec rm -r {} +
 	install -D -m 644 crates/geo_length/specs/Widths.antt $(SHARE)/modeplan/crates/geo_length/specs/Widths.antt
