@@ -26,7 +26,7 @@ programs: $(MODEPLAN) $(PLANBOOK)
 
 # A program that says its version has been proved and built: rt run does both before it runs it.
 SOURCES = $(shell find crates -name out -prune -o \( -name '*.rt' -o -name '*.antt' \) -print) crates.txt
-crates/%: $(SOURCES)
+crates/planner_cli/out/planner_cli crates/planbook/out/planbook: crates/%: $(SOURCES)
 	cd crates/$(firstword $(subst /, ,$*)) && rt run -- --version 2>&1 | tee /dev/stderr | grep -qE '^(modeplan|planbook) [0-9]'
 	touch $@
 
@@ -51,6 +51,7 @@ install: manual
 	install -D -m 644 -t $(SHARE)/fish/vendor_completions.d build/manual/fish/*
 	install -m 644 README.md $(SHARE)/doc/modeplan
 	cp -r docs examples $(SHARE)/doc/modeplan
+	find $(SHARE)/doc/modeplan -name .gitattributes -delete
 	{ echo "commit $(COMMIT)"; rt version 2>/dev/null || sed -n '/^rattle-kit/p' README.md; \
 	  cd $(DESTDIR)$(PREFIX)/bin && sha256sum modeplan planbook; } > $(SHARE)/doc/modeplan/build
 
