@@ -12,7 +12,7 @@ import time
 from .calls import Call
 
 FRONT = {6, 13}  # outcomes after which a front of the output may stand
-BASE = 64 << 20  # bytes that a program may take by itself; the system also counts what this process has when it starts one
+BASE = 64 << 20  # bytes that a program may take by itself
 
 
 @dataclasses.dataclass(frozen=True)
@@ -58,6 +58,12 @@ def run(words: list[str], folder: pathlib.Path, limits: Limits) -> Run:
         return Run(ended, out.read(), seconds, used.ru_maxrss << 10)
 
 
+def floor() -> int:
+    """The bytes in use that say nothing of a run: what a program takes by itself, or what this process has, which the system
+    counts in, since a run begins as its copy."""
+    return max(BASE, resource.getrusage(resource.RUSAGE_SELF).ru_maxrss << 10)
+
+
 def faults(call: Call, given: int, one: Run, other: Run | None, limits: Limits) -> list[str]:
     """What is wrong with a run that was given so many bytes; `other` is a second run of the same call."""
     found = []
@@ -69,7 +75,7 @@ def faults(call: Call, given: int, one: Run, other: Run | None, limits: Limits) 
         found.append(f"status {one.status} is none of {call.command}")
     elif one.status != 0 and one.status not in FRONT and one.out:
         found.append(f"status {one.status}, and {len(one.out)} bytes of output")
-    if one.peak > BASE + limits.each * given:
+    if one.peak > floor() + limits.each * given:
         found.append(f"{one.peak >> 20} MiB for {given} bytes")
     if other is not None and (other.status, other.out) != (one.status, one.out):
         found.append(f"a second run ends otherwise: {one.status}, {other.status}")
