@@ -3,6 +3,7 @@
 import pathlib
 import re
 import shlex
+import shutil
 import subprocess
 from collections.abc import Iterator
 
@@ -11,6 +12,7 @@ from .pages import MEASURED, Fault, Page, Table
 DEFINITIONS = re.compile(r"([\d,]+) definitions on ([\d,]+) pages")
 BODIES = re.compile(r"([\d,]+) wrong bodies")
 CRATES = re.compile(r"\b([\d,]+) crates")
+KIT = re.compile(r"rattle-kit-\w+ logic \w+")
 
 
 class Figures:
@@ -26,6 +28,8 @@ class Figures:
         for table in page.tables:
             if table.mark.startswith("tools/"):
                 yield from self.of_table(page, table)
+        for line, text in (*page.texts(), *((fence.line + 1, "\n".join(fence.lines)) for fence in page.fences)):
+            yield from self.of_kit(page, line, text)
         if page.name != MEASURED:
             for line, text in page.texts():
                 yield from self.of_text(page, line, text)
@@ -39,6 +43,11 @@ class Figures:
                 return
         if len(table.lines) > len(wanted):
             yield Fault(page.name, table.line + len(wanted), f"{table.mark} prints no line here")
+
+    def of_kit(self, page: Page, line: int, text: str) -> Iterator[Fault]:
+        for found in KIT.finditer(text):
+            if shutil.which("rt") and found[0] not in self.told("rt version"):
+                yield Fault(page.name, line + text.count("\n", 0, found.start()), f"rt version prints {self.told('rt version')[0]}")
 
     def told(self, command: str) -> list[str]:
         if command not in self.printed:
