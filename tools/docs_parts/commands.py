@@ -51,6 +51,8 @@ class Commands:
             for fence in page.fences:
                 if fence.language or fence.mark.startswith("not run"):
                     last = None
+                elif NOT_RUN.match(fence.lines[0]):
+                    last = None
                 elif found := SYNOPSIS.match(fence.lines[0]):
                     yield from self.of_synopsis(page, fence, found[1])
                     last = None
@@ -59,7 +61,7 @@ class Commands:
                     seen += last.texts
                     if last.status:
                         yield Fault(page.name, fence.line, f"ends with status {last.status}: {last.texts[1].strip()[-300:]}")
-                elif not NOT_RUN.match(fence.lines[0]) and not (last and last.status and fence.parted in (0, 1)):
+                elif not (last and last.status and fence.parted in (0, 1)):
                     yield from self.of_output(page, fence, last.texts if last and fence.parted in (0, 1) else None, seen)
                     last = None
 

@@ -136,10 +136,27 @@ class Names:
             elif head[0] == "Call" and len(cells) > 1:
                 crates = [name.split("::")[0] for name in named if name.split("::")[0] in self.repository.crates] or crates
                 yield from self.of_clauses(page, line, [cells[0], "", cells[1]], crates)
+        yield from self.of_definitions(page, head, rows[1:])
         if head[:2] == ["Crate", "Stands on"]:
             told = {span.text for _, cells in rows[1:] for span in spans(0, cells[0])}
             for crate in sorted(self.repository.crates - told):
                 yield Fault(page.name, table.line, f"the table has no row for {crate}")
+
+    def of_definitions(self, page: Page, head: list[str], rows: list[tuple[int, list[str]]]) -> Iterator[Fault]:
+        """What a table with the head "Definition" names is on the page of the column "In", or in the crate that the head names."""
+        for at, title in enumerate(head):
+            crate, file = re.search(r"^Definition, of `(\w+)`", title), None
+            for line, cells in rows:
+                names = [span for span in spans(line, cells[at]) if IDENTIFIER.match(span.text) and not span.before.endswith("std's")]
+                if crate:
+                    for span in names:
+                        yield from self.missing(page, span, crate[1])
+                elif title == "Definition" and "In" in head and "`" in cells[at]:
+                    file = next((span.text for span in spans(line, cells[head.index("In")])), file)
+                    path = self.repository.top / "crates" / (file or "")
+                    if path.is_file():
+                        yield from (Fault(page.name, line, f"{file} defines no {span.text}") for span in names
+                                    if not re.search(rf"\b{span.text}\b", path.read_text()))
 
     def of_clauses(self, page: Page, line: int, cells: list[str], crates: list[str]) -> Iterator[Fault]:
         """What the last cell of a row names stands in one of the row's crates."""
