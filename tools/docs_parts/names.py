@@ -40,6 +40,15 @@ class Repository:
         heads = (head for pair in HEAD.findall(text) for head in pair)
         return {*ITEM.findall(text), *FIELD.findall(text), *heads, *(path.stem for path in self.within(crate))}
 
+    @functools.cache
+    def clauses(self, crate: str, function: str) -> set[str]:
+        """The names of the clauses of all functions of this name in a crate."""
+        contracts = re.findall(rf"\bfn {function}\b[^{{;]*?\)(.*?)(?:^ *{{|;$)", self.text(crate), re.M | re.S)
+        return {name for contract in contracts for name in re.findall(r"^ +ensures (\w+) ", contract, re.M)}
+
+    def has_function(self, crate: str, name: str) -> bool:
+        return bool(re.search(rf"\bfn {re.escape(name)}\b", self.text(crate)))
+
     def within(self, crate: str) -> Iterator[pathlib.Path]:
         return (path for path in (self.top / "crates" / crate).rglob("*"))
 
@@ -125,6 +134,7 @@ class Names:
         rows = list(table.rows())
         head = rows[0][1]
         crates: list[str] = []
+        calls: list[str] = []
         for line, cells in rows[1:]:
             named = [span.text for span in spans(line, cells[0])]
             if head[0] == "Crate":
@@ -135,7 +145,9 @@ class Names:
                     yield from self.of_clauses(page, line, cells, crates)
             elif head[0] == "Call" and len(cells) > 1:
                 crates = [name.split("::")[0] for name in named if name.split("::")[0] in self.repository.crates] or crates
+                calls = [name.split("::")[-1] for name in named] or calls
                 yield from self.of_clauses(page, line, [cells[0], "", cells[1]], crates)
+                yield from self.of_call(page, line, cells[1], calls)
         yield from self.of_definitions(page, head, rows[1:])
         if head[:2] == ["Crate", "Stands on"]:
             told = {span.text for _, cells in rows[1:] for span in spans(0, cells[0])}
@@ -158,15 +170,42 @@ class Names:
                         yield from (Fault(page.name, line, f"{file} defines no {span.text}") for span in names
                                     if not re.search(rf"\b{span.text}\b", path.read_text()))
 
+    def of_call(self, page: Page, line: int, cell: str, calls: list[str]) -> Iterator[Fault]:
+        """The clauses of a cell are among those of the row's calls, whatever crate these are of."""
+        had = {name for call in calls for crate in self.repository.crates for name in self.repository.clauses(crate, call)}
+        for span in spans(line, cell):
+            if had and span.text not in had and not re.search(r"clauses? of$", span.before):
+                yield Fault(page.name, line, f"{' and '.join(calls)} has no clause {span.text}")
+
     def of_clauses(self, page: Page, line: int, cells: list[str], crates: list[str]) -> Iterator[Fault]:
         """What the last cell of a row names stands in one of the row's crates."""
         if not set(crates) <= self.repository.crates:
             return
         defined = set().union(*map(self.repository.names, crates)) if crates else self.repository.words()
-        for span in spans(line, cells[-1]):
+        found = spans(line, cells[-1])
+        for span in found:
             for part in re.split(r"::|\.", span.text):
                 if IDENTIFIER.match(span.text) and part not in defined:
                     yield Fault(page.name, line, f"`{span.text}`: {' and '.join(crates) or 'no crate'} defines no {part}")
+        yield from self.of_functions(page, found, crates)
+
+    def of_functions(self, page: Page, found: list[Span], crates: list[str]) -> Iterator[Fault]:
+        """Of "`a` and `b` of `call`" the call has these clauses."""
+        clauses: list[Span] = []
+        is_behind = False
+        for span in found:
+            call = span.text.split("::")[-1]
+            is_call = any(self.repository.has_function(crate, call) for crate in crates)
+            if span.before == "of" or is_behind and is_call and span.before in ("and", ","):
+                had = set().union(*(self.repository.clauses(crate, call) for crate in crates))
+                yield from (Fault(page.name, span.line, f"{span.text} has no clause {clause.text}") for clause in clauses if clause.text not in had)
+                is_behind = True
+            elif span.before.endswith(" of"):
+                clauses = []
+            else:
+                clauses = [*clauses, span] if not is_behind and JOINS.match(span.before) else [span]
+                is_behind = False
+
 
 
 def words_in(path: pathlib.Path) -> set[str]:
