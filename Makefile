@@ -1,4 +1,4 @@
-# Builds and installs the programs, the tools, the manual pages and the documents; docs/INSTALL.md tells more.
+# Builds and installs the programs, the tools, the manual pages and the documents; README.md and CONTRIBUTING.md tell more.
 #   make            proves and builds the two programs (half an hour or more, once; the toolchain's rt must be in the PATH)
 #   make install    installs them below PREFIX, in DESTDIR
 #   make dist       the sources of this commit, as modeplan-VERSION.tar.gz

@@ -103,7 +103,7 @@ def town(_: int) -> str:
     return region(400, both_ways(grid(20)))
 
 
-CONTRACTING = "shortcuts between the neighbours of what is contracted; keep some nodes (docs/HIERARCHIES.md)"
+CONTRACTING = "shortcuts between the neighbours of what is contracted; keep some nodes (docs/MANY_QUERIES.md)"
 BY_PLACES = "the product has a state for each place of the expression at each node"
 
 FAMILIES = [

@@ -1,4 +1,4 @@
-"""Which modes may use a way: the road profile of docs/MAPS.md."""
+"""Which modes may use a way: the road profile of docs/MAPS_AND_FEEDS.md."""
 
 from collections.abc import Mapping
 

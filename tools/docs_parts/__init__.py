@@ -1,0 +1,1 @@
+"""What tools/check-docs and tools/definitions are made of."""
