@@ -49,7 +49,7 @@ install: manual
 	install -D -m 644 -t $(SHARE)/bash-completion/completions build/manual/bash/*
 	install -D -m 644 -t $(DESTDIR)$(PREFIX)/$(ZSHDIR) build/manual/zsh/*
 	install -D -m 644 -t $(SHARE)/fish/vendor_completions.d build/manual/fish/*
-	install -m 644 README.md $(SHARE)/doc/modeplan
+	install -m 644 README.md CONTRIBUTING.md $(SHARE)/doc/modeplan
 	cp -r docs examples $(SHARE)/doc/modeplan
 	find $(SHARE)/doc/modeplan -name .gitattributes -delete
 	{ echo "commit $(COMMIT)"; rt version 2>/dev/null || sed -n '/^rattle-kit/p' README.md; \
