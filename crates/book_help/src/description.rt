@@ -14,7 +14,7 @@ const REGION: &str = "The region file, in either format";
 
 /// What is said at the end of the help on all commands.
 const MORE: &str = "\
-BOOK is the file of the book, a database that is made where there is none, or - for a book in memory.
+BOOK is the file of the book, a database, which keep makes where there is none; or - for a book in memory.
 
 Example: planbook walks keep to-school town claim
 

@@ -19,4 +19,4 @@ asks_keep program book given (keep name region certificate) (words, is) =
 asks_keep program book given (drop name) (words, is) = absurd (another program book given words.program words.book 100 _ _ (λ e. omega (arith, e)) words.are)
 asks_keep program book given list words = absurd (another program book given words.program words.book 108 _ _ (λ e. omega (arith, e)) words.are)
 asks_keep program book given (show name) (words, is) = absurd (another program book given words.program words.book 115 _ _ (λ e. omega (arith, e)) words.are)
-asks_keep program book given (recheck region) words = absurd (another program book given words.program words.book 114 _ _ (λ e. omega (arith, e)) words.are)
+asks_keep program book given (recheck region) (words, is) = absurd (another program book given words.program words.book 114 _ _ (λ e. omega (arith, e)) words.are)

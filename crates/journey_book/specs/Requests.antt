@@ -1,6 +1,7 @@
 -- What a command line of the book asks for, and which words ask for it.
 use Rattle.std.specs.Prelude.{◌≡◌, ℕ, ◌&&◌, ◌||◌, nat_le, nat_eq, Bool, true, false, List, [], ◌∷◌, length, codes}
 use Rattle.std.specs.List.{list_all}
+use Rattle.std.specs.Str.{bytes_eq}
 use Rattle.journey_book.specs.declared.words.BookCommand.{BookCommand}
 use Rattle.journey_book.specs.declared.words.BookCommand.TheVariants as command
 
@@ -34,6 +35,10 @@ is_name_byte b = is_letter_or_digit b || nat_eq b 45 || nat_eq b 95
 abbrev pub is_name : List ℕ → Bool
 is_name word = begins_name word && nat_le (length word) 64 && list_all is_name_byte word
 
+-- help is asked for in the place of a region
+abbrev pub asks_help : List ℕ → Bool
+asks_help word = bytes_eq word (codes "--help")
+
 -- the words are the program's name and the book's, which may be any, a command's name, and then these
 pub record AreWords (words : List (List ℕ)) (name : List ℕ) (given : List (List ℕ)) : Type 0 where
   pub program : List ℕ
@@ -46,7 +51,7 @@ AsksFor words (keep name region certificate) = AreWords words (codes "keep") (na
 AsksFor words (drop name) = AreWords words (codes "drop") (name ∷ []) × (is_name name ≡ true)
 AsksFor words list = AreWords words (codes "list") []
 AsksFor words (show name) = AreWords words (codes "show") (name ∷ []) × (is_name name ≡ true)
-AsksFor words (recheck region) = AreWords words (codes "recheck") (region ∷ [])
+AsksFor words (recheck region) = AreWords words (codes "recheck") (region ∷ []) × (asks_help region ≡ false)
 
 -- the words ask for nothing that there is
 abbrev pub AreRefused : List (List ℕ) → Type 0

@@ -20,5 +20,5 @@ pub use memory_keeper::MemoryKeeper;
 pub use outcome::{BookFile, BookOutcome};
 pub use reports::recheck;
 pub use running::{run_book, run_book_within};
-pub use sqlite_keeper::SqliteKeeper;
+pub use sqlite_keeper::{Refusal, SqliteKeeper};
 pub use words::BookCommand;

@@ -2,8 +2,8 @@
 
 ghost use Rattle.std.specs.Prelude.{◌≡◌, ◌≤◌, ℕ, List, Some, is_some, option_map, map as each, string_bytes, IfErr, IfOk, OnErr, OnOk};
 ghost use Rattle.journey_book.specs.Books.{AreNamesOf, dropped, kept};
-ghost use Rattle.journey_book.specs.Keepers.{IsKeepFault};
-ghost use Rattle.journey_book.specs.Memory.{book_of, memory_meaning};
+ghost use Rattle.journey_book.specs.Keepers.{Becomes, IsKeepFault, Stays, Tells};
+ghost use Rattle.journey_book.specs.Memory.{IsCounted, IsFresh, book_of, has_failed, memory_meaning};
 
 use crate::keeper::{KeepFault, Keeper};
 use std::alloc::{AllocError, Global};
@@ -23,6 +23,7 @@ impl MemoryKeeper {
     /// A keeper of this book. The calls whose numbers, from 1, are in `fail` fail.
     pub fn new(alloc: Global, map: BTreeMap<String, Vec<u8>>, fail: Vec<u64>) -> MemoryKeeper
         ensures book { memory_meaning result ≡ record { book = Some (book_of map); faults = 0 } }
+        ensures calls { IsFresh result fail.items }
     {
         MemoryKeeper {
             alloc,
@@ -38,6 +39,7 @@ impl MemoryKeeper {
         ensures same { self.new.map ≡ self.old.map }
         ensures later { self.old.faults ≤ self.new.faults }
         ensures cause { IfErr result (IsKeepFault (memory_meaning self.old) (memory_meaning self.new)) }
+        ensures counted { IsCounted self.old self.new (has_failed result) }
     {
         self.calls = self.calls.saturating_add(1);
         if self.fail.contains(&self.calls) {
@@ -102,24 +104,49 @@ fn names_of(alloc: Global, map: &BTreeMap<String, Vec<u8>>) -> Result<Vec<String
 impl Keeper for MemoryKeeper {
     ghost meaning = { memory_meaning };
 
-    fn put(&mut self, name: &str, body: &[u8]) -> Result<(), KeepFault> {
+    fn put(&mut self, name: &str, body: &[u8]) -> Result<(), KeepFault>
+        ensures later { (memory_meaning self.old).faults ≤ (memory_meaning self.new).faults }
+        ensures ok { OnOk result (Becomes (memory_meaning self.old) (memory_meaning self.new) (kept name.now body.now)) }
+        ensures same { OnErr result (Stays (memory_meaning self.old) (memory_meaning self.new)) }
+        ensures cause { IfErr result (IsKeepFault (memory_meaning self.old) (memory_meaning self.new)) }
+        ensures counted { IsCounted self.old self.new (has_failed result) }
+    {
         self.begin()?;
         put_in(self.alloc, &mut self.map, name, body)?;
         Ok(())
     }
 
-    fn remove(&mut self, name: &str) -> Result<bool, KeepFault> {
+    fn remove(&mut self, name: &str) -> Result<bool, KeepFault>
+        ensures later { (memory_meaning self.old).faults ≤ (memory_meaning self.new).faults }
+        ensures ok { OnOk result (Becomes (memory_meaning self.old) (memory_meaning self.new) (dropped name.now)) }
+        ensures was { IfOk result (λ was. Tells (memory_meaning self.old) (λ book. is_some (book name.now) ≡ was)) }
+        ensures same { OnErr result (Stays (memory_meaning self.old) (memory_meaning self.new)) }
+        ensures cause { IfErr result (IsKeepFault (memory_meaning self.old) (memory_meaning self.new)) }
+        ensures counted { IsCounted self.old self.new (has_failed result) }
+    {
         self.begin()?;
         Ok(remove_from(&mut self.map, name))
     }
 
-    fn get(&mut self, name: &str) -> Result<Option<Vec<u8>>, KeepFault> {
+    fn get(&mut self, name: &str) -> Result<Option<Vec<u8>>, KeepFault>
+        ensures later { (memory_meaning self.old).faults ≤ (memory_meaning self.new).faults }
+        ensures ok { IfOk result (λ held. Tells (memory_meaning self.old) (λ book. book name.now ≡ option_map (λ body. body.items) held)) }
+        ensures same { Stays (memory_meaning self.old) (memory_meaning self.new) }
+        ensures cause { IfErr result (IsKeepFault (memory_meaning self.old) (memory_meaning self.new)) }
+        ensures counted { IsCounted self.old self.new (has_failed result) }
+    {
         self.begin()?;
         let held = get_from(self.alloc, &self.map, name)?;
         Ok(held)
     }
 
-    fn names(&mut self) -> Result<Vec<String>, KeepFault> {
+    fn names(&mut self) -> Result<Vec<String>, KeepFault>
+        ensures later { (memory_meaning self.old).faults ≤ (memory_meaning self.new).faults }
+        ensures ok { IfOk result (λ names. Tells (memory_meaning self.old) (λ book. AreNamesOf book (each string_bytes names.items))) }
+        ensures same { Stays (memory_meaning self.old) (memory_meaning self.new) }
+        ensures cause { IfErr result (IsKeepFault (memory_meaning self.old) (memory_meaning self.new)) }
+        ensures counted { IsCounted self.old self.new (has_failed result) }
+    {
         self.begin()?;
         let names = names_of(self.alloc, &self.map)?;
         Ok(names)

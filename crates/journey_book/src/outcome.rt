@@ -73,12 +73,11 @@ impl BookOutcome {
         }
     }
 
-    /// What people are told of the outcome at the end of a run. None where they have been told, or need not be, and where
-    /// the words ask for nothing, of which there is more to say.
+    /// What people are told of the outcome at the end of a run. None where they have been told, as a keeper tells why it
+    /// failed, or need not be, and where the words ask for nothing, of which there is more to say.
     pub fn note(self) -> Option<&'static str> {
         match self {
             BookOutcome::WriteFault => Some("standard output can't be written"),
-            BookOutcome::KeepFault => Some("the book can't be read or written"),
             BookOutcome::Absent => Some(
                 "nothing is kept under this name; list writes the names that there are",
             ),

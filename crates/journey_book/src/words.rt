@@ -2,7 +2,7 @@
 
 ghost use Rattle.std.specs.Prelude.{◌≡◌, ℕ, List, [], ◌∷◌, None, true, false, map, string_bytes, IfSome};
 ghost use Rattle.std.specs.List.{list_all};
-ghost use Rattle.journey_book.specs.Requests.{AreRefused, AsksFor, Request, begins_name, is_letter_or_digit, is_name, is_name_byte, request_of};
+ghost use Rattle.journey_book.specs.Requests.{AreRefused, AsksFor, Request, asks_help, begins_name, is_letter_or_digit, is_name, is_name_byte, request_of};
 
 /// What a command line asks for. Files are named by their paths.
 #[derive(Clone, Copy)]
@@ -71,7 +71,7 @@ fn named<'a>(command: &str, given: &'a [String]) -> Option<BookCommand<'a>>
             name: only_name(given)?,
         }),
         "recheck" => Some(BookCommand::Recheck {
-            region: only_word(given)?,
+            region: only_region(given)?,
         }),
         _ => None,
     }
@@ -86,6 +86,27 @@ fn only_word(given: &[String]) -> Option<&str>
         [word] => Some(word.as_str()),
         _ => None,
     }
+}
+
+/// The only word, if it is a region's path and does not ask for help.
+fn only_region(given: &[String]) -> Option<&str>
+    ensures some { IfSome result (λ region. map string_bytes given.now ≡ region.now ∷ []) }
+    ensures path { IfSome result (λ region. asks_help region.now ≡ false) }
+    ensures none { result ≡ None → (region : List ℕ) → map string_bytes given.now ≡ region ∷ [] → asks_help region ≡ false → ⊥ }
+{
+    let word = only_word(given)?;
+    if asks_help(word.as_bytes()) {
+        None
+    } else {
+        Some(word)
+    }
+}
+
+/// Whether a word asks for help.
+fn asks_help(word: &[u8]) -> bool
+    ensures { result ≡ asks_help word.now }
+{
+    word == b"--help".as_slice()
 }
 
 /// The only word, if it is a name.
@@ -121,7 +142,7 @@ fn name_and_files(given: &[String]) -> Option<(&str, &str, &str)>
 }
 
 /// Whether a word is a name: 1 to 64 small letters, digits, `-` and `_`, the first a letter or a digit.
-fn is_name(word: &[u8]) -> bool
+pub(crate) fn is_name(word: &[u8]) -> bool
     ensures { result ≡ is_name word.now }
 {
     begins_name(word) && word.len() <= 64 && are_name_bytes(word)

@@ -1,9 +1,13 @@
 //! `planbook`: runs a command of the journey book over a database in a file, the file system, standard output and standard error.
 #![tactic(auto)]
 
-use journey_book::{BookOutcome, Keeper, MemoryKeeper, SqliteKeeper, run_book};
-use plan_base::{FolderShelf, StreamSink, write_all};
-use sqlite::{Connection, Error, ErrorCode};
+mod file_keeper;
+mod paths;
+
+use crate::file_keeper::FileKeeper;
+use journey_book::words::read_words;
+use journey_book::{BookOutcome, Keeper, MemoryKeeper, run_book};
+use plan_base::{FolderShelf, StreamSink};
 use std::collections::BTreeMap;
 use std::env;
 use std::io::{self, ErrorKind};
@@ -27,10 +31,12 @@ fn words(rt: &HostRuntime) -> io::Result<Vec<String>> {
     Ok(words)
 }
 
-/// Runs the command over the book that the first word names. `-`, or no word, stands for a book in memory.
+/// Runs the command over the book that the first word names, where the words ask for one. `-` stands for a book in memory.
 fn run(rt: &HostRuntime, words: &[String]) -> BookOutcome {
-    match words.get(1) {
-        Some(path) if path.as_str() != "-" => run_in_file(rt, words, path.as_str()),
+    match words {
+        [_, path, ..] if path.as_str() != "-" && read_words(words).is_some() => {
+            run_in_file(rt, words, path.as_str())
+        }
         _ => run_in_memory(rt, words),
     }
 }
@@ -41,21 +47,11 @@ fn run_in_memory(rt: &HostRuntime, words: &[String]) -> BookOutcome {
     run_over(rt, words, &mut keeper)
 }
 
-/// The log that stands beside the file is copied into it at the end, where that can be done; else the two belong together.
 fn run_in_file(rt: &HostRuntime, words: &[String], path: &str) -> BookOutcome {
-    match Connection::open(rt, path) {
-        Ok(connection) => {
-            let mut keeper = SqliteKeeper::adopt(rt.alloc(), connection);
-            let outcome = run_over(rt, words, &mut keeper);
-            let _ = keeper.release().close();
-            outcome
-        }
-        Err(Error::SqliteFailure(ErrorCode::OutOfMemory)) => BookOutcome::OutOfMemory,
-        Err(error) => {
-            tell_unopened(rt, path, error);
-            BookOutcome::KeepFault
-        }
-    }
+    let mut keeper = FileKeeper::new(rt, path);
+    let outcome = run_over(rt, words, &mut keeper);
+    keeper.close(outcome);
+    outcome
 }
 
 fn run_over<K: Keeper>(rt: &HostRuntime, words: &[String], keeper: &mut K) -> BookOutcome {
@@ -63,13 +59,4 @@ fn run_over<K: Keeper>(rt: &HostRuntime, words: &[String], keeper: &mut K) -> Bo
     let mut out = StreamSink::new(rt.stdout());
     let mut notes = StreamSink::new(rt.stderr());
     run_book(rt.alloc(), words, &mut shelf, keeper, &mut out, &mut notes)
-}
-
-fn tell_unopened(rt: &HostRuntime, path: &str, error: Error) {
-    let mut notes = StreamSink::new(rt.stderr());
-    if let Ok(line) = format!(in rt.alloc();
-        "planbook: {path}: the book can't be opened: {error}\n"
-    ) {
-        let _ = write_all(&mut notes, line.as_bytes());
-    }
 }

@@ -1,4 +1,4 @@
-use Rattle.std.proofs.Common.{◌∙◌, inl, inr, List, ℕ, refl, sym, subst}
+use Rattle.std.proofs.Common.{◌∙◌, inl, inr, List, ℕ, sym, subst}
 use Rattle.std.proofs.lemmas.Result.{err_from_is_err_and}
 use Rattle.plan_base.specs.Shelves.{HasRead}
 use Rattle.plan_base.proofs.MoreWritten.{stays_so as unwritten}

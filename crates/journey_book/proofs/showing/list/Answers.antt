@@ -1,5 +1,4 @@
-use Rattle.std.proofs.Common.{map, ap, ◌∙◌}
-use Rattle.std.specs.Prelude.{string_bytes}
+use Rattle.std.proofs.Common.{◌≡◌, ◌∙◌, List, ap, map, string_bytes}
 use Rattle.plain_texts.specs.Lines.{lines_text}
 use Rattle.journey_book.specs.Reports.{IsListing}
 use Rattle.journey_book.specs.Sayings.{scene}
@@ -10,6 +9,8 @@ pub returns : goal.returns
 returns g c shelf =
     let before = g.K.Keeper.meaning c.args.keeper.now in
     let after = g.K.Keeper.meaning c.names.new.self in
-    let text = c.deref-2.ensures.value ∙ c.in-Ok-listed.ensures ∙ ap (λ names. lines_text (map string_bytes names)) c.deref.ensures.value in
-    text_written (scene shelf before (g.O.Sink.meaning c.args.out.now)) (scene shelf after (g.O.Sink.meaning c.write_text.new.out)) c.in-Ok.ensures.same
-    (IsListing before) c.deref-2.result.now (map string_bytes c.in-Ok.names.items, c.in-Ok.ensures.ok, text) c.write_text.result c.write_text.ensures.ok c.write_text.ensures.err
+    let names = map string_bytes c.in-Ok.names.items in
+    let text : c.deref-2.result.now ≡ lines_text names =
+    c.deref-2.ensures.value ∙ c.in-Ok-listed.ensures ∙ ap (λ (ns : List _). lines_text (map string_bytes ns)) c.deref.ensures.value in
+    text_written (scene shelf before (g.O.Sink.meaning c.args.out.now)) (scene shelf after (g.O.Sink.meaning c.write_text.new.out)) c.in-Ok.ensures.same (IsListing before) c.deref-2.result.now
+    (names, c.in-Ok.ensures.ok, text) c.write_text.result c.write_text.ensures.ok c.write_text.ensures.err

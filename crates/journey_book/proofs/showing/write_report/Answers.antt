@@ -1,4 +1,4 @@
-use Rattle.std.proofs.Common.{refl, subst, sym}
+use Rattle.std.proofs.Common.{subst, sym}
 use Rattle.plan_base.proofs.MoreWritten.{stays_so as unwritten}
 use Rattle.journey_book.specs.Reports.{IsRecheck}
 use Rattle.journey_book.specs.Sayings.{scene}
