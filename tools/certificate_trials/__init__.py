@@ -1,0 +1,1 @@
+"""The parts of tools/test-check-certificate: drawn regions, and damaged certificates."""
