@@ -66,6 +66,29 @@ def labels_changed(dice: random.Random, lines: list[str]) -> list[str]:
     return [*lines[:at], f"labels {len(labels)}", *labels, "end"]
 
 
+def label_lost(dice: random.Random, lines: list[str]) -> list[str]:
+    """A label is dropped, and their count stays right."""
+    at, labels = _labels(lines)
+    labels = line_dropped(dice, labels) if labels else labels
+    return [*lines[:at], f"labels {len(labels)}", *labels, "end"]
+
+
+def end_labelled(dice: random.Random, lines: list[str]) -> list[str]:
+    """There is a label where the search ends: at the last node of the journey, or in a late certificate at its first."""
+    at, labels = _labels(lines)
+    start = re.search("(?m)^start ([0-9]+)", "\n".join(lines))
+    if not start or not labels:
+        return lines
+    if lines[2].startswith("graph "):
+        nodes = [start[1], *re.findall("(?m)^(?:road|link) ([0-9]+)$", "\n".join(lines))]
+        node, state, time = int(nodes[-1]), dice.randrange(4, 16), int(lines[3].split(" ")[1]) - 1
+        node = 2 * node + dice.randrange(2) if lines[2] == "graph phases" else node
+    else:
+        node, state, time = int(start[1]), dice.randrange(4), 0
+    rows = {row[:2]: row[2] for row in (tuple(map(int, label.split(" "))) for label in labels)} | {(node, state): time}
+    return [*lines[:at], f"labels {len(rows)}", *(f"{v} {q} {t}" for (v, q), t in sorted(rows.items())), "end"]
+
+
 def labels_gone(_: random.Random, lines: list[str]) -> list[str]:
     return [*lines[:_labels(lines)[0]], "labels 0", "end"]
 
@@ -101,8 +124,10 @@ def graph_changed(_: random.Random, lines: list[str]) -> list[str]:
 
 
 DAMAGES: tuple[Damage, ...] = (
-    number_moved, number_moved, number_moved, number_odd, line_dropped, line_doubled, lines_swapped, line_put_in, step_put_in, labels_changed,
-    labels_changed, labels_changed, labels_gone, none_claimed, time_claimed, query_changed, query_changed, graph_changed)
+    number_moved, number_moved, number_odd, line_dropped, line_doubled, lines_swapped, line_put_in, step_put_in, step_put_in,
+    labels_changed, labels_changed, labels_changed, labels_changed, label_lost, label_lost, label_lost, label_lost, end_labelled,
+    labels_gone, none_claimed, time_claimed, query_changed, graph_changed)
+
 
 
 def damaged(dice: random.Random, text: str) -> tuple[str, str]:
@@ -126,9 +151,11 @@ def _label_moved(dice: random.Random, labels: list[str]) -> list[str]:
 
 
 def _label_put_in(dice: random.Random, labels: list[str]) -> list[str]:
-    """In its place, but by another time perhaps than a search would have."""
-    label = (dice.randrange(12), dice.randrange(4, 12), dice.choice([0, 633_600_000, 1 << 40]))
-    return [" ".join(map(str, row)) for row in sorted([label, *(tuple(map(int, row.split(" "))) for row in labels)])]
+    """In its place, near another one: at its node or beside it, in its state or in another one."""
+    rows = [tuple(map(int, row.split(" "))) for row in labels]
+    node, state, at = dice.choice(rows or [(0, 0, 633_600_000)])
+    label = (max(0, node + dice.choice([-2, -1, 0, 0, 1, 1, 2])), max(0, state + dice.randint(-4, 8)), at + dice.randint(0, 1))
+    return [" ".join(map(str, row)) for row in sorted([label, *rows])]
 
 
 def _with_number(dice: random.Random, lines: list[str], change: Callable[[str], str]) -> list[str]:

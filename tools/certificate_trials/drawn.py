@@ -1,5 +1,7 @@
 """Small regions by lot, with queries over them."""
 
+import datetime
+import itertools
 import random
 from dataclasses import dataclass
 
@@ -23,10 +25,16 @@ class Drawn:
     text: str
     ends: list[str]
     dates: list[str]
+    departures: list[int]  # of trips, in seconds of a day
 
     def query(self, dice: random.Random) -> str:
         """A query line; of some the endpoints, the date or the expression are none."""
-        clock = f"{dice.choice(['07', '08', '08', '09'])}:{dice.randrange(60):02}:{dice.randrange(60):02}{dice.choice(['', '', '.250'])}"
+        seconds = dice.choice(["00", "00", "20", f"{dice.randrange(60):02}.250"])
+        clock = f"{dice.choice(['07', '08', '08', '09'])}:{dice.randrange(60):02}:{seconds}"
+        if dice.random() < 0.15:  # where the region's first date begins, no earlier departure counts
+            clock = f"00:{dice.randrange(12):02}:{seconds}"
+        elif self.departures and dice.random() < 0.4:
+            clock = str(datetime.timedelta(seconds=dice.choice(self.departures))).zfill(8)
         date = dice.choice(self.dates) if dice.random() < 0.97 else "20200101"
         return f"{dice.choice(self.ends)} {dice.choice(self.ends)} {date} {clock} {dice.choice(EXPRESSIONS)}"
 
@@ -42,12 +50,14 @@ def draw_region(dice: random.Random) -> Drawn:
     lines += [f"stop {name} {_place(dice)}" for name in stops] + [f"switch {number} {_place(dice)}" for number in switches]
     lines += _arcs(dice, roads) + _links(dice, len(roads), len(stops) + len(switches))
     count = int(days.split(" ")[1])
-    for name in range(dice.randint(0, 12) if stops else 0):
-        lines += _trip(dice, name, len(stops), count)
-    ends = [f"n{number}" for number in ids] * 2 + [f"s{name}" for name in stops] * 2 + ["@48.001,11.001", "@48.0,12", "n77"]
+    trips = [_trip(dice, name, len(stops), count) for name in range(dice.randint(0, 8) if stops else 0)]
+    trips += [_later(trip, dice.choice([60, 300, 600, DAY, DAY + 300])) for trip in trips for _ in range(dice.choice([0, 0, 1, 2]))]
+    lines += itertools.chain.from_iterable(trips)
+    ends = [f"n{number}" for number in ids] * 6 + [f"s{name}" for name in stops] * 6 + ["@48.001,11.001", "@48.0,12", "n77"]
     first = int(days[:8])
     dates = [str(first + day) for day in range(count)] if first % 100 + count < 29 else [str(first)]
-    return Drawn("\n".join([*lines, "end", ""]), ends, dates)
+    departures = [int(call.split(" ")[3]) % DAY for trip in trips for call in trip[1:]]
+    return Drawn("\n".join([*lines, "end", ""]), ends, dates, departures)
 
 
 def _place(dice: random.Random) -> str:
@@ -61,14 +71,20 @@ def _arcs(dice: random.Random, roads: list[tuple[int, int]]) -> list[str]:
 
 def _links(dice: random.Random, roads: int, others: int) -> list[str]:
     pairs = [pair for v in range(roads) for w in range(roads, roads + others) for pair in ((v, w), (w, v))]
-    return [f"link {a} {b} {dice.randint(1, 90) * 1000}" for a, b in sorted(pairs) if dice.random() < 0.2]
+    return [f"link {a} {b} {dice.choice([1, 20, 60, 120]) * 1000}" for a, b in sorted(pairs) if dice.random() < 0.2]
+
+
+def _later(trip: list[str], seconds: int) -> list[str]:
+    """Another trip with the same calls, by so much later."""
+    calls = [call.split(" ") for call in trip[1:]]
+    return [trip[0], *(f"call {stop} {int(arrive) + seconds} {int(depart) + seconds} {flags}" for _, stop, arrive, depart, flags in calls)]
 
 
 def _trip(dice: random.Random, name: int, stops: int, days: int) -> list[str]:
-    """A trip of some calls, from some time behind half past seven on, perhaps of the day before."""
-    at, running = 27000 + dice.randint(0, 60) * 60, dice.getrandbits(days) << 7 or 1 << 7
-    if dice.random() < 0.2:
-        at, running = at + DAY, running >> 1
+    """A trip of some calls, from half past seven or from midnight on; perhaps it runs on the day before, or is a day late."""
+    at, running = dice.choice([27000, 27000, 27000, 0]) + dice.randint(0, 60) * 60, dice.getrandbits(days) << 7 or 1 << 7
+    if dice.random() < 0.3:
+        at, running = at + DAY, running >> dice.choice([1, 1, 0])
     calls = []
     for _ in range(dice.randint(2, 5)):
         leaves = at + dice.choice([0, 0, 30, 60])
