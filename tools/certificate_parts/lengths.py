@@ -1,4 +1,4 @@
-"""How far two places are apart: docs/MAPS.md, "Lengths and durations"."""
+"""How far two places are apart: docs/MAPS_AND_FEEDS.md, "Lengths and durations"."""
 
 import functools
 import math
