@@ -2,7 +2,7 @@
 
 ghost use Rattle.journey_book.specs.Working.{IsRefusal};
 
-use crate::paths::{Found, found, log_path};
+use crate::paths::{Found, log_path, look_at};
 use journey_book::{BookOutcome, KeepFault, Keeper, Refusal, SqliteKeeper};
 use plan_base::{StreamSink, write_all};
 use sqlite::{Connection, Error, ErrorCode, File, FileStore};
@@ -63,7 +63,7 @@ impl BookFile<'_> {
         if self.book.is_some() {
             return Ok(());
         }
-        self.before = found(self.rt, self.path)?;
+        self.before = look_at(self.rt, self.path)?;
         match self.before {
             Found::NoDatabase => {
                 self.tell("this file is no database, and so no book");

@@ -21,7 +21,7 @@ pub enum Found {
 }
 
 /// What stands at the path of a book and at that of its log.
-pub fn found(rt: &HostRuntime, path: &str) -> Result<Found, AllocError> {
+pub fn look_at(rt: &HostRuntime, path: &str) -> Result<Found, AllocError> {
     let log = log_path(rt, path)?;
     if fs::metadata(rt, log.as_str()).is_ok() {
         return Ok(Found::WithLog);
