@@ -65,7 +65,7 @@ def calls(examples: pathlib.Path, program: Program, book: str | None, folder: pa
         if len(region) <= MOST_BYTES:
             found += _of_region(region, (example / "queries").read_bytes(), program)
         found += [_compile(example) for map_file in example.glob("map.opl") if map_file.stat().st_size <= MOST_BYTES]
-    return found + (_of_book(examples / "foot-town", program, book, folder) if book else [])
+    return found + (list(_of_book(examples / "foot-town", program, book, folder)) if book else [])
 
 
 def _of_region(region: bytes, queries: bytes, program: Program) -> Iterator[Call]:
