@@ -10,6 +10,7 @@ mod TakenLemmas
 mod StepLemmas
 mod ReachLemmas
 mod EndLemmas
+mod NotingLemmas
 mod TrailLemmas
 mod ListLemmas
 mod CheckLemmas

@@ -1,6 +1,7 @@
 pub mod Reach
 pub mod Listed
 pub mod Answer
+pub mod Arrivals
 pub mod Closed
 pub mod Queued
 pub mod Waiting
@@ -8,3 +9,5 @@ pub mod MoveTables
 pub mod Exploring
 pub mod Searching
 pub mod Trail
+pub mod Places
+pub mod Noting

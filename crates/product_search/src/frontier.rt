@@ -251,7 +251,7 @@ fn clear_at(first: &mut Vec<u32>, chain: usize)
 
 /// A count as a number of 32 bits. At 2^32 - 1 product states it fails as if memory had run out: a link, which is a number
 /// and 1, would not fit.
-fn number_of(count: usize) -> Result<u32, AllocError>
+pub(crate) fn number_of(count: usize) -> Result<u32, AllocError>
     ensures count { IfOk result (λ n. n ≡ count) }
     ensures small { IfOk result (λ n. n + 1 < 2 ^ 32) }
 {
@@ -263,7 +263,7 @@ fn number_of(count: usize) -> Result<u32, AllocError>
 }
 
 /// Makes a table of numbers long enough for a chain.
-fn grow(first: &mut Vec<u32>, chain: usize) -> Result<(), AllocError>
+pub(crate) fn grow(first: &mut Vec<u32>, chain: usize) -> Result<(), AllocError>
     ensures same { OnOk result ((v : ℕ) → slice_index first.new.items v ≡ slice_index first.old.items v) }
     ensures long { OnOk result (chain < length first.new.items) }
 {

@@ -3,6 +3,7 @@
 #![tactic(auto)]
 
 mod arc_check;
+mod arrivals;
 mod chains;
 mod checking;
 mod end_check;
@@ -21,11 +22,14 @@ mod searching;
 mod settling;
 mod start;
 mod start_check;
+mod targets;
 mod verdict;
 mod workspace;
 
+pub use arrivals::search_arrivals;
 pub use checking::check_labels;
 pub use label::{Best, Found, FoundWithCount, Hop, Label, Walk};
 pub use searching::{search, search_best_with, search_counted_with};
+pub use targets::TargetTable;
 pub use verdict::LabelVerdict;
 pub use workspace::Workspace;

@@ -1,0 +1,103 @@
+//! The search for the least arrivals at many targets.
+
+ghost use Rattle.std.specs.Prelude.{◌≡◌, ◌<◌, ◌^◌, All, IfOk, map};
+ghost use Rattle.product_search.specs.Arrivals.{AreArrivals};
+ghost use Rattle.product_search.specs.Noting.{AreAllTimes, time_of};
+ghost use Rattle.product_search.specs.Waiting.{IsQueueRight};
+
+use crate::explore::explore;
+use crate::frontier::Frontier;
+use crate::moves::MoveTable;
+use crate::start::offer_starts;
+use crate::targets::{Noted, TargetTable};
+use crate::workspace::Workspace;
+use search_laws::{GivenRuns, Graph, Labels, Time};
+use std::alloc::{AllocError, Global};
+
+/// For each target, in order, the least arrival over all walks from a start at `dep` to that target that the automaton accepts, if
+/// there is one. The search ends when all targets are reached in an accepting state, or nothing is left.
+///
+/// No time of the answer is above `dep + 2^98`. Fails as [`crate::search`] does.
+pub fn search_arrivals<G: Graph, L: Labels>(
+    alloc: Global,
+    workspace: &mut Workspace,
+    graph: &G,
+    labels: &L,
+    starts: &[u32],
+    targets: &TargetTable,
+    dep: Time,
+) -> Result<Vec<Option<Time>>, AllocError>
+    requires starts { All (λ v. v < (G.meaning graph.now).nodes) starts.now }
+    requires dep { dep < 2 ^ 64 }
+    ensures { IfOk result (λ times. AreArrivals (G.meaning graph.now) (L.automaton labels.now) starts.now
+        targets.now.nodes.items dep times.items) }
+{
+    let kept = workspace.take(alloc);
+    let arrived = settle_targets(alloc, kept, graph, labels, starts, targets, dep)?;
+    let Arrived { frontier, noted } = arrived;
+    workspace.put(frontier);
+    let list = listed(alloc, targets, &noted)?;
+    Ok(list)
+}
+
+/// What a search has settled, and when each target was reached, by its place in the table.
+#[derive(Drop)]
+struct Arrived {
+    frontier: Frontier,
+    noted: Noted,
+}
+
+/// Settles product states from the starts on, until all targets are reached in an accepting state.
+fn settle_targets<G: Graph, L: Labels>(
+    alloc: Global,
+    workspace: Workspace,
+    graph: &G,
+    labels: &L,
+    starts: &[u32],
+    targets: &TargetTable,
+    dep: Time,
+) -> Result<Arrived, AllocError>
+    requires starts { All (λ v. v < (G.meaning graph.now).nodes) starts.now }
+    requires dep { dep < 2 ^ 64 }
+    ensures right { IfOk result (λ a. IsQueueRight a.frontier) }
+    ensures times { IfOk result (λ a. AreAllTimes (G.meaning graph.now) (L.automaton labels.now) starts.now dep
+        targets.now.places.items a.noted.times.items) }
+{
+    let mut noted = Noted::none(alloc, targets)?;
+    let mut frontier = Frontier::new(alloc, workspace, labels.states());
+    offer_starts(&mut frontier, labels, starts, dep)?;
+    let moves = MoveTable::new(alloc, labels)?;
+    let mut given = GivenRuns::new(alloc);
+    let mut ways = Vec::new(alloc);
+    while let Some(settled) = frontier.settle_least() {
+        if noted.note_end(labels, targets, settled) {
+            return Ok(Arrived { frontier, noted });
+        }
+        explore(
+            &mut frontier,
+            &mut given,
+            &mut ways,
+            graph,
+            labels,
+            &moves,
+            None,
+            settled,
+        )?;
+    }
+    Ok(Arrived { frontier, noted })
+}
+
+/// When each target was reached, in the order in which they are listed.
+fn listed(
+    alloc: Global,
+    targets: &TargetTable,
+    noted: &Noted,
+) -> Result<Vec<Option<Time>>, AllocError>
+    ensures { IfOk result (λ list. list.items ≡ map (time_of targets.now.places.items noted.now.times.items) targets.now.nodes.items) }
+{
+    let mut list = Vec::new(alloc);
+    for node in &targets.nodes {
+        list.push(noted.time_of(targets, *node))?;
+    }
+    Ok(list)
+}
