@@ -18,25 +18,27 @@ use Rattle.journey.specs.Best.{Asked, Answers}
 use Rattle.journey.specs.CopyLists.{AreTheCopies}
 use Rattle.unpack.specs.Unpacking.{end_of, arrival_of, letters_of}
 use Rattle.unpack.proofs.TakenLemmas as taken
-use Rattle.few_boardings.specs.Counted.{counted, transits, AcceptsCounted}
+use Rattle.few_boardings.specs.declared.counted.Side.{Side}
+use Rattle.few_boardings.specs.declared.counted.Side.TheVariants.{AtMost}
+use Rattle.few_boardings.specs.Counted.{counted, transits, IsOnSide, AcceptsCounted}
 use Rattle.few_boardings.specs.Boardings.{rides}
 use Rattle.few_boardings.specs.Rounds.{IsLeastBelow, IsUnpacked, IsCountedFor}
 use Rattle.few_boardings.specs.declared.boardings.Found.{Found}
 use Rattle.few_boardings.proofs.RideLemmas.{letters_count}
 
--- the automaton accepts the words with few enough transit letters whose collapse the form denotes
-abbrev pub IsFewOf : Form → LabelsMeaning → ℕ → Type 0
-IsFewOf form l most = (word : List ℕ) → Accepts l word ↔ (IsWordOf form (collapse word) × (transits word ≤ most))
+-- the automaton accepts the words whose transit letters are on that side of the limit, and whose collapse the form denotes
+abbrev pub IsCountingOf : Form → LabelsMeaning → Side → ℕ → Type 0
+IsCountingOf form l side limit = (word : List ℕ) → Accepts l word ↔ (IsWordOf form (collapse word) × IsOnSide side limit (transits word))
 
-pub few_of : (form : Form) (inner : LabelsMeaning) (most : ℕ) → ((word : List ℕ) → Accepts inner word ↔ IsWordOf form word) → AcceptsCollapsed inner
-    → AcceptsCounted (collapsed inner) most → IsFewOf form (counted (collapsed inner) most) most
-few_of form inner most denotes collapses counts word = (
+pub counting_of : (form : Form) (inner : LabelsMeaning) (side : Side) (limit : ℕ) → ((word : List ℕ) → Accepts inner word ↔ IsWordOf form word) → AcceptsCollapsed inner
+    → AcceptsCounted (collapsed inner) side limit → IsCountingOf form (counted (collapsed inner) side limit) side limit
+counting_of form inner side limit denotes collapses counts word = (
   λ accepts. let both = (counts word).0 accepts in ((denotes (collapse word)).0 ((collapses word).0 both.0), both.1),
   λ both. (counts word).1 ((collapses word).1 ((denotes (collapse word)).1 both.0), both.1),
 )
 
 module _ (n : NetworkLists) (network : IsNetwork n) (table : TableLists) (q : Asked) (l : LabelsMeaning) (most : ℕ) (starts targets : List ℕ)
-    (few : IsFewOf q.form l most) (journeys : JourneysAreWalks n table) (from : AreTheCopies n q.from starts) (to : AreTheCopies n q.to targets) where
+    (few : IsCountingOf q.form l AtMost most) (journeys : JourneysAreWalks n table) (from : AreTheCopies n q.from starts) (to : AreTheCopies n q.to targets) where
   -- each journey that answers with so few rides is an accepted walk
   arrives : (k : Route) (t : ℕ) → Answers n q k t → rides k ≤ most → ArrivesAt (plain_meaning n table) l starts targets q.depart t
   arrives k t a boards =

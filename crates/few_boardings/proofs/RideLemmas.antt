@@ -19,7 +19,7 @@ use Rattle.few_boardings.specs.CountedLaws.{added, added_road, added_transit}
 use Rattle.few_boardings.specs.Boardings.{is_ride}
 use Rattle.few_boardings.proofs.CountedLemmas.{transits_more}
 
-rides_more : (step : Step) (steps : List Step) → count_by is_ride (step ∷ steps) ≡ cond (is_ride step) 1 0 + count_by is_ride steps
+pub rides_more : (step : Step) (steps : List Step) → count_by is_ride (step ∷ steps) ≡ cond (is_ride step) 1 0 + count_by is_ride steps
 rides_more step steps = sum_by-cons (λ (s : Step). cond (is_ride s) 1 0) step steps
 
 -- what a letter, if there is one, adds to the count

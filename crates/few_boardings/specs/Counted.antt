@@ -1,8 +1,10 @@
 -- An automaton that counts transit letters.
-use Rattle.std.specs.Prelude.{ℕ, ◌+◌, ◌*◌, ◌/◌, ◌%◌, ◌^◌, ◌<◌, ◌≤◌, ◌&&◌, ◌==◌, ◌↔◌, Bool, nat_lt, nat_le, List, bit_and, if◌then◌else◌}
+use Rattle.std.specs.Prelude.{ℕ, ◌+◌, ◌*◌, ◌/◌, ◌%◌, ◌^◌, ◌<◌, ◌≤◌, ◌&&◌, ◌==◌, ◌↔◌, Bool, true, false, nat_lt, nat_le, List, bit_and, if◌then◌else◌}
 use Rattle.std.specs.List.{count_by}
 use Rattle.search_laws.specs.declared.labels.Move.{Move}
 use Rattle.search_laws.specs.LabelLaws.{LabelsMeaning, Accepts}
+use Rattle.few_boardings.specs.declared.counted.Side.{Side}
+use Rattle.few_boardings.specs.declared.counted.Side.TheVariants.{AtMost, AtLeast}
 
 -- a letter from tram on
 abbrev pub is_transit : ℕ → Bool
@@ -12,34 +14,49 @@ is_transit c = nat_le 3 c
 abbrev pub transits : List ℕ → ℕ
 transits word = count_by is_transit word
 
--- the state q of the inner automaton after k transit letters
+-- so many letters are enough, or few enough
+abbrev pub IsOnSide : Side → ℕ → ℕ → Type 0
+IsOnSide AtMost limit count = count ≤ limit
+IsOnSide AtLeast limit count = limit ≤ count
+
+-- whether letters are read beyond the limit; they are not counted
+abbrev pub reads_on : Side → Bool
+reads_on AtMost = false
+reads_on AtLeast = true
+
+-- whether a word may end with this count
+abbrev pub may_end : Side → ℕ → ℕ → Bool
+may_end AtMost limit k = true
+may_end AtLeast limit k = k == limit
+
+-- the state q of the inner automaton with the count k
 abbrev pub state_at : ℕ → ℕ → ℕ → ℕ
-state_at most q k = q * (most + 1) + k
+state_at limit q k = q * (limit + 1) + k
 
--- The move that an inner move gives after k transit letters: by its road letters, which are not counted (kind 0), or by its transit letters, if
--- one more may be read.
-abbrev pub counted_move : ℕ → ℕ → ℕ → Move → Move
-counted_move most kind k move =
-    if kind == 0 then record { letters = bit_and move.letters 7; to = state_at most move.to k }
-    else (if nat_lt k most then record { letters = bit_and move.letters 0x3ff8; to = state_at most move.to (k + 1) }
-    else record { letters = 0; to = state_at most move.to k })
+-- The move that an inner move gives with the count k: by its road letters, which are not counted (kind 0), or by its transit letters, if one more is
+-- counted or read.
+abbrev pub counted_move : Bool → ℕ → ℕ → ℕ → Move → Move
+counted_move more limit kind k move =
+    if kind == 0 then record { letters = bit_and move.letters 7; to = state_at limit move.to k }
+    else (if nat_lt k limit then record { letters = bit_and move.letters 0x3ff8; to = state_at limit move.to (k + 1) }
+    else record { letters = (if more then bit_and move.letters 0x3ff8 else 0); to = state_at limit move.to k })
 
--- state q * (most + 1) + k is the inner state q after k transit letters
-abbrev pub counted : LabelsMeaning → ℕ → LabelsMeaning
-counted l most = record {
-  states = l.states * (most + 1);
-  is_start = λ s. s % (most + 1) == 0 && l.is_start (s / (most + 1));
-  moves = λ s. 2 * l.moves (s / (most + 1));
-  move_at = λ s i. counted_move most (i % 2) (s % (most + 1)) (l.move_at (s / (most + 1)) (i / 2));
-  accepts = λ s. l.accepts (s / (most + 1));
+-- state q * (limit + 1) + k is the inner state q with the count k
+abbrev pub counted : LabelsMeaning → Side → ℕ → LabelsMeaning
+counted l side limit = record {
+  states = l.states * (limit + 1);
+  is_start = λ s. s % (limit + 1) == 0 && l.is_start (s / (limit + 1));
+  moves = λ s. 2 * l.moves (s / (limit + 1));
+  move_at = λ s i. counted_move (reads_on side) limit (i % 2) (s % (limit + 1)) (l.move_at (s / (limit + 1)) (i / 2));
+  accepts = λ s. may_end side limit (s % (limit + 1)) && l.accepts (s / (limit + 1));
 }
 
 -- the limits of the inner automaton
-pub record FitsCounted (l : LabelsMeaning) (most : ℕ) : Type 0 where
-  pub few : most ≤ 8
-  pub few_states : l.states * (most + 1) ≤ 2 ^ 16
+pub record FitsCounted (l : LabelsMeaning) (limit : ℕ) : Type 0 where
+  pub few : limit ≤ 8
+  pub few_states : l.states * (limit + 1) ≤ 2 ^ 16
   pub few_moves : (q : ℕ) → q < l.states → l.moves q ≤ 2 ^ 19
 
--- it accepts the words that the inner one accepts and that have at most so many transit letters
-abbrev pub AcceptsCounted : LabelsMeaning → ℕ → Type 0
-AcceptsCounted l most = (word : List ℕ) → Accepts (counted l most) word ↔ (Accepts l word × (transits word ≤ most))
+-- it accepts the words that the inner one accepts and that have so many transit letters at most, or at least
+abbrev pub AcceptsCounted : LabelsMeaning → Side → ℕ → Type 0
+AcceptsCounted l side limit = (word : List ℕ) → Accepts (counted l side limit) word ↔ (Accepts l word × IsOnSide side limit (transits word))

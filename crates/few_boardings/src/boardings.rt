@@ -9,7 +9,7 @@ ghost use Rattle.unpack.specs.Taken.{IsPlainWalk};
 ghost use Rattle.few_boardings.specs.Boardings.{is_ride, AreRows, HasNoneByFew, IsPrintableRow};
 ghost use Rattle.few_boardings.specs.Rounds.{IsLeastBelow, IsUnpacked, is_later, kept};
 
-use crate::counted::Counted;
+use crate::counted::{Counted, Side};
 use automaton::{Collapsed, Positions};
 use journey::{Query, copies};
 use mode_network::{Journey, Network, Step};
@@ -67,7 +67,7 @@ fn unpacked(
 
 /// A journey that answers a query with fewer rides than the limit, and arrives no later than any such journey; None
 /// exactly where there is none. The search uses the workspace.
-fn least_below(
+pub fn least_below(
     alloc: Global,
     workspace: &mut Workspace,
     network: &Network,
@@ -88,7 +88,7 @@ fn least_below(
     let starts = copies(alloc, network, &query.from)?;
     let targets = copies(alloc, network, &query.to)?;
     let collapsed = Collapsed::new(Positions::of(alloc, &query.expr)?);
-    let labels = Counted::new(collapsed, limit - 1);
+    let labels = Counted::new(collapsed, Side::AtMost, limit - 1);
     let best = search_best_with(
         alloc,
         workspace,

@@ -6,5 +6,5 @@ mod boardings;
 mod counted;
 
 pub use blocks::few_block;
-pub use boardings::{FewRow, few, few_with};
-pub use counted::Counted;
+pub use boardings::{FewRow, Found, few, few_with, least_below};
+pub use counted::{Counted, Side};

@@ -7,17 +7,18 @@ use Rattle.automaton.specs.declared.positions.Positions.{Positions}
 use Rattle.mode_expression.specs.Form.{Denotes, form_of}
 use Rattle.journey.specs.Best.{asked_by}
 use Rattle.unpack.proofs.TakenLemmas.{walk_is_plain}
+use Rattle.few_boardings.specs.declared.counted.Side.TheVariants.{AtMost}
 use Rattle.few_boardings.specs.Counted.{counted}
 use Rattle.few_boardings.specs.Rounds.{IsLeastBelow}
-use Rattle.few_boardings.proofs.FoundLemmas.{few_of, found_below}
+use Rattle.few_boardings.proofs.FoundLemmas.{counting_of, found_below}
 use Rattle.few_boardings.proofs.boardings.least_below.Goals as goal
 
 pub unpacked-requires : goal.unpacked-requires
 unpacked-requires c =
     let n = c.args.network.now in
     let inner = position_meaning c.new-collapsed.result.inner in
-    let walk = rw (c.new-plain.ensures.network, c.deref.ensures.value, c.deref-2.ensures.value, c.new-labels.ensures.same, c.new-labels.ensures.limit) at c.in_ok-best.ensures.walk in
-    rw c.new-plain.ensures.network (walk_is_plain n c.new-plain.result.timetable.now (asked_by c.args.query.now) (counted (collapsed inner) (c.args.limit - 1))
+    let walk = rw (c.new-plain.ensures.network, c.deref.ensures.value, c.deref-2.ensures.value, c.new-labels.ensures.same, c.new-labels.ensures.side, c.new-labels.ensures.limit) at c.in_ok-best.ensures.walk in
+    rw c.new-plain.ensures.network (walk_is_plain n c.new-plain.result.timetable.now (asked_by c.args.query.now) (counted (collapsed inner) AtMost (c.args.limit - 1))
     c.in_ok-starts.starts.items c.in_ok-targets.targets.items c.in_ok-starts.ensures.are c.in_ok-targets.ensures.are _ _ walk)
 
 pub returns : goal.returns
@@ -30,12 +31,12 @@ returns c =
     let same = sym c.new-collapsed.ensures.same in
     let denotes = subst (λ (p : Positions). (word : List ℕ) → Accepts (position_meaning p) word ↔ Denotes q.expr word) same c.in_ok-of.ensures.accepts in
     let collapses = subst (λ (p : Positions). AcceptsCollapsed (position_meaning p)) same c.new-collapsed.ensures.accepts in
-    let few = few_of (form_of q.expr) inner most denotes collapses c.new-labels.ensures.accepts in
-    let walk = rw (c.new-plain.ensures.network, c.deref.ensures.value, c.deref-2.ensures.value, c.new-labels.ensures.same, c.new-labels.ensures.limit) at c.in_ok-best.ensures.walk in
-    let arrival = rw (c.new-plain.ensures.network, c.deref.ensures.value, c.deref-2.ensures.value, c.new-labels.ensures.same, c.new-labels.ensures.limit) at c.in_ok-best.ensures.arrival in
+    let few = counting_of (form_of q.expr) inner AtMost most denotes collapses c.new-labels.ensures.accepts in
+    let walk = rw (c.new-plain.ensures.network, c.deref.ensures.value, c.deref-2.ensures.value, c.new-labels.ensures.same, c.new-labels.ensures.side, c.new-labels.ensures.limit) at c.in_ok-best.ensures.walk in
+    let arrival = rw (c.new-plain.ensures.network, c.deref.ensures.value, c.deref-2.ensures.value, c.new-labels.ensures.same, c.new-labels.ensures.side, c.new-labels.ensures.limit) at c.in_ok-best.ensures.arrival in
     let found = rw c.new-plain.ensures.network at c.in_ok-found.ensures in
     let limit : most + 1 ≡ c.args.limit = let some = c.if-limit-eq0.false in omega arith in
     let small : most ≤ 8 = let few = c.requires.limit in omega arith in
-    let below = found_below n c.known.ensures c.new-plain.result.timetable.now (asked_by q) (counted (collapsed inner) most) most c.in_ok-starts.starts.items c.in_ok-targets.targets.items
+    let below = found_below n c.known.ensures c.new-plain.result.timetable.now (asked_by q) (counted (collapsed inner) AtMost most) most c.in_ok-starts.starts.items c.in_ok-targets.targets.items
     few c.new-plain.ensures.journeys c.in_ok-starts.ensures.are c.in_ok-targets.ensures.are small _ _ _ arrival walk c.requires.soon found in
     subst (λ k. IsLeastBelow n (asked_by q) k c.in_ok-found.found) limit below
