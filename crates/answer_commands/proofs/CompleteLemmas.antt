@@ -1,5 +1,5 @@
 -- A run whose files are there and without fault ends with its work done: each other outcome has a cause that is not there.
-use Rattle.std.proofs.Common.{◌≡◌, ℕ, List, Option, Err, subst}
+use Rattle.std.proofs.Common.{◌≡◌, ℕ, List, Option, None, Some, Err, sym, subst}
 use Rattle.mode_network.specs.NetworkLists.{NetworkLists}
 use Rattle.mode_network.specs.Rules.{IsNetwork}
 use Rattle.journey.specs.declared.verdict.CertFault.TheVariants.{BadLine}
@@ -14,7 +14,10 @@ use Rattle.run_steps.proofs.CertificateComplete.{verified_completes}
 use Rattle.hierarchy.specs.Lists.{HierarchyLists}
 use Rattle.hierarchy_commands.proofs.CompleteLemmas.{named_completes}
 use Rattle.phase_graph.specs.InUse.{IsSoundIfGiven}
+use Rattle.run_steps.proofs.TurnComplete.{in_turn_completes}
 use Rattle.run_steps.proofs.CompleteSteps.{file_completes, network_completes, writes_completes}
+use Rattle.run_steps.specs.Complete.{Files, Completes, IsDoneOrMemory}
+use Rattle.answer_commands.specs.Answers.{WritesSettled}
 use Rattle.answer_commands.specs.Outputs.{best_certificates}
 use Rattle.answer_commands.specs.Complete.{SpellsValid, AnswerCompletes, CertifyCompletes, VerifyCompletes}
 
@@ -32,11 +35,16 @@ holds n rules h sound bytes (claim, text, valid) clause at (other, reads_so, fai
     let both = verdict_is_unique n rules h sound claim verdict.Valid (verdict.Invalid clause at) valid fails_here in
     cc
 
+-- the line `settled` is written, or there is none
+settled_completes : (files : Files) (n : NetworkLists) (h : Option HierarchyLists) (bytes : List ℕ) → Completes files (Unit {0}) (WritesSettled n h bytes)
+settled_completes files n None bytes p old new outcome tells quiet ends = subst IsDoneOrMemory (sym ends.0) tt
+settled_completes files n (Some h) bytes p old new outcome tells quiet wrote = writes_completes files _ _ tt old new outcome tells quiet wrote
+
 -- what can be done is done
 pub answer_completes : AnswerCompletes
 answer_completes caps files region queries hierarchy =
     file_completes files _ region _ _ (network_completes files caps _ _ (λ n rules. named_completes files n hierarchy _ _ (λ h sound.
-    file_completes files _ queries _ _ (λ text. writes_completes files _ _))))
+    in_turn_completes files _ queries _ (WritesSettled n h) (settled_completes files n h))))
 
 pub certify_completes : CertifyCompletes
 certify_completes caps files region query hierarchy =

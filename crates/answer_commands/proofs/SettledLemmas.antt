@@ -1,69 +1,41 @@
 -- The line `settled` behind the blocks of an answer.
-use Rattle.std.proofs.Common.{◌≡◌, ℕ, ◌≤◌, inr, true, List, [], ◌∷◌, ◌++◌, append-nil, take, inl, Option, Some, None, refl, sym}
-use Rattle.std.specs.Prelude.{is_some}
+use Rattle.std.proofs.Common.{◌≡◌, ℕ, inl, true, false, List, ◌∷◌, [], Option, Some, None, refl}
+use Rattle.std.specs.Prelude.{⊤, Result, IfErr, OnOk, is_some}
 use Rattle.plan_base.specs.Shelves.{ShelfMeaning}
 use Rattle.plan_base.specs.Sinks.{SinkMeaning, Appended}
-use Rattle.plan_base.proofs.MoreWritten.{appended_twice}
+use Rattle.plan_base.proofs.MoreWritten.{stays_so}
 use Rattle.mode_network.specs.NetworkLists.{NetworkLists}
 use Rattle.hierarchy.specs.Lists.{HierarchyLists}
-use Rattle.journey.specs.Best.{IsBlock}
-use Rattle.run_steps.specs.Blocks.{AreBlocks, BeginsBlocks, WroteBlocks, AreCounted}
 use Rattle.planning.specs.Settled.{IsSettledBy, Settled}
+use Rattle.run_steps.specs.Blocks.{AreCounted}
 use Rattle.run_steps.specs.declared.outcome.Outcome.{Outcome}
-use Rattle.run_steps.specs.declared.outcome.Outcome.TheVariants.{Done, Usage, Missing, ReadFault, TooLong, WriteFault, BadRegion, BadFeed, Invalid, BadCertificate, BadHierarchy, Unsound, OutOfMemory}
+use Rattle.run_steps.specs.declared.outcome.Outcome.TheVariants.{Done, OutOfMemory}
+use Rattle.run_steps.specs.QueryLines.{query_lines}
 use Rattle.run_steps.specs.Scene.{scene}
-use Rattle.run_steps.specs.Sayings.{HasWritten, Writes}
+use Rattle.run_steps.specs.Sayings.{end_of}
 use Rattle.run_steps.specs.Working.{IsTextOutcome}
-use Rattle.run_steps.proofs.Steps.{rose_over}
-use Rattle.answer_commands.specs.Answers.{IsAnswer, BeginsAnswer, settled_line}
-
--- a front of blocks is one of what `answer` writes
-pub begins : (n : NetworkLists) (h : Option HierarchyLists) (lines : List (List ℕ)) (out : List ℕ) → BeginsBlocks (IsBlock n) lines out → BeginsAnswer n h lines out
-begins n None lines out is = is
-begins n (Some h) lines out is = inl is
+use Rattle.run_steps.proofs.Steps.{text_ends}
+use Rattle.answer_commands.specs.Answers.{IsSettledLine, WritesSettled, settled_line}
 
 -- what was counted is how many labels the searches had
 pub counted_settled : (n : NetworkLists) (h : Option HierarchyLists) (lines : List (List ℕ)) (sum : ℕ) → AreCounted (IsSettledBy n h) lines sum → Settled n h lines sum
 counted_settled n h [] sum none = none
 counted_settled n h (line ∷ lines) sum (count, rest, is, more, e) = (count, rest, is, counted_settled n h lines rest more, e)
 
-all_begin : (n : NetworkLists) (lines : List (List ℕ)) (out : List ℕ) → AreBlocks (IsBlock n) lines out → BeginsBlocks (IsBlock n) lines out
-all_begin n lines out is = record { done = lines; rest = []; whole = out; part = []; lines_are = sym (append-nil lines); blocks = is; next = refl; out_is = sym (append-nil out) }
+module _ (n : NetworkLists) (shelf : ShelfMeaning) (out : SinkMeaning) (bytes : List ℕ) where
+  -- there is none without a hierarchy
+  pub none_settled : (h : Option HierarchyLists) → is_some h ≡ false → WritesSettled n h bytes (scene shelf out) (scene shelf out) Done
+  none_settled None none = (refl, stays_so out)
+  none_settled (Some h) none = absurd (cc)
 
-module _ (n : NetworkLists) (h : Option HierarchyLists) (lines : List (List ℕ)) (before mid after : SinkMeaning) (sum : ℕ) where
-  -- nothing of the line `settled` is written
-  pub settled_lacks : WroteBlocks before mid (IsBlock n) lines → HasWritten (BeginsAnswer n h lines) before mid
-  settled_lacks wrote = record { out = wrote.out; is = begins n h lines wrote.out (all_begin n lines wrote.out wrote.is); appended = wrote.appended }
+  -- it was not made
+  pub unmade_settled : (h : Option HierarchyLists) → is_some h ≡ true → WritesSettled n h bytes (scene shelf out) (scene shelf out) OutOfMemory
+  unmade_settled None some = absurd (cc)
+  unmade_settled (Some h) some = inl (stays_so out)
 
-  -- it is written
-  pub settled_follows : is_some h ≡ true → WroteBlocks before mid (IsBlock n) lines → Settled n h lines sum → Appended mid after (settled_line sum) → HasWritten (IsAnswer n h lines) before after
-  settled_follows some wrote settled appended =
-      record { out = wrote.out ++ settled_line sum; is = whole h some settled; appended = appended_twice before mid after _ _ wrote.appended appended }
-    where
-      whole : (o : Option HierarchyLists) → is_some o ≡ true → Settled n o lines sum → IsAnswer n o lines (wrote.out ++ settled_line sum)
-      whole None some settled = absurd (cc)
-      whole (Some k) some settled = (wrote.out, sum, wrote.is, settled, refl)
-
-  -- a front of it is written
-  pub settled_fails : (old new : ShelfMeaning) → is_some h ≡ true → before.faults ≤ mid.faults → WroteBlocks before mid (IsBlock n) lines → Settled n h lines sum
-      → (outcome : Outcome) → IsTextOutcome mid after (settled_line sum) outcome → Writes (IsAnswer n h lines) (BeginsAnswer n h lines) (scene old before) (scene new after) outcome
-  settled_fails old new some le wrote settled WriteFault (rose, part) = (
-    rose_over before.faults mid.faults after.faults le rose,
-    record { out = wrote.out ++ take part.count (settled_line sum); is = front h some settled; appended = appended_twice before mid after _ _ wrote.appended part.front },
-  )
-    where
-      front : (o : Option HierarchyLists) → is_some o ≡ true → Settled n o lines sum → BeginsAnswer n o lines (wrote.out ++ take part.count (settled_line sum))
-      front None some settled = absurd (cc)
-      front (Some k) some settled = inr (wrote.out, sum, part.count, wrote.is, settled, refl)
-  settled_fails old new some le wrote settled OutOfMemory none = absurd none
-  settled_fails old new some le wrote settled Done none = absurd none
-  settled_fails old new some le wrote settled Usage none = none
-  settled_fails old new some le wrote settled (Missing file) none = none
-  settled_fails old new some le wrote settled (ReadFault file) none = none
-  settled_fails old new some le wrote settled (TooLong file) none = none
-  settled_fails old new some le wrote settled (BadRegion fault) none = none
-  settled_fails old new some le wrote settled (BadFeed fault) none = none
-  settled_fails old new some le wrote settled (Invalid clause at) none = none
-  settled_fails old new some le wrote settled (BadCertificate line) none = none
-  settled_fails old new some le wrote settled (BadHierarchy fault) none = none
-  settled_fails old new some le wrote settled (Unsound clause at by) none = none
+  -- it is written, or a front of it
+  pub settled_ends : (h : Option HierarchyLists) → is_some h ≡ true → (after : SinkMeaning) (sum : ℕ) → Settled n h (query_lines bytes) sum → (result : Result ⊤ Outcome)
+      → OnOk result (Appended out after (settled_line sum)) → IfErr result (IsTextOutcome out after (settled_line sum)) → WritesSettled n h bytes (scene shelf out) (scene shelf after) (end_of result)
+  settled_ends None some after sum settled result ok err = absurd (cc)
+  settled_ends (Some h) some after sum settled result ok err =
+      text_ends shelf shelf out after (IsSettledLine n (Some h) (query_lines bytes)) (settled_line sum) (sum, settled, refl) result ok err

@@ -2,17 +2,19 @@
 use Rattle.std.specs.Prelude.{ℕ, List, Option}
 use Rattle.plan_base.specs.declared.limits.Caps.{Caps}
 use Rattle.run_steps.specs.Certificates.{SaysVerified}
+use Rattle.journey.specs.Best.{IsBlock}
 use Rattle.hierarchy_commands.specs.Commands.{OnHierarchyIfNamed}
 use Rattle.run_steps.specs.declared.outcome.FileRole.TheVariants.{Queries}
 use Rattle.run_steps.specs.Regions.{OnRegion}
-use Rattle.run_steps.specs.Sayings.{Saying, OnFile, WritesText}
-use Rattle.answer_commands.specs.Answers.{WritesAnswer}
+use Rattle.run_steps.specs.InTurn.{InTurn}
+use Rattle.run_steps.specs.Sayings.{Saying, WritesText}
+use Rattle.answer_commands.specs.Answers.{WritesSettled}
 use Rattle.answer_commands.specs.Outputs.{IsCertified, best_certificates}
 
--- `answer` writes a right block for each query line of a file, in order, and with a hierarchy how many labels its searches had
+-- `answer` writes a right block for each query line of a file, in order and as it is read, and with a hierarchy how many labels its searches had
 abbrev pub SaysAnswer : Caps → List ℕ → List ℕ → Option (List ℕ) → Saying
 SaysAnswer caps region queries hierarchy =
-    OnRegion caps region (λ n. OnHierarchyIfNamed n hierarchy (λ h. OnFile Queries queries (WritesAnswer n h)))
+    OnRegion caps region (λ n. OnHierarchyIfNamed n hierarchy (λ h. InTurn Queries queries (IsBlock n) (WritesSettled n h)))
 
 -- `certify` writes a certificate for the query line, or the block of its refusal
 abbrev pub SaysCertify : Caps → List ℕ → List ℕ → Option (List ℕ) → Saying

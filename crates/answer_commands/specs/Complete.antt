@@ -7,7 +7,7 @@ use Rattle.certificate.specs.Texts.{IsCertText}
 use Rattle.certificate.specs.Valid.{IsValid}
 use Rattle.hierarchy.specs.Lists.{HierarchyLists}
 use Rattle.hierarchy_commands.specs.Complete.{IsSoundIfNamed}
-use Rattle.run_steps.specs.Complete.{Files, IsHeld, SpellsNetwork, Completes}
+use Rattle.run_steps.specs.Complete.{Files, AreLinesHeld, IsHeld, SpellsNetwork, Completes}
 use Rattle.answer_commands.specs.Commands.{SaysAnswer, SaysCertify, SaysVerify}
 
 -- the bytes spell a certificate that is valid
@@ -16,7 +16,7 @@ SpellsValid n h bytes = (claim : Claim) × IsCertText bytes claim × IsValid n h
 
 abbrev pub CanAnswer : Caps → Files → List ℕ → List ℕ → Option (List ℕ) → Type 0
 CanAnswer caps files region queries hierarchy =
-    IsHeld files region (SpellsNetwork caps (λ n. IsSoundIfNamed files n hierarchy (λ h. IsHeld files queries (λ text. Unit {0}))))
+    IsHeld files region (SpellsNetwork caps (λ n. IsSoundIfNamed files n hierarchy (λ h. AreLinesHeld files queries)))
 
 abbrev pub CanCertify : Caps → Files → List ℕ → List ℕ → Option (List ℕ) → Type 0
 CanCertify caps files region query hierarchy = IsHeld files region (SpellsNetwork caps (λ n. IsSoundIfNamed files n hierarchy (λ h. Unit {0})))

@@ -4,8 +4,10 @@ ghost use Rattle.std.specs.Prelude.{◌≡◌, IfOk, IfSome, option_map};
 ghost use Rattle.hierarchy.specs.Soundness.{IsSound};
 ghost use Rattle.run_steps.specs.declared.outcome.FileRole.TheVariants.{Queries};
 ghost use Rattle.run_steps.specs.Scene.{scene};
-ghost use Rattle.run_steps.specs.Sayings.{OnFile, end_of};
-ghost use Rattle.answer_commands.specs.Answers.{WritesAnswer, settled_line};
+ghost use Rattle.run_steps.specs.Sayings.{end_of};
+ghost use Rattle.run_steps.specs.InTurn.{InTurn};
+ghost use Rattle.journey.specs.Best.{IsBlock};
+ghost use Rattle.answer_commands.specs.Answers.{WritesSettled, settled_line};
 ghost use Rattle.answer_commands.specs.Commands.{SaysAnswer};
 
 use crate::reading::read_both;
@@ -15,7 +17,7 @@ use plain_texts::push_decimal;
 use plan_base::{Caps, Shelf, Sink};
 use planning::block_of;
 use product_search::Workspace;
-use run_steps::{FileRole, LineBlocks, Outcome, Ports, read_file, write_blocks, write_text};
+use run_steps::{FileRole, LineBlocks, Outcome, Ports, write_in_turn, write_text};
 use std::alloc::{AllocError, Global};
 
 /// The blocks of lines that ask for a best journey, by a hierarchy, if there is one. The labels of searches over it are counted.
@@ -47,8 +49,8 @@ impl LineBlocks for BestBlocks<'_> {
     }
 }
 
-/// Reads the region of this name, the hierarchy, if one is named, and the queries file, and writes the block of each query
-/// line; with a hierarchy the line `settled` follows.
+/// Reads the region of this name and the hierarchy, if one is named, and writes the block of each query line of the queries
+/// file as soon as that has been read whole; with a hierarchy the line `settled` follows.
 pub fn answer<F: Shelf, O: Sink, E: Sink>(
     ports: &mut Ports<F, O, E>,
     region: &str,
@@ -66,8 +68,7 @@ pub fn answer<F: Shelf, O: Sink, E: Sink>(
     answer_over(ports, &network, hierarchy.as_ref(), queries)
 }
 
-/// Reads the queries file of this path, and writes the block of each query line, by the hierarchy, if there is one, which
-/// the line `settled` follows.
+/// Answers the queries file of this path in turn, by the hierarchy, if there is one; then the line `settled` follows.
 fn answer_over<F: Shelf, O: Sink, E: Sink>(
     ports: &mut Ports<F, O, E>,
     network: &Network,
@@ -75,37 +76,17 @@ fn answer_over<F: Shelf, O: Sink, E: Sink>(
     path: &str,
 ) -> Result<(), Outcome>
     requires { IfSome hierarchy (λ h. IsSound network.now h.now) }
-    ensures { OnFile Queries path.now (WritesAnswer network.now (option_map (λ h. h.now) hierarchy.entry))
+    ensures { InTurn Queries path.now (IsBlock network.now) (WritesSettled network.now (option_map (λ h. h.now) hierarchy.entry))
         (scene (F.meaning ports.old.shelf) (O.meaning ports.old.out))
         (scene (F.meaning ports.new.shelf) (O.meaning ports.new.out)) (end_of result) }
 {
-    let role = FileRole::Queries;
-    let text = read_file(ports.alloc, &mut ports.shelf, path, role, &mut ports.notes)?;
-    write_answer(ports, network, hierarchy, path, &text)
-}
-
-/// Writes the block of each query line of a queries file, and behind them, with a hierarchy, how many labels the searches
-/// had. `notes` is told how many lines were answered.
-fn write_answer<F: Shelf, O: Sink, E: Sink>(
-    ports: &mut Ports<F, O, E>,
-    network: &Network,
-    hierarchy: Option<&Hierarchy>,
-    path: &str,
-    text: &[u8],
-) -> Result<(), Outcome>
-    requires { IfSome hierarchy (λ h. IsSound network.now h.now) }
-    ensures { WritesAnswer network.now (option_map (λ h. h.now) hierarchy.entry) text.now
-        (scene (F.meaning ports.old.shelf) (O.meaning ports.old.out))
-        (scene (F.meaning ports.new.shelf) (O.meaning ports.new.out)) (end_of result) }
-{
-    let alloc = ports.alloc;
     let best = BestBlocks { network, hierarchy };
-    let settled = write_blocks(alloc, &best, path, text, &mut ports.out, &mut ports.notes)?;
+    let settled = write_in_turn(ports, &best, FileRole::Queries, path)?;
     if hierarchy.is_some() {
-        let Ok(line) = settled_line(alloc, settled) else {
+        let Ok(line) = settled_line(ports.alloc, settled) else {
             return Err(Outcome::OutOfMemory);
         };
-        write_text(&mut ports.out, &line)?;
+        return write_text(&mut ports.out, &line);
     }
     Ok(())
 }

@@ -58,7 +58,7 @@ fn write_certified<O: Sink>(
 }
 
 /// The text of the certificate of a query line, or its block where the line is refused.
-fn certified(
+pub fn certified(
     alloc: Global,
     network: &Network,
     hierarchy: Option<&Hierarchy>,

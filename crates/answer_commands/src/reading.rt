@@ -13,7 +13,7 @@ use std::alloc::Global;
 
 /// The region of this name, and the hierarchy, if one is named, which is sound for it. If they are not to be had, `notes` is
 /// told why.
-pub(crate) fn read_both<F: Shelf, E: Sink>(
+pub fn read_both<F: Shelf, E: Sink>(
     alloc: Global,
     region: &str,
     hierarchy: Option<&str>,

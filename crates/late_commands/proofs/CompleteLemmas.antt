@@ -11,6 +11,7 @@ use Rattle.late_certificate.specs.Verdicts.{IsLateVerdict}
 use Rattle.late_certificate.proofs.ReadLaws.{again}
 use Rattle.late_certificate.proofs.UniqueLemmas.{late_verdict_is_unique}
 use Rattle.run_steps.proofs.CertificateComplete.{verified_completes}
+use Rattle.run_steps.proofs.TurnComplete.{answers_completes}
 use Rattle.run_steps.proofs.CompleteSteps.{file_completes, network_completes, writes_completes}
 use Rattle.late_commands.specs.Outputs.{late_certificates}
 use Rattle.late_commands.specs.Complete.{SpellsValidLate, FewCompletes, LatestCompletes, CertifyLatestCompletes, VerifyLatestCompletes}
@@ -31,11 +32,11 @@ holds n rules bytes (claim, text, valid) clause at (other, reads_so, fails) =
 -- what can be done is done
 pub few_completes : FewCompletes
 few_completes caps files region queries =
-    file_completes files _ region _ _ (network_completes files caps _ _ (λ n rules. file_completes files _ queries _ _ (λ text. writes_completes files _ _)))
+    file_completes files _ region _ _ (network_completes files caps _ _ (λ n rules. answers_completes files _ queries _))
 
 pub latest_completes : LatestCompletes
 latest_completes caps files region queries =
-    file_completes files _ region _ _ (network_completes files caps _ _ (λ n rules. file_completes files _ queries _ _ (λ text. writes_completes files _ _)))
+    file_completes files _ region _ _ (network_completes files caps _ _ (λ n rules. answers_completes files _ queries _))
 
 pub certify_latest_completes : CertifyLatestCompletes
 certify_latest_completes caps files region query = file_completes files _ region _ _ (network_completes files caps _ _ (λ n rules. writes_completes files _ _))

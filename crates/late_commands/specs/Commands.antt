@@ -4,28 +4,23 @@ use Rattle.plan_base.specs.declared.limits.Caps.{Caps}
 use Rattle.run_steps.specs.Certificates.{SaysVerified}
 use Rattle.few_boardings.specs.Blocks.{IsFewBlock}
 use Rattle.latest_departure.specs.Blocks.{IsLateBlock}
-use Rattle.run_steps.specs.QueryLines.{query_lines}
-use Rattle.run_steps.specs.Blocks.{BlockRule, AreBlocks, BeginsBlocks}
+use Rattle.run_steps.specs.InTurn.{AnswersFile}
 use Rattle.run_steps.specs.declared.outcome.FileRole.TheVariants.{Queries}
 use Rattle.run_steps.specs.Regions.{OnRegion}
-use Rattle.run_steps.specs.Sayings.{Saying, OnFile, Writes, WritesText}
+use Rattle.run_steps.specs.Sayings.{Saying, WritesText}
 use Rattle.late_commands.specs.Outputs.{IsLateCertified, late_certificates}
 
 -- nothing is counted for a line
 abbrev pub CountsNothing : List ℕ → ℕ → Type 0
 CountsNothing line count = count ≡ 0
 
--- a right block of each query line of a queries file is written, in order; or right blocks of the first lines, and a front of the next line's
-abbrev pub WritesBlocks : BlockRule → List ℕ → Saying
-WritesBlocks IsBlock text = Writes (AreBlocks IsBlock (query_lines text)) (BeginsBlocks IsBlock (query_lines text))
-
 -- `few` writes for each query line the block of its boardings list
 abbrev pub SaysFew : Caps → List ℕ → List ℕ → Saying
-SaysFew caps region queries = OnRegion caps region (λ n. OnFile Queries queries (WritesBlocks (IsFewBlock n)))
+SaysFew caps region queries = OnRegion caps region (λ n. AnswersFile Queries queries (IsFewBlock n))
 
 -- `latest` writes for each query line its late block
 abbrev pub SaysLatest : Caps → List ℕ → List ℕ → Saying
-SaysLatest caps region queries = OnRegion caps region (λ n. OnFile Queries queries (WritesBlocks (IsLateBlock n)))
+SaysLatest caps region queries = OnRegion caps region (λ n. AnswersFile Queries queries (IsLateBlock n))
 
 -- `certify-latest` writes a late certificate for the query line, or the block of its refusal
 abbrev pub SaysCertifyLatest : Caps → List ℕ → List ℕ → Saying

@@ -4,7 +4,7 @@ use Rattle.plan_base.specs.declared.limits.Caps.{Caps}
 use Rattle.mode_network.specs.NetworkLists.{NetworkLists}
 use Rattle.latest_departure.specs.ValidLate.{LateClaim, IsValidLate}
 use Rattle.late_certificate.specs.Texts.{IsLateText}
-use Rattle.run_steps.specs.Complete.{Files, IsHeld, SpellsNetwork, Completes}
+use Rattle.run_steps.specs.Complete.{Files, AreLinesHeld, IsHeld, SpellsNetwork, Completes}
 use Rattle.late_commands.specs.Commands.{SaysFew, SaysLatest, SaysCertifyLatest, SaysVerifyLatest}
 
 -- the bytes spell a late certificate that is valid
@@ -12,10 +12,10 @@ abbrev pub SpellsValidLate : NetworkLists → List ℕ → Type 0
 SpellsValidLate n bytes = (claim : LateClaim) × IsLateText bytes claim × IsValidLate n claim
 
 abbrev pub CanFew : Caps → Files → List ℕ → List ℕ → Type 0
-CanFew caps files region queries = IsHeld files region (SpellsNetwork caps (λ n. IsHeld files queries (λ text. Unit {0})))
+CanFew caps files region queries = IsHeld files region (SpellsNetwork caps (λ n. AreLinesHeld files queries))
 
 abbrev pub CanLatest : Caps → Files → List ℕ → List ℕ → Type 0
-CanLatest caps files region queries = IsHeld files region (SpellsNetwork caps (λ n. IsHeld files queries (λ text. Unit {0})))
+CanLatest caps files region queries = IsHeld files region (SpellsNetwork caps (λ n. AreLinesHeld files queries))
 
 abbrev pub CanCertifyLatest : Caps → Files → List ℕ → List ℕ → Type 0
 CanCertifyLatest caps files region query = IsHeld files region (SpellsNetwork caps (λ n. Unit {0}))

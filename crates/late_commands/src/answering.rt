@@ -1,16 +1,15 @@
 //! The commands `few` and `latest`: the block of each query line of a file.
 
-ghost use Rattle.run_steps.specs.declared.outcome.FileRole.TheVariants.{Queries};
 ghost use Rattle.run_steps.specs.Scene.{scene};
-ghost use Rattle.run_steps.specs.Sayings.{OnFile, end_of};
-ghost use Rattle.late_commands.specs.Commands.{SaysFew, SaysLatest, WritesBlocks};
+ghost use Rattle.run_steps.specs.Sayings.{end_of};
+ghost use Rattle.late_commands.specs.Commands.{SaysFew, SaysLatest};
 
 use few_boardings::few_block;
 use latest_departure::{Backwards, late_block};
 use mode_network::Network;
 use plan_base::{Caps, Shelf, Sink};
 use product_search::Workspace;
-use run_steps::{FileRole, LineBlocks, Outcome, Ports, read_file, read_region, write_blocks};
+use run_steps::{FileRole, LineBlocks, Outcome, Ports, answer_file, read_region};
 use std::alloc::{AllocError, Global};
 
 /// The blocks of lines that ask for the journeys that are worth their boardings.
@@ -63,8 +62,8 @@ impl LineBlocks for LateBlocks<'_> {
     }
 }
 
-/// Reads the region and the queries file of these names, and writes for each query line the block of the journeys that are
-/// worth their boardings.
+/// Reads the region of this name, and writes for each query line of the queries file, as soon as that has been read whole, the
+/// block of the journeys that are worth their boardings.
 pub fn few<F: Shelf, O: Sink, E: Sink>(
     ports: &mut Ports<F, O, E>,
     region: &str,
@@ -83,10 +82,11 @@ pub fn few<F: Shelf, O: Sink, E: Sink>(
         &mut ports.notes,
     )?;
     let few = FewBlocks { network: &network };
-    answer_file(ports, &few, queries)
+    answer_file(ports, &few, FileRole::Queries, queries)
 }
 
-/// Reads the region and the queries file of these names, and writes for each query line the block of the latest departure.
+/// Reads the region of this name, and writes for each query line of the queries file, as soon as that has been read whole, the
+/// block of the latest departure.
 pub fn latest<F: Shelf, O: Sink, E: Sink>(
     ports: &mut Ports<F, O, E>,
     region: &str,
@@ -110,29 +110,5 @@ pub fn latest<F: Shelf, O: Sink, E: Sink>(
     let late = LateBlocks {
         backwards: &backwards,
     };
-    answer_file(ports, &late, queries)
-}
-
-/// Reads the queries file of this path, and writes a right block of each query line, of which nothing is counted.
-fn answer_file<B: LineBlocks, F: Shelf, O: Sink, E: Sink>(
-    ports: &mut Ports<F, O, E>,
-    blocks: &B,
-    path: &str,
-) -> Result<(), Outcome>
-    requires { B.may blocks.now }
-    ensures { OnFile Queries path.now (WritesBlocks (B.is_block blocks.now))
-        (scene (F.meaning ports.old.shelf) (O.meaning ports.old.out))
-        (scene (F.meaning ports.new.shelf) (O.meaning ports.new.out)) (end_of result) }
-{
-    let role = FileRole::Queries;
-    let text = read_file(ports.alloc, &mut ports.shelf, path, role, &mut ports.notes)?;
-    write_blocks(
-        ports.alloc,
-        blocks,
-        path,
-        &text,
-        &mut ports.out,
-        &mut ports.notes,
-    )?;
-    Ok(())
+    answer_file(ports, &late, FileRole::Queries, queries)
 }

@@ -42,14 +42,14 @@ fn write_certified<O: Sink>(
 ) -> Result<(), Outcome>
     ensures { (old new : ShelfMeaning) → WritesText (IsLateCertified network.now line.now) (scene old (O.meaning out.old)) (scene new (O.meaning out.new)) (end_of result) }
 {
-    let Ok(text) = certified(alloc, network, line) else {
+    let Ok(text) = certified_late(alloc, network, line) else {
         return Err(Outcome::OutOfMemory);
     };
     write_text(out, &text)
 }
 
 /// The text of the late certificate of a query line, or its block where the line is refused.
-fn certified(alloc: Global, network: &Network, line: &[u8]) -> Result<Vec<u8>, AllocError>
+pub fn certified_late(alloc: Global, network: &Network, line: &[u8]) -> Result<Vec<u8>, AllocError>
     ensures { IfOk result (λ text. IsLateCertified network.now line.now text.items) }
 {
     match read_query(alloc, network, line) {

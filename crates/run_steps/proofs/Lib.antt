@@ -1,6 +1,9 @@
 pub mod Steps
 pub mod CompleteSteps
-pub mod BlockLemmas
-pub mod BlockOutcomes
+pub mod JoinLemmas
+pub mod LineLemmas
+pub mod TurnLemmas
+pub mod PieceLemmas
+pub mod TurnComplete
 pub mod CertificateOutcomes
 pub mod CertificateComplete

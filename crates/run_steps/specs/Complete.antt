@@ -1,5 +1,6 @@
 -- When a run does all of its work: its files are there and without fault, and nothing failed.
-use Rattle.std.specs.Prelude.{◌≡◌, ℕ, ◌≤◌, ⊤, List, length, Option, Some, Ok}
+use Rattle.std.specs.Prelude.{◌≡◌, ℕ, ◌<◌, ◌≤◌, ⊤, List, length, All, Option, Some, Ok}
+use Rattle.plain_texts.specs.Lines.{lines_of}
 use Rattle.plan_base.specs.Counts.{Rose}
 use Rattle.plan_base.specs.declared.limits.Caps.{Caps}
 use Rattle.mode_network.specs.NetworkLists.{NetworkLists}
@@ -8,6 +9,7 @@ use Rattle.run_steps.specs.declared.outcome.Outcome.{Outcome}
 use Rattle.run_steps.specs.declared.outcome.Outcome.TheVariants.{Done, OutOfMemory}
 use Rattle.run_steps.specs.Scene.{Scene}
 use Rattle.run_steps.specs.Sayings.{Saying, most_bytes}
+use Rattle.run_steps.specs.InTurn.{IsShort, most_places}
 
 -- what a shelf that tells holds under each name
 abbrev pub Files : Type 0
@@ -19,6 +21,13 @@ pub record IsHeld (files : Files) (name : List ℕ) (P : List ℕ → Type 0) : 
   pub held : files name ≡ Some bytes
   pub within : length bytes ≤ most_bytes
   pub fine : P bytes
+
+-- a file of this name is there, and no line of it has too many bytes; whole it may have as many as have a place
+pub record AreLinesHeld (files : Files) (name : List ℕ) : Type 0 where
+  pub bytes : List ℕ
+  pub held : files name ≡ Some bytes
+  pub short : All IsShort (lines_of bytes)
+  pub counted : length bytes < most_places
 
 -- the bytes spell a network within the limits that has P
 abbrev pub SpellsNetwork : Caps → (NetworkLists → Type 0) → List ℕ → Type 0

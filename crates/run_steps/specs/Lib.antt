@@ -3,9 +3,11 @@ pub mod Sayings
 pub mod Regions
 pub mod QueryLines
 pub mod Blocks
+pub mod InTurn
 pub mod Certificates
 pub mod Complete
 pub mod Statuses
 pub mod Working
 pub mod BlockCauses
+pub mod TurnCauses
 pub mod CertificateCauses

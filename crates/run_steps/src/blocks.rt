@@ -1,15 +1,7 @@
-//! Writing the block of each query line.
+//! The blocks of lines.
 
-ghost use Rattle.std.specs.Prelude.{◌≡◌, ◌≤◌, ℕ, List, IfOk, IfErr, OnOk};
-ghost use Rattle.run_steps.specs.QueryLines.{query_lines};
-ghost use Rattle.run_steps.specs.Blocks.{WroteBlock, WroteBlocks, AreCounted};
-ghost use Rattle.run_steps.specs.BlockCauses.{IsBlockOutcome, IsBlocksOutcome};
+ghost use Rattle.std.specs.Prelude.{ℕ, List, IfOk};
 
-use crate::lines::{as_query, without_return};
-use crate::outcome::Outcome;
-use crate::tally::Tally;
-use plain_texts::split_line;
-use plan_base::{Sink, write_all};
 use product_search::Workspace;
 use std::alloc::{AllocError, Global};
 
@@ -34,64 +26,10 @@ pub trait LineBlocks {
         requires { may self.now }
         ensures block { IfOk result (λ it. is_block self.now line.now it.0.items) }
         ensures count { IfOk result (λ it. counts self.now line.now it.1) };
-}
 
-/// Writes a right block of each query line of a queries file, and answers the sum of what is counted for them.
-///
-/// `notes` is told how many lines were answered, had no journey and were refused, and which line, of the file of this
-/// path, is the first that was refused.
-pub fn write_blocks<B: LineBlocks, O: Sink, E: Sink>(
-    alloc: Global,
-    blocks: &B,
-    path: &str,
-    text: &[u8],
-    out: &mut O,
-    notes: &mut E,
-) -> Result<u128, Outcome>
-    requires { B.may blocks.now }
-    ensures later { (O.meaning out.old).faults ≤ (O.meaning out.new).faults }
-    ensures ok { OnOk result (WroteBlocks (O.meaning out.old) (O.meaning out.new) (B.is_block blocks.now) (query_lines text.now)) }
-    ensures sum { IfOk result (AreCounted (B.counts blocks.now) (query_lines text.now)) }
-    ensures err { IfErr result (IsBlocksOutcome (O.meaning out.old) (O.meaning out.new) (B.is_block blocks.now) (query_lines text.now)) }
-{
-    let mut workspace = Workspace::new(alloc);
-    let mut tally = Tally::new();
-    let mut rest = text;
-    let mut sum: u128 = 0;
-    while let Some((line, after)) = split_line(rest) {
-        tally.next_line();
-        if let Some(query) = as_query(without_return(line)) {
-            let count = write_block(alloc, blocks, &mut workspace, &mut tally, query, out)?;
-            sum += u128::from(count);
-        }
-        rest = after;
+    /// What people call what is written for a line, so that they are told how many lines have it. None for the block of a
+    /// query, of which they are told whether there is a journey.
+    fn called(&self) -> Option<&'static str> {
+        None
     }
-    tally.tell(alloc, path, notes);
-    Ok(sum)
-}
-
-/// Writes a right block of a query line, and answers what is counted for it.
-fn write_block<B: LineBlocks, O: Sink>(
-    alloc: Global,
-    blocks: &B,
-    workspace: &mut Workspace,
-    tally: &mut Tally,
-    line: &[u8],
-    out: &mut O,
-) -> Result<u64, Outcome>
-    requires { B.may blocks.now }
-    ensures later { (O.meaning out.old).faults ≤ (O.meaning out.new).faults }
-    ensures ok { OnOk result (WroteBlock (O.meaning out.old) (O.meaning out.new) (B.is_block blocks.now line.now)) }
-    ensures count { IfOk result (B.counts blocks.now line.now) }
-    ensures err { IfErr result (IsBlockOutcome (O.meaning out.old) (O.meaning out.new) (B.is_block blocks.now line.now)) }
-{
-    let Ok((block, count)) = blocks.block_of(alloc, workspace, line) else {
-        return Err(Outcome::OutOfMemory);
-    };
-    match write_all(out, &block) {
-        Ok(()) => {}
-        Err(_) => return Err(Outcome::WriteFault),
-    }
-    tally.note(alloc, &block);
-    Ok(count)
 }

@@ -13,7 +13,7 @@ use plan_base::{Caps, ReadFault, Shelf, Sink, read_whole};
 use region_file::{RegionFault, decode};
 use std::alloc::{AllocError, Global};
 
-/// The most bytes that a file may have.
+/// The most bytes that a file may have, and a line of one that is answered in turn.
 pub const MOST_BYTES: u64 = 1 << 30;
 
 /// A file, whole. If it can't be had, `notes` is told why.
@@ -94,9 +94,12 @@ fn unread(
             format!(in alloc; "{path}: there is no such file; it should be the {role} file")
         }
         ReadFault::Failed => format!(in alloc; "{path}: the {role} file can't be read"),
-        ReadFault::TooLong { .. } => format!(in alloc;
-            "{path}: the {role} file has more than 2^30 bytes, which is the most that is read"
-        ),
+        ReadFault::TooLong { cap } => {
+            let power = cap.trailing_zeros();
+            format!(in alloc;
+                "{path}: the {role} file has more than 2^{power} bytes, which is the most that is read"
+            )
+        }
         ReadFault::OutOfMemory => format!(in alloc; "memory ran out"),
     }
 }

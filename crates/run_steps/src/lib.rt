@@ -1,5 +1,5 @@
 //! What all commands are made of: how a run ends, and what is said of it by its outcome; reading files and regions, writing
-//! texts, and telling people; a block for each query line of a file; and what the certificate of a file shows.
+//! texts, and telling people; answering a file in turn, line by line; and what the certificate of a file shows.
 //!
 //! Commands differ in which block of a line is right, and kinds of certificates in their text, their clauses and what they show.
 //! These are ghost members of the traits `LineBlocks` and `Certificates`; writing is proved once, over any of them.
@@ -8,6 +8,7 @@
 mod blocks;
 mod certificates;
 mod files;
+mod in_turn;
 mod lines;
 mod notes;
 pub mod outcome;
@@ -15,9 +16,10 @@ pub mod ports;
 mod tally;
 mod texts;
 
-pub use blocks::{LineBlocks, write_blocks};
+pub use blocks::LineBlocks;
 pub use certificates::{Certificates, write_verified};
 pub use files::{MOST_BYTES, read_file, read_file_if_there, read_region, refused};
+pub use in_turn::{answer_file, write_in_turn};
 pub use notes::tell;
 pub use outcome::{FileRole, Outcome, SourceFault};
 pub use ports::Ports;

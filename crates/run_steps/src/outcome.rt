@@ -19,6 +19,12 @@ pub enum FileRole {
     Opl,
     /// A table of its timetable feed.
     Feed(FeedFile),
+    /// Lines that are each a command and its words.
+    Requests,
+    /// The rows of a table of times.
+    Origins,
+    /// Its columns.
+    Destinations,
 }
 
 impl FileRole {
@@ -31,6 +37,9 @@ impl FileRole {
             FileRole::Certificate => "certificate",
             FileRole::Opl => "map",
             FileRole::Feed(file) => file.name(),
+            FileRole::Requests => "requests",
+            FileRole::Origins => "origins",
+            FileRole::Destinations => "destinations",
         }
     }
 }
@@ -54,7 +63,7 @@ pub enum Outcome {
     Missing { file: FileRole },
     /// The file could not be read.
     ReadFault { file: FileRole },
-    /// The file has more than 2^30 bytes.
+    /// The file has more than 2^30 bytes; or, where it is answered in turn, a line of it has.
     TooLong { file: FileRole },
     /// Standard output could not be written.
     WriteFault,

@@ -59,12 +59,36 @@ impl Tally {
         }
     }
 
-    /// Tells people what was counted.
-    pub(crate) fn tell<E: Sink>(&self, alloc: Global, path: &str, notes: &mut E) {
-        tell(alloc, notes, self.sums(alloc));
+    /// How many lines of the file were looked at.
+    pub(crate) fn lines(&self) -> u64 {
+        self.line
+    }
+
+    /// Tells people what was counted: how many lines have what is called so, or else how many have a journey, and which line
+    /// of the file of this path is the first that was refused.
+    pub(crate) fn tell<E: Sink>(
+        &self,
+        alloc: Global,
+        path: &str,
+        called: Option<&str>,
+        notes: &mut E,
+    ) {
+        let sums = match called {
+            Some(called) => self.sum_of(alloc, called),
+            None => self.sums(alloc),
+        };
+        tell(alloc, notes, sums);
         if let Some((line, refusal)) = &self.first {
             tell(alloc, notes, first_refused(alloc, path, *line, refusal));
         }
+    }
+
+    fn sum_of(&self, alloc: Global, called: &str) -> Result<String, AllocError> {
+        let lines = self
+            .answered
+            .saturating_add(self.without)
+            .saturating_add(self.refused);
+        format!(in alloc; "{lines} lines were answered with {called}")
     }
 
     fn sums(&self, alloc: Global) -> Result<String, AllocError> {

@@ -5,15 +5,17 @@ use Rattle.plan_base.proofs.MoreWritten.{stays_so}
 use Rattle.hierarchy.specs.Lists.{HierarchyLists}
 use Rattle.mode_network.specs.NetworkLists.{NetworkLists}
 use Rattle.run_steps.specs.declared.outcome.FileRole.TheVariants.{Queries}
-use Rattle.run_steps.specs.Sayings.{Saying, OnFile}
-use Rattle.answer_commands.specs.Answers.{WritesAnswer}
+use Rattle.run_steps.specs.InTurn.{InTurn}
+use Rattle.run_steps.specs.Sayings.{Saying}
+use Rattle.journey.specs.Best.{IsBlock}
+use Rattle.answer_commands.specs.Answers.{WritesSettled}
 use Rattle.answer_commands.proofs.BothLemmas.{both_fail, on_both}
 use Rattle.answer_commands.proofs.LentLemmas.{lent_sound}
 use Rattle.answer_commands.proofs.answering.answer.Goals as goal
 
 -- what is said behind the region and the hierarchy
 abbrev told : List ℕ → NetworkLists → Option HierarchyLists → Saying
-told queries n h = OnFile Queries queries (WritesAnswer n h)
+told queries n h = InTurn Queries queries (IsBlock n) (WritesSettled n h)
 
 pub answer_over-requires : goal.answer_over-requires
 answer_over-requires g c = lent_sound c.in_ok-network.network c.as_ref.result c.in_ok-network.hierarchy c.as_ref.ensures.value c.in_ok-network.ensures.sound
