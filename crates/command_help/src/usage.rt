@@ -9,8 +9,8 @@ use command_words::{format_of, read_eight, read_keep, read_number, read_size};
 use service_days::{Days, RangeFault};
 use std::alloc::{AllocError, Global};
 
-/// The version of the program.
-pub const VERSION: &str = "1.0";
+/// The version of the program, and the kit with which it was proved, as `rt version` says it.
+pub const VERSION: &str = "1.0 (rattle-kit-13f logic dac8208d650f15bf)";
 
 /// What people are told whose words ask for no command: help, the version, or which word is wrong and what would be right.
 pub fn help(alloc: Global, words: &[String]) -> Result<String, AllocError> {

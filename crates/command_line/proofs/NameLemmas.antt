@@ -124,3 +124,7 @@ is_certify_latest = record { met = refl; quiet = refl; is = refl }
 pub is_verify_latest : IsBelow (codes "verify-latest") (leaf (codes "verify-latest") two [])
 unfolding clap_on_literals
 is_verify_latest = record { met = refl; quiet = refl; is = refl }
+
+pub is_requests : IsBelow (codes "requests") (leaf (codes "requests") two (codes "hierarchy" ∷ []))
+unfolding clap_on_literals
+is_requests = record { met = refl; quiet = refl; is = refl }

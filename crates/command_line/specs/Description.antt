@@ -54,9 +54,13 @@ latest_commands =
     ∷ command_of (codes "verify-latest") two []
     ∷ []
 
+-- the commands that answer many kinds of lines
+abbrev pub many_commands : List Shape
+many_commands = command_of (codes "requests") two (codes "hierarchy" ∷ []) ∷ []
+
 -- the program, with these commands
 abbrev pub modeplan : App
-modeplan = fold with_subcommand (new_app (codes "modeplan")) (region_commands ++ earliest_commands ++ latest_commands)
+modeplan = fold with_subcommand (new_app (codes "modeplan")) (region_commands ++ earliest_commands ++ latest_commands ++ many_commands)
 
 -- what `clap` is told of is this command, which has no command below it
 abbrev pub IsTold : Command → Shape → Type 0

@@ -3,7 +3,7 @@
 ghost use Rattle.std.specs.Prelude.{◌≡◌, ◌++◌, ◌∷◌, [], IfOk, codes, false, fold};
 ghost use Rattle.clap.specs.Words.{Shape, Text, app_of, new_app, rule_of, with_subcommand};
 ghost use Rattle.clap.specs.declared.builder.command.Command.TheViews.{out-Command as fields_of};
-ghost use Rattle.command_line.specs.Description.{IsTold, command_of, earliest_commands, four, latest_commands, modeplan, one, option, region_commands, two, word};
+ghost use Rattle.command_line.specs.Description.{IsTold, command_of, earliest_commands, four, latest_commands, many_commands, modeplan, one, option, region_commands, two, word};
 
 use clap::{Arg, ArgAction, Command};
 use std::alloc::{AllocError, Global};
@@ -50,6 +50,8 @@ pub const KEPT: &str =
 pub const SIZE: &str = "How many rows and columns the city has, from 1 to 300";
 
 const CLAIM: &str = "The certificate file";
+
+const REQUESTS: &str = "The file of lines, each a command's name, a space, and its words";
 
 const QUERY: &str = "The query line, as one word: \"FROM TO DATE TIME EXPR\"";
 
@@ -340,6 +342,20 @@ fn verify_latest<'a>(alloc: Global) -> Result<Command<'a>, AllocError>
     )
 }
 
+/// The command that answers lines which begin with a command's name.
+fn requests<'a>(alloc: Global) -> Result<Command<'a>, AllocError>
+    ensures { IfOk result (λ c. IsTold c (command_of (codes "requests") two (codes "hierarchy" ∷ []))) }
+{
+    let about =
+        "Answer each line of a file or a pipe as it comes, by the command that the line begins with";
+    let example =
+        "Example: echo \"answer n101 n103 20240304 08:00:00 foot\" | modeplan requests town /dev/stdin";
+    with_hierarchy(
+        alloc,
+        over_two(alloc, "requests", about, example, "FILE", REQUESTS)?,
+    )
+}
+
 /// The program with one more command, if memory sufficed for that.
 fn with_command<'a>(
     program: Command<'a>,
@@ -383,6 +399,13 @@ fn with_latest_commands<'a>(alloc: Global, program: Command<'a>) -> Result<Comma
     with_command(program, verify_latest(alloc))
 }
 
+/// The program with the commands that answer many kinds of lines.
+fn with_many_commands<'a>(alloc: Global, program: Command<'a>) -> Result<Command<'a>, AllocError>
+    ensures { IfOk result (λ p. app_of p ≡ fold with_subcommand (app_of program.entry) many_commands) }
+{
+    with_command(program, requests(alloc))
+}
+
 /// The program.
 pub fn modeplan<'a>(alloc: Global) -> Result<Command<'a>, AllocError>
     ensures { IfOk result (λ p. app_of p ≡ modeplan) }
@@ -392,5 +415,6 @@ pub fn modeplan<'a>(alloc: Global) -> Result<Command<'a>, AllocError>
     let program = named(alloc, "modeplan", about, MORE).bin_name("modeplan")?;
     let program = with_region_commands(alloc, program)?;
     let program = with_earliest_commands(alloc, program)?;
-    with_latest_commands(alloc, program)
+    let program = with_latest_commands(alloc, program)?;
+    with_many_commands(alloc, program)
 }

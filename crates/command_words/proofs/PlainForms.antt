@@ -5,9 +5,9 @@ use Rattle.clap.specs.Words.{Row, Text}
 use Rattle.service_days.specs.DaysMeaning.{DaysMeaning}
 use Rattle.region_file.specs.declared.format.Format.{Format}
 use Rattle.region_file.specs.declared.format.Format.TheVariants.{Binary}
-use Rattle.command_line.proofs.NameLemmas.{IsFoundAt, found_at, is_compile, is_migrate, is_contract, is_check, is_sample, is_answer, is_certify, is_verify, is_few, is_latest, is_certify_latest, is_verify_latest}
+use Rattle.command_line.proofs.NameLemmas.{IsFoundAt, found_at, is_compile, is_migrate, is_contract, is_check, is_sample, is_answer, is_certify, is_verify, is_few, is_latest, is_certify_latest, is_verify_latest, is_requests}
 use Rattle.command_line.proofs.PlainLemmas.{found, found_options, reads_one, reads_format, reads_keep, reads_two, reads_hierarchy, reads_four}
-use Rattle.command_words.specs.Requests.{AsksFor, IsPlainForm, Request, compile, migrate, contract, answer, certify, verify, check, sample, latest, certify_latest, verify_latest, few, days_and_format, format_or, keep_or_none, request_at, size_of}
+use Rattle.command_words.specs.Requests.{AsksFor, IsPlainForm, Request, compile, migrate, contract, answer, certify, verify, check, sample, latest, certify_latest, verify_latest, few, requests, days_and_format, format_or, keep_or_none, request_at, size_of}
 
 asks_for : (words : List Text) (program name : Text) (given : List Text) (rows : List Row) (r : Request) → words ≡ program ∷ name ∷ given
     → IsFoundAt (program ∷ name ∷ given) name rows → request_at name rows ≡ Some r → AsksFor words r
@@ -56,6 +56,10 @@ compiles a b d e None (Some z) days format is = ap (option_map (λ (it : DaysMea
 compiles a b d e (Some v) None days format is = ap (option_map (λ (it : DaysMeaning × Format). compile a b it.0 it.1)) is
 compiles a b d e (Some v) (Some z) days format is = ap (option_map (λ (it : DaysMeaning × Format). compile a b it.0 it.1)) is
 
+replies : (a b : Text) (said : Option Text) → request_at (codes "requests") (over a b said) ≡ Some (requests a b said)
+replies a b None = refl
+replies a b (Some v) = refl
+
 pub plain_asks : (words : List Text) (r : Request) → IsPlainForm words r → AsksFor words r
 plain_asks words (compile map feed days format) (date, count, named, rule, f, is) =
     asks_for words f.program (codes "compile") _ _ _ f.are
@@ -90,3 +94,6 @@ plain_asks words (verify_latest region certificate) f =
     (found_at _ _ _ _ is_verify_latest (reads_two (codes "verify-latest") region certificate f.plain) f.program) refl
 plain_asks words (few region queries) f =
     asks_for words f.program (codes "few") _ _ _ f.are (found_at _ _ _ _ is_few (reads_two (codes "few") region queries f.plain) f.program) refl
+plain_asks words (requests region lines hierarchy) f =
+    asks_for words f.program (codes "requests") _ _ _ f.are
+    (found_at _ _ _ _ is_requests (reads_hierarchy (codes "requests") region lines hierarchy f.plain) f.program) (replies region lines hierarchy)

@@ -27,6 +27,7 @@ pub data Request : Type 0 where
   certify_latest : (region query : List ℕ) → Request
   verify_latest : (region certificate : List ℕ) → Request
   few : (region queries : List ℕ) → Request
+  requests : (region lines : List ℕ) (hierarchy : Option (List ℕ)) → Request
 
 -- what a command of the program asks for
 abbrev pub request_of : Command → Request
@@ -42,6 +43,7 @@ request_of (command.Latest region queries) = latest region.now queries.now
 request_of (command.CertifyLatest region query) = certify_latest region.now query.now
 request_of (command.VerifyLatest region certificate) = verify_latest region.now certificate.now
 request_of (command.Few region queries) = few region.now queries.now
+request_of (command.Requests region lines hierarchy) = requests region.now lines.now (option_map (λ h. h.now) hierarchy)
 
 -- a number is 1 to 8 digits
 abbrev pub number_of : List ℕ → Option ℕ
@@ -131,6 +133,9 @@ certify_latest_at rows = option_map (λ two. certify_latest two.0 two.1) (two_at
 abbrev pub verify_latest_at : List Row → Option Request
 verify_latest_at rows = option_map (λ two. verify_latest two.0 two.1) (two_at rows)
 
+abbrev pub requests_at : List Row → Option Request
+requests_at rows = option_map (λ two. requests two.0 two.1 (first_of (codes "hierarchy") rows)) (two_at rows)
+
 -- the commands by their names
 abbrev pub commands : List (List ℕ × (List Row → Option Request))
 commands =
@@ -146,6 +151,7 @@ commands =
     ∷ (codes "latest", latest_at)
     ∷ (codes "certify-latest", certify_latest_at)
     ∷ (codes "verify-latest", verify_latest_at)
+    ∷ (codes "requests", requests_at)
     ∷ []
 
 -- what the command of this name asks for
@@ -182,3 +188,4 @@ IsPlainForm words (latest region queries) = IsInForm words (codes "latest") (reg
 IsPlainForm words (certify_latest region query) = IsInForm words (codes "certify-latest") (region ∷ query ∷ []) []
 IsPlainForm words (verify_latest region certificate) = IsInForm words (codes "verify-latest") (region ∷ certificate ∷ []) []
 IsPlainForm words (few region queries) = IsInForm words (codes "few") (region ∷ queries ∷ []) []
+IsPlainForm words (requests region lines hierarchy) = IsInForm words (codes "requests") (region ∷ lines ∷ []) ((codes "--hierarchy", hierarchy) ∷ [])

@@ -70,4 +70,10 @@ pub enum Command<'a> {
         region: &'a str,
         queries: &'a str,
     },
+    /// The reply to each line of a file, by the command that it begins with, and by a hierarchy, if one is given.
+    Requests {
+        region: &'a str,
+        lines: &'a str,
+        hierarchy: Option<&'a str>,
+    },
 }

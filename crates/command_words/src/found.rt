@@ -2,7 +2,7 @@
 
 ghost use Rattle.std.specs.Prelude.{◌≡◌, Err, IfOk, None, Some, option_map};
 ghost use Rattle.clap.specs.Words.{first_of, found_of, rows_of};
-ghost use Rattle.command_words.specs.Requests.{answer_at, certify_at, certify_latest_at, check_at, compile_at, contract_at, days_and_format_at, few_at, latest_at, migrate_at, request_at, request_of, sample_at, two_at, verify_at, verify_latest_at};
+ghost use Rattle.command_words.specs.Requests.{answer_at, certify_at, certify_latest_at, check_at, compile_at, contract_at, days_and_format_at, few_at, latest_at, migrate_at, request_at, request_of, requests_at, sample_at, two_at, verify_at, verify_latest_at};
 ghost use Rattle.command_words.specs.declared.fault.WordsFault.TheVariants.{Refused};
 
 use crate::command::Command;
@@ -36,6 +36,7 @@ pub fn named<'a>(
         "latest" => latest(given).ok_or(WordsFault::Refused),
         "certify-latest" => certify_latest(given).ok_or(WordsFault::Refused),
         "verify-latest" => verify_latest(given).ok_or(WordsFault::Refused),
+        "requests" => requests(given).ok_or(WordsFault::Refused),
         _ => Err(WordsFault::Refused),
     }
 }
@@ -191,5 +192,17 @@ fn verify_latest<'a>(given: &ArgMatches<'a>) -> Option<Command<'a>>
     Some(Command::VerifyLatest {
         region,
         certificate,
+    })
+}
+
+/// Lines that begin with a command's name, to be answered.
+fn requests<'a>(given: &ArgMatches<'a>) -> Option<Command<'a>>
+    ensures { option_map request_of result ≡ requests_at (rows_of (found_of given.now)) }
+{
+    let (region, lines) = two(given)?;
+    Some(Command::Requests {
+        region,
+        lines,
+        hierarchy: said(given, HIERARCHY),
     })
 }

@@ -6,7 +6,7 @@ use Rattle.clap.specs.Words.{Row, first_of, subcommand_of}
 use Rattle.mode_network.proofs.RuleLemmas.{both}
 use Rattle.region_file.specs.declared.format.Format.TheVariants.{Binary}
 use Rattle.command_line.specs.Description.{modeplan}
-use Rattle.command_words.specs.Requests.{Request, AsksFor, number_of, size_of, format_or, keep_or_none, commands, request_at, two_at, days_and_format_at, compile_at, migrate_at, contract_at, check_at, sample_at, answer_at, certify_at, verify_at, few_at, latest_at, certify_latest_at, verify_latest_at, compile, migrate, contract, answer, certify, verify, check, sample, latest, certify_latest, verify_latest, few}
+use Rattle.command_words.specs.Requests.{Request, AsksFor, number_of, size_of, format_or, keep_or_none, commands, request_at, two_at, days_and_format_at, compile_at, migrate_at, contract_at, check_at, sample_at, answer_at, certify_at, verify_at, few_at, latest_at, certify_latest_at, verify_latest_at, requests_at, compile, migrate, contract, answer, certify, verify, check, sample, latest, certify_latest, verify_latest, few, requests}
 use Rattle.planner_core.specs.Working.{HasSize}
 
 in_range : (n size : ℕ) (fits : Bool) → nat_le 1 n && nat_le n 300 ≡ fits → (if fits then Some n else None) ≡ Some size → (1 ≤ size) × (size ≤ 300)
@@ -77,12 +77,15 @@ certify_latest_gives rows = made (λ two. certify_latest two.0 two.1) (two_at ro
 verify_latest_gives : (rows : List Row) → GivesSize (verify_latest_at rows)
 verify_latest_gives rows = made (λ two. verify_latest two.0 two.1) (two_at rows) (λ two is. tt)
 
+requests_gives : (rows : List Row) → GivesSize (requests_at rows)
+requests_gives rows = made (λ two. requests two.0 two.1 (first_of (codes "hierarchy") rows)) (two_at rows) (λ two is. tt)
+
 abbrev GiveSizes : List (List ℕ × (List Row → Option Request)) → Type 0
 GiveSizes [] = ⊤
 GiveSizes (command ∷ more) = ((rows : List Row) → GivesSize (command.1 rows)) × GiveSizes more
 
 late_give : GiveSizes (drop 6 commands)
-late_give = (certify_gives, (verify_gives, (few_gives, (latest_gives, (certify_latest_gives, (verify_latest_gives, tt))))))
+late_give = (certify_gives, (verify_gives, (few_gives, (latest_gives, (certify_latest_gives, (verify_latest_gives, (requests_gives, tt)))))))
 
 all_give : GiveSizes commands
 all_give = (compile_gives, (migrate_gives, (contract_gives, (check_gives, (sample_gives, (answer_gives, late_give))))))

@@ -17,6 +17,7 @@ use compile_commands::{compile, migrate};
 use hierarchy_commands::{check, contract};
 use late_commands::{certify_latest, few, latest, verify_latest};
 use plan_base::{Caps, Shelf, Sink, write_all};
+use request_commands::requests;
 use run_steps::{Outcome, Ports, tell};
 use sample_command::sample;
 use std::alloc::Global;
@@ -67,6 +68,11 @@ fn carry_out<F: Shelf, O: Sink, E: Sink>(
             certificate,
         } => verify_latest(ports, region, certificate, caps),
         Command::Few { region, queries } => few(ports, region, queries, caps),
+        Command::Requests {
+            region,
+            lines,
+            hierarchy,
+        } => requests(ports, region, lines, hierarchy, caps),
     }
 }
 
@@ -106,7 +112,8 @@ pub fn run_within<F: Shelf, O: Sink, E: Sink>(
 /// where the hierarchy is sound for the region. With the option `--hierarchy` the commands `answer`, `certify` and `verify`
 /// go over a hierarchy, which is checked at once; `answer` then tells behind the blocks how many labels its searches had.
 /// `sample` with a size writes the summary of a made city. `few` with a queries file writes for each line the journeys that are
-/// worth their boardings, and `latest` the journey that departs last; `certify-latest` and `verify-latest` do for it what
+/// worth their boardings, and `latest` the journey that departs last; `requests` writes a reply to each line of a file, by the
+/// command that it begins with; `certify-latest` and `verify-latest` do for it what
 /// `certify` and `verify` do for the earliest arrival.
 ///
 /// The outcome says how the run ended. Where the shelf tells that all files are there, they are without fault, and no count

@@ -8,6 +8,7 @@ mod books;
 mod comparisons;
 mod drawn;
 mod examples;
+mod pieces;
 mod runs;
 
 use case_script::{Script, words};
@@ -45,6 +46,7 @@ fn print_call(rt: &HostRuntime, script: &Script, call: &str, words: &[u8]) -> io
         "bytes" => runs::bytes(rt, script, words),
         "fill" => runs::fill(rt, script, words),
         "sweep" => runs::sweep(rt, script, words),
+        "cuts" => runs::cuts(rt, script, words),
         "equal" => comparisons::equal(rt, words),
         "example" => examples::example(rt, words),
         _ => println!(rt; "no such call"),

@@ -1,20 +1,23 @@
 //! Whole runs of the program over files in memory.
 
+use crate::pieces::Pieces;
 use crate::{print_text, text};
 use case_script::{Given, Script, words, words_and_files};
 use plan_base::{MemoryShelf, MemorySink, Shelf};
 use planner_core::{Outcome, Ports};
 use std::alloc::{AllocError, Global};
+use std::collections::BTreeMap;
 use std::io;
 
 /// No output of a case or an example is longer.
 const ROOM: usize = 1 << 20;
 
-/// What fails in a run: a read and a write by their numbers from 1, how many bytes a write takes at most, and for how many
-/// bytes there is room in the output and in the notes.
+/// What fails in a run: a read and a write by their numbers from 1, how many bytes a read gives and a write takes at most, and
+/// for how many bytes there is room in the output and in the notes.
 #[derive(Clone, Copy)]
 pub struct Failing {
     read: u64,
+    piece: usize,
     write: u64,
     most: usize,
     room: usize,
@@ -23,6 +26,7 @@ pub struct Failing {
 
 pub const NOTHING: Failing = Failing {
     read: 0,
+    piece: ROOM,
     write: 0,
     most: ROOM,
     room: ROOM,
@@ -54,7 +58,7 @@ pub struct Told {
     notes: Vec<u8>,
 }
 
-/// `run [read K | write K | most K | room K | notes K] .. : WORDS`, the words parted by `|`: how the run ends, and what it writes.
+/// `run [read K | piece K | write K | most K | room K | notes K] .. : WORDS`, the words parted by `|`: how the run ends, and what it writes.
 pub fn run(rt: &HostRuntime, script: &Script, words: &[u8]) -> io::Result<()> {
     let (failing, line) = cut_failing(words);
     let told = run_over(rt.alloc(), script, line, failing)?;
@@ -84,15 +88,14 @@ pub fn bytes(rt: &HostRuntime, script: &Script, line: &[u8]) -> io::Result<()> {
 }
 
 /// `sweep WORDS`: read number k fails, for k from 1 until a run is Done, and then write number k, where a write takes four
-/// bytes; whether each earlier run ended as it must, with nothing written after a read and with a front of the output after
-/// a write.
+/// bytes; whether each earlier run ended as it must, with a front of the output written.
 pub fn sweep(rt: &HostRuntime, script: &Script, line: &[u8]) -> io::Result<()> {
     let whole = run_over(rt.alloc(), script, line, NOTHING)?;
     print_sweep(rt, script, line, &whole)
 }
 
 fn print_sweep(rt: &HostRuntime, script: &Script, line: &[u8], whole: &Told) -> io::Result<()> {
-    let (reads, reads_right) = sweep_reads(rt.alloc(), script, line)?;
+    let (reads, reads_right) = sweep_reads(rt.alloc(), script, line, &whole.out)?;
     let (writes, writes_right) = sweep_writes(rt.alloc(), script, line, &whole.out)?;
     let outcome = whole.outcome;
     println!(rt;
@@ -104,13 +107,18 @@ fn print_sweep(rt: &HostRuntime, script: &Script, line: &[u8], whole: &Told) -> 
 const MOST_CALLS: u64 = 20_000;
 
 /// How many reads failed before a run was Done, and whether each ended the run as it must.
-fn sweep_reads(alloc: Global, script: &Script, line: &[u8]) -> Result<(u64, bool), AllocError> {
+fn sweep_reads(
+    alloc: Global,
+    script: &Script,
+    line: &[u8],
+    whole: &[u8],
+) -> Result<(u64, bool), AllocError> {
     let mut right = true;
     for read in 1..MOST_CALLS {
         let told = run_over(alloc, script, line, Failing { read, ..NOTHING })?;
         match told.outcome {
             Outcome::Done => return Ok((read - 1, right)),
-            Outcome::ReadFault { .. } => right = right && told.out.is_empty(),
+            Outcome::ReadFault { .. } => right = right && whole.starts_with(&told.out),
             _ => right = false,
         }
     }
@@ -139,6 +147,86 @@ fn sweep_writes(
         }
     }
     Ok((MOST_CALLS, false))
+}
+
+/// `cuts COMMAND REGION FILE`: both files are read byte by byte, and FILE can't be read on from one place, for each of its
+/// places; whether each run ended so, and wrote what the command writes for the lines that end before that place.
+pub fn cuts(rt: &HostRuntime, script: &Script, words: &[u8]) -> io::Result<()> {
+    let alloc = rt.alloc();
+    let (command, rest) = words::cut(words);
+    let (region, name) = words::cut(rest);
+    let bytes = script.text(name);
+    let mut right = true;
+    for place in 0..=bytes.len() {
+        let cut = Cut {
+            command,
+            region: script.text(region),
+            bytes,
+            place,
+        };
+        right = right && is_cut_right(alloc, &cut)?;
+    }
+    let count = bytes.len();
+    println!(rt; "{count} bytes; what ended before each place was answered: {right}")
+}
+
+/// A command over a region and a file that can't be read on from a place.
+#[derive(Drop)]
+struct Cut<'a> {
+    command: &'a [u8],
+    region: &'a [u8],
+    bytes: &'a [u8],
+    place: usize,
+}
+
+/// Whether a run that could not read on ended so, and wrote what is right for the lines that ended before.
+fn is_cut_right(alloc: Global, cut: &Cut<'_>) -> Result<bool, AllocError> {
+    let ended = ended_lines(&cut.bytes[..cut.place.min(cut.bytes.len())]);
+    let wanted = cut_run(alloc, cut, ended, NOTHING)?;
+    let read = (cut.region.len() as u64)
+        .saturating_add(cut.place as u64)
+        .saturating_add(2);
+    let failing = Failing {
+        read,
+        piece: 1,
+        ..NOTHING
+    };
+    let told = cut_run(alloc, cut, cut.bytes, failing)?;
+    let failed = matches!(told.outcome, Outcome::ReadFault { .. });
+    Ok(failed && told.out.as_slice() == wanted.out.as_slice())
+}
+
+/// The lines of a text that end in a line feed.
+fn ended_lines(text: &[u8]) -> &[u8] {
+    let count = match text.iter().rposition(|byte| *byte == b'\n') {
+        Some(end) => end.saturating_add(1),
+        None => 0,
+    };
+    &text[..count.min(text.len())]
+}
+
+/// Runs the command over its region and these bytes.
+fn cut_run(
+    alloc: Global,
+    cut: &Cut<'_>,
+    bytes: &[u8],
+    failing: Failing,
+) -> Result<Told, AllocError> {
+    let mut files = BTreeMap::new(alloc);
+    files.insert(
+        String::from_str(alloc, "region")?,
+        Vec::from_slice(alloc, cut.region)?,
+    )?;
+    files.insert(
+        String::from_str(alloc, "file")?,
+        Vec::from_slice(alloc, bytes)?,
+    )?;
+    let mut words = Vec::new(alloc);
+    for word in ["modeplan", text(cut.command), "region", "file"] {
+        words.push(String::from_str(alloc, word)?)?;
+    }
+    let shelf = MemoryShelf::new(files, vec![in alloc; failing.read]?);
+    run_words(alloc, &words, Pieces::new(shelf, failing.piece), failing)
 }
 
 /// `fill WORDS`: the output has room for no byte, one, two and so on; whether each run filled it and ended as it must.
@@ -185,7 +273,7 @@ fn run_over(
 ) -> Result<Told, AllocError> {
     let Given { words, files } = words_and_files(alloc, script, line)?;
     let shelf = MemoryShelf::new(files, vec![in alloc; failing.read]?);
-    run_words(alloc, &words, shelf, failing)
+    run_words(alloc, &words, Pieces::new(shelf, failing.piece), failing)
 }
 
 /// Runs words over files.
@@ -234,6 +322,10 @@ fn with_failing(failing: Failing, what: &[u8], count: u64) -> Failing {
     match text(what) {
         "read" => Failing {
             read: count,
+            ..failing
+        },
+        "piece" => Failing {
+            piece: count as usize,
             ..failing
         },
         "write" => Failing {

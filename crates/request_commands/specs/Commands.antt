@@ -1,0 +1,13 @@
+-- What the command says of a run by its outcome.
+use Rattle.std.specs.Prelude.{ℕ, List, Option}
+use Rattle.plan_base.specs.declared.limits.Caps.{Caps}
+use Rattle.hierarchy_commands.specs.Commands.{OnHierarchyIfNamed}
+use Rattle.run_steps.specs.declared.outcome.FileRole.TheVariants.{Requests}
+use Rattle.run_steps.specs.InTurn.{AnswersFile}
+use Rattle.run_steps.specs.Regions.{OnRegion}
+use Rattle.run_steps.specs.Sayings.{Saying}
+use Rattle.request_commands.specs.Requests.{IsReply}
+
+-- `requests` writes the right reply to each line of a file, in order and as it is read
+abbrev pub SaysRequests : Caps → List ℕ → List ℕ → Option (List ℕ) → Saying
+SaysRequests caps region file hierarchy = OnRegion caps region (λ n. OnHierarchyIfNamed n hierarchy (λ h. AnswersFile Requests file (IsReply n h)))

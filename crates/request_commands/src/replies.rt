@@ -1,0 +1,99 @@
+//! The reply to a line.
+
+ghost use Rattle.std.specs.Prelude.{◌≡◌, IfOk, IfSome, option_map};
+ghost use Rattle.hierarchy.specs.Soundness.{IsSound};
+ghost use Rattle.request_commands.specs.Requests.{IsReply, IsReplyOf};
+
+use crate::request::{Request, asked_by};
+use answer_commands::certified;
+use few_boardings::few_block;
+use hierarchy::Hierarchy;
+use journey::framed;
+use late_commands::certified_late;
+use latest_departure::{Backwards, late_block};
+use mode_network::Network;
+use planning::block_of;
+use product_search::Workspace;
+use run_steps::LineBlocks;
+use std::alloc::{AllocError, Global};
+
+/// The replies to lines: what the commands write that they name. Best journeys are found by the hierarchy, if there is one.
+#[derive(Drop)]
+pub(crate) struct Replies<'a> {
+    pub(crate) network: &'a Network,
+    pub(crate) hierarchy: Option<&'a Hierarchy>,
+    pub(crate) backwards: &'a Backwards<'a>,
+}
+
+impl LineBlocks for Replies<'_> {
+    ghost use Rattle.std.specs.Prelude.{◌≡◌, IfSome, option_map};
+    ghost use Rattle.hierarchy.specs.Soundness.{IsSound};
+    ghost use Rattle.late_commands.specs.Commands.{CountsNothing};
+    ghost use Rattle.request_commands.specs.Requests.{IsReply};
+
+    ghost may = { λ it. IfSome it.hierarchy (λ h. IsSound it.network.now h.now)
+        × (it.backwards.now.network ≡ it.network.now) };
+
+    ghost is_block = { λ it. IsReply it.network.now (option_map (λ h. h.now) it.hierarchy) };
+
+    ghost counts = { λ _. CountsNothing };
+
+    fn block_of(
+        &self,
+        alloc: Global,
+        workspace: &mut Workspace,
+        line: &[u8],
+    ) -> Result<(Vec<u8>, u64), AllocError> {
+        let reply = self.reply_to(alloc, workspace, line)?;
+        Ok((reply, 0))
+    }
+
+    fn called(&self) -> Option<&'static str> {
+        Some("a reply")
+    }
+}
+
+impl Replies<'_> {
+    /// The reply to a line.
+    fn reply_to(
+        &self,
+        alloc: Global,
+        workspace: &mut Workspace,
+        line: &[u8],
+    ) -> Result<Vec<u8>, AllocError>
+        requires sound { IfSome self.now.hierarchy (λ h. IsSound self.now.network.now h.now) }
+        requires same { self.now.backwards.now.network ≡ self.now.network.now }
+        ensures { IfOk result (λ reply. IsReply self.now.network.now
+            (option_map (λ h. h.now) self.now.hierarchy) line.now reply.items) }
+    {
+        match asked_by(line) {
+            Some((request, words)) => self.reply_of(alloc, workspace, request, words),
+            None => framed(alloc, line, b"refused command\n"),
+        }
+    }
+
+    /// What the command writes for these words.
+    fn reply_of(
+        &self,
+        alloc: Global,
+        workspace: &mut Workspace,
+        request: Request,
+        words: &[u8],
+    ) -> Result<Vec<u8>, AllocError>
+        requires sound { IfSome self.now.hierarchy (λ h. IsSound self.now.network.now h.now) }
+        requires same { self.now.backwards.now.network ≡ self.now.network.now }
+        ensures { IfOk result (λ reply. IsReplyOf self.now.network.now
+            (option_map (λ h. h.now) self.now.hierarchy) request words.now reply.items) }
+    {
+        match request {
+            Request::Answer => {
+                let (block, _) = block_of(alloc, workspace, self.network, self.hierarchy, words)?;
+                Ok(block)
+            }
+            Request::Few => few_block(alloc, workspace, self.network, words),
+            Request::Latest => late_block(alloc, workspace, self.backwards, words),
+            Request::Certify => certified(alloc, self.network, self.hierarchy, words),
+            Request::CertifyLatest => certified_late(alloc, self.network, words),
+        }
+    }
+}
