@@ -81,6 +81,13 @@ impl Graph for GraphInUse<'_> {
         }
     }
 
+    fn past_letter(&self, v: u32, i: u64) -> u64 {
+        match self {
+            GraphInUse::Plain(plain) => plain.past_letter(v, i),
+            GraphInUse::Phases(phases) => phases.past_letter(v, i),
+        }
+    }
+
     ghost steady_of = { steady_in_use };
 
     #[inline(always)]
