@@ -11,8 +11,8 @@ VERSION = 1.0
 MODEPLAN = crates/planner_cli/out/planner_cli
 PLANBOOK = crates/planbook/out/planbook
 ZSHDIR = share/zsh/site-functions
-TOOLS = answer-many check-certificate make-region picture
-PARTS = picture_parts region_parts certificate_parts
+TOOLS = answer-many check-certificate grid isochrone make-region picture serve
+PARTS = picture_parts region_parts certificate_parts isochrone_parts serve_parts
 MODULES = region_reader.py
 COMMIT = $(shell git rev-parse HEAD 2>/dev/null || cat COMMIT)
 DATE = $(shell git log -1 --format=%cs 2>/dev/null || date +%F)

@@ -65,7 +65,7 @@ class Program:
         """`before` are words that stand before a command, as the name of a book."""
         self.name, self.path = name, path
         self.whole = read_help(self._says("--help"), name)
-        self.version = self._says("--version").split()[-1]
+        self.version = self._says("--version").split()[1]
         self.commands = [read_help(self._says(*before, row.name, "--help"), row.name)
                          for row in self.whole.commands if row.name != "help"]
 

@@ -4,6 +4,7 @@ Texts are decoded as UTF-8 with surrogate escapes, so that a name of any bytes c
 """
 
 import datetime
+import functools
 import re
 from collections.abc import Callable
 from dataclasses import dataclass, field
@@ -194,15 +195,22 @@ def _step(lines: Lines, node: str) -> Step | None:
     return None
 
 
+@functools.lru_cache
+def _is_date(text: str) -> bool:
+    try:
+        datetime.date(int(text[:4]), int(text[4:6]), int(text[6:]))
+    except ValueError:
+        return False
+    return True
+
+
 def _clock(lines: Lines, text: str) -> Clock:
     match = CLOCK.fullmatch(text)
     if not match:
         raise lines.fault(f"“{shown(text)[:40]}” is no clock text")
     date, hours, minutes, seconds, ms = match.groups()
-    try:
-        datetime.date(int(date[:4]), int(date[4:6]), int(date[6:]))
-    except ValueError:
-        raise lines.fault(f"“{date}” is no date") from None
+    if not _is_date(date):
+        raise lines.fault(f"“{date}” is no date")
     return Clock(date, ((int(hours) * 60 + int(minutes)) * 60 + int(seconds)) * 1000 + int(ms))
 
 

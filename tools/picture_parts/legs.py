@@ -52,7 +52,7 @@ class Reader:
 
     def wishes(self, blocks: list[Block]) -> Wishes:
         """All that the journeys of the blocks want of the region."""
-        wishes = Wishes()
+        wishes = Wishes(rides=self.rides(blocks))
         for block in blocks:
             if not block.journeys and (query := query_of(block)) is not None:
                 wishes.ends.update(nodes_of(query.start) + nodes_of(query.end))
@@ -66,11 +66,14 @@ class Reader:
         if step.node is None or step.clock is None:
             return
         wishes.nodes.setdefault(step.node, step.line)
-        if step.kind == "ride":
-            wishes.rides.add(self.ride_wish(node, clock, step))
-        else:
+        if step.kind != "ride":
             ms = self._moment(step.clock, step.line) - self._moment(clock, step.line)
             wishes.ways.setdefault((step.kind, node, step.node, ms), step.line)
+
+    def rides(self, blocks: list[Block]) -> set[RideWish]:
+        """The rides that the journeys of the blocks tell of."""
+        return {self.ride_wish(node, clock, step) for block in blocks for journey in block.journeys
+                for node, clock, step in self._steps(journey) if step.kind == "ride"}
 
     def ride_wish(self, node: str, clock: Clock, step: Step) -> RideWish:
         """The ride that a step from the node at the clock tells of."""

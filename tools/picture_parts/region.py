@@ -1,6 +1,7 @@
 """What of a region journeys use: places and rides, and nothing else of the timetable."""
 
 import datetime
+import functools
 from array import array
 from dataclasses import dataclass, field
 
@@ -41,10 +42,12 @@ class Days:
         return self._bases[date]
 
 
+@functools.lru_cache
 def _next(date: str) -> str:
     return (_date(date) + datetime.timedelta(1)).strftime("%Y%m%d")
 
 
+@functools.lru_cache
 def _date(text: str) -> datetime.date:
     return datetime.date(int(text[:4]), int(text[4:6]), int(text[6:]))
 
@@ -127,7 +130,7 @@ class Rides:
     """The search for rides among the trips as they pass by."""
 
     def __init__(self, days: Days, found: Survey, stops: list[bytes], wishes: set[RideWish]) -> None:
-        self._days, self._found, self._stops = days, found, stops
+        self._days, self._survey, self._stops = days, found, stops
         self._best: dict[RideWish, tuple[tuple[bool, int], list[Call]]] = {}
         self._by_trip: dict[tuple[str, bytes], list[RideWish]] = {}
         for wish in wishes:
@@ -157,11 +160,15 @@ class Rides:
     def _call(self, base: int, call: tuple[bytes, int, int, int]) -> Call:
         return Call(call[0].decode("utf-8", "surrogateescape"), base + call[1], base + call[2])
 
+    def found(self) -> dict[RideWish, list[Call]]:
+        """The rides that were found."""
+        return {wish: calls for wish, (_, calls) in self._best.items()}
+
     def best_rides(self) -> dict[RideWish, list[Call]]:
         """The rides that were found; the places of the stops between are kept with the other nodes'."""
-        rides = {wish: calls for wish, (_, calls) in self._best.items()}
+        rides = self.found()
         needed = {_raw(call.stop) for calls in rides.values() for call in calls}
         for number, stop in enumerate(self._stops):
             if stop in needed:
-                self._found.numbers[stop.decode("utf-8", "surrogateescape")] = self._found.first_stop + number
+                self._survey.numbers[stop.decode("utf-8", "surrogateescape")] = self._survey.first_stop + number
         return rides

@@ -54,12 +54,14 @@ class Thinned:
 
     def __init__(self, limit: int, raster: int) -> None:
         self._limit, self._raster = limit, raster
+        self.is_whole = True  # no corner was moved
         self._streets: set[tuple[Point, Point]] = set()
 
     def add(self, a: Point, b: Point) -> None:
         """Takes a street in, in whichever direction it goes."""
         self._put(a, b)
         while len(self._streets) > self._limit:
+            self.is_whole = False
             self._raster = max(FIRST_RASTER, 2 * self._raster)
             kept, self._streets = self._streets, set()
             for street in kept:
