@@ -1,0 +1,4 @@
+pub mod OrderLemmas
+pub mod MovedLemmas
+pub mod ListLemmas
+pub mod ReaderLemmas
