@@ -15,6 +15,7 @@ STATUSES = {
     "answer": REGION | HIERARCHY | MEMORY,
     "few": REGION | MEMORY,
     "latest": REGION | MEMORY,
+    "requests": REGION | HIERARCHY | MEMORY,
     "certify": REGION | HIERARCHY | MEMORY,
     "verify": REGION | HIERARCHY | CERTIFICATE | MEMORY,
     "certify-latest": REGION | MEMORY,
@@ -82,8 +83,15 @@ def _of_region(region: bytes, queries: bytes, program: Program) -> Iterator[Call
     yield Call("check", ("check", "{region}", "{hierarchy}"), over)
     yield Call("answer", ("answer", "{region}", "{queries}", "--hierarchy", "{hierarchy}"), {**over, "queries": queries})
     lines = [line for line in queries.decode().splitlines() if line and not line.startswith("#")]
+    yield Call("requests", ("requests", "{region}", "{requests}", "--hierarchy", "{hierarchy}"), {**over, "requests": _requests(lines)})
     for line in lines[:MOST_LINES]:
         yield from _of_line(line, region, hierarchy, program)
+
+
+def _requests(lines: list[str]) -> bytes:
+    """Each query line behind the name of a command, of all in turn and of none."""
+    commands = ("answer", "few", "latest", "certify", "certify-latest", "none")
+    return "".join(f"{commands[place % len(commands)]} {line}\n" for place, line in enumerate(lines)).encode()
 
 
 def _of_line(line: str, region: bytes, hierarchy: bytes, program: Program) -> Iterator[Call]:
