@@ -86,7 +86,7 @@ class Worker:
             self.busy = False
 
     async def _reply(self, line: bytes, most: int) -> bytes | None:
-        self._write(line + b"\n")
+        await self._write(line + b"\n")
         assert self._process.stdout is not None
         reply, is_long = bytearray(), False
         while not reply.endswith(END):
@@ -99,12 +99,12 @@ class Worker:
                 del reply[:-len(END)]
         return None if is_long else bytes(reply)
 
-    def _write(self, line: bytes) -> None:
+    async def _write(self, line: bytes) -> None:
         """Writes the line, for which the pipe has room: the program has read all lines before it."""
         try:
             written = os.write(self._pipe, line)
         except OSError as error:
-            raise Unasked(f"the program doesn't read on: {error.strerror}") from error
+            raise Unasked(await self.last_words()) from error
         if written != len(line):
             raise Lost("the program doesn't read on")
 

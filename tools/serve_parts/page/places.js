@@ -17,7 +17,7 @@ export class PlaceField {
     this.at = -1;
     this.input.addEventListener("input", () => this.written());
     this.input.addEventListener("keydown", event => this.key(event));
-    this.input.addEventListener("blur", () => setTimeout(() => this.close(), 150));
+    this.input.addEventListener("blur", () => setTimeout(() => document.activeElement === this.input || this.close(), 150));
   }
 
   // The place as it is: { endpoint, name, lat?, lon? }.
