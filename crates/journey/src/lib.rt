@@ -26,4 +26,5 @@ pub use printing::{block, framed, push_journey};
 pub use query::{Query, read_query};
 pub use real::{ends, first_bad, is_real, word};
 pub use step_ends::{StepEnd, step_end};
+pub use texts::push_refusal;
 pub use verdict::{CertFault, CertVerdict};

@@ -64,7 +64,10 @@ fn push_body(
     match body {
         BlockBody::Journey(journey) => push_journey(alloc, out, network, journey)?,
         BlockBody::Nothing => out.extend_from_slice(b"no journey\n")?,
-        BlockBody::Refused(fault) => push_refusal(out, *fault)?,
+        BlockBody::Refused(fault) => {
+            push_refusal(out, *fault)?;
+            push_line_feed(out)?;
+        }
     }
     Ok(())
 }

@@ -1,6 +1,6 @@
 //! The texts of nodes, words and steps.
 
-ghost use Rattle.std.specs.Prelude.{◌≡◌, ◌<◌, ◌++◌, ◌∷◌, List, ℕ, length, codes, slice_index_or, OnOk};
+ghost use Rattle.std.specs.Prelude.{◌≡◌, ◌<◌, ◌++◌, ◌∷◌, List, ℕ, length, codes, decimal, slice_index_or, OnOk};
 ghost use Rattle.std.specs.List.{flat_map};
 ghost use Rattle.plain_texts.specs.Lines.{with_feed};
 ghost use Rattle.service_days.specs.Clock.{clock_text_of};
@@ -167,27 +167,30 @@ fn push_letters(out: &mut Vec<u8>, word: &[u8]) -> Result<(), AllocError>
     Ok(())
 }
 
-/// The line that says why a query is refused.
-pub(crate) fn push_refusal(out: &mut Vec<u8>, fault: QueryFault) -> Result<(), AllocError>
-    ensures { OnOk result (out.new.items ≡ out.old.items ++ with_feed (refusal_text fault)) }
+/// Why a query is refused, as a line of its block says it, without the line feed.
+pub fn push_refusal(out: &mut Vec<u8>, fault: QueryFault) -> Result<(), AllocError>
+    ensures { OnOk result (out.new.items ≡ out.old.items ++ refusal_text fault) }
 {
-    let (text, number): (&[u8], Option<u64>) = match fault {
-        QueryFault::Shape => (b"refused shape", None),
-        QueryFault::BadClock => (b"refused clock", None),
-        QueryFault::OutOfRange => (b"refused range", None),
-        QueryFault::UnknownFrom => (b"refused from", None),
-        QueryFault::UnknownTo => (b"refused to", None),
-        QueryFault::TooLong { bytes } => (b"refused long ", Some(bytes)),
-        QueryFault::TooDeep { at } => (b"refused deep ", Some(at)),
-        QueryFault::Syntax { at } => (b"refused syntax ", Some(at)),
-        QueryFault::TooLarge { places } => (b"refused large ", Some(places)),
-        QueryFault::OffNetwork { to: false, mm } => (b"refused far from ", Some(mm)),
-        QueryFault::OffNetwork { to: true, mm } => (b"refused far to ", Some(mm)),
-        QueryFault::OutOfMemory => (b"", None),
-    };
-    out.extend_from_slice(text)?;
-    if let Some(number) = number {
-        push_decimal(out, u128::from(number))?;
+    match fault {
+        QueryFault::Shape => out.extend_from_slice(b"refused shape"),
+        QueryFault::BadClock => out.extend_from_slice(b"refused clock"),
+        QueryFault::OutOfRange => out.extend_from_slice(b"refused range"),
+        QueryFault::UnknownFrom => out.extend_from_slice(b"refused from"),
+        QueryFault::UnknownTo => out.extend_from_slice(b"refused to"),
+        QueryFault::TooLong { bytes } => push_numbered(out, b"refused long ", bytes),
+        QueryFault::TooDeep { at } => push_numbered(out, b"refused deep ", at),
+        QueryFault::Syntax { at } => push_numbered(out, b"refused syntax ", at),
+        QueryFault::TooLarge { places } => push_numbered(out, b"refused large ", places),
+        QueryFault::OffNetwork { to: false, mm } => push_numbered(out, b"refused far from ", mm),
+        QueryFault::OffNetwork { to: true, mm } => push_numbered(out, b"refused far to ", mm),
+        QueryFault::OutOfMemory => Ok(()),
     }
-    push_line_feed(out)
+}
+
+/// A text and a number.
+fn push_numbered(out: &mut Vec<u8>, text: &[u8], number: u64) -> Result<(), AllocError>
+    ensures { OnOk result (out.new.items ≡ out.old.items ++ (text.now ++ decimal number)) }
+{
+    out.extend_from_slice(text)?;
+    push_decimal(out, u128::from(number))
 }
