@@ -26,7 +26,7 @@ counted_join Counts [] ys m n none more = subst (AreCounted Counts ys) (omega (a
 counted_join Counts (x ∷ xs) ys m n (count, rest, is, others, e) more = (count, rest + n, is, counted_join Counts xs ys rest n others more, omega (arith, e))
 
 module _ (IsBlock : BlockRule) where
-  blocks_join : (xs ys : List (List ℕ)) (out more : List ℕ) → AreBlocks IsBlock xs out → AreBlocks IsBlock ys more → AreBlocks IsBlock (xs ++ ys) (out ++ more)
+  pub blocks_join : (xs ys : List (List ℕ)) (out more : List ℕ) → AreBlocks IsBlock xs out → AreBlocks IsBlock ys more → AreBlocks IsBlock (xs ++ ys) (out ++ more)
   blocks_join [] ys out more none are = subst (λ (o : List ℕ). AreBlocks IsBlock ys (o ++ more)) (sym none) are
   blocks_join (x ∷ xs) ys out more (block, rest, is, others, e) are =
       (block, rest ++ more, is, blocks_join xs ys rest more others are, ap (λ (o : List ℕ). o ++ more) e ∙ append_assoc block rest more)

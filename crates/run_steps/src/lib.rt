@@ -20,6 +20,7 @@ pub use blocks::LineBlocks;
 pub use certificates::{Certificates, write_verified};
 pub use files::{MOST_BYTES, read_file, read_file_if_there, read_region, refused};
 pub use in_turn::{answer_file, write_in_turn};
+pub use lines::{as_query, without_return};
 pub use notes::tell;
 pub use outcome::{FileRole, Outcome, SourceFault};
 pub use ports::Ports;

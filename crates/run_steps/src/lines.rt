@@ -4,7 +4,7 @@ ghost use Rattle.std.specs.Prelude.{◌≡◌, option_map};
 ghost use Rattle.run_steps.specs.QueryLines.{without_return, as_query};
 
 /// A line without the carriage return at its end.
-pub(crate) fn without_return(line: &[u8]) -> &[u8]
+pub fn without_return(line: &[u8]) -> &[u8]
     ensures { result.now ≡ without_return line.now }
 {
     if !line.is_empty() && line[line.len() - 1] == b'\r' {
@@ -16,7 +16,7 @@ pub(crate) fn without_return(line: &[u8]) -> &[u8]
 }
 
 /// The query line that a line of a queries file is, if it is one: it is not empty and no comment.
-pub(crate) fn as_query(line: &[u8]) -> Option<&[u8]>
+pub fn as_query(line: &[u8]) -> Option<&[u8]>
     ensures { option_map (λ query. query.now) result ≡ as_query line.now }
 {
     match line {
