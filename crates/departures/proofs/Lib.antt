@@ -2,3 +2,8 @@ pub mod OrderLemmas
 pub mod MovedLemmas
 pub mod ListLemmas
 pub mod ReaderLemmas
+pub mod SettingOffLemmas
+pub mod TransitLemmas
+pub mod FirstLemmas
+pub mod ListingLemmas
+pub mod TextLemmas

@@ -1,5 +1,5 @@
 -- A journey without a ride takes the same time whenever it leaves.
-use Rattle.std.proofs.Common.{◌≡◌, ℕ, ◌+◌, ◌-◌, ◌<◌, ◌≤◌, cond, List, [], ◌∷◌, Option, Some, None, refl, sym, subst, arith}
+use Rattle.std.proofs.Common.{◌≡◌, ℕ, ◌+◌, ◌-◌, ◌≤◌, cond, List, [], ◌∷◌, Option, Some, None, refl, subst, arith}
 use Rattle.std.specs.List.{count_by}
 use Rattle.mode_network.specs.declared.steps.Step.{Step}
 use Rattle.mode_network.specs.declared.steps.Step.TheVariants.{Wait, Road, Link, Stand, Ride}
@@ -10,7 +10,8 @@ use Rattle.few_boardings.specs.declared.boardings.Found.{Found}
 use Rattle.few_boardings.specs.Boardings.{is_ride, rides}
 use Rattle.few_boardings.specs.Rounds.{IsLeastBelow}
 use Rattle.few_boardings.proofs.RideLemmas.{rides_more}
-use Rattle.departures.specs.Departures.{IsShortest, IsWithout}
+use Rattle.latest_departure.specs.Forward.{leaving}
+use Rattle.departures.specs.Departures.{IsWithout}
 use Rattle.departures.specs.Laws.{IsAsLong, WithoutIsTheSame}
 
 -- a step that is no ride leaves the count
@@ -19,10 +20,6 @@ rest_none step steps none = let count = rides_more step steps in omega arith
 
 more_none : (step : Step) (steps : List Step) → cond {A = ℕ} (is_ride step) 1 0 ≡ 0 → count_by is_ride steps ≡ 0 → count_by is_ride (step ∷ steps) ≡ 0
 more_none step steps no_ride none = let count = rides_more step steps in omega arith
-
--- the same, asked from this time on
-abbrev leaving : Asked → ℕ → Asked
-leaving q t = record q { depart = t }
 
 module _ (n : NetworkLists) where
   -- steps without a ride from v at s to w, which take as long as from t to u

@@ -2,8 +2,14 @@
 //! leaves as late as and arrives as early as, where it takes less time than one can do without a ride.
 #![tactic(auto)]
 
+mod blocks;
 mod laws;
+mod listing;
 mod row;
+mod search;
+mod setting_off;
+mod transit;
 
+pub use blocks::profile_block;
 pub use laws::{departures_are_unique, departures_miss_nothing, without_is_the_same};
 pub use row::{Pair, Row};

@@ -14,7 +14,7 @@ use Rattle.run_steps.proofs.CertificateComplete.{verified_completes}
 use Rattle.run_steps.proofs.TurnComplete.{answers_completes}
 use Rattle.run_steps.proofs.CompleteSteps.{file_completes, network_completes, writes_completes}
 use Rattle.late_commands.specs.Outputs.{late_certificates}
-use Rattle.late_commands.specs.Complete.{SpellsValidLate, FewCompletes, LatestCompletes, CertifyLatestCompletes, VerifyLatestCompletes}
+use Rattle.late_commands.specs.Complete.{SpellsValidLate, FewCompletes, LatestCompletes, ProfileCompletes, CertifyLatestCompletes, VerifyLatestCompletes}
 
 -- bytes that spell a valid late certificate have no line that may not stand, and no clause that fails
 spells : (n : NetworkLists) (bytes : List ℕ) → SpellsValidLate n bytes → (line : ℕ) → late_of bytes ≡ Err (BadLine line) → ⊥
@@ -36,6 +36,10 @@ few_completes caps files region queries =
 
 pub latest_completes : LatestCompletes
 latest_completes caps files region queries =
+    file_completes files _ region _ _ (network_completes files caps _ _ (λ n rules. answers_completes files _ queries _))
+
+pub profile_completes : ProfileCompletes
+profile_completes caps files region queries window =
     file_completes files _ region _ _ (network_completes files caps _ _ (λ n rules. answers_completes files _ queries _))
 
 pub certify_latest_completes : CertifyLatestCompletes

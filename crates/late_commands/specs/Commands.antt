@@ -4,6 +4,7 @@ use Rattle.plan_base.specs.declared.limits.Caps.{Caps}
 use Rattle.run_steps.specs.Certificates.{SaysVerified}
 use Rattle.few_boardings.specs.Blocks.{IsFewBlock}
 use Rattle.latest_departure.specs.Blocks.{IsLateBlock}
+use Rattle.departures.specs.Blocks.{IsProfileBlock}
 use Rattle.run_steps.specs.InTurn.{AnswersFile}
 use Rattle.run_steps.specs.declared.outcome.FileRole.TheVariants.{Queries}
 use Rattle.run_steps.specs.Regions.{OnRegion}
@@ -21,6 +22,10 @@ SaysFew caps region queries = OnRegion caps region (λ n. AnswersFile Queries qu
 -- `latest` writes for each query line its late block
 abbrev pub SaysLatest : Caps → List ℕ → List ℕ → Saying
 SaysLatest caps region queries = OnRegion caps region (λ n. AnswersFile Queries queries (IsLateBlock n))
+
+-- `profile` writes for each query line the block of the departures of the window, which is in milliseconds
+abbrev pub SaysProfile : Caps → List ℕ → List ℕ → ℕ → Saying
+SaysProfile caps region queries window = OnRegion caps region (λ n. AnswersFile Queries queries (IsProfileBlock n window))
 
 -- `certify-latest` writes a late certificate for the query line, or the block of its refusal
 abbrev pub SaysCertifyLatest : Caps → List ℕ → List ℕ → Saying

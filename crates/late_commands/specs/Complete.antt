@@ -5,7 +5,7 @@ use Rattle.mode_network.specs.NetworkLists.{NetworkLists}
 use Rattle.latest_departure.specs.ValidLate.{LateClaim, IsValidLate}
 use Rattle.late_certificate.specs.Texts.{IsLateText}
 use Rattle.run_steps.specs.Complete.{Files, AreLinesHeld, IsHeld, SpellsNetwork, Completes}
-use Rattle.late_commands.specs.Commands.{SaysFew, SaysLatest, SaysCertifyLatest, SaysVerifyLatest}
+use Rattle.late_commands.specs.Commands.{SaysFew, SaysLatest, SaysProfile, SaysCertifyLatest, SaysVerifyLatest}
 
 -- the bytes spell a late certificate that is valid
 abbrev pub SpellsValidLate : NetworkLists → List ℕ → Type 0
@@ -16,6 +16,9 @@ CanFew caps files region queries = IsHeld files region (SpellsNetwork caps (λ n
 
 abbrev pub CanLatest : Caps → Files → List ℕ → List ℕ → Type 0
 CanLatest caps files region queries = IsHeld files region (SpellsNetwork caps (λ n. AreLinesHeld files queries))
+
+abbrev pub CanProfile : Caps → Files → List ℕ → List ℕ → Type 0
+CanProfile caps files region queries = IsHeld files region (SpellsNetwork caps (λ n. AreLinesHeld files queries))
 
 abbrev pub CanCertifyLatest : Caps → Files → List ℕ → List ℕ → Type 0
 CanCertifyLatest caps files region query = IsHeld files region (SpellsNetwork caps (λ n. Unit {0}))
@@ -29,6 +32,10 @@ FewCompletes = (caps : Caps) (files : Files) (region queries : List ℕ) → Com
 
 abbrev pub LatestCompletes : Type 0
 LatestCompletes = (caps : Caps) (files : Files) (region queries : List ℕ) → Completes files (CanLatest caps files region queries) (SaysLatest caps region queries)
+
+abbrev pub ProfileCompletes : Type 0
+ProfileCompletes =
+    (caps : Caps) (files : Files) (region queries : List ℕ) (window : ℕ) → Completes files (CanProfile caps files region queries) (SaysProfile caps region queries window)
 
 abbrev pub CertifyLatestCompletes : Type 0
 CertifyLatestCompletes = (caps : Caps) (files : Files) (region query : List ℕ) → Completes files (CanCertifyLatest caps files region query) (SaysCertifyLatest caps region query)

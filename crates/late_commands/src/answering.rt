@@ -1,9 +1,10 @@
-//! The commands `few` and `latest`: the block of each query line of a file.
+//! The commands `few`, `latest` and `profile`: the block of each query line of a file.
 
 ghost use Rattle.run_steps.specs.Scene.{scene};
 ghost use Rattle.run_steps.specs.Sayings.{end_of};
-ghost use Rattle.late_commands.specs.Commands.{SaysFew, SaysLatest};
+ghost use Rattle.late_commands.specs.Commands.{SaysFew, SaysLatest, SaysProfile};
 
+use departures::profile_block;
 use few_boardings::few_block;
 use latest_departure::{Backwards, late_block};
 use mode_network::Network;
@@ -62,6 +63,32 @@ impl LineBlocks for LateBlocks<'_> {
     }
 }
 
+/// The blocks of lines that ask for the departures of a window.
+#[derive(Drop)]
+struct ProfileBlocks<'a> {
+    network: &'a Network,
+    window: u32,
+}
+
+impl LineBlocks for ProfileBlocks<'_> {
+    ghost use Rattle.departures.specs.Blocks.{IsProfileBlock};
+    ghost use Rattle.late_commands.specs.Commands.{CountsNothing};
+
+    ghost is_block = { λ blocks. IsProfileBlock blocks.network.now blocks.window };
+
+    ghost counts = { λ _. CountsNothing };
+
+    fn block_of(
+        &self,
+        alloc: Global,
+        workspace: &mut Workspace,
+        line: &[u8],
+    ) -> Result<(Vec<u8>, u64), AllocError> {
+        let block = profile_block(alloc, workspace, self.network, line, self.window)?;
+        Ok((block, 0))
+    }
+}
+
 /// Reads the region of this name, and writes for each query line of the queries file, as soon as that has been read whole, the
 /// block of the journeys that are worth their boardings.
 pub fn few<F: Shelf, O: Sink, E: Sink>(
@@ -111,4 +138,31 @@ pub fn latest<F: Shelf, O: Sink, E: Sink>(
         backwards: &backwards,
     };
     answer_file(ports, &late, FileRole::Queries, queries)
+}
+
+/// Reads the region of this name, and writes for each query line of the queries file, as soon as that has been read whole, the
+/// block of the departures of the window, which is in milliseconds.
+pub fn profile<F: Shelf, O: Sink, E: Sink>(
+    ports: &mut Ports<F, O, E>,
+    region: &str,
+    queries: &str,
+    window: u32,
+    caps: &Caps,
+) -> Result<(), Outcome>
+    ensures { SaysProfile caps.now region.now queries.now window
+        (scene (F.meaning ports.old.shelf) (O.meaning ports.old.out))
+        (scene (F.meaning ports.new.shelf) (O.meaning ports.new.out)) (end_of result) }
+{
+    let network = read_region(
+        ports.alloc,
+        &mut ports.shelf,
+        region,
+        caps,
+        &mut ports.notes,
+    )?;
+    let profile = ProfileBlocks {
+        network: &network,
+        window,
+    };
+    answer_file(ports, &profile, FileRole::Queries, queries)
 }

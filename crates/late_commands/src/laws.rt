@@ -1,7 +1,7 @@
 //! Where the files of a command are there and without fault, and no count of faults rose, all of its work is done, unless
 //! memory ran out.
 
-ghost use Rattle.late_commands.specs.Complete.{FewCompletes, LatestCompletes, CertifyLatestCompletes, VerifyLatestCompletes};
+ghost use Rattle.late_commands.specs.Complete.{FewCompletes, LatestCompletes, ProfileCompletes, CertifyLatestCompletes, VerifyLatestCompletes};
 
 /// That of `few`.
 pub fn few_completes()
@@ -11,6 +11,11 @@ pub fn few_completes()
 /// That of `latest`.
 pub fn latest_completes()
     ensures { LatestCompletes }
+{}
+
+/// That of `profile`.
+pub fn profile_completes()
+    ensures { ProfileCompletes }
 {}
 
 /// That of `certify-latest`.

@@ -1,4 +1,4 @@
-//! The commands `few`, `latest`, `certify-latest` and `verify-latest`.
+//! The commands `few`, `latest`, `profile`, `certify-latest` and `verify-latest`.
 #![tactic(auto)]
 
 mod answering;
@@ -6,9 +6,10 @@ mod certifying;
 mod laws;
 mod verifying;
 
-pub use answering::{few, latest};
+pub use answering::{few, latest, profile};
 pub use certifying::{certified_late, certify_latest};
 pub use laws::{
-    certify_latest_completes, few_completes, latest_completes, verify_latest_completes,
+    certify_latest_completes, few_completes, latest_completes, profile_completes,
+    verify_latest_completes,
 };
 pub use verifying::verify_latest;

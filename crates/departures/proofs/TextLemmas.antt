@@ -1,0 +1,73 @@
+-- The text of a block, row by row.
+use Rattle.std.proofs.Common.{◌≡◌, ℕ, ◌+◌, ◌<◌, List, [], ◌∷◌, ◌++◌, length, take, get_or, Option, Some, None, inr, refl, sym, ap, ◌∙◌, subst, arith, append_assoc, append-nil}
+use Rattle.std.specs.Prelude.{codes}
+use Rattle.std.proofs.lemmas.List.{take_more}
+use Rattle.plain_texts.specs.Lines.{with_feed}
+use Rattle.mode_network.specs.NetworkLists.{NetworkLists}
+use Rattle.journey.specs.Best.{Asked, Asks}
+use Rattle.journey.specs.Blocks.{AddsText, IsFramed}
+use Rattle.latest_departure.specs.Blocks.{IsLateText}
+use Rattle.departures.specs.declared.row.Row.{Row}
+use Rattle.departures.specs.Departures.{IsWithout, AreRows}
+use Rattle.departures.specs.Blocks.{AreTold, without_line, IsProfileText, IsProfileBlock}
+
+module _ (n : NetworkLists) where
+  -- one row more
+  told_more : (rows : List Row) (row : Row) (text more : List ℕ) → AreTold n rows text → AreTold n (row ∷ []) more → AreTold n (rows ++ row ∷ []) (text ++ more)
+  told_more [] row text more none told = subst (λ (t : List ℕ). AreTold n (row ∷ []) (t ++ more)) (sym none) told
+  told_more (first ∷ rows) row text more (own, rest, is, others, e) told =
+      (own, rest ++ more, is, told_more rows row rest more others told, ap (λ (t : List ℕ). t ++ more) e ∙ append_assoc own rest more)
+
+  pub nothing_told : (old : List ℕ) → AddsText (AreTold n []) old old
+  nothing_told old = record { text = []; is = refl; added = sym (append-nil old) }
+
+  pub pushed : (rows : List Row) (i : ℕ) (row : Row) (start old new : List ℕ) → i < length rows → row ≡ get_or rows i row
+      → AddsText (AreTold n (take i rows)) start old → AddsText (AreTold n (row ∷ [])) old new → AddsText (AreTold n (take (i + 1) rows)) start new
+  pushed rows i row start old new within is before after = record {
+    text = before.text ++ after.text;
+    is = subst (λ (rs : List Row). AreTold n rs (before.text ++ after.text)) (sym (take_more rows i row within ∙ ap (λ (r : Row). take i rows ++ r ∷ []) (sym is)))
+        (told_more (take i rows) row before.text after.text before.is after.is);
+    added = after.added ∙ ap (λ (t : List ℕ). t ++ after.text) before.added ∙ append_assoc start before.text after.text;
+  }
+
+  -- one row
+  pub row_told : (row : Row) (old new : List ℕ) → AddsText (IsLateText n row.journey) old new → AddsText (AreTold n (row ∷ [])) old new
+  row_told row old new late = record {
+    text = late.text ++ [];
+    is = (late.text, [], late.is, refl, refl);
+    added = late.added ∙ ap (λ (t : List ℕ). old ++ t) (sym (append-nil late.text));
+  }
+
+  -- the rows behind the line `without`, those of a block without it, and where there are none
+  pub after_line : (c : ℕ) (rows : List Row) (old now new : List ℕ) → now ≡ old ++ without_line c → AddsText (AreTold n rows) now new → AddsText (IsProfileText n (Some c) rows) old new
+  after_line c rows old now new line told = record {
+    text = without_line c ++ told.text;
+    is = record { text = told.text; is = told.is; added = refl };
+    added = told.added ∙ ap (λ (t : List ℕ). t ++ told.text) line ∙ append_assoc old (without_line c) told.text;
+  }
+
+  pub rows_alone : (rows : List Row) (old new : List ℕ) → 0 < length rows → AddsText (AreTold n rows) old new → AddsText (IsProfileText n None rows) old new
+  rows_alone [] old new some told = absurd (omega arith)
+  rows_alone (row ∷ rows) old new some told = record { text = told.text; is = told.is; added = told.added }
+
+  pub none_at_all : (rows : List Row) (old now new : List ℕ) → length rows ≡ 0 → now ≡ old ++ with_feed (codes "no journey") → AddsText (AreTold n rows) now new
+      → AddsText (IsProfileText n None rows) old new
+  none_at_all [] old now new none line told = record {
+    text = with_feed (codes "no journey");
+    is = refl;
+    added = told.added ∙ ap (λ (t : List ℕ). now ++ t) told.is ∙ append-nil now ∙ line;
+  }
+  none_at_all (row ∷ rows) old now new none line told = absurd (omega arith)
+
+  -- what was found is right to tell
+  pub right_block : (line : List ℕ) (q : Asked) (window : ℕ) → Asks n line q → (without : Option ℕ) (rows : List Row) (block : List ℕ) → IsWithout n q without → AreRows n q without window rows
+      → IsFramed (IsProfileText n without rows) line block → IsProfileBlock n window line block
+  right_block line q window asks without rows block without_is are tells = inr (record {
+    asked = q;
+    asks = asks;
+    tells = record {
+      text = tells.text;
+      is_body = record { without = without; without_is = without_is; rows = rows; are = are; told = tells.is_body };
+      block_is = tells.block_is;
+    };
+  })

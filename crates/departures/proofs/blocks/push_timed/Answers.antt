@@ -1,0 +1,14 @@
+use Rattle.std.proofs.Common.{◌++◌, ◌∙◌, ap}
+use Rattle.std.specs.Prelude.{codes}
+use Rattle.plain_texts.specs.Lines.{with_feed}
+use Rattle.service_days.specs.Clock.{clock_text_of}
+use Rattle.mode_network.specs.Journeys.{Route}
+use Rattle.latest_departure.proofs.TextLemmas.{late_told}
+use Rattle.departures.proofs.blocks.push_timed.Goals as goal
+
+pub returns : goal.returns
+returns c =
+    let n = c.args.network.now in
+    late_told n c.args.journey.now c.args.out.now.items c.push_departure.new.out.items c.push_journey.new.out.items
+    (c.in_ok-push_departure.ensures ∙ ap (λ (j : Route). c.args.out.now.items ++ with_feed (codes "depart " ++ clock_text_of n.days j.at)) c.journey.view_is)
+    c.in_ok-push_journey.ensures

@@ -1,0 +1,6 @@
+use Rattle.std.proofs.Common.{◌≡◌, ℕ, ◌<◌}
+use Rattle.std.specs.Prelude.{bit_and}
+use Rattle.departures.proofs.transit.leaves_by_transit.Given as goal
+
+abbrev pub invariant-loop-i : goal.invariant-loop-i
+invariant-loop-i g l = (i : ℕ) → i < l.i → bit_and ((g.L.Labels.automaton l.labels).move_at l.q i).letters 0x3ff8 ≡ 0

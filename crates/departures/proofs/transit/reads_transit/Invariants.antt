@@ -1,0 +1,6 @@
+use Rattle.std.proofs.Common.{ℕ, ◌<◌}
+use Rattle.departures.specs.Transit.{NoneByTransit}
+use Rattle.departures.proofs.transit.reads_transit.Given as goal
+
+abbrev pub invariant-loop-q : goal.invariant-loop-q
+invariant-loop-q g l = (q : ℕ) → q < l.q → NoneByTransit (g.L.Labels.automaton l.labels) q

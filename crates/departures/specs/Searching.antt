@@ -1,0 +1,79 @@
+-- What a search for a journey with a ride goes over, and what it finds.
+use Rattle.std.specs.Prelude.{◌≡◌, ℕ, ◌<◌, ◌≤◌, ◌^◌, ◌↔◌, false, List, length, All, Option, Some, None}
+use Rattle.search_laws.specs.LabelLaws.{LabelsMeaning, Accepts}
+use Rattle.search_laws.specs.Collapse.{collapse}
+use Rattle.timetable_arcs.specs.Patterns.{TableLists}
+use Rattle.mode_network.specs.NetworkLists.{NetworkLists, nodes_of}
+use Rattle.mode_network.specs.Journeys.{Route}
+use Rattle.mode_expression.specs.Form.{Form, IsWordOf}
+use Rattle.automaton.specs.Collapsed.{collapsed}
+use Rattle.automaton.specs.Meanings.{position_meaning}
+use Rattle.product_search.specs.declared.label.Walk.{Walk}
+use Rattle.plain_graph.specs.Simulation.{JourneysAreWalks}
+use Rattle.journey.specs.Best.{Asked, asked_by}
+use Rattle.journey.specs.Blocks.{IsPrintable}
+use Rattle.journey.specs.CopyLists.{AreTheCopies}
+use Rattle.unpack.specs.Taken.{TakesHops}
+use Rattle.few_boardings.specs.Counted.{counted, transits}
+use Rattle.departures.specs.declared.row.Pair.{Pair}
+use Rattle.departures.specs.declared.row.Row.{Row}
+use Rattle.departures.specs.declared.search.RideSearch.{RideSearch}
+use Rattle.departures.specs.Departures.{IsPair, IsRow}
+use Rattle.departures.specs.SettingOff.{IsSetOff}
+
+-- the automaton accepts the words that have a transit letter, and whose collapse the form denotes
+abbrev pub ReadsRides : Form → LabelsMeaning → Type 0
+ReadsRides form l = (word : List ℕ) → Accepts l word ↔ (IsWordOf form (collapse word) × (1 ≤ transits word))
+
+-- what a search is for, and the network that it goes over
+abbrev pub asked_of : RideSearch → Asked
+asked_of s = asked_by s.query.now
+
+abbrev pub network_of : RideSearch → NetworkLists
+network_of s = s.plain.network.now
+
+-- what the automaton of a search answers
+abbrev pub labels_of : RideSearch → LabelsMeaning
+labels_of s = counted (collapsed (position_meaning s.labels.inner.inner)) s.labels.side s.labels.limit
+
+-- a search for what its query asks
+pub record IsRideSearch (s : RideSearch) : Type 0 where
+  pub reads : ReadsRides (asked_of s).form (labels_of s)
+  pub none : s.reads_transit ≡ false → (word : List ℕ) → Accepts (labels_of s) word → ⊥
+  pub journeys : JourneysAreWalks (network_of s) s.plain.timetable.now
+  pub origin : AreTheCopies (network_of s) (asked_of s).from s.origins.items
+  pub destination : AreTheCopies (network_of s) (asked_of s).to s.destinations.items
+  pub start_nodes : All (λ v. v < length (nodes_of (network_of s))) s.origins.items
+
+-- the row has this arrival and the journey of the walk, which sets off as late as it may
+pub record IsRowFor (n : NetworkLists) (table : TableLists) (arrival : ℕ) (walk : Walk) (row : Row) : Type 0 where
+  pub journey : Route
+  pub takes : TakesHops n table walk journey
+  pub set_off : IsSetOff n journey row.journey
+  pub departs : row.journey.at ≡ row.pair.depart
+  pub arrives : row.pair.arrive ≡ arrival
+
+-- the row of a walk with its arrival, if both are there
+abbrev pub IsUnpacked : NetworkLists → TableLists → Option ℕ → Option Walk → Option Row → Type 0
+IsUnpacked n table (Some arrival) (Some walk) (Some row) = IsRowFor n table arrival walk row
+IsUnpacked n table (Some arrival) (Some walk) None = ⊥
+IsUnpacked n table (Some arrival) None row = row ≡ None
+IsUnpacked n table None walk row = row ≡ None
+
+-- the journey of a row can be printed
+abbrev pub IsPrintableRow : NetworkLists → Row → Type 0
+IsPrintableRow n row = IsPrintable n row.journey
+
+-- the row departs at t or later, and arrives as early as any pair that does
+pub record IsFirst (n : NetworkLists) (q : Asked) (t : ℕ) (row : Row) : Type 0 where
+  pub is_row : IsRow n q row
+  pub late : t ≤ row.pair.depart
+  pub least : (p : Pair) → IsPair n q p → t ≤ p.depart → row.pair.arrive ≤ p.arrive
+  pub rises : row.pair.depart ≤ row.pair.arrive
+  pub soon : row.pair.arrive < 2 ^ 99
+  pub printable : IsPrintableRow n row
+
+-- there is such a row; or no pair departs at t or later
+abbrev pub IsFirstFrom : NetworkLists → Asked → ℕ → Option Row → Type 0
+IsFirstFrom n q t None = (p : Pair) → IsPair n q p → t ≤ p.depart → ⊥
+IsFirstFrom n q t (Some row) = IsFirst n q t row

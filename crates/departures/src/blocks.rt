@@ -1,0 +1,187 @@
+//! The block of a query line that asks for the departures of a window.
+
+ghost use Rattle.std.specs.Prelude.{◌≡◌, [], ◌∷◌, ◌++◌, All, IfOk, OnOk, None, codes};
+ghost use Rattle.plain_texts.specs.Lines.{with_feed};
+ghost use Rattle.mode_expression.specs.Form.{form_of, IsUsable};
+ghost use Rattle.service_days.specs.Clock.{clock_text_of};
+ghost use Rattle.journey.specs.Blocks.{AddsText, IsFramed, IsPrintable};
+ghost use Rattle.journey.specs.Queries.{IsQuery};
+ghost use Rattle.latest_departure.specs.Blocks.{IsLateText};
+ghost use Rattle.departures.specs.Blocks.{AreTold, without_line, IsProfileText, IsProfileBlock};
+ghost use Rattle.departures.specs.Searching.{IsPrintableRow};
+
+use crate::listing::{departures, without_ride};
+use crate::row::Row;
+use crate::search::RideSearch;
+use journey::{BlockBody, Query, QueryFault, block, framed, push_journey, read_query};
+use mode_network::{Journey, Network};
+use plain_texts::{push_decimal, push_line_feed};
+use product_search::Workspace;
+use search_laws::Time;
+use std::alloc::{AllocError, Global};
+
+/// Appends the line `without`.
+fn push_without(out: &mut Vec<u8>, c: Time) -> Result<(), AllocError>
+    ensures { OnOk result (out.new.items ≡ out.old.items ++ without_line c) }
+{
+    out.extend_from_slice(b"without ")?;
+    push_decimal(out, c)?;
+    push_line_feed(out)
+}
+
+/// Appends the line of a departure.
+fn push_departure(out: &mut Vec<u8>, network: &Network, t: Time) -> Result<(), AllocError>
+    ensures { OnOk result (out.new.items ≡ out.old.items
+        ++ with_feed (codes "depart " ++ clock_text_of network.now.days t)) }
+{
+    out.extend_from_slice(b"depart ")?;
+    network.days().push_clock(out, t)?;
+    push_line_feed(out)
+}
+
+/// Appends when a journey departs, and then what any block prints of it.
+fn push_timed(
+    alloc: Global,
+    out: &mut Vec<u8>,
+    network: &Network,
+    journey: &Journey,
+) -> Result<(), AllocError>
+    requires { IsPrintable network.now journey.now }
+    ensures { OnOk result (AddsText (IsLateText network.now journey.now) out.old.items out.new.items) }
+{
+    push_departure(out, network, journey.at)?;
+    push_journey(alloc, out, network, journey)?;
+    Ok(())
+}
+
+/// Appends a row.
+fn push_row(
+    alloc: Global,
+    out: &mut Vec<u8>,
+    network: &Network,
+    row: &Row,
+) -> Result<(), AllocError>
+    requires { IsPrintableRow network.now row.now }
+    ensures { OnOk result (AddsText (AreTold network.now (row.now ∷ [])) out.old.items out.new.items) }
+{
+    push_timed(alloc, out, network, &row.journey)?;
+    Ok(())
+}
+
+/// Appends the rows, one after the other.
+fn push_rows(
+    alloc: Global,
+    out: &mut Vec<u8>,
+    network: &Network,
+    rows: &[Row],
+) -> Result<(), AllocError>
+    requires { All (IsPrintableRow network.now) rows.now }
+    ensures { OnOk result (AddsText (AreTold network.now rows.now) out.old.items out.new.items) }
+{
+    for row in rows {
+        push_row(alloc, out, network, row)?;
+    }
+    Ok(())
+}
+
+/// Appends the rows, or the line `no journey` where there is none.
+fn push_rows_or_none(
+    alloc: Global,
+    out: &mut Vec<u8>,
+    network: &Network,
+    rows: &[Row],
+) -> Result<(), AllocError>
+    requires { All (IsPrintableRow network.now) rows.now }
+    ensures { OnOk result (AddsText (IsProfileText network.now None rows.now) out.old.items out.new.items) }
+{
+    if rows.is_empty() {
+        out.extend_from_slice(b"no journey\n")?;
+    } else {
+        push_rows(alloc, out, network, rows)?;
+    }
+    Ok(())
+}
+
+/// Appends the body of a block: how long it takes without a ride, and the rows; or the line `no journey` where there
+/// is neither.
+fn push_body(
+    alloc: Global,
+    out: &mut Vec<u8>,
+    network: &Network,
+    without: Option<Time>,
+    rows: &[Row],
+) -> Result<(), AllocError>
+    requires { All (IsPrintableRow network.now) rows.now }
+    ensures { OnOk result (AddsText (IsProfileText network.now without rows.now) out.old.items out.new.items) }
+{
+    match without {
+        Some(c) => {
+            push_without(out, c)?;
+            push_rows(alloc, out, network, rows)?;
+            Ok(())
+        }
+        None => push_rows_or_none(alloc, out, network, rows),
+    }
+}
+
+/// The block of a line with these rows.
+fn rows_block(
+    alloc: Global,
+    network: &Network,
+    line: &[u8],
+    without: Option<Time>,
+    rows: &[Row],
+) -> Result<Vec<u8>, AllocError>
+    requires { All (IsPrintableRow network.now) rows.now }
+    ensures { IfOk result (λ block. IsFramed (IsProfileText network.now without rows.now) line.now block.items) }
+{
+    let mut text = Vec::new(alloc);
+    push_body(alloc, &mut text, network, without, rows)?;
+    let block = framed(alloc, line, &text)?;
+    Ok(block)
+}
+
+/// The right block of a line that is this query.
+fn query_block(
+    alloc: Global,
+    workspace: &mut Workspace,
+    network: &Network,
+    line: &[u8],
+    query: &Query,
+    window: u32,
+) -> Result<Vec<u8>, AllocError>
+    requires asks { IsQuery network.now line.now query.now.from query.now.to query.now.depart (form_of query.now.expr) }
+    requires line { query.now.line ≡ line.now }
+    requires usable { IsUsable (form_of query.now.expr) }
+    ensures { IfOk result (λ block. IsProfileBlock network.now window line.now block.items) }
+{
+    network.days().facts();
+    let without = without_ride(alloc, workspace, network, query)?;
+    let search = RideSearch::new(alloc, network, query)?;
+    let rows = departures(alloc, workspace, &search, without, window)?;
+    let block = rows_block(alloc, network, line, without, &rows)?;
+    Ok(block)
+}
+
+/// The right block of a query line: that of its refusal, or of the departures of a window of so many milliseconds,
+/// which opens when the query departs. The searches use the workspace.
+///
+/// Fails where memory runs out, alone.
+pub fn profile_block(
+    alloc: Global,
+    workspace: &mut Workspace,
+    network: &Network,
+    line: &[u8],
+    window: u32,
+) -> Result<Vec<u8>, AllocError>
+    ensures { IfOk result (λ block. IsProfileBlock network.now window line.now block.items) }
+{
+    match read_query(alloc, network, line) {
+        Ok(query) => query_block(alloc, workspace, network, line, &query, window),
+        Err(QueryFault::OutOfMemory) => Err(AllocError),
+        Err(fault) => {
+            let block = block(alloc, network, line, &BlockBody::Refused(fault))?;
+            Ok(block)
+        }
+    }
+}

@@ -1,0 +1,119 @@
+//! The search for a journey with a ride that arrives first.
+
+ghost use Rattle.std.specs.Prelude.{◌≡◌, ◌<◌, ◌≤◌, ◌^◌, IfOk, IfSome};
+ghost use Rattle.mode_expression.specs.Form.{form_of, IsUsable};
+ghost use Rattle.unpack.specs.Taken.{IsPlainWalk};
+ghost use Rattle.departures.specs.Searching.{IsUnpacked};
+
+use crate::row::{Pair, Row};
+use crate::setting_off::set_off;
+use crate::transit::reads_transit;
+use automaton::{Collapsed, Positions};
+use few_boardings::{Counted, Side};
+use journey::{Query, copies};
+use mode_network::Network;
+use plain_graph::Plain;
+use product_search::{Best, Walk, Workspace, search_best_with};
+use search_laws::Time;
+use std::alloc::{AllocError, Global};
+use unpack::from_plain;
+
+/// What journeys with a ride are searched over: the network, the automaton that reads the words of the query's
+/// expression that have a transit letter, and the copies of both ends.
+#[derive(Drop)]
+pub struct RideSearch<'a> {
+    pub query: &'a Query,
+    pub plain: Plain<'a>,
+    pub labels: Counted<Collapsed<Positions>>,
+    /// Whether the expression has a letter of transit; else no journey with a ride does what it says.
+    pub reads_transit: bool,
+    pub origins: Vec<u32>,
+    pub destinations: Vec<u32>,
+}
+
+/// The row of a walk that was found, with its arrival, if one was.
+fn unpacked(
+    alloc: Global,
+    plain: &Plain<'_>,
+    arrival: Option<Time>,
+    walk: &Option<Walk>,
+) -> Result<Option<Row>, AllocError>
+    requires walk { IsPlainWalk plain.now.network.now plain.now.timetable.now walk.now }
+    requires soon { IfSome walk.now (λ w. w.at < 2 ^ 64) }
+    ensures { IfOk result (IsUnpacked plain.now.network.now plain.now.timetable.now arrival walk.now) }
+{
+    match (arrival, walk) {
+        (Some(arrive), Some(walk)) => {
+            let taken = from_plain(alloc, plain, walk)?;
+            let journey = set_off(alloc, plain.network(), &taken)?;
+            let pair = Pair {
+                depart: journey.at,
+                arrive,
+            };
+            Ok(Some(Row { pair, journey }))
+        }
+        _ => Ok(None),
+    }
+}
+
+impl<'a> RideSearch<'a> {
+    ghost use Rattle.departures.specs.Searching.{network_of, asked_of, IsRideSearch, IsFirstFrom};
+
+    /// The search for what a query asks.
+    pub fn new(
+        alloc: Global,
+        network: &'a Network,
+        query: &'a Query,
+    ) -> Result<RideSearch<'a>, AllocError>
+        requires { IsUsable (form_of query.now.expr) }
+        ensures search { IfOk result IsRideSearch }
+        ensures network { IfOk result (λ search. search.plain.network.now ≡ network.now) }
+        ensures query { IfOk result (λ search. search.query.now ≡ query.now) }
+    {
+        let plain = Plain::new(network);
+        let origins = copies(alloc, network, &query.from)?;
+        let destinations = copies(alloc, network, &query.to)?;
+        let collapsed = Collapsed::new(Positions::of(alloc, &query.expr)?);
+        let reads_transit = reads_transit(&collapsed);
+        let labels = Counted::new(collapsed, Side::AtLeast, 1);
+        Ok(RideSearch {
+            query,
+            plain,
+            labels,
+            reads_transit,
+            origins,
+            destinations,
+        })
+    }
+
+    /// Of the journeys with a ride that do what the query asks and leave at this time or later, one that arrives first,
+    /// and that waits nowhere before its first ride; None exactly where there is none.
+    pub fn first_from(
+        &self,
+        alloc: Global,
+        workspace: &mut Workspace,
+        at: Time,
+    ) -> Result<Option<Row>, AllocError>
+        requires search { IsRideSearch self.now }
+        requires late { self.now.query.now.depart ≤ at }
+        requires soon { at < 2 ^ 64 }
+        ensures { IfOk result (IsFirstFrom (network_of self.now) (asked_of self.now) at) }
+    {
+        if !self.reads_transit {
+            return Ok(None);
+        }
+        let best = search_best_with(
+            alloc,
+            workspace,
+            &self.plain,
+            &self.labels,
+            &self.origins,
+            &self.destinations,
+            at,
+            None,
+        )?;
+        let Best { arrival, walk } = best;
+        let row = unpacked(alloc, &self.plain, arrival, &walk)?;
+        Ok(row)
+    }
+}
