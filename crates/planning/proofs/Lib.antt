@@ -1,2 +1,4 @@
 pub mod AnyGraph
 pub mod PlanLemmas
+pub mod ArrivalLemmas
+pub mod DestinationLemmas

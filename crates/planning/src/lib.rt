@@ -1,8 +1,11 @@
-//! A best journey for a query, and the block of a query line, without a hierarchy and over one.
+//! A best journey for a query, the block of a query line, and when best journeys arrive at many destinations, without a
+//! hierarchy and over one.
 #![tactic(auto)]
 
 pub mod blocks;
+pub mod destinations;
 pub mod plans;
 
 pub use blocks::block_of;
-pub use plans::{BestPlan, FoundPlan, find_best, find_plan};
+pub use destinations::Destinations;
+pub use plans::{BestPlan, FoundPlan, best_arrival, find_best, find_plan};

@@ -5,6 +5,7 @@ ghost use Rattle.automaton.specs.Meanings.{position_meaning};
 ghost use Rattle.hierarchy.specs.Soundness.{IsSound};
 ghost use Rattle.journey.specs.Best.{asked_by};
 ghost use Rattle.phase_graph.specs.InUseGraph.{meaning_in_use, network_in, hierarchy_in};
+ghost use Rattle.planning.specs.Arrivals.{IsBestArrival};
 ghost use Rattle.planning.specs.Plans.{IsRead, IsPlan, AreTheLabels, IsCertifiable, both, route_of};
 ghost use Rattle.planning.specs.Searched.{IsSearched, IsWalkOf, IsUnder};
 ghost use Rattle.planning.specs.Settled.{IsLabelCount};
@@ -69,6 +70,35 @@ pub fn find_best(
         }
         Some(hierarchy) => find_over(alloc, workspace, network, hierarchy, query),
     }
+}
+
+/// When a best journey for a query arrives, or none exactly where no journey answers it. The hierarchy is sound for the
+/// network. The search uses the workspace.
+pub fn best_arrival(
+    alloc: Global,
+    workspace: &mut Workspace,
+    network: &Network,
+    hierarchy: Option<&Hierarchy>,
+    query: &Query,
+) -> Result<Option<Time>, AllocError>
+    requires sound { IfSome hierarchy (λ h. IsSound network.now h.now) }
+    requires read { IsRead network.now query.now }
+    ensures { IfOk result (IsBestArrival network.now (asked_by query.now)) }
+{
+    network.known();
+    let searched = prepared(alloc, network, hierarchy, query)?;
+    let found = search_best_with(
+        alloc,
+        workspace,
+        &searched.graph,
+        &searched.automaton,
+        &searched.starts,
+        &searched.ends,
+        query.depart,
+        None,
+    )?;
+    let Best { arrival, walk: _ } = found;
+    Ok(arrival)
 }
 
 /// A best journey for a query over the network's graph. The search uses the workspace.

@@ -1,0 +1,138 @@
+-- A least arrival over the graph in use, at the copies of one destination among its targets, is that of a best journey.
+use Rattle.std.proofs.Common.{◌≡◌, ℕ, zero, suc, ◌≤◌, ◌∙◌, Bool, true, false, cond, List, [], ◌∷◌, map, Option, Some, None, refl, sym, ap, subst, arith}
+use Rattle.std.specs.Prelude.{Contains}
+use Rattle.std.specs.List.{flat_map}
+use Rattle.std.proofs.Math.ListN.{get_or-map}
+use Rattle.std.proofs.lemmas.Bool.{lt-ltb}
+use Rattle.std.proofs.lemmas.List.{length-map}
+use Rattle.std.proofs.lemmas.List.Elements.{Contains-append_left, Contains-append_right}
+use Rattle.search_laws.specs.Collapse.{collapse}
+use Rattle.search_laws.specs.GraphLaws.{GraphMeaning}
+use Rattle.search_laws.specs.LabelLaws.{LabelsMeaning}
+use Rattle.search_laws.specs.Walks.{WalkStep, wait, IsWalk, word_from, ArrivesAt}
+use Rattle.product_search.specs.Answer.{IsArrival}
+use Rattle.hierarchy.specs.Lists.{HierarchyLists, is_contracted, IsContracted}
+use Rattle.plain_graph.proofs.Same.{walks_are_journeys}
+use Rattle.phase_graph.specs.Arcs.{phase_node, IsPhaseGraph}
+use Rattle.phase_graph.specs.PhaseArcs.{phase_meaning, node_of, is_down}
+use Rattle.phase_graph.specs.InUse.{IsInUse, IsSoundIfGiven, starts_in, ends_in, node_under, numbers_of, HasWalkInUse}
+use Rattle.phase_graph.specs.Laws.{HasJourney}
+use Rattle.phase_graph.proofs.GraphLemmas.{whole, half}
+use Rattle.phase_graph.proofs.GraphMoves.{is_phase_graph}
+use Rattle.phase_graph.proofs.InUseLemmas.{starts_under, ends_under, journeys_have_walks_in_use}
+use Rattle.phase_graph.proofs.WalkedLemmas.{journeys_have_walks, walks_have_journeys}
+use Rattle.mode_expression.specs.Form.{IsWordOf}
+use Rattle.mode_network.specs.declared.steps.Step.{Step}
+use Rattle.mode_network.specs.NetworkLists.{NetworkLists}
+use Rattle.mode_network.specs.Rules.{IsNetwork}
+use Rattle.mode_network.specs.Journeys.{Route, AreSteps}
+use Rattle.journey.specs.CopyLists.{AreTheCopies}
+use Rattle.journey.specs.Best.{Asked, Answers}
+use Rattle.certificate.specs.Verdicts.{AreDenoted}
+use Rattle.planning.specs.Arrivals.{IsBestArrival}
+
+-- ---- numbers of starts and ends
+
+numbered_start : (origins : List ℕ) (v : ℕ) → Contains origins v → Contains (map (λ x. phase_node x false) origins) (phase_node v false)
+numbered_start origins v (k, lt, is) = (k, omega (arith, lt, length-map origins (λ x. phase_node x false)), get_or-map (λ x. phase_node x false) origins k v ∙ ap (λ x. phase_node x false) is)
+
+numbered : (h : HierarchyLists) (v : ℕ) (down : Bool) → (down ≡ true → IsContracted h.order v) → Contains (numbers_of h v) (phase_node v down)
+numbered h v down low = by_test (is_contracted h.order v) refl down low
+  where
+    by_test : (b : Bool) → is_contracted h.order v ≡ b → (down : Bool) → (down ≡ true → IsContracted h.order v)
+        → Contains (cond b (phase_node v false ∷ phase_node v true ∷ []) (phase_node v false ∷ [])) (phase_node v down)
+    by_test true e false low = (0, omega arith, refl)
+    by_test true e true low = (1, omega arith, refl)
+    by_test false e false low = (0, omega arith, refl)
+    by_test false e true low = absurd (let is = lt-ltb _ _ (low refl) in let clash = sym is ∙ e in cc)
+
+numbered_end : (h : HierarchyLists) (copies : List ℕ) (v p : ℕ) → Contains copies v → Contains (numbers_of h v) p → Contains (flat_map (numbers_of h) copies) p
+numbered_end h [] v p (k, lt, is) there = absurd (omega (arith, lt))
+numbered_end h (x ∷ copies) v p (zero, lt, is) there = Contains-append_left (numbers_of h x) (flat_map (numbers_of h) copies) p (subst (λ y. Contains (numbers_of h y) p) (sym is) there)
+numbered_end h (x ∷ copies) v p (suc k, lt, is) there = Contains-append_right (numbers_of h x) (flat_map (numbers_of h) copies) p (numbered_end h copies v p (k, omega (arith, lt), is) there)
+
+-- ---- walks and journeys
+
+module _ (n : NetworkLists) (network : IsNetwork n) (targets : List ℕ) where
+  -- a journey from an origin to a copy among the targets has a walk to the numbers of the copies
+  walk_to : (h : Option HierarchyLists) → IsSoundIfGiven n h → (g : GraphMeaning) → IsInUse n h targets g → (origins copies : List ℕ) → ((v : ℕ) → Contains copies v → Contains targets v)
+      → (steps : List Step) (v t w u : ℕ) (letters : List ℕ) → AreSteps n v t steps w u letters → Contains origins v → Contains copies w
+      → HasWalkInUse g (starts_in h origins) (ends_in h copies) t u letters
+  walk_to None sound g in_use origins copies inside steps v t w u letters real from to =
+      journeys_have_walks_in_use n network None sound origins copies g in_use steps v t w u letters real from to
+  walk_to (Some h) (rules, sound) g in_use origins copies inside steps v t w u letters real from to =
+      let is = is_phase_graph n h targets network rules sound in_use.table in_use.keeps in_use.of in_use.marks in_use.are in
+      let p = journeys_have_walks n h targets network sound (phase_meaning n in_use.table h in_use.marks) is steps v t w u letters real (inside w to) in
+      let walk = p.walk in
+      subst (λ (x : GraphMeaning). HasWalkInUse x (starts_in (Some h) origins) (ends_in (Some h) copies) t u letters) (sym in_use.is) (record {
+        start = phase_node v false;
+        end = phase_node w p.down;
+        at = p.at;
+        steps = walk.steps;
+        starts_there = numbered_start origins v from;
+        ends_there = numbered_end h copies w (phase_node w p.down) to (numbered h w p.down p.at_target);
+        walk = walk.walk;
+        no_later = p.no_later;
+        same_word = ap collapse walk.word_is ∙ p.same_word;
+      })
+
+  -- under each walk there is a journey
+  journey_under : (h : Option HierarchyLists) → IsSoundIfGiven n h → (g : GraphMeaning) → IsInUse n h targets g → (steps : List WalkStep) (p t q u : ℕ) → IsWalk g p t steps q u
+      → HasJourney n (node_under h p) t (node_under h q) u (word_from g p steps)
+  journey_under None sound g in_use steps p t q u walk =
+      subst (λ (x : GraphMeaning). IsWalk x p t steps q u → HasJourney n p t q u (word_from x p steps)) (sym in_use.is) (λ here. (
+      let real = walks_are_journeys n network in_use.table in_use.keeps in_use.of p t steps q u here in
+      record { steps = real.0; told = _; real = real.1; same_word = refl }
+      )) walk
+  journey_under (Some h) (rules, sound) g in_use steps p t q u walk =
+      let is = subst (λ (x : GraphMeaning). IsPhaseGraph n h targets x) (sym in_use.is) (is_phase_graph n h targets network rules sound in_use.table in_use.keeps in_use.of in_use.marks in_use.are) in
+      subst (λ x. IsWalk g x t steps q u → HasJourney n (node_of p) t (node_of q) u (word_from g x steps)) (whole p) (λ here. (
+      let under = walks_have_journeys n h targets network sound g is steps (node_of p) (is_down p) t q u here in
+      subst (λ x. HasJourney n (node_of p) t x u (word_from g (phase_node (node_of p) (is_down p)) steps)) (sym (half under.to under.down) ∙ ap node_of (sym under.is)) under.journey
+      )) walk
+
+-- ---- arrivals
+
+module _ (n : NetworkLists) (network : IsNetwork n) (h : Option HierarchyLists) (sound : IsSoundIfGiven n h) (targets : List ℕ) (g : GraphMeaning) (in_use : IsInUse n h targets g)
+    (asked : Asked) (l : LabelsMeaning) (denotes : AreDenoted asked.form l) (origins copies : List ℕ) (from : AreTheCopies n asked.from origins) (to : AreTheCopies n asked.to copies)
+    (inside : (v : ℕ) → Contains copies v → Contains targets v) where
+  -- for each journey that answers an accepted walk from the departure on arrives no later
+  walk_of : (k : Route) (t : ℕ) → Answers n asked k t → (s : ℕ) × (s ≤ t) × ArrivesAt g l (starts_in h origins) (ends_in h copies) asked.depart s
+  walk_of k t a =
+      let w = walk_to n network targets h sound g in_use origins copies inside k.steps k.start k.at a.end t a.real.letters a.real.steps
+      ((from.are k.start).1 a.starts_at_copy) ((to.are a.end).1 a.ends_at_copy) in
+      let denoted : IsWordOf asked.form (collapse (word_from g w.start w.steps)) = subst (IsWordOf asked.form) (a.real.word_is ∙ sym w.same_word) a.denoted in (
+        w.at,
+        w.no_later,
+        record {
+          start = w.start;
+          end = w.end;
+          steps = wait k.at ∷ w.steps;
+          starts_there = w.starts_there;
+          ends_there = w.ends_there;
+          walk = (a.not_before, w.walk);
+          word = (denotes (word_from g w.start w.steps)).1 denoted;
+        },
+      )
+
+  -- under each accepted walk there is a journey that answers and arrives then
+  journey_of : (t : ℕ) → ArrivesAt g l (starts_in h origins) (ends_in h copies) asked.depart t → (j : Route) × Answers n asked j t
+  journey_of t w =
+      let under = journey_under n network targets h sound g in_use w.steps w.start asked.depart w.end t w.walk in (
+        record { start = node_under h w.start; at = asked.depart; steps = under.steps },
+        record {
+          end = node_under h w.end;
+          word = collapse under.told;
+          starts_at_copy = (from.are (node_under h w.start)).0 (starts_under h origins w.start w.starts_there);
+          not_before = omega arith;
+          real = record { letters = under.told; steps = under.real; word_is = refl };
+          ends_at_copy = (to.are (node_under h w.end)).0 (ends_under h copies w.end w.ends_there);
+          denoted = subst (IsWordOf asked.form) (sym under.same_word) ((denotes (word_from g w.start w.steps)).0 w.word);
+        },
+      )
+
+  pub best_arrival : (arrival : Option ℕ) → IsArrival g l (starts_in h origins) (ends_in h copies) asked.depart None arrival → IsBestArrival n asked arrival
+  best_arrival None none = λ k t a. (let w = walk_of k t a in none w.0 tt w.2)
+  best_arrival (Some first) (least, within) =
+      let j = journey_of first least.reached in
+      (j.0, record { arrival = first; answers = j.1; least = λ k t a. (let w = walk_of k t a in let early = least.least w.0 w.2 in let late = w.1 in omega arith) }, refl)

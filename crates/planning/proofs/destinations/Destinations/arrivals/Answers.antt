@@ -1,0 +1,36 @@
+use Rattle.std.proofs.Common.{◌∙◌, ◌<◌, List, ℕ, sym, ap, subst}
+use Rattle.std.specs.Prelude.{All}
+use Rattle.automaton.specs.Collapsed.{collapsed}
+use Rattle.automaton.specs.Meanings.{position_meaning}
+use Rattle.phase_graph.specs.InUse.{starts_in}
+use Rattle.phase_graph.specs.InUseGraph.{meaning_in_use}
+use Rattle.product_search.specs.Arrivals.{AreArrivals}
+use Rattle.certificate.proofs.VerifyLemmas.{automaton_denotes}
+use Rattle.planning.specs.Destinations.{hierarchy_of}
+use Rattle.planning.proofs.PlanLemmas.{starts_low}
+use Rattle.planning.proofs.DestinationLemmas.{all_arrivals, parts_fit}
+use Rattle.planning.proofs.destinations.Destinations.arrivals.Goals as goal
+
+pub search_arrivals-requires-clause-starts : goal.search_arrivals-requires-clause-starts
+search_arrivals-requires-clause-starts c =
+    let d = c.args.self.now in
+    let h = hierarchy_of d in
+    let g = meaning_in_use d.graph in
+    let starts = c.deref-2.ensures.value ∙ (c.in_ok-starts.ensures ∙ ap (starts_in h) c.deref.ensures.value) in
+    subst (All (λ v. v < g.nodes)) (sym starts)
+    (starts_low d.network.now h c.requires.ready.targets g c.requires.ready.in_use c.in_ok-origins.origins.items c.in_ok-origins.ensures.nodes)
+
+pub earliest_of_each-requires : goal.earliest_of_each-requires
+earliest_of_each-requires c = rw (c.deref-3.ensures.value, c.deref-4.ensures.value) (parts_fit c.args.self.now c.requires.ready c.in_ok-times.times.items c.in_ok-times.ensures.one_each)
+
+pub returns : goal.returns
+returns c =
+    let d = c.args.self.now in
+    let q = c.args.query.now in
+    let h = hierarchy_of d in
+    let l = collapsed (position_meaning c.new-automaton.result.inner) in
+    let denotes = automaton_denotes q.expr c.new-automaton.result.inner _ c.new-automaton.ensures.same c.new-automaton.ensures.accepts c.in_ok-of.ensures.accepts in
+    let starts = c.deref-2.ensures.value ∙ (c.in_ok-starts.ensures ∙ ap (starts_in h) c.deref.ensures.value) in
+    let are = subst (λ (ss : List ℕ). AreArrivals (meaning_in_use d.graph) l ss d.table.nodes.items q.depart c.in_ok-times.times.items) starts c.in_ok-times.ensures in
+    let list = rw (c.deref-3.ensures.value, c.deref-4.ensures.value) at c.in_ok-list.ensures in
+    rw list (all_arrivals d c.requires.ready c.in_ok-times.times.items c.known.ensures q l denotes c.in_ok-origins.origins.items c.in_ok-origins.ensures.are are)

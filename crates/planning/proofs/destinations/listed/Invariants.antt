@@ -1,0 +1,11 @@
+use Rattle.std.proofs.Common.{◌≡◌, length, Bor}
+use Rattle.std.specs.Prelude.{option_map}
+use Rattle.hierarchy.specs.declared.hierarchy.Hierarchy.{Hierarchy}
+use Rattle.planning.specs.Destinations.{ArePartsFor}
+use Rattle.planning.proofs.destinations.listed.Given as goal
+
+abbrev pub invariant-loop-query : goal.invariant-loop-query
+invariant-loop-query l = record {
+  one_each : length l.listing.parts.items ≡ l.query-index;
+  are : ArePartsFor l.network (option_map (λ (x : Bor Hierarchy). x.now) l.hierarchy) l.listing.targets.items l.listing.numbers.items l.queries l.listing.parts.items l.query-index;
+}

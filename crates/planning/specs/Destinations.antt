@@ -1,0 +1,73 @@
+-- How the destinations of queries are kept, so that one search finds the arrivals at all of them.
+use Rattle.std.specs.Prelude.{◌≡◌, ℕ, ◌+◌, ◌<◌, List, [], ◌∷◌, ◌++◌, length, min, Option, Some, None, Contains, slice_index_or, option_map}
+use Rattle.std.specs.List.{fold, slice_range}
+use Rattle.std.specs.Borrow.{Bor}
+use Rattle.hierarchy.specs.declared.hierarchy.Hierarchy.{Hierarchy}
+use Rattle.hierarchy.specs.Lists.{HierarchyLists}
+use Rattle.phase_graph.specs.InUse.{IsInUse, IsSoundIfGiven, ends_in}
+use Rattle.phase_graph.specs.InUseGraph.{meaning_in_use}
+use Rattle.mode_network.specs.NetworkLists.{NetworkLists}
+use Rattle.journey.specs.declared.query.Query.{Query}
+use Rattle.journey.specs.CopyLists.{AreTheCopies}
+use Rattle.planning.specs.declared.destinations.Part.{Part}
+use Rattle.planning.specs.declared.destinations.Listing.{Listing}
+use Rattle.planning.specs.declared.destinations.Destinations.{Destinations}
+
+-- the copies of a query's destination, if there is a query
+abbrev pub AreCopiesTo : NetworkLists → Option Query → List ℕ → Type 0
+AreCopiesTo n None copies = copies ≡ []
+AreCopiesTo n (Some q) copies = AreTheCopies n q.to copies
+
+-- the copies of a destination were listed behind those of others, and their numbers in the graph in use behind the others'
+pub record AddsDestination (n : NetworkLists) (h : Option HierarchyLists) (q : Option Query) (old new : Listing) : Type 0 where
+  pub copies : List ℕ
+  pub are : AreCopiesTo n q copies
+  pub targets : new.targets.items ≡ old.targets.items ++ copies
+  pub numbers : new.numbers.items ≡ old.numbers.items ++ ends_in h copies
+  pub parts : new.parts.items ≡ old.parts.items ++ record { first = length old.numbers.items; end = length new.numbers.items } ∷ []
+
+-- the copies of a destination are among the targets, and their numbers are this part of all
+pub record IsPartFor (n : NetworkLists) (h : Option HierarchyLists) (targets numbers : List ℕ) (q : Option Query) (part : Part) : Type 0 where
+  pub copies : List ℕ
+  pub are : AreCopiesTo n q copies
+  pub inside : (v : ℕ) → Contains copies v → Contains targets v
+  pub before : List ℕ
+  pub after : List ℕ
+  pub numbers_are : numbers ≡ before ++ (ends_in h copies ++ after)
+  pub first : part.first ≡ length before
+  pub end : part.end ≡ length before + length (ends_in h copies)
+
+-- so it is for the first so many queries
+abbrev pub ArePartsFor : NetworkLists → Option HierarchyLists → List ℕ → List ℕ → List (Option Query) → List Part → ℕ → Type 0
+ArePartsFor n h targets numbers queries parts count = (k : ℕ) → k < count → (p : Part) → IsPartFor n h targets numbers (slice_index_or queries k None) (slice_index_or parts k p)
+
+-- all destinations of the queries are listed
+pub record AreListed (n : NetworkLists) (h : Option HierarchyLists) (queries : List (Option Query)) (l : Listing) : Type 0 where
+  pub one_each : length l.parts.items ≡ length queries
+  pub are : ArePartsFor n h l.targets.items l.numbers.items queries l.parts.items (length queries)
+
+-- the hierarchy that destinations are searched over, if there is one
+abbrev pub hierarchy_of : Destinations → Option HierarchyLists
+hierarchy_of d = option_map (λ (h : Bor Hierarchy). h.now) d.hierarchy
+
+-- the graph in use is that for the copies of all destinations, and the table has their numbers in it
+pub record AreDestinations (d : Destinations) : Type 0 where
+  pub sound : IsSoundIfGiven d.network.now (hierarchy_of d)
+  pub targets : List ℕ
+  pub in_use : IsInUse d.network.now (hierarchy_of d) targets (meaning_in_use d.graph)
+  pub one_each : length d.parts.items ≡ length d.queries.now
+  pub are : ArePartsFor d.network.now (hierarchy_of d) targets d.table.nodes.items d.queries.now d.parts.items (length d.queries.now)
+
+-- ---- the earliest of some times
+
+abbrev pub earlier : Option ℕ → Option ℕ → Option ℕ
+earlier None other = other
+earlier (Some a) None = Some a
+earlier (Some a) (Some b) = Some (min a b)
+
+abbrev pub earliest : List (Option ℕ) → Option ℕ
+earliest times = fold earlier None times
+
+-- the earliest of a part
+abbrev pub earliest_in : List (Option ℕ) → Part → Option ℕ
+earliest_in times part = earliest (slice_range times part.first part.end)
