@@ -1,0 +1,3 @@
+pub mod PairLemmas
+pub mod CellLemmas
+pub mod CompleteLemmas

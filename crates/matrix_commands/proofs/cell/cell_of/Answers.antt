@@ -1,0 +1,6 @@
+use Rattle.journey.specs.Best.{asked_by}
+use Rattle.matrix_commands.proofs.CellLemmas.{timed_right}
+use Rattle.matrix_commands.proofs.cell.cell_of.Goals as goal
+
+pub returns : goal.returns
+returns c = rw c.timed.ensures (timed_right c.args.network.now c.args.line.now (asked_by c.in-Ok.query) c.in_ok-arrival.arrival c.in-Ok.ensures.query c.in_ok-arrival.ensures)

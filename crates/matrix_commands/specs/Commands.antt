@@ -1,0 +1,21 @@
+-- What the command says of a run by its outcome.
+use Rattle.std.specs.Prelude.{ℕ, List, Option}
+use Rattle.plan_base.specs.declared.limits.Caps.{Caps}
+use Rattle.mode_network.specs.NetworkLists.{NetworkLists}
+use Rattle.hierarchy_commands.specs.Commands.{OnHierarchyIfNamed}
+use Rattle.run_steps.specs.declared.outcome.FileRole.TheVariants.{Origins, Destinations}
+use Rattle.run_steps.specs.InTurn.{AnswersFile}
+use Rattle.run_steps.specs.QueryLines.{query_lines}
+use Rattle.run_steps.specs.Regions.{OnRegion}
+use Rattle.run_steps.specs.Sayings.{Saying, OnFile}
+use Rattle.matrix_commands.specs.Rows.{AreRowsOf}
+
+-- the destinations file is read whole, and the rows of each line of the origins file, one for each line of destinations, are written as it is read
+abbrev pub WritesTable : NetworkLists → (origins destinations date time expr : List ℕ) → Saying
+WritesTable n origins destinations date time expr =
+    OnFile Destinations destinations (λ bytes. AnswersFile Origins origins (AreRowsOf n (query_lines bytes) date time expr))
+
+-- `matrix` writes a table of times
+abbrev pub SaysMatrix : Caps → (region origins destinations date time expr : List ℕ) → Option (List ℕ) → Saying
+SaysMatrix caps region origins destinations date time expr hierarchy =
+    OnRegion caps region (λ n. OnHierarchyIfNamed n hierarchy (λ h. WritesTable n origins destinations date time expr))

@@ -1,0 +1,5 @@
+pub mod Cells
+pub mod Rows
+pub mod Commands
+pub mod Complete
+pub mod Working
