@@ -22,6 +22,13 @@ Standard output has what a command writes, standard error the notes. The exit st
 the words are not those of a command. `planbook BOOK COMMAND --help` says more of a command, `planbook --version` which
 version this is, and docs/BOOK.md all of it: what is kept, and each exit status.";
 
+/// What is said at the end of the help on `review`.
+const REVIEW: &str = "\
+A line says: same, earlier CLOCK, later CLOCK, none (there is no journey any more), found CLOCK (there was none), or
+refused and why.
+
+Example: planbook walks review town";
+
 /// A command with no words yet. `example` is said at the end of its help.
 fn named<'a>(alloc: Global, name: &'a str, about: &'a str, example: &'a str) -> Command<'a> {
     Command::new(alloc, name).about(about).after_help(example)
@@ -79,16 +86,20 @@ fn over_name<'a>(
     )
 }
 
-/// The command that says which certificates hold.
-fn recheck<'a>(alloc: Global) -> Result<Command<'a>, AllocError> {
-    let about = "Write for each name whether what is kept under it is valid in a region";
-    let command = named(
+/// A command on a region.
+fn over_region<'a>(
+    alloc: Global,
+    name: &'a str,
+    about: &'a str,
+    example: &'a str,
+) -> Result<Command<'a>, AllocError> {
+    with_word(
         alloc,
-        "recheck",
-        about,
-        "Example: planbook walks recheck town",
-    );
-    with_word(alloc, command, "region", "REGION", REGION)
+        named(alloc, name, about, example),
+        "region",
+        "REGION",
+        REGION,
+    )
 }
 
 /// The program with one more command.
@@ -102,7 +113,7 @@ fn with_command<'a>(
 /// The program with its commands.
 pub fn planbook<'a>(alloc: Global) -> Result<Command<'a>, AllocError> {
     let about =
-        "Keeps certificates of journeys by name, and says which of them hold in another region.";
+        "Keeps certificates of journeys by name, and says what another region does to them.";
     let program = named(alloc, "planbook BOOK", about, MORE);
     let program = with_command(program, keep(alloc))?;
     let remove = over_name(
@@ -126,5 +137,18 @@ pub fn planbook<'a>(alloc: Global) -> Result<Command<'a>, AllocError> {
         "Example: planbook walks show to-school > claim",
     );
     let program = with_command(program, show)?;
-    with_command(program, recheck(alloc))
+    let recheck = over_region(
+        alloc,
+        "recheck",
+        "Write for each name whether what is kept under it is valid in a region",
+        "Example: planbook walks recheck town",
+    );
+    let program = with_command(program, recheck)?;
+    let review = over_region(
+        alloc,
+        "review",
+        "Answer each query anew in a region, and write for each name what became of its journey",
+        REVIEW,
+    );
+    with_command(program, review)
 }

@@ -11,14 +11,14 @@ use Rattle.region_file.specs.declared.fault.RegionFault.{RegionFault}
 use Rattle.region_file.specs.Regions.{region_of}
 use Rattle.journey.specs.declared.verdict.CertVerdict.TheVariants as verdict
 use Rattle.certificate.specs.Certificates.{Claim}
-use Rattle.certificate.specs.Texts.{IsCertText}
 use Rattle.certificate.specs.Verdicts.{IsCertVerdict}
 use Rattle.certificate.proofs.ReadLaws.{again}
 use Rattle.certificate.proofs.UniqueLemmas.{verdict_is_unique}
+use Rattle.journey_book.proofs.LawLemmas.{same_claim}
 use Rattle.journey_book.specs.Books.{Book}
 use Rattle.journey_book.specs.Commands.{OnNetwork, OnValid, SpellsValid, says}
 use Rattle.journey_book.specs.Complete.{Files, IsHeld, SpellsNetwork, CanBeDone, IsDoneOrAbsent}
-use Rattle.journey_book.specs.Requests.{Request, keep, drop, list, show, recheck}
+use Rattle.journey_book.specs.Requests.{Request, keep, drop, list, show, recheck, review}
 use Rattle.journey_book.specs.Sayings.{Scene, Saying, scene, OnFile, IsUnread, Changes, Writes, most_bytes}
 use Rattle.journey_book.specs.declared.outcome.BookFile.{BookFile}
 use Rattle.journey_book.specs.declared.outcome.BookOutcome.{BookOutcome}
@@ -80,9 +80,6 @@ module _ (files : Files) where
       let on = subst (λ (r : Result NetworkLists RegionFault). OnNetwork r rest old new outcome) spells said in
       more n on.0 p old new outcome tells quiet on.1
 
-  same_claim : (bytes : List ℕ) (a b : Claim) → IsCertText bytes a → IsCertText bytes b → a ≡ b
-  same_claim bytes a b p q = let x = again bytes a p in let y = again bytes b q in cc
-
   valid_completes : (n : NetworkLists) → IsNetwork n → (rest : List ℕ → Saying) → ((bytes : List ℕ) → Completes files (Unit {0}) (rest bytes))
       → (bytes : List ℕ) → Completes files (SpellsValid n bytes) (OnValid n bytes (rest bytes))
   valid_completes n rules rest more bytes (claim, spells, valid) old new outcome tells quiet (inl (line, first, ends)) =
@@ -130,6 +127,8 @@ module _ (files : Files) where
   completes caps (keep name region certificate) can old new outcome tells quiet said =
       file_completes _ region _ _ (network_completes caps _ _ (λ n rules. file_completes _ certificate _ _ (valid_completes n rules _ (λ bytes. changes_complete _ _)))) can old new outcome tells quiet said
   completes caps (recheck region) can old new outcome tells quiet said =
+      file_completes _ region _ _ (network_completes caps _ _ (λ n rules p from to end told calm says. writes_complete _ from to end calm says)) can old new outcome tells quiet said
+  completes caps (review region) can old new outcome tells quiet said =
       file_completes _ region _ _ (network_completes caps _ _ (λ n rules p from to end told calm says. writes_complete _ from to end calm says)) can old new outcome tells quiet said
   completes caps (drop name) can old new outcome tells quiet (inl (none, ends)) = absent_completes outcome ends.0
   completes caps (drop name) can old new outcome tells quiet (inr changed) = changes_complete _ _ tt old new outcome tells quiet changed

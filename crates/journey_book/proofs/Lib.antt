@@ -4,3 +4,5 @@ pub mod KeeperLemmas
 pub mod ReportLemmas
 pub mod RunLemmas
 pub mod CompleteLemmas
+pub mod LawLemmas
+pub mod FoldLemmas

@@ -1,7 +1,7 @@
 -- Words that begin with the command `keep`.
 use Rattle.std.proofs.Common.{◌≡◌, ℕ, List, [], ◌∷◌, true, arith}
 use Rattle.std.specs.Prelude.{codes}
-use Rattle.journey_book.specs.Requests.{AsksFor, Request, is_name, keep, drop, list, show, recheck}
+use Rattle.journey_book.specs.Requests.{AsksFor, Request, is_name, keep, drop, list, show, recheck, review}
 
 pub record AreKept (given : List (List ℕ)) : Type 0 where
   pub name : List ℕ
@@ -20,3 +20,4 @@ asks_keep program book given (drop name) (words, is) = absurd (another program b
 asks_keep program book given list words = absurd (another program book given words.program words.book 108 _ _ (λ e. omega (arith, e)) words.are)
 asks_keep program book given (show name) (words, is) = absurd (another program book given words.program words.book 115 _ _ (λ e. omega (arith, e)) words.are)
 asks_keep program book given (recheck region) (words, is) = absurd (another program book given words.program words.book 114 _ _ (λ e. omega (arith, e)) words.are)
+asks_keep program book given (review region) (words, is) = absurd (another program book given words.program words.book 114 _ _ (λ e. omega (arith, e)) words.are)

@@ -15,7 +15,8 @@ use Rattle.certificate.specs.Verdicts.{IsCertVerdict}
 use Rattle.journey_book.specs.Books.{dropped, kept}
 use Rattle.journey_book.specs.Keepers.{Tells}
 use Rattle.journey_book.specs.Reports.{IsListing, IsRecheck}
-use Rattle.journey_book.specs.Requests.{Request, keep, drop, list, show, recheck}
+use Rattle.journey_book.specs.Reviews.{IsReview}
+use Rattle.journey_book.specs.Requests.{Request, keep, drop, list, show, recheck, review}
 use Rattle.journey_book.specs.Sayings.{Saying, Ends, OnFile, Changes, Writes}
 use Rattle.journey_book.specs.declared.outcome.BookFile.TheVariants.{Region, Certificate}
 use Rattle.journey_book.specs.declared.outcome.BookOutcome.TheVariants.{BadRegion, BadCertificate, Invalid, Absent}
@@ -52,9 +53,9 @@ OnValid n bytes rest old new outcome =
 abbrev pub IsAbsent : List ℕ → Saying
 IsAbsent name old new outcome = Tells old.keeper (λ book. book name ≡ None) × Ends Absent old new outcome
 
--- What a run says that was asked for this. `keep` keeps the certificate's bytes under the name, where it is valid in the region; `drop`
--- removes a name that is there; `list` writes the names; `show` what is kept under a name that is there; `recheck` what the region
--- makes of all that is kept.
+-- What a run says that was asked for this. `keep` keeps the certificate's bytes under the name, where it is valid in the
+-- region; `drop` removes a name that is there; `list` writes the names; `show` what is kept under a name that is there;
+-- `recheck` which of the certificates hold in the region; `review` what the region does to their journeys.
 abbrev pub says : Caps → Request → Saying
 says caps (keep name region certificate) old new outcome =
     OnRegion caps region (λ n. OnFile Certificate certificate (λ bytes. OnValid n bytes (Changes (λ book. Unit {0}) (kept name bytes)))) old new outcome
@@ -63,3 +64,4 @@ says caps list old new outcome = Writes (IsListing old.keeper) old new outcome
 says caps (show name) old new outcome =
     IsAbsent name old new outcome ⊎ Writes (λ text. Tells old.keeper (λ book. book name ≡ Some text)) old new outcome
 says caps (recheck region) old new outcome = OnRegion caps region (λ n. Writes (IsRecheck n old.keeper)) old new outcome
+says caps (review region) old new outcome = OnRegion caps region (λ n. Writes (IsReview n old.keeper)) old new outcome

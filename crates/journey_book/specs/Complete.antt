@@ -4,7 +4,7 @@ use Rattle.plan_base.specs.declared.limits.Caps.{Caps}
 use Rattle.mode_network.specs.NetworkLists.{NetworkLists}
 use Rattle.region_file.specs.Regions.{region_of}
 use Rattle.journey_book.specs.Commands.{SpellsValid}
-use Rattle.journey_book.specs.Requests.{Request, keep, drop, list, show, recheck}
+use Rattle.journey_book.specs.Requests.{Request, keep, drop, list, show, recheck, review}
 use Rattle.journey_book.specs.Sayings.{most_bytes}
 use Rattle.journey_book.specs.declared.outcome.BookOutcome.{BookOutcome}
 use Rattle.journey_book.specs.declared.outcome.BookOutcome.TheVariants.{Done, Absent, OutOfMemory}
@@ -28,6 +28,7 @@ SpellsNetwork caps P bytes = (n : NetworkLists) × (region_of caps bytes ≡ Ok 
 abbrev pub CanBeDone : Caps → Files → Request → Type 0
 CanBeDone caps files (keep name region certificate) = IsHeld files region (SpellsNetwork caps (λ n. IsHeld files certificate (SpellsValid n)))
 CanBeDone caps files (recheck region) = IsHeld files region (SpellsNetwork caps (λ n. Unit {0}))
+CanBeDone caps files (review region) = IsHeld files region (SpellsNetwork caps (λ n. Unit {0}))
 CanBeDone caps files (drop name) = Unit {0}
 CanBeDone caps files list = Unit {0}
 CanBeDone caps files (show name) = Unit {0}

@@ -5,7 +5,10 @@ pub mod Requests
 pub mod Statuses
 pub mod Sayings
 pub mod Reports
+pub mod Reviews
 pub mod Commands
 pub mod Complete
 pub mod Outcomes
+pub mod Laws
+pub mod Runs
 pub mod Working

@@ -12,6 +12,7 @@ pub data Request : Type 0 where
   list : Request
   show : (name : List ℕ) → Request
   recheck : (region : List ℕ) → Request
+  review : (region : List ℕ) → Request
 
 abbrev pub request_of : BookCommand → Request
 request_of (command.Keep name region certificate) = keep name.now region.now certificate.now
@@ -19,6 +20,7 @@ request_of (command.Drop name) = drop name.now
 request_of command.List = list
 request_of (command.Show name) = show name.now
 request_of (command.Recheck region) = recheck region.now
+request_of (command.Review region) = review region.now
 
 -- a small letter or a digit
 abbrev pub is_letter_or_digit : ℕ → Bool
@@ -52,6 +54,7 @@ AsksFor words (drop name) = AreWords words (codes "drop") (name ∷ []) × (is_n
 AsksFor words list = AreWords words (codes "list") []
 AsksFor words (show name) = AreWords words (codes "show") (name ∷ []) × (is_name name ≡ true)
 AsksFor words (recheck region) = AreWords words (codes "recheck") (region ∷ []) × (asks_help region ≡ false)
+AsksFor words (review region) = AreWords words (codes "review") (region ∷ []) × (asks_help region ≡ false)
 
 -- the words ask for nothing that there is
 abbrev pub AreRefused : List (List ℕ) → Type 0

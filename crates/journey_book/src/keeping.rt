@@ -1,20 +1,19 @@
 //! The commands `keep` and `drop`, which change the book.
 
-ghost use Rattle.std.specs.Prelude.{◌≡◌, IfErr, OnOk};
+ghost use Rattle.std.specs.Prelude.{◌≡◌, IfErr, IfOk, OnOk};
 ghost use Rattle.plan_base.specs.Sinks.{SinkMeaning};
 ghost use Rattle.plan_base.specs.Shelves.{ShelfMeaning};
 ghost use Rattle.journey_book.specs.Books.{kept};
 ghost use Rattle.journey_book.specs.Commands.{OnValid, SpellsValid, says};
 ghost use Rattle.journey_book.specs.Requests.{keep, drop};
 ghost use Rattle.journey_book.specs.Sayings.{Changes, OnFile, end_of, scene};
-ghost use Rattle.journey_book.specs.Working.{IsUnverified};
+ghost use Rattle.journey_book.specs.Working.{IsUnjudged, IsUnverified, IsVerdictOn};
 ghost use Rattle.journey_book.specs.declared.outcome.BookFile.TheVariants.{Certificate};
 
 use crate::keeper::Keeper;
 use crate::outcome::{BookFile, BookOutcome};
-use crate::reports::verdict_on;
 use crate::steps::{outcome_of_keeper, read_file, read_region, tell};
-use certificate::{CertFault, CertVerdict};
+use certificate::{CertFault, CertVerdict, read, verify};
 use fault_notes::{bad_certificate, invalid_certificate};
 use mode_network::Network;
 use plan_base::{Caps, Shelf, Sink};
@@ -82,6 +81,16 @@ fn check_valid<E: Sink>(
         }
         Err(CertFault::OutOfMemory) => Err(BookOutcome::OutOfMemory),
     }
+}
+
+/// The verdict on the certificate that bytes spell, or why they spell none.
+fn verdict_on(alloc: Global, network: &Network, bytes: &[u8]) -> Result<CertVerdict, CertFault>
+    ensures ok { IfOk result (IsVerdictOn network.now bytes.now) }
+    ensures err { IfErr result (IsUnjudged bytes.now) }
+{
+    let certificate = read(alloc, bytes)?;
+    let verdict = verify(alloc, network, None, &certificate)?;
+    Ok(verdict)
 }
 
 /// Removes a name.

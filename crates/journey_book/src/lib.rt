@@ -6,9 +6,12 @@
 
 pub mod keeper;
 mod keeping;
+mod laws;
 pub mod memory_keeper;
 pub mod outcome;
+mod rechecking;
 mod reports;
+mod reviewing;
 mod running;
 mod showing;
 pub mod sqlite_keeper;
@@ -16,9 +19,12 @@ mod steps;
 pub mod words;
 
 pub use keeper::{KeepFault, Keeper};
+pub use laws::{reports_are_fixed, runs_fold, valid_is_same};
 pub use memory_keeper::MemoryKeeper;
 pub use outcome::{BookFile, BookOutcome};
-pub use reports::recheck;
+pub use rechecking::Recheck;
+pub use reports::{Report, report_of};
+pub use reviewing::Review;
 pub use running::{run_book, run_book_within};
 pub use sqlite_keeper::{Refusal, SqliteKeeper};
 pub use words::BookCommand;

@@ -10,7 +10,7 @@ ghost use Rattle.journey_book.specs.Sayings.{end_of, scene};
 use crate::keeper::Keeper;
 use crate::keeping::{drop_name, keep};
 use crate::outcome::BookOutcome;
-use crate::showing::{list, recheck_all, show};
+use crate::showing::{list, recheck_all, review_all, show};
 use crate::steps::tell;
 use crate::words::{BookCommand, read_words};
 use book_help::help;
@@ -41,6 +41,9 @@ fn carry_out<F: Shelf, K: Keeper, O: Sink, E: Sink>(
         BookCommand::Recheck { region } => {
             recheck_all(alloc, region, shelf, keeper, out, notes, caps)
         }
+        BookCommand::Review { region } => {
+            review_all(alloc, region, shelf, keeper, out, notes, caps)
+        }
     }
 }
 
@@ -69,11 +72,12 @@ pub fn run_book_within<F: Shelf, K: Keeper, O: Sink, E: Sink>(
 /// Does what a command with these words asks for: the program's name, the book's, which is not looked at, the command's, and what it
 /// works on.
 ///
-/// `keep` keeps a certificate's bytes under a name, where it is valid in a region; `drop` removes a name; `list` writes all names and
-/// `show` what is kept under one; `recheck` writes what a region makes of all that is kept. The outcome says how the run ended. Where
-/// the shelf tells that all files are there, they are without fault, and no count of faults rose, all of the work is done, unless
-/// nothing is kept under the name or memory ran out. `notes` is told why a run did not end with its work done, and where the words
-/// ask for nothing, what they may be; a fault of `notes` changes nothing.
+/// `keep` keeps a certificate's bytes under a name, where it is valid in a region; `drop` removes a name; `list` writes all
+/// names and `show` what is kept under one; `recheck` writes which of the certificates that are kept hold in a region, and
+/// `review` what it does to their journeys. The outcome says how the run ended. Where the shelf tells that all files are
+/// there, they are without fault, and no count of faults rose, all of the work is done, unless nothing is kept under the name
+/// or memory ran out. `notes` is told why a run did not end with its work done, and where the words ask for nothing, what they
+/// may be; a fault of `notes` changes nothing.
 pub fn run_book<F: Shelf, K: Keeper, O: Sink, E: Sink>(
     alloc: Global,
     words: &[String],

@@ -1,18 +1,19 @@
-//! The commands `list`, `show` and `recheck`, which write what is kept.
+//! The commands `list`, `show`, `recheck` and `review`, which write what is kept and what is said of it.
 
 ghost use Rattle.std.specs.Prelude.{◌≡◌, map, string_bytes, IfOk};
 ghost use Rattle.plain_texts.specs.Lines.{lines_text};
 ghost use Rattle.plan_base.specs.Shelves.{ShelfMeaning};
 ghost use Rattle.journey_book.specs.Commands.{says};
-ghost use Rattle.journey_book.specs.Requests.{list, show, recheck};
-ghost use Rattle.journey_book.specs.Reports.{IsRecheck};
+ghost use Rattle.journey_book.specs.Requests.{list, show, recheck, review};
+ghost use Rattle.journey_book.specs.Reports.{IsReport};
 ghost use Rattle.journey_book.specs.Sayings.{Writes, end_of, scene};
 
 use crate::keeper::Keeper;
 use crate::outcome::BookOutcome;
-use crate::reports::recheck;
+use crate::rechecking::Recheck;
+use crate::reports::{Report, report_of};
+use crate::reviewing::Review;
 use crate::steps::{outcome_of_keeper, read_region, write_text};
-use mode_network::Network;
 use plain_texts::push_line_feed;
 use plan_base::{Caps, Shelf, Sink};
 use std::alloc::{AllocError, Global};
@@ -64,7 +65,7 @@ pub(crate) fn show<K: Keeper, O: Sink>(
     }
 }
 
-/// Reads a region, and writes what it makes of all that is kept.
+/// Reads a region, and writes which of the certificates that are kept hold in it.
 pub(crate) fn recheck_all<F: Shelf, K: Keeper, O: Sink, E: Sink>(
     alloc: Global,
     region: &str,
@@ -77,19 +78,37 @@ pub(crate) fn recheck_all<F: Shelf, K: Keeper, O: Sink, E: Sink>(
     ensures { says caps.now (recheck region.now) (scene (F.meaning shelf.old) (K.meaning keeper.old) (O.meaning out.old)) (scene (F.meaning shelf.new) (K.meaning keeper.new) (O.meaning out.new)) (end_of result) }
 {
     let network = read_region(alloc, shelf, region, caps, notes)?;
-    write_report(alloc, &network, keeper, out)
+    let recheck = Recheck { network: &network };
+    write_report(alloc, &recheck, keeper, out)
 }
 
-/// Writes what the network makes of all that is kept.
-fn write_report<K: Keeper, O: Sink>(
+/// Reads a region, and writes what it does to the journeys that are kept.
+pub(crate) fn review_all<F: Shelf, K: Keeper, O: Sink, E: Sink>(
     alloc: Global,
-    network: &Network,
+    region: &str,
+    shelf: &mut F,
+    keeper: &mut K,
+    out: &mut O,
+    notes: &mut E,
+    caps: &Caps,
+) -> Result<(), BookOutcome>
+    ensures { says caps.now (review region.now) (scene (F.meaning shelf.old) (K.meaning keeper.old) (O.meaning out.old)) (scene (F.meaning shelf.new) (K.meaning keeper.new) (O.meaning out.new)) (end_of result) }
+{
+    let network = read_region(alloc, shelf, region, caps, notes)?;
+    let review = Review { network: &network };
+    write_report(alloc, &review, keeper, out)
+}
+
+/// Writes what is said of all that is kept.
+fn write_report<R: Report, K: Keeper, O: Sink>(
+    alloc: Global,
+    report: &R,
     keeper: &mut K,
     out: &mut O,
 ) -> Result<(), BookOutcome>
-    ensures { (shelf : ShelfMeaning) → Writes (IsRecheck network.now (K.meaning keeper.old)) (scene shelf (K.meaning keeper.old) (O.meaning out.old)) (scene shelf (K.meaning keeper.new) (O.meaning out.new)) (end_of result) }
+    ensures { (shelf : ShelfMeaning) → Writes (IsReport (R.rule report.now) (K.meaning keeper.old)) (scene shelf (K.meaning keeper.old) (O.meaning out.old)) (scene shelf (K.meaning keeper.new) (O.meaning out.new)) (end_of result) }
 {
-    match recheck(alloc, network, keeper) {
+    match report_of(alloc, report, keeper) {
         Ok(text) => write_text(out, &text),
         Err(fault) => Err(outcome_of_keeper(fault)),
     }

@@ -23,8 +23,12 @@ pub enum BookCommand<'a> {
     Show {
         name: &'a str,
     },
-    /// What a region makes of all that is kept.
+    /// Which of the certificates that are kept hold in a region.
     Recheck {
+        region: &'a str,
+    },
+    /// What a region does to the journeys that are kept.
+    Review {
         region: &'a str,
     },
 }
@@ -71,6 +75,9 @@ fn named<'a>(command: &str, given: &'a [String]) -> Option<BookCommand<'a>>
             name: only_name(given)?,
         }),
         "recheck" => Some(BookCommand::Recheck {
+            region: only_region(given)?,
+        }),
+        "review" => Some(BookCommand::Review {
             region: only_region(given)?,
         }),
         _ => None,

@@ -8,5 +8,5 @@ abbrev pub invariant-loop-name : goal.invariant-loop-name
 invariant-loop-name g l = record {
   later : (g.K.Keeper.meaning l.fn.keeper).faults ≤ (g.K.Keeper.meaning l.keeper).faults;
   stays : Stays (g.K.Keeper.meaning l.fn.keeper) (g.K.Keeper.meaning l.keeper);
-  lines : AreReported l.network (g.K.Keeper.meaning l.fn.keeper) (map string_bytes (take l.name-index l.names)) l.text.items;
+  lines : AreReported (g.R.Report.rule l.report) (g.K.Keeper.meaning l.fn.keeper) (map string_bytes (take l.name-index l.names)) l.text.items;
 }

@@ -2,7 +2,7 @@ use Rattle.std.proofs.Common.{List, map, string_bytes, subst}
 use Rattle.std.proofs.lemmas.Result.{IfOk-weaker}
 use Rattle.journey_book.specs.Reports.{AreReported}
 use Rattle.journey_book.proofs.ReportLemmas.{reported_before}
-use Rattle.journey_book.proofs.reports.recheck.Goals as goal
+use Rattle.journey_book.proofs.reports.report_of.Goals as goal
 
 pub returns-clause-ok : goal.returns-clause-ok
 returns-clause-ok g c =
@@ -13,6 +13,6 @@ returns-clause-ok g c =
     (λ text reported. (
       names,
       c.in_ok-names.ensures.ok,
-      reported_before c.args.network.now old mid names text.items c.in_ok-names.ensures.same
-          (subst (λ (ns : List _). AreReported c.args.network.now mid (map string_bytes ns) text.items) c.deref.ensures.value reported),
+      reported_before (g.R.Report.rule c.args.report.now) old mid names text.items c.in_ok-names.ensures.same
+          (subst (λ (ns : List _). AreReported (g.R.Report.rule c.args.report.now) mid (map string_bytes ns) text.items) c.deref.ensures.value reported),
     )) c.report_all.ensures.ok

@@ -1,0 +1,149 @@
+-- What is reported of a book is one text, and a certificate that is valid is `same`.
+use Rattle.std.proofs.Common.{◌≡◌, ◌∙◌, refl, sym, ap, ap₂, subst, ℕ, ◌≤◌, ◌||◌, inl, inr, List, [], ◌∷◌, ◌++◌, Option, None, Some, arith, eq-eqb}
+use Rattle.std.specs.Prelude.{Err, Ok, IfSome, codes, decimal}
+use Rattle.std.specs.Str.{bytes_eq}
+use Rattle.std.specs.List.{list_any}
+use Rattle.std.specs.BTreeSet.{BTreeSet}
+use Rattle.std.specs.Cmp.Lexicographic.{slice_cmp, nat_list_cmp_total}
+use Rattle.std.specs.Ordering.{is_eq, nat_cmp}
+use Rattle.std.proofs.lemmas.Map.Lookups.{btree_set_from_contains, exact_bytes}
+use Rattle.std.proofs.lemmas.Map.Text.{is_eq-slice_cmp}
+use Rattle.plain_texts.specs.Lines.{with_feed}
+use Rattle.search_laws.proofs.WalkLemmas.{walk_rises}
+use Rattle.mode_network.specs.NetworkLists.{NetworkLists}
+use Rattle.mode_network.specs.Rules.{IsNetwork}
+use Rattle.mode_network.specs.Journeys.{Route, IsJourney}
+use Rattle.plain_graph.specs.PlainArcs.{plain_meaning}
+use Rattle.plain_graph.specs.Lawful.{plain_lawful}
+use Rattle.plain_graph.proofs.Same.{journeys_are_walks}
+use Rattle.phase_graph.specs.InUse.{IsPlain}
+use Rattle.search_laws.specs.GraphLaws.{GraphMeaning}
+use Rattle.journey.specs.Best.{Asked}
+use Rattle.journey.specs.Texts.{refusal_text}
+use Rattle.journey.proofs.ReadingLemmas.{reading_is_unique}
+use Rattle.certificate.specs.Certificates.{Claim}
+use Rattle.certificate.specs.Texts.{IsCertText}
+use Rattle.certificate.specs.Valid.{IsBestResult}
+use Rattle.certificate.proofs.ReadLaws.{again}
+use Rattle.certificate.proofs.UniqueLemmas.{verdict_is_unique}
+use Rattle.certificate.proofs.VerifyLemmas.{valid_proves}
+use Rattle.journey_book.specs.Books.{Book, AreNamesOf}
+use Rattle.journey_book.specs.Keepers.{KeeperMeaning, Tells}
+use Rattle.journey_book.specs.Laws.{IsFixed, ReportsAreFixed, StartsAt, ValidIsSame}
+use Rattle.journey_book.specs.Reports.{AreReported, ClaimRule, IsJudged, IsReport, IsSaidOn, verdict_words}
+use Rattle.journey_book.specs.Reviews.{IsAnswered, IsReviewed, arrival_words, beside, kept_arrival}
+
+-- ---- the names of a book
+
+among : (name : List ℕ) (names : List (List ℕ)) → list_any (λ k. is_eq (slice_cmp nat_cmp name k)) names ≡ list_any (bytes_eq name) names
+among name [] = refl
+among name (k ∷ names) = ap₂ (λ a b. a || b) (is_eq-slice_cmp name k) (among name names)
+
+abbrev set_of : List (List ℕ) → BTreeSet (List ℕ)
+set_of names = record { keys = names }
+
+names_once : (book : Book) (one other : List (List ℕ)) → AreNamesOf book one → AreNamesOf book other → one ≡ other
+names_once book one other a b =
+    btree_set_from_contains nat_list_cmp_total (set_of one) (set_of other) a.ascend b.ascend (λ q. among q one ∙ (a.all q ∙ sym (b.all q)) ∙ sym (among q other)) exact_bytes
+
+-- ---- a report
+
+-- one text is right for a certificate
+abbrev pub IsExact : ClaimRule → Type 0
+IsExact AreRight = (claim : Claim) → IsFixed (AreRight claim)
+
+pub same_claim : (bytes : List ℕ) (a b : Claim) → IsCertText bytes a → IsCertText bytes b → a ≡ b
+same_claim bytes a b p q = let x = again bytes a p in let y = again bytes b q in cc
+
+told : (keeper : KeeperMeaning) (book : Book) → keeper.book ≡ Some book → (P : Book → Type 0) → Tells keeper P → P book
+told keeper book is P tells = subst (λ (b : Option Book). IfSome b P) is tells
+
+module _ (AreRight : ClaimRule) (exact : IsExact AreRight) where
+  said_once : (held : Option (List ℕ)) → IsFixed (IsSaidOn AreRight held)
+  said_once None one other e f = e ∙ sym f
+  said_once (Some bytes) one other (inl (line, bad, e)) (inl (line2, bad2, f)) =
+      let same : line ≡ line2 = cc in
+      e ∙ ap (λ at. codes "bad " ++ decimal at) same ∙ sym f
+  said_once (Some bytes) one other (inl (line, bad, e)) (inr (claim, spells, right)) = let good = again bytes claim spells in absurd (cc)
+  said_once (Some bytes) one other (inr (claim, spells, right)) (inl (line, bad, e)) = let good = again bytes claim spells in absurd (cc)
+  said_once (Some bytes) one other (inr (claim, spells, right)) (inr (claim2, spells2, right2)) =
+      exact claim2 one other (subst (λ (c : Claim). AreRight c one) (same_claim bytes claim claim2 spells spells2) right) right2
+
+  module _ (keeper : KeeperMeaning) (book : Book) (is : keeper.book ≡ Some book) where
+    lines_once : (names : List (List ℕ)) → IsFixed (AreReported AreRight keeper names)
+    lines_once [] one other e f = e ∙ sym f
+    lines_once (name ∷ names) one other (line, rest, says, more, e) (line2, rest2, says2, more2, f) =
+        let held : says.held ≡ says2.held =
+        sym (told keeper book is (λ b. b name ≡ says.held) says.told) ∙ told keeper book is (λ b. b name ≡ says2.held) says2.told in
+        let words = said_once says2.held says.words says2.words (subst (λ (h : Option (List ℕ)). IsSaidOn AreRight h says.words) held says.says) says2.says in
+        let lines = says.line_is ∙ ap (λ (w : List ℕ). name ++ codes " " ++ w) words ∙ sym says2.line_is in
+        e ∙ ap₂ (λ (l r : List ℕ). with_feed l ++ r) lines (lines_once names rest rest2 more more2) ∙ sym f
+
+    report_once : IsFixed (IsReport AreRight keeper)
+    report_once one other (names, are, lines) (names2, are2, lines2) =
+        let same = names_once book names names2 (told keeper book is (λ b. AreNamesOf b names) are) (told keeper book is (λ b. AreNamesOf b names2) are2) in
+        lines_once names2 one other (subst (λ (ns : List (List ℕ)). AreReported AreRight keeper ns one) same lines) lines2
+
+-- ---- what is said of a certificate
+
+judged_once : (n : NetworkLists) → IsNetwork n → IsExact (IsJudged n)
+judged_once n network claim one other (verdict, is, e) (verdict2, is2, f) =
+    e ∙ ap verdict_words (verdict_is_unique n network None tt claim verdict verdict2 is is2) ∙ sym f
+
+module _ (n : NetworkLists) (network : IsNetwork n) where
+  answered_once : (kept : Option (ℕ × Route)) (asked : Asked) → IsFixed (IsAnswered n kept asked)
+  answered_once kept asked one other (inl (none, e)) (inl (none2, f)) = e ∙ sym f
+  answered_once kept asked one other (inl (none, e)) (inr (j, best, f)) = absurd (none j best.arrival best.answers)
+  answered_once kept asked one other (inr (j, best, e)) (inl (none, f)) = absurd (none j best.arrival best.answers)
+  answered_once kept asked one other (inr (j, best, e)) (inr (k, best2, f)) =
+      let early = best.least k best2.arrival best2.answers in
+      let late = best2.least j best.arrival best.answers in
+      let same : best.arrival ≡ best2.arrival = omega arith in
+      e ∙ ap (λ t. arrival_words n asked.depart t kept) same ∙ sym f
+
+  reviewed_once : IsExact (IsReviewed n)
+  reviewed_once claim one other (inl (fault, refused, e)) (inl (fault2, refused2, f)) =
+      let both = reading_is_unique n claim.line (Err fault) (Err fault2) refused refused2 in
+      let same : fault ≡ fault2 = cc in
+      e ∙ ap refusal_text same ∙ sym f
+  reviewed_once claim one other (inl (fault, refused, e)) (inr (asked, asks, answer)) =
+      let both = reading_is_unique n claim.line (Err fault) (Ok asked) refused asks in absurd (cc)
+  reviewed_once claim one other (inr (asked, asks, answer)) (inl (fault, refused, e)) =
+      let both = reading_is_unique n claim.line (Err fault) (Ok asked) refused asks in absurd (cc)
+  reviewed_once claim one other (inr (asked, asks, answer)) (inr (asked2, asks2, answer2)) =
+      let both = reading_is_unique n claim.line (Ok asked) (Ok asked2) asks asks2 in
+      let same : asked ≡ asked2 = cc in
+      answered_once claim.result asked2 one other (subst (λ (q : Asked). IsAnswered n claim.result q one) same answer) answer2
+
+pub reports_are_fixed : ReportsAreFixed
+reports_are_fixed n network keeper book is = (report_once (IsJudged n) (judged_once n network) keeper book is, report_once (IsReviewed n) (reviewed_once n network) keeper book is)
+
+-- ---- a certificate that is valid
+
+module _ (n : NetworkLists) (network : IsNetwork n) where
+  -- a journey arrives no earlier than it starts
+  rises : (g : GraphMeaning) → IsPlain n g → (j : Route) (w u : ℕ) (word : List ℕ) → IsJourney n j w u word → j.at ≤ u
+  rises g plain j w u word real =
+      let walk = journeys_are_walks n network plain.table plain.keeps plain.of j.start j.at j.steps w u real.letters real.steps in
+      walk_rises (plain_meaning n plain.table) (plain_lawful n network plain.table plain.keeps plain.of) walk.walk j.start j.at w u walk.leads
+
+  beside_same : (arrival kept : ℕ) → arrival ≡ kept → beside n arrival kept ≡ codes "same"
+  beside_same arrival kept e = rw (eq-eqb arrival kept e) refl
+
+  -- what is said of a result that is a best one
+  stays : (g : GraphMeaning) → IsPlain n g → (asked : Asked) (result : Option (ℕ × Route)) → StartsAt asked.depart result → IsBestResult n asked result → IsAnswered n result asked (codes "same")
+  stays g plain asked None starts none = inl (none, refl)
+  stays g plain asked (Some kept) starts (best, is) =
+      let at : kept.1.at ≡ asked.depart = starts in
+      let real = best.answers.real in
+      let later : kept.1.at ≤ best.arrival = rises g plain kept.1 best.answers.end best.arrival best.answers.word real in
+      let same : best.arrival ≡ kept_arrival asked.depart kept = omega arith in
+      inr (kept.1, best, sym (beside_same best.arrival (kept_arrival asked.depart kept) same))
+
+pub valid_is_same : ValidIsSame
+valid_is_same n network claim valid starts words said =
+    let proves = valid_proves n network None tt claim valid in
+    let both = reading_is_unique n claim.line (Ok valid.setting.asked) (Ok proves.asked) valid.setting.asks proves.asks in
+    let same : valid.setting.asked ≡ proves.asked = cc in
+    let at = subst (λ (q : Asked). StartsAt q.depart claim.result) same starts in
+    reviewed_once n network claim words (codes "same") said (inr (proves.asked, proves.asks, stays n network valid.setting.graph valid.setting.in_use proves.asked claim.result at proves.best))

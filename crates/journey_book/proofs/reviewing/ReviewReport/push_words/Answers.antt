@@ -1,0 +1,19 @@
+use Rattle.std.proofs.Common.{◌≡◌, ℕ, List, Option, inr, subst, rules}
+use Rattle.std.specs.Prelude.{OnOk}
+use Rattle.mode_network.specs.Journeys.{Route}
+use Rattle.journey.specs.Best.{Asks, asked_by}
+use Rattle.journey.specs.Blocks.{AddsText}
+use Rattle.journey_book.specs.Reviews.{IsAnswered, IsReviewed}
+use Rattle.journey_book.proofs.ReportLemmas.{adds_as}
+use Rattle.journey_book.proofs.reviewing.ReviewReport.push_words.Goals as goal
+
+pub returns-in-Ok : goal.returns-in-Ok
+returns-in-Ok c =
+    let n = c.args.self.now.network.now in
+    let claim = c.args.certificate.now in
+    let asked = asked_by c.in-Ok.query in
+    let line : c.as_slice.result.now ≡ claim.line = search rules in
+    let asks = subst (λ (l : List ℕ). Asks n l asked) line c.in-Ok.ensures.query in
+    let result : c.certificate.inside.result ≡ claim.result = search rules in
+    let is = subst (λ (kept : Option (ℕ × Route)). OnOk c.push_answer.result (AddsText (IsAnswered n kept asked) c.args.text.now.items c.push_answer.new.text.items)) result c.push_answer.ensures in
+    adds_as c.args.text.now.items c.push_answer.new.text.items (IsAnswered n claim.result asked) (IsReviewed n claim) (λ words is. inr (asked, asks, is)) c.push_answer.result is

@@ -1,0 +1,30 @@
+-- Laws of reports.
+use Rattle.std.specs.Prelude.{◌≡◌, ℕ, List, codes, Option, None, Some}
+use Rattle.mode_network.specs.NetworkLists.{NetworkLists}
+use Rattle.mode_network.specs.Rules.{IsNetwork}
+use Rattle.mode_network.specs.Journeys.{Route}
+use Rattle.certificate.specs.Certificates.{Claim}
+use Rattle.certificate.specs.Valid.{IsValid}
+use Rattle.journey_book.specs.Books.{Book}
+use Rattle.journey_book.specs.Keepers.{KeeperMeaning}
+use Rattle.journey_book.specs.Reports.{IsRecheck}
+use Rattle.journey_book.specs.Reviews.{IsReview, IsReviewed}
+
+-- one text alone is so
+abbrev pub IsFixed : (List ℕ → Type 0) → Type 0
+IsFixed IsText = (one other : List ℕ) → IsText one → IsText other → one ≡ other
+
+-- what is reported of a book is fixed by the book and the region
+abbrev pub ReportsAreFixed : Type 0
+ReportsAreFixed = (n : NetworkLists) → IsNetwork n → (keeper : KeeperMeaning) (book : Book) → keeper.book ≡ Some book
+    → IsFixed (IsRecheck n keeper) × IsFixed (IsReview n keeper)
+
+-- the journey that is claimed, if one is, starts then
+abbrev pub StartsAt : ℕ → Option (ℕ × Route) → Type 0
+StartsAt depart (Some claimed) = claimed.1.at ≡ depart
+StartsAt depart None = Unit {0}
+
+-- a certificate that is valid in a region, and whose journey starts when its query departs, is `same` there
+abbrev pub ValidIsSame : Type 0
+ValidIsSame = (n : NetworkLists) → IsNetwork n → (claim : Claim) (valid : IsValid n None claim)
+    → StartsAt valid.setting.asked.depart claim.result → (words : List ℕ) → IsReviewed n claim words → words ≡ codes "same"

@@ -1,0 +1,66 @@
+-- Runs over one book, one after the other.
+use Rattle.std.specs.Prelude.{◌≡◌, ℕ, ◌⊎◌, Bool, true, false, List, [], ◌∷◌, fold, Some}
+use Rattle.std.specs.List.{AllZip}
+use Rattle.plan_base.specs.Shelves.{Told}
+use Rattle.plan_base.specs.declared.limits.Caps.{Caps}
+use Rattle.journey_book.specs.Books.{Book, dropped, kept}
+use Rattle.journey_book.specs.Keepers.{KeeperMeaning}
+use Rattle.journey_book.specs.Outcomes.{IsOutcome}
+use Rattle.journey_book.specs.Requests.{AsksFor, Request, keep, drop, list, show, recheck, review}
+use Rattle.journey_book.specs.Sayings.{Scene}
+use Rattle.journey_book.specs.declared.outcome.BookOutcome.{BookOutcome}
+use Rattle.journey_book.specs.declared.outcome.BookOutcome.TheVariants.{Done}
+
+-- what a run does to a book
+pub data Change : Type 0 where
+  keeps : (name body : List ℕ) → Change
+  drops : (name : List ℕ) → Change
+  nothing : Change
+
+abbrev pub changed : Book → Change → Book
+changed book (keeps name body) = kept name body book
+changed book (drops name) = dropped name book
+changed book nothing = book
+
+-- a book after some changes
+abbrev pub book_after : List Change → Book → Book
+book_after changes book = fold changed book changes
+
+-- a run with these words
+pub record Run : Type 0 where
+  pub words : List (List ℕ)
+  pub old : Scene
+  pub new : Scene
+  pub outcome : BookOutcome
+
+-- runs, each over the keeper that the one before it left
+abbrev pub AreRuns : Caps → KeeperMeaning → List Run → KeeperMeaning → Type 0
+AreRuns caps first [] last = last ≡ first
+AreRuns caps first (run ∷ runs) last =
+    (run.old.keeper ≡ first) × IsOutcome caps run.words run.old run.new run.outcome
+    × AreRuns caps run.new.keeper runs last
+
+-- whether a request is one to keep or to drop
+abbrev pub may_change : Request → Bool
+may_change (keep name region certificate) = true
+may_change (drop name) = true
+may_change list = false
+may_change (show name) = false
+may_change (recheck region) = false
+may_change (review region) = false
+
+-- What a run that was asked to keep or to drop, and did its work, does to a book; any other does nothing. What is kept is what
+-- the shelf holds under the certificate's name.
+abbrev pub Does : Run → Change → Type 0
+Does run (keeps name body) =
+    (run.outcome ≡ Done) × (region : List ℕ) × (certificate : List ℕ) × AsksFor run.words (keep name region certificate)
+    × Told run.old.shelf certificate (λ held. held ≡ Some body)
+Does run (drops name) = (run.outcome ≡ Done) × AsksFor run.words (drop name)
+Does run nothing = (run.outcome ≡ Done → ⊥) ⊎ ((r : Request) × AsksFor run.words r × (may_change r ≡ false))
+
+-- runs one after the other leave the book that their changes make of the first
+abbrev pub RunsFold : Type 0
+RunsFold = (caps : Caps) (first last : KeeperMeaning) (runs : List Run) → AreRuns caps first runs last
+    → (book : Book) → first.book ≡ Some book
+    → (changes : List Change) × AllZip Does runs changes × (then : Book) × (last.book ≡ Some then)
+    × ((name : List ℕ) → then name ≡ book_after changes book name)

@@ -1,0 +1,49 @@
+//! Which of the certificates that are kept hold in a region.
+
+ghost use Rattle.std.specs.Prelude.{◌≡◌, ◌++◌, OnOk};
+ghost use Rattle.journey_book.specs.Reports.{verdict_words};
+
+use crate::reports::Report;
+use certificate::{CertVerdict, Certificate, verify};
+use mode_network::Network;
+use plain_texts::push_decimal;
+use product_search::Workspace;
+use std::alloc::{AllocError, Global};
+
+/// Says of a certificate whether it is valid in a network: `valid`, or `invalid CLAUSE AT`.
+#[derive(Drop)]
+pub struct Recheck<'a> {
+    pub network: &'a Network,
+}
+
+impl Report for Recheck<'_> {
+    ghost use Rattle.journey_book.specs.Reports.{IsJudged};
+
+    ghost rule = { λ it. IsJudged it.network.now };
+
+    fn push_words(
+        &self,
+        alloc: Global,
+        _workspace: &mut Workspace,
+        certificate: &Certificate,
+        text: &mut Vec<u8>,
+    ) -> Result<(), AllocError> {
+        let verdict = verify(alloc, self.network, None, certificate)?;
+        push_verdict(verdict, text)
+    }
+}
+
+/// The words of a verdict.
+fn push_verdict(verdict: CertVerdict, text: &mut Vec<u8>) -> Result<(), AllocError>
+    ensures { OnOk result (text.new.items ≡ text.old.items ++ verdict_words verdict) }
+{
+    match verdict {
+        CertVerdict::Valid => text.extend_from_slice(b"valid"),
+        CertVerdict::Invalid { clause, at } => {
+            text.extend_from_slice(b"invalid ")?;
+            push_decimal(text, u128::from(clause))?;
+            text.push(b' ')?;
+            push_decimal(text, u128::from(at))
+        }
+    }
+}
