@@ -3,9 +3,10 @@
 use clap::ArgMatches;
 use clap::error::ErrorKind;
 use command_line::{
-    DATE, DAYS, FIRST, FORMAT, FOURTH, KEEP, KEPT, RULE, SIZE, THIRD, ZONE, match_words, modeplan,
+    DATE, DAYS, FIRST, FORMAT, FOURTH, KEEP, KEPT, LENGTH, RULE, SIZE, THIRD, WINDOW, ZONE,
+    match_words, modeplan,
 };
-use command_words::{format_of, read_eight, read_keep, read_number, read_size};
+use command_words::{format_of, read_eight, read_keep, read_number, read_size, read_window};
 use service_days::{Days, RangeFault};
 use std::alloc::{AllocError, Global};
 
@@ -45,6 +46,7 @@ fn wrong_value(alloc: Global, command: &str, given: &ArgMatches<'_>) -> Result<S
         "compile" => unread_days(alloc, given),
         "contract" => unread_keep(given),
         "sample" => unread_size(given),
+        "profile" => unread_window(given),
         _ => None,
     };
     match unread.or(unread_format(given)) {
@@ -96,6 +98,19 @@ fn unread_size<'a>(given: &ArgMatches<'a>) -> Option<Unread<'a>> {
             value,
             name: "<N>",
             wanted: SIZE,
+        }),
+    }
+}
+
+/// The length of a window that does not read.
+fn unread_window<'a>(given: &ArgMatches<'a>) -> Option<Unread<'a>> {
+    let value = given.get_str(WINDOW)?;
+    match read_window(value.as_bytes()) {
+        Some(_) => None,
+        None => Some(Unread {
+            value,
+            name: "--window <HH:MM:SS>",
+            wanted: LENGTH,
         }),
     }
 }

@@ -7,7 +7,7 @@ use Rattle.clap.specs.Simple.{Shape, built, entered, label_of, names_of, rows_at
 use Rattle.clap.specs.Kinds.{Kinds, or_else}
 use Rattle.clap.specs.Faults.{check_fault, defaults_fault, entered_fault, fault_of, level_fault, settle_fault, turn_fault, walk_fault}
 use Rattle.clap.proofs.OnLiterals.{clap_on_literals}
-use Rattle.command_line.specs.Description.{modeplan, one, two, four}
+use Rattle.command_line.specs.Description.{modeplan, one, two, four, six}
 use Rattle.command_line.proofs.PlainLemmas.{leaf}
 use Rattle.command_line.proofs.WordSteps.{Reads, no_more_faults, stops}
 
@@ -124,6 +124,14 @@ is_certify_latest = record { met = refl; quiet = refl; is = refl }
 pub is_verify_latest : IsBelow (codes "verify-latest") (leaf (codes "verify-latest") two [])
 unfolding clap_on_literals
 is_verify_latest = record { met = refl; quiet = refl; is = refl }
+
+pub is_profile : IsBelow (codes "profile") (leaf (codes "profile") two (codes "window" ∷ []))
+unfolding clap_on_literals
+is_profile = record { met = refl; quiet = refl; is = refl }
+
+pub is_matrix : IsBelow (codes "matrix") (leaf (codes "matrix") six (codes "hierarchy" ∷ []))
+unfolding clap_on_literals
+is_matrix = record { met = refl; quiet = refl; is = refl }
 
 pub is_requests : IsBelow (codes "requests") (leaf (codes "requests") two (codes "hierarchy" ∷ []))
 unfolding clap_on_literals

@@ -17,7 +17,7 @@ option name = record (new_rule name) { long = Some name; action = Some Set; valu
 abbrev pub command_of : Text → List Text → List Text → Shape
 command_of name words options = record (new_app name).top { rules = map word words ++ map option options }
 
--- one word; two; four
+-- one word; two; four; six
 abbrev pub one : List Text
 one = codes "first" ∷ []
 
@@ -26,6 +26,9 @@ two = codes "first" ∷ codes "second" ∷ []
 
 abbrev pub four : List Text
 four = codes "first" ∷ codes "second" ∷ codes "third" ∷ codes "fourth" ∷ []
+
+abbrev pub six : List Text
+six = codes "first" ∷ codes "second" ∷ codes "third" ∷ codes "fourth" ∷ codes "fifth" ∷ codes "sixth" ∷ []
 
 -- the commands that work on a map, a region as a whole, or a sample
 abbrev pub region_commands : List Shape
@@ -54,9 +57,13 @@ latest_commands =
     ∷ command_of (codes "verify-latest") two []
     ∷ []
 
--- the commands that answer many kinds of lines
+-- the commands that ask for many journeys at once, or for many kinds of answers
 abbrev pub many_commands : List Shape
-many_commands = command_of (codes "requests") two (codes "hierarchy" ∷ []) ∷ []
+many_commands =
+    command_of (codes "profile") two (codes "window" ∷ [])
+    ∷ command_of (codes "matrix") six (codes "hierarchy" ∷ [])
+    ∷ command_of (codes "requests") two (codes "hierarchy" ∷ [])
+    ∷ []
 
 -- the program, with these commands
 abbrev pub modeplan : App

@@ -3,7 +3,7 @@
 ghost use Rattle.std.specs.Prelude.{◌≡◌, ◌++◌, ◌∷◌, [], IfOk, codes, false, fold};
 ghost use Rattle.clap.specs.Words.{Shape, Text, app_of, new_app, rule_of, with_subcommand};
 ghost use Rattle.clap.specs.declared.builder.command.Command.TheViews.{out-Command as fields_of};
-ghost use Rattle.command_line.specs.Description.{IsTold, command_of, earliest_commands, four, latest_commands, many_commands, modeplan, one, option, region_commands, two, word};
+ghost use Rattle.command_line.specs.Description.{IsTold, command_of, earliest_commands, four, latest_commands, many_commands, modeplan, one, option, region_commands, six, two, word};
 
 use clap::{Arg, ArgAction, Command};
 use std::alloc::{AllocError, Global};
@@ -16,6 +16,10 @@ pub const SECOND: &str = "second";
 pub const THIRD: &str = "third";
 /// The name of its fourth word.
 pub const FOURTH: &str = "fourth";
+/// The name of its fifth word.
+pub const FIFTH: &str = "fifth";
+/// The name of its sixth word.
+pub const SIXTH: &str = "sixth";
 /// The option that says in which format a region is written.
 pub const FORMAT: &str = "format";
 /// The option that says by which rule local time goes.
@@ -24,6 +28,8 @@ pub const ZONE: &str = "zone";
 pub const KEEP: &str = "keep";
 /// The option that names the file of a hierarchy.
 pub const HIERARCHY: &str = "hierarchy";
+/// The option that says how long a window is.
+pub const WINDOW: &str = "window";
 
 const REGION: &str = "The region file, in either format";
 
@@ -48,6 +54,19 @@ pub const KEPT: &str =
 
 /// What they read of the size of a sample city.
 pub const SIZE: &str = "How many rows and columns the city has, from 1 to 300";
+
+/// What they read of the length of a window.
+pub const LENGTH: &str = "How long the window is, from 00:00:01 to 24:00:00 [default: 02:00:00]";
+
+const FROMS: &str = "The file of origins, one a line, as a query line has its FROM";
+
+const TOS: &str = "The file of destinations, one a line, as a query line has its TO";
+
+const DEPARTURE_DATE: &str = "The date of the departure, one of the region's, as 20240304";
+
+const DEPARTURE_TIME: &str = "The time of the departure, as 08:00:00";
+
+const EXPRESSION: &str = "How to travel, an expression as a query line has it";
 
 const CLAIM: &str = "The certificate file";
 
@@ -142,7 +161,7 @@ fn over_one<'a>(
 
 /// The command with the option `--hierarchy`.
 fn with_hierarchy<'a>(alloc: Global, command: Command<'a>) -> Result<Command<'a>, AllocError>
-    ensures { (name : Text) → IsTold command.entry (command_of name two []) → IfOk result (λ c. IsTold c (command_of name two (codes "hierarchy" ∷ []))) }
+    ensures { (s : Shape) → IsTold command.entry s → IfOk result (λ c. IsTold c (record s { rules = s.rules ++ option (codes "hierarchy") ∷ [] })) }
 {
     let help =
         "A hierarchy of the region's roads, as `contract` writes it; it is checked before it is used [default: none]";
@@ -356,6 +375,33 @@ fn requests<'a>(alloc: Global) -> Result<Command<'a>, AllocError>
     )
 }
 
+/// The command that lists the departures of windows.
+fn profile<'a>(alloc: Global) -> Result<Command<'a>, AllocError>
+    ensures { IfOk result (λ c. IsTold c (command_of (codes "profile") two (codes "window" ∷ []))) }
+{
+    let about =
+        "List, for each query line, the journeys worth taking of a window, which its date and time open";
+    let example = "Example: modeplan profile town queries --window 00:30:00 > departures";
+    let command = over_two(alloc, "profile", about, example, "QUERIES", QUERIES)?;
+    with_option(alloc, command, WINDOW, "HH:MM:SS", LENGTH)
+}
+
+/// The command that writes a table of travel times.
+fn matrix<'a>(alloc: Global) -> Result<Command<'a>, AllocError>
+    ensures { IfOk result (λ c. IsTold c (command_of (codes "matrix") six (codes "hierarchy" ∷ []))) }
+{
+    let about =
+        "Write a table of the milliseconds that it takes from each endpoint of a file to each one of another";
+    let example =
+        "Example: modeplan matrix town homes schools 20240304 08:00:00 \"foot (transit foot)*\" > table";
+    let command = over_two(alloc, "matrix", about, example, "FROMS", FROMS)?;
+    let command = with_word(alloc, command, THIRD, "TOS", TOS)?;
+    let command = with_word(alloc, command, FOURTH, "DATE", DEPARTURE_DATE)?;
+    let command = with_word(alloc, command, FIFTH, "TIME", DEPARTURE_TIME)?;
+    let command = with_word(alloc, command, SIXTH, "EXPR", EXPRESSION)?;
+    with_hierarchy(alloc, command)
+}
+
 /// The program with one more command, if memory sufficed for that.
 fn with_command<'a>(
     program: Command<'a>,
@@ -399,10 +445,12 @@ fn with_latest_commands<'a>(alloc: Global, program: Command<'a>) -> Result<Comma
     with_command(program, verify_latest(alloc))
 }
 
-/// The program with the commands that answer many kinds of lines.
+/// The program with the commands that ask for many journeys at once, or for many kinds of answers.
 fn with_many_commands<'a>(alloc: Global, program: Command<'a>) -> Result<Command<'a>, AllocError>
     ensures { IfOk result (λ p. app_of p ≡ fold with_subcommand (app_of program.entry) many_commands) }
 {
+    let program = with_command(program, profile(alloc))?;
+    let program = with_command(program, matrix(alloc))?;
     with_command(program, requests(alloc))
 }
 

@@ -5,7 +5,7 @@ mod description;
 mod matching;
 
 pub use description::{
-    DATE, DAYS, FIRST, FORMAT, FOURTH, HIERARCHY, KEEP, KEPT, RULE, SECOND, SIZE, THIRD, ZONE,
-    modeplan,
+    DATE, DAYS, FIFTH, FIRST, FORMAT, FOURTH, HIERARCHY, KEEP, KEPT, LENGTH, RULE, SECOND, SIXTH,
+    SIZE, THIRD, WINDOW, ZONE, modeplan,
 };
 pub use matching::match_words;

@@ -1,13 +1,13 @@
 -- Words in the plain form ask for what they say.
-use Rattle.std.proofs.Common.{◌≡◌, ◌∙◌, ℕ, List, [], ◌∷◌, Option, Some, None, refl, ap, subst, sym, codes, option_map}
+use Rattle.std.proofs.Common.{◌≡◌, ◌∙◌, ℕ, List, [], ◌∷◌, ◌++◌, Option, Some, None, refl, ap, subst, sym, codes, option_map}
 use Rattle.std.specs.Prelude.{option_and_then}
 use Rattle.clap.specs.Words.{Row, Text}
 use Rattle.service_days.specs.DaysMeaning.{DaysMeaning}
 use Rattle.region_file.specs.declared.format.Format.{Format}
 use Rattle.region_file.specs.declared.format.Format.TheVariants.{Binary}
-use Rattle.command_line.proofs.NameLemmas.{IsFoundAt, found_at, is_compile, is_migrate, is_contract, is_check, is_sample, is_answer, is_certify, is_verify, is_few, is_latest, is_certify_latest, is_verify_latest, is_requests}
-use Rattle.command_line.proofs.PlainLemmas.{found, found_options, reads_one, reads_format, reads_keep, reads_two, reads_hierarchy, reads_four}
-use Rattle.command_words.specs.Requests.{AsksFor, IsPlainForm, Request, compile, migrate, contract, answer, certify, verify, check, sample, latest, certify_latest, verify_latest, few, requests, days_and_format, format_or, keep_or_none, request_at, size_of}
+use Rattle.command_line.proofs.NameLemmas.{IsFoundAt, found_at, is_compile, is_migrate, is_contract, is_check, is_sample, is_answer, is_certify, is_verify, is_few, is_latest, is_certify_latest, is_verify_latest, is_profile, is_matrix, is_requests}
+use Rattle.command_line.proofs.PlainLemmas.{found, found_options, rows_of_two, rows_of_six, reads_one, reads_format, reads_keep, reads_two, reads_hierarchy, reads_window, reads_four, reads_six}
+use Rattle.command_words.specs.Requests.{AsksFor, IsPlainForm, Request, compile, migrate, contract, answer, certify, verify, check, sample, latest, certify_latest, verify_latest, few, profile, matrix, requests, days_and_format, format_or, keep_or_none, request_at, size_of, window_or_two_hours}
 
 asks_for : (words : List Text) (program name : Text) (given : List Text) (rows : List Row) (r : Request) → words ≡ program ∷ name ∷ given
     → IsFoundAt (program ∷ name ∷ given) name rows → request_at name rows ≡ Some r → AsksFor words r
@@ -21,7 +21,7 @@ asks_for words program name given rows r are at is =
 
 -- what is found for two words, and for the option --hierarchy
 abbrev over : Text → Text → Option Text → List Row
-over a b said = found (codes "first") a ∷ found (codes "second") b ∷ found_options ((codes "hierarchy", said) ∷ [])
+over a b said = rows_of_two a b ++ found_options ((codes "hierarchy", said) ∷ [])
 
 answers : (a b : Text) (said : Option Text) → request_at (codes "answer") (over a b said) ≡ Some (answer a b said)
 answers a b None = refl
@@ -60,6 +60,16 @@ replies : (a b : Text) (said : Option Text) → request_at (codes "requests") (o
 replies a b None = refl
 replies a b (Some v) = refl
 
+profiles : (a b : Text) (said : Option Text) (window : ℕ) → window_or_two_hours said ≡ Some window
+    → request_at (codes "profile") (rows_of_two a b ++ found_options ((codes "window", said) ∷ [])) ≡ Some (profile a b window)
+profiles a b None window is = ap (option_map (λ w. profile a b w)) is
+profiles a b (Some v) window is = ap (option_map (λ w. profile a b w)) is
+
+tables : (a b d e f g : Text) (said : Option Text)
+    → request_at (codes "matrix") (rows_of_six a b d e f g ++ found_options ((codes "hierarchy", said) ∷ [])) ≡ Some (matrix a b d e f g said)
+tables a b d e f g None = refl
+tables a b d e f g (Some v) = refl
+
 pub plain_asks : (words : List Text) (r : Request) → IsPlainForm words r → AsksFor words r
 plain_asks words (compile map feed days format) (date, count, named, rule, f, is) =
     asks_for words f.program (codes "compile") _ _ _ f.are
@@ -94,6 +104,13 @@ plain_asks words (verify_latest region certificate) f =
     (found_at _ _ _ _ is_verify_latest (reads_two (codes "verify-latest") region certificate f.plain) f.program) refl
 plain_asks words (few region queries) f =
     asks_for words f.program (codes "few") _ _ _ f.are (found_at _ _ _ _ is_few (reads_two (codes "few") region queries f.plain) f.program) refl
+plain_asks words (profile region queries window) (said, f, is) =
+    asks_for words f.program (codes "profile") _ _ _ f.are
+    (found_at _ _ _ _ is_profile (reads_window (codes "profile") region queries said f.plain) f.program) (profiles region queries said window is)
+plain_asks words (matrix region origins destinations date time expr hierarchy) f =
+    asks_for words f.program (codes "matrix") _ _ _ f.are
+    (found_at _ _ _ _ is_matrix (reads_six (codes "matrix") region origins destinations date time expr hierarchy f.plain) f.program)
+    (tables region origins destinations date time expr hierarchy)
 plain_asks words (requests region lines hierarchy) f =
     asks_for words f.program (codes "requests") _ _ _ f.are
     (found_at _ _ _ _ is_requests (reads_hierarchy (codes "requests") region lines hierarchy f.plain) f.program) (replies region lines hierarchy)

@@ -1,10 +1,11 @@
 -- What a command line asks for, and which words ask for it.
-use Rattle.std.specs.Prelude.{◌≡◌, ℕ, ◌&&◌, nat_eq, nat_le, List, [], ◌∷◌, length, codes, find, Option, Some, None, option_and_then, option_map, if◌then◌else◌}
+use Rattle.std.specs.Prelude.{◌≡◌, ℕ, ◌+◌, ◌*◌, ◌==◌, ◌&&◌, nat_eq, nat_le, List, [], ◌∷◌, length, codes, find, Option, Some, None, option_and_then, option_map, if◌then◌else◌}
 use Rattle.std.specs.Result.{result_ok}
 use Rattle.std.specs.Str.{bytes_eq}
 use Rattle.clap.specs.Words.{Row, fault_of, first_of, subcommand_of}
 use Rattle.plain_texts.specs.FixedDecimal.{fixed_at}
 use Rattle.service_days.specs.DaysMeaning.{DaysMeaning}
+use Rattle.service_days.specs.ReadClock.{below_sixty}
 use Rattle.service_days.specs.Zones.{days_made}
 use Rattle.region_file.specs.declared.format.Format.{Format}
 use Rattle.region_file.specs.declared.format.Format.TheVariants.{Text, Binary}
@@ -27,6 +28,8 @@ pub data Request : Type 0 where
   certify_latest : (region query : List ℕ) → Request
   verify_latest : (region certificate : List ℕ) → Request
   few : (region queries : List ℕ) → Request
+  profile : (region queries : List ℕ) (window : ℕ) → Request
+  matrix : (region origins destinations date time expr : List ℕ) (hierarchy : Option (List ℕ)) → Request
   requests : (region lines : List ℕ) (hierarchy : Option (List ℕ)) → Request
 
 -- what a command of the program asks for
@@ -43,6 +46,9 @@ request_of (command.Latest region queries) = latest region.now queries.now
 request_of (command.CertifyLatest region query) = certify_latest region.now query.now
 request_of (command.VerifyLatest region certificate) = verify_latest region.now certificate.now
 request_of (command.Few region queries) = few region.now queries.now
+request_of (command.Profile region queries window) = profile region.now queries.now window
+request_of (command.Matrix region origins destinations date time expr hierarchy) =
+    matrix region.now origins.now destinations.now date.now time.now expr.now (option_map (λ h. h.now) hierarchy)
 request_of (command.Requests region lines hierarchy) = requests region.now lines.now (option_map (λ h. h.now) hierarchy)
 
 -- a number is 1 to 8 digits
@@ -83,6 +89,24 @@ keep_or_none (Some word) = keep_of word
 -- the size of a sample city: a number from 1 to 300
 abbrev pub size_of : List ℕ → Option ℕ
 size_of word = option_and_then (λ size. if nat_le 1 size && nat_le size 300 then Some size else None) (number_of word)
+
+-- HH:MM:SS, in seconds
+abbrev pub seconds_of : List ℕ → Option ℕ
+seconds_of (a ∷ b ∷ c ∷ d ∷ e ∷ f ∷ g ∷ h ∷ []) =
+    if (c == 58) && (f == 58) then
+    option_and_then (λ hours. option_and_then (λ minutes. option_map (λ seconds. (hours * 60 + minutes) * 60 + seconds)
+    (option_and_then below_sixty (fixed_at (g ∷ h ∷ [])))) (option_and_then below_sixty (fixed_at (d ∷ e ∷ [])))) (fixed_at (a ∷ b ∷ []))
+    else None
+seconds_of _ = None
+
+-- how long a window is, in milliseconds: from 00:00:01 to 24:00:00
+abbrev pub window_of : List ℕ → Option ℕ
+window_of word = option_and_then (λ seconds. if nat_le 1 seconds && nat_le seconds 86400 then Some (seconds * 1000) else None) (seconds_of word)
+
+-- and two hours where no option says it
+abbrev pub window_or_two_hours : Option (List ℕ) → Option ℕ
+window_or_two_hours None = Some 7200000
+window_or_two_hours (Some word) = window_of word
 
 -- ---- what a command asks for, by what was found for its words and options
 
@@ -133,6 +157,22 @@ certify_latest_at rows = option_map (λ two. certify_latest two.0 two.1) (two_at
 abbrev pub verify_latest_at : List Row → Option Request
 verify_latest_at rows = option_map (λ two. verify_latest two.0 two.1) (two_at rows)
 
+abbrev pub profile_at : List Row → Option Request
+profile_at rows =
+    option_and_then (λ two. option_map (λ window. profile two.0 two.1 window) (window_or_two_hours (first_of (codes "window") rows))) (two_at rows)
+
+-- the date, the time and the expression of a table of travel times
+abbrev pub asking_at : List Row → Option (List ℕ × List ℕ × List ℕ)
+asking_at rows =
+    option_and_then (λ date. option_and_then (λ time. option_map (λ expr. (date, time, expr))
+    (first_of (codes "sixth") rows)) (first_of (codes "fifth") rows)) (first_of (codes "fourth") rows)
+
+abbrev pub matrix_at : List Row → Option Request
+matrix_at rows =
+    option_and_then (λ two. option_and_then (λ destinations. option_map (λ asking.
+    matrix two.0 two.1 destinations asking.0 asking.1 asking.2 (first_of (codes "hierarchy") rows))
+    (asking_at rows)) (first_of (codes "third") rows)) (two_at rows)
+
 abbrev pub requests_at : List Row → Option Request
 requests_at rows = option_map (λ two. requests two.0 two.1 (first_of (codes "hierarchy") rows)) (two_at rows)
 
@@ -151,6 +191,8 @@ commands =
     ∷ (codes "latest", latest_at)
     ∷ (codes "certify-latest", certify_latest_at)
     ∷ (codes "verify-latest", verify_latest_at)
+    ∷ (codes "profile", profile_at)
+    ∷ (codes "matrix", matrix_at)
     ∷ (codes "requests", requests_at)
     ∷ []
 
@@ -188,4 +230,8 @@ IsPlainForm words (latest region queries) = IsInForm words (codes "latest") (reg
 IsPlainForm words (certify_latest region query) = IsInForm words (codes "certify-latest") (region ∷ query ∷ []) []
 IsPlainForm words (verify_latest region certificate) = IsInForm words (codes "verify-latest") (region ∷ certificate ∷ []) []
 IsPlainForm words (few region queries) = IsInForm words (codes "few") (region ∷ queries ∷ []) []
+IsPlainForm words (profile region queries window) =
+    (said : Option (List ℕ)) × IsInForm words (codes "profile") (region ∷ queries ∷ []) ((codes "--window", said) ∷ []) × (window_or_two_hours said ≡ Some window)
+IsPlainForm words (matrix region origins destinations date time expr hierarchy) =
+    IsInForm words (codes "matrix") (region ∷ origins ∷ destinations ∷ date ∷ time ∷ expr ∷ []) ((codes "--hierarchy", hierarchy) ∷ [])
 IsPlainForm words (requests region lines hierarchy) = IsInForm words (codes "requests") (region ∷ lines ∷ []) ((codes "--hierarchy", hierarchy) ∷ [])

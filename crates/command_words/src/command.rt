@@ -70,6 +70,24 @@ pub enum Command<'a> {
         region: &'a str,
         queries: &'a str,
     },
+    /// The block of each query line of a file, with the departures that are worth taking of a window, which is 1,000 to
+    /// 86,400,000 milliseconds long.
+    Profile {
+        region: &'a str,
+        queries: &'a str,
+        window: u32,
+    },
+    /// The table of travel times from each endpoint of a file to each one of another, departing then and travelling so, by a
+    /// hierarchy, if one is given.
+    Matrix {
+        region: &'a str,
+        origins: &'a str,
+        destinations: &'a str,
+        date: &'a str,
+        time: &'a str,
+        expr: &'a str,
+        hierarchy: Option<&'a str>,
+    },
     /// The reply to each line of a file, by the command that it begins with, and by a hierarchy, if one is given.
     Requests {
         region: &'a str,

@@ -2,14 +2,16 @@
 
 ghost use Rattle.std.specs.Prelude.{◌≡◌, Err, IfOk, None, Some, option_map};
 ghost use Rattle.clap.specs.Words.{first_of, found_of, rows_of};
-ghost use Rattle.command_words.specs.Requests.{answer_at, certify_at, certify_latest_at, check_at, compile_at, contract_at, days_and_format_at, few_at, latest_at, migrate_at, request_at, request_of, requests_at, sample_at, two_at, verify_at, verify_latest_at};
+ghost use Rattle.command_words.specs.Requests.{answer_at, asking_at, certify_at, certify_latest_at, check_at, compile_at, contract_at, days_and_format_at, few_at, latest_at, matrix_at, migrate_at, profile_at, request_at, request_of, requests_at, sample_at, two_at, verify_at, verify_latest_at};
 ghost use Rattle.command_words.specs.declared.fault.WordsFault.TheVariants.{Refused};
 
 use crate::command::Command;
 use crate::fault::WordsFault;
-use crate::values::{days_of, format_or, keep_or_none, read_size};
+use crate::values::{days_of, format_or, keep_or_none, read_size, window_or_two_hours};
 use clap::ArgMatches;
-use command_line::{FIRST, FORMAT, FOURTH, HIERARCHY, KEEP, SECOND, THIRD, ZONE};
+use command_line::{
+    FIFTH, FIRST, FORMAT, FOURTH, HIERARCHY, KEEP, SECOND, SIXTH, THIRD, WINDOW, ZONE,
+};
 use region_file::Format;
 use service_days::Days;
 use std::alloc::Global;
@@ -36,6 +38,8 @@ pub fn named<'a>(
         "latest" => latest(given).ok_or(WordsFault::Refused),
         "certify-latest" => certify_latest(given).ok_or(WordsFault::Refused),
         "verify-latest" => verify_latest(given).ok_or(WordsFault::Refused),
+        "profile" => profile(given).ok_or(WordsFault::Refused),
+        "matrix" => matrix(given).ok_or(WordsFault::Refused),
         "requests" => requests(given).ok_or(WordsFault::Refused),
         _ => Err(WordsFault::Refused),
     }
@@ -192,6 +196,56 @@ fn verify_latest<'a>(given: &ArgMatches<'a>) -> Option<Command<'a>>
     Some(Command::VerifyLatest {
         region,
         certificate,
+    })
+}
+
+/// Query lines, to be answered with the departures of a window.
+fn profile<'a>(given: &ArgMatches<'a>) -> Option<Command<'a>>
+    ensures { option_map request_of result ≡ profile_at (rows_of (found_of given.now)) }
+{
+    let (region, queries) = two(given)?;
+    let window = window_or_two_hours(said(given, WINDOW))?;
+    Some(Command::Profile {
+        region,
+        queries,
+        window,
+    })
+}
+
+/// When the journeys of a table depart, and how they travel, as words say it.
+#[derive(Clone, Copy)]
+struct Asking<'a> {
+    date: &'a str,
+    time: &'a str,
+    expr: &'a str,
+}
+
+/// When the journeys of a table depart, and how they travel.
+fn read_asking<'a>(given: &ArgMatches<'a>) -> Option<Asking<'a>>
+    ensures { option_map (λ it. (it.date.now, it.time.now, it.expr.now)) result ≡ asking_at (rows_of (found_of given.now)) }
+{
+    Some(Asking {
+        date: said(given, FOURTH)?,
+        time: said(given, FIFTH)?,
+        expr: said(given, SIXTH)?,
+    })
+}
+
+/// Endpoints between which travel times are asked for.
+fn matrix<'a>(given: &ArgMatches<'a>) -> Option<Command<'a>>
+    ensures { option_map request_of result ≡ matrix_at (rows_of (found_of given.now)) }
+{
+    let (region, origins) = two(given)?;
+    let destinations = said(given, THIRD)?;
+    let Asking { date, time, expr } = read_asking(given)?;
+    Some(Command::Matrix {
+        region,
+        origins,
+        destinations,
+        date,
+        time,
+        expr,
+        hierarchy: said(given, HIERARCHY),
     })
 }
 

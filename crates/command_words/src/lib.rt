@@ -10,4 +10,4 @@ mod values;
 pub use command::Command;
 pub use fault::WordsFault;
 pub use reading::read_words;
-pub use values::{format_of, read_eight, read_keep, read_number, read_size};
+pub use values::{format_of, read_eight, read_keep, read_number, read_size, read_window};

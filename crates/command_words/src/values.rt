@@ -1,7 +1,8 @@
 //! The values that words spell: formats, days and numbers.
 
 ghost use Rattle.std.specs.Prelude.{◌≡◌, Err, IfOk, None, Some, option_map};
-ghost use Rattle.command_words.specs.Requests.{date_of, days_of, format_of, format_or, keep_of, keep_or_none, number_of, size_of};
+ghost use Rattle.service_days.specs.ReadClock.{below_sixty};
+ghost use Rattle.command_words.specs.Requests.{date_of, days_of, format_of, format_or, keep_of, keep_or_none, number_of, seconds_of, size_of, window_of, window_or_two_hours};
 ghost use Rattle.command_words.specs.declared.fault.WordsFault.TheVariants.{Refused};
 
 use crate::fault::WordsFault;
@@ -83,6 +84,51 @@ pub fn read_size(word: &[u8]) -> Option<u32>
     } else {
         None
     }
+}
+
+/// How long a window is, in milliseconds, as an option says, or two hours where none does.
+pub fn window_or_two_hours(word: Option<&str>) -> Option<u32>
+    ensures { result ≡ window_or_two_hours (option_map (λ w. w.now) word.entry) }
+{
+    match word {
+        Some(word) => read_window(word.as_bytes()),
+        None => Some(7_200_000),
+    }
+}
+
+/// How long a window is, in milliseconds, as a word HH:MM:SS says; None exactly where it is no length from 00:00:01 to
+/// 24:00:00.
+pub fn read_window(word: &[u8]) -> Option<u32>
+    ensures { result ≡ window_of word.now }
+{
+    let seconds = read_seconds(word)?;
+    if (1..=86_400).contains(&seconds) {
+        Some(seconds * 1_000)
+    } else {
+        None
+    }
+}
+
+/// The seconds of a text HH:MM:SS.
+fn read_seconds(word: &[u8]) -> Option<u32>
+    ensures { result ≡ seconds_of word.now }
+{
+    match word {
+        [h1, h2, b':', m1, m2, b':', s1, s2] => {
+            let hours = read_fixed(&[*h1, *h2])?;
+            let minutes = below_sixty(read_fixed(&[*m1, *m2])?)?;
+            let seconds = below_sixty(read_fixed(&[*s1, *s2])?)?;
+            Some((hours * 60 + minutes) * 60 + seconds)
+        }
+        _ => None,
+    }
+}
+
+/// A number of minutes or seconds.
+fn below_sixty(n: u32) -> Option<u32>
+    ensures { result ≡ below_sixty n }
+{
+    if n < 60 { Some(n) } else { None }
 }
 
 /// A number of 1 to 8 digits.

@@ -1,13 +1,14 @@
 -- A run whose files are there and without fault ends with its work done: each other outcome has a cause that is not there.
 use Rattle.plan_base.specs.declared.limits.Caps.{Caps}
-use Rattle.command_words.specs.Requests.{Request, compile, migrate, contract, answer, certify, verify, check, sample, latest, certify_latest, verify_latest, few, requests}
+use Rattle.command_words.specs.Requests.{Request, compile, migrate, contract, answer, certify, verify, check, sample, latest, certify_latest, verify_latest, few, profile, matrix, requests}
 use Rattle.run_steps.specs.Complete.{Files, Completes}
 use Rattle.run_steps.proofs.CompleteSteps.{file_completes, network_completes, writes_completes}
 use Rattle.compile_commands.proofs.CompleteSteps.{map_completes, feed_completes, build_completes}
 use Rattle.hierarchy_commands.proofs.CompleteLemmas.{check_completes, contract_completes}
 use Rattle.answer_commands.proofs.CompleteLemmas.{answer_completes, certify_completes, verify_completes}
-use Rattle.late_commands.proofs.CompleteLemmas.{few_completes, latest_completes, certify_latest_completes, verify_latest_completes}
-use Rattle.request_commands.proofs.CompleteLemmas.{requests_complete}
+use Rattle.late_commands.proofs.CompleteLemmas.{few_completes, latest_completes, profile_completes, certify_latest_completes, verify_latest_completes}
+use Rattle.matrix_commands.proofs.CompleteLemmas.{matrix_completes}
+use Rattle.request_commands.proofs.CompleteLemmas.{requests_completes}
 use Rattle.planner_core.specs.Commands.{says}
 use Rattle.planner_core.specs.Complete.{CanBeDone}
 
@@ -26,4 +27,6 @@ completes files caps (latest region queries) = latest_completes caps files regio
 completes files caps (certify_latest region query) = certify_latest_completes caps files region query
 completes files caps (verify_latest region certificate) = verify_latest_completes caps files region certificate
 completes files caps (few region queries) = few_completes caps files region queries
-completes files caps (requests region lines hierarchy) = requests_complete caps files region lines hierarchy
+completes files caps (profile region queries window) = profile_completes caps files region queries window
+completes files caps (matrix region origins destinations date time expr hierarchy) = matrix_completes caps files region origins destinations date time expr hierarchy
+completes files caps (requests region lines hierarchy) = requests_completes caps files region lines hierarchy

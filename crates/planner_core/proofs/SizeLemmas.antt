@@ -6,7 +6,7 @@ use Rattle.clap.specs.Words.{Row, first_of, subcommand_of}
 use Rattle.mode_network.proofs.RuleLemmas.{both}
 use Rattle.region_file.specs.declared.format.Format.TheVariants.{Binary}
 use Rattle.command_line.specs.Description.{modeplan}
-use Rattle.command_words.specs.Requests.{Request, AsksFor, number_of, size_of, format_or, keep_or_none, commands, request_at, two_at, days_and_format_at, compile_at, migrate_at, contract_at, check_at, sample_at, answer_at, certify_at, verify_at, few_at, latest_at, certify_latest_at, verify_latest_at, requests_at, compile, migrate, contract, answer, certify, verify, check, sample, latest, certify_latest, verify_latest, few, requests}
+use Rattle.command_words.specs.Requests.{Request, AsksFor, number_of, size_of, format_or, keep_or_none, commands, request_at, two_at, days_and_format_at, compile_at, migrate_at, contract_at, check_at, sample_at, answer_at, certify_at, verify_at, few_at, latest_at, certify_latest_at, verify_latest_at, asking_at, profile_at, matrix_at, requests_at, window_or_two_hours, compile, migrate, contract, answer, certify, verify, check, sample, latest, certify_latest, verify_latest, few, profile, matrix, requests}
 use Rattle.planner_core.specs.Working.{HasSize}
 
 in_range : (n size : ℕ) (fits : Bool) → nat_le 1 n && nat_le n 300 ≡ fits → (if fits then Some n else None) ≡ Some size → (1 ≤ size) × (size ≤ 300)
@@ -77,6 +77,20 @@ certify_latest_gives rows = made (λ two. certify_latest two.0 two.1) (two_at ro
 verify_latest_gives : (rows : List Row) → GivesSize (verify_latest_at rows)
 verify_latest_gives rows = made (λ two. verify_latest two.0 two.1) (two_at rows) (λ two is. tt)
 
+profile_gives : (rows : List Row) → GivesSize (profile_at rows)
+profile_gives rows =
+    made_of (λ two. option_map (λ window. profile two.0 two.1 window) (window_or_two_hours (first_of (codes "window") rows))) (two_at rows)
+    (λ two. made (λ window. profile two.0 two.1 window) (window_or_two_hours (first_of (codes "window") rows)) (λ window is. tt))
+
+abbrev table_of : List Row → List ℕ × List ℕ → List ℕ → List ℕ × List ℕ × List ℕ → Request
+table_of rows two to asking = matrix two.0 two.1 to asking.0 asking.1 asking.2 (first_of (codes "hierarchy") rows)
+
+matrix_gives : (rows : List Row) → GivesSize (matrix_at rows)
+matrix_gives rows =
+    made_of (λ two. option_and_then (λ to. option_map (table_of rows two to) (asking_at rows)) (first_of (codes "third") rows)) (two_at rows)
+    (λ two. made_of (λ to. option_map (table_of rows two to) (asking_at rows)) (first_of (codes "third") rows)
+    (λ to. made (table_of rows two to) (asking_at rows) (λ it is. tt)))
+
 requests_gives : (rows : List Row) → GivesSize (requests_at rows)
 requests_gives rows = made (λ two. requests two.0 two.1 (first_of (codes "hierarchy") rows)) (two_at rows) (λ two is. tt)
 
@@ -85,7 +99,7 @@ GiveSizes [] = ⊤
 GiveSizes (command ∷ more) = ((rows : List Row) → GivesSize (command.1 rows)) × GiveSizes more
 
 late_give : GiveSizes (drop 6 commands)
-late_give = (certify_gives, (verify_gives, (few_gives, (latest_gives, (certify_latest_gives, (verify_latest_gives, (requests_gives, tt)))))))
+late_give = (certify_gives, (verify_gives, (few_gives, (latest_gives, (certify_latest_gives, (verify_latest_gives, (profile_gives, (matrix_gives, (requests_gives, tt)))))))))
 
 all_give : GiveSizes commands
 all_give = (compile_gives, (migrate_gives, (contract_gives, (check_gives, (sample_gives, (answer_gives, late_give))))))

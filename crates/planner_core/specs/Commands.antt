@@ -1,18 +1,20 @@
 -- What each command says of a run by its outcome.
 use Rattle.plan_base.specs.declared.limits.Caps.{Caps}
-use Rattle.command_words.specs.Requests.{Request, compile, migrate, contract, answer, certify, verify, check, sample, latest, certify_latest, verify_latest, few, requests}
+use Rattle.command_words.specs.Requests.{Request, compile, migrate, contract, answer, certify, verify, check, sample, latest, certify_latest, verify_latest, few, profile, matrix, requests}
 use Rattle.run_steps.specs.Sayings.{Saying}
 use Rattle.compile_commands.specs.Commands.{SaysCompile, SaysMigrate}
 use Rattle.hierarchy_commands.specs.Commands.{SaysCheck, SaysContract}
 use Rattle.answer_commands.specs.Commands.{SaysAnswer, SaysCertify, SaysVerify}
 use Rattle.sample_command.specs.Summary.{SaysSample}
 use Rattle.request_commands.specs.Commands.{SaysRequests}
-use Rattle.late_commands.specs.Commands.{SaysFew, SaysLatest, SaysCertifyLatest, SaysVerifyLatest}
+use Rattle.late_commands.specs.Commands.{SaysFew, SaysLatest, SaysProfile, SaysCertifyLatest, SaysVerifyLatest}
+use Rattle.matrix_commands.specs.Commands.{SaysMatrix}
 
 -- What a run says that was asked for this: `compile` writes the region of a map and a feed over some days, in a format, and `migrate` a region in another one; `contract` writes a hierarchy of
 -- the region's road layers; `answer` writes a right block for each query line of a file, in order, and with a hierarchy how many labels its searches had; `certify` a certificate for a query
--- line; `verify` what the certificate of a file shows; `check` that the hierarchy of a file is sound; `sample` the summary of a made city. `few` and `latest` write other
--- right blocks for the query lines of a file, and `requests` a reply to each line, by the command that it begins with.
+-- line; `verify` what the certificate of a file shows; `check` that the hierarchy of a file is sound; `sample` the summary of a made city. `few`, `latest` and `profile` write
+-- other right blocks for the query lines of a file, `matrix` how long it takes from each endpoint of a file to each one of another, and `requests` a reply to each line, by the
+-- command that it begins with.
 abbrev pub says : Caps → Request → Saying
 says caps (compile map feed days format) = SaysCompile caps map feed days format
 says caps (migrate region format) = SaysMigrate caps region format
@@ -26,4 +28,6 @@ says caps (latest region queries) = SaysLatest caps region queries
 says caps (certify_latest region query) = SaysCertifyLatest caps region query
 says caps (verify_latest region certificate) = SaysVerifyLatest caps region certificate
 says caps (few region queries) = SaysFew caps region queries
+says caps (profile region queries window) = SaysProfile caps region queries window
+says caps (matrix region origins destinations date time expr hierarchy) = SaysMatrix caps region origins destinations date time expr hierarchy
 says caps (requests region lines hierarchy) = SaysRequests caps region lines hierarchy

@@ -1,14 +1,15 @@
 -- What can be done: the files that a request names are there and without fault.
 use Rattle.std.specs.Prelude.{◌≡◌, ℕ, List, Some}
 use Rattle.plan_base.specs.declared.limits.Caps.{Caps}
-use Rattle.command_words.specs.Requests.{Request, AsksFor, compile, migrate, contract, answer, certify, verify, check, sample, latest, certify_latest, verify_latest, few, requests}
+use Rattle.command_words.specs.Requests.{Request, AsksFor, compile, migrate, contract, answer, certify, verify, check, sample, latest, certify_latest, verify_latest, few, profile, matrix, requests}
 use Rattle.run_steps.specs.Complete.{Files, IsHeld, IsQuiet, SpellsNetwork, IsDoneOrMemory}
 use Rattle.run_steps.specs.Sayings.{Saying}
 use Rattle.compile_commands.specs.Complete.{GivesRegion, IsFeedHeld, SpellsObjects}
 use Rattle.hierarchy_commands.specs.Complete.{CanCheck, CanContract}
 use Rattle.answer_commands.specs.Complete.{CanAnswer, CanCertify, CanVerify}
 use Rattle.request_commands.specs.Complete.{CanRequests}
-use Rattle.late_commands.specs.Complete.{CanFew, CanLatest, CanCertifyLatest, CanVerifyLatest}
+use Rattle.late_commands.specs.Complete.{CanFew, CanLatest, CanProfile, CanCertifyLatest, CanVerifyLatest}
+use Rattle.matrix_commands.specs.Complete.{CanMatrix}
 
 -- all that is asked for can be done: each file is there and without fault
 abbrev pub CanBeDone : Caps → Files → Request → Type 0
@@ -24,6 +25,8 @@ CanBeDone caps files (latest region queries) = CanLatest caps files region queri
 CanBeDone caps files (certify_latest region query) = CanCertifyLatest caps files region query
 CanBeDone caps files (verify_latest region certificate) = CanVerifyLatest caps files region certificate
 CanBeDone caps files (few region queries) = CanFew caps files region queries
+CanBeDone caps files (profile region queries window) = CanProfile caps files region queries
+CanBeDone caps files (matrix region origins destinations date time expr hierarchy) = CanMatrix caps files region origins destinations hierarchy
 CanBeDone caps files (requests region lines hierarchy) = CanRequests caps files region lines hierarchy
 
 -- where the words ask for something, all of it can be done, and no count of faults rose, all of it is done, unless memory ran out

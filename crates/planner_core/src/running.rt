@@ -15,7 +15,8 @@ use command_help::help;
 use command_words::{Command, WordsFault, read_words};
 use compile_commands::{compile, migrate};
 use hierarchy_commands::{check, contract};
-use late_commands::{certify_latest, few, latest, verify_latest};
+use late_commands::{certify_latest, few, latest, profile, verify_latest};
+use matrix_commands::{Asking, TableFiles, matrix};
 use plan_base::{Caps, Shelf, Sink, write_all};
 use request_commands::requests;
 use run_steps::{Outcome, Ports, tell};
@@ -68,6 +69,28 @@ fn carry_out<F: Shelf, O: Sink, E: Sink>(
             certificate,
         } => verify_latest(ports, region, certificate, caps),
         Command::Few { region, queries } => few(ports, region, queries, caps),
+        Command::Profile {
+            region,
+            queries,
+            window,
+        } => profile(ports, region, queries, window, caps),
+        Command::Matrix {
+            region,
+            origins,
+            destinations,
+            date,
+            time,
+            expr,
+            hierarchy,
+        } => {
+            let files = TableFiles {
+                region,
+                origins,
+                destinations,
+                hierarchy,
+            };
+            matrix(ports, &files, &Asking { date, time, expr }, caps)
+        }
         Command::Requests {
             region,
             lines,
@@ -109,12 +132,14 @@ pub fn run_within<F: Shelf, O: Sink, E: Sink>(
 /// `answer` with a queries file writes the right block of each query line, in order. `certify` with a query line writes a
 /// certificate for it, or its block where it is refused. `verify` with a certificate file writes `valid` and the block of
 /// the certificate's line and result, which is the right block of that line. `check` with a hierarchy file writes `sound`
-/// where the hierarchy is sound for the region. With the option `--hierarchy` the commands `answer`, `certify` and `verify`
-/// go over a hierarchy, which is checked at once; `answer` then tells behind the blocks how many labels its searches had.
+/// where the hierarchy is sound for the region. With the option `--hierarchy` the commands `answer`, `certify`, `verify`,
+/// `matrix` and `requests` go over a hierarchy, which is checked at once; `answer` then tells behind the blocks how many labels its searches had.
 /// `sample` with a size writes the summary of a made city. `few` with a queries file writes for each line the journeys that are
 /// worth their boardings, and `latest` the journey that departs last; `requests` writes a reply to each line of a file, by the
 /// command that it begins with; `certify-latest` and `verify-latest` do for it what
-/// `certify` and `verify` do for the earliest arrival.
+/// `certify` and `verify` do for the earliest arrival. `profile` with a queries file and a window writes for each line the
+/// departures of the window that are worth taking. `matrix` with a file of origins, a file of destinations, a date, a time and an
+/// expression writes how long it takes from each origin to each destination.
 ///
 /// The outcome says how the run ended. Where the shelf tells that all files are there, they are without fault, and no count
 /// of faults rose, all of the work is done, unless memory ran out. `notes` is told the outcome, for people, and

@@ -2,8 +2,8 @@
 use Rattle.hierarchy_commands.proofs.CompleteLemmas.{named_completes}
 use Rattle.run_steps.proofs.CompleteSteps.{file_completes, network_completes}
 use Rattle.run_steps.proofs.TurnComplete.{answers_completes}
-use Rattle.request_commands.specs.Complete.{RequestsComplete}
+use Rattle.request_commands.specs.Complete.{RequestsCompletes}
 
-pub requests_complete : RequestsComplete
-requests_complete caps files region file hierarchy =
+pub requests_completes : RequestsCompletes
+requests_completes caps files region file hierarchy =
     file_completes files _ region _ _ (network_completes files caps _ _ (λ n rules. named_completes files n hierarchy _ _ (λ h sound. answers_completes files _ file _)))

@@ -9,6 +9,6 @@ abbrev pub CanRequests : Caps → Files → List ℕ → List ℕ → Option (Li
 CanRequests caps files region file hierarchy = IsHeld files region (SpellsNetwork caps (λ n. IsSoundIfNamed files n hierarchy (λ h. AreLinesHeld files file)))
 
 -- where that can be done which is asked for, and no count of faults rose, all of it is done, unless memory ran out
-abbrev pub RequestsComplete : Type 0
-RequestsComplete = (caps : Caps) (files : Files) (region file : List ℕ) (hierarchy : Option (List ℕ))
+abbrev pub RequestsCompletes : Type 0
+RequestsCompletes = (caps : Caps) (files : Files) (region file : List ℕ) (hierarchy : Option (List ℕ))
     → Completes files (CanRequests caps files region file hierarchy) (SaysRequests caps region file hierarchy)

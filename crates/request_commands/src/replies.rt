@@ -4,8 +4,9 @@ ghost use Rattle.std.specs.Prelude.{◌≡◌, IfOk, IfSome, option_map};
 ghost use Rattle.hierarchy.specs.Soundness.{IsSound};
 ghost use Rattle.request_commands.specs.Requests.{IsReply, IsReplyOf};
 
-use crate::request::{Request, asked_by};
+use crate::asked::{LineCommand, asked_by};
 use answer_commands::certified;
+use departures::profile_block;
 use few_boardings::few_block;
 use hierarchy::Hierarchy;
 use journey::framed;
@@ -67,33 +68,36 @@ impl Replies<'_> {
             (option_map (λ h. h.now) self.now.hierarchy) line.now reply.items) }
     {
         match asked_by(line) {
-            Some((request, words)) => self.reply_of(alloc, workspace, request, words),
+            Some((command, query)) => self.reply_of(alloc, workspace, command, query),
             None => framed(alloc, line, b"refused command\n"),
         }
     }
 
-    /// What the command writes for these words.
+    /// What the command writes for this query line.
     fn reply_of(
         &self,
         alloc: Global,
         workspace: &mut Workspace,
-        request: Request,
-        words: &[u8],
+        command: LineCommand,
+        query: &[u8],
     ) -> Result<Vec<u8>, AllocError>
         requires sound { IfSome self.now.hierarchy (λ h. IsSound self.now.network.now h.now) }
         requires same { self.now.backwards.now.network ≡ self.now.network.now }
         ensures { IfOk result (λ reply. IsReplyOf self.now.network.now
-            (option_map (λ h. h.now) self.now.hierarchy) request words.now reply.items) }
+            (option_map (λ h. h.now) self.now.hierarchy) command query.now reply.items) }
     {
-        match request {
-            Request::Answer => {
-                let (block, _) = block_of(alloc, workspace, self.network, self.hierarchy, words)?;
+        match command {
+            LineCommand::Answer => {
+                let (block, _) = block_of(alloc, workspace, self.network, self.hierarchy, query)?;
                 Ok(block)
             }
-            Request::Few => few_block(alloc, workspace, self.network, words),
-            Request::Latest => late_block(alloc, workspace, self.backwards, words),
-            Request::Certify => certified(alloc, self.network, self.hierarchy, words),
-            Request::CertifyLatest => certified_late(alloc, self.network, words),
+            LineCommand::Few => few_block(alloc, workspace, self.network, query),
+            LineCommand::Latest => late_block(alloc, workspace, self.backwards, query),
+            LineCommand::Profile { window } => {
+                profile_block(alloc, workspace, self.network, query, window)
+            }
+            LineCommand::Certify => certified(alloc, self.network, self.hierarchy, query),
+            LineCommand::CertifyLatest => certified_late(alloc, self.network, query),
         }
     }
 }

@@ -44,6 +44,7 @@ fn print_call(rt: &HostRuntime, script: &Script, call: &str, words: &[u8]) -> io
         "run" => runs::run(rt, script, words),
         "notes" => runs::notes(rt, script, words),
         "bytes" => runs::bytes(rt, script, words),
+        "files" => runs::files(rt, words),
         "fill" => runs::fill(rt, script, words),
         "sweep" => runs::sweep(rt, script, words),
         "cuts" => runs::cuts(rt, script, words),

@@ -3,10 +3,9 @@
 use crate::pieces::Pieces;
 use crate::{print_text, text};
 use case_script::{Given, Script, words, words_and_files};
-use plan_base::{MemoryShelf, MemorySink, Shelf};
+use plan_base::{FolderShelf, MemoryShelf, MemorySink, Shelf};
 use planner_core::{Outcome, Ports};
 use std::alloc::{AllocError, Global};
-use std::collections::BTreeMap;
 use std::io;
 
 /// No output of a case or an example is longer.
@@ -62,6 +61,18 @@ pub struct Told {
 pub fn run(rt: &HostRuntime, script: &Script, words: &[u8]) -> io::Result<()> {
     let (failing, line) = cut_failing(words);
     let told = run_over(rt.alloc(), script, line, failing)?;
+    print_told(rt, &told)
+}
+
+/// `files WORDS`: how a run over the files that stand beside the cases ends, and what it writes.
+pub fn files(rt: &HostRuntime, line: &[u8]) -> io::Result<()> {
+    let alloc = rt.alloc();
+    let given = words_and_files(alloc, &Script::new(alloc), line)?;
+    let told = run_words(alloc, &given.words, FolderShelf::new(rt), NOTHING)?;
+    print_told(rt, &told)
+}
+
+fn print_told(rt: &HostRuntime, told: &Told) -> io::Result<()> {
     let (outcome, status) = (told.outcome, told.outcome.status());
     let notes = told.notes.iter().filter(|byte| **byte == b'\n').count();
     println!(rt; "{outcome:?}, status {status}, {notes} notes")?;
@@ -88,14 +99,16 @@ pub fn bytes(rt: &HostRuntime, script: &Script, line: &[u8]) -> io::Result<()> {
 }
 
 /// `sweep WORDS`: read number k fails, for k from 1 until a run is Done, and then write number k, where a write takes four
-/// bytes; whether each earlier run ended as it must, with a front of the output written.
+/// bytes; whether each earlier run ended as it must, with a front of the output written. Where a read fails, only a command that
+/// answers a file in turn has written any of it.
 pub fn sweep(rt: &HostRuntime, script: &Script, line: &[u8]) -> io::Result<()> {
     let whole = run_over(rt.alloc(), script, line, NOTHING)?;
     print_sweep(rt, script, line, &whole)
 }
 
 fn print_sweep(rt: &HostRuntime, script: &Script, line: &[u8], whole: &Told) -> io::Result<()> {
-    let (reads, reads_right) = sweep_reads(rt.alloc(), script, line, &whole.out)?;
+    let early: &[u8] = if is_in_turn(line) { &whole.out } else { b"" };
+    let (reads, reads_right) = sweep_reads(rt.alloc(), script, line, early)?;
     let (writes, writes_right) = sweep_writes(rt.alloc(), script, line, &whole.out)?;
     let outcome = whole.outcome;
     println!(rt;
@@ -106,19 +119,32 @@ fn print_sweep(rt: &HostRuntime, script: &Script, line: &[u8], whole: &Told) -> 
 /// No run of a case reads or writes more often.
 const MOST_CALLS: u64 = 20_000;
 
-/// How many reads failed before a run was Done, and whether each ended the run as it must.
+/// Whether the command of a run answers a file in turn.
+fn is_in_turn(line: &[u8]) -> bool {
+    matches!(
+        text(word_of(line, 1)),
+        "answer" | "few" | "latest" | "profile" | "matrix" | "requests"
+    )
+}
+
+/// One of the words that `|` parts on a line, counted from 0; an empty one where there is none.
+fn word_of(line: &[u8], place: usize) -> &[u8] {
+    line.split(|byte| *byte == b'|').nth(place).unwrap_or(b"")
+}
+
+/// How many reads failed before a run was Done, and whether each ended the run as it must, with a front of this written.
 fn sweep_reads(
     alloc: Global,
     script: &Script,
     line: &[u8],
-    whole: &[u8],
+    early: &[u8],
 ) -> Result<(u64, bool), AllocError> {
     let mut right = true;
     for read in 1..MOST_CALLS {
         let told = run_over(alloc, script, line, Failing { read, ..NOTHING })?;
         match told.outcome {
             Outcome::Done => return Ok((read - 1, right)),
-            Outcome::ReadFault { .. } => right = right && whole.starts_with(&told.out),
+            Outcome::ReadFault { .. } => right = right && early.starts_with(&told.out),
             _ => right = false,
         }
     }
@@ -149,20 +175,22 @@ fn sweep_writes(
     Ok((MOST_CALLS, false))
 }
 
-/// `cuts COMMAND REGION FILE`: both files are read byte by byte, and FILE can't be read on from one place, for each of its
-/// places; whether each run ended so, and wrote what the command writes for the lines that end before that place.
-pub fn cuts(rt: &HostRuntime, script: &Script, words: &[u8]) -> io::Result<()> {
+/// `cuts WORDS`: all files are read byte by byte, and the one that the fourth word names, which is read last, can't be read on
+/// from one place, for each of its places; whether each run ended so, and wrote what the command writes for the lines that end
+/// before that place.
+pub fn cuts(rt: &HostRuntime, script: &Script, line: &[u8]) -> io::Result<()> {
     let alloc = rt.alloc();
-    let (command, rest) = words::cut(words);
-    let (region, name) = words::cut(rest);
+    let name = word_of(line, 3);
     let bytes = script.text(name);
+    let before = reads_before(alloc, script, line, name)?;
     let mut right = true;
     for place in 0..=bytes.len() {
         let cut = Cut {
-            command,
-            region: script.text(region),
-            bytes,
+            script,
+            line,
+            name,
             place,
+            before,
         };
         right = right && is_cut_right(alloc, &cut)?;
     }
@@ -170,28 +198,47 @@ pub fn cuts(rt: &HostRuntime, script: &Script, words: &[u8]) -> io::Result<()> {
     println!(rt; "{count} bytes; what ended before each place was answered: {right}")
 }
 
-/// A command over a region and a file that can't be read on from a place.
+/// How many reads of a byte, and of none at the end, read all files of a run but the one of this name.
+fn reads_before(
+    alloc: Global,
+    script: &Script,
+    line: &[u8],
+    name: &[u8],
+) -> Result<u64, AllocError> {
+    let given = words_and_files(alloc, script, line)?;
+    let mut reads: u64 = 0;
+    for (path, bytes) in &given.files {
+        if path.as_bytes() != name {
+            reads = reads.saturating_add(bytes.len() as u64).saturating_add(1);
+        }
+    }
+    Ok(reads)
+}
+
+/// A run, the file of this name of which can't be read on from a place; so many reads read the other files before it.
 #[derive(Drop)]
 struct Cut<'a> {
-    command: &'a [u8],
-    region: &'a [u8],
-    bytes: &'a [u8],
+    script: &'a Script,
+    line: &'a [u8],
+    name: &'a [u8],
     place: usize,
+    before: u64,
 }
 
 /// Whether a run that could not read on ended so, and wrote what is right for the lines that ended before.
 fn is_cut_right(alloc: Global, cut: &Cut<'_>) -> Result<bool, AllocError> {
-    let ended = ended_lines(&cut.bytes[..cut.place.min(cut.bytes.len())]);
+    let bytes = cut.script.text(cut.name);
+    let ended = ended_lines(&bytes[..cut.place.min(bytes.len())]);
     let wanted = cut_run(alloc, cut, ended, NOTHING)?;
-    let read = (cut.region.len() as u64)
-        .saturating_add(cut.place as u64)
-        .saturating_add(2);
     let failing = Failing {
-        read,
+        read: cut
+            .before
+            .saturating_add(cut.place as u64)
+            .saturating_add(1),
         piece: 1,
         ..NOTHING
     };
-    let told = cut_run(alloc, cut, cut.bytes, failing)?;
+    let told = cut_run(alloc, cut, bytes, failing)?;
     let failed = matches!(told.outcome, Outcome::ReadFault { .. });
     Ok(failed && told.out.as_slice() == wanted.out.as_slice())
 }
@@ -205,26 +252,18 @@ fn ended_lines(text: &[u8]) -> &[u8] {
     &text[..count.min(text.len())]
 }
 
-/// Runs the command over its region and these bytes.
+/// Runs the command with these bytes in the file.
 fn cut_run(
     alloc: Global,
     cut: &Cut<'_>,
     bytes: &[u8],
     failing: Failing,
 ) -> Result<Told, AllocError> {
-    let mut files = BTreeMap::new(alloc);
+    let Given { words, mut files } = words_and_files(alloc, cut.script, cut.line)?;
     files.insert(
-        String::from_str(alloc, "region")?,
-        Vec::from_slice(alloc, cut.region)?,
-    )?;
-    files.insert(
-        String::from_str(alloc, "file")?,
+        String::from_utf8_lossy(alloc, cut.name)?,
         Vec::from_slice(alloc, bytes)?,
     )?;
-    let mut words = Vec::new(alloc);
-    for word in ["modeplan", text(cut.command), "region", "file"] {
-        words.push(String::from_str(alloc, word)?)?;
-    }
     let shelf = MemoryShelf::new(files, vec![in alloc; failing.read]?);
     run_words(alloc, &words, Pieces::new(shelf, failing.piece), failing)
 }

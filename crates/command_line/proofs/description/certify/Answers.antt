@@ -1,5 +1,6 @@
-use Rattle.std.proofs.Common.{codes}
+use Rattle.std.proofs.Common.{[], codes}
+use Rattle.command_line.specs.Description.{command_of, two}
 use Rattle.command_line.proofs.description.certify.Goals as goal
 
 pub returns : goal.returns
-returns c = c.with_hierarchy.ensures (codes "certify") c.in_ok-over_two.ensures
+returns c = c.with_hierarchy.ensures (command_of (codes "certify") two []) c.in_ok-over_two.ensures

@@ -18,7 +18,7 @@ returns-in_default-clause-refused c = λ _.
               n.not-sample,
               (
                 n.not-answer,
-                (n.not-certify, (n.not-verify, (n.not-few, (n.not-latest, (n.not-text, (n.not-text-2, (n.not-requests, tt))))))),
+                (n.not-certify, (n.not-verify, (n.not-few, (n.not-latest, (n.not-text, (n.not-text-2, (n.not-profile, (n.not-matrix, (n.not-requests, tt))))))))),
               ),
             ),
           ),

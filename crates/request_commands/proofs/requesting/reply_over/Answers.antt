@@ -1,4 +1,4 @@
-use Rattle.std.proofs.Common.{Bor, subst}
+use Rattle.std.proofs.Common.{Bor}
 use Rattle.std.specs.Prelude.{option_map}
 use Rattle.hierarchy.specs.declared.hierarchy.Hierarchy.{Hierarchy}
 use Rattle.run_steps.specs.declared.outcome.FileRole.TheVariants.{Requests}
