@@ -69,15 +69,16 @@ fn space_at(text: &[u8]) -> Option<usize>
     text.iter().position(|byte| *byte == b' ')
 }
 
-/// The query of the line that has this line at both ends, if it is one, and if this line, the date and the time are one field
-/// each. Then the query line of two such lines asks what theirs ask: from the one, to the other.
+/// The query of the line that has this line at both ends, if it is one, and if this line, the date and the time are one
+/// field each. Then the query line of two such lines asks what theirs ask: from the one, to the other.
 pub(crate) fn read_end(
     alloc: Global,
     network: &Network,
     asking: &Asking<'_>,
     line: &[u8],
 ) -> Result<Option<Query>, AllocError>
-    ensures { IfOk result (IsEndIfAny network.now asking.now.date.now asking.now.time.now asking.now.expr.now line.now) }
+    ensures { IfOk result (IsEndIfAny network.now asking.now.date.now asking.now.time.now asking.now.expr.now
+        line.now) }
 {
     if !asking.is_apart(line) {
         return Ok(None);

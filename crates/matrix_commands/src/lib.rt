@@ -1,8 +1,8 @@
 //! The command `matrix`: a table of times, with a row for each origin and each destination.
 //!
-//! What a line says depends on the fields of its query line. Where each of two lines is one field, their query line asks what
-//! the two ask by themselves, from the one to the other; so one search for an origin tells its rows, and no pair is read again.
-//! The few other pairs are read and searched each by itself.
+//! Each line is read once, as a query from itself to itself. Where two lines that are one field each ask so, their
+//! query line asks the same from the one to the other; so one search for an origin tells its rows, and no pair is read
+//! again. The few other pairs are read and searched each by itself.
 #![tactic(auto)]
 
 pub mod asking;

@@ -93,8 +93,8 @@ impl Table<'_> {
         Ok(Origin { line, query, times })
     }
 
-    /// The right cell of an origin and the destination at a place: where both ask when they stand at both ends, the arrival
-    /// that was found with all others; else what their query line itself comes to.
+    /// The right cell of an origin and the destination at a place: where both ask when they stand at both ends, the
+    /// arrival that was found with all others; else what their query line itself comes to.
     fn cell(
         &self,
         alloc: Global,

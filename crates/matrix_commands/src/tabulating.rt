@@ -30,8 +30,8 @@ pub struct TableFiles<'a> {
     pub hierarchy: Option<&'a str>,
 }
 
-/// Reads the region of a table, the hierarchy, if one is named, and all destinations; and writes the rows of each origin as
-/// soon as its line has been read whole.
+/// Reads the region of a table, the hierarchy, if one is named, and all destinations; and writes the rows of each
+/// origin as soon as its line has been read whole.
 pub fn matrix<F: Shelf, O: Sink, E: Sink>(
     ports: &mut Ports<F, O, E>,
     files: &TableFiles<'_>,

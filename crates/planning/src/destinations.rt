@@ -5,7 +5,8 @@ ghost use Rattle.hierarchy.specs.Soundness.{IsSound};
 ghost use Rattle.mode_network.specs.NetworkLists.{nodes_of};
 ghost use Rattle.planning.specs.Arrivals.{AreArrivalsTo};
 ghost use Rattle.planning.specs.Plans.{IsRead};
-ghost use Rattle.planning.specs.Destinations.{AddsDestination, AreCopiesTo, AreDestinations, AreListed, earlier, earliest, earliest_in};
+ghost use Rattle.planning.specs.Destinations.{AddsDestination, AreCopiesTo, AreDestinations, AreListed};
+ghost use Rattle.planning.specs.Destinations.{earlier, earliest, earliest_in};
 
 use automaton::{Collapsed, Positions};
 use hierarchy::Hierarchy;
@@ -43,8 +44,8 @@ pub struct Destinations<'a> {
 }
 
 impl<'a> Destinations<'a> {
-    /// The destinations of those queries that are there, on a network and over a hierarchy, if there is one, which is sound
-    /// for it. The graph that is searched is made for all of them at once.
+    /// The destinations of those queries that are there, on a network and over a hierarchy, if there is one, which is
+    /// sound for it. The graph that is searched is made for all of them at once.
     pub fn new(
         alloc: Global,
         network: &'a Network,
@@ -73,8 +74,8 @@ impl<'a> Destinations<'a> {
         })
     }
 
-    /// When a best journey arrives that answers a query, but with each of these destinations in the place of its own: None
-    /// where no journey answers, and where there is no destination. It is one search, which uses the workspace.
+    /// When a best journey arrives that answers a query, but with each of these destinations in the place of its own:
+    /// None where no journey answers, and where there is no destination. It is one search, which uses the workspace.
     pub fn arrivals(
         &self,
         alloc: Global,
@@ -133,7 +134,8 @@ impl Listing {
         hierarchy: Option<&Hierarchy>,
         query: &Option<Query>,
     ) -> Result<(), AllocError>
-        ensures { OnOk result (AddsDestination network.now (option_map (λ h. h.now) hierarchy.entry) query.now self.old self.new) }
+        ensures { OnOk result (AddsDestination network.now (option_map (λ h. h.now) hierarchy.entry) query.now
+            self.old self.new) }
     {
         network.known();
         let copies = copies_to(alloc, network, query)?;
