@@ -1,4 +1,4 @@
-"""Blocks, as the commands answer, latest and few print them.
+"""Blocks, as the commands answer, latest, few and profile print them.
 
 Texts are decoded as UTF-8 with surrogate escapes, so that a name of any bytes can be looked for in the region.
 """
@@ -50,7 +50,7 @@ class Step:
 
 @dataclass
 class Journey:
-    """A journey of a block, with the lines that `latest` and `few` put before it; `line` is where it begins."""
+    """A journey of a block, with the lines that `latest`, `few` and `profile` put before it; `line` is where it begins."""
 
     line: int
     arrive: Clock
@@ -65,12 +65,15 @@ class Journey:
 
 @dataclass
 class Block:
-    """The block of one query line: journeys, or a refusal (the words after `refused`), or neither for `no journey`."""
+    """The block of one query line: journeys, or a refusal (the words after `refused`), or neither for `no journey`.
+
+    `without` is how many milliseconds it takes without a ride, where `profile` says so."""
 
     number: int
     query: str
     journeys: list[Journey] = field(default_factory=list)
     refusal: str | None = None
+    without: int | None = None
 
 
 class Lines:
@@ -133,7 +136,9 @@ def _block(lines: Lines, number: int) -> Block:
         block.refusal = lines.after("refused")
         lines.advance()
     else:
-        block.journeys.append(_journey(lines))
+        block.without = _number(lines, "without")
+        if block.without is None:
+            block.journeys.append(_journey(lines))
         while lines.text != "end" and not lines.ended:
             block.journeys.append(_journey(lines))
     if lines.text != "end":
@@ -142,13 +147,20 @@ def _block(lines: Lines, number: int) -> Block:
     return block
 
 
+def _number(lines: Lines, word: str) -> int | None:
+    """The number behind the word, where the line begins with it."""
+    number = lines.after(word)
+    if number is None:
+        return None
+    if not re.fullmatch("[0-9]{1,18}", number):
+        raise lines.fault(f"“{word}” wants a number")
+    lines.advance()
+    return int(number)
+
+
 def _journey(lines: Lines) -> Journey:
-    line, boardings, depart = lines.number, None, None
-    if (count := lines.after("boardings")) is not None:
-        if not re.fullmatch("[0-9]{1,9}", count):
-            raise lines.fault("“boardings” wants a number")
-        boardings = int(count)
-        lines.advance()
+    line, depart = lines.number, None
+    boardings = _number(lines, "boardings")
     if (clock := lines.after("depart")) is not None:
         depart = _clock(lines, clock)
         lines.advance()

@@ -92,7 +92,7 @@ class Page:
                 yield block, None
 
     def _summary(self) -> str:
-        journeys = sum(bool(block.journeys) for block in self._blocks)
+        journeys = sum(bool(block.journeys) or block.without is not None for block in self._blocks)
         refused = sum(block.refusal is not None for block in self._blocks)
         count = len(self._blocks)
         return (f"{count} {'query' if count == 1 else 'queries'}: {journeys} with a journey, "
@@ -232,6 +232,8 @@ class Page:
         told += f"<dt>Takes</dt><dd>{whole}</dd><dt>By</dt><dd class='word'>{' '.join(journey.word) or 'nothing'}</dd>"
         if journey.boardings is not None:
             told += f"<dt>Boardings</dt><dd>{journey.boardings}</dd>"
+        if block.without is not None:
+            told += f"<dt>Without a ride</dt><dd class='without'>{_minutes(block.without)}</dd>"
         if not legs:
             return f"{head}<dl>{told}</dl>\n<p class='none'>The journey ends where and when it begins.</p>\n</section>\n"
         heads = "".join(f"<th scope='col'>{name}</th>" for name in
@@ -268,6 +270,8 @@ class Page:
         return f" <small>by way of {_text(', '.join(via))}</small>" if leg.kind == LINK and via else ""
 
     def _without(self, block: Block) -> str:
+        if block.without is not None:
+            return f"Without a ride it takes {_minutes(block.without)}, and none that leaves within the window is quicker."
         if block.refusal is None:
             return f"No journey. {self._no_journey()}"
         kind = " ".join(word for word in block.refusal.split(" ") if not word.isdecimal())
@@ -288,6 +292,8 @@ class Page:
     def _no_journey(self) -> str:
         """What it means that there is none, by the command that the other blocks come from."""
         journeys = [journey for block in self._blocks for journey in block.journeys]
+        if any(block.without is not None or _lists_departures(block) for block in self._blocks):
+            return "No way of the region travels like this, or none that leaves within the window."
         if any(journey.depart for journey in journeys):
             return "Nobody who travels like this can leave on the region's days and arrive by the deadline."
         if any(journey.boardings is not None for journey in journeys):
@@ -301,7 +307,14 @@ def _link(block: Block, journey: Journey | None) -> str:
     return f"{block.number}.{place + 1}" if place else str(block.number)
 
 
+def _lists_departures(block: Block) -> bool:
+    """Whether the block has several departures, as `profile` lists them."""
+    return len(block.journeys) > 1 and block.journeys[0].depart is not None
+
+
 def _result(block: Block, journey: Journey | None) -> str:
+    if block.without is not None and journey is None:
+        return f"without a ride, in {_minutes(block.without)}"
     if journey is None:
         return "no journey" if block.refusal is None else f"refused {shown(block.refusal)}"
     boardings = "" if journey.boardings is None else \
@@ -328,6 +341,11 @@ def _swatch(leg: Leg) -> str:
                 "<path class='wait' d='M-5-21h10l-10 14h10z'/></svg>")
     return (f"<svg class='swatch' viewBox='0 0 34 16' aria-hidden='true'><path class='under {_class(leg)}' d='M2 8h30'/>"
             f"<path class='over {_class(leg)}' d='M2 8h30'/></svg>")
+
+
+def _minutes(ms: int) -> str:
+    """Milliseconds as minutes and whole seconds."""
+    return f"{ms // 60_000}:{ms // 1000 % 60:02}"
 
 
 def _dated(clock: Clock) -> str:
