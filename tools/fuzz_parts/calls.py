@@ -15,6 +15,8 @@ STATUSES = {
     "answer": REGION | HIERARCHY | MEMORY,
     "few": REGION | MEMORY,
     "latest": REGION | MEMORY,
+    "profile": REGION | MEMORY,
+    "matrix": REGION | HIERARCHY | MEMORY,
     "requests": REGION | HIERARCHY | MEMORY,
     "certify": REGION | HIERARCHY | MEMORY,
     "verify": REGION | HIERARCHY | CERTIFICATE | MEMORY,
@@ -22,6 +24,7 @@ STATUSES = {
     "verify-latest": REGION | CERTIFICATE | MEMORY,
     "keep": REGION | CERTIFICATE | MEMORY | {14},
     "recheck": REGION | MEMORY | {14},
+    "review": REGION | MEMORY | {14},
     "list": MEMORY | {14},
     "show": MEMORY | {14, 15},
     "drop": MEMORY | {14, 15},
@@ -77,21 +80,31 @@ def _of_region(region: bytes, queries: bytes, program: Program) -> Iterator[Call
     for form in (region, bytewise):
         yield Call("answer", ("answer", "{region}", "{queries}"), {"region": form, "queries": queries})
         yield Call("migrate", ("migrate", "{region}", "--format", "1"), {"region": form})
-    for command in ("few", "latest"):
+    for command in ("few", "latest", "profile"):
         yield Call(command, (command, "{region}", "{queries}"), {"region": region, "queries": queries})
     yield Call("contract", ("contract", "{region}", "--keep", "1"), {"region": region})
     yield Call("check", ("check", "{region}", "{hierarchy}"), over)
     yield Call("answer", ("answer", "{region}", "{queries}", "--hierarchy", "{hierarchy}"), {**over, "queries": queries})
     lines = [line for line in queries.decode().splitlines() if line and not line.startswith("#")]
     yield Call("requests", ("requests", "{region}", "{requests}", "--hierarchy", "{hierarchy}"), {**over, "requests": _requests(lines)})
+    yield _matrix(lines, over)
     for line in lines[:MOST_LINES]:
         yield from _of_line(line, region, hierarchy, program)
 
 
 def _requests(lines: list[str]) -> bytes:
     """Each query line behind the name of a command, of all in turn and of none."""
-    commands = ("answer", "few", "latest", "certify", "certify-latest", "none")
+    commands = ("answer", "few", "latest", "profile 02:00:00", "certify", "certify-latest", "none")
     return "".join(f"{commands[place % len(commands)]} {line}\n" for place, line in enumerate(lines)).encode()
+
+
+def _matrix(lines: list[str], over: dict[str, bytes]) -> Call:
+    """A table from all places where query lines begin to all where they end, by the last line's date, time and expression."""
+    fields = [line.split(" ", 4) for line in lines if line.count(" ") >= 4]
+    files = {"from": "".join(field[0] + "\n" for field in fields), "to": "".join(field[1] + "\n" for field in fields)}
+    asked = [word.replace("{", "{{").replace("}", "}}") for word in fields[-1][2:]]
+    words = ("matrix", "{region}", "{from}", "{to}", *asked, "--hierarchy", "{hierarchy}")
+    return Call("matrix", words, {**over, **{name: text.encode() for name, text in files.items()}})
 
 
 def _of_line(line: str, region: bytes, hierarchy: bytes, program: Program) -> Iterator[Call]:
@@ -130,5 +143,5 @@ def _of_book(example: pathlib.Path, program: Program, book: str, folder: pathlib
         words = [book, kept, "keep", name, folder / "region", folder / "certificate"]
         subprocess.run(words, capture_output=True, check=True)
     held = kept.read_bytes()
-    for words in (("list",), ("show", "first"), ("drop", "second"), ("recheck", "{region}")):
+    for words in (("list",), ("show", "first"), ("drop", "second"), ("recheck", "{region}"), ("review", "{region}")):
         yield Call(words[0], ("{book}", *words), {"book": held, "region": region}, True)
