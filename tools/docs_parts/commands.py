@@ -12,7 +12,7 @@ from typing import NamedTuple
 
 from .pages import Fault, Fence, Page
 
-RUN = re.compile(r"^(?:\./modeplan|\./planbook|tools/[\w-]+|examples/check)(?: |$)")
+RUN = re.compile(r"(?:^|\| )(?:\./modeplan|\./planbook|tools/[\w-]+|examples/check)(?: |$)")
 NOT_RUN = re.compile(r"^(?:rt|make|sudo|git|bench/[\w-]+) ?")
 SYNOPSIS = re.compile(r"^(?:modeplan ([a-z-]+) [A-Z]|\./planbook BOOK)")
 SECONDS = 900
@@ -56,7 +56,7 @@ class Commands:
                 elif found := SYNOPSIS.match(fence.lines[0]):
                     yield from self.of_synopsis(page, fence, found[1])
                     last = None
-                elif any(RUN.match(line) for line in fence.lines):
+                elif any(RUN.search(line) for line in fence.lines):
                     last = self.run(here, fence)
                     seen += last.texts
                     if last.status:
