@@ -55,7 +55,8 @@ def measured(service: Served, folder: pathlib.Path, workers: int, seconds: int) 
             f"http://127.0.0.1:{service.port}"]
     said = subprocess.run([str(word) for word in call], capture_output=True, text=True, check=True).stdout
     demand("Non-2xx" not in said and "Socket errors" not in said, f"requests failed: {said}")
-    rate, median, last = (re.search(pattern, said) for pattern in (r"Requests/sec:\s+(\S+)", r"50%\s+(\S+)", r"99%\s+(\S+)"))
+    rate, median, last = (re.search(pattern, said, re.M) for pattern in (
+        r"^Requests/sec:\s+(\S+)", r"^\s+50%\s+(\S+)", r"^\s+99%\s+(\S+)"))
     demand(bool(rate and median and last), f"wrk says {said}")
     assert rate and median and last
     return f"{float(rate[1]):.0f} | {median[1]} | {last[1]}"
