@@ -1,4 +1,4 @@
-"""How far two places are apart: docs/MAPS_AND_FEEDS.md, "Lengths and durations"."""
+"""How far two places are apart: docs/MAKE_A_REGION.md, "Lengths and durations"."""
 
 import functools
 import math

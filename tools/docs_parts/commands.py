@@ -1,5 +1,6 @@
 """Runs the commands of pages, and compares what they print with what the pages show."""
 
+import functools
 import os
 import pathlib
 import re
@@ -14,6 +15,7 @@ from .pages import Fault, Fence, Page
 
 RUN = re.compile(r"(?:^|\| )(?:\./modeplan|\./planbook|tools/[\w-]+|examples/check)(?: |$)")
 NOT_RUN = re.compile(r"^(?:rt|make|sudo|git|bench/[\w-]+) ?")
+WANTS = re.compile(r"^wants (\w+)$")
 SYNOPSIS = re.compile(r"^(?:modeplan ([a-z-]+) [A-Z]|\./planbook BOOK)")
 SECONDS = 900
 
@@ -22,6 +24,9 @@ class Printed(NamedTuple):
     """What a block of commands left: its outputs and the files that it wrote."""
     status: int
     texts: list[str]
+
+
+UNTRIED = Printed(1, ["", "it was not run"])
 
 
 class Commands:
@@ -51,6 +56,8 @@ class Commands:
             for fence in page.fences:
                 if fence.language or fence.mark.startswith("not run"):
                     last = None
+                elif (wanted := WANTS.match(fence.mark)) and not is_there(wanted[1]):
+                    last = UNTRIED
                 elif NOT_RUN.match(fence.lines[0]):
                     last = None
                 elif found := SYNOPSIS.match(fence.lines[0]):
@@ -97,6 +104,13 @@ class Commands:
                 yield Fault(page.name, fence.line + 1 + at, f"the commands before it print no such line here, but {told}")
         elif not any(fits(fence.lines, text, False) for text in seen):
             yield Fault(page.name, fence.line, "no command before it on the page prints this, and it stands in no example")
+
+
+@functools.cache
+def is_there(module: str) -> bool:
+    """Whether Debian's python3 has this module."""
+    words = ["/usr/bin/python3", "-c", f"import {module}"]
+    return subprocess.run(words, capture_output=True, check=False).returncode == 0
 
 
 def fits(shown: list[str], text: str, whole: bool) -> bool:

@@ -236,6 +236,18 @@ def tied(found: list[Span], crates: set[str]) -> Iterator[tuple[Span, str]]:
             yield found[at], crate
 
 
+def without_reader(found: Iterable[Page]) -> Iterator[Fault]:
+    """The pages of docs/ that do not begin with whom they are for, or that README does not list."""
+    readme, *others = sorted(found, key=lambda page: page.name != "README.md")
+    listed = {span.text for line, text in readme.texts() for span in spans(line, text)}
+    for page in others:
+        if page.name.startswith("docs/"):
+            if not (page.paragraphs and page.paragraphs[0][1].startswith("For who")):
+                yield Fault(page.name, 1, "its first lines do not say for whom it is, as \"For whoever ..\"")
+            if page.name not in listed:
+                yield Fault(readme.name, 1, f"{page.name} is in no list of pages")
+
+
 def unnamed_tools(top: pathlib.Path, found: Iterable[Page]) -> list[Fault]:
     """The tools and benches that no page names."""
     told = {span.text.split()[0] for page in found for line, text in page.texts() for span in spans(line, text)}

@@ -1,4 +1,4 @@
-"""Regions, hierarchies, maps and feeds of any size, as docs/FORMATS.md, docs/MAPS_AND_FEEDS.md have them."""
+"""Regions, hierarchies, maps and feeds of any size, as docs/FORMATS.md, docs/MAKE_A_REGION.md have them."""
 
 import struct
 from collections.abc import Iterable

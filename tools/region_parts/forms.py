@@ -1,4 +1,4 @@
-"""The forms of fields, as docs/MAPS_AND_FEEDS.md has them."""
+"""The forms of fields, as docs/MAKE_A_REGION.md has them."""
 
 import datetime
 import re

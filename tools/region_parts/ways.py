@@ -1,4 +1,4 @@
-"""Which modes may use a way: the road profile of docs/MAPS_AND_FEEDS.md."""
+"""Which modes may use a way: the road profile of docs/MAKE_A_REGION.md."""
 
 from collections.abc import Mapping
 
