@@ -67,12 +67,14 @@ class Journey:
 class Block:
     """The block of one query line: journeys, or a refusal (the words after `refused`), or neither for `no journey`.
 
-    `without` is how many milliseconds it takes without a ride, where `profile` says so."""
+    `stopped` is the limit on labels at which the search was given up, if it was; `without` is how many milliseconds it takes
+    without a ride, where `profile` says so."""
 
     number: int
     query: str
     journeys: list[Journey] = field(default_factory=list)
     refusal: str | None = None
+    stopped: int | None = None
     without: int | None = None
 
 
@@ -135,6 +137,8 @@ def _block(lines: Lines, number: int) -> Block:
     elif lines.after("refused") is not None:
         block.refusal = lines.after("refused")
         lines.advance()
+    elif lines.after("stopped") is not None:
+        block.stopped = _number(lines, "stopped")
     else:
         block.without = _number(lines, "without")
         if block.without is None:

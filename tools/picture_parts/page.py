@@ -94,9 +94,10 @@ class Page:
     def _summary(self) -> str:
         journeys = sum(bool(block.journeys) or block.without is not None for block in self._blocks)
         refused = sum(block.refusal is not None for block in self._blocks)
+        stopped = sum(block.stopped is not None for block in self._blocks)
         count = len(self._blocks)
         return (f"{count} {'query' if count == 1 else 'queries'}: {journeys} with a journey, "
-                f"{count - journeys - refused} without, {refused} refused")
+                f"{count - journeys - refused - stopped} without, {refused} refused" + (f", {stopped} stopped" if stopped else ""))
 
     def _list(self, choices: list[tuple[Block, Journey | None]]) -> Iterator[str]:
         yield "<nav aria-label='Queries'>\n<h2>Queries</h2>\n<ol>\n"
@@ -272,6 +273,9 @@ class Page:
     def _without(self, block: Block) -> str:
         if block.without is not None:
             return f"Without a ride it takes {_minutes(block.without)}, and none that leaves within the window is quicker."
+        if block.stopped is not None:
+            return (f"Stopped: the search has more than {block.stopped:,} labels, which is the limit that was given. Whether there is "
+                    "a journey was not found out.")
         if block.refusal is None:
             return f"No journey. {self._no_journey()}"
         kind = " ".join(word for word in block.refusal.split(" ") if not word.isdecimal())
@@ -315,6 +319,8 @@ def _lists_departures(block: Block) -> bool:
 def _result(block: Block, journey: Journey | None) -> str:
     if block.without is not None and journey is None:
         return f"without a ride, in {_minutes(block.without)}"
+    if journey is None and block.stopped is not None:
+        return f"stopped at {block.stopped:,} labels"
     if journey is None:
         return "no journey" if block.refusal is None else f"refused {shown(block.refusal)}"
     boardings = "" if journey.boardings is None else \

@@ -15,6 +15,8 @@ REASONS = {
     "large": ("expr", "it has so many places for letters, and an expression has at most 200"),
 }
 UNREADABLE = "the expression can't be read; docs/EXPRESSIONS.md tells what it may be"
+STOPPED = ("the search has more labels than one may have here, so it was not found out whether there is a journey; an expression that "
+           "allows less, or places nearer to each other, take a smaller search")
 
 
 def refusal(words: str) -> dict:

@@ -1,4 +1,5 @@
-"""Replies of the planner as JSON: journeys leg by leg, as a traveller reads them, and refusals with what would be right."""
+"""Replies of the planner as JSON: journeys leg by leg, as a traveller reads them; refusals with what would be right; and searches
+that were given up."""
 
 import functools
 import io
@@ -10,7 +11,7 @@ from picture_parts.names import Names, plain_name
 
 from .asked import Asked
 from .atlas import Atlas
-from .refusals import refusal
+from .refusals import STOPPED, refusal
 
 WITHOUT = b"without "
 KEPT = 1 << 16  # nodes whose names and places are kept
@@ -31,6 +32,8 @@ class Teller:
         told = {"query": shown(block.query), "block": reply.decode("utf-8", "replace")}
         if block.refusal is not None:
             return {"kind": "refused", **refusal(block.refusal), **told}
+        if block.stopped is not None:
+            return {"kind": "stopped", "labels": block.stopped, "reason": STOPPED, **told}
         if not block.journeys and without is None:
             return {"kind": "none", **told}
         known = self._known(block)

@@ -108,14 +108,14 @@ class Service:
         return await self._told(asked.window(request.rel_url.raw_query_string))
 
     async def _told(self, what: asked.Asked) -> web.Response:
-        """The planner's reply, as JSON; a refusal has a status of its own."""
+        """The planner's reply, as JSON; a refusal, or a search that was given up, has a status of its own."""
         async with self._editions.use() as edition:
             reply = await edition.pool.ask(what.line, what.is_reply)
             told = edition.teller.told(what, reply)
-        return json_response({"edition": edition.number, **told}, 422 if told["kind"] == "refused" else 200)
+        return json_response({"edition": edition.number, **told}, 422 if told["kind"] in ("refused", "stopped") else 200)
 
     async def _certificate(self, request: web.Request) -> web.Response:
-        """The certificate as the planner writes it, for whoever wants to check it; or the refusal."""
+        """The certificate as the planner writes it, for whoever wants to check it; or why there is none."""
         what = asked.certificate(request.rel_url.raw_query_string)
         async with self._editions.use() as edition:
             reply = await edition.pool.ask(what.line, what.is_reply)

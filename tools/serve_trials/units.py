@@ -134,6 +134,8 @@ def try_profiles() -> None:
     demand((told["kind"], told["without"], told["journeys"]) == ("journeys", 60_000, []), f"{told}")
     demand(teller.told(what, head + b"\nno journey\nend\n")["kind"] == "none", "no journey")
     demand(teller.told(what, head + b"\nrefused range\nend\n")["fault"] == "range", "a refusal")
+    told = teller.told(asked.Asked("answer", head[6:]), head + b"\nstopped 1000000000000\nend\n")
+    demand((told["kind"], told["labels"]) == ("stopped", 10 ** 12), f"a search that was stopped: {told}")
 
 
 def try_names_are_data() -> None:

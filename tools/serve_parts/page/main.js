@@ -67,6 +67,7 @@ function show(told, fields, by) {
   Object.assign(state, { fields, by, journeys: found.map(journey => ({ ...journey, source })), chosen: 0 });
   proof(source);
   if (told.kind === "refused") return nothing(showFault(told));
+  if (told.kind === "stopped") return nothing(stopped(told));
   if (!state.journeys.length) return nothing(without(told, by));
   choose(0);
   say(heading(told, by));
@@ -78,6 +79,9 @@ function nothing(text) {
   byId("turns").hidden = true;
   say(text);
 }
+
+const stopped = told => `Stopped: the search has more than ${told.labels.toLocaleString("en")} labels, the limit of this service. ` +
+  "Whether there is a journey was not found out; an expression that allows less takes a smaller search.";
 
 function without(told, by) {
   if (told.without != null) return `No ride is worth taking in this window: without one it takes ${span(told.without / 1000)}.`;
@@ -129,7 +133,7 @@ async function reach() {
 
 // Where the reply can be checked.
 function proof({ told, fields, by }) {
-  byId("proof").hidden = told.kind === "refused";
+  byId("proof").hidden = ["refused", "stopped"].includes(told.kind);
   const isLate = by === "latest", over = state.region.hierarchy && !isLate ? ` --hierarchy ${state.region.hierarchy}` : "";
   byId("certificate").textContent = ["few", "profile"].includes(by) ? "The certificate of the earliest arrival" : "The certificate";
   byId("certificate").href = address("certificate", { ...fields, kind: isLate ? "latest" : "answer" });
@@ -144,6 +148,7 @@ async function turn(isLater) {
   else if (state.journeys[beside]) return choose(beside);
   await during(async signal => {
     const source = await (journey.legs.some(isRide) ? ridden(journey, isLater, signal) : shifted(journey, isLater, signal)), { told } = source;
+    if (told.kind === "stopped") return say(stopped(told));
     if (told.kind !== "journey") return say(told.kind === "refused" ? `Refused (${told.fault}): ${told.reason}.` : "There is none.");
     const at = state.chosen + (isLater ? 1 : 0);
     state.journeys.splice(at, 0, { ...told, source });
