@@ -15,6 +15,7 @@ from picture_parts.names import Names
 from region_reader import BadRegion, Region
 
 from .atlas import Atlas
+from .bounds import Bounds
 from .maps import packed_map
 from .places import Places
 from .pool import Counts, Limits, Pool
@@ -30,12 +31,13 @@ COMMAND_SECONDS = 900
 
 @dataclass(frozen=True)
 class Sources:
-    """The files by their names, and the program."""
+    """The files by their names, the program, and how large its searches may be."""
 
     program: str
     region: str
     hierarchy: str | None = None
     names: str | None = None
+    bounds: Bounds = Bounds()
 
 
 @dataclass(frozen=True)
@@ -102,7 +104,8 @@ class Edition:
 async def open_edition(number: int, sources: Sources, size: int, limits: Limits, counts: Counts) -> Edition:
     """Reads the region, starts its workers and waits until they have read it too."""
     files = Open.of(sources)
-    pool = Pool(Call((sources.program, "requests", files.region, "/dev/stdin", *files.hierarchy), files.files), size, limits, counts)
+    words = (sources.program, "requests", files.region, "/dev/stdin", *files.hierarchy, *sources.bounds.of_requests)
+    pool = Pool(Call(words, files.files), size, limits, counts)
     try:
         await pool.open()
         atlas = await asyncio.to_thread(lambda: Atlas(Region(files.region)))
@@ -111,7 +114,8 @@ async def open_edition(number: int, sources: Sources, size: int, limits: Limits,
         can = await abilities(sources.program, pool)
         told = {"edition": number, "region": _base(sources.region), "hierarchy": _base(sources.hierarchy), "can": sorted(can)}
         packed = await asyncio.to_thread(packed_map, told, atlas, places)
-        return Edition(number, sources, files, atlas, Teller(atlas, names), places, pool, can, packed)
+        teller = Teller(atlas, names, sources.bounds.places)
+        return Edition(number, sources, files, atlas, teller, places, pool, can, packed)
     except BaseException as error:
         await pool.close()
         files.close()

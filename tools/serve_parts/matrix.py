@@ -15,7 +15,7 @@ from dataclasses import dataclass
 from picture_parts.faults import printed
 
 from .asked import CONTROL, parameters
-from .editions import Open
+from .editions import Open, Sources
 from .problems import Problem
 from .workers import PIECE
 
@@ -63,10 +63,10 @@ def _file_of(lines: list[str]):
     return file
 
 
-async def pieces(program: str, files: Open, table: Table, slots: asyncio.Semaphore) -> AsyncGenerator[bytes, None]:
+async def pieces(sources: Sources, files: Open, table: Table, slots: asyncio.Semaphore) -> AsyncGenerator[bytes, None]:
     """Pieces of the table, as the program writes them."""
     made: asyncio.Queue[bytes | None] = asyncio.Queue()
-    maker = asyncio.create_task(_make(program, files, table, slots, made))
+    maker = asyncio.create_task(_make(sources, files, table, slots, made))
     try:
         while (piece := await made.get()) is not None:
             yield piece
@@ -76,22 +76,22 @@ async def pieces(program: str, files: Open, table: Table, slots: asyncio.Semapho
         await asyncio.wait({maker})
 
 
-async def _make(program: str, files: Open, table: Table, slots: asyncio.Semaphore, made: asyncio.Queue) -> None:
+async def _make(sources: Sources, files: Open, table: Table, slots: asyncio.Semaphore, made: asyncio.Queue) -> None:
     try:
         async with slots, asyncio.timeout(SECONDS):
-            await _run(program, files, table, made)
+            await _run(sources, files, table, made)
     except TimeoutError:
         raise Problem(504, f"the table was not made within {SECONDS:g} seconds") from None
     finally:
         made.put_nowait(None)
 
 
-async def _run(program: str, files: Open, table: Table, made: asyncio.Queue) -> None:
+async def _run(sources: Sources, files: Open, table: Table, made: asyncio.Queue) -> None:
     with _file_of(table.froms) as froms, _file_of(table.tos) as tos:
         names = [f"/dev/fd/{file.fileno()}" for file in (froms, tos)]
         process = await asyncio.create_subprocess_exec(
-            program, "matrix", *files.hierarchy, "--", files.region, *names, *table.rest, stdin=asyncio.subprocess.DEVNULL,
-            stdout=asyncio.subprocess.PIPE, stderr=asyncio.subprocess.PIPE, start_new_session=True,
+            sources.program, "matrix", *files.hierarchy, *sources.bounds.of_tables, "--", files.region, *names, *table.rest,
+            stdin=asyncio.subprocess.DEVNULL, stdout=asyncio.subprocess.PIPE, stderr=asyncio.subprocess.PIPE, start_new_session=True,
             pass_fds=(*files.files, froms.fileno(), tos.fileno()))
         try:
             said, status = await _read(process, made)

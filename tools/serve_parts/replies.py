@@ -20,8 +20,8 @@ KEPT = 1 << 16  # nodes whose names and places are kept
 class Teller:
     """Tells what replies say of one region."""
 
-    def __init__(self, atlas: Atlas, names: Names) -> None:
-        self._atlas, self._names = atlas, names
+    def __init__(self, atlas: Atlas, names: Names, most_places: int | None = None) -> None:
+        self._atlas, self._names, self._most_places = atlas, names, most_places
         self._reader = Reader("the reply", atlas.days)
         self.node = functools.lru_cache(maxsize=KEPT)(self._node)
 
@@ -31,7 +31,7 @@ class Teller:
         block = read_blocks(io.BytesIO(text), "the reply", lambda _: True)[0]
         told = {"query": shown(block.query), "block": reply.decode("utf-8", "replace")}
         if block.refusal is not None:
-            return {"kind": "refused", **refusal(block.refusal), **told}
+            return {"kind": "refused", **refusal(block.refusal, self._most_places), **told}
         if block.stopped is not None:
             return {"kind": "stopped", "labels": block.stopped, "reason": STOPPED, **told}
         if not block.journeys and without is None:

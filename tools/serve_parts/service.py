@@ -144,7 +144,7 @@ class Service:
         """The pieces of a table, of which few are made at the same time."""
         if self._tables.locked():
             raise Problem(503, "too many tables are being made; ask again in a moment", 5)
-        return matrix.pieces(edition.sources.program, edition.files, table, self._tables)
+        return matrix.pieces(edition.sources, edition.files, table, self._tables)
 
     async def _reach(self, request: web.Request) -> web.Response:
         """How far one gets."""
@@ -154,7 +154,8 @@ class Service:
             async with contextlib.aclosing(self._pieces(edition, what.table)) as pieces:
                 rows = await what.rows(pieces)
             if refused := what.refused(rows):
-                return json_response({"kind": "refused", "edition": edition.number, **refusal(refused)}, 422)
+                told = refusal(refused, edition.sources.bounds.places)
+                return json_response({"kind": "refused", "edition": edition.number, **told}, 422)
             return json_response({"edition": edition.number, **await asyncio.to_thread(what.told, rows)})
 
     async def _send_rows(self, request: web.Request, response: web.StreamResponse, pieces: AsyncGenerator[bytes, None]) -> None:

@@ -13,6 +13,7 @@ from selenium.webdriver.common.keys import Keys
 from selenium.webdriver.support.ui import Select, WebDriverWait
 
 from .bench import EXAMPLES, Served, demand, expected
+from .limits import stand_in
 
 WIDE, TELEPHONE = (1400, 900), (390, 844)
 PATIENCE = 120  # seconds until an answer stands there
@@ -250,6 +251,20 @@ def try_unkind_names(browser: Browser, program: str) -> None:
             demand("Journeys in" in browser.driver.title and not browser.all("#journey img, #from-list img"), "a name became an element")
 
 
+def try_limits(browser: Browser) -> None:
+    """A search that is stopped, and an expression that is too large, are told in words, by the limits of the service."""
+    line = "n1 n3 20240304 08:00:00 foot"
+    with tempfile.TemporaryDirectory() as folder:
+        program = str(stand_in(folder))
+        with Served(program, EXAMPLES / "foot-town/region", "--workers", "1", "--labels", "1000000", "--places", "20") as service:
+            browser.open(service.port, line)
+            demand("more than 1,000,000 labels" in browser.text("said"), f"a search that was stopped: {browser.text('said')}")
+            demand(not browser.one("proof").is_displayed() and not browser.all("#journeys li"), "nothing else is shown of it")
+            browser.shot("stopped")
+            browser.open(service.port, line.replace("foot", "large"))
+            demand("at most 20 here" in browser.text("expr-fault"), f"an expression that is too large: {browser.text('expr-fault')}")
+
+
 def run(program: str, shots: pathlib.Path | None) -> str:
     browser = Browser(shots)
     with contextlib.ExitStack() as stack:
@@ -261,5 +276,6 @@ def run(program: str, shots: pathlib.Path | None) -> str:
                 trial(browser, service.port)
             count = try_labels(browser)
         try_unkind_names(browser, program)
+        try_limits(browser)
         demand(not (said := browser.complaints()), f"the console says {said}")
     return f"pages: journeys by links, names, clicks and keys are those of the examples; {count} elements have names"
