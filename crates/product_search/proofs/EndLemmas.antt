@@ -143,7 +143,7 @@ module _ (g : GraphMeaning) (lawful : IsLawfulGraph g) (l : LabelsMeaning) (labe
 
 module _ (g : GraphMeaning) (l : LabelsMeaning) (starts targets : List ℕ) (dep : ℕ) (bound : Option ℕ) (f : Frontier) where
   -- no walk arrives at a time that is to be listed
-  none_listed : (arrival : Option ℕ) → IsSearched g l starts targets dep bound arrival f → (t : ℕ) → ArrivesAt g l starts targets dep t
+  pub none_listed : (arrival : Option ℕ) → IsSearched g l starts targets dep bound arrival f → (t : ℕ) → ArrivesAt g l starts targets dep t
       → ((u : ℕ) → u ≤ t → IsToList bound arrival u) → ⊥
   none_listed arrival searched t arrives listed =
       let word = arrives.word in

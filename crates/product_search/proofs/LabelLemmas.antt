@@ -1,6 +1,6 @@
 -- There is one list of the least labels.
 use Rattle.std.proofs.Common.{◌≡◌, ℕ, zero, suc, ◌⊎◌, List, [], ◌∷◌, Less, inl, inr, refl, sym, ◌∙◌, ap, subst, arith}
-use Rattle.std.specs.Prelude.{Option, Contains}
+use Rattle.std.specs.Prelude.{Option, Contains, length, ◌≤◌}
 use Rattle.std.specs.Ordering.{ordering_reverse}
 use Rattle.std.proofs.lemmas.List.Elements.{All-contains}
 use Rattle.search_laws.specs.GraphLaws.{GraphMeaning}
@@ -28,11 +28,10 @@ in_tail x xs y (k, lt, is) = (suc k, (omega arith), is)
 not_both : {G : Type 0} (x y : Label) → IsBelow x y → IsBelow y x → G
 not_both x y below above = let e : Less ≡ ordering_reverse Less = sym below ∙ label_total.antisymm x y ∙ ap ordering_reverse above in cc
 
-SubList : List Label → List Label → Type 0
+abbrev pub SubList : List Label → List Label → Type 0
 SubList xs ys = (z : Label) → Contains xs z → Contains ys z
 
 same_head : (x y : Label) (xs ys : List Label) → IsAscending (x ∷ xs) → IsAscending (y ∷ ys) → SubList (x ∷ xs) (y ∷ ys) → SubList (y ∷ ys) (x ∷ xs) → x ≡ y
-unfolding SubList
 same_head x y xs ys up above there back = elim (head_or_tail y ys x (there x (0, (omega arith), refl))) [
   | inl e ↦ sym e
   | inr below ↦ elim (head_or_tail x xs y (back y (0, (omega arith), refl))) [
@@ -42,14 +41,12 @@ same_head x y xs ys up above there back = elim (head_or_tail y ys x (there x (0,
 ]
 
 tails : (x y : Label) (xs ys : List Label) → x ≡ y → IsAscending (x ∷ xs) → SubList (x ∷ xs) (y ∷ ys) → SubList xs ys
-unfolding SubList
 tails x y xs ys same up there z has = elim (head_or_tail y ys z (there z (in_tail x xs z has))) [
   | inr in_ys ↦ in_ys
   | inl e ↦ (let below : IsBelow x x = subst (λ w. IsBelow x w) (sym (same ∙ e)) (head_below x xs up z has) in not_both x x below below)
 ]
 
 same_lists : (xs ys : List Label) → IsAscending xs → IsAscending ys → SubList xs ys → SubList ys xs → xs ≡ ys
-unfolding SubList
 same_lists [] [] up above there back = refl
 same_lists [] (y ∷ ys) up above there back = let h = back y (0, (omega arith), refl) in absurd (omega (arith, h.1))
 same_lists (x ∷ xs) [] up above there back = let h = there x (0, (omega arith), refl) in absurd (omega (arith, h.1))
@@ -58,11 +55,29 @@ same_lists (x ∷ xs) (y ∷ ys) up above there back =
     let tail : xs ≡ ys = same_lists xs ys (tail_ascends x xs up) (tail_ascends y ys above) (tails x y xs ys head up there) (tails y x ys xs (sym head) above back) in
     ap (λ z. z ∷ xs) head ∙ ap (λ zs. y ∷ zs) tail
 
+-- where the first of some labels is behind y, so are they all
+past : (x y : Label) (xs ys : List Label) → IsAscending (x ∷ xs) → IsAscending (y ∷ ys) → Contains ys x → SubList (x ∷ xs) (y ∷ ys) → SubList (x ∷ xs) ys
+past x y xs ys up above below there z has = elim (head_or_tail y ys z (there z has)) [
+  | inr in_ys ↦ in_ys
+  | inl e ↦ elim (head_or_tail x xs z has) [
+    | inl same ↦ subst (λ w. Contains ys w) same below
+    | inr later ↦ not_both y x (head_below y ys above x below) (subst (λ w. IsBelow x w) (sym e) (head_below x xs up z later))
+  ]
+]
+
+-- a list whose labels are all in another one is no longer
+pub no_longer : (xs ys : List Label) → IsAscending xs → IsAscending ys → SubList xs ys → length xs ≤ length ys
+no_longer [] ys up above there = omega arith
+no_longer (x ∷ xs) [] up above there = let h = there x (0, (omega arith), refl) in absurd (omega (arith, h.1))
+no_longer (x ∷ xs) (y ∷ ys) up above there = elim (head_or_tail y ys x (there x (0, (omega arith), refl))) [
+  | inl e ↦ (let le = no_longer xs ys (tail_ascends x xs up) (tail_ascends y ys above) (tails x y xs ys (sym e) up there) in omega (arith, le))
+  | inr below ↦ (let le = no_longer (x ∷ xs) ys up (tail_ascends y ys above) (past x y xs ys up above below there) in omega (arith, le))
+]
+
 -- ---- the least labels
 
 module _ (g : GraphMeaning) (l : LabelsMeaning) (starts : List ℕ) (dep : ℕ) (bound arrival : Option ℕ) where
   has_all : (xs ys : List Label) → AreLeastLabels g l starts dep bound arrival xs → AreLeastLabels g l starts dep bound arrival ys → SubList xs ys
-  unfolding SubList
   has_all xs ys first next z has =
       let least = All-contains (λ x. IsLeastAt g l starts dep x.node x.state x.at × IsToList bound arrival x.at) xs z first.least has in
       next.complete z.node z.state z.at least.0 least.1

@@ -13,6 +13,7 @@ mod EndLemmas
 mod NotingLemmas
 mod TrailLemmas
 mod ListLemmas
+mod LimitLemmas
 mod CheckLemmas
 mod StartLemmas
 pub mod BoundLemmas

@@ -3,6 +3,7 @@ pub mod Listed
 pub mod Answer
 pub mod Arrivals
 pub mod Closed
+pub mod Limits
 pub mod Queued
 pub mod Waiting
 pub mod MoveTables

@@ -1,5 +1,5 @@
 -- What the search keeps while it settles one product state after the other.
-use Rattle.std.specs.Prelude.{◌≡◌, ℕ, zero, suc, ◌+◌, ◌*◌, ◌^◌, ◌<◌, ◌≤◌, Bool, true, false, List, length, slice_index, Option, Some, None, IfSome, All, IsTrue, Contains, ◌&&◌, if◌then◌else◌}
+use Rattle.std.specs.Prelude.{◌≡◌, ℕ, zero, suc, ◌+◌, ◌*◌, ◌^◌, ◌<◌, ◌≤◌, Bool, true, false, List, length, slice_index, Option, Some, None, IfSome, All, IsTrue, Contains, ◌&&◌, if◌then◌else◌, filter_map}
 use Rattle.search_laws.specs.GraphLaws.{GraphMeaning, HasArc}
 use Rattle.search_laws.specs.LabelLaws.{LabelsMeaning, Follows}
 use Rattle.product_search.specs.declared.frontier.Reached.{Reached}
@@ -11,6 +11,9 @@ use Rattle.product_search.specs.Listed.{label_of}
 use Rattle.product_search.specs.declared.label.Label.{Label}
 use Rattle.product_search.specs.declared.label.Best.{Best}
 use Rattle.product_search.specs.Answer.{IsArrival, IsWalkFor, last_time}
+use Rattle.product_search.specs.declared.limit.Limited.{Limited}
+use Rattle.product_search.specs.declared.limit.Limited.TheVariants.{Ended, Stopped}
+use Rattle.product_search.specs.Limits.{HasMoreLabels}
 use Rattle.product_search.specs.Waiting.{keyed, rows, reached_at, waits_at, IsAt, IsLink, IsQueueRight}
 use Rattle.product_search.specs.Exploring.{StartIsReached, ArcIsReached}
 
@@ -129,3 +132,24 @@ listed_label arrival e = if (e.1).settled && is_before arrival (e.1).at then Som
 
 abbrev pub label_of_row : Option ℕ → Row → Option Label
 label_of_row arrival r = listed_label arrival (keyed r)
+
+-- ---- what a limit makes of it
+
+-- more than so many product states are settled before a time
+abbrev pub HasMoreSettled : Frontier → ℕ → ℕ → Type 0
+HasMoreSettled f until most = most < length (filter_map (label_of_row (Some until)) (rows f))
+
+-- the search was given up, as it has more labels than the limit
+pub record IsGivenUp (g : GraphMeaning) (l : LabelsMeaning) (starts targets : List ℕ) (dep : ℕ) (bound limit : Option ℕ) (f : Frontier) (most : ℕ) : Type 0 where
+  pub right : IsQueueRight f
+  pub limit_is : limit ≡ Some most
+  pub more : HasMoreLabels g l starts targets dep bound most
+
+-- the search has come to its end, or was given up
+abbrev pub IsExploredWithin : GraphMeaning → LabelsMeaning → List ℕ → List ℕ → ℕ → Option ℕ → Option ℕ → Frontier → Limited (Option Settled) → Type 0
+IsExploredWithin g l starts targets dep bound limit f (Ended end) = IsExplored g l starts targets dep bound f end
+IsExploredWithin g l starts targets dep bound limit f (Stopped most) = IsGivenUp g l starts targets dep bound limit f most
+
+abbrev pub IsSettlementWithin : GraphMeaning → LabelsMeaning → List ℕ → List ℕ → ℕ → Option ℕ → Option ℕ → Frontier → Limited Best → Type 0
+IsSettlementWithin g l starts targets dep bound limit f (Ended best) = IsSettlement g l starts targets dep bound f best
+IsSettlementWithin g l starts targets dep bound limit f (Stopped most) = IsGivenUp g l starts targets dep bound limit f most

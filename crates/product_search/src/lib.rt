@@ -11,6 +11,7 @@ mod explore;
 mod frontier;
 mod key;
 mod label;
+mod limit;
 mod listing;
 mod lookup;
 mod moves;
@@ -29,7 +30,10 @@ mod workspace;
 pub use arrivals::search_arrivals;
 pub use checking::check_labels;
 pub use label::{Best, Found, FoundWithCount, Hop, Label, Walk};
-pub use searching::{search, search_best_with, search_counted_with};
+pub use limit::{Limited, stops_are_due};
+pub use searching::{
+    search, search_best_with, search_counted_with, search_counted_within, search_within,
+};
 pub use targets::TargetTable;
 pub use verdict::LabelVerdict;
 pub use workspace::Workspace;

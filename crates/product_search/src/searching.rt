@@ -1,17 +1,19 @@
 //! The search for the least arrival.
 
-ghost use Rattle.std.specs.Prelude.{◌≡◌, ◌<◌, ◌≤◌, ◌^◌, All, IfOk, IfSome, None};
+ghost use Rattle.std.specs.Prelude.{◌≡◌, ◌<◌, ◌≤◌, ◌^◌, All, IfOk, IfSome, None, Some, length};
 ghost use Rattle.product_search.specs.Reach.{IsWithin};
 ghost use Rattle.product_search.specs.Listed.{AreLeastLabels, HasLeastLabels};
 ghost use Rattle.product_search.specs.Answer.{IsArrival, IsWalkFor, IsInTime, last_time};
 ghost use Rattle.product_search.specs.Closed.{IsClosed};
-ghost use Rattle.product_search.specs.Searching.{IsSettlement};
+ghost use Rattle.product_search.specs.Limits.{HasMoreLabels, IfEnded, IfStopped};
+ghost use Rattle.product_search.specs.Searching.{IsSettlementWithin};
 
 use crate::frontier::Frontier;
 use crate::label::{Best, Found, FoundWithCount};
+use crate::limit::{Limited, passed};
 use crate::listing::{count_labels, list_labels};
 use crate::retrace::walk_to;
-use crate::settling::{arrival_of, settle_all};
+use crate::settling::{Explored, arrival_of, settle_all};
 use crate::workspace::Workspace;
 use search_laws::{Graph, Labels, Time};
 use std::alloc::{AllocError, Global};
@@ -49,15 +51,57 @@ pub fn search<G: Graph, L: Labels>(
         f.arrival f.labels.items) }
     ensures times { IfOk result (IsInTime dep) }
 {
+    let found = search_within(alloc, graph, labels, starts, targets, dep, bound, None)?;
+    Ok(found.into_answer())
+}
+
+/// The same as [`search`], but given up where there are more labels than the limit, if there is one, and there alone. A
+/// search that is given up has settled at most one more than the limit, and those of equal time.
+pub fn search_within<G: Graph, L: Labels>(
+    alloc: Global,
+    graph: &G,
+    labels: &L,
+    starts: &[u32],
+    targets: &[u32],
+    dep: Time,
+    bound: Option<Time>,
+    limit: Option<u64>,
+) -> Result<Limited<Found>, AllocError>
+    requires starts { All (λ v. v < (G.meaning graph.now).nodes) starts.now }
+    requires targets { All (λ v. v < (G.meaning graph.now).nodes) targets.now }
+    requires dep { dep < 2 ^ 64 }
+    requires bound { IsWithin bound dep }
+    ensures arrival { IfEnded result (λ f. IsArrival (G.meaning graph.now) (L.automaton labels.now) starts.now targets.now dep
+        bound f.arrival) }
+    ensures walk { IfEnded result (λ f. IsWalkFor (G.meaning graph.now) (L.automaton labels.now) starts.now targets.now dep
+        f.arrival f.walk) }
+    ensures labels { IfEnded result (λ f. AreLeastLabels (G.meaning graph.now) (L.automaton labels.now) starts.now dep
+        bound f.arrival f.labels.items) }
+    ensures closed { bound ≡ None → IfEnded result (λ f. IsClosed (G.meaning graph.now) (L.automaton labels.now) starts.now
+        targets.now dep f.arrival f.labels.items) }
+    ensures times { IfEnded result (IsInTime dep) }
+    ensures few { IfEnded result (λ f. IfSome limit (λ most. length f.labels.items ≤ most)) }
+    ensures stopped { IfStopped result (λ most. (limit ≡ Some most) × HasMoreLabels (G.meaning graph.now)
+        (L.automaton labels.now) starts.now targets.now dep bound most) }
+{
     let workspace = Workspace::new(alloc);
-    let settled = settle(alloc, workspace, graph, labels, starts, targets, dep, bound)?;
-    let labels = list_labels(alloc, &settled.frontier, settled.best.arrival)?;
-    let Settlement { frontier: _, best } = settled;
-    Ok(Found {
+    let settled = settle(
+        alloc, workspace, graph, labels, starts, targets, dep, bound, limit,
+    )?;
+    let Settlement { frontier, best } = settled;
+    let best = match best {
+        Limited::Ended(best) => best,
+        Limited::Stopped(most) => return Ok(Limited::Stopped(most)),
+    };
+    let labels = list_labels(alloc, &frontier, best.arrival)?;
+    if let Some(most) = passed(limit, labels.len() as u64) {
+        return Ok(Limited::Stopped(most));
+    }
+    Ok(Limited::Ended(Found {
         arrival: best.arrival,
         labels,
         walk: best.walk,
-    })
+    }))
 }
 
 /// The same as [`search`] with the count of the labels in place of these, with lists and a table that are kept for the next search.
@@ -83,16 +127,60 @@ pub fn search_counted_with<G: Graph, L: Labels>(
         bound f.arrival f.labels) }
     ensures time { IfOk result (λ f. IfSome f.arrival (λ t. t ≤ last_time dep)) }
 {
+    let found = search_counted_within(
+        alloc, workspace, graph, labels, starts, targets, dep, bound, None,
+    )?;
+    Ok(found.into_answer())
+}
+
+/// The same as [`search_counted_with`], but given up as [`search_within`] is.
+pub fn search_counted_within<G: Graph, L: Labels>(
+    alloc: Global,
+    workspace: &mut Workspace,
+    graph: &G,
+    labels: &L,
+    starts: &[u32],
+    targets: &[u32],
+    dep: Time,
+    bound: Option<Time>,
+    limit: Option<u64>,
+) -> Result<Limited<FoundWithCount>, AllocError>
+    requires starts { All (λ v. v < (G.meaning graph.now).nodes) starts.now }
+    requires dep { dep < 2 ^ 64 }
+    requires bound { IsWithin bound dep }
+    ensures arrival { IfEnded result (λ f. IsArrival (G.meaning graph.now) (L.automaton labels.now) starts.now targets.now dep
+        bound f.arrival) }
+    ensures walk { IfEnded result (λ f. IsWalkFor (G.meaning graph.now) (L.automaton labels.now) starts.now targets.now dep
+        f.arrival f.walk) }
+    ensures labels { IfEnded result (λ f. HasLeastLabels (G.meaning graph.now) (L.automaton labels.now) starts.now dep
+        bound f.arrival f.labels) }
+    ensures time { IfEnded result (λ f. IfSome f.arrival (λ t. t ≤ last_time dep)) }
+    ensures few { IfEnded result (λ f. IfSome limit (λ most. f.labels ≤ most)) }
+    ensures stopped { IfStopped result (λ most. (limit ≡ Some most) × HasMoreLabels (G.meaning graph.now)
+        (L.automaton labels.now) starts.now targets.now dep bound most) }
+{
     let kept = workspace.take(alloc);
-    let settled = settle(alloc, kept, graph, labels, starts, targets, dep, bound)?;
+    let settled = settle(
+        alloc, kept, graph, labels, starts, targets, dep, bound, limit,
+    )?;
     let Settlement { frontier, best } = settled;
+    let best = match best {
+        Limited::Ended(best) => best,
+        Limited::Stopped(most) => {
+            workspace.put(frontier);
+            return Ok(Limited::Stopped(most));
+        }
+    };
     let labels = count_labels(&frontier, best.arrival);
     workspace.put(frontier);
-    Ok(FoundWithCount {
+    if let Some(most) = passed(limit, labels) {
+        return Ok(Limited::Stopped(most));
+    }
+    Ok(Limited::Ended(FoundWithCount {
         arrival: best.arrival,
         labels,
         walk: best.walk,
-    })
+    }))
 }
 
 /// The same as [`search_counted_with`] without the count.
@@ -116,20 +204,22 @@ pub fn search_best_with<G: Graph, L: Labels>(
     ensures time { IfOk result (λ f. IfSome f.arrival (λ t. t ≤ last_time dep)) }
 {
     let kept = workspace.take(alloc);
-    let settled = settle(alloc, kept, graph, labels, starts, targets, dep, bound)?;
+    let settled = settle(
+        alloc, kept, graph, labels, starts, targets, dep, bound, None,
+    )?;
     let Settlement { frontier, best } = settled;
     workspace.put(frontier);
-    Ok(best)
+    Ok(best.into_answer())
 }
 
-/// What a search has settled, and the best that it came to.
+/// What a search has settled, and the best that it came to, unless it was given up.
 #[derive(Drop)]
 pub(crate) struct Settlement {
     pub frontier: Frontier,
-    pub best: Best,
+    pub best: Limited<Best>,
 }
 
-/// Settles product states up to the first end, and tells its arrival and the walk to it.
+/// Settles product states up to the first end, and tells its arrival and the walk to it, or is given up on the way.
 fn settle<G: Graph, L: Labels>(
     alloc: Global,
     workspace: Workspace,
@@ -139,18 +229,30 @@ fn settle<G: Graph, L: Labels>(
     targets: &[u32],
     dep: Time,
     bound: Option<Time>,
+    limit: Option<u64>,
 ) -> Result<Settlement, AllocError>
     requires starts { All (λ v. v < (G.meaning graph.now).nodes) starts.now }
     requires dep { dep < 2 ^ 64 }
     requires bound { IsWithin bound dep }
-    ensures { IfOk result (λ s. IsSettlement (G.meaning graph.now) (L.automaton labels.now) starts.now targets.now dep bound
-        s.frontier s.best) }
+    ensures { IfOk result (λ s. IsSettlementWithin (G.meaning graph.now) (L.automaton labels.now) starts.now targets.now dep
+        bound limit s.frontier s.best) }
 {
-    let explored = settle_all(alloc, workspace, graph, labels, starts, targets, dep, bound)?;
-    let arrival = arrival_of(explored.end);
-    let walk = walk_to(alloc, &explored.frontier, explored.end)?;
-    Ok(Settlement {
-        frontier: explored.frontier,
-        best: Best { arrival, walk },
-    })
+    let explored = settle_all(
+        alloc, workspace, graph, labels, starts, targets, dep, bound, limit,
+    )?;
+    let Explored { frontier, end } = explored;
+    match end {
+        Limited::Ended(end) => {
+            let arrival = arrival_of(end);
+            let walk = walk_to(alloc, &frontier, end)?;
+            Ok(Settlement {
+                frontier,
+                best: Limited::Ended(Best { arrival, walk }),
+            })
+        }
+        Limited::Stopped(most) => Ok(Settlement {
+            frontier,
+            best: Limited::Stopped(most),
+        }),
+    }
 }

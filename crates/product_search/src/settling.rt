@@ -4,10 +4,11 @@ ghost use Rattle.std.specs.Prelude.{◌≡◌, ℕ, ◌<◌, ◌^◌, ◌&&◌, 
 ghost use Rattle.std.specs.BTreeSet as sorted;
 ghost use Rattle.std.specs.Ordering.{nat_cmp};
 ghost use Rattle.product_search.specs.Reach.{IsWithin};
-ghost use Rattle.product_search.specs.Searching.{IsExplored, arrival_of};
+ghost use Rattle.product_search.specs.Searching.{IsExploredWithin, arrival_of};
 
 use crate::explore::explore;
 use crate::frontier::{Frontier, Settled};
+use crate::limit::{Limited, Pace, passed_before};
 use crate::moves::MoveTable;
 use crate::start::offer_starts;
 use crate::workspace::Workspace;
@@ -15,14 +16,15 @@ use search_laws::{GivenRuns, Graph, Labels, Time};
 use std::alloc::{AllocError, Global};
 use std::collections::BTreeSet;
 
-/// What a search has settled, and the end that it has come to, if any.
+/// What a search has settled, and the end that it has come to, if any, unless it was given up.
 #[derive(Drop)]
 pub(crate) struct Explored {
     pub frontier: Frontier,
-    pub end: Option<Settled>,
+    pub end: Limited<Option<Settled>>,
 }
 
-/// Settles product states from the starts on, up to the first end.
+/// Settles product states from the starts on, up to the first end. That is given up where more than the limit were settled
+/// before the time of the last one, so when at most one more than the limit is settled, and those of equal time.
 pub(crate) fn settle_all<G: Graph, L: Labels>(
     alloc: Global,
     workspace: Workspace,
@@ -32,12 +34,13 @@ pub(crate) fn settle_all<G: Graph, L: Labels>(
     targets: &[u32],
     dep: Time,
     bound: Option<Time>,
+    limit: Option<u64>,
 ) -> Result<Explored, AllocError>
     requires starts { All (λ v. v < (G.meaning graph.now).nodes) starts.now }
     requires dep { dep < 2 ^ 64 }
     requires bound { IsWithin bound dep }
-    ensures { IfOk result (λ e. IsExplored (G.meaning graph.now) (L.automaton labels.now) starts.now targets.now dep bound
-        e.frontier e.end) }
+    ensures { IfOk result (λ e. IsExploredWithin (G.meaning graph.now) (L.automaton labels.now) starts.now targets.now dep bound
+        limit e.frontier e.end) }
 {
     let ends = set_of(alloc, targets)?;
     let mut frontier = Frontier::new(alloc, workspace, labels.states());
@@ -45,11 +48,19 @@ pub(crate) fn settle_all<G: Graph, L: Labels>(
     let moves = MoveTable::new(alloc, labels)?;
     let mut given = GivenRuns::new(alloc);
     let mut ways = Vec::new(alloc);
+    let mut pace = Pace::new(dep);
     while let Some(settled) = frontier.settle_least() {
         if is_end(labels, &ends, settled) {
             return Ok(Explored {
                 frontier,
-                end: Some(settled),
+                end: Limited::Ended(Some(settled)),
+            });
+        }
+        let before = pace.count(settled.at);
+        if let Some(most) = passed_before(limit, before, &frontier, settled.at) {
+            return Ok(Explored {
+                frontier,
+                end: Limited::Stopped(most),
             });
         }
         explore(
@@ -65,7 +76,7 @@ pub(crate) fn settle_all<G: Graph, L: Labels>(
     }
     Ok(Explored {
         frontier,
-        end: None,
+        end: Limited::Ended(None),
     })
 }
 

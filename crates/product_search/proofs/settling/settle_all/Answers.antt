@@ -2,6 +2,7 @@ use Rattle.std.proofs.Common.{arith}
 use Rattle.product_search.proofs.GivenLemmas.{none_given, given_stays}
 use Rattle.product_search.proofs.StepLemmas.{searching_on, one_less, reached_stays}
 use Rattle.product_search.proofs.EndLemmas.{searching_begins, searched_to, ended, searched_all, end_parts, no_end, settled_by}
+use Rattle.product_search.proofs.LimitLemmas.{more_settled}
 use Rattle.product_search.proofs.settling.settle_all.Goals as goal
 
 pub loop-settled-init : goal.loop-settled-init
@@ -26,6 +27,20 @@ returns-then-is_end g c =
       ended graph (g.met.G.Graph.lawful c.args.graph.now) labels (g.met.L.Labels.lawful c.args.labels.now) c.args.starts.now c.args.targets.now c.args.dep c.args.bound
           c.loop-settled.frontier c.settle_least.new.self s c.loop-settled.invariant.searching c.in-Some.ensures.right least end.0 end.1,
     )
+
+pub returns-in-Some-passed_before : goal.returns-in-Some-passed_before
+returns-in-Some-passed_before g c =
+    let graph = g.G.Graph.meaning c.args.graph.now in
+    let labels = g.L.Labels.automaton c.args.labels.now in
+    let s = c.in-Some.settled in
+    let searched = searched_to graph (g.met.G.Graph.lawful c.args.graph.now) labels (g.met.L.Labels.lawful c.args.labels.now) c.args.starts.now c.args.targets.now c.args.dep c.args.bound
+    c.loop-settled.frontier c.settle_least.new.self s c.loop-settled.invariant.searching c.in-Some.ensures.right c.in-Some.ensures.least in
+    let passed = c.in-Some-passed_before.ensures in
+    record {
+      right = c.in-Some.ensures.right;
+      limit_is = passed.0;
+      more = more_settled graph labels c.args.starts.now c.args.targets.now c.args.dep c.args.bound s.at c.settle_least.new.self searched c.in-Some-passed_before.most passed.1;
+    }
 
 pub explore-requires-clause-settled : goal.explore-requires-clause-settled
 explore-requires-clause-settled g c =
