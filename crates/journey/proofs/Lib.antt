@@ -9,6 +9,7 @@ pub mod CopyLemmas
 pub mod ExpressionLines
 pub mod LineLemmas
 pub mod ReadingLemmas
+pub mod LargeLemmas
 pub mod TextParts
 pub mod NodeTexts
 pub mod AlikeLemmas

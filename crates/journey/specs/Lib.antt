@@ -13,4 +13,5 @@ pub mod Telling
 pub mod Blocks
 pub mod Best
 pub mod Reading
+pub mod Large
 pub mod Alike
