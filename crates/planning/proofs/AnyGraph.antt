@@ -6,6 +6,7 @@ use Rattle.search_laws.specs.LabelLaws.{LabelsMeaning, Accepts, Reads}
 use Rattle.search_laws.specs.Walks.{WalkStep, wait, arc, IsWalk, word_from, ArrivesAt}
 use Rattle.product_search.specs.declared.label.Label.{Label}
 use Rattle.product_search.specs.Answer.{IsArrival}
+use Rattle.product_search.specs.Limits.{HasMoreLabels}
 use Rattle.product_search.specs.Reach.{IsReachedAt, IsLeastAt}
 use Rattle.automaton.specs.Collapsed.{collapsed}
 use Rattle.phase_graph.specs.Arcs.{HasWalk}
@@ -86,4 +87,16 @@ module _ (g h : GraphMeaning) (same : AreAlike g h) (automaton : LabelsMeaning) 
       least = λ k d lt. (least_over g h same (collapsed automaton) starts dep _ _ _ (are.least.least k d lt).0, (are.least.least k d lt).1);
       complete = λ v q t is listed. are.least.complete v q t (least_over h g (alike_back g h same) (collapsed automaton) starts dep v q t is) listed;
     };
+  }
+
+  pub more_over : (most : ℕ) → HasMoreLabels g (collapsed automaton) starts ends dep None most → HasMoreLabels h (collapsed automaton) starts ends dep None most
+  more_over most is = record {
+    some = is.some;
+    ascending = is.ascending;
+    are = λ k d lt. (let label = is.are k d lt in record {
+      least = least_over g h same (collapsed automaton) starts dep _ _ _ label.least;
+      within = label.within;
+      before = λ a arrives. label.before a (arrives_at h g same.back (collapsed automaton) starts ends dep a arrives);
+    });
+    more = is.more;
   }

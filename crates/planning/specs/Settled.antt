@@ -8,10 +8,18 @@ use Rattle.journey.specs.Queries.{IsRefused}
 use Rattle.journey.specs.Best.{Asked, Asks}
 use Rattle.planning.specs.Plans.{AreTheLabels}
 
--- how many labels the search over a hierarchy's phase graph has; without a hierarchy they are not counted
+-- how many labels the search has
+abbrev pub HasLabelCount : NetworkLists → Option HierarchyLists → Asked → ℕ → Type 0
+HasLabelCount n h q count = (labels : List Label) × AreTheLabels n h q labels × (count ≡ length labels)
+
+-- that is told of one over a hierarchy's phase graph, and 0 of one without a hierarchy
 abbrev pub IsLabelCount : NetworkLists → Option HierarchyLists → Asked → ℕ → Type 0
 IsLabelCount n None q count = count ≡ 0
-IsLabelCount n (Some h) q count = (labels : List Label) × AreTheLabels n (Some h) q labels × (count ≡ length labels)
+IsLabelCount n (Some h) q count = HasLabelCount n (Some h) q count
+
+abbrev pub told_count : Option HierarchyLists → ℕ → ℕ
+told_count None labels = 0
+told_count (Some h) labels = labels
 
 -- that of the query of a line; none where the line is refused
 abbrev pub IsSettledBy : NetworkLists → Option HierarchyLists → List ℕ → ℕ → Type 0

@@ -1,40 +1,53 @@
 //! The block of a query line.
 
-ghost use Rattle.std.specs.Prelude.{IfOk, IfSome, option_map};
+ghost use Rattle.std.specs.Prelude.{◌≡◌, IfOk, IfSome, Some, option_map};
 ghost use Rattle.hierarchy.specs.Soundness.{IsSound};
 ghost use Rattle.journey.specs.Best.{IsBlock, IsRightBody};
 ghost use Rattle.journey.specs.Blocks.{IsBlockText, IsPrintableBody};
+ghost use Rattle.planning.specs.Limits.{IsBlockWithin, IsLineWithin, IsSettledWithin, IsStoppedLine};
 ghost use Rattle.planning.specs.Settled.{IsSettledBy};
+ghost use Rattle.product_search.specs.Limits.{IfEnded, IfStopped};
 
-use crate::plans::{BestPlan, find_best};
+use crate::plans::{BestPlan, find_best_within};
 use hierarchy::Hierarchy;
-use journey::{BlockBody, QueryFault, block, read_query};
+use journey::{BlockBody, QueryFault, block, read_query, stopped_block};
 use mode_network::Network;
-use product_search::Workspace;
+use product_search::{Limited, Workspace};
 use std::alloc::{AllocError, Global};
 
-/// What the block of a query line says, and how many labels the search had, if it was over a hierarchy.
+/// What the block of a query line says, and how many labels the search had, if it was over a hierarchy; unless it was
+/// stopped, as it has more than the limit.
 fn body(
     alloc: Global,
     workspace: &mut Workspace,
     network: &Network,
     hierarchy: Option<&Hierarchy>,
     line: &[u8],
-) -> Result<(BlockBody, u64), AllocError>
+    limit: Option<u64>,
+) -> Result<Limited<(BlockBody, u64)>, AllocError>
     requires sound { IfSome hierarchy (λ h. IsSound network.now h.now) }
-    ensures right { IfOk result (λ it. IsRightBody network.now line.now it.0) }
-    ensures printable { IfOk result (λ it. IsPrintableBody network.now it.0) }
-    ensures settled { IfOk result (λ it. IsSettledBy network.now (option_map (λ h. h.now) hierarchy.entry) line.now it.1) }
+    ensures right { IfEnded result (λ it. IsRightBody network.now line.now it.0) }
+    ensures printable { IfEnded result (λ it. IsPrintableBody network.now it.0) }
+    ensures settled { IfEnded result (λ it. IsSettledBy network.now (option_map (λ h. h.now) hierarchy.entry) line.now it.1) }
+    ensures few { IfEnded result (λ it. IfSome limit (λ most. IsLineWithin network.now
+        (option_map (λ h. h.now) hierarchy.entry) most line.now)) }
+    ensures stopped { IfStopped result (λ most. (limit ≡ Some most)
+        × IsStoppedLine network.now (option_map (λ h. h.now) hierarchy.entry) most line.now) }
 {
     let query = match read_query(alloc, network, line) {
         Ok(query) => query,
         Err(QueryFault::OutOfMemory) => return Err(AllocError),
-        Err(fault) => return Ok((BlockBody::Refused(fault), 0)),
+        Err(fault) => return Ok(Limited::Ended((BlockBody::Refused(fault), 0))),
     };
-    let BestPlan { journey, settled } = find_best(alloc, workspace, network, hierarchy, &query)?;
+    let BestPlan { journey, settled } = match find_best_within(
+        alloc, workspace, network, hierarchy, &query, limit,
+    )? {
+        Limited::Ended(best) => best,
+        Limited::Stopped(most) => return Ok(Limited::Stopped(most)),
+    };
     match journey {
-        Some(journey) => Ok((BlockBody::Journey(journey), settled)),
-        None => Ok((BlockBody::Nothing, settled)),
+        Some(journey) => Ok(Limited::Ended((BlockBody::Journey(journey), settled))),
+        None => Ok(Limited::Ended((BlockBody::Nothing, settled))),
     }
 }
 
@@ -51,7 +64,31 @@ pub fn block_of(
     ensures block { IfOk result (λ it. IsBlock network.now line.now it.0.items) }
     ensures settled { IfOk result (λ it. IsSettledBy network.now (option_map (λ h. h.now) hierarchy.entry) line.now it.1) }
 {
-    let (body, settled) = body(alloc, workspace, network, hierarchy, line)?;
-    let block = block(alloc, network, line, &body)?;
-    Ok((block, settled))
+    block_within(alloc, workspace, network, hierarchy, line, None)
+}
+
+/// The same as [`block_of`], but where the search has more labels than the limit, if there is one, it is stopped, and the
+/// block says so. A search that is stopped counts no labels.
+pub fn block_within(
+    alloc: Global,
+    workspace: &mut Workspace,
+    network: &Network,
+    hierarchy: Option<&Hierarchy>,
+    line: &[u8],
+    limit: Option<u64>,
+) -> Result<(Vec<u8>, u64), AllocError>
+    requires { IfSome hierarchy (λ h. IsSound network.now h.now) }
+    ensures block { IfOk result (λ it. IsBlockWithin network.now (option_map (λ h. h.now) hierarchy.entry) limit line.now it.0.items) }
+    ensures settled { IfOk result (λ it. IsSettledWithin network.now (option_map (λ h. h.now) hierarchy.entry) limit line.now it.1) }
+{
+    match body(alloc, workspace, network, hierarchy, line, limit)? {
+        Limited::Ended((body, settled)) => {
+            let block = block(alloc, network, line, &body)?;
+            Ok((block, settled))
+        }
+        Limited::Stopped(most) => {
+            let block = stopped_block(alloc, line, most)?;
+            Ok((block, 0))
+        }
+    }
 }

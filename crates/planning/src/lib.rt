@@ -6,6 +6,8 @@ pub mod blocks;
 pub mod destinations;
 pub mod plans;
 
-pub use blocks::block_of;
+pub use blocks::{block_of, block_within};
 pub use destinations::Destinations;
-pub use plans::{BestPlan, FoundPlan, best_arrival, find_best, find_plan};
+pub use plans::{
+    BestPlan, FoundPlan, best_arrival, find_best, find_best_within, find_plan, find_plan_within,
+};

@@ -1,6 +1,6 @@
 //! A best journey for a query.
 
-ghost use Rattle.std.specs.Prelude.{◌≡◌, IfOk, IfSome, Some, option_map};
+ghost use Rattle.std.specs.Prelude.{◌≡◌, ◌≤◌, IfOk, IfSome, Some, length, option_map};
 ghost use Rattle.automaton.specs.Meanings.{position_meaning};
 ghost use Rattle.hierarchy.specs.Soundness.{IsSound};
 ghost use Rattle.journey.specs.Best.{asked_by};
@@ -8,7 +8,9 @@ ghost use Rattle.phase_graph.specs.InUseGraph.{meaning_in_use, network_in, hiera
 ghost use Rattle.planning.specs.Arrivals.{IsBestArrival};
 ghost use Rattle.planning.specs.Plans.{IsRead, IsPlan, AreTheLabels, IsCertifiable, both, route_of};
 ghost use Rattle.planning.specs.Searched.{IsSearched, IsWalkOf, IsUnder};
-ghost use Rattle.planning.specs.Settled.{IsLabelCount};
+ghost use Rattle.planning.specs.Settled.{HasLabelCount, IsLabelCount, told_count};
+ghost use Rattle.planning.specs.Limits.{SearchHasAtMost, SearchHasMore};
+ghost use Rattle.product_search.specs.Limits.{IfEnded, IfStopped};
 
 use automaton::{Collapsed, Positions};
 use hierarchy::Hierarchy;
@@ -17,8 +19,8 @@ use mode_network::{Journey, Network};
 use phase_graph::{GraphInUse, ends_in, starts_in};
 use plan_base::Time;
 use product_search::{
-    Best, Found, FoundWithCount, Label, Walk, Workspace, search, search_best_with,
-    search_counted_with,
+    Best, Found, FoundWithCount, Label, Limited, Walk, Workspace, search_best_with,
+    search_counted_within, search_within,
 };
 use std::alloc::{AllocError, Global};
 use unpack::from_graph;
@@ -60,15 +62,52 @@ pub fn find_best(
     ensures journey { IfOk result (λ best. IsPlan network.now (asked_by query.now) best.journey) }
     ensures settled { IfOk result (λ best. IsLabelCount network.now (option_map (λ h. h.now) hierarchy.entry) (asked_by query.now) best.settled) }
 {
+    let found = find_best_within(alloc, workspace, network, hierarchy, query, None)?;
+    Ok(found.into_answer())
+}
+
+/// The same as [`find_best`], but stopped where the search has more labels than the limit, if there is one, and there
+/// alone.
+#[tactic(auto, using(crate::proofs::LimitLemmas::told, crate::proofs::LimitLemmas::at_most))]
+pub fn find_best_within(
+    alloc: Global,
+    workspace: &mut Workspace,
+    network: &Network,
+    hierarchy: Option<&Hierarchy>,
+    query: &Query,
+    limit: Option<u64>,
+) -> Result<Limited<BestPlan>, AllocError>
+    requires sound { IfSome hierarchy (λ h. IsSound network.now h.now) }
+    requires read { IsRead network.now query.now }
+    ensures journey { IfEnded result (λ best. IsPlan network.now (asked_by query.now) best.journey) }
+    ensures settled { IfEnded result (λ best. IsLabelCount network.now (option_map (λ h. h.now) hierarchy.entry) (asked_by query.now) best.settled) }
+    ensures few { IfEnded result (λ best. IfSome limit (SearchHasAtMost network.now (option_map (λ h. h.now) hierarchy.entry) (asked_by query.now))) }
+    ensures stopped { IfStopped result (λ most. (limit ≡ Some most)
+        × SearchHasMore network.now (option_map (λ h. h.now) hierarchy.entry) (asked_by query.now) most) }
+{
+    if hierarchy.is_none() && limit.is_none() {
+        let journey = find_plain(alloc, workspace, network, query)?;
+        return Ok(Limited::Ended(BestPlan {
+            journey,
+            settled: 0,
+        }));
+    }
+    match find_counted(alloc, workspace, network, hierarchy, query, limit)? {
+        Limited::Ended(BestPlan { journey, settled }) => Ok(Limited::Ended(BestPlan {
+            journey,
+            settled: told_count(hierarchy, settled),
+        })),
+        Limited::Stopped(most) => Ok(Limited::Stopped(most)),
+    }
+}
+
+/// The count of labels that is told: that over a hierarchy.
+fn told_count(hierarchy: Option<&Hierarchy>, labels: u64) -> u64
+    ensures { result ≡ told_count (option_map (λ h. h.now) hierarchy.entry) labels }
+{
     match hierarchy {
-        None => {
-            let journey = find_plain(alloc, workspace, network, query)?;
-            Ok(BestPlan {
-                journey,
-                settled: 0,
-            })
-        }
-        Some(hierarchy) => find_over(alloc, workspace, network, hierarchy, query),
+        None => 0,
+        Some(_) => labels,
     }
 }
 
@@ -128,22 +167,27 @@ fn find_plain(
     Ok(route)
 }
 
-/// A best journey for a query over a hierarchy's phase graph, and how many labels the search had. The search uses the workspace.
-fn find_over(
+/// A best journey for a query over the graph in use, and how many labels the search had. It is stopped where there are
+/// more than the limit, if there is one. The search uses the workspace.
+fn find_counted(
     alloc: Global,
     workspace: &mut Workspace,
     network: &Network,
-    hierarchy: &Hierarchy,
+    hierarchy: Option<&Hierarchy>,
     query: &Query,
-) -> Result<BestPlan, AllocError>
-    requires sound { IsSound network.now hierarchy.now }
+    limit: Option<u64>,
+) -> Result<Limited<BestPlan>, AllocError>
+    requires sound { IfSome hierarchy (λ h. IsSound network.now h.now) }
     requires read { IsRead network.now query.now }
-    ensures journey { IfOk result (λ best. IsPlan network.now (asked_by query.now) best.journey) }
-    ensures settled { IfOk result (λ best. IsLabelCount network.now (Some hierarchy.now) (asked_by query.now) best.settled) }
+    ensures journey { IfEnded result (λ best. IsPlan network.now (asked_by query.now) best.journey) }
+    ensures labels { IfEnded result (λ best. HasLabelCount network.now (option_map (λ h. h.now) hierarchy.entry) (asked_by query.now) best.settled) }
+    ensures few { IfEnded result (λ best. IfSome limit (λ most. best.settled ≤ most)) }
+    ensures stopped { IfStopped result (λ most. (limit ≡ Some most)
+        × SearchHasMore network.now (option_map (λ h. h.now) hierarchy.entry) (asked_by query.now) most) }
 {
     network.known();
-    let searched = prepared(alloc, network, Some(hierarchy), query)?;
-    let found = search_counted_with(
+    let searched = prepared(alloc, network, hierarchy, query)?;
+    let found = search_counted_within(
         alloc,
         workspace,
         &searched.graph,
@@ -152,17 +196,21 @@ fn find_over(
         &searched.ends,
         query.depart,
         None,
+        limit,
     )?;
     let FoundWithCount {
         arrival: _,
         labels,
         walk,
-    } = found;
+    } = match found {
+        Limited::Ended(found) => found,
+        Limited::Stopped(most) => return Ok(Limited::Stopped(most)),
+    };
     let journey = unpacked(alloc, &searched.graph, &walk)?;
-    Ok(BestPlan {
+    Ok(Limited::Ended(BestPlan {
         journey,
         settled: labels,
-    })
+    }))
 }
 
 /// A best journey for a query and when it arrives, or none exactly where no journey answers it; and exactly the labels of
@@ -180,9 +228,31 @@ pub fn find_plan(
     ensures labels { IfOk result (λ found. AreTheLabels network.now (option_map (λ h. h.now) hierarchy.entry) (asked_by query.now) found.labels.items) }
     ensures certifiable { IfOk result (λ found. IsCertifiable network.now (option_map (λ h. h.now) hierarchy.entry) query.now found.best found.labels.items) }
 {
+    let found = find_plan_within(alloc, network, hierarchy, query, None)?;
+    Ok(found.into_answer())
+}
+
+/// The same as [`find_plan`], but stopped where the search has more labels than the limit, if there is one, and there
+/// alone.
+pub fn find_plan_within(
+    alloc: Global,
+    network: &Network,
+    hierarchy: Option<&Hierarchy>,
+    query: &Query,
+    limit: Option<u64>,
+) -> Result<Limited<FoundPlan>, AllocError>
+    requires sound { IfSome hierarchy (λ h. IsSound network.now h.now) }
+    requires read { IsRead network.now query.now }
+    ensures journey { IfEnded result (λ found. IsPlan network.now (asked_by query.now) (route_of found.best)) }
+    ensures labels { IfEnded result (λ found. AreTheLabels network.now (option_map (λ h. h.now) hierarchy.entry) (asked_by query.now) found.labels.items) }
+    ensures certifiable { IfEnded result (λ found. IsCertifiable network.now (option_map (λ h. h.now) hierarchy.entry) query.now found.best found.labels.items) }
+    ensures few { IfEnded result (λ found. IfSome limit (λ most. length found.labels.items ≤ most)) }
+    ensures stopped { IfStopped result (λ most. (limit ≡ Some most)
+        × SearchHasMore network.now (option_map (λ h. h.now) hierarchy.entry) (asked_by query.now) most) }
+{
     network.known();
     let searched = prepared(alloc, network, hierarchy, query)?;
-    let found = search(
+    let found = search_within(
         alloc,
         &searched.graph,
         &searched.automaton,
@@ -190,15 +260,19 @@ pub fn find_plan(
         &searched.ends,
         query.depart,
         None,
+        limit,
     )?;
     let Found {
         arrival,
         labels,
         walk,
-    } = found;
+    } = match found {
+        Limited::Ended(found) => found,
+        Limited::Stopped(most) => return Ok(Limited::Stopped(most)),
+    };
     let journey = unpacked(alloc, &searched.graph, &walk)?;
     let best = with_arrival(arrival, journey);
-    Ok(FoundPlan { best, labels })
+    Ok(Limited::Ended(FoundPlan { best, labels }))
 }
 
 /// What a search for a query goes over.

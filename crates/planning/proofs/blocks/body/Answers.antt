@@ -1,9 +1,27 @@
-use Rattle.std.proofs.Common.{Option, subst}
+use Rattle.std.proofs.Common.{rules, Option, Bor, subst, inl, refl}
+use Rattle.std.specs.Prelude.{option_map}
+use Rattle.hierarchy.specs.declared.hierarchy.Hierarchy.{Hierarchy}
 use Rattle.mode_network.specs.Journeys.{Route}
 use Rattle.journey.specs.Best.{asked_by}
+use Rattle.journey.specs.Queries.{IsRefused}
 use Rattle.planning.specs.Plans.{IsPlan}
+use Rattle.planning.proofs.LimitLemmas.{refused_within}
 use Rattle.planning.proofs.blocks.body.Goals as goal
 
 pub returns-clause-right : goal.returns-clause-right
 returns-clause-right c =
-    (asked_by c.in-Ok.query, c.in-Ok.ensures.query, subst (λ (j : Option Route). IsPlan c.args.network.now (asked_by c.in-Ok.query) j) c.in-None.is c.in_ok-journey.ensures.journey)
+    let plan = rw c.in-Ended.is at c.in_ok-best.ensures.journey in
+    (asked_by c.in-Ok.query, c.in-Ok.ensures.query, subst (λ (j : Option Route). IsPlan c.args.network.now (asked_by c.in-Ok.query) j) c.in-None.is plan)
+
+pub returns-in-Err : goal.returns-in-Err
+returns-in-Err c =
+    let n = c.args.network.now in
+    let h = option_map (λ (x : Bor Hierarchy). x.now) c.args.hierarchy in
+    let refused : IsRefused n c.args.line.now c.in-Err.fault = search rules in
+    record {
+      right = refused;
+      printable = search rules;
+      settled = inl (c.in-Err.fault, refused, refl);
+      few = refused_within n h c.args.limit c.args.line.now c.in-Err.fault refused;
+      stopped = tt;
+    }

@@ -12,19 +12,20 @@ use Rattle.journey.specs.Best.{asked_by}
 use Rattle.planning.specs.Plans.{IsPlan, IsCertifiable, route_of}
 use Rattle.planning.proofs.PlanLemmas.{walk_is_of, found_for}
 use Rattle.planning.proofs.AnyGraph.{labels_over}
-use Rattle.planning.proofs.plans.find_plan.Goals as goal
+use Rattle.planning.proofs.LimitLemmas.{has_more}
+use Rattle.planning.proofs.plans.find_plan_within.Goals as goal
 
-pub search-requires-clause-starts : goal.search-requires-clause-starts
-search-requires-clause-starts c = rw c.deref.ensures.value c.in_ok-searched.ensures.is.starts_low
+pub search_within-requires-clause-starts : goal.search_within-requires-clause-starts
+search_within-requires-clause-starts c = rw c.deref.ensures.value c.in_ok-searched.ensures.is.starts_low
 
-pub search-requires-clause-targets : goal.search-requires-clause-targets
-search-requires-clause-targets c = rw c.deref-2.ensures.value c.in_ok-searched.ensures.is.ends_low
+pub search_within-requires-clause-targets : goal.search_within-requires-clause-targets
+search_within-requires-clause-targets c = rw c.deref-2.ensures.value c.in_ok-searched.ensures.is.ends_low
 
 pub unpacked-requires : goal.unpacked-requires
 unpacked-requires c =
     let s = c.in_ok-searched.searched in
     let h = option_map (λ (x : Bor Hierarchy). x.now) c.args.hierarchy in
-    let walk = rw (c.deref.ensures.value, c.deref-2.ensures.value) at c.in_ok-found.ensures.walk in
+    let walk = rw (c.in-Ended.is, c.deref.ensures.value, c.deref-2.ensures.value) at c.in_ok-found.ensures.walk in
     walk_is_of c.args.network.now c.known.ensures h c.args.query.now (meaning_in_use s.graph) (position_meaning s.automaton.inner) s.starts.items s.ends.items c.in_ok-searched.ensures.is _ _ walk
 
 pub returns : goal.returns
@@ -36,14 +37,15 @@ returns c =
     let is = c.in_ok-searched.ensures.is in
     let g = meaning_in_use s.graph in
     let l = position_meaning s.automaton.inner in
-    let listed = c.in_ok-found.found.labels.items in
-    let walk = rw (c.deref.ensures.value, c.deref-2.ensures.value) at c.in_ok-found.ensures.walk in
-    let arrival = rw (c.deref.ensures.value, c.deref-2.ensures.value) at c.in_ok-found.ensures.arrival in
-    let least = rw (c.deref.ensures.value, is.starts_are) at c.in_ok-found.ensures.labels in
-    let first = rw (c.deref.ensures.value, c.deref-2.ensures.value, is.starts_are, is.ends_are) at c.in_ok-found.ensures.arrival in
-    let closed = rw (c.deref.ensures.value, c.deref-2.ensures.value, is.starts_are, is.ends_are) at c.in_ok-found.ensures.closed refl in
+    let listed = c.in-Ended.found.labels.items in
+    let walk = rw (c.in-Ended.is, c.deref.ensures.value, c.deref-2.ensures.value) at c.in_ok-found.ensures.walk in
+    let arrival = rw (c.in-Ended.is, c.deref.ensures.value, c.deref-2.ensures.value) at c.in_ok-found.ensures.arrival in
+    let least = rw (c.in-Ended.is, c.deref.ensures.value, is.starts_are) at c.in_ok-found.ensures.labels in
+    let first = rw (c.in-Ended.is, c.deref.ensures.value, c.deref-2.ensures.value, is.starts_are, is.ends_are) at c.in_ok-found.ensures.arrival in
+    let closed = rw (c.in-Ended.is, c.deref.ensures.value, c.deref-2.ensures.value, is.starts_are, is.ends_are) at c.in_ok-found.ensures.closed refl in
+    let times = rw c.in-Ended.is at c.in_ok-found.ensures.times in
     let under = rw (c.in_ok-searched.ensures.network, c.in_ok-searched.ensures.hierarchy) at c.in_ok-journey.ensures in
-    let found = found_for n c.known.ensures h q g l s.starts.items s.ends.items is _ _ _ arrival walk c.requires.read.soon c.in_ok-found.ensures.times.arrival under in
+    let found = found_for n c.known.ensures h q g l s.starts.items s.ends.items is _ _ _ arrival walk c.requires.read.soon times.arrival under in
     let best = sym c.with_arrival-best.ensures in
     record {
       journey = subst (λ (b : Option (ℕ × Route)). IsPlan n (asked_by q) (route_of b)) best found.plan;
@@ -56,9 +58,9 @@ returns c =
         destination = is.destination;
         graph = g;
         in_use = is.in_use;
-        arrival = c.in_ok-found.found.arrival;
+        arrival = c.in-Ended.found.arrival;
         over = λ other in_use. labels_over g other (graphs_in_use_are_alike n c.known.ensures h is.sound is.targets g other is.in_use in_use)
-            l (starts_in h is.origins) (ends_in h is.targets) q.depart c.in_ok-found.found.arrival listed (record { first = first; least = least });
+            l (starts_in h is.origins) (ends_in h is.targets) q.depart c.in-Ended.found.arrival listed (record { first = first; least = least });
       };
       certifiable = subst (λ (b : Option (ℕ × Route)). IsCertifiable n h q b listed) best (record {
         valid = record {
@@ -81,6 +83,18 @@ returns c =
         };
         asked = refl;
         result = found.fits;
-        labels_fit = λ k d lt. (let soon = c.requires.read.soon in let le = c.in_ok-found.ensures.times.labels k d lt in omega arith);
+        labels_fit = λ k d lt. (let soon = c.requires.read.soon in let le = times.labels k d lt in omega arith);
       });
+      few = rw c.in-Ended.is at c.in_ok-found.ensures.few;
+      stopped = tt;
     }
+
+pub returns-in-Stopped-clause-stopped : goal.returns-in-Stopped-clause-stopped
+returns-in-Stopped-clause-stopped c =
+    let s = c.in_ok-searched.searched in
+    let h = option_map (λ (x : Bor Hierarchy). x.now) c.args.hierarchy in
+    let stopped = rw (c.in-Stopped.is, c.deref.ensures.value, c.deref-2.ensures.value) at c.in_ok-found.ensures.stopped in (
+      stopped.0,
+      has_more c.args.network.now c.known.ensures h c.args.query.now (meaning_in_use s.graph) (position_meaning s.automaton.inner) s.starts.items s.ends.items
+          c.in_ok-searched.ensures.is c.in-Stopped.most stopped.1,
+    )

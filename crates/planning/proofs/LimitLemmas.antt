@@ -1,0 +1,58 @@
+-- A search that has more labels than a limit has so over each graph in use.
+use Rattle.std.proofs.Common.{ℕ, ◌≤◌, List, Option, None, Some, inl, inr, refl, arith}
+use Rattle.std.specs.Prelude.{IfSome}
+use Rattle.search_laws.specs.GraphLaws.{GraphMeaning}
+use Rattle.search_laws.specs.LabelLaws.{LabelsMeaning}
+use Rattle.product_search.specs.Limits.{HasMoreLabels}
+use Rattle.automaton.specs.Collapsed.{collapsed}
+use Rattle.hierarchy.specs.Lists.{HierarchyLists}
+use Rattle.mode_network.specs.NetworkLists.{NetworkLists}
+use Rattle.mode_network.specs.Rules.{IsNetwork}
+use Rattle.phase_graph.specs.InUse.{starts_in, ends_in}
+use Rattle.phase_graph.proofs.InUseLemmas.{graphs_in_use_are_alike}
+use Rattle.journey.specs.declared.query.Query.{Query}
+use Rattle.journey.specs.declared.fault.QueryFault.{QueryFault}
+use Rattle.journey.specs.Queries.{IsRefused}
+use Rattle.journey.specs.Best.{Asked, asked_by}
+use Rattle.planning.specs.Settled.{HasLabelCount, IsLabelCount, told_count}
+use Rattle.planning.specs.Limits.{SearchHasMore, SearchHasAtMost, IsLineWithin, IsWithinLabels}
+use Rattle.planning.specs.Searched.{IsSearched}
+use Rattle.planning.proofs.AnyGraph.{more_over}
+
+pub has_more : (n : NetworkLists) → IsNetwork n → (h : Option HierarchyLists) (q : Query) (g : GraphMeaning) (l : LabelsMeaning) (starts ends : List ℕ)
+    → (is : IsSearched n h q g l starts ends) → (most : ℕ) → HasMoreLabels g (collapsed l) starts ends q.depart None most → SearchHasMore n h (asked_by q) most
+has_more n network h q g l starts ends is most more = record {
+  automaton = l;
+  positions = is.positions;
+  origins = is.origins;
+  targets = is.targets;
+  origin = is.origin;
+  destination = is.destination;
+  graph = g;
+  in_use = is.in_use;
+  over = λ other in_use. more_over g other (graphs_in_use_are_alike n network h is.sound is.targets g other is.in_use in_use)
+      l (starts_in h is.origins) (ends_in h is.targets) q.depart most (rw (is.starts_are, is.ends_are) at more);
+}
+
+-- ---- how many labels a search has
+
+pub told : (n : NetworkLists) (h : Option HierarchyLists) (q : Asked) (count : ℕ) → HasLabelCount n h q count → IsLabelCount n h q (told_count h count)
+told n None q count has = refl
+told n (Some h) q count has = has
+
+pub at_most : (n : NetworkLists) (h : Option HierarchyLists) (q : Asked) (limit : Option ℕ) (count : ℕ) → HasLabelCount n h q count → IfSome limit (λ most. count ≤ most)
+    → IfSome limit (SearchHasAtMost n h q)
+at_most n h q None count has few = tt
+at_most n h q (Some most) count (labels, are, is) few = (labels, are, omega (arith, is, few))
+
+-- ---- what is right of a line whose search was not stopped
+
+pub refused_within : (n : NetworkLists) (h : Option HierarchyLists) (limit : Option ℕ) (line : List ℕ) (fault : QueryFault) → IsRefused n line fault
+    → IfSome limit (λ most. IsLineWithin n h most line)
+refused_within n h None line fault refused = tt
+refused_within n h (Some most) line fault refused = inl (fault, refused)
+
+pub within_labels : (n : NetworkLists) (h : Option HierarchyLists) (limit : Option ℕ) (line : List ℕ) (IsStopped : ℕ → Type 0) (Is : Type 0)
+    → IfSome limit (λ most. IsLineWithin n h most line) → Is → IsWithinLabels n h limit line IsStopped Is
+within_labels n h None line IsStopped Is few is = is
+within_labels n h (Some most) line IsStopped Is few is = inr (few, is)
