@@ -12,7 +12,7 @@ mod reading;
 mod records;
 mod verifying;
 
-pub use certifying::certify_late;
+pub use certifying::{certify_late, certify_late_within};
 pub use journey::{CertFault, CertVerdict};
 pub use late::LateCertificate;
 pub use laws::late_verdict_is_unique;

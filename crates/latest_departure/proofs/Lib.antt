@@ -13,6 +13,7 @@ pub mod LateLemmas
 pub mod TextLemmas
 pub mod ValidLemmas
 pub mod SearchLemmas
+pub mod LimitLemmas
 pub mod ClosedLemmas
 pub mod AlikeLemmas
 pub mod CertifyLemmas

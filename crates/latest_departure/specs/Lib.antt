@@ -14,3 +14,4 @@ pub mod Latest
 pub mod Forward
 pub mod Searches
 pub mod ValidLate
+pub mod Limits

@@ -7,13 +7,16 @@ ghost use Rattle.service_days.specs.Clock.{clock_text_of};
 ghost use Rattle.journey.specs.Blocks.{AddsText, IsPrintable};
 ghost use Rattle.journey.specs.Queries.{IsQuery};
 ghost use Rattle.latest_departure.specs.Blocks.{IsLateText, IsResultText, IsAnswerBlock, IsLateBlock};
+ghost use Rattle.latest_departure.specs.Limits.{IsLateBlockWithin};
 
 use crate::backwards::Backwards;
-use crate::departing::find_latest;
-use journey::{BlockBody, Query, QueryFault, block, framed, push_journey, read_query};
+use crate::departing::find_latest_within;
+use journey::{
+    BlockBody, Query, QueryFault, block, framed, push_journey, read_query, stopped_block,
+};
 use mode_network::{Journey, Network};
 use plain_texts::push_line_feed;
-use product_search::Workspace;
+use product_search::{Limited, Workspace};
 use search_laws::Time;
 use std::alloc::{AllocError, Global};
 
@@ -74,22 +77,26 @@ pub fn answer_block(
     Ok(block)
 }
 
-/// The right late block of a line that is this query.
+/// The right late block of a line that is this query, within the limit, if there is one.
 fn query_block(
     alloc: Global,
     workspace: &mut Workspace,
     backwards: &Backwards<'_>,
     line: &[u8],
     query: &Query,
+    limit: Option<u64>,
 ) -> Result<Vec<u8>, AllocError>
     requires asks { IsQuery backwards.now.network line.now query.now.from query.now.to query.now.depart (form_of query.now.expr) }
     requires line { query.now.line ≡ line.now }
     requires usable { IsUsable (form_of query.now.expr) }
-    ensures { IfOk result (λ block. IsLateBlock backwards.now.network line.now block.items) }
+    ensures { IfOk result (λ block. IsLateBlockWithin backwards.now.network limit line.now block.items) }
 {
-    let journey = find_latest(alloc, workspace, backwards, query)?;
-    let block = answer_block(alloc, backwards.network(), line, &journey)?;
-    Ok(block)
+    let found = find_latest_within(alloc, workspace, backwards, query, limit)?;
+    let journey = match found {
+        Limited::Ended(journey) => journey,
+        Limited::Stopped(most) => return stopped_block(alloc, line, most),
+    };
+    answer_block(alloc, backwards.network(), line, &journey)
 }
 
 /// The right late block of a query line: that of its refusal, of the best journey for its deadline, or of the answer that
@@ -104,9 +111,23 @@ pub fn late_block(
 ) -> Result<Vec<u8>, AllocError>
     ensures { IfOk result (λ block. IsLateBlock backwards.now.network line.now block.items) }
 {
+    late_block_within(alloc, workspace, backwards, line, None)
+}
+
+/// The same as [`late_block`], but where the search through mirrored time has more labels than the limit, if there is one, it is
+/// stopped, and the block says so.
+pub fn late_block_within(
+    alloc: Global,
+    workspace: &mut Workspace,
+    backwards: &Backwards<'_>,
+    line: &[u8],
+    limit: Option<u64>,
+) -> Result<Vec<u8>, AllocError>
+    ensures { IfOk result (λ block. IsLateBlockWithin backwards.now.network limit line.now block.items) }
+{
     let network = backwards.network();
     match read_query(alloc, network, line) {
-        Ok(query) => query_block(alloc, workspace, backwards, line, &query),
+        Ok(query) => query_block(alloc, workspace, backwards, line, &query, limit),
         Err(QueryFault::OutOfMemory) => Err(AllocError),
         Err(fault) => {
             let block = block(alloc, network, line, &BlockBody::Refused(fault))?;

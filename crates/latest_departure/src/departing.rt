@@ -1,13 +1,15 @@
 //! The latest departure.
 
-ghost use Rattle.std.specs.Prelude.{◌<◌, ◌^◌, Some, All, IfOk};
+ghost use Rattle.std.specs.Prelude.{◌≡◌, ◌<◌, ◌≤◌, ◌^◌, Some, All, IfOk, IfSome, length};
 ghost use Rattle.mode_expression.specs.Form.{form_of, IsUsable};
 ghost use Rattle.product_search.specs.Answer.{IsArrival};
+ghost use Rattle.product_search.specs.Limits.{IfEnded, IfStopped};
 ghost use Rattle.automaton.specs.Collapsed.{collapsed};
 ghost use Rattle.journey.specs.Best.{asked_by};
 ghost use Rattle.journey.specs.Queries.{IsQuery};
 ghost use Rattle.latest_departure.specs.BackLists.{mirrored};
 ghost use Rattle.latest_departure.specs.Latest.{IsLate, AreLateLabels, span};
+ghost use Rattle.latest_departure.specs.Limits.{LateSearchHasAtMost, LateSearchHasMore};
 ghost use Rattle.latest_departure.specs.Meanings.{reversed_meaning};
 ghost use Rattle.latest_departure.specs.Searches.{IsSearchFor};
 
@@ -16,7 +18,10 @@ use crate::forward::first_from;
 use crate::search::LateSearch;
 use journey::Query;
 use mode_network::{Journey, Network};
-use product_search::{Best, Found, Label, Workspace, search as search_labels, search_best_with};
+use product_search::{
+    Best, Found, FoundWithCount, Label, Limited, Workspace, search_best_with,
+    search_counted_within, search_within,
+};
 use search_laws::Time;
 use std::alloc::{AllocError, Global};
 
@@ -54,6 +59,60 @@ fn best_at(
     }
 }
 
+/// The least mirrored moment within the span at which the origin is reached, if there is one. The search is stopped where it
+/// has more labels than the limit, if there is one, and there alone; without a limit they are not counted.
+fn least_moment(
+    alloc: Global,
+    workspace: &mut Workspace,
+    backwards: &Backwards<'_>,
+    query: &Query,
+    search: &LateSearch<'_>,
+    limit: Option<u64>,
+) -> Result<Limited<Option<Time>>, AllocError>
+    requires { IsSearchFor backwards.now (asked_by query.now) search.now }
+    ensures moment { IfEnded result (IsArrival (mirrored backwards.now query.now.depart) (collapsed (reversed_meaning search.now.automaton.inner))
+        search.now.starts.items search.now.targets.items 0 (Some (span backwards.now.network (asked_by query.now)))) }
+    ensures few { IfEnded result (λ _. IfSome limit (LateSearchHasAtMost backwards.now.network (asked_by query.now))) }
+    ensures stopped { IfStopped result (λ most. (limit ≡ Some most) × LateSearchHasMore backwards.now.network (asked_by query.now) most) }
+{
+    backwards.known();
+    if limit.is_none() {
+        let found = search_best_with(
+            alloc,
+            workspace,
+            &search.mirror,
+            &search.automaton,
+            &search.starts,
+            &search.targets,
+            0,
+            Some(search.span),
+        )?;
+        let Best { arrival, walk: _ } = found;
+        return Ok(Limited::Ended(arrival));
+    }
+    let found = search_counted_within(
+        alloc,
+        workspace,
+        &search.mirror,
+        &search.automaton,
+        &search.starts,
+        &search.targets,
+        0,
+        Some(search.span),
+        limit,
+    )?;
+    let found = match found {
+        Limited::Ended(found) => found,
+        Limited::Stopped(most) => return Ok(Limited::Stopped(most)),
+    };
+    let FoundWithCount {
+        arrival,
+        labels: _,
+        walk: _,
+    } = found;
+    Ok(Limited::Ended(arrival))
+}
+
 /// A journey that is at the destination by the deadline and starts as late as any that is, and of those that start then
 /// arrives first; None exactly where none is in time.
 ///
@@ -69,19 +128,32 @@ pub fn find_latest(
     requires usable { IsUsable (form_of query.now.expr) }
     ensures { IfOk result (IsLate backwards.now.network (asked_by query.now)) }
 {
+    let found = find_latest_within(alloc, workspace, backwards, query, None)?;
+    Ok(found.into_answer())
+}
+
+/// The same as [`find_latest`], but stopped where the search through mirrored time has more labels than the limit, if there is
+/// one, and there alone.
+pub fn find_latest_within(
+    alloc: Global,
+    workspace: &mut Workspace,
+    backwards: &Backwards<'_>,
+    query: &Query,
+    limit: Option<u64>,
+) -> Result<Limited<Option<Journey>>, AllocError>
+    requires asks { IsQuery backwards.now.network query.now.line query.now.from query.now.to query.now.depart (form_of query.now.expr) }
+    requires usable { IsUsable (form_of query.now.expr) }
+    ensures journey { IfEnded result (IsLate backwards.now.network (asked_by query.now)) }
+    ensures few { IfEnded result (λ _. IfSome limit (LateSearchHasAtMost backwards.now.network (asked_by query.now))) }
+    ensures stopped { IfStopped result (λ most. (limit ≡ Some most) × LateSearchHasMore backwards.now.network (asked_by query.now) most) }
+{
     let search = LateSearch::new(alloc, backwards, query)?;
-    let found = search_best_with(
-        alloc,
-        workspace,
-        &search.mirror,
-        &search.automaton,
-        &search.starts,
-        &search.targets,
-        0,
-        Some(search.span),
-    )?;
-    let Best { arrival, walk: _ } = found;
-    best_at(alloc, workspace, backwards, query, &search, arrival)
+    let moment = match least_moment(alloc, workspace, backwards, query, &search, limit)? {
+        Limited::Ended(moment) => moment,
+        Limited::Stopped(most) => return Ok(Limited::Stopped(most)),
+    };
+    let journey = best_at(alloc, workspace, backwards, query, &search, moment)?;
+    Ok(Limited::Ended(journey))
 }
 
 /// What is answered for a deadline, with a table and a workspace of its own: such a journey, and exactly the labels of the
@@ -93,11 +165,30 @@ pub fn latest(alloc: Global, network: &Network, query: &Query) -> Result<Late, A
     ensures labels { IfOk result (λ late. AreLateLabels network.now (asked_by query.now) late.labels.items) }
     ensures times { IfOk result (λ late. All (λ x. x.at < 10 ^ 30) late.labels.items) }
 {
+    let late = latest_within(alloc, network, query, None)?;
+    Ok(late.into_answer())
+}
+
+/// The same as [`latest`], but stopped where the search has more labels than the limit, if there is one, and there alone.
+pub fn latest_within(
+    alloc: Global,
+    network: &Network,
+    query: &Query,
+    limit: Option<u64>,
+) -> Result<Limited<Late>, AllocError>
+    requires asks { IsQuery network.now query.now.line query.now.from query.now.to query.now.depart (form_of query.now.expr) }
+    requires usable { IsUsable (form_of query.now.expr) }
+    ensures journey { IfEnded result (λ late. IsLate network.now (asked_by query.now) late.journey) }
+    ensures labels { IfEnded result (λ late. AreLateLabels network.now (asked_by query.now) late.labels.items) }
+    ensures times { IfEnded result (λ late. All (λ x. x.at < 10 ^ 30) late.labels.items) }
+    ensures few { IfEnded result (λ late. IfSome limit (λ most. length late.labels.items ≤ most)) }
+    ensures stopped { IfStopped result (λ most. (limit ≡ Some most) × LateSearchHasMore network.now (asked_by query.now) most) }
+{
     let mut workspace = Workspace::new(alloc);
     let backwards = Backwards::new(alloc, network)?;
     backwards.known();
     let search = LateSearch::new(alloc, &backwards, query)?;
-    let found = search_labels(
+    let found = search_within(
         alloc,
         &search.mirror,
         &search.automaton,
@@ -105,12 +196,17 @@ pub fn latest(alloc: Global, network: &Network, query: &Query) -> Result<Late, A
         &search.targets,
         0,
         Some(search.span),
+        limit,
     )?;
+    let found = match found {
+        Limited::Ended(found) => found,
+        Limited::Stopped(most) => return Ok(Limited::Stopped(most)),
+    };
     let Found {
         arrival,
         labels,
         walk: _,
     } = found;
     let journey = best_at(alloc, &mut workspace, &backwards, query, &search, arrival)?;
-    Ok(Late { journey, labels })
+    Ok(Limited::Ended(Late { journey, labels }))
 }

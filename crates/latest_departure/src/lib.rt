@@ -13,8 +13,8 @@ mod search;
 mod source;
 
 pub use backwards::Backwards;
-pub use blocks::{answer_block, late_block};
-pub use departing::{Late, find_latest, latest};
+pub use blocks::{answer_block, late_block, late_block_within};
+pub use departing::{Late, find_latest, find_latest_within, latest, latest_within};
 pub use laws::valid_late_proves;
 pub use mirror::Mirror;
 pub use reversed::Reversed;

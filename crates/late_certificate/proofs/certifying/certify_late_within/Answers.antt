@@ -6,19 +6,22 @@ use Rattle.latest_departure.specs.Latest.{AreLateLabels}
 use Rattle.latest_departure.proofs.CertifyLemmas.{late_is_valid}
 use Rattle.latest_departure.proofs.ValidLemmas.{valid_late_proves}
 use Rattle.late_certificate.proofs.VerifyLemmas.{late_fits, one_asked}
-use Rattle.late_certificate.proofs.certifying.certify_late.Goals as goal
+use Rattle.late_certificate.proofs.certifying.certify_late_within.Goals as goal
 
-pub returns : goal.returns
-returns c =
+pub returns-clause-certificate : goal.returns-clause-certificate
+returns-clause-certificate c =
     let n = c.args.network.now in
     let q = c.args.query in
-    let late = c.in_ok-late.late in
+    let late = c.in-Ended.late in
+    let right = rw c.in-Ended.is at c.in_ok-found.ensures.journey in
+    let are = rw c.in-Ended.is at c.in_ok-found.ensures.labels in
+    let times = rw c.in-Ended.is at c.in_ok-found.ensures.times in
     let rules : KeepsRules n = record { network = c.known.ensures; days = subst AreDays c.days.ensures c.facts.ensures.days; order = subst AreInOrder c.days.ensures c.facts.ensures.order } in
-    let valid = late_is_valid n rules q.line (asked_by q) c.requires.asks late.journey c.in_ok-late.ensures.journey late.labels.items c.in_ok-late.ensures.labels in
+    let valid = late_is_valid n rules q.line (asked_by q) c.requires.asks late.journey right late.labels.items are in
     record {
       line_is = refl;
       valid = valid;
-      labelled = subst (λ (a : Asked). AreLateLabels n a late.labels.items) (one_asked n q.line (asked_by q) valid.setting.asked c.requires.asks valid.setting.asks) c.in_ok-late.ensures.labels;
-      fits = record { line = c.requires.line; result = late_fits n (asked_by q) late.journey c.in_ok-late.ensures.journey; labels = c.in_ok-late.ensures.times };
+      labelled = subst (λ (a : Asked). AreLateLabels n a late.labels.items) (one_asked n q.line (asked_by q) valid.setting.asked c.requires.asks valid.setting.asks) are;
+      fits = record { line = c.requires.line; result = late_fits n (asked_by q) late.journey right; labels = times };
       proves = valid_late_proves n rules _ valid;
     }
