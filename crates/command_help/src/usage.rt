@@ -3,10 +3,12 @@
 use clap::ArgMatches;
 use clap::error::ErrorKind;
 use command_line::{
-    DATE, DAYS, FIRST, FORMAT, FOURTH, KEEP, KEPT, LENGTH, RULE, SIZE, THIRD, WINDOW, ZONE,
-    match_words, modeplan,
+    DATE, DAYS, FIRST, FORMAT, FOURTH, KEEP, KEPT, LABEL_COUNT, LABELS, LENGTH, PLACE_COUNT,
+    PLACES, RULE, SIZE, THIRD, WINDOW, ZONE, match_words, modeplan,
 };
-use command_words::{format_of, read_eight, read_keep, read_number, read_size, read_window};
+use command_words::{
+    format_of, read_eight, read_keep, read_labels, read_number, read_places, read_size, read_window,
+};
 use service_days::{Days, RangeFault};
 use std::alloc::{AllocError, Global};
 
@@ -44,12 +46,10 @@ struct Unread<'a> {
 fn wrong_value(alloc: Global, command: &str, given: &ArgMatches<'_>) -> Result<String, AllocError> {
     let unread = match command {
         "compile" => unread_days(alloc, given),
-        "contract" => unread_keep(given),
         "sample" => unread_size(given),
-        "profile" => unread_window(given),
         _ => None,
     };
-    match unread.or(unread_format(given)) {
+    match unread.or(unread_option(given)) {
         Some(
             Unread {
                 value,
@@ -63,55 +63,68 @@ fn wrong_value(alloc: Global, command: &str, given: &ArgMatches<'_>) -> Result<S
     }
 }
 
-/// A format that does not read.
-fn unread_format<'a>(given: &ArgMatches<'a>) -> Option<Unread<'a>> {
-    let value = given.get_str(FORMAT)?;
-    match format_of(value.as_bytes()) {
-        Some(_) => None,
-        None => Some(Unread {
+/// The value, if it does not read.
+fn unless_read<'a>(
+    value: &'a str,
+    reads: bool,
+    name: &'static str,
+    wanted: &'static str,
+) -> Option<Unread<'a>> {
+    if reads {
+        None
+    } else {
+        Some(Unread {
             value,
-            name: "--format <K>",
-            wanted: "1 or 2",
-        }),
-    }
-}
-
-/// A number of nodes to be kept that does not read.
-fn unread_keep<'a>(given: &ArgMatches<'a>) -> Option<Unread<'a>> {
-    let value = given.get_str(KEEP)?;
-    match read_keep(value.as_bytes()) {
-        Some(_) => None,
-        None => Some(Unread {
-            value,
-            name: "--keep <N>",
-            wanted: KEPT,
-        }),
+            name,
+            wanted,
+        })
     }
 }
 
 /// The size of a sample city that does not read.
 fn unread_size<'a>(given: &ArgMatches<'a>) -> Option<Unread<'a>> {
-    let value = given.get_str(FIRST)?;
-    match read_size(value.as_bytes()) {
-        Some(_) => None,
-        None => Some(Unread {
-            value,
-            name: "<N>",
-            wanted: SIZE,
-        }),
-    }
+    let size = given.get_str(FIRST)?;
+    unless_read(size, read_size(size.as_bytes()).is_some(), "<N>", SIZE)
 }
 
-/// The length of a window that does not read.
-fn unread_window<'a>(given: &ArgMatches<'a>) -> Option<Unread<'a>> {
-    let value = given.get_str(WINDOW)?;
-    match read_window(value.as_bytes()) {
-        Some(_) => None,
-        None => Some(Unread {
+/// The first option whose value does not read.
+fn unread_option<'a>(given: &ArgMatches<'a>) -> Option<Unread<'a>> {
+    for id in [FORMAT, KEEP, WINDOW, LABELS, PLACES] {
+        if let Some(value) = given.get_str(id) {
+            let unread = unread_value(id, value);
+            if unread.is_some() {
+                return unread;
+            }
+        }
+    }
+    None
+}
+
+/// The value of this option, if it does not read.
+fn unread_value<'a>(id: &str, value: &'a str) -> Option<Unread<'a>> {
+    let bytes = value.as_bytes();
+    match id {
+        FORMAT => unless_read(value, format_of(bytes).is_some(), "--format <K>", "1 or 2"),
+        KEEP => unless_read(value, read_keep(bytes).is_some(), "--keep <N>", KEPT),
+        WINDOW => unless_read(
             value,
-            name: "--window <HH:MM:SS>",
-            wanted: LENGTH,
-        }),
+            read_window(bytes).is_some(),
+            "--window <HH:MM:SS>",
+            LENGTH,
+        ),
+        LABELS => unless_read(
+            value,
+            read_labels(bytes).is_some(),
+            "--labels <N>",
+            LABEL_COUNT,
+        ),
+        PLACES => unless_read(
+            value,
+            read_places(bytes).is_some(),
+            "--places <N>",
+            PLACE_COUNT,
+        ),
+        _ => None,
     }
 }
 

@@ -7,7 +7,7 @@ use Rattle.clap.specs.Simple.{Shape, built, entered, label_of, names_of, rows_at
 use Rattle.clap.specs.Kinds.{Kinds, or_else}
 use Rattle.clap.specs.Faults.{check_fault, defaults_fault, entered_fault, fault_of, level_fault, settle_fault, turn_fault, walk_fault}
 use Rattle.clap.proofs.OnLiterals.{clap_on_literals}
-use Rattle.command_line.specs.Description.{modeplan, one, two, four, six}
+use Rattle.command_line.specs.Description.{limits, modeplan, one, two, four, six}
 use Rattle.command_line.proofs.PlainLemmas.{leaf}
 use Rattle.command_line.proofs.WordSteps.{Reads, no_more_faults, stops}
 
@@ -97,11 +97,11 @@ pub is_sample : IsBelow (codes "sample") (leaf (codes "sample") one [])
 unfolding clap_on_literals
 is_sample = record { met = refl; quiet = refl; is = refl }
 
-pub is_answer : IsBelow (codes "answer") (leaf (codes "answer") two (codes "hierarchy" ∷ []))
+pub is_answer : IsBelow (codes "answer") (leaf (codes "answer") two (codes "hierarchy" ∷ limits))
 unfolding clap_on_literals
 is_answer = record { met = refl; quiet = refl; is = refl }
 
-pub is_certify : IsBelow (codes "certify") (leaf (codes "certify") two (codes "hierarchy" ∷ []))
+pub is_certify : IsBelow (codes "certify") (leaf (codes "certify") two (codes "hierarchy" ∷ limits))
 unfolding clap_on_literals
 is_certify = record { met = refl; quiet = refl; is = refl }
 
@@ -109,15 +109,15 @@ pub is_verify : IsBelow (codes "verify") (leaf (codes "verify") two (codes "hier
 unfolding clap_on_literals
 is_verify = record { met = refl; quiet = refl; is = refl }
 
-pub is_few : IsBelow (codes "few") (leaf (codes "few") two [])
+pub is_few : IsBelow (codes "few") (leaf (codes "few") two (codes "places" ∷ []))
 unfolding clap_on_literals
 is_few = record { met = refl; quiet = refl; is = refl }
 
-pub is_latest : IsBelow (codes "latest") (leaf (codes "latest") two [])
+pub is_latest : IsBelow (codes "latest") (leaf (codes "latest") two limits)
 unfolding clap_on_literals
 is_latest = record { met = refl; quiet = refl; is = refl }
 
-pub is_certify_latest : IsBelow (codes "certify-latest") (leaf (codes "certify-latest") two [])
+pub is_certify_latest : IsBelow (codes "certify-latest") (leaf (codes "certify-latest") two limits)
 unfolding clap_on_literals
 is_certify_latest = record { met = refl; quiet = refl; is = refl }
 
@@ -125,14 +125,14 @@ pub is_verify_latest : IsBelow (codes "verify-latest") (leaf (codes "verify-late
 unfolding clap_on_literals
 is_verify_latest = record { met = refl; quiet = refl; is = refl }
 
-pub is_profile : IsBelow (codes "profile") (leaf (codes "profile") two (codes "window" ∷ []))
+pub is_profile : IsBelow (codes "profile") (leaf (codes "profile") two (codes "window" ∷ codes "places" ∷ []))
 unfolding clap_on_literals
 is_profile = record { met = refl; quiet = refl; is = refl }
 
-pub is_matrix : IsBelow (codes "matrix") (leaf (codes "matrix") six (codes "hierarchy" ∷ []))
+pub is_matrix : IsBelow (codes "matrix") (leaf (codes "matrix") six (codes "hierarchy" ∷ codes "places" ∷ []))
 unfolding clap_on_literals
 is_matrix = record { met = refl; quiet = refl; is = refl }
 
-pub is_requests : IsBelow (codes "requests") (leaf (codes "requests") two (codes "hierarchy" ∷ []))
+pub is_requests : IsBelow (codes "requests") (leaf (codes "requests") two (codes "hierarchy" ∷ limits))
 unfolding clap_on_literals
 is_requests = record { met = refl; quiet = refl; is = refl }

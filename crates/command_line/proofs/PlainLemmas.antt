@@ -1,12 +1,12 @@
 -- Words in the plain form are taken, and found for what they are.
-use Rattle.std.proofs.Common.{◌≡◌, ℕ, List, [], ◌∷◌, ◌++◌, Option, Some, None, refl, codes}
+use Rattle.std.proofs.Common.{◌≡◌, ◌∙◌, ℕ, List, [], ◌∷◌, ◌++◌, Option, Some, None, refl, sym, append-nil, append_assoc, codes, map}
 use Rattle.clap.specs.Walk.{Held, idle, arg_by_id, finished, option_word, Row, Text, Walk, nothing_held, walked}
 use Rattle.clap.specs.Simple.{Shape, built_leaf, inherited, marked_built, with_leaf_noted}
 use Rattle.clap.specs.Faults.{turn_fault}
 use Rattle.clap.specs.declared.parser.matches.ValueSource.TheVariants.{CommandLine}
 use Rattle.clap.specs.declared.builder.value_parser.Reading.TheVariants.{AsWritten}
 use Rattle.clap.proofs.OnLiterals.{clap_on_literals}
-use Rattle.command_line.specs.Description.{command_of, modeplan, one, two, four, six}
+use Rattle.command_line.specs.Description.{command_of, limits, modeplan, one, two, four, six}
 use Rattle.command_line.specs.PlainWords.{ArePlainWords, IsPlainWord, option_values, option_words}
 use Rattle.command_line.proofs.WordSteps.{Reads, Walks, between, end_fault, ends, name_more, reads, value_more, waits_for, word_more}
 
@@ -84,118 +84,176 @@ six_words name options a b d e f g rest end (pa, (pb, (pd, (pe, (pf, (pg, _)))))
 
 -- ---- all words, with their options
 
+-- options with the values that are given for them, by the names that words have for them
+abbrev pub dashed : List (Text × Option Text) → List (Text × Option Text)
+dashed options = map (λ (option : Text × Option Text). (45 ∷ 45 ∷ option.0, option.1)) options
+
+abbrev pub ids : List (Text × Option Text) → List Text
+ids options = map (λ (option : Text × Option Text). option.0) options
+
 -- what is found for options
 abbrev pub found_options : List (Text × Option Text) → List Row
 found_options [] = []
-found_options ((name, None) ∷ options) = found_options options
-found_options ((name, Some value) ∷ options) = found name value ∷ found_options options
+found_options ((id, None) ∷ options) = found_options options
+found_options ((id, Some value) ∷ options) = found id value ∷ found_options options
 
--- behind its words the command takes the option of this id, which words name by `dashed`, and its value, and then nothing is missing
-record TakesOption (s : Shape) (position : ℕ) (before : Held) (rows : List Row) (id dashed v : Text) : Type 0 where
-  quiet : turn_fault s [] (between before position) dashed ≡ []
-  waits : walked s.rules [] (between before position) dashed ≡ waits_for id (holding rows id []) position
-  takes : option_word (arg_by_id s.rules id) id v (holding rows id []) ≡ (holding rows id (v ∷ []), idle)
-  faultless : end_fault s (holding rows id (v ∷ [])) ≡ []
-  finds : finished s.rules (holding rows id (v ∷ [])) ≡ rows ++ found id v ∷ []
+-- the command takes an option of this id with the value v
+abbrev TakesOption : Shape → ℕ → Held → List Row → Text → Text → Type 0
+TakesOption s position before rows id v =
+    (turn_fault s [] (between before position) (45 ∷ 45 ∷ id) ≡ [])
+    × (walked s.rules [] (between before position) (45 ∷ 45 ∷ id) ≡ waits_for id (holding rows id []) position)
+    × (option_word (arg_by_id s.rules id) id v (holding rows id []) ≡ (holding rows id (v ∷ []), idle))
 
-option_more : (s : Shape) (position : ℕ) (id dashed : Text) (rows : List Row) (before : Held) (v : Text) (rest : List Text) (end : Walk) → IsPlainWord v
-    → TakesOption s position before rows id dashed v → Walks s (between (holding rows id (v ∷ [])) position) rest end
-    → Walks s (between before position) (dashed ∷ v ∷ rest) end
-option_more s position id dashed rows before v rest end plain takes walks =
-    name_more s id before (holding rows id []) position end dashed (v ∷ rest) takes.quiet takes.waits
-    (value_more s id (holding rows id []) (holding rows id (v ∷ [])) position end v rest plain takes.takes walks)
+-- the command takes each of these options or goes without it, in this order, and then nothing is missing
+abbrev TakesOptions : Shape → ℕ → Held → List Row → List Text → Type 0
+TakesOptions s position before rows [] = (end_fault s before ≡ []) × (finished s.rules before ≡ rows)
+TakesOptions s position before rows (id ∷ more) =
+    TakesOptions s position before rows more
+    × ((v : Text) → TakesOption s position before rows id v × TakesOptions s position (holding rows id (v ∷ [])) (rows ++ found id v ∷ []) more)
 
--- a command that takes its words takes them with its option, too
-reads_option : (s : Shape) (given : List Text) (rows : List Row) (before : Held) (position : ℕ) (id dashed : Text) (said : Option Text)
+-- the walk over all options ends well, and finds them
+record Finds (s : Shape) (position : ℕ) (before : Held) (words : List Text) (rows : List Row) : Type 0 where
+  end : Held
+  walks : Walks s (between before position) words (between end position)
+  faultless : end_fault s end ≡ []
+  finds : finished s.rules end ≡ rows
+
+finds_options : (s : Shape) (position : ℕ) (before : Held) (rows : List Row) (options : List (Text × Option Text))
+    → ArePlainWords (option_values (dashed options)) → TakesOptions s position before rows (ids options)
+    → Finds s position before (option_words (dashed options)) (rows ++ found_options options)
+finds_options s position before rows [] plain takes = record {
+  end = before;
+  walks = ends s _;
+  faultless = takes.0;
+  finds = takes.1 ∙ sym (append-nil rows);
+}
+finds_options s position before rows ((id, None) ∷ options) plain takes = finds_options s position before rows options plain takes.0
+finds_options s position before rows ((id, Some v) ∷ options) (plain, more) takes =
+    let (taken, later) = takes.1 v in
+    let rest = finds_options s position (holding rows id (v ∷ [])) (rows ++ found id v ∷ []) options more later in
+    record {
+      end = rest.end;
+      walks =
+          name_more s id before (holding rows id []) position _ (45 ∷ 45 ∷ id) _ taken.0 taken.1
+          (value_more s id (holding rows id []) (holding rows id (v ∷ [])) position _ v _ plain taken.2 rest.walks);
+      faultless = rest.faultless;
+      finds = rest.finds ∙ append_assoc rows (found id v ∷ []) (found_options options);
+    }
+
+-- a command that takes its words takes them with its options, too
+reads_options : (s : Shape) (position : ℕ) (before : Held) (rows : List Row) (given : List Text) (options : List (Text × Option Text))
     → ((rest : List Text) (end : Walk) → Walks s (between before position) rest end → Walks s (between nothing_held 1) (given ++ rest) end)
-    → ArePlainWords (option_values ((dashed, said) ∷ [])) → end_fault s before ≡ [] → finished s.rules before ≡ rows ++ []
-    → ((v : Text) → TakesOption s position before rows id dashed v)
-    → Reads s (given ++ option_words ((dashed, said) ∷ [])) (rows ++ found_options ((id, said) ∷ []))
-reads_option s given rows before position id dashed None gives plain no_fault finds takes =
-    reads s (given ++ []) before position (rows ++ []) (gives [] _ (ends s _)) no_fault finds
-reads_option s given rows before position id dashed (Some v) gives (plain, _) no_fault finds takes =
-    reads s (given ++ dashed ∷ v ∷ []) (holding rows id (v ∷ [])) position (rows ++ found id v ∷ [])
-    (gives (dashed ∷ v ∷ []) _ (option_more s position id dashed rows before v [] _ plain (takes v) (ends s _))) (takes v).faultless (takes v).finds
+    → ArePlainWords (option_values (dashed options)) → TakesOptions s position before rows (ids options)
+    → Reads s (given ++ option_words (dashed options)) (rows ++ found_options options)
+reads_options s position before rows given options gives plain takes =
+    let found = finds_options s position before rows options plain takes in
+    reads s (given ++ option_words (dashed options)) found.end position _ (gives _ _ found.walks) found.faultless found.finds
 
-pub reads_one : (name a : Text) → ArePlainWords (a ∷ []) → Reads (leaf name one []) (a ∷ []) (found (codes "first") a ∷ [])
-unfolding clap_on_literals
-reads_one name a (plain, _) =
-    reads (leaf name one []) (a ∷ []) (holding [] (codes "first") (a ∷ [])) 2 _ (one_word name [] a [] _ plain (ends _ _)) refl refl
+-- ---- commands on one thing
 
-pub reads_format : (name a : Text) (said : Option Text) → ArePlainWords (a ∷ option_values ((codes "--format", said) ∷ []))
-    → Reads (leaf name one (codes "format" ∷ [])) (a ∷ option_words ((codes "--format", said) ∷ []))
-    (found (codes "first") a ∷ found_options ((codes "format", said) ∷ []))
-unfolding clap_on_literals
-reads_format name a said (plain, more) =
-    reads_option (leaf name one (codes "format" ∷ [])) (a ∷ []) (found (codes "first") a ∷ []) (holding [] (codes "first") (a ∷ [])) 2
-    (codes "format") (codes "--format") said (λ rest end. one_word name (codes "format" ∷ []) a rest end plain) more
-    refl refl (λ v. record { quiet = refl; waits = refl; takes = refl; faultless = refl; finds = refl })
+abbrev pub TakesAfterOne : List Text → Type 0
+TakesAfterOne options = (name a : Text) → TakesOptions (leaf name one options) 2 (holding [] (codes "first") (a ∷ [])) (found (codes "first") a ∷ []) options
 
-pub reads_keep : (name a : Text) (said : Option Text) → ArePlainWords (a ∷ option_values ((codes "--keep", said) ∷ []))
-    → Reads (leaf name one (codes "keep" ∷ [])) (a ∷ option_words ((codes "--keep", said) ∷ []))
-    (found (codes "first") a ∷ found_options ((codes "keep", said) ∷ []))
+pub after_one : TakesAfterOne []
 unfolding clap_on_literals
-reads_keep name a said (plain, more) =
-    reads_option (leaf name one (codes "keep" ∷ [])) (a ∷ []) (found (codes "first") a ∷ []) (holding [] (codes "first") (a ∷ [])) 2
-    (codes "keep") (codes "--keep") said (λ rest end. one_word name (codes "keep" ∷ []) a rest end plain) more
-    refl refl (λ v. record { quiet = refl; waits = refl; takes = refl; faultless = refl; finds = refl })
+after_one name a = (refl, refl)
+
+pub format_after_one : TakesAfterOne (codes "format" ∷ [])
+unfolding clap_on_literals
+format_after_one name a = ((refl, refl), λ v. ((refl, refl, refl), (refl, refl)))
+
+pub keep_after_one : TakesAfterOne (codes "keep" ∷ [])
+unfolding clap_on_literals
+keep_after_one name a = ((refl, refl), λ v. ((refl, refl, refl), (refl, refl)))
+
+pub reads_one : (name a : Text) (options : List (Text × Option Text)) → TakesAfterOne (ids options)
+    → ArePlainWords (a ∷ option_values (dashed options))
+    → Reads (leaf name one (ids options)) (a ∷ option_words (dashed options)) (found (codes "first") a ∷ found_options options)
+reads_one name a options takes (plain, more) =
+    reads_options (leaf name one (ids options)) 2 (holding [] (codes "first") (a ∷ [])) (found (codes "first") a ∷ []) (a ∷ []) options
+    (λ rest end. one_word name (ids options) a rest end plain) more (takes name a)
+
+-- ---- commands on two things
 
 abbrev pub rows_of_two : Text → Text → List Row
 rows_of_two a b = found (codes "first") a ∷ found (codes "second") b ∷ []
 
-pub reads_two : (name a b : Text) → ArePlainWords (a ∷ b ∷ []) → Reads (leaf name two []) (a ∷ b ∷ []) (rows_of_two a b)
-unfolding clap_on_literals
-reads_two name a b (plain_a, (plain_b, _)) =
-    reads (leaf name two []) (a ∷ b ∷ []) (two_of a b) 3 _ (two_words name [] a b [] _ plain_a plain_b (ends _ _)) refl refl
+abbrev pub TakesAfterTwo : List Text → Type 0
+TakesAfterTwo options = (name a b : Text) → TakesOptions (leaf name two options) 3 (two_of a b) (rows_of_two a b) options
 
-pub reads_hierarchy : (name a b : Text) (said : Option Text) → ArePlainWords (a ∷ b ∷ option_values ((codes "--hierarchy", said) ∷ []))
-    → Reads (leaf name two (codes "hierarchy" ∷ [])) (a ∷ b ∷ option_words ((codes "--hierarchy", said) ∷ []))
-    (rows_of_two a b ++ found_options ((codes "hierarchy", said) ∷ []))
+pub after_two : TakesAfterTwo []
 unfolding clap_on_literals
-reads_hierarchy name a b said (pa, (pb, more)) =
-    reads_option (leaf name two (codes "hierarchy" ∷ [])) (a ∷ b ∷ []) (rows_of_two a b) (two_of a b) 3
-    (codes "hierarchy") (codes "--hierarchy") said (λ rest end. two_words name (codes "hierarchy" ∷ []) a b rest end pa pb) more
-    refl refl (λ v. record { quiet = refl; waits = refl; takes = refl; faultless = refl; finds = refl })
+after_two name a b = (refl, refl)
 
-pub reads_window : (name a b : Text) (said : Option Text) → ArePlainWords (a ∷ b ∷ option_values ((codes "--window", said) ∷ []))
-    → Reads (leaf name two (codes "window" ∷ [])) (a ∷ b ∷ option_words ((codes "--window", said) ∷ []))
-    (rows_of_two a b ++ found_options ((codes "window", said) ∷ []))
+pub hierarchy_after_two : TakesAfterTwo (codes "hierarchy" ∷ [])
 unfolding clap_on_literals
-reads_window name a b said (pa, (pb, more)) =
-    reads_option (leaf name two (codes "window" ∷ [])) (a ∷ b ∷ []) (rows_of_two a b) (two_of a b) 3
-    (codes "window") (codes "--window") said (λ rest end. two_words name (codes "window" ∷ []) a b rest end pa pb) more
-    refl refl (λ v. record { quiet = refl; waits = refl; takes = refl; faultless = refl; finds = refl })
+hierarchy_after_two name a b = ((refl, refl), λ v. ((refl, refl, refl), (refl, refl)))
+
+pub places_after_two : TakesAfterTwo (codes "places" ∷ [])
+unfolding clap_on_literals
+places_after_two name a b = ((refl, refl), λ v. ((refl, refl, refl), (refl, refl)))
+
+pub limits_after_two : TakesAfterTwo limits
+unfolding clap_on_literals
+limits_after_two name a b =
+    (((refl, refl), λ p. ((refl, refl, refl), (refl, refl))), λ l. ((refl, refl, refl), ((refl, refl), λ p. ((refl, refl, refl), (refl, refl)))))
+
+pub window_after_two : TakesAfterTwo (codes "window" ∷ codes "places" ∷ [])
+unfolding clap_on_literals
+window_after_two name a b =
+    (((refl, refl), λ p. ((refl, refl, refl), (refl, refl))), λ w. ((refl, refl, refl), ((refl, refl), λ p. ((refl, refl, refl), (refl, refl)))))
+
+pub all_after_two : TakesAfterTwo (codes "hierarchy" ∷ limits)
+unfolding clap_on_literals
+all_after_two name a b = (
+  (((refl, refl), λ p. ((refl, refl, refl), (refl, refl))), λ l. ((refl, refl, refl), ((refl, refl), λ p. ((refl, refl, refl), (refl, refl))))),
+  λ h. (
+    (refl, refl, refl),
+    (((refl, refl), λ p. ((refl, refl, refl), (refl, refl))), λ l. ((refl, refl, refl), ((refl, refl), λ p. ((refl, refl, refl), (refl, refl))))),
+  ),
+)
+
+pub reads_two : (name a b : Text) (options : List (Text × Option Text)) → TakesAfterTwo (ids options)
+    → ArePlainWords (a ∷ b ∷ option_values (dashed options))
+    → Reads (leaf name two (ids options)) (a ∷ b ∷ option_words (dashed options)) (rows_of_two a b ++ found_options options)
+reads_two name a b options takes (pa, (pb, more)) =
+    reads_options (leaf name two (ids options)) 3 (two_of a b) (rows_of_two a b) (a ∷ b ∷ []) options
+    (λ rest end. two_words name (ids options) a b rest end pa pb) more (takes name a b)
+
+-- ---- the commands on more
 
 abbrev pub rows_of_six : Text → Text → Text → Text → Text → Text → List Row
 rows_of_six a b d e f g = rows_of_four a b d e ++ found (codes "fifth") f ∷ found (codes "sixth") g ∷ []
 
-pub reads_six : (name a b d e f g : Text) (said : Option Text)
-    → ArePlainWords (a ∷ b ∷ d ∷ e ∷ f ∷ g ∷ option_values ((codes "--hierarchy", said) ∷ []))
-    → Reads (leaf name six (codes "hierarchy" ∷ [])) (a ∷ b ∷ d ∷ e ∷ f ∷ g ∷ option_words ((codes "--hierarchy", said) ∷ []))
-    (rows_of_six a b d e f g ++ found_options ((codes "hierarchy", said) ∷ []))
+takes_after_four : (name a b d e : Text)
+    → TakesOptions (leaf name four (codes "format" ∷ codes "zone" ∷ [])) 5 (four_of a b d e) (rows_of_four a b d e) (codes "format" ∷ codes "zone" ∷ [])
 unfolding clap_on_literals
-reads_six name a b d e f g said (pa, (pb, (pd, (pe, (pf, (pg, more)))))) =
-    reads_option (leaf name six (codes "hierarchy" ∷ [])) (a ∷ b ∷ d ∷ e ∷ f ∷ g ∷ []) (rows_of_six a b d e f g) (six_of a b d e f g) 7
-    (codes "hierarchy") (codes "--hierarchy") said
-    (λ rest end. six_words name (codes "hierarchy" ∷ []) a b d e f g rest end (pa, (pb, (pd, (pe, (pf, (pg, tt))))))) more
-    refl refl (λ v. record { quiet = refl; waits = refl; takes = refl; faultless = refl; finds = refl })
+takes_after_four name a b d e =
+    (((refl, refl), λ z. ((refl, refl, refl), (refl, refl))), λ f. ((refl, refl, refl), ((refl, refl), λ z. ((refl, refl, refl), (refl, refl)))))
 
 pub reads_four : (name a b d e : Text) (format zone : Option Text)
     → ArePlainWords (a ∷ b ∷ d ∷ e ∷ option_values ((codes "--format", format) ∷ (codes "--zone", zone) ∷ []))
     → Reads (leaf name four (codes "format" ∷ codes "zone" ∷ []))
     (a ∷ b ∷ d ∷ e ∷ option_words ((codes "--format", format) ∷ (codes "--zone", zone) ∷ []))
     (rows_of_four a b d e ++ found_options ((codes "format", format) ∷ (codes "zone", zone) ∷ []))
+reads_four name a b d e format zone (pa, (pb, (pd, (pe, more)))) =
+    let options : List (Text × Option Text) = (codes "format", format) ∷ (codes "zone", zone) ∷ [] in
+    reads_options (leaf name four (ids options)) 5 (four_of a b d e) (rows_of_four a b d e) (a ∷ b ∷ d ∷ e ∷ []) options
+    (λ rest end. four_words name (ids options) a b d e rest end (pa, (pb, (pd, (pe, tt))))) more (takes_after_four name a b d e)
+
+takes_after_six : (name a b d e f g : Text)
+    → TakesOptions (leaf name six (codes "hierarchy" ∷ codes "places" ∷ [])) 7 (six_of a b d e f g) (rows_of_six a b d e f g)
+    (codes "hierarchy" ∷ codes "places" ∷ [])
 unfolding clap_on_literals
-reads_four name a b d e None zone (pa, (pb, (pd, (pe, more)))) =
-    reads_option (leaf name four (codes "format" ∷ codes "zone" ∷ [])) (a ∷ b ∷ d ∷ e ∷ []) (rows_of_four a b d e) (four_of a b d e) 5
-    (codes "zone") (codes "--zone") zone
-    (λ rest end. four_words name (codes "format" ∷ codes "zone" ∷ []) a b d e rest end (pa, (pb, (pd, (pe, tt))))) more
-    refl refl (λ v. record { quiet = refl; waits = refl; takes = refl; faultless = refl; finds = refl })
-reads_four name a b d e (Some v) zone (pa, (pb, (pd, (pe, (pv, more))))) =
-    let s = leaf name four (codes "format" ∷ codes "zone" ∷ []) in
-    reads_option s (a ∷ b ∷ d ∷ e ∷ codes "--format" ∷ v ∷ []) (rows_of_four a b d e ++ found (codes "format") v ∷ [])
-    (holding (rows_of_four a b d e) (codes "format") (v ∷ [])) 5 (codes "zone") (codes "--zone") zone
-    (λ rest end walks. four_words name (codes "format" ∷ codes "zone" ∷ []) a b d e (codes "--format" ∷ v ∷ rest) end (pa, (pb, (pd, (pe, tt))))
-    (option_more s 5 (codes "format") (codes "--format") (rows_of_four a b d e) (four_of a b d e) v rest end pv
-    (record { quiet = refl; waits = refl; takes = refl; faultless = refl; finds = refl }) walks)) more
-    refl refl (λ z. record { quiet = refl; waits = refl; takes = refl; faultless = refl; finds = refl })
+takes_after_six name a b d e f g =
+    (((refl, refl), λ p. ((refl, refl, refl), (refl, refl))), λ h. ((refl, refl, refl), ((refl, refl), λ p. ((refl, refl, refl), (refl, refl)))))
+
+pub reads_six : (name a b d e f g : Text) (hierarchy most : Option Text)
+    → ArePlainWords (a ∷ b ∷ d ∷ e ∷ f ∷ g ∷ option_values ((codes "--hierarchy", hierarchy) ∷ (codes "--places", most) ∷ []))
+    → Reads (leaf name six (codes "hierarchy" ∷ codes "places" ∷ []))
+    (a ∷ b ∷ d ∷ e ∷ f ∷ g ∷ option_words ((codes "--hierarchy", hierarchy) ∷ (codes "--places", most) ∷ []))
+    (rows_of_six a b d e f g ++ found_options ((codes "hierarchy", hierarchy) ∷ (codes "places", most) ∷ []))
+reads_six name a b d e f g hierarchy most (pa, (pb, (pd, (pe, (pf, (pg, more)))))) =
+    let options : List (Text × Option Text) = (codes "hierarchy", hierarchy) ∷ (codes "places", most) ∷ [] in
+    reads_options (leaf name six (ids options)) 7 (six_of a b d e f g) (rows_of_six a b d e f g) (a ∷ b ∷ d ∷ e ∷ f ∷ g ∷ []) options
+    (λ rest end. six_words name (ids options) a b d e f g rest end (pa, (pb, (pd, (pe, (pf, (pg, tt))))))) more (takes_after_six name a b d e f g)

@@ -30,6 +30,10 @@ four = codes "first" ∷ codes "second" ∷ codes "third" ∷ codes "fourth" ∷
 abbrev pub six : List Text
 six = codes "first" ∷ codes "second" ∷ codes "third" ∷ codes "fourth" ∷ codes "fifth" ∷ codes "sixth" ∷ []
 
+-- the options that limit a search, and what is asked of it
+abbrev pub limits : List Text
+limits = codes "labels" ∷ codes "places" ∷ []
+
 -- the commands that work on a map, a region as a whole, or a sample
 abbrev pub region_commands : List Shape
 region_commands =
@@ -43,26 +47,26 @@ region_commands =
 -- the commands that ask for journeys that arrive earliest
 abbrev pub earliest_commands : List Shape
 earliest_commands =
-    command_of (codes "answer") two (codes "hierarchy" ∷ [])
-    ∷ command_of (codes "certify") two (codes "hierarchy" ∷ [])
+    command_of (codes "answer") two (codes "hierarchy" ∷ limits)
+    ∷ command_of (codes "certify") two (codes "hierarchy" ∷ limits)
     ∷ command_of (codes "verify") two (codes "hierarchy" ∷ [])
-    ∷ command_of (codes "few") two []
+    ∷ command_of (codes "few") two (codes "places" ∷ [])
     ∷ []
 
 -- the commands that ask for journeys that depart latest
 abbrev pub latest_commands : List Shape
 latest_commands =
-    command_of (codes "latest") two []
-    ∷ command_of (codes "certify-latest") two []
+    command_of (codes "latest") two limits
+    ∷ command_of (codes "certify-latest") two limits
     ∷ command_of (codes "verify-latest") two []
     ∷ []
 
 -- the commands that ask for many journeys at once, or for many kinds of answers
 abbrev pub many_commands : List Shape
 many_commands =
-    command_of (codes "profile") two (codes "window" ∷ [])
-    ∷ command_of (codes "matrix") six (codes "hierarchy" ∷ [])
-    ∷ command_of (codes "requests") two (codes "hierarchy" ∷ [])
+    command_of (codes "profile") two (codes "window" ∷ codes "places" ∷ [])
+    ∷ command_of (codes "matrix") six (codes "hierarchy" ∷ codes "places" ∷ [])
+    ∷ command_of (codes "requests") two (codes "hierarchy" ∷ limits)
     ∷ []
 
 -- the program, with these commands

@@ -1,9 +1,9 @@
 //! The command line of `modeplan`, as `clap` and people are told of it.
 
-ghost use Rattle.std.specs.Prelude.{◌≡◌, ◌++◌, ◌∷◌, [], IfOk, codes, false, fold};
+ghost use Rattle.std.specs.Prelude.{◌≡◌, ◌++◌, ◌∷◌, [], IfOk, codes, false, fold, map};
 ghost use Rattle.clap.specs.Words.{Shape, Text, app_of, new_app, rule_of, with_subcommand};
 ghost use Rattle.clap.specs.declared.builder.command.Command.TheViews.{out-Command as fields_of};
-ghost use Rattle.command_line.specs.Description.{IsTold, command_of, earliest_commands, four, latest_commands, many_commands, modeplan, one, option, region_commands, six, two, word};
+ghost use Rattle.command_line.specs.Description.{IsTold, command_of, earliest_commands, four, latest_commands, limits, many_commands, modeplan, one, option, region_commands, six, two, word};
 
 use clap::{Arg, ArgAction, Command};
 use std::alloc::{AllocError, Global};
@@ -28,6 +28,10 @@ pub const ZONE: &str = "zone";
 pub const KEEP: &str = "keep";
 /// The option that names the file of a hierarchy.
 pub const HIERARCHY: &str = "hierarchy";
+/// The option that says how many labels a search may have.
+pub const LABELS: &str = "labels";
+/// The option that says how many places for letters an expression may have.
+pub const PLACES: &str = "places";
 /// The option that says how long a window is.
 pub const WINDOW: &str = "window";
 
@@ -57,6 +61,14 @@ pub const SIZE: &str = "How many rows and columns the city has, from 1 to 300";
 
 /// What they read of the length of a window.
 pub const LENGTH: &str = "How long the window is, from 00:00:01 to 24:00:00 [default: 02:00:00]";
+
+/// What they read of a number of labels.
+pub const LABEL_COUNT: &str =
+    "How many labels a search may have, from 1 to 1000000000000; where it has more, it is stopped [default: any number]";
+
+/// What they read of a number of places.
+pub const PLACE_COUNT: &str =
+    "How many places for letters an expression may have, from 1 to 200 [default: 200]";
 
 const FROMS: &str = "The file of origins, one a line, as a query line has its FROM";
 
@@ -168,6 +180,21 @@ fn with_hierarchy<'a>(alloc: Global, command: Command<'a>) -> Result<Command<'a>
     with_option(alloc, command, HIERARCHY, "FILE", help)
 }
 
+/// The command with the option `--places`.
+fn with_places<'a>(alloc: Global, command: Command<'a>) -> Result<Command<'a>, AllocError>
+    ensures { (s : Shape) → IsTold command.entry s → IfOk result (λ c. IsTold c (record s { rules = s.rules ++ option (codes "places") ∷ [] })) }
+{
+    with_option(alloc, command, PLACES, "N", PLACE_COUNT)
+}
+
+/// The command with the options that limit a search, and what is asked of it.
+fn with_limits<'a>(alloc: Global, command: Command<'a>) -> Result<Command<'a>, AllocError>
+    ensures { (s : Shape) → IsTold command.entry s → IfOk result (λ c. IsTold c (record s { rules = s.rules ++ map option limits })) }
+{
+    let command = with_option(alloc, command, LABELS, "N", LABEL_COUNT)?;
+    with_places(alloc, command)
+}
+
 /// A command on a region and one thing more.
 fn over_two<'a>(
     alloc: Global,
@@ -263,27 +290,25 @@ fn sample<'a>(alloc: Global) -> Result<Command<'a>, AllocError>
 
 /// The command that answers query lines.
 fn answer<'a>(alloc: Global) -> Result<Command<'a>, AllocError>
-    ensures { IfOk result (λ c. IsTold c (command_of (codes "answer") two (codes "hierarchy" ∷ []))) }
+    ensures { IfOk result (λ c. IsTold c (command_of (codes "answer") two (codes "hierarchy" ∷ limits))) }
 {
     let about = "Find a best journey for each query line of a file";
     let example = "Example: modeplan answer town queries --hierarchy town.h > journeys";
-    with_hierarchy(
-        alloc,
-        over_two(alloc, "answer", about, example, "QUERIES", QUERIES)?,
-    )
+    let command = over_two(alloc, "answer", about, example, "QUERIES", QUERIES)?;
+    let command = with_hierarchy(alloc, command)?;
+    with_limits(alloc, command)
 }
 
 /// The command that writes a certificate.
 fn certify<'a>(alloc: Global) -> Result<Command<'a>, AllocError>
-    ensures { IfOk result (λ c. IsTold c (command_of (codes "certify") two (codes "hierarchy" ∷ []))) }
+    ensures { IfOk result (λ c. IsTold c (command_of (codes "certify") two (codes "hierarchy" ∷ limits))) }
 {
     let about = "Print a certificate of a best journey for a query line";
     let example =
         "Example: modeplan certify town \"n101 n103 20240304 08:00:00 foot (transit foot)*\" > claim";
-    with_hierarchy(
-        alloc,
-        over_two(alloc, "certify", about, example, "QUERY", QUERY)?,
-    )
+    let command = over_two(alloc, "certify", about, example, "QUERY", QUERY)?;
+    let command = with_hierarchy(alloc, command)?;
+    with_limits(alloc, command)
 }
 
 /// The command that checks a certificate.
@@ -306,44 +331,35 @@ fn verify<'a>(alloc: Global) -> Result<Command<'a>, AllocError>
 
 /// The command that finds the earliest arrival by the number of rides.
 fn few<'a>(alloc: Global) -> Result<Command<'a>, AllocError>
-    ensures { IfOk result (λ c. IsTold c (command_of (codes "few") two [])) }
+    ensures { IfOk result (λ c. IsTold c (command_of (codes "few") two (codes "places" ∷ []))) }
 {
     let about =
         "Find, for each query line, the journeys that more rides, up to 8, make arrive earlier";
-    over_two(
-        alloc,
-        "few",
-        about,
-        "Example: modeplan few town queries > journeys",
-        "QUERIES",
-        QUERIES,
-    )
+    let example = "Example: modeplan few town queries > journeys";
+    let command = over_two(alloc, "few", about, example, "QUERIES", QUERIES)?;
+    with_places(alloc, command)
 }
 
 /// The command that finds the latest departures of query lines.
 fn latest<'a>(alloc: Global) -> Result<Command<'a>, AllocError>
-    ensures { IfOk result (λ c. IsTold c (command_of (codes "latest") two [])) }
+    ensures { IfOk result (λ c. IsTold c (command_of (codes "latest") two limits)) }
 {
     let about =
         "Find the latest departure for each query line, whose date and time are the latest arrival";
-    over_two(
-        alloc,
-        "latest",
-        about,
-        "Example: modeplan latest town queries > journeys",
-        "QUERIES",
-        QUERIES,
-    )
+    let example = "Example: modeplan latest town queries > journeys";
+    let command = over_two(alloc, "latest", about, example, "QUERIES", QUERIES)?;
+    with_limits(alloc, command)
 }
 
 /// The command that writes a certificate of a latest departure.
 fn certify_latest<'a>(alloc: Global) -> Result<Command<'a>, AllocError>
-    ensures { IfOk result (λ c. IsTold c (command_of (codes "certify-latest") two [])) }
+    ensures { IfOk result (λ c. IsTold c (command_of (codes "certify-latest") two limits)) }
 {
     let about = "Print a certificate of the latest departure for a query line";
     let example =
         "Example: modeplan certify-latest town \"n101 n103 20240304 09:00:00 foot (transit foot)*\" > claim";
-    over_two(alloc, "certify-latest", about, example, "QUERY", QUERY)
+    let command = over_two(alloc, "certify-latest", about, example, "QUERY", QUERY)?;
+    with_limits(alloc, command)
 }
 
 /// The command that checks a certificate of a latest departure.
@@ -363,32 +379,32 @@ fn verify_latest<'a>(alloc: Global) -> Result<Command<'a>, AllocError>
 
 /// The command that answers lines which begin with a command's name.
 fn requests<'a>(alloc: Global) -> Result<Command<'a>, AllocError>
-    ensures { IfOk result (λ c. IsTold c (command_of (codes "requests") two (codes "hierarchy" ∷ []))) }
+    ensures { IfOk result (λ c. IsTold c (command_of (codes "requests") two (codes "hierarchy" ∷ limits))) }
 {
     let about =
         "Answer each line of a file or a pipe as it comes, by the command that the line begins with";
     let example =
         "Example: echo \"answer n101 n103 20240304 08:00:00 foot\" | modeplan requests town /dev/stdin";
-    with_hierarchy(
-        alloc,
-        over_two(alloc, "requests", about, example, "FILE", REQUESTS)?,
-    )
+    let command = over_two(alloc, "requests", about, example, "FILE", REQUESTS)?;
+    let command = with_hierarchy(alloc, command)?;
+    with_limits(alloc, command)
 }
 
 /// The command that lists the departures of windows.
 fn profile<'a>(alloc: Global) -> Result<Command<'a>, AllocError>
-    ensures { IfOk result (λ c. IsTold c (command_of (codes "profile") two (codes "window" ∷ []))) }
+    ensures { IfOk result (λ c. IsTold c (command_of (codes "profile") two (codes "window" ∷ codes "places" ∷ []))) }
 {
     let about =
         "List, for each query line, the journeys worth taking of a window, which its date and time open";
     let example = "Example: modeplan profile town queries --window 00:30:00 > departures";
     let command = over_two(alloc, "profile", about, example, "QUERIES", QUERIES)?;
-    with_option(alloc, command, WINDOW, "HH:MM:SS", LENGTH)
+    let command = with_option(alloc, command, WINDOW, "HH:MM:SS", LENGTH)?;
+    with_places(alloc, command)
 }
 
 /// The command that writes a table of travel times.
 fn matrix<'a>(alloc: Global) -> Result<Command<'a>, AllocError>
-    ensures { IfOk result (λ c. IsTold c (command_of (codes "matrix") six (codes "hierarchy" ∷ []))) }
+    ensures { IfOk result (λ c. IsTold c (command_of (codes "matrix") six (codes "hierarchy" ∷ codes "places" ∷ []))) }
 {
     let about =
         "Write a table of the milliseconds that it takes from each endpoint of a file to each one of another";
@@ -399,7 +415,8 @@ fn matrix<'a>(alloc: Global) -> Result<Command<'a>, AllocError>
     let command = with_word(alloc, command, FOURTH, "DATE", DEPARTURE_DATE)?;
     let command = with_word(alloc, command, FIFTH, "TIME", DEPARTURE_TIME)?;
     let command = with_word(alloc, command, SIXTH, "EXPR", EXPRESSION)?;
-    with_hierarchy(alloc, command)
+    let command = with_hierarchy(alloc, command)?;
+    with_places(alloc, command)
 }
 
 /// The program with one more command, if memory sufficed for that.

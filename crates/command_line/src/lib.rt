@@ -5,7 +5,7 @@ mod description;
 mod matching;
 
 pub use description::{
-    DATE, DAYS, FIFTH, FIRST, FORMAT, FOURTH, HIERARCHY, KEEP, KEPT, LENGTH, RULE, SECOND, SIXTH,
-    SIZE, THIRD, WINDOW, ZONE, modeplan,
+    DATE, DAYS, FIFTH, FIRST, FORMAT, FOURTH, HIERARCHY, KEEP, KEPT, LABEL_COUNT, LABELS, LENGTH,
+    PLACE_COUNT, PLACES, RULE, SECOND, SIXTH, SIZE, THIRD, WINDOW, ZONE, modeplan,
 };
 pub use matching::match_words;

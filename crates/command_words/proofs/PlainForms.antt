@@ -1,13 +1,13 @@
 -- Words in the plain form ask for what they say.
 use Rattle.std.proofs.Common.{◌≡◌, ◌∙◌, ℕ, List, [], ◌∷◌, ◌++◌, Option, Some, None, refl, ap, subst, sym, codes, option_map}
 use Rattle.std.specs.Prelude.{option_and_then}
-use Rattle.clap.specs.Words.{Row, Text}
+use Rattle.clap.specs.Words.{Row, Text, first_of}
 use Rattle.service_days.specs.DaysMeaning.{DaysMeaning}
 use Rattle.region_file.specs.declared.format.Format.{Format}
 use Rattle.region_file.specs.declared.format.Format.TheVariants.{Binary}
 use Rattle.command_line.proofs.NameLemmas.{IsFoundAt, found_at, is_compile, is_migrate, is_contract, is_check, is_sample, is_answer, is_certify, is_verify, is_few, is_latest, is_certify_latest, is_verify_latest, is_profile, is_matrix, is_requests}
-use Rattle.command_line.proofs.PlainLemmas.{found, found_options, rows_of_two, rows_of_six, reads_one, reads_format, reads_keep, reads_two, reads_hierarchy, reads_window, reads_four, reads_six}
-use Rattle.command_words.specs.Requests.{AsksFor, IsPlainForm, Request, compile, migrate, contract, answer, certify, verify, check, sample, latest, certify_latest, verify_latest, few, profile, matrix, requests, days_and_format, format_or, keep_or_none, request_at, size_of, window_or_two_hours}
+use Rattle.command_line.proofs.PlainLemmas.{found, found_options, rows_of_two, rows_of_six, reads_one, reads_two, reads_four, reads_six, after_one, format_after_one, keep_after_one, after_two, hierarchy_after_two, places_after_two, limits_after_two, window_after_two, all_after_two}
+use Rattle.command_words.specs.Requests.{AsksFor, IsPlainForm, Request, compile, migrate, contract, answer, certify, verify, check, sample, latest, certify_latest, verify_latest, few, profile, matrix, requests, days_and_format, format_or, keep_or_none, limit_or_none, limits_at, limits_of, most_places, request_at, size_of, window_or_two_hours}
 
 asks_for : (words : List Text) (program name : Text) (given : List Text) (rows : List Row) (r : Request) → words ≡ program ∷ name ∷ given
     → IsFoundAt (program ∷ name ∷ given) name rows → request_at name rows ≡ Some r → AsksFor words r
@@ -19,21 +19,55 @@ asks_for words program name given rows r are at is =
 
 -- ---- what is found is what was said
 
--- what is found for two words, and for the option --hierarchy
-abbrev over : Text → Text → Option Text → List Row
-over a b said = rows_of_two a b ++ found_options ((codes "hierarchy", said) ∷ [])
+-- what is found for the options that limit, and for those of a search
+abbrev limits_found : Option Text → Option Text → List (Text × Option Text)
+limits_found l p = (codes "labels", l) ∷ (codes "places", p) ∷ []
 
-answers : (a b : Text) (said : Option Text) → request_at (codes "answer") (over a b said) ≡ Some (answer a b said)
-answers a b None = refl
-answers a b (Some v) = refl
+abbrev all_found : Option Text → Option Text → Option Text → List (Text × Option Text)
+all_found h l p = (codes "hierarchy", h) ∷ limits_found l p
 
-certifies : (a b : Text) (said : Option Text) → request_at (codes "certify") (over a b said) ≡ Some (certify a b said)
-certifies a b None = refl
-certifies a b (Some v) = refl
+-- and for two words behind which they stand
+abbrev over_limits : Text → Text → Option Text → Option Text → List Row
+over_limits a b l p = rows_of_two a b ++ found_options (limits_found l p)
 
-verifies : (a b : Text) (said : Option Text) → request_at (codes "verify") (over a b said) ≡ Some (verify a b said)
+abbrev over_all : Text → Text → Option Text → Option Text → Option Text → List Row
+over_all a b h l p = rows_of_two a b ++ found_options (all_found h l p)
+
+-- this is found for the options of a search
+abbrev Says : List Row → Option Text → Option Text → Option Text → Type 0
+Says rows h l p = (first_of (codes "hierarchy") rows ≡ h) × (first_of (codes "labels") rows ≡ l) × (first_of (codes "places") rows ≡ p)
+
+says_all : (a b : Text) (h l p : Option Text) → Says (over_all a b h l p) h l p
+says_all a b None None None = (refl, refl, refl)
+says_all a b None None (Some p) = (refl, refl, refl)
+says_all a b None (Some l) None = (refl, refl, refl)
+says_all a b None (Some l) (Some p) = (refl, refl, refl)
+says_all a b (Some h) None None = (refl, refl, refl)
+says_all a b (Some h) None (Some p) = (refl, refl, refl)
+says_all a b (Some h) (Some l) None = (refl, refl, refl)
+says_all a b (Some h) (Some l) (Some p) = (refl, refl, refl)
+
+says_limits : (a b : Text) (l p : Option Text) → Says (over_limits a b l p) None l p
+says_limits a b None None = (refl, refl, refl)
+says_limits a b None (Some p) = (refl, refl, refl)
+says_limits a b (Some l) None = (refl, refl, refl)
+says_limits a b (Some l) (Some p) = (refl, refl, refl)
+
+-- a command that asks by a hierarchy and limits asks by those that were said
+within : (ask : Option Text → Option ℕ → Option ℕ → Request) (rows : List Row) (h l p : Option Text) (labels places : Option ℕ)
+    → Says rows h l p → limits_of l p ≡ Some (labels, places)
+    → option_map (λ most. ask (first_of (codes "hierarchy") rows) most.0 most.1) (limits_at rows) ≡ Some (ask h labels places)
+within ask rows h l p labels places (is_h, is_l, is_p) is = rw (is_h, is_l, is_p, is) refl
+
+verifies : (a b : Text) (said : Option Text)
+    → request_at (codes "verify") (rows_of_two a b ++ found_options ((codes "hierarchy", said) ∷ [])) ≡ Some (verify a b said)
 verifies a b None = refl
 verifies a b (Some v) = refl
+
+few_of : (a b : Text) (said : Option Text) (places : Option ℕ) → limit_or_none most_places said ≡ Some places
+    → request_at (codes "few") (rows_of_two a b ++ found_options ((codes "places", said) ∷ [])) ≡ Some (few a b places)
+few_of a b None places is = ap (option_map (λ p. few a b p)) is
+few_of a b (Some v) places is = ap (option_map (λ p. few a b p)) is
 
 migrates : (a : Text) (said : Option Text) (format : Format) → format_or Binary said ≡ Some format
     → request_at (codes "migrate") (found (codes "first") a ∷ found_options ((codes "format", said) ∷ [])) ≡ Some (migrate a format)
@@ -56,19 +90,27 @@ compiles a b d e None (Some z) days format is = ap (option_map (λ (it : DaysMea
 compiles a b d e (Some v) None days format is = ap (option_map (λ (it : DaysMeaning × Format). compile a b it.0 it.1)) is
 compiles a b d e (Some v) (Some z) days format is = ap (option_map (λ (it : DaysMeaning × Format). compile a b it.0 it.1)) is
 
-replies : (a b : Text) (said : Option Text) → request_at (codes "requests") (over a b said) ≡ Some (requests a b said)
-replies a b None = refl
-replies a b (Some v) = refl
+-- departures are asked for by the window and the limit that were said
+windowed : (a b : Text) (said most : Option Text) (window : ℕ) (places : Option ℕ) → window_or_two_hours said ≡ Some window
+    → limit_or_none most_places most ≡ Some places
+    → option_and_then (λ w. option_map (λ p. profile a b w p) (limit_or_none most_places most)) (window_or_two_hours said) ≡ Some (profile a b window places)
+windowed a b said most window places is_w is_p = rw (is_w, is_p) refl
 
-profiles : (a b : Text) (said : Option Text) (window : ℕ) → window_or_two_hours said ≡ Some window
-    → request_at (codes "profile") (rows_of_two a b ++ found_options ((codes "window", said) ∷ [])) ≡ Some (profile a b window)
-profiles a b None window is = ap (option_map (λ w. profile a b w)) is
-profiles a b (Some v) window is = ap (option_map (λ w. profile a b w)) is
+profiles : (a b : Text) (said most : Option Text) (window : ℕ) (places : Option ℕ) → window_or_two_hours said ≡ Some window
+    → limit_or_none most_places most ≡ Some places
+    → request_at (codes "profile") (rows_of_two a b ++ found_options ((codes "window", said) ∷ (codes "places", most) ∷ [])) ≡ Some (profile a b window places)
+profiles a b None None = windowed a b None None
+profiles a b None (Some p) = windowed a b None (Some p)
+profiles a b (Some w) None = windowed a b (Some w) None
+profiles a b (Some w) (Some p) = windowed a b (Some w) (Some p)
 
-tables : (a b d e f g : Text) (said : Option Text)
-    → request_at (codes "matrix") (rows_of_six a b d e f g ++ found_options ((codes "hierarchy", said) ∷ [])) ≡ Some (matrix a b d e f g said)
-tables a b d e f g None = refl
-tables a b d e f g (Some v) = refl
+tables : (a b d e f g : Text) (said most : Option Text) (places : Option ℕ) → limit_or_none most_places most ≡ Some places
+    → request_at (codes "matrix") (rows_of_six a b d e f g ++ found_options ((codes "hierarchy", said) ∷ (codes "places", most) ∷ []))
+    ≡ Some (matrix a b d e f g said places)
+tables a b d e f g None None places is = ap (option_map (λ p. matrix a b d e f g None p)) is
+tables a b d e f g None (Some v) places is = ap (option_map (λ p. matrix a b d e f g None p)) is
+tables a b d e f g (Some h) None places is = ap (option_map (λ p. matrix a b d e f g (Some h) p)) is
+tables a b d e f g (Some h) (Some v) places is = ap (option_map (λ p. matrix a b d e f g (Some h) p)) is
 
 pub plain_asks : (words : List Text) (r : Request) → IsPlainForm words r → AsksFor words r
 plain_asks words (compile map feed days format) (date, count, named, rule, f, is) =
@@ -77,40 +119,56 @@ plain_asks words (compile map feed days format) (date, count, named, rule, f, is
     (compiles map feed date count named rule days format is)
 plain_asks words (migrate region format) (named, f, is) =
     asks_for words f.program (codes "migrate") _ _ _ f.are
-    (found_at _ _ _ _ is_migrate (reads_format (codes "migrate") region named f.plain) f.program) (migrates region named format is)
+    (found_at _ _ _ _ is_migrate (reads_one (codes "migrate") region ((codes "format", named) ∷ []) format_after_one f.plain) f.program)
+    (migrates region named format is)
 plain_asks words (contract region keep) (number, f, is) =
     asks_for words f.program (codes "contract") _ _ _ f.are
-    (found_at _ _ _ _ is_contract (reads_keep (codes "contract") region number f.plain) f.program) (keeps region number keep is)
-plain_asks words (answer region queries hierarchy) f =
+    (found_at _ _ _ _ is_contract (reads_one (codes "contract") region ((codes "keep", number) ∷ []) keep_after_one f.plain) f.program)
+    (keeps region number keep is)
+plain_asks words (answer region queries hierarchy labels places) (l, p, f, is) =
     asks_for words f.program (codes "answer") _ _ _ f.are
-    (found_at _ _ _ _ is_answer (reads_hierarchy (codes "answer") region queries hierarchy f.plain) f.program) (answers region queries hierarchy)
-plain_asks words (certify region query hierarchy) f =
+    (found_at _ _ _ _ is_answer (reads_two (codes "answer") region queries (all_found hierarchy l p) all_after_two f.plain) f.program)
+    (within (answer region queries) (over_all region queries hierarchy l p) hierarchy l p labels places (says_all region queries hierarchy l p) is)
+plain_asks words (certify region query hierarchy labels places) (l, p, f, is) =
     asks_for words f.program (codes "certify") _ _ _ f.are
-    (found_at _ _ _ _ is_certify (reads_hierarchy (codes "certify") region query hierarchy f.plain) f.program) (certifies region query hierarchy)
+    (found_at _ _ _ _ is_certify (reads_two (codes "certify") region query (all_found hierarchy l p) all_after_two f.plain) f.program)
+    (within (certify region query) (over_all region query hierarchy l p) hierarchy l p labels places (says_all region query hierarchy l p) is)
 plain_asks words (verify region certificate hierarchy) f =
     asks_for words f.program (codes "verify") _ _ _ f.are
-    (found_at _ _ _ _ is_verify (reads_hierarchy (codes "verify") region certificate hierarchy f.plain) f.program) (verifies region certificate hierarchy)
+    (found_at _ _ _ _ is_verify
+    (reads_two (codes "verify") region certificate ((codes "hierarchy", hierarchy) ∷ []) hierarchy_after_two f.plain) f.program)
+    (verifies region certificate hierarchy)
 plain_asks words (check region hierarchy) f =
-    asks_for words f.program (codes "check") _ _ _ f.are (found_at _ _ _ _ is_check (reads_two (codes "check") region hierarchy f.plain) f.program) refl
+    asks_for words f.program (codes "check") _ _ _ f.are
+    (found_at _ _ _ _ is_check (reads_two (codes "check") region hierarchy [] after_two f.plain) f.program) refl
 plain_asks words (sample size) (word, f, is) =
-    asks_for words f.program (codes "sample") _ _ _ f.are (found_at _ _ _ _ is_sample (reads_one (codes "sample") word f.plain) f.program) (samples word size is)
-plain_asks words (latest region queries) f =
-    asks_for words f.program (codes "latest") _ _ _ f.are (found_at _ _ _ _ is_latest (reads_two (codes "latest") region queries f.plain) f.program) refl
-plain_asks words (certify_latest region query) f =
+    asks_for words f.program (codes "sample") _ _ _ f.are
+    (found_at _ _ _ _ is_sample (reads_one (codes "sample") word [] after_one f.plain) f.program) (samples word size is)
+plain_asks words (latest region queries labels places) (l, p, f, is) =
+    asks_for words f.program (codes "latest") _ _ _ f.are
+    (found_at _ _ _ _ is_latest (reads_two (codes "latest") region queries (limits_found l p) limits_after_two f.plain) f.program)
+    (within (λ h l p. latest region queries l p) (over_limits region queries l p) None l p labels places (says_limits region queries l p) is)
+plain_asks words (certify_latest region query labels places) (l, p, f, is) =
     asks_for words f.program (codes "certify-latest") _ _ _ f.are
-    (found_at _ _ _ _ is_certify_latest (reads_two (codes "certify-latest") region query f.plain) f.program) refl
+    (found_at _ _ _ _ is_certify_latest (reads_two (codes "certify-latest") region query (limits_found l p) limits_after_two f.plain) f.program)
+    (within (λ h l p. certify_latest region query l p) (over_limits region query l p) None l p labels places (says_limits region query l p) is)
 plain_asks words (verify_latest region certificate) f =
     asks_for words f.program (codes "verify-latest") _ _ _ f.are
-    (found_at _ _ _ _ is_verify_latest (reads_two (codes "verify-latest") region certificate f.plain) f.program) refl
-plain_asks words (few region queries) f =
-    asks_for words f.program (codes "few") _ _ _ f.are (found_at _ _ _ _ is_few (reads_two (codes "few") region queries f.plain) f.program) refl
-plain_asks words (profile region queries window) (said, f, is) =
+    (found_at _ _ _ _ is_verify_latest (reads_two (codes "verify-latest") region certificate [] after_two f.plain) f.program) refl
+plain_asks words (few region queries places) (p, f, is) =
+    asks_for words f.program (codes "few") _ _ _ f.are
+    (found_at _ _ _ _ is_few (reads_two (codes "few") region queries ((codes "places", p) ∷ []) places_after_two f.plain) f.program)
+    (few_of region queries p places is)
+plain_asks words (profile region queries window places) (said, p, f, is_w, is_p) =
     asks_for words f.program (codes "profile") _ _ _ f.are
-    (found_at _ _ _ _ is_profile (reads_window (codes "profile") region queries said f.plain) f.program) (profiles region queries said window is)
-plain_asks words (matrix region origins destinations date time expr hierarchy) f =
+    (found_at _ _ _ _ is_profile
+    (reads_two (codes "profile") region queries ((codes "window", said) ∷ (codes "places", p) ∷ []) window_after_two f.plain) f.program)
+    (profiles region queries said p window places is_w is_p)
+plain_asks words (matrix region origins destinations date time expr hierarchy places) (p, f, is) =
     asks_for words f.program (codes "matrix") _ _ _ f.are
-    (found_at _ _ _ _ is_matrix (reads_six (codes "matrix") region origins destinations date time expr hierarchy f.plain) f.program)
-    (tables region origins destinations date time expr hierarchy)
-plain_asks words (requests region lines hierarchy) f =
+    (found_at _ _ _ _ is_matrix (reads_six (codes "matrix") region origins destinations date time expr hierarchy p f.plain) f.program)
+    (tables region origins destinations date time expr hierarchy p places is)
+plain_asks words (requests region lines hierarchy labels places) (l, p, f, is) =
     asks_for words f.program (codes "requests") _ _ _ f.are
-    (found_at _ _ _ _ is_requests (reads_hierarchy (codes "requests") region lines hierarchy f.plain) f.program) (replies region lines hierarchy)
+    (found_at _ _ _ _ is_requests (reads_two (codes "requests") region lines (all_found hierarchy l p) all_after_two f.plain) f.program)
+    (within (requests region lines) (over_all region lines hierarchy l p) hierarchy l p labels places (says_all region lines hierarchy l p) is)

@@ -1,9 +1,10 @@
 -- What a command line asks for, and which words ask for it.
-use Rattle.std.specs.Prelude.{◌≡◌, ℕ, ◌+◌, ◌*◌, ◌==◌, ◌&&◌, nat_eq, nat_le, List, [], ◌∷◌, length, codes, find, Option, Some, None, option_and_then, option_map, if◌then◌else◌}
+use Rattle.std.specs.Prelude.{◌≡◌, ℕ, ◌+◌, ◌*◌, ◌^◌, ◌==◌, ◌&&◌, nat_eq, nat_le, List, [], ◌∷◌, length, codes, find, Option, Some, None, option_and_then, option_map, if◌then◌else◌}
 use Rattle.std.specs.Result.{result_ok}
 use Rattle.std.specs.Str.{bytes_eq}
 use Rattle.clap.specs.Words.{Row, fault_of, first_of, subcommand_of}
 use Rattle.plain_texts.specs.FixedDecimal.{fixed_at}
+use Rattle.plain_texts.specs.Numbers.{number_at}
 use Rattle.service_days.specs.DaysMeaning.{DaysMeaning}
 use Rattle.service_days.specs.ReadClock.{below_sixty}
 use Rattle.service_days.specs.Zones.{days_made}
@@ -19,37 +20,40 @@ pub data Request : Type 0 where
   compile : (map feed : List ℕ) (days : DaysMeaning) (format : Format) → Request
   migrate : (region : List ℕ) (format : Format) → Request
   contract : (region : List ℕ) (keep : ℕ) → Request
-  answer : (region queries : List ℕ) (hierarchy : Option (List ℕ)) → Request
-  certify : (region query : List ℕ) (hierarchy : Option (List ℕ)) → Request
+  answer : (region queries : List ℕ) (hierarchy : Option (List ℕ)) (labels places : Option ℕ) → Request
+  certify : (region query : List ℕ) (hierarchy : Option (List ℕ)) (labels places : Option ℕ) → Request
   verify : (region certificate : List ℕ) (hierarchy : Option (List ℕ)) → Request
   check : (region hierarchy : List ℕ) → Request
   sample : (size : ℕ) → Request
-  latest : (region queries : List ℕ) → Request
-  certify_latest : (region query : List ℕ) → Request
+  latest : (region queries : List ℕ) (labels places : Option ℕ) → Request
+  certify_latest : (region query : List ℕ) (labels places : Option ℕ) → Request
   verify_latest : (region certificate : List ℕ) → Request
-  few : (region queries : List ℕ) → Request
-  profile : (region queries : List ℕ) (window : ℕ) → Request
-  matrix : (region origins destinations date time expr : List ℕ) (hierarchy : Option (List ℕ)) → Request
-  requests : (region lines : List ℕ) (hierarchy : Option (List ℕ)) → Request
+  few : (region queries : List ℕ) (places : Option ℕ) → Request
+  profile : (region queries : List ℕ) (window : ℕ) (places : Option ℕ) → Request
+  matrix : (region origins destinations date time expr : List ℕ) (hierarchy : Option (List ℕ)) (places : Option ℕ) → Request
+  requests : (region lines : List ℕ) (hierarchy : Option (List ℕ)) (labels places : Option ℕ) → Request
 
 -- what a command of the program asks for
 abbrev pub request_of : Command → Request
 request_of (command.Compile map feed days format) = compile map.now feed.now days format
 request_of (command.Migrate region format) = migrate region.now format
 request_of (command.Contract region keep) = contract region.now keep
-request_of (command.Answer region queries hierarchy) = answer region.now queries.now (option_map (λ h. h.now) hierarchy)
-request_of (command.Certify region query hierarchy) = certify region.now query.now (option_map (λ h. h.now) hierarchy)
+request_of (command.Answer region queries hierarchy labels places) =
+    answer region.now queries.now (option_map (λ h. h.now) hierarchy) labels places
+request_of (command.Certify region query hierarchy labels places) =
+    certify region.now query.now (option_map (λ h. h.now) hierarchy) labels places
 request_of (command.Verify region certificate hierarchy) = verify region.now certificate.now (option_map (λ h. h.now) hierarchy)
 request_of (command.Check region hierarchy) = check region.now hierarchy.now
 request_of (command.Sample size) = sample size
-request_of (command.Latest region queries) = latest region.now queries.now
-request_of (command.CertifyLatest region query) = certify_latest region.now query.now
+request_of (command.Latest region queries labels places) = latest region.now queries.now labels places
+request_of (command.CertifyLatest region query labels places) = certify_latest region.now query.now labels places
 request_of (command.VerifyLatest region certificate) = verify_latest region.now certificate.now
-request_of (command.Few region queries) = few region.now queries.now
-request_of (command.Profile region queries window) = profile region.now queries.now window
-request_of (command.Matrix region origins destinations date time expr hierarchy) =
-    matrix region.now origins.now destinations.now date.now time.now expr.now (option_map (λ h. h.now) hierarchy)
-request_of (command.Requests region lines hierarchy) = requests region.now lines.now (option_map (λ h. h.now) hierarchy)
+request_of (command.Few region queries places) = few region.now queries.now places
+request_of (command.Profile region queries window places) = profile region.now queries.now window places
+request_of (command.Matrix region origins destinations date time expr hierarchy places) =
+    matrix region.now origins.now destinations.now date.now time.now expr.now (option_map (λ h. h.now) hierarchy) places
+request_of (command.Requests region lines hierarchy labels places) =
+    requests region.now lines.now (option_map (λ h. h.now) hierarchy) labels places
 
 -- a number is 1 to 8 digits
 abbrev pub number_of : List ℕ → Option ℕ
@@ -108,6 +112,27 @@ abbrev pub window_or_two_hours : Option (List ℕ) → Option ℕ
 window_or_two_hours None = Some 7200000
 window_or_two_hours (Some word) = window_of word
 
+-- the most labels that a search may be limited to, and the most places for letters that an expression may have
+abbrev pub most_labels : ℕ
+most_labels = 10 ^ 12
+
+abbrev pub most_places : ℕ
+most_places = 200
+
+-- a limit is a decimal number from 1 to so many
+abbrev pub limit_of : ℕ → List ℕ → Option ℕ
+limit_of most word = option_and_then (λ n. if nat_le 1 n then Some n else None) (number_at (most + 1) word)
+
+-- and none where no option says it
+abbrev pub limit_or_none : ℕ → Option (List ℕ) → Option (Option ℕ)
+limit_or_none most None = Some None
+limit_or_none most (Some word) = option_map (λ n. Some n) (limit_of most word)
+
+-- the limits of labels and of places
+abbrev pub limits_of : Option (List ℕ) → Option (List ℕ) → Option (Option ℕ × Option ℕ)
+limits_of labels places =
+    option_and_then (λ l. option_map (λ p. (l, p)) (limit_or_none most_places places)) (limit_or_none most_labels labels)
+
 -- ---- what a command asks for, by what was found for its words and options
 
 -- its first two words
@@ -119,6 +144,13 @@ abbrev pub days_and_format_at : List Row → Option (DaysMeaning × Format)
 days_and_format_at rows =
     option_and_then (λ date. option_and_then (λ count. days_and_format date count (first_of (codes "format") rows, first_of (codes "zone") rows))
     (first_of (codes "fourth") rows)) (first_of (codes "third") rows)
+
+-- the limit of places; the limits of labels and of places
+abbrev pub places_at : List Row → Option (Option ℕ)
+places_at rows = limit_or_none most_places (first_of (codes "places") rows)
+
+abbrev pub limits_at : List Row → Option (Option ℕ × Option ℕ)
+limits_at rows = limits_of (first_of (codes "labels") rows) (first_of (codes "places") rows)
 
 abbrev pub compile_at : List Row → Option Request
 compile_at rows = option_and_then (λ two. option_map (λ it. compile two.0 two.1 it.0 it.1) (days_and_format_at rows)) (two_at rows)
@@ -137,29 +169,32 @@ abbrev pub sample_at : List Row → Option Request
 sample_at rows = option_and_then (λ word. option_map (λ size. sample size) (size_of word)) (first_of (codes "first") rows)
 
 abbrev pub answer_at : List Row → Option Request
-answer_at rows = option_map (λ two. answer two.0 two.1 (first_of (codes "hierarchy") rows)) (two_at rows)
+answer_at rows =
+    option_and_then (λ two. option_map (λ most. answer two.0 two.1 (first_of (codes "hierarchy") rows) most.0 most.1) (limits_at rows)) (two_at rows)
 
 abbrev pub certify_at : List Row → Option Request
-certify_at rows = option_map (λ two. certify two.0 two.1 (first_of (codes "hierarchy") rows)) (two_at rows)
+certify_at rows =
+    option_and_then (λ two. option_map (λ most. certify two.0 two.1 (first_of (codes "hierarchy") rows) most.0 most.1) (limits_at rows)) (two_at rows)
 
 abbrev pub verify_at : List Row → Option Request
 verify_at rows = option_map (λ two. verify two.0 two.1 (first_of (codes "hierarchy") rows)) (two_at rows)
 
 abbrev pub few_at : List Row → Option Request
-few_at rows = option_map (λ two. few two.0 two.1) (two_at rows)
+few_at rows = option_and_then (λ two. option_map (λ places. few two.0 two.1 places) (places_at rows)) (two_at rows)
 
 abbrev pub latest_at : List Row → Option Request
-latest_at rows = option_map (λ two. latest two.0 two.1) (two_at rows)
+latest_at rows = option_and_then (λ two. option_map (λ most. latest two.0 two.1 most.0 most.1) (limits_at rows)) (two_at rows)
 
 abbrev pub certify_latest_at : List Row → Option Request
-certify_latest_at rows = option_map (λ two. certify_latest two.0 two.1) (two_at rows)
+certify_latest_at rows = option_and_then (λ two. option_map (λ most. certify_latest two.0 two.1 most.0 most.1) (limits_at rows)) (two_at rows)
 
 abbrev pub verify_latest_at : List Row → Option Request
 verify_latest_at rows = option_map (λ two. verify_latest two.0 two.1) (two_at rows)
 
 abbrev pub profile_at : List Row → Option Request
 profile_at rows =
-    option_and_then (λ two. option_map (λ window. profile two.0 two.1 window) (window_or_two_hours (first_of (codes "window") rows))) (two_at rows)
+    option_and_then (λ two. option_and_then (λ window. option_map (λ places. profile two.0 two.1 window places)
+    (places_at rows)) (window_or_two_hours (first_of (codes "window") rows))) (two_at rows)
 
 -- the date, the time and the expression of a table of travel times
 abbrev pub asking_at : List Row → Option (List ℕ × List ℕ × List ℕ)
@@ -169,12 +204,13 @@ asking_at rows =
 
 abbrev pub matrix_at : List Row → Option Request
 matrix_at rows =
-    option_and_then (λ two. option_and_then (λ destinations. option_map (λ asking.
-    matrix two.0 two.1 destinations asking.0 asking.1 asking.2 (first_of (codes "hierarchy") rows))
-    (asking_at rows)) (first_of (codes "third") rows)) (two_at rows)
+    option_and_then (λ two. option_and_then (λ destinations. option_and_then (λ asking. option_map (λ places.
+    matrix two.0 two.1 destinations asking.0 asking.1 asking.2 (first_of (codes "hierarchy") rows) places)
+    (places_at rows)) (asking_at rows)) (first_of (codes "third") rows)) (two_at rows)
 
 abbrev pub requests_at : List Row → Option Request
-requests_at rows = option_map (λ two. requests two.0 two.1 (first_of (codes "hierarchy") rows)) (two_at rows)
+requests_at rows =
+    option_and_then (λ two. option_map (λ most. requests two.0 two.1 (first_of (codes "hierarchy") rows) most.0 most.1) (limits_at rows)) (two_at rows)
 
 -- the commands by their names
 abbrev pub commands : List (List ℕ × (List Row → Option Request))
@@ -211,6 +247,10 @@ pub record AsksFor (words : List (List ℕ)) (r : Request) : Type 0 where
 abbrev pub AreRefused : List (List ℕ) → Type 0
 AreRefused words = (r : Request) → AsksFor words r → ⊥
 
+-- the options that limit, with what is given for them
+abbrev pub limits_said : Option (List ℕ) → Option (List ℕ) → List (List ℕ × Option (List ℕ))
+limits_said labels places = (codes "--labels", labels) ∷ (codes "--places", places) ∷ []
+
 -- the words that ask for it in the plain form: the program's name, which may be any, the command's name, its words, and then its options
 abbrev pub IsPlainForm : List (List ℕ) → Request → Type 0
 IsPlainForm words (compile map feed days format) =
@@ -221,17 +261,28 @@ IsPlainForm words (migrate region format) =
     (named : Option (List ℕ)) × IsInForm words (codes "migrate") (region ∷ []) ((codes "--format", named) ∷ []) × (format_or Binary named ≡ Some format)
 IsPlainForm words (contract region keep) =
     (number : Option (List ℕ)) × IsInForm words (codes "contract") (region ∷ []) ((codes "--keep", number) ∷ []) × (keep_or_none number ≡ Some keep)
-IsPlainForm words (answer region queries hierarchy) = IsInForm words (codes "answer") (region ∷ queries ∷ []) ((codes "--hierarchy", hierarchy) ∷ [])
-IsPlainForm words (certify region query hierarchy) = IsInForm words (codes "certify") (region ∷ query ∷ []) ((codes "--hierarchy", hierarchy) ∷ [])
+IsPlainForm words (answer region queries hierarchy labels places) =
+    (l p : Option (List ℕ)) × IsInForm words (codes "answer") (region ∷ queries ∷ []) ((codes "--hierarchy", hierarchy) ∷ limits_said l p)
+    × (limits_of l p ≡ Some (labels, places))
+IsPlainForm words (certify region query hierarchy labels places) =
+    (l p : Option (List ℕ)) × IsInForm words (codes "certify") (region ∷ query ∷ []) ((codes "--hierarchy", hierarchy) ∷ limits_said l p)
+    × (limits_of l p ≡ Some (labels, places))
 IsPlainForm words (verify region certificate hierarchy) = IsInForm words (codes "verify") (region ∷ certificate ∷ []) ((codes "--hierarchy", hierarchy) ∷ [])
 IsPlainForm words (check region hierarchy) = IsInForm words (codes "check") (region ∷ hierarchy ∷ []) []
 IsPlainForm words (sample size) = (word : List ℕ) × IsInForm words (codes "sample") (word ∷ []) [] × (size_of word ≡ Some size)
-IsPlainForm words (latest region queries) = IsInForm words (codes "latest") (region ∷ queries ∷ []) []
-IsPlainForm words (certify_latest region query) = IsInForm words (codes "certify-latest") (region ∷ query ∷ []) []
+IsPlainForm words (latest region queries labels places) =
+    (l p : Option (List ℕ)) × IsInForm words (codes "latest") (region ∷ queries ∷ []) (limits_said l p) × (limits_of l p ≡ Some (labels, places))
+IsPlainForm words (certify_latest region query labels places) =
+    (l p : Option (List ℕ)) × IsInForm words (codes "certify-latest") (region ∷ query ∷ []) (limits_said l p) × (limits_of l p ≡ Some (labels, places))
 IsPlainForm words (verify_latest region certificate) = IsInForm words (codes "verify-latest") (region ∷ certificate ∷ []) []
-IsPlainForm words (few region queries) = IsInForm words (codes "few") (region ∷ queries ∷ []) []
-IsPlainForm words (profile region queries window) =
-    (said : Option (List ℕ)) × IsInForm words (codes "profile") (region ∷ queries ∷ []) ((codes "--window", said) ∷ []) × (window_or_two_hours said ≡ Some window)
-IsPlainForm words (matrix region origins destinations date time expr hierarchy) =
-    IsInForm words (codes "matrix") (region ∷ origins ∷ destinations ∷ date ∷ time ∷ expr ∷ []) ((codes "--hierarchy", hierarchy) ∷ [])
-IsPlainForm words (requests region lines hierarchy) = IsInForm words (codes "requests") (region ∷ lines ∷ []) ((codes "--hierarchy", hierarchy) ∷ [])
+IsPlainForm words (few region queries places) =
+    (p : Option (List ℕ)) × IsInForm words (codes "few") (region ∷ queries ∷ []) ((codes "--places", p) ∷ []) × (limit_or_none most_places p ≡ Some places)
+IsPlainForm words (profile region queries window places) =
+    (said p : Option (List ℕ)) × IsInForm words (codes "profile") (region ∷ queries ∷ []) ((codes "--window", said) ∷ (codes "--places", p) ∷ [])
+    × (window_or_two_hours said ≡ Some window) × (limit_or_none most_places p ≡ Some places)
+IsPlainForm words (matrix region origins destinations date time expr hierarchy places) =
+    (p : Option (List ℕ)) × IsInForm words (codes "matrix") (region ∷ origins ∷ destinations ∷ date ∷ time ∷ expr ∷ [])
+    ((codes "--hierarchy", hierarchy) ∷ (codes "--places", p) ∷ []) × (limit_or_none most_places p ≡ Some places)
+IsPlainForm words (requests region lines hierarchy labels places) =
+    (l p : Option (List ℕ)) × IsInForm words (codes "requests") (region ∷ lines ∷ []) ((codes "--hierarchy", hierarchy) ∷ limits_said l p)
+    × (limits_of l p ≡ Some (labels, places))

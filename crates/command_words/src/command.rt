@@ -4,6 +4,9 @@ use region_file::Format;
 use service_days::Days;
 
 /// What a command line asks for. A file is named by its path.
+///
+/// Two limits are `None` where they are not given: `labels`, 1 to 1,000,000,000,000, is how many labels a search may have, and
+/// `places`, 1 to 200, how many places for letters an expression.
 #[derive(Debug, Drop)]
 pub enum Command<'a> {
     /// The region of a map and of the timetable feed in a folder, over some days.
@@ -23,17 +26,21 @@ pub enum Command<'a> {
         region: &'a str,
         keep: u32,
     },
-    /// The block of each query line of a file, by a hierarchy, if one is given.
+    /// The block of each query line of a file, by a hierarchy, if one is given, and within limits.
     Answer {
         region: &'a str,
         queries: &'a str,
         hierarchy: Option<&'a str>,
+        labels: Option<u64>,
+        places: Option<u32>,
     },
-    /// A certificate for a query line, by a hierarchy, if one is given.
+    /// A certificate for a query line, by a hierarchy, if one is given, and within limits.
     Certify {
         region: &'a str,
         query: &'a str,
         hierarchy: Option<&'a str>,
+        labels: Option<u64>,
+        places: Option<u32>,
     },
     /// The check of a certificate file, whose labels are read over a hierarchy, if one is given.
     Verify {
@@ -54,11 +61,15 @@ pub enum Command<'a> {
     Latest {
         region: &'a str,
         queries: &'a str,
+        labels: Option<u64>,
+        places: Option<u32>,
     },
     /// A certificate that a departure is the latest for a query line.
     CertifyLatest {
         region: &'a str,
         query: &'a str,
+        labels: Option<u64>,
+        places: Option<u32>,
     },
     /// The check of a file with such a certificate.
     VerifyLatest {
@@ -69,6 +80,7 @@ pub enum Command<'a> {
     Few {
         region: &'a str,
         queries: &'a str,
+        places: Option<u32>,
     },
     /// The block of each query line of a file, with the departures that are worth taking of a window, which is 1,000 to
     /// 86,400,000 milliseconds long.
@@ -76,6 +88,7 @@ pub enum Command<'a> {
         region: &'a str,
         queries: &'a str,
         window: u32,
+        places: Option<u32>,
     },
     /// The table of travel times from each endpoint of a file to each one of another, departing then and travelling so, by a
     /// hierarchy, if one is given.
@@ -87,11 +100,14 @@ pub enum Command<'a> {
         time: &'a str,
         expr: &'a str,
         hierarchy: Option<&'a str>,
+        places: Option<u32>,
     },
     /// The reply to each line of a file, by the command that it begins with, and by a hierarchy, if one is given.
     Requests {
         region: &'a str,
         lines: &'a str,
         hierarchy: Option<&'a str>,
+        labels: Option<u64>,
+        places: Option<u32>,
     },
 }

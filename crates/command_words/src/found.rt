@@ -2,15 +2,19 @@
 
 ghost use Rattle.std.specs.Prelude.{◌≡◌, Err, IfOk, None, Some, option_map};
 ghost use Rattle.clap.specs.Words.{first_of, found_of, rows_of};
-ghost use Rattle.command_words.specs.Requests.{answer_at, asking_at, certify_at, certify_latest_at, check_at, compile_at, contract_at, days_and_format_at, few_at, latest_at, matrix_at, migrate_at, profile_at, request_at, request_of, requests_at, sample_at, two_at, verify_at, verify_latest_at};
+ghost use Rattle.command_words.specs.Requests.{answer_at, asking_at, certify_at, certify_latest_at, check_at, compile_at, contract_at, days_and_format_at, few_at, latest_at, limits_at, matrix_at, migrate_at, places_at, profile_at, request_at, request_of, requests_at, sample_at, two_at, verify_at, verify_latest_at};
 ghost use Rattle.command_words.specs.declared.fault.WordsFault.TheVariants.{Refused};
 
 use crate::command::Command;
 use crate::fault::WordsFault;
-use crate::values::{days_of, format_or, keep_or_none, read_size, window_or_two_hours};
+use crate::values::{
+    days_of, format_or, keep_or_none, labels_or_none, places_or_none, read_size,
+    window_or_two_hours,
+};
 use clap::ArgMatches;
 use command_line::{
-    FIFTH, FIRST, FORMAT, FOURTH, HIERARCHY, KEEP, SECOND, SIXTH, THIRD, WINDOW, ZONE,
+    FIFTH, FIRST, FORMAT, FOURTH, HIERARCHY, KEEP, LABELS, PLACES, SECOND, SIXTH, THIRD, WINDOW,
+    ZONE,
 };
 use region_file::Format;
 use service_days::Days;
@@ -59,6 +63,30 @@ fn two<'a>(given: &ArgMatches<'a>) -> Option<(&'a str, &'a str)>
     let first = said(given, FIRST)?;
     let second = said(given, SECOND)?;
     Some((first, second))
+}
+
+/// The limit of places.
+fn places(given: &ArgMatches<'_>) -> Option<Option<u32>>
+    ensures { result ≡ places_at (rows_of (found_of given.now)) }
+{
+    places_or_none(said(given, PLACES))
+}
+
+/// The limits of labels and of places.
+#[derive(Clone, Copy)]
+struct Limits {
+    labels: Option<u64>,
+    places: Option<u32>,
+}
+
+/// The limits of labels and of places.
+fn read_limits(given: &ArgMatches<'_>) -> Option<Limits>
+    ensures { option_map (λ it. (it.labels, it.places)) result ≡ limits_at (rows_of (found_of given.now)) }
+{
+    Some(Limits {
+        labels: labels_or_none(said(given, LABELS))?,
+        places: places(given)?,
+    })
 }
 
 /// A map and a feed, to be compiled.
@@ -133,10 +161,13 @@ fn answer<'a>(given: &ArgMatches<'a>) -> Option<Command<'a>>
     ensures { option_map request_of result ≡ answer_at (rows_of (found_of given.now)) }
 {
     let (region, queries) = two(given)?;
+    let Limits { labels, places } = read_limits(given)?;
     Some(Command::Answer {
         region,
         queries,
         hierarchy: said(given, HIERARCHY),
+        labels,
+        places,
     })
 }
 
@@ -145,10 +176,13 @@ fn certify<'a>(given: &ArgMatches<'a>) -> Option<Command<'a>>
     ensures { option_map request_of result ≡ certify_at (rows_of (found_of given.now)) }
 {
     let (region, query) = two(given)?;
+    let Limits { labels, places } = read_limits(given)?;
     Some(Command::Certify {
         region,
         query,
         hierarchy: said(given, HIERARCHY),
+        labels,
+        places,
     })
 }
 
@@ -169,7 +203,11 @@ fn few<'a>(given: &ArgMatches<'a>) -> Option<Command<'a>>
     ensures { option_map request_of result ≡ few_at (rows_of (found_of given.now)) }
 {
     let (region, queries) = two(given)?;
-    Some(Command::Few { region, queries })
+    Some(Command::Few {
+        region,
+        queries,
+        places: places(given)?,
+    })
 }
 
 /// Query lines, to be answered with the latest departure.
@@ -177,7 +215,13 @@ fn latest<'a>(given: &ArgMatches<'a>) -> Option<Command<'a>>
     ensures { option_map request_of result ≡ latest_at (rows_of (found_of given.now)) }
 {
     let (region, queries) = two(given)?;
-    Some(Command::Latest { region, queries })
+    let Limits { labels, places } = read_limits(given)?;
+    Some(Command::Latest {
+        region,
+        queries,
+        labels,
+        places,
+    })
 }
 
 /// A query line, whose latest departure is to be certified.
@@ -185,7 +229,13 @@ fn certify_latest<'a>(given: &ArgMatches<'a>) -> Option<Command<'a>>
     ensures { option_map request_of result ≡ certify_latest_at (rows_of (found_of given.now)) }
 {
     let (region, query) = two(given)?;
-    Some(Command::CertifyLatest { region, query })
+    let Limits { labels, places } = read_limits(given)?;
+    Some(Command::CertifyLatest {
+        region,
+        query,
+        labels,
+        places,
+    })
 }
 
 /// A certificate of a latest departure, to be checked.
@@ -209,6 +259,7 @@ fn profile<'a>(given: &ArgMatches<'a>) -> Option<Command<'a>>
         region,
         queries,
         window,
+        places: places(given)?,
     })
 }
 
@@ -246,6 +297,7 @@ fn matrix<'a>(given: &ArgMatches<'a>) -> Option<Command<'a>>
         time,
         expr,
         hierarchy: said(given, HIERARCHY),
+        places: places(given)?,
     })
 }
 
@@ -254,9 +306,12 @@ fn requests<'a>(given: &ArgMatches<'a>) -> Option<Command<'a>>
     ensures { option_map request_of result ≡ requests_at (rows_of (found_of given.now)) }
 {
     let (region, lines) = two(given)?;
+    let Limits { labels, places } = read_limits(given)?;
     Some(Command::Requests {
         region,
         lines,
         hierarchy: said(given, HIERARCHY),
+        labels,
+        places,
     })
 }

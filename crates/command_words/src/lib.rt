@@ -10,4 +10,6 @@ mod values;
 pub use command::Command;
 pub use fault::WordsFault;
 pub use reading::read_words;
-pub use values::{format_of, read_eight, read_keep, read_number, read_size, read_window};
+pub use values::{
+    format_of, read_eight, read_keep, read_labels, read_number, read_places, read_size, read_window,
+};

@@ -1,15 +1,21 @@
 //! The values that words spell: formats, days and numbers.
 
-ghost use Rattle.std.specs.Prelude.{◌≡◌, Err, IfOk, None, Some, option_map};
+ghost use Rattle.std.specs.Prelude.{◌≡◌, ◌<◌, ◌≤◌, ◌^◌, Err, IfOk, IfSome, None, Some, option_map};
 ghost use Rattle.service_days.specs.ReadClock.{below_sixty};
-ghost use Rattle.command_words.specs.Requests.{date_of, days_of, format_of, format_or, keep_of, keep_or_none, number_of, seconds_of, size_of, window_of, window_or_two_hours};
+ghost use Rattle.command_words.specs.Requests.{date_of, days_of, format_of, format_or, keep_of, keep_or_none, limit_of, limit_or_none, most_labels, most_places, number_of, seconds_of, size_of, window_of, window_or_two_hours};
 ghost use Rattle.command_words.specs.declared.fault.WordsFault.TheVariants.{Refused};
 
 use crate::fault::WordsFault;
-use plain_texts::read_fixed;
+use plain_texts::{read_fixed, read_short_number};
 use region_file::Format;
 use service_days::{Days, RangeFault};
 use std::alloc::Global;
+
+/// The most labels that a search may be limited to.
+const MOST_LABELS: u64 = 1_000_000_000_000;
+
+/// The most places for letters that an expression may have.
+const MOST_PLACES: u64 = 200;
 
 /// The format of this number.
 pub fn format_of(word: &[u8]) -> Option<Format>
@@ -84,6 +90,51 @@ pub fn read_size(word: &[u8]) -> Option<u32>
     } else {
         None
     }
+}
+
+/// The limit of labels that an option says, or none where none does.
+pub fn labels_or_none(word: Option<&str>) -> Option<Option<u64>>
+    ensures { result ≡ limit_or_none most_labels (option_map (λ w. w.now) word.entry) }
+{
+    match word {
+        Some(word) => Some(Some(read_labels(word.as_bytes())?)),
+        None => Some(None),
+    }
+}
+
+/// The limit of labels that a word says; None exactly where it is no number from 1 to 1,000,000,000,000.
+pub fn read_labels(word: &[u8]) -> Option<u64>
+    ensures { result ≡ limit_of most_labels word.now }
+{
+    read_limit(word, MOST_LABELS)
+}
+
+/// The limit of places that an option says, or none where none does.
+pub fn places_or_none(word: Option<&str>) -> Option<Option<u32>>
+    ensures { result ≡ limit_or_none most_places (option_map (λ w. w.now) word.entry) }
+{
+    match word {
+        Some(word) => Some(Some(read_places(word.as_bytes())?)),
+        None => Some(None),
+    }
+}
+
+/// The limit of places that a word says; None exactly where it is no number from 1 to 200.
+pub fn read_places(word: &[u8]) -> Option<u32>
+    ensures { result ≡ limit_of most_places word.now }
+{
+    let places = read_limit(word, MOST_PLACES)?;
+    Some(places as u32)
+}
+
+/// The limit that a word says, a decimal number from 1 to `most`.
+fn read_limit(word: &[u8], most: u64) -> Option<u64>
+    requires { most < 10 ^ 18 }
+    ensures limit { result ≡ limit_of most word.now }
+    ensures most { IfSome result (λ n. n ≤ most) }
+{
+    let limit = read_short_number(word, most + 1)?;
+    if limit >= 1 { Some(limit) } else { None }
 }
 
 /// How long a window is, in milliseconds, as an option says, or two hours where none does.

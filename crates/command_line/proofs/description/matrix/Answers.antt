@@ -13,4 +13,4 @@ returns c =
     let fourth = c.in_ok-command-3.ensures (so_far (codes "first" ∷ codes "second" ∷ codes "third" ∷ [])) three in
     let fifth = c.in_ok-command-4.ensures (so_far four) fourth in
     let sixth = c.in_ok-command-5.ensures (so_far (codes "first" ∷ codes "second" ∷ codes "third" ∷ codes "fourth" ∷ codes "fifth" ∷ [])) fifth in
-    c.with_hierarchy.ensures (so_far six) sixth
+    c.with_places.ensures (command_of (codes "matrix") six (codes "hierarchy" ∷ [])) (c.in_ok-command-6.ensures (so_far six) sixth)

@@ -1,0 +1,6 @@
+use Rattle.std.proofs.Common.{[], codes}
+use Rattle.command_line.specs.Description.{command_of, two}
+use Rattle.command_line.proofs.description.certify_latest.Goals as goal
+
+pub returns : goal.returns
+returns c = c.with_limits.ensures (command_of (codes "certify-latest") two []) c.in_ok-command.ensures
