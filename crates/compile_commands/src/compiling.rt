@@ -10,15 +10,16 @@ ghost use Rattle.compile_commands.specs.Commands.{SaysCompile, SaysMigrate};
 ghost use Rattle.compile_commands.specs.Outputs.{IsRegionFile};
 
 use crate::builds::built;
+use crate::closing::{Sources, tell_closing};
 use crate::feeds::read_feed_in;
 use crate::maps::read_map;
 use mode_network::Network;
 use plan_base::{Caps, Shelf, Sink};
-use region_build::{LeftOut, Region};
+use region_build::Region;
 use region_file::{Format, encode};
-use run_steps::{Outcome, Ports, read_region, tell, write_text};
+use run_steps::{Outcome, Ports, read_region, write_text};
 use service_days::Days;
-use std::alloc::{AllocError, Global};
+use std::alloc::Global;
 
 /// Reads the map of this name and the files of the feed in this folder, and writes the region of both over these days, in
 /// this format. `notes` is told how far it is, and what the region consists of.
@@ -37,14 +38,24 @@ pub fn compile<F: Shelf, O: Sink, E: Sink>(
     let alloc = ports.alloc;
     let objects = read_map(alloc, &mut ports.shelf, map, caps, &mut ports.notes)?;
     let tables = read_feed_in(alloc, &mut ports.shelf, feed, caps, &mut ports.notes)?;
+    let sources = Sources::of(&objects, &tables);
     let region = built(alloc, objects, tables, days, feed, caps, &mut ports.notes)?;
-    write_compiled(alloc, &region, format, &mut ports.out, &mut ports.notes)
+    write_compiled(
+        alloc,
+        &region,
+        sources,
+        format,
+        &mut ports.out,
+        &mut ports.notes,
+    )
 }
 
-/// Writes a region that was compiled, in this format. `notes` is told what it consists of.
+/// Writes a region that was compiled of these sources, in this format. `notes` is told what it consists of, and what came to
+/// nothing.
 fn write_compiled<O: Sink, E: Sink>(
     alloc: Global,
     region: &Region,
+    sources: Sources,
     format: Format,
     out: &mut O,
     notes: &mut E,
@@ -55,11 +66,7 @@ fn write_compiled<O: Sink, E: Sink>(
     let Ok(text) = encode(alloc, &region.network, format) else {
         return Err(Outcome::OutOfMemory);
     };
-    tell(
-        alloc,
-        notes,
-        told_at_end(alloc, &region.network, region.left_out, text.len()),
-    );
+    tell_closing(alloc, region, sources, text.len(), notes);
     write_text(out, &text)
 }
 
@@ -93,37 +100,4 @@ fn write_network<O: Sink>(
         return Err(Outcome::OutOfMemory);
     };
     write_text(out, &bytes)
-}
-
-/// What a region that was compiled consists of, and what was left out of it.
-fn told_at_end(
-    alloc: Global,
-    network: &Network,
-    left_out: LeftOut,
-    bytes: usize,
-) -> Result<String, AllocError> {
-    let nodes = network.nodes();
-    let (arcs, links) = (network.arcs().len(), network.links().len());
-    let (stops, trips) = (stops_of(network), network.timetable().trips().len());
-    let LeftOut {
-        short,
-        idle,
-        inexact,
-        late,
-        ..
-    } = left_out;
-    format!(in alloc;
-        "{nodes} nodes, {arcs} road arcs, {links} links, {stops} stops and {trips} trips, in {bytes} bytes; left out are {short} trips with fewer than two calls, {idle} with no day of the region, {inexact} with a headway that is not exact, and {late} departures of trips that would end after 167:59:59"
-    )
-}
-
-/// How many stops a network has.
-fn stops_of(network: &Network) -> u32 {
-    let mut stops: u32 = 0;
-    for v in 0..network.nodes() {
-        if network.stop_at(v).is_some() {
-            stops = stops.saturating_add(1);
-        }
-    }
-    stops
 }

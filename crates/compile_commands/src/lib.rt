@@ -3,9 +3,11 @@
 #![tactic(auto)]
 
 mod builds;
+mod closing;
 mod compiling;
 mod feeds;
 mod maps;
+mod parts;
 
 pub use builds::built;
 pub use compiling::{compile, migrate};
