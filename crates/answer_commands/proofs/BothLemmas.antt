@@ -1,6 +1,5 @@
 -- A region and a hierarchy that were read, or not: what a run says of them.
 use Rattle.std.proofs.Common.{ℕ, inl, inr, List, Option}
-use Rattle.std.specs.Prelude.{IfSome}
 use Rattle.plan_base.specs.Shelves.{ShelfMeaning}
 use Rattle.plan_base.specs.Sinks.{SinkMeaning, Stays}
 use Rattle.plan_base.specs.declared.limits.Caps.{Caps}

@@ -16,6 +16,7 @@ use Rattle.hierarchy_commands.proofs.CompleteLemmas.{named_completes}
 use Rattle.phase_graph.specs.InUse.{IsSoundIfGiven}
 use Rattle.run_steps.proofs.TurnComplete.{in_turn_completes}
 use Rattle.run_steps.proofs.CompleteSteps.{file_completes, network_completes, writes_completes}
+use Rattle.run_steps.specs.declared.limits.Limits.{Limits}
 use Rattle.run_steps.specs.Complete.{Files, Completes, IsDoneOrMemory}
 use Rattle.answer_commands.specs.Answers.{WritesSettled}
 use Rattle.answer_commands.specs.Outputs.{best_certificates}
@@ -36,18 +37,18 @@ holds n rules h sound bytes (claim, text, valid) clause at (other, reads_so, fai
     cc
 
 -- the line `settled` is written, or there is none
-settled_completes : (files : Files) (n : NetworkLists) (h : Option HierarchyLists) (bytes : List ℕ) → Completes files (Unit {0}) (WritesSettled n h bytes)
-settled_completes files n None bytes p old new outcome tells quiet ends = subst IsDoneOrMemory (sym ends.0) tt
-settled_completes files n (Some h) bytes p old new outcome tells quiet wrote = writes_completes files _ _ tt old new outcome tells quiet wrote
+settled_completes : (files : Files) (n : NetworkLists) (h : Option HierarchyLists) (limits : Limits) (bytes : List ℕ) → Completes files (Unit {0}) (WritesSettled n h limits bytes)
+settled_completes files n None limits bytes p old new outcome tells quiet ends = subst IsDoneOrMemory (sym ends.0) tt
+settled_completes files n (Some h) limits bytes p old new outcome tells quiet wrote = writes_completes files _ _ tt old new outcome tells quiet wrote
 
 -- what can be done is done
 pub answer_completes : AnswerCompletes
-answer_completes caps files region queries hierarchy =
+answer_completes caps limits files region queries hierarchy =
     file_completes files _ region _ _ (network_completes files caps _ _ (λ n rules. named_completes files n hierarchy _ _ (λ h sound.
-    in_turn_completes files _ queries _ (WritesSettled n h) (settled_completes files n h))))
+    in_turn_completes files _ queries _ (WritesSettled n h limits) (settled_completes files n h limits))))
 
 pub certify_completes : CertifyCompletes
-certify_completes caps files region query hierarchy =
+certify_completes caps limits files region query hierarchy =
     file_completes files _ region _ _ (network_completes files caps _ _ (λ n rules. named_completes files n hierarchy _ _ (λ h sound. writes_completes files _ _)))
 
 pub verify_completes : VerifyCompletes

@@ -1,5 +1,6 @@
 pub mod LentLemmas
 pub mod SettledLemmas
 pub mod BlockLemmas
+pub mod CertifyLemmas
 pub mod CompleteLemmas
 pub mod BothLemmas

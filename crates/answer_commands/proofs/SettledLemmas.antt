@@ -1,13 +1,13 @@
 -- The line `settled` behind the blocks of an answer.
-use Rattle.std.proofs.Common.{◌≡◌, ℕ, inl, true, false, List, ◌∷◌, [], Option, Some, None, refl}
+use Rattle.std.proofs.Common.{◌≡◌, ℕ, inl, true, false, List, Option, Some, None, refl}
 use Rattle.std.specs.Prelude.{⊤, Result, IfErr, OnOk, is_some}
 use Rattle.plan_base.specs.Shelves.{ShelfMeaning}
 use Rattle.plan_base.specs.Sinks.{SinkMeaning, Appended}
 use Rattle.plan_base.proofs.MoreWritten.{stays_so}
 use Rattle.mode_network.specs.NetworkLists.{NetworkLists}
 use Rattle.hierarchy.specs.Lists.{HierarchyLists}
-use Rattle.planning.specs.Settled.{IsSettledBy, Settled}
 use Rattle.run_steps.specs.Blocks.{AreCounted}
+use Rattle.run_steps.specs.declared.limits.Limits.{Limits}
 use Rattle.run_steps.specs.declared.outcome.Outcome.{Outcome}
 use Rattle.run_steps.specs.declared.outcome.Outcome.TheVariants.{Done, OutOfMemory}
 use Rattle.run_steps.specs.QueryLines.{query_lines}
@@ -15,27 +15,22 @@ use Rattle.run_steps.specs.Scene.{scene}
 use Rattle.run_steps.specs.Sayings.{end_of}
 use Rattle.run_steps.specs.Working.{IsTextOutcome}
 use Rattle.run_steps.proofs.Steps.{text_ends}
-use Rattle.answer_commands.specs.Answers.{IsSettledLine, WritesSettled, settled_line}
+use Rattle.answer_commands.specs.Answers.{IsAnswerCount, IsSettledLine, WritesSettled, settled_line}
 
--- what was counted is how many labels the searches had
-pub counted_settled : (n : NetworkLists) (h : Option HierarchyLists) (lines : List (List ℕ)) (sum : ℕ) → AreCounted (IsSettledBy n h) lines sum → Settled n h lines sum
-counted_settled n h [] sum none = none
-counted_settled n h (line ∷ lines) sum (count, rest, is, more, e) = (count, rest, is, counted_settled n h lines rest more, e)
-
-module _ (n : NetworkLists) (shelf : ShelfMeaning) (out : SinkMeaning) (bytes : List ℕ) where
+module _ (n : NetworkLists) (limits : Limits) (shelf : ShelfMeaning) (out : SinkMeaning) (bytes : List ℕ) where
   -- there is none without a hierarchy
-  pub none_settled : (h : Option HierarchyLists) → is_some h ≡ false → WritesSettled n h bytes (scene shelf out) (scene shelf out) Done
+  pub none_settled : (h : Option HierarchyLists) → is_some h ≡ false → WritesSettled n h limits bytes (scene shelf out) (scene shelf out) Done
   none_settled None none = (refl, stays_so out)
   none_settled (Some h) none = absurd (cc)
 
   -- it was not made
-  pub unmade_settled : (h : Option HierarchyLists) → is_some h ≡ true → WritesSettled n h bytes (scene shelf out) (scene shelf out) OutOfMemory
+  pub unmade_settled : (h : Option HierarchyLists) → is_some h ≡ true → WritesSettled n h limits bytes (scene shelf out) (scene shelf out) OutOfMemory
   unmade_settled None some = absurd (cc)
   unmade_settled (Some h) some = inl (stays_so out)
 
   -- it is written, or a front of it
-  pub settled_ends : (h : Option HierarchyLists) → is_some h ≡ true → (after : SinkMeaning) (sum : ℕ) → Settled n h (query_lines bytes) sum → (result : Result ⊤ Outcome)
-      → OnOk result (Appended out after (settled_line sum)) → IfErr result (IsTextOutcome out after (settled_line sum)) → WritesSettled n h bytes (scene shelf out) (scene shelf after) (end_of result)
+  pub settled_ends : (h : Option HierarchyLists) → is_some h ≡ true → (after : SinkMeaning) (sum : ℕ) → AreCounted (IsAnswerCount n h limits) (query_lines bytes) sum → (result : Result ⊤ Outcome)
+      → OnOk result (Appended out after (settled_line sum)) → IfErr result (IsTextOutcome out after (settled_line sum)) → WritesSettled n h limits bytes (scene shelf out) (scene shelf after) (end_of result)
   settled_ends None some after sum settled result ok err = absurd (cc)
   settled_ends (Some h) some after sum settled result ok err =
-      text_ends shelf shelf out after (IsSettledLine n (Some h) (query_lines bytes)) (settled_line sum) (sum, settled, refl) result ok err
+      text_ends shelf shelf out after (IsSettledLine n (Some h) limits (query_lines bytes)) (settled_line sum) (sum, settled, refl) result ok err

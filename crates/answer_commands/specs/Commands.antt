@@ -2,23 +2,24 @@
 use Rattle.std.specs.Prelude.{ℕ, List, Option}
 use Rattle.plan_base.specs.declared.limits.Caps.{Caps}
 use Rattle.run_steps.specs.Certificates.{SaysVerified}
-use Rattle.journey.specs.Best.{IsBlock}
 use Rattle.hierarchy_commands.specs.Commands.{OnHierarchyIfNamed}
 use Rattle.run_steps.specs.declared.outcome.FileRole.TheVariants.{Queries}
+use Rattle.run_steps.specs.declared.limits.Limits.{Limits}
 use Rattle.run_steps.specs.Regions.{OnRegion}
 use Rattle.run_steps.specs.InTurn.{InTurn}
 use Rattle.run_steps.specs.Sayings.{Saying, WritesText}
-use Rattle.answer_commands.specs.Answers.{WritesSettled}
+use Rattle.answer_commands.specs.Answers.{IsAnswer, WritesSettled}
 use Rattle.answer_commands.specs.Outputs.{IsCertified, best_certificates}
 
--- `answer` writes a right block for each query line of a file, in order and as it is read, and with a hierarchy how many labels its searches had
-abbrev pub SaysAnswer : Caps → List ℕ → List ℕ → Option (List ℕ) → Saying
-SaysAnswer caps region queries hierarchy =
-    OnRegion caps region (λ n. OnHierarchyIfNamed n hierarchy (λ h. InTurn Queries queries (IsBlock n) (WritesSettled n h)))
+-- `answer` writes a right block within the limits for each query line of a file, in order and as it is read, and with a hierarchy how many labels its searches had
+abbrev pub SaysAnswer : Caps → Limits → List ℕ → List ℕ → Option (List ℕ) → Saying
+SaysAnswer caps limits region queries hierarchy =
+    OnRegion caps region (λ n. OnHierarchyIfNamed n hierarchy (λ h. InTurn Queries queries (IsAnswer n h limits) (WritesSettled n h limits)))
 
--- `certify` writes a certificate for the query line, or the block of its refusal
-abbrev pub SaysCertify : Caps → List ℕ → List ℕ → Option (List ℕ) → Saying
-SaysCertify caps region query hierarchy = OnRegion caps region (λ n. OnHierarchyIfNamed n hierarchy (λ h. WritesText (IsCertified n h query)))
+-- `certify` writes a certificate for the query line, or the block of its refusal or of a search with too many labels
+abbrev pub SaysCertify : Caps → Limits → List ℕ → List ℕ → Option (List ℕ) → Saying
+SaysCertify caps limits region query hierarchy =
+    OnRegion caps region (λ n. OnHierarchyIfNamed n hierarchy (λ h. WritesText (IsCertified n h limits query)))
 
 -- `verify` writes what the certificate of a file shows
 abbrev pub SaysVerify : Caps → List ℕ → List ℕ → Option (List ℕ) → Saying

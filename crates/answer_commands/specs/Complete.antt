@@ -7,6 +7,7 @@ use Rattle.certificate.specs.Texts.{IsCertText}
 use Rattle.certificate.specs.Valid.{IsValid}
 use Rattle.hierarchy.specs.Lists.{HierarchyLists}
 use Rattle.hierarchy_commands.specs.Complete.{IsSoundIfNamed}
+use Rattle.run_steps.specs.declared.limits.Limits.{Limits}
 use Rattle.run_steps.specs.Complete.{Files, AreLinesHeld, IsHeld, SpellsNetwork, Completes}
 use Rattle.answer_commands.specs.Commands.{SaysAnswer, SaysCertify, SaysVerify}
 
@@ -27,12 +28,12 @@ CanVerify caps files region certificate hierarchy =
 
 -- where that can be done which is asked for, and no count of faults rose, all of it is done, unless memory ran out
 abbrev pub AnswerCompletes : Type 0
-AnswerCompletes = (caps : Caps) (files : Files) (region queries : List ℕ) (hierarchy : Option (List ℕ))
-    → Completes files (CanAnswer caps files region queries hierarchy) (SaysAnswer caps region queries hierarchy)
+AnswerCompletes = (caps : Caps) (limits : Limits) (files : Files) (region queries : List ℕ) (hierarchy : Option (List ℕ))
+    → Completes files (CanAnswer caps files region queries hierarchy) (SaysAnswer caps limits region queries hierarchy)
 
 abbrev pub CertifyCompletes : Type 0
-CertifyCompletes = (caps : Caps) (files : Files) (region query : List ℕ) (hierarchy : Option (List ℕ))
-    → Completes files (CanCertify caps files region query hierarchy) (SaysCertify caps region query hierarchy)
+CertifyCompletes = (caps : Caps) (limits : Limits) (files : Files) (region query : List ℕ) (hierarchy : Option (List ℕ))
+    → Completes files (CanCertify caps files region query hierarchy) (SaysCertify caps limits region query hierarchy)
 
 abbrev pub VerifyCompletes : Type 0
 VerifyCompletes = (caps : Caps) (files : Files) (region certificate : List ℕ) (hierarchy : Option (List ℕ))

@@ -8,14 +8,17 @@ use Rattle.journey.specs.declared.verdict.CertFault.TheVariants.{BadLine}
 use Rattle.journey.specs.declared.verdict.CertVerdict.TheVariants as verdict
 use Rattle.journey.specs.Blocks.{IsBlockText}
 use Rattle.journey.specs.Best.{IsBlock, IsRefusedBlock}
+use Rattle.journey.specs.Large.{IsBlockUnder, stopped_block}
 use Rattle.certificate.specs.Certificates.{Claim}
 use Rattle.certificate.specs.Texts.{IsCertText}
 use Rattle.certificate.specs.Reading.{cert_of}
 use Rattle.certificate.specs.Valid.{IsValid, Proves}
 use Rattle.certificate.specs.Verdicts.{IsCertVerdict}
+use Rattle.run_steps.specs.declared.limits.Limits.{Limits}
 use Rattle.run_steps.specs.Certificates.{CertificateKind}
 use Rattle.hierarchy.specs.Lists.{HierarchyLists}
 use Rattle.planning.specs.Plans.{AreTheLabels}
+use Rattle.planning.specs.Limits.{IsWithinLabels}
 
 -- the text of a valid certificate for the line, whose labels are those of the search over the graph in use; it proves what it claims
 pub record IsCertificateFor (n : NetworkLists) (h : Option HierarchyLists) (line out : List ℕ) : Type 0 where
@@ -26,9 +29,14 @@ pub record IsCertificateFor (n : NetworkLists) (h : Option HierarchyLists) (line
   pub labelled : AreTheLabels n h valid.setting.asked claim.labels
   pub proves : Proves n claim
 
--- the block of a line that is refused, or a certificate
-abbrev pub IsCertified : NetworkLists → Option HierarchyLists → List ℕ → List ℕ → Type 0
-IsCertified n h line out = IsRefusedBlock n line out ⊎ IsCertificateFor n h line out
+-- the block of a line that is refused, or a certificate; where the search may have so many labels
+abbrev pub IsCertifiedWithin : NetworkLists → Option HierarchyLists → Option ℕ → List ℕ → List ℕ → Type 0
+IsCertifiedWithin n h labels line out =
+    IsWithinLabels n h labels line (λ most. out ≡ stopped_block line most) (IsRefusedBlock n line out ⊎ IsCertificateFor n h line out)
+
+-- and the expression may have so many places
+abbrev pub IsCertified : NetworkLists → Option HierarchyLists → Limits → List ℕ → List ℕ → Type 0
+IsCertified n h limits line out = IsBlockUnder n limits.places (IsCertifiedWithin n h limits.labels) line out
 
 -- what a certificate claims, as the body of a block
 abbrev pub body_of : Option (ℕ × Route) → BlockBody

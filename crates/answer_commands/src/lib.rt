@@ -8,7 +8,7 @@ mod reading;
 mod verifying;
 
 pub use answering::answer;
-pub use certifying::{certified, certify};
+pub use certifying::{certified_within, certify};
 pub use laws::{answer_completes, certify_completes, verify_completes};
 pub use reading::read_both;
 pub use verifying::verify;

@@ -127,7 +127,7 @@ module _ (n : NetworkLists) (network : IsNetwork n) (table : TableLists) (q : As
   none_accepted none p (k, is) at = none is.answers.real.letters (accepts q.depart k p.arrive is.answers is.rides)
 
   -- each pair that departs from then on is an accepted walk
-  arrives : (p : Pair) → IsPair n q p → t ≤ p.depart → ArrivesAt (plain_meaning n table) l origins destinations t p.arrive
+  pub arrives : (p : Pair) → IsPair n q p → t ≤ p.depart → ArrivesAt (plain_meaning n table) l origins destinations t p.arrive
   arrives p (k, is) at =
       let answers = asked_from n q q.depart t k p.arrive is.answers (let departs = is.departs in omega arith) in
       taken.arrives n table (leaving q t) l origins destinations from to journeys k p.arrive answers (accepts t k p.arrive answers is.rides)

@@ -6,4 +6,10 @@ pub mod SettingOffLemmas
 pub mod TransitLemmas
 pub mod FirstLemmas
 pub mod ListingLemmas
+pub mod StretchLemmas
+pub mod FastestLemmas
+pub mod LeastArcLemmas
+pub mod LeastWalkLemmas
+pub mod WayLemmas
+pub mod LeastLemmas
 pub mod TextLemmas

@@ -7,22 +7,23 @@ use Rattle.few_boardings.specs.declared.counted.Side.TheVariants.{AtLeast}
 use Rattle.few_boardings.specs.Counted.{transits, counted, AcceptsCounted}
 use Rattle.few_boardings.specs.CountedLaws.{added_road}
 use Rattle.few_boardings.proofs.CountedLemmas.{transits_more}
-use Rattle.departures.specs.Transit.{ReadsNoTransit}
+use Rattle.departures.specs.Transit.{IsTransit, ReadsNoTransit}
 use Rattle.departures.proofs.OrderLemmas.{le_or_above}
 
--- a letter of a set that has none of transit is one of roads
-road_letter : (set c : ℕ) → set < 2 ^ 14 → bit_and set 0x3ff8 ≡ 0 → IsBitSet set c → c < 3
-road_letter set c few none is = on_order (le_or_above 3 c)
-  where
-    on_order : (3 ≤ c) ⊎ (c < 3) → c < 3
-    on_order (inl high) = absurd (no_bits c (subst (λ b. IsBitSet b c) none (set_and set 0x3ff8 c is (transit_set c high (letter_below set c few is)))))
-    on_order (inr low) = low
+-- a set without the bits of the letters of transit has none of them
+pub none_set : (set c : ℕ) → bit_and set 0x3ff8 ≡ 0 → IsTransit c → IsBitSet set c → ⊥
+none_set set c none (high, few) is = no_bits c (subst (λ b. IsBitSet b c) none (set_and set 0x3ff8 c is (transit_set c high few)))
 
 module _ (l : LabelsMeaning) (lawful : IsLawfulLabels l) (none : ReadsNoTransit l) where
+  -- so a letter that it reads is one of roads
+  road_letter : (q i c : ℕ) → q < l.states → i < l.moves q → IsBitSet (l.move_at q i).letters c → (3 ≤ c) ⊎ (c < 3) → c < 3
+  road_letter q i c lt place is (inl high) = absurd (none q lt i c place (high, letter_below (l.move_at q i).letters c (lawful.letters_in_range q i lt place) is) is)
+  road_letter q i c lt place is (inr low) = low
+
   no_transits : (word : List ℕ) (q r : ℕ) → q < l.states → Reads l q word r → transits word ≡ 0
   no_transits [] q r lt same = refl
   no_transits (c ∷ word) q r lt (p, (i, move), more) =
-      let road = road_letter (l.move_at q i).letters c (lawful.letters_in_range q i lt move.place) (none q lt i move.place) move.letter in
+      let road = road_letter q i c lt move.place move.letter (le_or_above 3 c) in
       let to = subst (λ s. s < l.states) move.to (lawful.to_in_range q i lt move.place) in
       omega (arith, transits_more c word, added_road c road, no_transits word p r to more)
 

@@ -4,4 +4,9 @@ pub mod SettingOff
 pub mod Transit
 pub mod Searching
 pub mod Listing
+pub mod Fastest
+pub mod Stretches
+pub mod LeastArcs
+pub mod LeastWalks
+pub mod LeastLaws
 pub mod Blocks

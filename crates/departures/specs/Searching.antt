@@ -1,5 +1,5 @@
 -- What a search for a journey with a ride goes over, and what it finds.
-use Rattle.std.specs.Prelude.{◌≡◌, ℕ, ◌<◌, ◌≤◌, ◌^◌, ◌↔◌, false, List, length, All, Option, Some, None}
+use Rattle.std.specs.Prelude.{◌≡◌, ℕ, ◌+◌, ◌<◌, ◌≤◌, ◌^◌, ◌↔◌, false, List, length, All, Option, Some, None}
 use Rattle.search_laws.specs.LabelLaws.{LabelsMeaning, Accepts}
 use Rattle.search_laws.specs.Collapse.{collapse}
 use Rattle.timetable_arcs.specs.Patterns.{TableLists}
@@ -77,3 +77,7 @@ pub record IsFirst (n : NetworkLists) (q : Asked) (t : ℕ) (row : Row) : Type 0
 abbrev pub IsFirstFrom : NetworkLists → Asked → ℕ → Option Row → Type 0
 IsFirstFrom n q t None = (p : Pair) → IsPair n q p → t ≤ p.depart → ⊥
 IsFirstFrom n q t (Some row) = IsFirst n q t row
+
+-- each journey with a ride takes so long or longer, whenever it leaves
+abbrev pub NoneTakesLess : NetworkLists → Asked → ℕ → Type 0
+NoneTakesLess n q c = (p : Pair) → IsPair n q p → p.depart + c ≤ p.arrive

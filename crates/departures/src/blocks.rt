@@ -10,7 +10,8 @@ ghost use Rattle.latest_departure.specs.Blocks.{IsLateText};
 ghost use Rattle.departures.specs.Blocks.{AreTold, without_line, IsProfileText, IsProfileBlock};
 ghost use Rattle.departures.specs.Searching.{IsPrintableRow};
 
-use crate::listing::{departures, without_ride};
+use crate::least::LeastTimes;
+use crate::listing::{departures_worth, without_ride};
 use crate::row::Row;
 use crate::search::RideSearch;
 use journey::{BlockBody, Query, QueryFault, block, framed, push_journey, read_query};
@@ -145,39 +146,41 @@ fn rows_block(
 fn query_block(
     alloc: Global,
     workspace: &mut Workspace,
-    network: &Network,
+    least: &LeastTimes<'_>,
     line: &[u8],
     query: &Query,
     window: u32,
 ) -> Result<Vec<u8>, AllocError>
-    requires asks { IsQuery network.now line.now query.now.from query.now.to query.now.depart (form_of query.now.expr) }
+    requires asks { IsQuery least.now.plain.network.now line.now query.now.from query.now.to query.now.depart (form_of query.now.expr) }
     requires line { query.now.line ≡ line.now }
     requires usable { IsUsable (form_of query.now.expr) }
-    ensures { IfOk result (λ block. IsProfileBlock network.now window line.now block.items) }
+    ensures { IfOk result (λ block. IsProfileBlock least.now.plain.network.now window line.now block.items) }
 {
+    let network = least.network();
     network.days().facts();
     let without = without_ride(alloc, workspace, network, query)?;
     let search = RideSearch::new(alloc, network, query)?;
-    let rows = departures(alloc, workspace, &search, without, window)?;
+    let rows = departures_worth(alloc, workspace, least, &search, without, window)?;
     let block = rows_block(alloc, network, line, without, &rows)?;
     Ok(block)
 }
 
 /// The right block of a query line: that of its refusal, or of the departures of a window of so many milliseconds,
-/// which opens when the query departs. The searches use the workspace.
+/// which opens when the query departs. The least times and the workspace serve many lines.
 ///
 /// Fails where memory runs out, alone.
 pub fn profile_block(
     alloc: Global,
     workspace: &mut Workspace,
-    network: &Network,
+    least: &LeastTimes<'_>,
     line: &[u8],
     window: u32,
 ) -> Result<Vec<u8>, AllocError>
-    ensures { IfOk result (λ block. IsProfileBlock network.now window line.now block.items) }
+    ensures { IfOk result (λ block. IsProfileBlock least.now.plain.network.now window line.now block.items) }
 {
+    let network = least.network();
     match read_query(alloc, network, line) {
-        Ok(query) => query_block(alloc, workspace, network, line, &query, window),
+        Ok(query) => query_block(alloc, workspace, least, line, &query, window),
         Err(QueryFault::OutOfMemory) => Err(AllocError),
         Err(fault) => {
             let block = block(alloc, network, line, &BlockBody::Refused(fault))?;

@@ -3,7 +3,9 @@
 #![tactic(auto)]
 
 mod blocks;
+mod fastest;
 mod laws;
+mod least;
 mod listing;
 mod row;
 mod search;
@@ -12,4 +14,5 @@ mod transit;
 
 pub use blocks::profile_block;
 pub use laws::{departures_are_unique, departures_miss_nothing, without_is_the_same};
+pub use least::LeastTimes;
 pub use row::{Pair, Row};

@@ -8,6 +8,7 @@ ghost use Rattle.departures.specs.Departures.{IsWithout, AreRows};
 ghost use Rattle.departures.specs.Listing.{next_moment, is_shorter, is_later, kept};
 ghost use Rattle.departures.specs.Searching.{network_of, asked_of, IsRideSearch, IsPrintableRow};
 
+use crate::least::LeastTimes;
 use crate::row::{Pair, Row};
 use crate::search::RideSearch;
 use few_boardings::least_below;
@@ -89,7 +90,7 @@ fn keep(
 ///
 /// Each search finds a journey that arrives first. The next one goes on after its departure: where that arrives no
 /// later, the journey is not worth listing.
-pub(crate) fn departures(
+fn departures(
     alloc: Global,
     workspace: &mut Workspace,
     search: &RideSearch<'_>,
@@ -115,4 +116,27 @@ pub(crate) fn departures(
         best = next;
     }
     Ok(rows)
+}
+
+/// The rows of a window, as [`departures`] lists them. Where no ride can take less time than one can do without, there are none.
+pub(crate) fn departures_worth(
+    alloc: Global,
+    workspace: &mut Workspace,
+    least: &LeastTimes<'_>,
+    search: &RideSearch<'_>,
+    without: Option<Time>,
+    window: u32,
+) -> Result<Vec<Row>, AllocError>
+    requires search { IsRideSearch search.now }
+    requires same { least.now.plain.network.now ≡ network_of search.now }
+    requires soon { search.now.query.now.depart < 2 ^ 63 }
+    ensures rows { IfOk result (λ rows. AreRows (network_of search.now) (asked_of search.now) without window rows.items) }
+    ensures printable { IfOk result (λ rows. All (IsPrintableRow (network_of search.now)) rows.items) }
+{
+    if let Some(c) = without {
+        if !search.may_take_less(alloc, workspace, least, c)? {
+            return Ok(Vec::new(alloc));
+        }
+    }
+    departures(alloc, workspace, search, without, window)
 }

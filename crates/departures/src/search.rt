@@ -5,6 +5,7 @@ ghost use Rattle.mode_expression.specs.Form.{form_of, IsUsable};
 ghost use Rattle.unpack.specs.Taken.{IsPlainWalk};
 ghost use Rattle.departures.specs.Searching.{IsUnpacked};
 
+use crate::least::LeastTimes;
 use crate::row::{Pair, Row};
 use crate::setting_off::set_off;
 use crate::transit::reads_transit;
@@ -57,7 +58,8 @@ fn unpacked(
 }
 
 impl<'a> RideSearch<'a> {
-    ghost use Rattle.departures.specs.Searching.{network_of, asked_of, IsRideSearch, IsFirstFrom};
+    ghost use Rattle.std.specs.Prelude.{false};
+    ghost use Rattle.departures.specs.Searching.{network_of, asked_of, IsRideSearch, IsFirstFrom, NoneTakesLess};
 
     /// The search for what a query asks.
     pub fn new(
@@ -115,5 +117,39 @@ impl<'a> RideSearch<'a> {
         let Best { arrival, walk } = best;
         let row = unpacked(alloc, &self.plain, arrival, &walk)?;
         Ok(row)
+    }
+
+    /// Whether a journey with a ride may take less than `c`: whether a walk by least times does. If none does, no journey does,
+    /// whenever it leaves.
+    pub fn may_take_less(
+        &self,
+        alloc: Global,
+        workspace: &mut Workspace,
+        least: &LeastTimes<'_>,
+        c: Time,
+    ) -> Result<bool, AllocError>
+        requires search { IsRideSearch self.now }
+        requires same { least.now.plain.network.now ≡ network_of self.now }
+        requires soon { self.now.query.now.depart < 2 ^ 64 }
+        ensures { IfOk result (λ may. may ≡ false → NoneTakesLess (network_of self.now) (asked_of self.now) c) }
+    {
+        least.known();
+        if c == 0 {
+            return Ok(false);
+        }
+        let Some(last) = self.query.depart.checked_add(c - 1) else {
+            return Ok(true);
+        };
+        let best = search_best_with(
+            alloc,
+            workspace,
+            least,
+            &self.labels,
+            &self.origins,
+            &self.destinations,
+            self.query.depart,
+            Some(last),
+        )?;
+        Ok(best.arrival.is_some())
     }
 }

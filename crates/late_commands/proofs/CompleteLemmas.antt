@@ -31,19 +31,19 @@ holds n rules bytes (claim, text, valid) clause at (other, reads_so, fails) =
 
 -- what can be done is done
 pub few_completes : FewCompletes
-few_completes caps files region queries =
+few_completes caps places files region queries =
     file_completes files _ region _ _ (network_completes files caps _ _ (λ n rules. answers_completes files _ queries _))
 
 pub latest_completes : LatestCompletes
-latest_completes caps files region queries =
+latest_completes caps limits files region queries =
     file_completes files _ region _ _ (network_completes files caps _ _ (λ n rules. answers_completes files _ queries _))
 
 pub profile_completes : ProfileCompletes
-profile_completes caps files region queries window =
+profile_completes caps places files region queries window =
     file_completes files _ region _ _ (network_completes files caps _ _ (λ n rules. answers_completes files _ queries _))
 
 pub certify_latest_completes : CertifyLatestCompletes
-certify_latest_completes caps files region query = file_completes files _ region _ _ (network_completes files caps _ _ (λ n rules. writes_completes files _ _))
+certify_latest_completes caps limits files region query = file_completes files _ region _ _ (network_completes files caps _ _ (λ n rules. writes_completes files _ _))
 
 pub verify_latest_completes : VerifyLatestCompletes
 verify_latest_completes caps files region certificate =

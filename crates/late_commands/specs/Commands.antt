@@ -1,12 +1,15 @@
 -- What each command says of a run by its outcome.
-use Rattle.std.specs.Prelude.{◌≡◌, ℕ, List}
+use Rattle.std.specs.Prelude.{◌≡◌, ℕ, List, Option}
 use Rattle.plan_base.specs.declared.limits.Caps.{Caps}
 use Rattle.run_steps.specs.Certificates.{SaysVerified}
+use Rattle.journey.specs.Large.{IsBlockUnder}
+use Rattle.mode_network.specs.NetworkLists.{NetworkLists}
 use Rattle.few_boardings.specs.Blocks.{IsFewBlock}
-use Rattle.latest_departure.specs.Blocks.{IsLateBlock}
+use Rattle.latest_departure.specs.Limits.{IsLateBlockWithin}
 use Rattle.departures.specs.Blocks.{IsProfileBlock}
 use Rattle.run_steps.specs.InTurn.{AnswersFile}
 use Rattle.run_steps.specs.declared.outcome.FileRole.TheVariants.{Queries}
+use Rattle.run_steps.specs.declared.limits.Limits.{Limits}
 use Rattle.run_steps.specs.Regions.{OnRegion}
 use Rattle.run_steps.specs.Sayings.{Saying, WritesText}
 use Rattle.late_commands.specs.Outputs.{IsLateCertified, late_certificates}
@@ -15,21 +18,26 @@ use Rattle.late_commands.specs.Outputs.{IsLateCertified, late_certificates}
 abbrev pub CountsNothing : List ℕ → ℕ → Type 0
 CountsNothing line count = count ≡ 0
 
--- `few` writes for each query line the block of its boardings list
-abbrev pub SaysFew : Caps → List ℕ → List ℕ → Saying
-SaysFew caps region queries = OnRegion caps region (λ n. AnswersFile Queries queries (IsFewBlock n))
+-- the right late block of a query line, of so many places and so many labels at most
+abbrev pub IsLatest : NetworkLists → Limits → List ℕ → List ℕ → Type 0
+IsLatest n limits line block = IsBlockUnder n limits.places (IsLateBlockWithin n limits.labels) line block
 
--- `latest` writes for each query line its late block
-abbrev pub SaysLatest : Caps → List ℕ → List ℕ → Saying
-SaysLatest caps region queries = OnRegion caps region (λ n. AnswersFile Queries queries (IsLateBlock n))
+-- `few` writes for each query line, of so many places at most, the block of its boardings list
+abbrev pub SaysFew : Caps → (places : Option ℕ) → List ℕ → List ℕ → Saying
+SaysFew caps places region queries = OnRegion caps region (λ n. AnswersFile Queries queries (IsBlockUnder n places (IsFewBlock n)))
 
--- `profile` writes for each query line the block of the departures of the window, which is in milliseconds
-abbrev pub SaysProfile : Caps → List ℕ → List ℕ → ℕ → Saying
-SaysProfile caps region queries window = OnRegion caps region (λ n. AnswersFile Queries queries (IsProfileBlock n window))
+-- `latest` writes for each query line its late block within the limits
+abbrev pub SaysLatest : Caps → Limits → List ℕ → List ℕ → Saying
+SaysLatest caps limits region queries = OnRegion caps region (λ n. AnswersFile Queries queries (IsLatest n limits))
 
--- `certify-latest` writes a late certificate for the query line, or the block of its refusal
-abbrev pub SaysCertifyLatest : Caps → List ℕ → List ℕ → Saying
-SaysCertifyLatest caps region query = OnRegion caps region (λ n. WritesText (IsLateCertified n query))
+-- `profile` writes for each query line, of so many places at most, the block of the departures of the window, which is in milliseconds
+abbrev pub SaysProfile : Caps → (places : Option ℕ) → List ℕ → List ℕ → ℕ → Saying
+SaysProfile caps places region queries window =
+    OnRegion caps region (λ n. AnswersFile Queries queries (IsBlockUnder n places (IsProfileBlock n window)))
+
+-- `certify-latest` writes a late certificate for the query line, or the block of its refusal or of a search with too many labels
+abbrev pub SaysCertifyLatest : Caps → Limits → List ℕ → List ℕ → Saying
+SaysCertifyLatest caps limits region query = OnRegion caps region (λ n. WritesText (IsLateCertified n limits query))
 
 -- `verify-latest` writes what the late certificate of a file shows
 abbrev pub SaysVerifyLatest : Caps → List ℕ → List ℕ → Saying

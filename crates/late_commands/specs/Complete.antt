@@ -1,9 +1,10 @@
 -- What can be done: the files that a command names are there and without fault.
-use Rattle.std.specs.Prelude.{ℕ, List}
+use Rattle.std.specs.Prelude.{ℕ, List, Option}
 use Rattle.plan_base.specs.declared.limits.Caps.{Caps}
 use Rattle.mode_network.specs.NetworkLists.{NetworkLists}
 use Rattle.latest_departure.specs.ValidLate.{LateClaim, IsValidLate}
 use Rattle.late_certificate.specs.Texts.{IsLateText}
+use Rattle.run_steps.specs.declared.limits.Limits.{Limits}
 use Rattle.run_steps.specs.Complete.{Files, AreLinesHeld, IsHeld, SpellsNetwork, Completes}
 use Rattle.late_commands.specs.Commands.{SaysFew, SaysLatest, SaysProfile, SaysCertifyLatest, SaysVerifyLatest}
 
@@ -28,17 +29,21 @@ CanVerifyLatest caps files region certificate = IsHeld files region (SpellsNetwo
 
 -- where that can be done which is asked for, and no count of faults rose, all of it is done, unless memory ran out
 abbrev pub FewCompletes : Type 0
-FewCompletes = (caps : Caps) (files : Files) (region queries : List ℕ) → Completes files (CanFew caps files region queries) (SaysFew caps region queries)
+FewCompletes = (caps : Caps) (places : Option ℕ) (files : Files) (region queries : List ℕ)
+    → Completes files (CanFew caps files region queries) (SaysFew caps places region queries)
 
 abbrev pub LatestCompletes : Type 0
-LatestCompletes = (caps : Caps) (files : Files) (region queries : List ℕ) → Completes files (CanLatest caps files region queries) (SaysLatest caps region queries)
+LatestCompletes = (caps : Caps) (limits : Limits) (files : Files) (region queries : List ℕ)
+    → Completes files (CanLatest caps files region queries) (SaysLatest caps limits region queries)
 
 abbrev pub ProfileCompletes : Type 0
 ProfileCompletes =
-    (caps : Caps) (files : Files) (region queries : List ℕ) (window : ℕ) → Completes files (CanProfile caps files region queries) (SaysProfile caps region queries window)
+    (caps : Caps) (places : Option ℕ) (files : Files) (region queries : List ℕ) (window : ℕ)
+    → Completes files (CanProfile caps files region queries) (SaysProfile caps places region queries window)
 
 abbrev pub CertifyLatestCompletes : Type 0
-CertifyLatestCompletes = (caps : Caps) (files : Files) (region query : List ℕ) → Completes files (CanCertifyLatest caps files region query) (SaysCertifyLatest caps region query)
+CertifyLatestCompletes = (caps : Caps) (limits : Limits) (files : Files) (region query : List ℕ)
+    → Completes files (CanCertifyLatest caps files region query) (SaysCertifyLatest caps limits region query)
 
 abbrev pub VerifyLatestCompletes : Type 0
 VerifyLatestCompletes = (caps : Caps) (files : Files) (region certificate : List ℕ) → Completes files (CanVerifyLatest caps files region certificate) (SaysVerifyLatest caps region certificate)

@@ -1,15 +1,18 @@
 -- What `certify-latest` and `verify-latest` write.
-use Rattle.std.specs.Prelude.{◌≡◌, ℕ, ◌⊎◌, List, Err}
+use Rattle.std.specs.Prelude.{◌≡◌, ℕ, ◌⊎◌, List, Option, Err}
 use Rattle.mode_network.specs.NetworkLists.{NetworkLists}
 use Rattle.journey.specs.declared.verdict.CertFault.TheVariants.{BadLine}
 use Rattle.journey.specs.declared.verdict.CertVerdict.TheVariants as verdict
 use Rattle.journey.specs.Best.{IsRefusedBlock}
+use Rattle.journey.specs.Large.{IsBlockUnder, stopped_block}
 use Rattle.latest_departure.specs.Blocks.{IsAnswerBlock, IsShownBlock}
+use Rattle.latest_departure.specs.Limits.{IsWithinLateLabels}
 use Rattle.latest_departure.specs.ValidLate.{LateClaim, IsValidLate}
 use Rattle.late_certificate.specs.Texts.{IsLateText}
 use Rattle.late_certificate.specs.Reading.{late_of}
 use Rattle.late_certificate.specs.Verdicts.{IsLateVerdict}
 use Rattle.late_certificate.specs.Certified.{IsLateCertificateOf}
+use Rattle.run_steps.specs.declared.limits.Limits.{Limits}
 use Rattle.run_steps.specs.Certificates.{CertificateKind}
 
 -- the text of a valid certificate for the line, whose labels are those of the search; it proves what it claims
@@ -18,9 +21,14 @@ pub record IsLateCertificateFor (n : NetworkLists) (line out : List ℕ) : Type 
   pub text : IsLateText out claim
   pub of : IsLateCertificateOf n line claim
 
--- the block of a line that is refused, or a late certificate
-abbrev pub IsLateCertified : NetworkLists → List ℕ → List ℕ → Type 0
-IsLateCertified n line out = IsRefusedBlock n line out ⊎ IsLateCertificateFor n line out
+-- the block of a line that is refused, or a late certificate; where the search may have so many labels
+abbrev pub IsLateCertifiedWithin : NetworkLists → Option ℕ → List ℕ → List ℕ → Type 0
+IsLateCertifiedWithin n labels line out =
+    IsWithinLateLabels n labels line (λ most. out ≡ stopped_block line most) (IsRefusedBlock n line out ⊎ IsLateCertificateFor n line out)
+
+-- and the expression may have so many places
+abbrev pub IsLateCertified : NetworkLists → Limits → List ℕ → List ℕ → Type 0
+IsLateCertified n limits line out = IsBlockUnder n limits.places (IsLateCertifiedWithin n limits.labels) line out
 
 -- the bytes are the text of a valid late certificate, and the block is that of its line and its result, of which the certificate proves what it tells
 pub record IsLateShown (n : NetworkLists) (bytes block : List ℕ) : Type 0 where

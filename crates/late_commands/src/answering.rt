@@ -4,26 +4,29 @@ ghost use Rattle.run_steps.specs.Scene.{scene};
 ghost use Rattle.run_steps.specs.Sayings.{end_of};
 ghost use Rattle.late_commands.specs.Commands.{SaysFew, SaysLatest, SaysProfile};
 
-use departures::profile_block;
+use departures::{LeastTimes, profile_block};
 use few_boardings::few_block;
-use latest_departure::{Backwards, late_block};
+use journey::large_block;
+use latest_departure::{Backwards, late_block_within};
 use mode_network::Network;
 use plan_base::{Caps, Shelf, Sink};
 use product_search::Workspace;
-use run_steps::{FileRole, LineBlocks, Outcome, Ports, answer_file, read_region};
+use run_steps::{FileRole, Limits, LineBlocks, Outcome, Ports, answer_file, read_region};
 use std::alloc::{AllocError, Global};
 
 /// The blocks of lines that ask for the journeys that are worth their boardings.
 #[derive(Drop)]
 struct FewBlocks<'a> {
     network: &'a Network,
+    places: Option<u32>,
 }
 
 impl LineBlocks for FewBlocks<'_> {
+    ghost use Rattle.journey.specs.Large.{IsBlockUnder};
     ghost use Rattle.few_boardings.specs.Blocks.{IsFewBlock};
     ghost use Rattle.late_commands.specs.Commands.{CountsNothing};
 
-    ghost is_block = { λ blocks. IsFewBlock blocks.network.now };
+    ghost is_block = { λ blocks. IsBlockUnder blocks.network.now blocks.places (IsFewBlock blocks.network.now) };
 
     ghost counts = { λ _. CountsNothing };
 
@@ -33,6 +36,9 @@ impl LineBlocks for FewBlocks<'_> {
         workspace: &mut Workspace,
         line: &[u8],
     ) -> Result<(Vec<u8>, u64), AllocError> {
+        if let Some(block) = large_block(alloc, self.network, self.places, line)? {
+            return Ok((block, 0));
+        }
         let block = few_block(alloc, workspace, self.network, line)?;
         Ok((block, 0))
     }
@@ -42,13 +48,13 @@ impl LineBlocks for FewBlocks<'_> {
 #[derive(Drop)]
 struct LateBlocks<'a> {
     backwards: &'a Backwards<'a>,
+    limits: Limits,
 }
 
 impl LineBlocks for LateBlocks<'_> {
-    ghost use Rattle.latest_departure.specs.Blocks.{IsLateBlock};
-    ghost use Rattle.late_commands.specs.Commands.{CountsNothing};
+    ghost use Rattle.late_commands.specs.Commands.{CountsNothing, IsLatest};
 
-    ghost is_block = { λ blocks. IsLateBlock blocks.backwards.now.network };
+    ghost is_block = { λ blocks. IsLatest blocks.backwards.now.network blocks.limits };
 
     ghost counts = { λ _. CountsNothing };
 
@@ -58,7 +64,11 @@ impl LineBlocks for LateBlocks<'_> {
         workspace: &mut Workspace,
         line: &[u8],
     ) -> Result<(Vec<u8>, u64), AllocError> {
-        let block = late_block(alloc, workspace, self.backwards, line)?;
+        let Limits { places, labels } = self.limits;
+        if let Some(block) = large_block(alloc, self.backwards.network(), places, line)? {
+            return Ok((block, 0));
+        }
+        let block = late_block_within(alloc, workspace, self.backwards, line, labels)?;
         Ok((block, 0))
     }
 }
@@ -66,15 +76,18 @@ impl LineBlocks for LateBlocks<'_> {
 /// The blocks of lines that ask for the departures of a window.
 #[derive(Drop)]
 struct ProfileBlocks<'a> {
-    network: &'a Network,
+    least: &'a LeastTimes<'a>,
     window: u32,
+    places: Option<u32>,
 }
 
 impl LineBlocks for ProfileBlocks<'_> {
+    ghost use Rattle.journey.specs.Large.{IsBlockUnder};
     ghost use Rattle.departures.specs.Blocks.{IsProfileBlock};
     ghost use Rattle.late_commands.specs.Commands.{CountsNothing};
 
-    ghost is_block = { λ blocks. IsProfileBlock blocks.network.now blocks.window };
+    ghost is_block = { λ blocks. IsBlockUnder blocks.least.now.plain.network.now blocks.places
+        (IsProfileBlock blocks.least.now.plain.network.now blocks.window) };
 
     ghost counts = { λ _. CountsNothing };
 
@@ -84,7 +97,10 @@ impl LineBlocks for ProfileBlocks<'_> {
         workspace: &mut Workspace,
         line: &[u8],
     ) -> Result<(Vec<u8>, u64), AllocError> {
-        let block = profile_block(alloc, workspace, self.network, line, self.window)?;
+        if let Some(block) = large_block(alloc, self.least.network(), self.places, line)? {
+            return Ok((block, 0));
+        }
+        let block = profile_block(alloc, workspace, self.least, line, self.window)?;
         Ok((block, 0))
     }
 }
@@ -95,9 +111,10 @@ pub fn few<F: Shelf, O: Sink, E: Sink>(
     ports: &mut Ports<F, O, E>,
     region: &str,
     queries: &str,
+    places: Option<u32>,
     caps: &Caps,
 ) -> Result<(), Outcome>
-    ensures { SaysFew caps.now region.now queries.now
+    ensures { SaysFew caps.now places region.now queries.now
         (scene (F.meaning ports.old.shelf) (O.meaning ports.old.out))
         (scene (F.meaning ports.new.shelf) (O.meaning ports.new.out)) (end_of result) }
 {
@@ -108,7 +125,10 @@ pub fn few<F: Shelf, O: Sink, E: Sink>(
         caps,
         &mut ports.notes,
     )?;
-    let few = FewBlocks { network: &network };
+    let few = FewBlocks {
+        network: &network,
+        places,
+    };
     answer_file(ports, &few, FileRole::Queries, queries)
 }
 
@@ -118,9 +138,10 @@ pub fn latest<F: Shelf, O: Sink, E: Sink>(
     ports: &mut Ports<F, O, E>,
     region: &str,
     queries: &str,
+    limits: Limits,
     caps: &Caps,
 ) -> Result<(), Outcome>
-    ensures { SaysLatest caps.now region.now queries.now
+    ensures { SaysLatest caps.now limits region.now queries.now
         (scene (F.meaning ports.old.shelf) (O.meaning ports.old.out))
         (scene (F.meaning ports.new.shelf) (O.meaning ports.new.out)) (end_of result) }
 {
@@ -136,6 +157,7 @@ pub fn latest<F: Shelf, O: Sink, E: Sink>(
     };
     let late = LateBlocks {
         backwards: &backwards,
+        limits,
     };
     answer_file(ports, &late, FileRole::Queries, queries)
 }
@@ -147,9 +169,10 @@ pub fn profile<F: Shelf, O: Sink, E: Sink>(
     region: &str,
     queries: &str,
     window: u32,
+    places: Option<u32>,
     caps: &Caps,
 ) -> Result<(), Outcome>
-    ensures { SaysProfile caps.now region.now queries.now window
+    ensures { SaysProfile caps.now places region.now queries.now window
         (scene (F.meaning ports.old.shelf) (O.meaning ports.old.out))
         (scene (F.meaning ports.new.shelf) (O.meaning ports.new.out)) (end_of result) }
 {
@@ -160,9 +183,13 @@ pub fn profile<F: Shelf, O: Sink, E: Sink>(
         caps,
         &mut ports.notes,
     )?;
+    let Ok(least) = LeastTimes::new(ports.alloc, &network) else {
+        return Err(Outcome::OutOfMemory);
+    };
     let profile = ProfileBlocks {
-        network: &network,
+        least: &least,
         window,
+        places,
     };
     answer_file(ports, &profile, FileRole::Queries, queries)
 }

@@ -1,78 +1,124 @@
 //! The command `certify-latest`: a certificate of the latest departure for a query line.
 
-ghost use Rattle.std.specs.Prelude.{◌<◌, ◌^◌, IfOk};
+ghost use Rattle.std.specs.Prelude.{◌≡◌, ◌≢◌, ◌<◌, ◌^◌, IfOk};
 ghost use Rattle.plain_texts.specs.Lines.{IsLine};
 ghost use Rattle.mode_expression.specs.Form.{form_of, IsUsable};
+ghost use Rattle.journey.specs.declared.answer.BlockBody.TheVariants.{Refused};
+ghost use Rattle.journey.specs.declared.fault.QueryFault.TheVariants.{OutOfMemory};
+ghost use Rattle.journey.specs.Blocks.{IsBlockText};
 ghost use Rattle.journey.specs.Queries.{IsQuery};
 ghost use Rattle.plan_base.specs.Shelves.{ShelfMeaning};
 ghost use Rattle.run_steps.specs.Scene.{scene};
 ghost use Rattle.run_steps.specs.Sayings.{WritesText, end_of};
-ghost use Rattle.late_commands.specs.Outputs.{IsLateCertificateFor, IsLateCertified};
+ghost use Rattle.late_commands.specs.Outputs.{IsLateCertified, IsLateCertifiedWithin};
 ghost use Rattle.late_commands.specs.Commands.{SaysCertifyLatest};
 
-use journey::{BlockBody, Query, QueryFault, block, read_query};
-use late_certificate::{certify_late, print_late};
+use journey::{BlockBody, Query, QueryFault, block, large_block, read_query, stopped_block};
+use late_certificate::{certify_late_within, print_late};
 use mode_network::Network;
 use plan_base::{Caps, Shelf, Sink};
-use run_steps::{Outcome, Ports, read_region, write_text};
+use product_search::Limited;
+use run_steps::{Limits, Outcome, Ports, read_region, write_text};
 use std::alloc::{AllocError, Global};
 
-/// Reads the region of this name, and writes the late certificate of a query line, or its block where the line is refused.
+/// Reads the region of this name, and writes the late certificate of a query line, or its block where the line is refused or
+/// passes the limits.
 pub fn certify_latest<F: Shelf, O: Sink, E: Sink>(
     ports: &mut Ports<F, O, E>,
     region: &str,
     query: &str,
+    limits: Limits,
     caps: &Caps,
 ) -> Result<(), Outcome>
-    ensures { SaysCertifyLatest caps.now region.now query.now
+    ensures { SaysCertifyLatest caps.now limits region.now query.now
         (scene (F.meaning ports.old.shelf) (O.meaning ports.old.out))
         (scene (F.meaning ports.new.shelf) (O.meaning ports.new.out)) (end_of result) }
 {
     let alloc = ports.alloc;
     let network = read_region(alloc, &mut ports.shelf, region, caps, &mut ports.notes)?;
-    write_certified(alloc, &network, query.as_bytes(), &mut ports.out)
+    write_certified(alloc, &network, limits, query.as_bytes(), &mut ports.out)
 }
 
-/// Writes the late certificate of a query line, or its block where the line is refused.
+/// Writes the late certificate of a query line, or its block where the line is refused or passes the limits.
 fn write_certified<O: Sink>(
     alloc: Global,
     network: &Network,
+    limits: Limits,
     line: &[u8],
     out: &mut O,
 ) -> Result<(), Outcome>
-    ensures { (old new : ShelfMeaning) → WritesText (IsLateCertified network.now line.now) (scene old (O.meaning out.old)) (scene new (O.meaning out.new)) (end_of result) }
+    ensures { (old new : ShelfMeaning) → WritesText (IsLateCertified network.now limits line.now)
+        (scene old (O.meaning out.old)) (scene new (O.meaning out.new)) (end_of result) }
 {
-    let Ok(text) = certified_late(alloc, network, line) else {
+    let Ok(text) = certified_late(alloc, network, limits, line) else {
         return Err(Outcome::OutOfMemory);
     };
     write_text(out, &text)
 }
 
-/// The text of the late certificate of a query line, or its block where the line is refused.
-pub fn certified_late(alloc: Global, network: &Network, line: &[u8]) -> Result<Vec<u8>, AllocError>
-    ensures { IfOk result (λ text. IsLateCertified network.now line.now text.items) }
+/// The text of the late certificate of a query line, or its block where the line is refused or passes the limits.
+fn certified_late(
+    alloc: Global,
+    network: &Network,
+    limits: Limits,
+    line: &[u8],
+) -> Result<Vec<u8>, AllocError>
+    ensures { IfOk result (λ text. IsLateCertified network.now limits line.now text.items) }
+{
+    if let Some(block) = large_block(alloc, network, limits.places, line)? {
+        return Ok(block);
+    }
+    certified_late_within(alloc, network, limits.labels, line)
+}
+
+/// The text of the late certificate of a query line whose search may have so many labels, or its block where the line is
+/// refused or the search has more.
+pub fn certified_late_within(
+    alloc: Global,
+    network: &Network,
+    limit: Option<u64>,
+    line: &[u8],
+) -> Result<Vec<u8>, AllocError>
+    ensures { IfOk result (λ text. IsLateCertifiedWithin network.now limit line.now text.items) }
 {
     match read_query(alloc, network, line) {
-        Ok(query) => {
-            let text = certificate_text(alloc, network, query)?;
-            Ok(text)
-        }
-        Err(QueryFault::OutOfMemory) => Err(AllocError),
-        Err(fault) => {
-            let text = block(alloc, network, line, &BlockBody::Refused(fault))?;
-            Ok(text)
-        }
+        Ok(query) => certificate_text(alloc, network, limit, line, query),
+        Err(fault) => refused(alloc, network, line, fault),
     }
 }
 
-/// The text of a query's late certificate.
-fn certificate_text(alloc: Global, network: &Network, query: Query) -> Result<Vec<u8>, AllocError>
+/// The block of a line that is refused with this fault. A line that was not read, for want of memory, has none.
+fn refused(
+    alloc: Global,
+    network: &Network,
+    line: &[u8],
+    fault: QueryFault,
+) -> Result<Vec<u8>, AllocError>
+    ensures { IfOk result (λ text. (fault ≢ OutOfMemory) × IsBlockText network.now line.now (Refused fault) text.items) }
+{
+    match fault {
+        QueryFault::OutOfMemory => Err(AllocError),
+        _ => block(alloc, network, line, &BlockBody::Refused(fault)),
+    }
+}
+
+/// The text of a late certificate for a line that is this query, or the block of the line where the search has more labels than the limit.
+fn certificate_text(
+    alloc: Global,
+    network: &Network,
+    limit: Option<u64>,
+    line: &[u8],
+    query: Query,
+) -> Result<Vec<u8>, AllocError>
     requires asks { IsQuery network.now query.line query.from query.to query.depart (form_of query.expr) }
     requires usable { IsUsable (form_of query.expr) }
     requires soon { query.depart < 2 ^ 64 }
-    requires line { IsLine query.line }
-    ensures { IfOk result (λ text. IsLateCertificateFor network.now query.line text.items) }
+    requires line { query.line ≡ line.now }
+    requires plain { IsLine line.now }
+    ensures { IfOk result (λ text. IsLateCertifiedWithin network.now limit line.now text.items) }
 {
-    let certificate = certify_late(alloc, network, query)?;
-    print_late(alloc, &certificate)
+    match certify_late_within(alloc, network, query, limit)? {
+        Limited::Ended(certificate) => print_late(alloc, &certificate),
+        Limited::Stopped(most) => stopped_block(alloc, line, most),
+    }
 }

@@ -7,7 +7,7 @@ mod laws;
 mod verifying;
 
 pub use answering::{few, latest, profile};
-pub use certifying::{certified_late, certify_latest};
+pub use certifying::{certified_late_within, certify_latest};
 pub use laws::{
     certify_latest_completes, few_completes, latest_completes, profile_completes,
     verify_latest_completes,

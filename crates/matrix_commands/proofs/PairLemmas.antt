@@ -18,7 +18,9 @@ use Rattle.mode_network.specs.NetworkLists.{NetworkLists}
 use Rattle.journey.specs.declared.query.Query.{Query}
 use Rattle.journey.specs.Shapes.{Shape, at_space, departs_on, endpoint_of, fields_of, is_filled, shape_of, shape_of_fields, time_at}
 use Rattle.journey.specs.Queries.{IsKnown, IsQuery}
-use Rattle.journey.specs.Best.{Asks}
+use Rattle.journey.specs.Best.{Asks, asked_by}
+use Rattle.journey.specs.Large.{IsSmall}
+use Rattle.journey.proofs.LargeLemmas.{same_size}
 use Rattle.planning.specs.Arrivals.{asked_to}
 use Rattle.matrix_commands.specs.Cells.{line_of}
 use Rattle.matrix_commands.specs.Working.{IsEnd, IsField}
@@ -92,8 +94,8 @@ module _ (date time expr : List ℕ) (date_field : IsField date) (time_field : I
 
 -- ---- what it asks
 
-pub pair_asks : (n : NetworkLists) (date time expr from to : List ℕ) (p q : Query) → IsEnd n date time expr from p → IsEnd n date time expr to q → Asks n (line_of date time expr from to) (asked_to p q)
-pair_asks n date time expr from to p q one other =
+pub pair_asks : (n : NetworkLists) (places : Option ℕ) (date time expr from to : List ℕ) (p q : Query) → IsEnd n places date time expr from p → IsEnd n places date time expr to q → Asks n (line_of date time expr from to) (asked_to p q)
+pair_asks n places date time expr from to p q one other =
     let a = subst (λ (line : List ℕ). IsQuery n line p.from p.to p.depart (form_of p.expr)) one.line_is one.read.asks in
     let b = subst (λ (line : List ℕ). IsQuery n line q.from q.to q.depart (form_of q.expr)) other.line_is other.read.asks in
     let x = shape_parts date time expr one.date_field one.time_field from from one.field one.field a.shape a.reaches.departs.shape_is in
@@ -114,6 +116,12 @@ pair_asks n date time expr from to p q one other =
       to_is = refl;
       expression = subst (λ (text : List ℕ). IsExpression text (form_of p.expr)) x.expr_is a.expression;
     }
+
+-- its expression is that of the one, so it has no more places than are allowed
+pub pair_small : (n : NetworkLists) (places : Option ℕ) (date time expr from to : List ℕ) (p q : Query) → IsEnd n places date time expr from p → IsEnd n places date time expr to q
+    → IsSmall n places (line_of date time expr from to)
+pair_small n places date time expr from to p q one other =
+    same_size n places p.line (line_of date time expr from to) (asked_by p) (asked_to p q) one.read.asks (pair_asks n places date time expr from to p q one other) refl one.small
 
 -- ---- how a query line is put together, and lines that ask as both ends
 

@@ -11,11 +11,11 @@ use Rattle.run_steps.specs.Sayings.{Saying, OnFile}
 use Rattle.matrix_commands.specs.Rows.{AreRowsOf}
 
 -- the destinations file is read whole, and the rows of each line of the origins file, one for each line of destinations, are written as it is read
-abbrev pub WritesTable : NetworkLists → (origins destinations date time expr : List ℕ) → Saying
-WritesTable n origins destinations date time expr =
-    OnFile Destinations destinations (λ bytes. AnswersFile Origins origins (AreRowsOf n (query_lines bytes) date time expr))
+abbrev pub WritesTable : NetworkLists → (places : Option ℕ) → (origins destinations date time expr : List ℕ) → Saying
+WritesTable n places origins destinations date time expr =
+    OnFile Destinations destinations (λ bytes. AnswersFile Origins origins (AreRowsOf n places (query_lines bytes) date time expr))
 
--- `matrix` writes a table of times
-abbrev pub SaysMatrix : Caps → (region origins destinations date time expr : List ℕ) → Option (List ℕ) → Saying
-SaysMatrix caps region origins destinations date time expr hierarchy =
-    OnRegion caps region (λ n. OnHierarchyIfNamed n hierarchy (λ h. WritesTable n origins destinations date time expr))
+-- `matrix` writes a table of times, of expressions with at most so many places
+abbrev pub SaysMatrix : Caps → (places : Option ℕ) → (region origins destinations date time expr : List ℕ) → Option (List ℕ) → Saying
+SaysMatrix caps places region origins destinations date time expr hierarchy =
+    OnRegion caps region (λ n. OnHierarchyIfNamed n hierarchy (λ h. WritesTable n places origins destinations date time expr))

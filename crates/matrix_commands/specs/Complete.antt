@@ -11,5 +11,5 @@ CanMatrix caps files region origins destinations hierarchy =
 
 -- where that can be done which is asked for, and no count of faults rose, all of it is done, unless memory ran out
 abbrev pub MatrixCompletes : Type 0
-MatrixCompletes = (caps : Caps) (files : Files) (region origins destinations date time expr : List ℕ) (hierarchy : Option (List ℕ))
-    → Completes files (CanMatrix caps files region origins destinations hierarchy) (SaysMatrix caps region origins destinations date time expr hierarchy)
+MatrixCompletes = (caps : Caps) (places : Option ℕ) (files : Files) (region origins destinations date time expr : List ℕ) (hierarchy : Option (List ℕ))
+    → Completes files (CanMatrix caps files region origins destinations hierarchy) (SaysMatrix caps places region origins destinations date time expr hierarchy)

@@ -1,5 +1,5 @@
 -- The rows of a table of times: one for each origin and each destination.
-use Rattle.std.specs.Prelude.{◌≡◌, ℕ, List, ◌∷◌, ◌++◌}
+use Rattle.std.specs.Prelude.{◌≡◌, ℕ, List, ◌∷◌, ◌++◌, Option}
 use Rattle.plain_texts.specs.Lines.{with_feed}
 use Rattle.mode_network.specs.NetworkLists.{NetworkLists}
 use Rattle.run_steps.specs.Blocks.{AreBlocks}
@@ -10,11 +10,11 @@ abbrev pub row_text : (from to value : List ℕ) → List ℕ
 row_text from to value = with_feed (from ++ 9 ∷ to ++ 9 ∷ value)
 
 -- the row of an origin and a destination
-pub record IsRow (n : NetworkLists) (date time expr from to row : List ℕ) : Type 0 where
+pub record IsRow (n : NetworkLists) (places : Option ℕ) (date time expr from to row : List ℕ) : Type 0 where
   pub value : List ℕ
-  pub is : IsCell n (line_of date time expr from to) value
+  pub is : IsCell n places (line_of date time expr from to) value
   pub row_is : row ≡ row_text from to value
 
 -- the rows of an origin: one for each destination, in order
-abbrev pub AreRowsOf : NetworkLists → (destinations : List (List ℕ)) → (date time expr from rows : List ℕ) → Type 0
-AreRowsOf n destinations date time expr from rows = AreBlocks (IsRow n date time expr from) destinations rows
+abbrev pub AreRowsOf : NetworkLists → (places : Option ℕ) → (destinations : List (List ℕ)) → (date time expr from rows : List ℕ) → Type 0
+AreRowsOf n places destinations date time expr from rows = AreBlocks (IsRow n places date time expr from) destinations rows

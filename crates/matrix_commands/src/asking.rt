@@ -4,16 +4,18 @@ ghost use Rattle.std.specs.Prelude.{◌≡◌, ◌∷◌, ◌++◌, ◌==◌, �
 ghost use Rattle.matrix_commands.specs.Cells.{line_of};
 ghost use Rattle.matrix_commands.specs.Working.{AreEnds, IsEndIfAny, IsField};
 
-use journey::{Query, QueryFault, read_query};
+use journey::{Query, QueryFault, large_places, read_query};
 use mode_network::Network;
 use std::alloc::{AllocError, Global};
 
-/// What is asked of each origin and each destination: the last three fields of their query line.
+/// What is asked of each origin and each destination: the last three fields of their query line, and how many places the
+/// expression may have, where that is limited.
 #[derive(Clone, Copy)]
 pub struct Asking<'a> {
     pub date: &'a str,
     pub time: &'a str,
     pub expr: &'a str,
+    pub places: Option<u32>,
 }
 
 impl Asking<'_> {
@@ -70,20 +72,23 @@ fn space_at(text: &[u8]) -> Option<usize>
 }
 
 /// The query of the line that has this line at both ends, if it is one, and if this line, the date and the time are one
-/// field each. Then the query line of two such lines asks what theirs ask: from the one, to the other.
+/// field each and the expression has no more places than are allowed. Then the query line of two such lines asks what theirs ask: from the one, to the other.
 pub(crate) fn read_end(
     alloc: Global,
     network: &Network,
     asking: &Asking<'_>,
     line: &[u8],
 ) -> Result<Option<Query>, AllocError>
-    ensures { IfOk result (IsEndIfAny network.now asking.now.date.now asking.now.time.now asking.now.expr.now
+    ensures { IfOk result (IsEndIfAny network.now asking.now.places asking.now.date.now asking.now.time.now asking.now.expr.now
         line.now) }
 {
     if !asking.is_apart(line) {
         return Ok(None);
     }
     let both = asking.line_of(alloc, line, line)?;
+    if large_places(alloc, network, asking.places, &both)?.is_some() {
+        return Ok(None);
+    }
     match read_query(alloc, network, &both) {
         Ok(query) => Ok(Some(query)),
         Err(QueryFault::OutOfMemory) => Err(AllocError),
@@ -98,7 +103,7 @@ pub(crate) fn read_ends(
     asking: &Asking<'_>,
     lines: &[&[u8]],
 ) -> Result<Vec<Option<Query>>, AllocError>
-    ensures { IfOk result (λ queries. AreEnds network.now asking.now.date.now asking.now.time.now asking.now.expr.now
+    ensures { IfOk result (λ queries. AreEnds network.now asking.now.places asking.now.date.now asking.now.time.now asking.now.expr.now
         (map (λ line. line.now) lines.now) queries.items) }
 {
     let mut queries = Vec::new(alloc);

@@ -8,7 +8,7 @@ ghost use Rattle.matrix_commands.specs.Rows.{row_text};
 ghost use Rattle.matrix_commands.specs.Working.{timed};
 
 use hierarchy::Hierarchy;
-use journey::{QueryFault, push_refusal, read_query};
+use journey::{QueryFault, large_places, push_refusal, read_query};
 use mode_network::Network;
 use plain_texts::{push_decimal, push_line_feed};
 use plan_base::Time;
@@ -27,17 +27,22 @@ pub enum Cell {
     Refused(QueryFault),
 }
 
-/// The right cell for a query line, by a search of its own. The search uses the workspace.
+/// The right cell for a query line whose expression may have so many places, by a search of its own. The search uses the
+/// workspace.
 pub(crate) fn cell_of(
     alloc: Global,
     workspace: &mut Workspace,
     network: &Network,
     hierarchy: Option<&Hierarchy>,
+    most: Option<u32>,
     line: &[u8],
 ) -> Result<Cell, AllocError>
     requires { IfSome hierarchy (λ h. IsSound network.now h.now) }
-    ensures { IfOk result (IsRightCell network.now line.now) }
+    ensures { IfOk result (IsRightCell network.now most line.now) }
 {
+    if let Some(places) = large_places(alloc, network, most, line)? {
+        return Ok(Cell::Refused(QueryFault::TooLarge { places }));
+    }
     let query = match read_query(alloc, network, line) {
         Ok(query) => query,
         Err(QueryFault::OutOfMemory) => return Err(AllocError),

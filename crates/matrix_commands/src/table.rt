@@ -126,6 +126,13 @@ impl Table<'_> {
     {
         let line = self.asking.line_of(alloc, from, to)?;
         let ends = self.destinations;
-        cell_of(alloc, workspace, ends.network, ends.hierarchy, &line)
+        cell_of(
+            alloc,
+            workspace,
+            ends.network,
+            ends.hierarchy,
+            self.asking.places,
+            &line,
+        )
     }
 }

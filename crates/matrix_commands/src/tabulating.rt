@@ -38,7 +38,7 @@ pub fn matrix<F: Shelf, O: Sink, E: Sink>(
     asking: &Asking<'_>,
     caps: &Caps,
 ) -> Result<(), Outcome>
-    ensures { SaysMatrix caps.now files.now.region.now files.now.origins.now files.now.destinations.now
+    ensures { SaysMatrix caps.now asking.now.places files.now.region.now files.now.origins.now files.now.destinations.now
         asking.now.date.now asking.now.time.now asking.now.expr.now (option_map (λ it. it.now) files.now.hierarchy)
         (scene (F.meaning ports.old.shelf) (O.meaning ports.old.out))
         (scene (F.meaning ports.new.shelf) (O.meaning ports.new.out)) (end_of result) }
@@ -58,7 +58,7 @@ fn write_table<F: Shelf, O: Sink, E: Sink>(
     asking: &Asking<'_>,
 ) -> Result<(), Outcome>
     requires { IfSome hierarchy (λ h. IsSound network.now h.now) }
-    ensures { WritesTable network.now files.now.origins.now files.now.destinations.now
+    ensures { WritesTable network.now asking.now.places files.now.origins.now files.now.destinations.now
         asking.now.date.now asking.now.time.now asking.now.expr.now
         (scene (F.meaning ports.old.shelf) (O.meaning ports.old.out))
         (scene (F.meaning ports.new.shelf) (O.meaning ports.new.out)) (end_of result) }
@@ -84,7 +84,7 @@ fn write_rows<F: Shelf, O: Sink, E: Sink>(
     origins: &str,
 ) -> Result<(), Outcome>
     requires { IfSome hierarchy (λ h. IsSound network.now h.now) }
-    ensures { AnswersFile Origins origins.now (AreRowsOf network.now (query_lines bytes.now)
+    ensures { AnswersFile Origins origins.now (AreRowsOf network.now asking.now.places (query_lines bytes.now)
         asking.now.date.now asking.now.time.now asking.now.expr.now)
         (scene (F.meaning ports.old.shelf) (O.meaning ports.old.out))
         (scene (F.meaning ports.new.shelf) (O.meaning ports.new.out)) (end_of result) }

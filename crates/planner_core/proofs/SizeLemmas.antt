@@ -6,7 +6,7 @@ use Rattle.clap.specs.Words.{Row, first_of, subcommand_of}
 use Rattle.mode_network.proofs.RuleLemmas.{both}
 use Rattle.region_file.specs.declared.format.Format.TheVariants.{Binary}
 use Rattle.command_line.specs.Description.{modeplan}
-use Rattle.command_words.specs.Requests.{Request, AsksFor, number_of, size_of, format_or, keep_or_none, commands, request_at, two_at, days_and_format_at, compile_at, migrate_at, contract_at, check_at, sample_at, answer_at, certify_at, verify_at, few_at, latest_at, certify_latest_at, verify_latest_at, asking_at, profile_at, matrix_at, requests_at, window_or_two_hours, compile, migrate, contract, answer, certify, verify, check, sample, latest, certify_latest, verify_latest, few, profile, matrix, requests}
+use Rattle.command_words.specs.Requests.{Request, AsksFor, number_of, size_of, format_or, keep_or_none, commands, request_at, two_at, days_and_format_at, compile_at, migrate_at, contract_at, check_at, sample_at, answer_at, certify_at, verify_at, few_at, latest_at, certify_latest_at, verify_latest_at, asking_at, limits_at, places_at, profile_at, matrix_at, requests_at, window_or_two_hours, compile, migrate, contract, answer, certify, verify, check, sample, latest, certify_latest, verify_latest, few, profile, matrix, requests}
 use Rattle.planner_core.specs.Working.{HasSize}
 
 in_range : (n size : ℕ) (fits : Bool) → nat_le 1 n && nat_le n 300 ≡ fits → (if fits then Some n else None) ≡ Some size → (1 ≤ size) × (size ≤ 300)
@@ -57,42 +57,56 @@ sample_gives rows =
     (λ word. made (λ size. sample size) (size_of word) (λ size is. read_in_range (number_of word) size is))
 
 answer_gives : (rows : List Row) → GivesSize (answer_at rows)
-answer_gives rows = made (λ two. answer two.0 two.1 (first_of (codes "hierarchy") rows)) (two_at rows) (λ two is. tt)
+answer_gives rows =
+    made_of (λ two. option_map (λ most. answer two.0 two.1 (first_of (codes "hierarchy") rows) most.0 most.1) (limits_at rows)) (two_at rows)
+    (λ two. made (λ most. answer two.0 two.1 (first_of (codes "hierarchy") rows) most.0 most.1) (limits_at rows) (λ it is. tt))
 
 certify_gives : (rows : List Row) → GivesSize (certify_at rows)
-certify_gives rows = made (λ two. certify two.0 two.1 (first_of (codes "hierarchy") rows)) (two_at rows) (λ two is. tt)
+certify_gives rows =
+    made_of (λ two. option_map (λ most. certify two.0 two.1 (first_of (codes "hierarchy") rows) most.0 most.1) (limits_at rows)) (two_at rows)
+    (λ two. made (λ most. certify two.0 two.1 (first_of (codes "hierarchy") rows) most.0 most.1) (limits_at rows) (λ it is. tt))
 
 verify_gives : (rows : List Row) → GivesSize (verify_at rows)
 verify_gives rows = made (λ two. verify two.0 two.1 (first_of (codes "hierarchy") rows)) (two_at rows) (λ two is. tt)
 
 few_gives : (rows : List Row) → GivesSize (few_at rows)
-few_gives rows = made (λ two. few two.0 two.1) (two_at rows) (λ two is. tt)
+few_gives rows =
+    made_of (λ two. option_map (λ places. few two.0 two.1 places) (places_at rows)) (two_at rows)
+    (λ two. made (λ places. few two.0 two.1 places) (places_at rows) (λ it is. tt))
 
 latest_gives : (rows : List Row) → GivesSize (latest_at rows)
-latest_gives rows = made (λ two. latest two.0 two.1) (two_at rows) (λ two is. tt)
+latest_gives rows =
+    made_of (λ two. option_map (λ most. latest two.0 two.1 most.0 most.1) (limits_at rows)) (two_at rows)
+    (λ two. made (λ most. latest two.0 two.1 most.0 most.1) (limits_at rows) (λ it is. tt))
 
 certify_latest_gives : (rows : List Row) → GivesSize (certify_latest_at rows)
-certify_latest_gives rows = made (λ two. certify_latest two.0 two.1) (two_at rows) (λ two is. tt)
+certify_latest_gives rows =
+    made_of (λ two. option_map (λ most. certify_latest two.0 two.1 most.0 most.1) (limits_at rows)) (two_at rows)
+    (λ two. made (λ most. certify_latest two.0 two.1 most.0 most.1) (limits_at rows) (λ it is. tt))
 
 verify_latest_gives : (rows : List Row) → GivesSize (verify_latest_at rows)
 verify_latest_gives rows = made (λ two. verify_latest two.0 two.1) (two_at rows) (λ two is. tt)
 
 profile_gives : (rows : List Row) → GivesSize (profile_at rows)
 profile_gives rows =
-    made_of (λ two. option_map (λ window. profile two.0 two.1 window) (window_or_two_hours (first_of (codes "window") rows))) (two_at rows)
-    (λ two. made (λ window. profile two.0 two.1 window) (window_or_two_hours (first_of (codes "window") rows)) (λ window is. tt))
+    made_of (λ two. option_and_then (λ window. option_map (λ places. profile two.0 two.1 window places) (places_at rows)) (window_or_two_hours (first_of (codes "window") rows))) (two_at rows)
+    (λ two. made_of (λ window. option_map (λ places. profile two.0 two.1 window places) (places_at rows)) (window_or_two_hours (first_of (codes "window") rows))
+    (λ window. made (λ places. profile two.0 two.1 window places) (places_at rows) (λ it is. tt)))
 
-abbrev table_of : List Row → List ℕ × List ℕ → List ℕ → List ℕ × List ℕ × List ℕ → Request
-table_of rows two to asking = matrix two.0 two.1 to asking.0 asking.1 asking.2 (first_of (codes "hierarchy") rows)
+abbrev table_of : List Row → List ℕ × List ℕ → List ℕ → List ℕ × List ℕ × List ℕ → Option ℕ → Request
+table_of rows two to asking places = matrix two.0 two.1 to asking.0 asking.1 asking.2 (first_of (codes "hierarchy") rows) places
 
 matrix_gives : (rows : List Row) → GivesSize (matrix_at rows)
 matrix_gives rows =
-    made_of (λ two. option_and_then (λ to. option_map (table_of rows two to) (asking_at rows)) (first_of (codes "third") rows)) (two_at rows)
-    (λ two. made_of (λ to. option_map (table_of rows two to) (asking_at rows)) (first_of (codes "third") rows)
-    (λ to. made (table_of rows two to) (asking_at rows) (λ it is. tt)))
+    made_of (λ two. option_and_then (λ to. option_and_then (λ asking. option_map (table_of rows two to asking) (places_at rows)) (asking_at rows)) (first_of (codes "third") rows)) (two_at rows)
+    (λ two. made_of (λ to. option_and_then (λ asking. option_map (table_of rows two to asking) (places_at rows)) (asking_at rows)) (first_of (codes "third") rows)
+    (λ to. made_of (λ asking. option_map (table_of rows two to asking) (places_at rows)) (asking_at rows)
+    (λ asking. made (table_of rows two to asking) (places_at rows) (λ it is. tt))))
 
 requests_gives : (rows : List Row) → GivesSize (requests_at rows)
-requests_gives rows = made (λ two. requests two.0 two.1 (first_of (codes "hierarchy") rows)) (two_at rows) (λ two is. tt)
+requests_gives rows =
+    made_of (λ two. option_map (λ most. requests two.0 two.1 (first_of (codes "hierarchy") rows) most.0 most.1) (limits_at rows)) (two_at rows)
+    (λ two. made (λ most. requests two.0 two.1 (first_of (codes "hierarchy") rows) most.0 most.1) (limits_at rows) (λ it is. tt))
 
 abbrev GiveSizes : List (List ℕ × (List Row → Option Request)) → Type 0
 GiveSizes [] = ⊤

@@ -19,15 +19,15 @@ abbrev pub says : Caps → Request → Saying
 says caps (compile map feed days format) = SaysCompile caps map feed days format
 says caps (migrate region format) = SaysMigrate caps region format
 says caps (contract region keep) = SaysContract caps region keep
-says caps (answer region queries hierarchy) = SaysAnswer caps region queries hierarchy
-says caps (certify region query hierarchy) = SaysCertify caps region query hierarchy
+says caps (answer region queries hierarchy labels places) = SaysAnswer caps (record { places = places; labels = labels }) region queries hierarchy
+says caps (certify region query hierarchy labels places) = SaysCertify caps (record { places = places; labels = labels }) region query hierarchy
 says caps (verify region certificate hierarchy) = SaysVerify caps region certificate hierarchy
 says caps (check region hierarchy) = SaysCheck caps region hierarchy
 says caps (sample size) = SaysSample size
-says caps (latest region queries) = SaysLatest caps region queries
-says caps (certify_latest region query) = SaysCertifyLatest caps region query
+says caps (latest region queries labels places) = SaysLatest caps (record { places = places; labels = labels }) region queries
+says caps (certify_latest region query labels places) = SaysCertifyLatest caps (record { places = places; labels = labels }) region query
 says caps (verify_latest region certificate) = SaysVerifyLatest caps region certificate
-says caps (few region queries) = SaysFew caps region queries
-says caps (profile region queries window) = SaysProfile caps region queries window
-says caps (matrix region origins destinations date time expr hierarchy) = SaysMatrix caps region origins destinations date time expr hierarchy
-says caps (requests region lines hierarchy) = SaysRequests caps region lines hierarchy
+says caps (few region queries places) = SaysFew caps places region queries
+says caps (profile region queries window places) = SaysProfile caps places region queries window
+says caps (matrix region origins destinations date time expr hierarchy places) = SaysMatrix caps places region origins destinations date time expr hierarchy
+says caps (requests region lines hierarchy labels places) = SaysRequests caps (record { places = places; labels = labels }) region lines hierarchy

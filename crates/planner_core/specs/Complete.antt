@@ -16,18 +16,18 @@ abbrev pub CanBeDone : Caps → Files → Request → Type 0
 CanBeDone caps files (compile map feed days format) = IsHeld files map (SpellsObjects caps (λ objects. IsFeedHeld caps files feed (GivesRegion caps objects days)))
 CanBeDone caps files (migrate region format) = IsHeld files region (SpellsNetwork caps (λ n. Unit {0}))
 CanBeDone caps files (contract region keep) = CanContract caps files region keep
-CanBeDone caps files (answer region queries hierarchy) = CanAnswer caps files region queries hierarchy
-CanBeDone caps files (certify region query hierarchy) = CanCertify caps files region query hierarchy
+CanBeDone caps files (answer region queries hierarchy labels places) = CanAnswer caps files region queries hierarchy
+CanBeDone caps files (certify region query hierarchy labels places) = CanCertify caps files region query hierarchy
 CanBeDone caps files (verify region certificate hierarchy) = CanVerify caps files region certificate hierarchy
 CanBeDone caps files (check region hierarchy) = CanCheck caps files region hierarchy
 CanBeDone caps files (sample size) = Unit {0}
-CanBeDone caps files (latest region queries) = CanLatest caps files region queries
-CanBeDone caps files (certify_latest region query) = CanCertifyLatest caps files region query
+CanBeDone caps files (latest region queries labels places) = CanLatest caps files region queries
+CanBeDone caps files (certify_latest region query labels places) = CanCertifyLatest caps files region query
 CanBeDone caps files (verify_latest region certificate) = CanVerifyLatest caps files region certificate
-CanBeDone caps files (few region queries) = CanFew caps files region queries
-CanBeDone caps files (profile region queries window) = CanProfile caps files region queries
-CanBeDone caps files (matrix region origins destinations date time expr hierarchy) = CanMatrix caps files region origins destinations hierarchy
-CanBeDone caps files (requests region lines hierarchy) = CanRequests caps files region lines hierarchy
+CanBeDone caps files (few region queries places) = CanFew caps files region queries
+CanBeDone caps files (profile region queries window places) = CanProfile caps files region queries
+CanBeDone caps files (matrix region origins destinations date time expr hierarchy places) = CanMatrix caps files region origins destinations hierarchy
+CanBeDone caps files (requests region lines hierarchy labels places) = CanRequests caps files region lines hierarchy
 
 -- where the words ask for something, all of it can be done, and no count of faults rose, all of it is done, unless memory ran out
 abbrev pub IsComplete : Caps → List (List ℕ) → Saying

@@ -19,7 +19,7 @@ use late_commands::{certify_latest, few, latest, profile, verify_latest};
 use matrix_commands::{Asking, TableFiles, matrix};
 use plan_base::{Caps, Shelf, Sink, write_all};
 use request_commands::requests;
-use run_steps::{Outcome, Ports, tell};
+use run_steps::{Limits, Outcome, Ports, tell};
 use sample_command::sample;
 use std::alloc::Global;
 
@@ -47,12 +47,22 @@ fn carry_out<F: Shelf, O: Sink, E: Sink>(
             region,
             queries,
             hierarchy,
-        } => answer(ports, region, queries, hierarchy, caps),
+            places,
+            labels,
+        } => {
+            let limits = Limits { places, labels };
+            answer(ports, region, queries, hierarchy, limits, caps)
+        }
         Command::Certify {
             region,
             query,
             hierarchy,
-        } => certify(ports, region, query, hierarchy, caps),
+            places,
+            labels,
+        } => {
+            let limits = Limits { places, labels };
+            certify(ports, region, query, hierarchy, limits, caps)
+        }
         Command::Verify {
             region,
             certificate: file,
@@ -62,18 +72,33 @@ fn carry_out<F: Shelf, O: Sink, E: Sink>(
         Command::Sample { size } => {
             sample(ports.alloc, size, &mut ports.out, &mut ports.notes, caps)
         },
-        Command::Latest { region, queries } => { latest(ports, region, queries, caps) }
-        Command::CertifyLatest { region, query } => { certify_latest(ports, region, query, caps) }
+        Command::Latest {
+            region,
+            queries,
+            places,
+            labels,
+        } => latest(ports, region, queries, Limits { places, labels }, caps),
+        Command::CertifyLatest {
+            region,
+            query,
+            places,
+            labels,
+        } => certify_latest(ports, region, query, Limits { places, labels }, caps),
         Command::VerifyLatest {
             region,
             certificate,
         } => verify_latest(ports, region, certificate, caps),
-        Command::Few { region, queries } => few(ports, region, queries, caps),
+        Command::Few {
+            region,
+            queries,
+            places,
+        } => few(ports, region, queries, places, caps),
         Command::Profile {
             region,
             queries,
             window,
-        } => profile(ports, region, queries, window, caps),
+            places,
+        } => profile(ports, region, queries, window, places, caps),
         Command::Matrix {
             region,
             origins,
@@ -82,6 +107,7 @@ fn carry_out<F: Shelf, O: Sink, E: Sink>(
             time,
             expr,
             hierarchy,
+            places,
         } => {
             let files = TableFiles {
                 region,
@@ -89,13 +115,24 @@ fn carry_out<F: Shelf, O: Sink, E: Sink>(
                 destinations,
                 hierarchy,
             };
-            matrix(ports, &files, &Asking { date, time, expr }, caps)
+            let asking = Asking {
+                date,
+                time,
+                expr,
+                places,
+            };
+            matrix(ports, &files, &asking, caps)
         }
         Command::Requests {
             region,
             lines,
             hierarchy,
-        } => requests(ports, region, lines, hierarchy, caps),
+            places,
+            labels,
+        } => {
+            let limits = Limits { places, labels };
+            requests(ports, region, lines, hierarchy, limits, caps)
+        }
     }
 }
 

@@ -5,5 +5,5 @@ use Rattle.run_steps.proofs.TurnComplete.{answers_completes}
 use Rattle.request_commands.specs.Complete.{RequestsCompletes}
 
 pub requests_completes : RequestsCompletes
-requests_completes caps files region file hierarchy =
+requests_completes caps limits files region file hierarchy =
     file_completes files _ region _ _ (network_completes files caps _ _ (λ n rules. named_completes files n hierarchy _ _ (λ h sound. answers_completes files _ file _)))

@@ -3,11 +3,13 @@ use Rattle.std.specs.Prelude.{ℕ, List, Option}
 use Rattle.plan_base.specs.declared.limits.Caps.{Caps}
 use Rattle.hierarchy_commands.specs.Commands.{OnHierarchyIfNamed}
 use Rattle.run_steps.specs.declared.outcome.FileRole.TheVariants.{Requests}
+use Rattle.run_steps.specs.declared.limits.Limits.{Limits}
 use Rattle.run_steps.specs.InTurn.{AnswersFile}
 use Rattle.run_steps.specs.Regions.{OnRegion}
 use Rattle.run_steps.specs.Sayings.{Saying}
 use Rattle.request_commands.specs.Requests.{IsReply}
 
--- `requests` writes the right reply to each line of a file, in order and as it is read
-abbrev pub SaysRequests : Caps → List ℕ → List ℕ → Option (List ℕ) → Saying
-SaysRequests caps region file hierarchy = OnRegion caps region (λ n. OnHierarchyIfNamed n hierarchy (λ h. AnswersFile Requests file (IsReply n h)))
+-- `requests` writes the right reply within the limits to each line of a file, in order and as it is read
+abbrev pub SaysRequests : Caps → Limits → List ℕ → List ℕ → Option (List ℕ) → Saying
+SaysRequests caps limits region file hierarchy =
+    OnRegion caps region (λ n. OnHierarchyIfNamed n hierarchy (λ h. AnswersFile Requests file (IsReply n h limits)))

@@ -2,6 +2,7 @@
 use Rattle.std.specs.Prelude.{ℕ, List, Option}
 use Rattle.plan_base.specs.declared.limits.Caps.{Caps}
 use Rattle.hierarchy_commands.specs.Complete.{IsSoundIfNamed}
+use Rattle.run_steps.specs.declared.limits.Limits.{Limits}
 use Rattle.run_steps.specs.Complete.{Files, AreLinesHeld, IsHeld, SpellsNetwork, Completes}
 use Rattle.request_commands.specs.Commands.{SaysRequests}
 
@@ -10,5 +11,5 @@ CanRequests caps files region file hierarchy = IsHeld files region (SpellsNetwor
 
 -- where that can be done which is asked for, and no count of faults rose, all of it is done, unless memory ran out
 abbrev pub RequestsCompletes : Type 0
-RequestsCompletes = (caps : Caps) (files : Files) (region file : List ℕ) (hierarchy : Option (List ℕ))
-    → Completes files (CanRequests caps files region file hierarchy) (SaysRequests caps region file hierarchy)
+RequestsCompletes = (caps : Caps) (limits : Limits) (files : Files) (region file : List ℕ) (hierarchy : Option (List ℕ))
+    → Completes files (CanRequests caps files region file hierarchy) (SaysRequests caps limits region file hierarchy)

@@ -5,12 +5,14 @@ use Rattle.mode_network.specs.NetworkLists.{NetworkLists}
 use Rattle.hierarchy.specs.Lists.{HierarchyLists}
 use Rattle.journey.specs.Shapes.{at_space}
 use Rattle.journey.specs.Texts.{block_text}
-use Rattle.journey.specs.Best.{IsBlock}
+use Rattle.journey.specs.Large.{IsBlockUnder}
 use Rattle.few_boardings.specs.Blocks.{IsFewBlock}
-use Rattle.latest_departure.specs.Blocks.{IsLateBlock}
 use Rattle.departures.specs.Blocks.{IsProfileBlock}
-use Rattle.answer_commands.specs.Outputs.{IsCertified}
-use Rattle.late_commands.specs.Outputs.{IsLateCertified}
+use Rattle.planning.specs.Limits.{IsBlockWithin}
+use Rattle.latest_departure.specs.Limits.{IsLateBlockWithin}
+use Rattle.answer_commands.specs.Outputs.{IsCertifiedWithin}
+use Rattle.late_commands.specs.Outputs.{IsLateCertifiedWithin}
+use Rattle.run_steps.specs.declared.limits.Limits.{Limits}
 use Rattle.command_words.specs.Requests.{window_of}
 use Rattle.request_commands.specs.declared.asked.LineCommand.{LineCommand}
 use Rattle.request_commands.specs.declared.asked.LineCommand.TheVariants.{Answer, Few, Latest, Profile, Certify, CertifyLatest}
@@ -38,20 +40,24 @@ asked_for (name, words) =
 unfoldable pub asked_by : List ℕ → Option (LineCommand × List ℕ)
 asked_by line = option_and_then asked_for (at_space line)
 
--- what the command writes for the query line, over the hierarchy where one is given
-abbrev pub IsReplyOf : NetworkLists → Option HierarchyLists → LineCommand → List ℕ → List ℕ → Type 0
-IsReplyOf n h Answer line reply = IsBlock n line reply
-IsReplyOf n h Few line reply = IsFewBlock n line reply
-IsReplyOf n h Latest line reply = IsLateBlock n line reply
-IsReplyOf n h (Profile window) line reply = IsProfileBlock n window line reply
-IsReplyOf n h Certify line reply = IsCertified n h line reply
-IsReplyOf n h CertifyLatest line reply = IsLateCertified n line reply
+-- what the command writes for the query line, over the hierarchy where one is given, where its search may have so many labels
+abbrev pub IsReplyWithin : NetworkLists → Option HierarchyLists → (labels : Option ℕ) → LineCommand → List ℕ → List ℕ → Type 0
+IsReplyWithin n h labels Answer line reply = IsBlockWithin n h labels line reply
+IsReplyWithin n h labels Few line reply = IsFewBlock n line reply
+IsReplyWithin n h labels Latest line reply = IsLateBlockWithin n labels line reply
+IsReplyWithin n h labels (Profile window) line reply = IsProfileBlock n window line reply
+IsReplyWithin n h labels Certify line reply = IsCertifiedWithin n h labels line reply
+IsReplyWithin n h labels CertifyLatest line reply = IsLateCertifiedWithin n labels line reply
+
+-- and its expression may have so many places
+abbrev pub IsReplyOf : NetworkLists → Option HierarchyLists → Limits → LineCommand → List ℕ → List ℕ → Type 0
+IsReplyOf n h limits command line reply = IsBlockUnder n limits.places (IsReplyWithin n h limits.labels command) line reply
 
 -- the reply to what a line asks for; one that names no command is refused
-abbrev pub IsReplyTo : NetworkLists → Option HierarchyLists → List ℕ → Option (LineCommand × List ℕ) → List ℕ → Type 0
-IsReplyTo n h line None reply = reply ≡ block_text line (with_feed (codes "refused command"))
-IsReplyTo n h line (Some asked) reply = IsReplyOf n h asked.0 asked.1 reply
+abbrev pub IsReplyTo : NetworkLists → Option HierarchyLists → Limits → List ℕ → Option (LineCommand × List ℕ) → List ℕ → Type 0
+IsReplyTo n h limits line None reply = reply ≡ block_text line (with_feed (codes "refused command"))
+IsReplyTo n h limits line (Some asked) reply = IsReplyOf n h limits asked.0 asked.1 reply
 
 -- the right reply to a line
-abbrev pub IsReply : NetworkLists → Option HierarchyLists → List ℕ → List ℕ → Type 0
-IsReply n h line reply = IsReplyTo n h line (asked_by line) reply
+abbrev pub IsReply : NetworkLists → Option HierarchyLists → Limits → List ℕ → List ℕ → Type 0
+IsReply n h limits line reply = IsReplyTo n h limits line (asked_by line) reply

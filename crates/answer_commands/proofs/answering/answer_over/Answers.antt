@@ -2,10 +2,9 @@ use Rattle.std.proofs.Common.{◌∙◌, inl, inr, Bor, sym}
 use Rattle.std.proofs.lemmas.Result.{err_from_is_err_and}
 use Rattle.std.specs.Prelude.{option_map}
 use Rattle.hierarchy.specs.declared.hierarchy.Hierarchy.{Hierarchy}
-use Rattle.run_steps.specs.QueryLines.{query_lines}
 use Rattle.run_steps.specs.Scene.{scene}
 use Rattle.answer_commands.proofs.LentLemmas.{lent_same}
-use Rattle.answer_commands.proofs.SettledLemmas.{counted_settled, none_settled, settled_ends, unmade_settled}
+use Rattle.answer_commands.proofs.SettledLemmas.{none_settled, settled_ends, unmade_settled}
 use Rattle.answer_commands.proofs.answering.answer_over.Goals as goal
 
 pub returns-in_err-settled : goal.returns-in_err-settled
@@ -19,7 +18,7 @@ returns-in_default g c =
     let shelf = g.F.Shelf.meaning c.write_in_turn.new.ports.shelf in
     let mid = g.O.Sink.meaning c.write_in_turn.new.ports.out in
     let some = lent_same c.args.hierarchy ∙ (sym c.is_some.ensures ∙ c.if-is_some.true) in
-    inr (done.0, scene shelf mid, done.1, unmade_settled c.args.network.now shelf mid done.0 (option_map (λ (x : Bor Hierarchy). x.now) c.args.hierarchy) some)
+    inr (done.0, scene shelf mid, done.1, unmade_settled c.args.network.now c.args.limits shelf mid done.0 (option_map (λ (x : Bor Hierarchy). x.now) c.args.hierarchy) some)
 
 pub returns-then-is_some : goal.returns-then-is_some
 returns-then-is_some g c =
@@ -34,7 +33,7 @@ returns-then-is_some g c =
       done.0,
       scene shelf mid,
       done.1,
-      settled_ends n shelf mid done.0 h some (g.O.Sink.meaning c.write_text.new.out) sum (counted_settled n h (query_lines done.0) sum done.2) c.write_text.result
+      settled_ends n c.args.limits shelf mid done.0 h some (g.O.Sink.meaning c.write_text.new.out) sum done.2 c.write_text.result
           (rw (← c.in-Ok.ensures, ← c.deref.ensures.value) c.write_text.ensures.ok) (rw (← c.in-Ok.ensures, ← c.deref.ensures.value) c.write_text.ensures.err),
     )
 
@@ -44,4 +43,4 @@ returns g c =
     let shelf = g.F.Shelf.meaning c.write_in_turn.new.ports.shelf in
     let mid = g.O.Sink.meaning c.write_in_turn.new.ports.out in
     let none = lent_same c.args.hierarchy ∙ (sym c.is_some.ensures ∙ c.if-is_some.false) in
-    inr (done.0, scene shelf mid, done.1, none_settled c.args.network.now shelf mid done.0 (option_map (λ (x : Bor Hierarchy). x.now) c.args.hierarchy) none)
+    inr (done.0, scene shelf mid, done.1, none_settled c.args.network.now c.args.limits shelf mid done.0 (option_map (λ (x : Bor Hierarchy). x.now) c.args.hierarchy) none)

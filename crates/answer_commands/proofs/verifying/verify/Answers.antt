@@ -1,4 +1,4 @@
-use Rattle.std.proofs.Common.{List, ℕ, Option, Bor, refl}
+use Rattle.std.proofs.Common.{List, ℕ, Option, Bor}
 use Rattle.std.proofs.lemmas.Result.{err_from_is_err_and}
 use Rattle.std.specs.Prelude.{option_map}
 use Rattle.plan_base.proofs.MoreWritten.{stays_so}

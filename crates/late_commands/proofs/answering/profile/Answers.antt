@@ -1,8 +1,29 @@
+use Rattle.std.proofs.Common.{subst}
+use Rattle.mode_network.specs.NetworkLists.{NetworkLists}
+use Rattle.journey.specs.Large.{IsBlockUnder}
+use Rattle.departures.specs.Blocks.{IsProfileBlock}
+use Rattle.run_steps.specs.declared.outcome.FileRole.TheVariants.{Queries}
+use Rattle.run_steps.specs.declared.outcome.Outcome.TheVariants.{Done}
+use Rattle.run_steps.specs.Scene.{scene}
+use Rattle.run_steps.specs.InTurn.{AnswersFile}
+use Rattle.run_steps.specs.Sayings.{Ends, end_of}
+use Rattle.run_steps.proofs.PieceLemmas.{stops_early}
 use Rattle.run_steps.proofs.Steps.{on_region}
 use Rattle.late_commands.proofs.answering.profile.Goals as goal
 
+pub returns-in_default : goal.returns-in_default
+returns-in_default g c =
+    let mid = g.F.Shelf.meaning c.read_region.new.shelf in
+    let out = g.O.Sink.meaning c.args.ports.now.out in
+    on_region (g.F.Shelf.meaning c.args.ports.now.shelf) mid mid out out c.args.region.now
+    c.args.caps.now _ c.in_ok-network.network c.in_ok-network.ensures.ok c.in_ok-network.ensures.later _ (stops_early Queries c.args.queries.now (IsBlockUnder c.in_ok-network.network c.args.places (IsProfileBlock c.in_ok-network.network c.args.window)) (λ bytes. Ends Done) mid out)
+
 pub returns : goal.returns
 returns g c =
-    on_region (g.F.Shelf.meaning c.args.ports.now.shelf) (g.F.Shelf.meaning c.read_region.new.shelf) (g.F.Shelf.meaning c.answer_file.new.ports.shelf)
-    (g.O.Sink.meaning c.args.ports.now.out) (g.O.Sink.meaning c.answer_file.new.ports.out) c.args.region.now
-    c.args.caps.now _ c.in_ok-network.network c.in_ok-network.ensures.ok c.in_ok-network.ensures.later _ c.answer_file.ensures
+    let mid = g.F.Shelf.meaning c.read_region.new.shelf in
+    let new = g.F.Shelf.meaning c.answer_file.new.ports.shelf in
+    let before = g.O.Sink.meaning c.args.ports.now.out in
+    let after = g.O.Sink.meaning c.answer_file.new.ports.out in
+    on_region (g.F.Shelf.meaning c.args.ports.now.shelf) mid new before after c.args.region.now
+    c.args.caps.now _ c.in_ok-network.network c.in_ok-network.ensures.ok c.in_ok-network.ensures.later _
+    (subst (λ (n : NetworkLists). AnswersFile Queries c.args.queries.now (IsBlockUnder n c.args.places (IsProfileBlock n c.args.window)) (scene mid before) (scene new after) (end_of c.answer_file.result)) c.in-Ok.ensures c.answer_file.ensures)

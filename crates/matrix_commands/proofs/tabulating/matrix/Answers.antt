@@ -11,8 +11,8 @@ use Rattle.matrix_commands.specs.Commands.{WritesTable}
 use Rattle.matrix_commands.proofs.tabulating.matrix.Goals as goal
 
 -- what is said behind the region and the hierarchy
-abbrev told : (origins destinations date time expr : List ℕ) → NetworkLists → Option HierarchyLists → Saying
-told origins destinations date time expr n h = WritesTable n origins destinations date time expr
+abbrev told : (places : Option ℕ) → (origins destinations date time expr : List ℕ) → NetworkLists → Option HierarchyLists → Saying
+told places origins destinations date time expr n h = WritesTable n places origins destinations date time expr
 
 pub write_table-requires : goal.write_table-requires
 write_table-requires g c = lent_sound c.in_ok-network.network c.as_ref.result c.in_ok-network.hierarchy c.as_ref.ensures.value c.in_ok-network.ensures.sound
@@ -26,7 +26,7 @@ returns-in_err-network g c =
     let asking = c.args.asking.now in
     rw (p.1, p.2)
     (both_fail c.args.caps.now (g.F.Shelf.meaning c.args.ports.now.shelf) new new out out files.region.now (option_map (λ (x : Bor (List ℕ)). x.now) files.hierarchy)
-    (told files.origins.now files.destinations.now asking.date.now asking.time.now asking.expr.now) _ c.in_err-network.ensures.err (stays_so out))
+    (told asking.places files.origins.now files.destinations.now asking.date.now asking.time.now asking.expr.now) _ c.in_err-network.ensures.err (stays_so out))
 
 pub returns : goal.returns
 returns g c =
@@ -35,5 +35,5 @@ returns g c =
     let files = c.args.files.now in
     let asking = c.args.asking.now in
     on_both c.args.caps.now (g.F.Shelf.meaning c.args.ports.now.shelf) mid new (g.O.Sink.meaning c.args.ports.now.out) (g.O.Sink.meaning c.write_table.new.ports.out) files.region.now
-    (option_map (λ (x : Bor (List ℕ)). x.now) files.hierarchy) (told files.origins.now files.destinations.now asking.date.now asking.time.now asking.expr.now)
+    (option_map (λ (x : Bor (List ℕ)). x.now) files.hierarchy) (told asking.places files.origins.now files.destinations.now asking.date.now asking.time.now asking.expr.now)
     c.in_ok-network.network c.in_ok-network.hierarchy c.in_ok-network.ensures.ok _ c.write_table.ensures

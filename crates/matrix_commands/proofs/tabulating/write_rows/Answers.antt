@@ -24,7 +24,7 @@ returns g c =
     let it = c.args.asking.now in
     let old = scene (g.F.Shelf.meaning c.args.ports.now.shelf) (g.O.Sink.meaning c.args.ports.now.out) in
     let new = scene (g.F.Shelf.meaning c.answer_file.new.ports.shelf) (g.O.Sink.meaning c.answer_file.new.ports.out) in
-    let said = λ (n : NetworkLists) (lines : List (List ℕ)). AnswersFile Origins c.args.origins.now (AreRowsOf n lines it.date.now it.time.now it.expr.now) old new (end_of c.answer_file.result) in
+    let said = λ (n : NetworkLists) (lines : List (List ℕ)). AnswersFile Origins c.args.origins.now (AreRowsOf n it.places lines it.date.now it.time.now it.expr.now) old new (end_of c.answer_file.result) in
     let lines = ap (map (λ (x : Bor (List ℕ)). x.now)) c.deref-3.ensures.value ∙ c.in-Ok.ensures in
     subst (λ (n : NetworkLists). said n (query_lines c.args.bytes.now)) c.in-Ok-new.ensures.network
     (subst (λ (ls : List (List ℕ)). said c.in-Ok-new.destinations.network.now ls) lines c.answer_file.ensures)

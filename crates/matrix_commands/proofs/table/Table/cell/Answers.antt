@@ -1,12 +1,12 @@
-use Rattle.std.proofs.Common.{Bor, ◌∙◌, ◌<◌, [], List, ℕ, Option, None, length, get_or, sym, subst, arith}
+use Rattle.std.proofs.Common.{inr, Bor, ◌∙◌, ◌<◌, [], List, ℕ, Option, None, length, get_or, sym, subst, arith}
 use Rattle.std.specs.Prelude.{IfOk}
 use Rattle.std.proofs.lemmas.List.{get_or_default, length-map}
 use Rattle.journey.specs.declared.query.Query.{Query}
 use Rattle.planning.specs.Arrivals.{IsArrivalTo, asked_to}
-use Rattle.matrix_commands.specs.Cells.{IsRightCell, line_of}
+use Rattle.matrix_commands.specs.Cells.{IsCellOf, line_of}
 use Rattle.matrix_commands.specs.Working.{HasArrivals, IsCellIn, IsEndIfAny, lines_in, timed}
 use Rattle.matrix_commands.proofs.CellLemmas.{timed_right}
-use Rattle.matrix_commands.proofs.PairLemmas.{line_at, pair_asks}
+use Rattle.matrix_commands.proofs.PairLemmas.{line_at, pair_asks, pair_small}
 use Rattle.matrix_commands.proofs.table.Table.cell.Goals as goal
 
 pub returns-in-Some-Some : goal.returns-in-Some-Some
@@ -26,12 +26,13 @@ returns-in-Some-Some c =
     let inside : k < length (lines_in t) = omega (arith, c.requires.place, length-map t.lines.now (λ (x : Bor (List ℕ)). x.now)) in
     let there : k < length queries = omega (arith, inside, ends.one_each) in
     let other_is = get_or_default queries k None c.index-self-k.result there ∙ c.in-Some-Some.is-1 in
-    let end = subst (λ (o : Option Query). IsEndIfAny n it.date.now it.time.now it.expr.now to o) other_is (ends.are k inside) in
+    let end = subst (λ (o : Option Query). IsEndIfAny n it.places it.date.now it.time.now it.expr.now to o) other_is (ends.are k inside) in
     let arrives = subst (λ (o : Option Query). IsArrivalTo n q o (get_or times k None)) other_is (has.1.are k there) in
     let line = line_of it.date.now it.time.now it.expr.now from to in
-    let right = timed_right n line (asked_to q other) (get_or times k None) (pair_asks n it.date.now it.time.now it.expr.now from to q other has.0 end) arrives in
+    let right = timed_right n line (asked_to q other) (get_or times k None) (pair_asks n it.places it.date.now it.time.now it.expr.now from to q other has.0 end) arrives in
     let time = get_or_default times k None c.index.result.now (omega (arith, there, has.1.one_each)) ∙ sym c.index.ensures in
-    rw c.timed.ensures (subst (λ (arrival : Option ℕ). IsRightCell n line (timed q.depart arrival)) time right)
+    let small = pair_small n it.places it.date.now it.time.now it.expr.now from to q other has.0 end in
+    rw c.timed.ensures (inr (small, subst (λ (arrival : Option ℕ). IsCellOf n line (timed q.depart arrival)) time right))
 
 pub returns-in_default : goal.returns-in_default
 returns-in_default c =

@@ -20,7 +20,7 @@ loop-k-preserved c =
     let to = get_or lines k [] in
     let cell = c.in_ok-cell.cell in
     let right = subst (λ (line : List ℕ). IsCellIn t line to cell) c.in_ok-origin.ensures.line c.in_ok-cell.ensures in
-    let more = rows_more n it.date.now it.time.now it.expr.now from (take k lines) to c.loop-k.rows.items cell c.loop-k.invariant right in
+    let more = rows_more n it.places it.date.now it.time.now it.expr.now from (take k lines) to c.loop-k.rows.items cell c.loop-k.invariant right in
     let rows = subst (λ (line : List ℕ). c.push_row.new.rows.items ≡ c.loop-k.rows.items ++ row_text from line (cell_text cell)) (sym (line_at t.lines.now k _ inside)) c.in_ok-push_row.ensures in
-    subst (λ (ls : List (List ℕ)). AreRowsOf n ls it.date.now it.time.now it.expr.now from c.push_row.new.rows.items) (sym (take_more lines k [] lt))
-    (subst (λ (out : List ℕ). AreRowsOf n (take k lines ++ to ∷ []) it.date.now it.time.now it.expr.now from out) (sym rows) more)
+    subst (λ (ls : List (List ℕ)). AreRowsOf n it.places ls it.date.now it.time.now it.expr.now from c.push_row.new.rows.items) (sym (take_more lines k [] lt))
+    (subst (λ (out : List ℕ). AreRowsOf n it.places (take k lines ++ to ∷ []) it.date.now it.time.now it.expr.now from out) (sym rows) more)

@@ -1,0 +1,40 @@
+-- Ways by arcs of one letter.
+use Rattle.std.proofs.Common.{◌≡◌, ℕ, zero, suc, ◌+◌, ◌-◌, ◌<◌, ◌≤◌, ◌∙◌, ◌++◌, List, [], ◌∷◌, Bool, false, true, Some, refl, sym, ap, append_assoc, arith}
+use Rattle.search_laws.specs.GraphLaws.{GraphMeaning}
+use Rattle.search_laws.specs.Ways.{is_open, open_way, ways_from}
+use Rattle.search_laws.specs.declared.graph.GraphArc.{GraphArc}
+use Rattle.search_laws.specs.declared.graph.Way.{Way}
+use Rattle.search_laws.proofs.WayLemmas.{ways_split, ways_pushed}
+
+module _ (g : GraphMeaning) (v t letters : ℕ) where
+  -- by a letter outside the set there are none
+  none_open : (i m : ℕ) → ((k : ℕ) → i ≤ k → k < i + m → is_open letters (g.arc_at v k).letter ≡ false) → ways_from g v t letters i m ≡ []
+  none_open i zero closed = refl
+  none_open i (suc m) closed = rw (closed i (omega arith) (omega arith)) (none_open (i + 1) m (λ k from to. closed k (omega arith) (omega arith)))
+
+  pub closed_ways : (first past : ℕ) → first < past → ((k : ℕ) → first ≤ k → k < past → (g.arc_at v k).letter ≡ (g.arc_at v first).letter)
+      → is_open letters (g.arc_at v first).letter ≡ false → ways_from g v t letters first (past - first) ≡ []
+  closed_ways first past some alike closed =
+      none_open first (past - first) (λ k from to. ap (is_open letters) (alike k from (omega arith)) ∙ closed)
+
+  pub open_pushed : (first i : ℕ) (before now next : List Way) (way : Way) → first ≤ i → now ≡ before ++ ways_from g v t letters first (i - first)
+      → is_open letters (g.arc_at v i).letter ≡ true → way.place ≡ i → way.arc ≡ g.arc_at v i → Some way.at ≡ g.arrive v i t → next ≡ now ++ way ∷ []
+      → next ≡ before ++ ways_from g v t letters first (i + 1 - first)
+  open_pushed first i before now next way from was opens place arc at push =
+      ways_pushed g v t letters first i before now next way.arc (Some way.at) from was arc at
+      (push ∙ ap (λ (ws : List Way). now ++ ws) (sym (opened way i place (ap (λ (a : GraphArc). is_open letters a.letter) arc ∙ opens))))
+    where
+      opened : (way : Way) (i : ℕ) → way.place ≡ i → is_open letters way.arc.letter ≡ true → open_way letters i way.arc (Some way.at) ≡ way ∷ []
+      opened way i place opens = rw opens (ap (λ k. record { place = k; arc = way.arc; at = way.at } ∷ []) (sym place))
+
+  pub more_ways : (first i past : ℕ) (before now next : List Way) → first ≤ i → i ≤ past → now ≡ before ++ ways_from g v t letters first (i - first)
+      → next ≡ now ++ ways_from g v t letters i (past - i) → next ≡ before ++ ways_from g v t letters first (past - first)
+  more_ways first i past before now next from to was more =
+      let sum : (i - first) + (past - i) ≡ past - first = omega arith in
+      let at : first + (i - first) ≡ i = omega arith in
+      more ∙ ap (λ (ws : List Way). ws ++ ways_from g v t letters i (past - i)) was
+      ∙ append_assoc before (ways_from g v t letters first (i - first)) (ways_from g v t letters i (past - i))
+      ∙ ap (λ (ws : List Way). before ++ ws) (
+      ap (λ k. ways_from g v t letters first (i - first) ++ ways_from g v t letters k (past - i)) (sym at)
+      ∙ sym (ways_split g v t letters first (i - first) (past - i))
+      ∙ ap (ways_from g v t letters first) sum)

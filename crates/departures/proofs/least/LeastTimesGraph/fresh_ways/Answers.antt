@@ -1,0 +1,39 @@
+use Rattle.std.proofs.Common.{◌≡◌, ◌-◌, ◌≤◌, ◌++◌, ◌∙◌, ap, arith}
+use Rattle.search_laws.specs.Ways.{ways_from, ways_past}
+use Rattle.search_laws.specs.declared.graph.Graph.{rides-default}
+use Rattle.search_laws.proofs.FreshLemmas.{adds_all, adds_moving}
+use Rattle.plain_graph.specs.PlainArcs.{count_from, arcs_at}
+use Rattle.departures.specs.declared.least.LeastTimes.{LeastTimes}
+use Rattle.departures.specs.LeastArcs.{least_meaning}
+use Rattle.departures.proofs.WayLemmas.{more_ways}
+use Rattle.departures.proofs.least.LeastTimesGraph.fresh_ways.Goals as goal
+
+pub loop-first-preserved : goal.loop-first-preserved
+loop-first-preserved c =
+    let s = c.args.self.now in
+    let n = s.plain.network.now in
+    let g = least_meaning n s.plain.timetable.now s.runs.items in
+    let inv = c.loop-first.invariant in
+    let past = c.past_letter-past.result in
+    let from : count_from n.arcs c.args.v ≤ past = omega (arith, inv.from, c.past_letter-past.ensures.later) in
+    let to : c.loop-first.first ≤ past = omega (arith, c.past_letter-past.ensures.later) in
+    record {
+      from = from;
+      within = c.past_letter-past.ensures.within;
+      ways = more_ways g c.args.v c.args.t c.args.letters (count_from n.arcs c.args.v) c.loop-first.first past c.args.ways.now.items c.loop-first.ways.items c.push_alike.new.ways.items
+          inv.from to inv.ways c.in_ok-push_alike.ensures;
+    }
+
+pub returns : goal.returns
+returns c =
+    let s = c.args.self.now in
+    let n = s.plain.network.now in
+    let g = least_meaning n s.plain.timetable.now s.runs.items in
+    let first = count_from n.arcs c.args.v in
+    let inv = c.loop-first.invariant in
+    let all : c.loop-first.first ≡ arcs_at n s.plain.timetable.now c.args.v = omega (arith, inv.within, c.loop-first-test.false, c.arcs-arcs.ensures) in
+    let ways = ways_past g c.args.v c.args.t c.args.letters first in
+    let before = c.args.ways.now.items in
+    adds_moving c.args.v c.args.t c.args.leaving (rides-default LeastTimes s) c.args.state c.args.given.now c.args.given.now ways before c.loop-first.ways.items
+    (adds_all (rides-default LeastTimes s) c.args.state c.args.given.now ways before c.loop-first.ways.items
+    (inv.ways ∙ ap (λ k. before ++ ways_from g c.args.v c.args.t c.args.letters first (k - first)) all))

@@ -1,0 +1,32 @@
+use Rattle.std.proofs.Common.{◌≡◌, ◌∙◌, List, ℕ, false, sym, subst, arith}
+use Rattle.std.specs.Prelude.{is_some}
+use Rattle.mode_network.specs.NetworkLists.{NetworkLists}
+use Rattle.journey.specs.Best.{asked_by}
+use Rattle.journey.specs.CopyLists.{AreTheCopies}
+use Rattle.departures.specs.Searching.{labels_of, NoneTakesLess}
+use Rattle.departures.proofs.LeastLemmas.{none_found}
+use Rattle.departures.proofs.ReaderLemmas.{pair_rises}
+use Rattle.departures.proofs.search.RideSearch.may_take_less.Goals as goal
+
+pub search_best_with-requires-clause-starts : goal.search_best_with-requires-clause-starts
+search_best_with-requires-clause-starts c = rw (c.deref.ensures.value, c.requires.same) c.requires.search.start_nodes
+
+pub returns : goal.returns
+returns c off =
+    let s = c.args.self.now in
+    let least = c.args.least.now in
+    let q = asked_by s.query.now in
+    let same = sym c.requires.same in
+    let arrival = rw (c.deref.ensures.value, c.deref-2.ensures.value) at c.in_ok-best.ensures.arrival in
+    subst (λ (n : NetworkLists). NoneTakesLess n q c.args.c) c.requires.same
+    (none_found least.plain.network.now least.plain.kept least.plain.timetable.now c.known.ensures least.plain.of least.runs.items least.fastest q (labels_of s)
+    s.origins.items s.destinations.items c.requires.search.reads
+    (subst (λ (n : NetworkLists). AreTheCopies n q.from s.origins.items) same c.requires.search.origin)
+    (subst (λ (n : NetworkLists). AreTheCopies n q.to s.destinations.items) same c.requires.search.destination)
+    c.args.c _ _ (omega arith) (omega arith) arrival (sym c.is_some.ensures ∙ off))
+
+pub returns-then-c-eq0 : goal.returns-then-c-eq0
+returns-then-c-eq0 c off p pair =
+    let s = c.args.self.now in
+    let rises = pair_rises s.plain.network.now s.plain.kept (asked_by s.query.now) p pair in
+    omega (arith, c.if-c-eq0.true, rises)

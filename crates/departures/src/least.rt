@@ -1,0 +1,207 @@
+//! A network in which nobody waits for a ride, and each ride takes as long as it does at least.
+
+ghost use Rattle.std.specs.Prelude.{◌≡◌, IfOk};
+ghost use Rattle.search_laws.specs.GraphLaws.{IsLawfulGraph};
+ghost use Rattle.plain_graph.specs.Lawful.{IsLawfulGraph-prop};
+ghost use Rattle.departures.specs.Fastest.{NoneIsFaster};
+ghost use Rattle.departures.specs.LeastLaws.{NoneIsFaster-prop};
+ghost use Rattle.departures.specs.LeastArcs.{least_meaning};
+
+use crate::fastest::{FastestRun, fastest_runs};
+use mode_network::Network;
+use plain_graph::{Plain, PlainArc};
+use search_laws::{GivenRuns, Graph, GraphArc, Leg, Steady, Time, Way, is_open};
+use std::alloc::{AllocError, Global};
+use timetable_arcs::Ride;
+
+/// The network as a graph whose walks take no longer than journeys do: its arcs are those of [`Plain`], but a ride begins at once and
+/// takes as long as the fastest run of its pattern. What it needs is found once for all lines.
+#[derive(Drop)]
+pub struct LeastTimes<'a> {
+    pub(crate) plain: Plain<'a>,
+    runs: Vec<FastestRun>,
+    ghost fastest: { NoneIsFaster plain.timetable.now runs.items } by { NoneIsFaster-prop plain.timetable.now runs.items },
+    ghost lawful: { IsLawfulGraph (least_meaning plain.network.now plain.timetable.now runs.items) } by { IsLawfulGraph-prop (least_meaning plain.network.now plain.timetable.now runs.items) },
+}
+
+impl<'a> LeastTimes<'a> {
+    ghost use Rattle.std.specs.Prelude.{◌≡◌, ◌<◌, ◌≤◌, ◌-◌, ◌^◌, ◌++◌, ℕ, Some, IfOk, OnOk};
+    ghost use Rattle.search_laws.specs.Ways.{ways_from};
+    ghost use Rattle.timetable_arcs.specs.Table.{IsTable};
+    ghost use Rattle.plain_graph.specs.PlainArcs.{graph_arc};
+    ghost use Rattle.plain_graph.specs.declared.plain.PlainArc.TheVariants as plain_arcs;
+    ghost use Rattle.plain_graph.specs.Rides.{IsRideOf};
+    ghost use Rattle.departures.specs.Fastest.{least_ms};
+    ghost use Rattle.departures.specs.LeastArcs.{least_meaning};
+
+    /// How long the rides of a network take at least. Fails where memory runs out.
+    pub fn new(alloc: Global, network: &'a Network) -> Result<LeastTimes<'a>, AllocError>
+        ensures { IfOk result (λ least. least.plain.network.now ≡ network.now) }
+    {
+        let plain = Plain::new(network);
+        let runs = fastest_runs(alloc, plain.timetable())?;
+        Ok(LeastTimes { plain, runs })
+    }
+
+    /// Its timetable keeps the rules.
+    pub(crate) fn known(&self)
+        ensures { IsTable self.now.plain.timetable.now }
+    {
+        self.plain.timetable();
+    }
+
+    /// The network.
+    pub fn network(&self) -> &'a Network
+        ensures { result.now ≡ self.now.plain.network.now }
+    {
+        self.plain.network()
+    }
+
+    /// How many milliseconds a ride takes at least.
+    fn ride_ms(&self, ride: Ride) -> u64
+        ensures value { result ≡ least_ms self.now.runs.items ride }
+        ensures small { result < 2 ^ 42 }
+    {
+        match self.runs.get(ride.pattern as usize) {
+            Some(run) => run.ride_ms(ride.board, ride.alight),
+            None => 0,
+        }
+    }
+
+    /// Where a ride leads, and its letter.
+    fn ride_arc(&self, ride: Ride) -> GraphArc
+        requires { IsRideOf self.now.plain.timetable.now ride }
+        ensures { result ≡ graph_arc self.now.plain.network.now self.now.plain.timetable.now 0 (plain_arcs.Ride ride) }
+    {
+        let timetable = self.plain.timetable();
+        let stop = timetable.pattern_calls(ride.pattern)[ride.alight as usize].stop;
+        GraphArc {
+            to: self.plain.network().stop_node(stop),
+            letter: Some(timetable.pattern_letter(ride.pattern)),
+        }
+    }
+
+    /// The arc at a place of `v`, and when it arrives.
+    fn way(&self, v: u32, place: u64, t: Time) -> Way
+        requires node { v < (least_meaning self.now.plain.network.now self.now.plain.timetable.now self.now.runs.items).nodes }
+        requires arc { place < (least_meaning self.now.plain.network.now self.now.plain.timetable.now self.now.runs.items).arcs v }
+        requires time { t < 2 ^ 127 }
+        ensures place { result.place ≡ place }
+        ensures arc { result.arc ≡ (least_meaning self.now.plain.network.now self.now.plain.timetable.now self.now.runs.items).arc_at v place }
+        ensures arrives { Some result.at ≡ (least_meaning self.now.plain.network.now self.now.plain.timetable.now self.now.runs.items).arrive v place t }
+    {
+        let mode = self.plain.network().mode(v);
+        let (to, letter, at) = match self.plain.plain_arc(v, place) {
+            PlainArc::Road(arc) => (arc.to, mode, t + Time::from(arc.ms)),
+            PlainArc::Link(link) => (link.to, None, t + Time::from(link.ms)),
+            PlainArc::Stand => (v, mode, t),
+            PlainArc::Ride(ride) => {
+                let arc = self.ride_arc(ride);
+                (arc.to, arc.letter, t + Time::from(self.ride_ms(ride)))
+            }
+        };
+        Way {
+            place,
+            arc: GraphArc { to, letter },
+            at,
+        }
+    }
+
+    /// Appends the arcs from a place of `v` up to another, which have one letter, or none, if that is in the set.
+    fn push_alike(
+        &self,
+        v: u32,
+        first: u64,
+        past: u64,
+        t: Time,
+        letters: u32,
+        ways: &mut Vec<Way>,
+    ) -> Result<(), AllocError>
+        requires node { v < (least_meaning self.now.plain.network.now self.now.plain.timetable.now self.now.runs.items).nodes }
+        requires some { first < past }
+        requires within { past ≤ (least_meaning self.now.plain.network.now self.now.plain.timetable.now self.now.runs.items).arcs v }
+        requires time { t < 2 ^ 127 }
+        requires alike { (k : ℕ) → first ≤ k → k < past
+            → ((least_meaning self.now.plain.network.now self.now.plain.timetable.now self.now.runs.items).arc_at v k).letter
+            ≡ ((least_meaning self.now.plain.network.now self.now.plain.timetable.now self.now.runs.items).arc_at v first).letter }
+        ensures { OnOk result (ways.new.items ≡ ways.old.items
+            ++ ways_from (least_meaning self.now.plain.network.now self.now.plain.timetable.now self.now.runs.items) v t letters first (past - first)) }
+    {
+        if is_open(letters, self.plain.arc_at(v, first).letter) {
+            for place in first..past {
+                ways.push(self.way(v, place, t))?;
+            }
+        }
+        Ok(())
+    }
+}
+
+impl Graph for LeastTimes<'_> {
+    ghost use Rattle.plain_graph.specs.PlainArcs.{roads_at};
+    ghost use Rattle.departures.specs.LeastArcs.{least_meaning};
+
+    ghost meaning = { λ g. least_meaning g.plain.network.now g.plain.timetable.now g.runs.items };
+
+    fn nodes(&self) -> u32 {
+        self.plain.nodes()
+    }
+
+    fn arcs(&self, v: u32) -> u64 {
+        self.plain.arcs(v)
+    }
+
+    fn arc_at(&self, v: u32, i: u64) -> GraphArc {
+        self.plain.arc_at(v, i)
+    }
+
+    fn arrive(&self, v: u32, i: u64, t: Time) -> Option<Time> {
+        match self.plain.plain_arc(v, i) {
+            PlainArc::Road(arc) | PlainArc::Link(arc) => Some(t + Time::from(arc.ms)),
+            PlainArc::Stand => Some(t),
+            PlainArc::Ride(ride) => Some(t + Time::from(self.ride_ms(ride))),
+        }
+    }
+
+    ghost steady_of = { λ g v. roads_at g.plain.network.now v };
+
+    #[inline(always)]
+    fn steady(&self, v: u32) -> Steady {
+        self.plain.steady(v)
+    }
+
+    #[inline(always)]
+    fn leg(&self, _v: u32, steady: Steady, i: u64) -> Option<Leg> {
+        if i < steady.count {
+            let arc = self.plain.network().arcs()[steady.first as usize + i as usize];
+            Some(Leg {
+                to: arc.to,
+                ms: u64::from(arc.ms),
+            })
+        } else {
+            None
+        }
+    }
+
+    fn fresh_ways(
+        &self,
+        v: u32,
+        t: Time,
+        letters: u32,
+        leaving: u32,
+        state: u32,
+        given: &mut GivenRuns,
+        ways: &mut Vec<Way>,
+    ) -> Result<(), AllocError> {
+        let _ = (leaving, state, given.cells.len());
+        let arcs = self.plain.arcs(v);
+        let mut first = self.plain.steady(v).count;
+        while first < arcs {
+            let past = self.plain.past_letter(v, first);
+            self.push_alike(v, first, past, t, letters, ways)?;
+            first = past;
+        }
+        Ok(())
+    }
+
+    ghost lawful = { λ g. g.lawful };
+}
