@@ -13,7 +13,7 @@ returns-in_default g c =
     stops_early Requests c.args.path.now (IsReply c.args.network.now (option_map (λ (x : Bor Hierarchy). x.now) c.args.hierarchy) c.args.limits) (λ bytes. Ends Done)
     (g.F.Shelf.meaning c.args.ports.now.shelf) (g.O.Sink.meaning c.args.ports.now.out)
 
-pub returns-in_default-2 : goal.returns-in_default-2
-returns-in_default-2 g c =
+pub returns-in_default-new : goal.returns-in_default-new
+returns-in_default-new g c =
     stops_early Requests c.args.path.now (IsReply c.args.network.now (option_map (λ (x : Bor Hierarchy). x.now) c.args.hierarchy) c.args.limits) (λ bytes. Ends Done)
     (g.F.Shelf.meaning c.args.ports.now.shelf) (g.O.Sink.meaning c.args.ports.now.out)
