@@ -1,5 +1,5 @@
 -- What a search for a deadline shows of the number of its labels, and what block is right then.
-use Rattle.std.proofs.Common.{◌≡◌, ℕ, ◌≤◌, inl, inr, List, length, Option, Some, None, subst, sym}
+use Rattle.std.proofs.Common.{◌≡◌, ℕ, ◌≤◌, inl, inr, List, Option, Some, None, subst, sym}
 use Rattle.std.specs.Prelude.{IfSome}
 use Rattle.product_search.specs.Answer.{IsArrival}
 use Rattle.product_search.specs.Listed.{HasLeastLabels}
