@@ -45,7 +45,10 @@ fn unplaced_ways(ways: &[OsmWay]) -> u64 {
 /// How many rows before the last call are no calls. The header is row 1.
 fn untimed_rows(calls: &[CallRow]) -> u64 {
     match calls.last() {
-        Some(call) => call.row.saturating_sub(1).saturating_sub(calls.len() as u64),
+        Some(call) => call
+            .row
+            .saturating_sub(1)
+            .saturating_sub(calls.len() as u64),
         None => 0,
     }
 }
