@@ -27,7 +27,7 @@ const REVIEW: &str = "\
 A line says: same, earlier CLOCK, later CLOCK, none (there is no journey any more), found CLOCK (there was none), or
 refused and why.
 
-Example: planbook walks review town";
+Example: planbook walks review town --fail > changes";
 
 /// A command with no words yet. `example` is said at the end of its help.
 fn named<'a>(alloc: Global, name: &'a str, about: &'a str, example: &'a str) -> Command<'a> {
@@ -86,20 +86,21 @@ fn over_name<'a>(
     )
 }
 
-/// A command on a region.
+/// A command on a region, which writes a report.
 fn over_region<'a>(
     alloc: Global,
     name: &'a str,
     about: &'a str,
+    fail: &'a str,
     example: &'a str,
 ) -> Result<Command<'a>, AllocError> {
-    with_word(
-        alloc,
-        named(alloc, name, about, example),
-        "region",
-        "REGION",
-        REGION,
-    )
+    let command = named(alloc, name, about, example);
+    let command = with_word(alloc, command, "region", "REGION", REGION)?;
+    let flag = Arg::new(alloc, "fail")
+        .long("fail")
+        .help(fail)
+        .action(ArgAction::SetTrue);
+    command.arg(flag)
 }
 
 /// The program with one more command.
@@ -141,6 +142,7 @@ pub fn planbook<'a>(alloc: Global) -> Result<Command<'a>, AllocError> {
         alloc,
         "recheck",
         "Write for each name whether what is kept under it is valid in a region",
+        "End with the exit status 16 where a line is not valid",
         "Example: planbook walks recheck town",
     );
     let program = with_command(program, recheck)?;
@@ -148,6 +150,7 @@ pub fn planbook<'a>(alloc: Global) -> Result<Command<'a>, AllocError> {
         alloc,
         "review",
         "Answer each query anew in a region, and write for each name what became of its journey",
+        "End with the exit status 16 where a line says later, none, refused or bad",
         REVIEW,
     );
     with_command(program, review)

@@ -18,11 +18,14 @@ use Rattle.journey_book.proofs.LawLemmas.{same_claim}
 use Rattle.journey_book.specs.Books.{Book}
 use Rattle.journey_book.specs.Commands.{OnNetwork, OnValid, SpellsValid, says}
 use Rattle.journey_book.specs.Complete.{Files, IsHeld, SpellsNetwork, CanBeDone, IsDoneOrAbsent}
+use Rattle.journey_book.specs.Keepers.{Tells}
+use Rattle.journey_book.specs.Reports.{IsListing, IsReported, recheck_rule}
+use Rattle.journey_book.specs.Reviews.{review_rule}
 use Rattle.journey_book.specs.Requests.{Request, keep, drop, list, show, recheck, review}
-use Rattle.journey_book.specs.Sayings.{Scene, Saying, scene, OnFile, IsUnread, Changes, Writes, most_bytes}
+use Rattle.journey_book.specs.Sayings.{Scene, Saying, scene, OnFile, IsUnread, Changes, ThenDone, Writes, most_bytes}
 use Rattle.journey_book.specs.declared.outcome.BookFile.{BookFile}
 use Rattle.journey_book.specs.declared.outcome.BookOutcome.{BookOutcome}
-use Rattle.journey_book.specs.declared.outcome.BookOutcome.TheVariants.{Done, Usage, Missing, ReadFault, TooLong, WriteFault, BadRegion, Invalid, BadCertificate, OutOfMemory, KeepFault, Absent}
+use Rattle.journey_book.specs.declared.outcome.BookOutcome.TheVariants.{Done, Missing, ReadFault, TooLong, WriteFault, OutOfMemory, KeepFault, Absent, NotWell}
 
 -- no count of faults rose
 pub record IsQuiet (old new : Scene) : Type 0 where
@@ -56,14 +59,7 @@ module _ (files : Files) where
       let within = held.within in
       absurd (omega arith)
   unread old new file name P held tells quiet OutOfMemory none = none
-  unread old new file name P held tells quiet Done none = absurd none
-  unread old new file name P held tells quiet Usage none = none
-  unread old new file name P held tells quiet WriteFault none = none
-  unread old new file name P held tells quiet (BadRegion fault) none = none
-  unread old new file name P held tells quiet (Invalid clause at) none = none
-  unread old new file name P held tells quiet (BadCertificate line) none = none
-  unread old new file name P held tells quiet KeepFault none = none
-  unread old new file name P held tells quiet Absent none = absurd none
+  unread old new file name P held tells quiet outcome none = absurd none
 
   file_completes : (file : BookFile) (name : List ℕ) (P : List ℕ → Type 0) (rest : List ℕ → Saying) → ((bytes : List ℕ) → Completes files (P bytes) (rest bytes))
       → Completes files (IsHeld files name P) (OnFile file name rest)
@@ -95,29 +91,15 @@ module _ (files : Files) where
   changes_complete P change p old new Done tells quiet is = tt
   changes_complete P change p old new OutOfMemory tells quiet is = tt
   changes_complete P change p old new KeepFault tells quiet (rose, same) = absurd (quiet.keeper rose)
-  changes_complete P change p old new Absent tells quiet none = absurd none
-  changes_complete P change p old new Usage tells quiet none = none
-  changes_complete P change p old new (Missing file) tells quiet none = none
-  changes_complete P change p old new (ReadFault file) tells quiet none = none
-  changes_complete P change p old new (TooLong file) tells quiet none = none
-  changes_complete P change p old new WriteFault tells quiet none = none
-  changes_complete P change p old new (BadRegion fault) tells quiet none = none
-  changes_complete P change p old new (Invalid clause at) tells quiet none = none
-  changes_complete P change p old new (BadCertificate line) tells quiet none = none
+  changes_complete P change p old new outcome tells quiet none = absurd none
 
-  writes_complete : (IsText : List ℕ → Type 0) (old new : Scene) (outcome : BookOutcome) → IsQuiet old new → Writes IsText old new outcome → IsDoneOrAbsent outcome
+  writes_complete : (IsText : List ℕ → BookOutcome → Type 0) (old new : Scene) (outcome : BookOutcome) → IsQuiet old new → Writes IsText old new outcome → IsDoneOrAbsent outcome
   writes_complete IsText old new Done quiet is = tt
+  writes_complete IsText old new NotWell quiet is = tt
   writes_complete IsText old new OutOfMemory quiet is = tt
   writes_complete IsText old new WriteFault quiet (rose, front, stays) = absurd (quiet.out rose)
   writes_complete IsText old new KeepFault quiet (rose, same) = absurd (quiet.keeper rose)
-  writes_complete IsText old new Absent quiet none = absurd none
-  writes_complete IsText old new Usage quiet none = none
-  writes_complete IsText old new (Missing file) quiet none = none
-  writes_complete IsText old new (ReadFault file) quiet none = none
-  writes_complete IsText old new (TooLong file) quiet none = none
-  writes_complete IsText old new (BadRegion fault) quiet none = none
-  writes_complete IsText old new (Invalid clause at) quiet none = none
-  writes_complete IsText old new (BadCertificate line) quiet none = none
+  writes_complete IsText old new outcome quiet none = absurd none
 
   absent_completes : (outcome : BookOutcome) → outcome ≡ Absent → IsDoneOrAbsent outcome
   absent_completes outcome is = subst IsDoneOrAbsent (sym is) tt
@@ -126,12 +108,13 @@ module _ (files : Files) where
   pub completes : (caps : Caps) (r : Request) → Completes files (CanBeDone caps files r) (says caps r)
   completes caps (keep name region certificate) can old new outcome tells quiet said =
       file_completes _ region _ _ (network_completes caps _ _ (λ n rules. file_completes _ certificate _ _ (valid_completes n rules _ (λ bytes. changes_complete _ _)))) can old new outcome tells quiet said
-  completes caps (recheck region) can old new outcome tells quiet said =
-      file_completes _ region _ _ (network_completes caps _ _ (λ n rules p from to end told calm says. writes_complete _ from to end calm says)) can old new outcome tells quiet said
-  completes caps (review region) can old new outcome tells quiet said =
-      file_completes _ region _ _ (network_completes caps _ _ (λ n rules p from to end told calm says. writes_complete _ from to end calm says)) can old new outcome tells quiet said
+  completes caps (recheck region fail) can old new outcome tells quiet said =
+      file_completes _ region _ _ (network_completes caps _ _ (λ n rules p from to end told calm says. writes_complete (IsReported (recheck_rule n) fail old.keeper) from to end calm says)) can old new outcome tells quiet said
+  completes caps (review region fail) can old new outcome tells quiet said =
+      file_completes _ region _ _ (network_completes caps _ _ (λ n rules p from to end told calm says. writes_complete (IsReported (review_rule n) fail old.keeper) from to end calm says)) can old new outcome tells quiet said
   completes caps (drop name) can old new outcome tells quiet (inl (none, ends)) = absent_completes outcome ends.0
   completes caps (drop name) can old new outcome tells quiet (inr changed) = changes_complete _ _ tt old new outcome tells quiet changed
-  completes caps list can old new outcome tells quiet said = writes_complete _ old new outcome quiet said
+  completes caps list can old new outcome tells quiet said = writes_complete (ThenDone (IsListing old.keeper)) old new outcome quiet said
   completes caps (show name) can old new outcome tells quiet (inl (none, ends)) = absent_completes outcome ends.0
-  completes caps (show name) can old new outcome tells quiet (inr written) = writes_complete _ old new outcome quiet written
+  completes caps (show name) can old new outcome tells quiet (inr written) =
+      writes_complete (ThenDone (λ text. Tells old.keeper (λ book. book name ≡ Some text))) old new outcome quiet written

@@ -1,5 +1,5 @@
 -- Runs one after the other leave the book that their changes make of the first.
-use Rattle.std.proofs.Common.{◌≡◌, ◌∙◌, refl, ap, subst, ℕ, ◌⊎◌, inl, inr, cond, List, [], ◌∷◌, Option, None, Some}
+use Rattle.std.proofs.Common.{◌≡◌, ◌∙◌, refl, ap, subst, ℕ, ◌⊎◌, inl, inr, Bool, cond, List, [], ◌∷◌, Option, None, Some}
 use Rattle.std.specs.Prelude.{Result, Ok, Err, IfSome, IsSome}
 use Rattle.std.specs.Str.{bytes_eq}
 use Rattle.plan_base.specs.Shelves.{ShelfMeaning, Told}
@@ -11,15 +11,15 @@ use Rattle.journey_book.specs.Books.{Book, dropped, kept}
 use Rattle.journey_book.specs.Keepers.{KeeperMeaning, Becomes, Stays, Tells}
 use Rattle.journey_book.specs.Commands.{OnNetwork, OnRegion, OnValid, says}
 use Rattle.journey_book.specs.Outcomes.{IsOutcome}
-use Rattle.journey_book.specs.Reports.{IsListing, IsRecheck}
-use Rattle.journey_book.specs.Reviews.{IsReview}
+use Rattle.journey_book.specs.Reports.{IsListing, IsReported, ReportRule, recheck_rule}
+use Rattle.journey_book.specs.Reviews.{review_rule}
 use Rattle.journey_book.specs.Requests.{AsksFor, Request, keep, drop, list, show, recheck, review}
 use Rattle.journey_book.specs.Runs.{Change, Does, Run, RunsFold, book_after, changed, keeps, drops, nothing}
-use Rattle.journey_book.specs.Sayings.{Scene, Saying, scene, Changes, IsUnread, OnFile, Writes}
+use Rattle.journey_book.specs.Sayings.{Scene, Saying, scene, Changes, IsUnread, OnFile, ThenDone, Writes}
 use Rattle.journey_book.specs.declared.outcome.BookFile.{BookFile}
 use Rattle.journey_book.specs.declared.outcome.BookFile.TheVariants.{Certificate, Region}
 use Rattle.journey_book.specs.declared.outcome.BookOutcome.{BookOutcome}
-use Rattle.journey_book.specs.declared.outcome.BookOutcome.TheVariants.{Done, Usage, Missing, ReadFault, TooLong, WriteFault, BadRegion, Invalid, BadCertificate, OutOfMemory, KeepFault, Absent}
+use Rattle.journey_book.specs.declared.outcome.BookOutcome.TheVariants.{Done, WriteFault, OutOfMemory, KeepFault, NotWell}
 
 -- ---- books that are alike name by name
 
@@ -55,29 +55,15 @@ changes_move : (P : Book → Type 0) (change : Book → Book) (old new : Scene) 
 changes_move P change old new Done (tells, becomes, unwritten) = inr (refl, becomes)
 changes_move P change old new KeepFault (rose, same) = inl (same.1, λ done. cc)
 changes_move P change old new OutOfMemory same = inl (same.1, λ done. cc)
-changes_move P change old new Usage none = absurd none
-changes_move P change old new (Missing file) none = absurd none
-changes_move P change old new (ReadFault file) none = absurd none
-changes_move P change old new (TooLong file) none = absurd none
-changes_move P change old new WriteFault none = absurd none
-changes_move P change old new (BadRegion fault) none = absurd none
-changes_move P change old new (Invalid clause at) none = absurd none
-changes_move P change old new (BadCertificate line) none = absurd none
-changes_move P change old new Absent none = absurd none
+changes_move P change old new outcome none = absurd none
 
-writes_stay : (IsText : List ℕ → Type 0) (old new : Scene) (outcome : BookOutcome) → Writes IsText old new outcome → Stays old.keeper new.keeper
+writes_stay : (IsText : List ℕ → BookOutcome → Type 0) (old new : Scene) (outcome : BookOutcome) → Writes IsText old new outcome → Stays old.keeper new.keeper
 writes_stay IsText old new Done (written, stays) = stays
+writes_stay IsText old new NotWell (written, stays) = stays
 writes_stay IsText old new WriteFault (rose, front, stays) = stays
 writes_stay IsText old new KeepFault (rose, same) = same.1
 writes_stay IsText old new OutOfMemory same = same.1
-writes_stay IsText old new Usage none = absurd none
-writes_stay IsText old new (Missing file) none = absurd none
-writes_stay IsText old new (ReadFault file) none = absurd none
-writes_stay IsText old new (TooLong file) none = absurd none
-writes_stay IsText old new (BadRegion fault) none = absurd none
-writes_stay IsText old new (Invalid clause at) none = absurd none
-writes_stay IsText old new (BadCertificate line) none = absurd none
-writes_stay IsText old new Absent none = absurd none
+writes_stay IsText old new outcome none = absurd none
 
 -- what a shelf tells later it told before
 told_later : (old later : ShelfMeaning) (name : List ℕ) (P : Option (List ℕ) → Type 0) → later.files ≡ old.files → Told later name P → Told old name P
@@ -92,6 +78,12 @@ region_stays caps region rest more old new outcome (inr on) = of (region_of caps
     of : (r : Result NetworkLists RegionFault) → OnNetwork r rest (scene on.mid old.keeper old.out) new outcome → Stays old.keeper new.keeper
     of (Ok n) (rules, said) = more n _ new outcome said
     of (Err fault) ends = ends.1.1
+
+-- a report leaves the book
+report_stays : (caps : Caps) (region : List ℕ) (rule : NetworkLists → ReportRule) (fail : Bool) (run : Run) → OnRegion caps region (λ n. Writes (IsReported (rule n) fail run.old.keeper)) run.old run.new run.outcome
+    → Stays run.old.keeper run.new.keeper
+report_stays caps region rule fail run said =
+    region_stays caps region (λ n. Writes (IsReported (rule n) fail run.old.keeper)) (λ n old new outcome. writes_stay (IsReported (rule n) fail run.old.keeper) old new outcome) run.old run.new run.outcome said
 
 -- the certificate of a file is kept under the name; or neither
 abbrev Keeps : List ℕ → List ℕ → Scene → Scene → BookOutcome → Type 0
@@ -147,13 +139,14 @@ asked_to caps run (drop name) asks (inr changes) = of (changes_move (λ book. Is
     of : Moves (dropped name) run.old run.new run.outcome → DoesSo run
     of (inl idle) = idles run idle
     of (inr (done, becomes)) = record { change = drops name; does = (done, asks); becomes = becomes }
-asked_to caps run list asks said = record { change = nothing; does = inr (list, asks, refl); becomes = writes_stay (IsListing run.old.keeper) run.old run.new run.outcome said }
+asked_to caps run list asks said = record { change = nothing; does = inr (list, asks, refl); becomes = writes_stay (ThenDone (IsListing run.old.keeper)) run.old run.new run.outcome said }
 asked_to caps run (show name) asks (inl (none, ends)) = let e = ends.0 in idles run (ends.1.1, λ done. cc)
-asked_to caps run (show name) asks (inr writes) = record { change = nothing; does = inr (show name, asks, refl); becomes = writes_stay (λ text. Tells run.old.keeper (λ book. book name ≡ Some text)) run.old run.new run.outcome writes }
-asked_to caps run (recheck region) asks said =
-    record { change = nothing; does = inr (recheck region, asks, refl); becomes = region_stays caps region (λ n. Writes (IsRecheck n run.old.keeper)) (λ n old new outcome. writes_stay (IsRecheck n run.old.keeper) old new outcome) run.old run.new run.outcome said }
-asked_to caps run (review region) asks said =
-    record { change = nothing; does = inr (review region, asks, refl); becomes = region_stays caps region (λ n. Writes (IsReview n run.old.keeper)) (λ n old new outcome. writes_stay (IsReview n run.old.keeper) old new outcome) run.old run.new run.outcome said }
+asked_to caps run (show name) asks (inr writes) =
+    record { change = nothing; does = inr (show name, asks, refl); becomes = writes_stay (ThenDone (λ text. Tells run.old.keeper (λ book. book name ≡ Some text))) run.old run.new run.outcome writes }
+asked_to caps run (recheck region fail) asks said =
+    record { change = nothing; does = inr (recheck region fail, asks, refl); becomes = report_stays caps region recheck_rule fail run said }
+asked_to caps run (review region fail) asks said =
+    record { change = nothing; does = inr (review region fail, asks, refl); becomes = report_stays caps region review_rule fail run said }
 
 one_run : (caps : Caps) (run : Run) → IsOutcome caps run.words run.old run.new run.outcome → DoesSo run
 one_run caps run (inl (refused, ends)) = let e = ends.0 in idles run (ends.1.1, λ done. cc)

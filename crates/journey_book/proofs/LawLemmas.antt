@@ -1,8 +1,8 @@
 -- What is reported of a book is one text, and a certificate that is valid is `same`.
-use Rattle.std.proofs.Common.{◌≡◌, ◌∙◌, refl, sym, ap, ap₂, subst, ℕ, ◌≤◌, ◌||◌, inl, inr, List, [], ◌∷◌, ◌++◌, Option, None, Some, arith, eq-eqb}
+use Rattle.std.proofs.Common.{◌≡◌, ◌∙◌, refl, sym, ap, ap₂, subst, ℕ, ◌≤◌, ◌||◌, inl, inr, Bool, List, [], ◌∷◌, ◌++◌, Option, None, Some, arith, eq-eqb}
 use Rattle.std.specs.Prelude.{Err, Ok, IfSome, codes, decimal}
 use Rattle.std.specs.Str.{bytes_eq}
-use Rattle.std.specs.List.{list_any}
+use Rattle.std.specs.List.{list_all, list_any}
 use Rattle.std.specs.BTreeSet.{BTreeSet}
 use Rattle.std.specs.Cmp.Lexicographic.{slice_cmp, nat_list_cmp_total}
 use Rattle.std.specs.Ordering.{is_eq, nat_cmp}
@@ -29,9 +29,9 @@ use Rattle.certificate.proofs.UniqueLemmas.{verdict_is_unique}
 use Rattle.certificate.proofs.VerifyLemmas.{valid_proves}
 use Rattle.journey_book.specs.Books.{Book, AreNamesOf}
 use Rattle.journey_book.specs.Keepers.{KeeperMeaning, Tells}
-use Rattle.journey_book.specs.Laws.{IsFixed, ReportsAreFixed, StartsAt, ValidIsSame}
-use Rattle.journey_book.specs.Reports.{AreReported, ClaimRule, IsJudged, IsReport, IsSaidOn, verdict_words}
-use Rattle.journey_book.specs.Reviews.{IsAnswered, IsReviewed, arrival_words, beside, kept_arrival}
+use Rattle.journey_book.specs.Laws.{IsFixed, IsFixedEnd, ReportsAreFixed, StartsAt, ValidIsSame}
+use Rattle.journey_book.specs.Reports.{AreReported, ClaimRule, IsJudged, IsReported, IsSaidOn, ReportRule, end_by, recheck_rule, verdict_words}
+use Rattle.journey_book.specs.Reviews.{IsAnswered, IsReviewed, arrival_words, beside, kept_arrival, review_rule}
 
 -- ---- the names of a book
 
@@ -70,19 +70,25 @@ module _ (AreRight : ClaimRule) (exact : IsExact AreRight) where
       exact claim2 one other (subst (λ (c : Claim). AreRight c one) (same_claim bytes claim claim2 spells spells2) right) right2
 
   module _ (keeper : KeeperMeaning) (book : Book) (is : keeper.book ≡ Some book) where
-    lines_once : (names : List (List ℕ)) → IsFixed (AreReported AreRight keeper names)
-    lines_once [] one other e f = e ∙ sym f
-    lines_once (name ∷ names) one other (line, rest, says, more, e) (line2, rest2, says2, more2, f) =
+    lines_once : (names said more : List (List ℕ)) (one other : List ℕ) → AreReported AreRight keeper names said one → AreReported AreRight keeper names more other → (said ≡ more) × (one ≡ other)
+    lines_once [] [] [] one other e f = (refl, e ∙ sym f)
+    lines_once (name ∷ names) (words ∷ said) (words2 ∷ more) one other (rest, says, lines, e) (rest2, says2, lines2, f) =
         let held : says.held ≡ says2.held =
         sym (told keeper book is (λ b. b name ≡ says.held) says.told) ∙ told keeper book is (λ b. b name ≡ says2.held) says2.told in
-        let words = said_once says2.held says.words says2.words (subst (λ (h : Option (List ℕ)). IsSaidOn AreRight h says.words) held says.says) says2.says in
-        let lines = says.line_is ∙ ap (λ (w : List ℕ). name ++ codes " " ++ w) words ∙ sym says2.line_is in
-        e ∙ ap₂ (λ (l r : List ℕ). with_feed l ++ r) lines (lines_once names rest rest2 more more2) ∙ sym f
+        let same = said_once says2.held words words2 (subst (λ (h : Option (List ℕ)). IsSaidOn AreRight h words) held says.says) says2.says in
+        let both = lines_once names said more rest rest2 lines lines2 in
+        (ap₂ (λ (w : List ℕ) (s : List (List ℕ)). w ∷ s) same both.0, e ∙ ap₂ (λ (w r : List ℕ). with_feed (name ++ codes " " ++ w) ++ r) same both.1 ∙ sym f)
+    lines_once [] (words ∷ said) more one other none f = absurd none
+    lines_once [] [] (words ∷ more) one other e none = absurd none
+    lines_once (name ∷ names) [] more one other none f = absurd none
+    lines_once (name ∷ names) (words ∷ said) [] one other e none = absurd none
 
-    report_once : IsFixed (IsReport AreRight keeper)
-    report_once one other (names, are, lines) (names2, are2, lines2) =
-        let same = names_once book names names2 (told keeper book is (λ b. AreNamesOf b names) are) (told keeper book is (λ b. AreNamesOf b names2) are2) in
-        lines_once names2 one other (subst (λ (ns : List (List ℕ)). AreReported AreRight keeper ns one) same lines) lines2
+report_once : (rule : ReportRule) → IsExact rule.AreRight → (keeper : KeeperMeaning) (book : Book) → keeper.book ≡ Some book → (fail : Bool) → IsFixedEnd (IsReported rule fail keeper)
+report_once rule exact keeper book is fail one other end last (well, (names, are, (said, lines, all)), e) (well2, (names2, are2, (said2, lines2, all2)), f) =
+    let same = names_once book names names2 (told keeper book is (λ b. AreNamesOf b names) are) (told keeper book is (λ b. AreNamesOf b names2) are2) in
+    let both = lines_once rule.AreRight exact keeper book is names2 said said2 one other (subst (λ (ns : List (List ℕ)). AreReported rule.AreRight keeper ns said one) same lines) lines2 in
+    let alike : well ≡ well2 = all ∙ ap (list_all rule.is_well) both.0 ∙ sym all2 in
+    (both.1, e ∙ ap (end_by fail) alike ∙ sym f)
 
 -- ---- what is said of a certificate
 
@@ -116,7 +122,8 @@ module _ (n : NetworkLists) (network : IsNetwork n) where
       answered_once claim.result asked2 one other (subst (λ (q : Asked). IsAnswered n claim.result q one) same answer) answer2
 
 pub reports_are_fixed : ReportsAreFixed
-reports_are_fixed n network keeper book is = (report_once (IsJudged n) (judged_once n network) keeper book is, report_once (IsReviewed n) (reviewed_once n network) keeper book is)
+reports_are_fixed n network keeper book is fail =
+    (report_once (recheck_rule n) (judged_once n network) keeper book is fail, report_once (review_rule n) (reviewed_once n network) keeper book is fail)
 
 -- ---- a certificate that is valid
 

@@ -1,4 +1,6 @@
 pub mod BookLemmas
+pub mod GivenLemmas
+pub mod NameLemmas
 pub mod WordLemmas
 pub mod KeeperLemmas
 pub mod ReportLemmas

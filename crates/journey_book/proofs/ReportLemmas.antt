@@ -1,10 +1,12 @@
 -- Words that are right, and a report with one line more.
-use Rattle.std.proofs.Common.{◌≡◌, ◌∙◌, refl, sym, ap, ℕ, List, [], ◌∷◌, ◌++◌, append_assoc, append-nil}
-use Rattle.std.specs.Prelude.{⊤, Result, Ok, Err, OnOk}
+use Rattle.std.proofs.Common.{◌≡◌, ◌∙◌, refl, sym, ap, subst, ℕ, Bool, true, false, List, [], ◌∷◌, ◌++◌, append_assoc, append-nil}
+use Rattle.std.specs.Prelude.{⊤, ◌&&◌, Result, Ok, Err, OnOk, codes}
+use Rattle.std.specs.List.{list_all}
+use Rattle.std.proofs.lemmas.List.Folds.{list_all-append}
 use Rattle.plain_texts.specs.Lines.{lines_text, with_feed}
 use Rattle.journey.specs.Blocks.{AddsText}
 use Rattle.journey_book.specs.Keepers.{KeeperMeaning, Stays}
-use Rattle.journey_book.specs.Reports.{AreReported, ClaimRule, IsReportLine}
+use Rattle.journey_book.specs.Reports.{AreReported, ClaimRule, HasReported, IsSaidOf, ReportRule}
 use Rattle.journey_book.proofs.KeeperLemmas.{told_before}
 
 -- what a call that may fail adds to a text
@@ -17,23 +19,46 @@ module _ {E : Type 0} (old new : List ℕ) where
   adds_as P Q turn (Ok done) adds = record { text = adds.text; is = turn adds.text adds.is; added = adds.added }
   adds_as P Q turn (Err error) none = none
 
+-- what was added to nothing
+pub all_added : (P : List ℕ → Type 0) (old new : List ℕ) → old ≡ [] → AddsText P old new → P new
+all_added P old new none adds = subst P (sym (adds.added ∙ ap (λ (o : List ℕ). o ++ adds.text) none)) adds.is
+
 module _ (AreRight : ClaimRule) (keeper : KeeperMeaning) where
-  pub one_more : (names : List (List ℕ)) (out name line : List ℕ) → AreReported AreRight keeper names out → IsReportLine AreRight keeper name line
-      → AreReported AreRight keeper (names ++ name ∷ []) (out ++ with_feed line)
-  one_more [] out name line none is = (line, [], is, refl, ap (λ (o : List ℕ). o ++ with_feed line) none ∙ sym (append-nil (with_feed line)))
-  one_more (first ∷ names) out name line (own, rest, says, more, are) is =
-      (own, rest ++ with_feed line, says, one_more names rest name line more is, ap (λ (o : List ℕ). o ++ with_feed line) are ∙ append_assoc (with_feed own) rest (with_feed line))
+  one_more : (names said : List (List ℕ)) (out name words : List ℕ) → AreReported AreRight keeper names said out → IsSaidOf AreRight keeper name words
+      → AreReported AreRight keeper (names ++ name ∷ []) (said ++ words ∷ []) (out ++ with_feed (name ++ codes " " ++ words))
+  one_more [] [] out name words none is =
+      let line = with_feed (name ++ codes " " ++ words) in
+      ([], is, refl, ap (λ (o : List ℕ). o ++ line) none ∙ sym (append-nil line))
+  one_more (first ∷ names) (own ∷ said) out name words (rest, says, more, are) is =
+      let line = with_feed (name ++ codes " " ++ words) in
+      (rest ++ line, says, one_more names said rest name words more is, ap (λ (o : List ℕ). o ++ line) are ∙ append_assoc (with_feed (first ++ codes " " ++ own)) rest line)
+  one_more [] (own ∷ said) out name words none is = absurd none
+  one_more (first ∷ names) [] out name words none is = absurd none
+
+and_true : (b : Bool) → (b && true) ≡ b
+and_true true = refl
+and_true false = refl
+
+-- a report with one line more
+pub has_more : (rule : ReportRule) (keeper : KeeperMeaning) (names : List (List ℕ)) (out : List ℕ) (well : Bool) (name words : List ℕ) → HasReported rule keeper names out well
+    → IsSaidOf rule.AreRight keeper name words → HasReported rule keeper (names ++ name ∷ []) (out ++ with_feed (name ++ codes " " ++ words)) (well && rule.is_well words)
+has_more rule keeper names out well name words (said, lines, all) is =
+    let one = sym (and_true (rule.is_well words)) in (
+      said ++ words ∷ [],
+      one_more rule.AreRight keeper names said out name words lines is,
+      ap (λ (b : Bool). b && rule.is_well words) all ∙ ap (λ (b : Bool). list_all rule.is_well said && b) one ∙ sym (list_all-append rule.is_well said (words ∷ [])),
+    )
 
 -- what is reported after the book stayed is true of it before
-pub reported_before : (AreRight : ClaimRule) (old mid : KeeperMeaning) (names : List (List ℕ)) (out : List ℕ) → Stays old mid → AreReported AreRight mid names out → AreReported AreRight old names out
-reported_before AreRight old mid [] out stays none = none
-reported_before AreRight old mid (name ∷ names) out stays (line, rest, is, more, are) = (
-  line,
-  rest,
-  record { held = is.held; told = told_before old mid name is.held stays is.told; words = is.words; says = is.says; line_is = is.line_is },
-  reported_before AreRight old mid names rest stays more,
-  are,
-)
+reported_before : (AreRight : ClaimRule) (old mid : KeeperMeaning) → Stays old mid → (names said : List (List ℕ)) (out : List ℕ) → AreReported AreRight mid names said out → AreReported AreRight old names said out
+reported_before AreRight old mid stays [] [] out none = none
+reported_before AreRight old mid stays (name ∷ names) (words ∷ said) out (rest, is, more, are) =
+    (rest, record { held = is.held; told = told_before old mid name is.held stays is.told; says = is.says }, reported_before AreRight old mid stays names said rest more, are)
+reported_before AreRight old mid stays [] (words ∷ said) out none = absurd none
+reported_before AreRight old mid stays (name ∷ names) [] out none = absurd none
+
+pub has_before : (rule : ReportRule) (old mid : KeeperMeaning) → Stays old mid → (names : List (List ℕ)) (out : List ℕ) (well : Bool) → HasReported rule mid names out well → HasReported rule old names out well
+has_before rule old mid stays names out well (said, lines, all) = (said, reported_before rule.AreRight old mid stays names said out lines, all)
 
 -- one line more
 pub lines_more : (lines : List (List ℕ)) (line : List ℕ) → lines_text (lines ++ line ∷ []) ≡ lines_text lines ++ with_feed line

@@ -1,23 +1,33 @@
--- Words that begin with the command `keep`.
-use Rattle.std.proofs.Common.{◌≡◌, ℕ, List, [], ◌∷◌, true, arith}
-use Rattle.std.specs.Prelude.{codes}
-use Rattle.journey_book.specs.Requests.{AsksFor, Request, is_name, keep, drop, list, show, recheck, review}
+-- The words of a command line, as a slice's pattern tells them.
+use Rattle.std.proofs.Common.{◌≡◌, ◌∙◌, ℕ, ◌-◌, ◌<◌, ◌≤◌, List, [], ◌∷◌, length, take, drop, get_or, map, string_bytes, None, Some, refl, ap, sym, arith, Global}
+use Rattle.std.specs.Prelude.{option_and_then}
+use Rattle.std.specs.declared.string.String.{String}
+use Rattle.std.proofs.lemmas.List.{take_all}
+use Rattle.journey_book.specs.Given.{given_by}
+use Rattle.journey_book.specs.Requests.{AreRefused, AsksFor, Request, asked_by, request_by}
 
-pub record AreKept (given : List (List ℕ)) : Type 0 where
-  pub name : List ℕ
-  pub region : List ℕ
-  pub certificate : List ℕ
-  pub are : given ≡ name ∷ region ∷ certificate ∷ []
-  pub is : is_name name ≡ true
+-- a command's name and the words behind it
+pub words_asked : (words : List (String Global)) (name : String Global) → 3 ≤ length words → name ≡ get_or words 2 name
+    → asked_by (map string_bytes words) ≡ option_and_then (request_by (string_bytes name)) (given_by (map string_bytes (take (length words - 3) (drop 3 words))))
+words_asked [] name many is = absurd (omega arith)
+words_asked (a ∷ []) name many is = absurd (omega arith)
+words_asked (a ∷ b ∷ []) name many is = absurd (omega arith)
+words_asked (a ∷ b ∷ c ∷ rest) name many is =
+    let count : length (a ∷ b ∷ c ∷ rest) - 3 ≡ length rest = omega arith in
+    let all : take (length rest) rest ≡ rest = take_all (length rest) rest (omega arith) in
+    rw (count, all) (ap (λ (w : String Global). option_and_then (request_by (string_bytes w)) (given_by (map string_bytes rest))) (sym is))
 
-another : (program book : List ℕ) (given : List (List ℕ)) (p b : List ℕ) (b0 : ℕ) (rest : List ℕ) (more : List (List ℕ)) → (b0 ≡ 107 → ⊥) → program ∷ book ∷ codes "keep" ∷ given ≡ p ∷ b ∷ (b0 ∷ rest) ∷ more → ⊥
-another program book given p b b0 rest more apart e = let first : b0 ≡ 107 = cc in apart first
+-- fewer words ask for nothing
+pub none_asked : (words : List (String Global)) → length words < 3 → None ≡ asked_by (map string_bytes words)
+none_asked [] few = refl
+none_asked (a ∷ []) few = refl
+none_asked (a ∷ b ∷ []) few = refl
+none_asked (a ∷ b ∷ c ∷ rest) few = absurd (omega arith)
 
-pub asks_keep : (program book : List ℕ) (given : List (List ℕ)) (r : Request) → AsksFor (program ∷ book ∷ codes "keep" ∷ given) r → AreKept given
-asks_keep program book given (keep name region certificate) (words, is) =
-    let are = words.are in record { name = name; region = region; certificate = certificate; are = cc; is = is }
-asks_keep program book given (drop name) (words, is) = absurd (another program book given words.program words.book 100 _ _ (λ e. omega (arith, e)) words.are)
-asks_keep program book given list words = absurd (another program book given words.program words.book 108 _ _ (λ e. omega (arith, e)) words.are)
-asks_keep program book given (show name) (words, is) = absurd (another program book given words.program words.book 115 _ _ (λ e. omega (arith, e)) words.are)
-asks_keep program book given (recheck region) (words, is) = absurd (another program book given words.program words.book 114 _ _ (λ e. omega (arith, e)) words.are)
-asks_keep program book given (review region) (words, is) = absurd (another program book given words.program words.book 114 _ _ (λ e. omega (arith, e)) words.are)
+-- words that ask for nothing are refused
+pub are_refused : (words : List (List ℕ)) → None ≡ asked_by words → AreRefused words
+are_refused words none r asks = let e = none ∙ asks in absurd (cc)
+
+-- words ask for one thing
+pub asked_once : (words : List (List ℕ)) (one other : Request) → Some one ≡ asked_by words → AsksFor words other → one ≡ other
+asked_once words one other is asks = let e = is ∙ asks in cc

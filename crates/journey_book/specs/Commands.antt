@@ -14,10 +14,10 @@ use Rattle.certificate.specs.Valid.{IsValid}
 use Rattle.certificate.specs.Verdicts.{IsCertVerdict}
 use Rattle.journey_book.specs.Books.{dropped, kept}
 use Rattle.journey_book.specs.Keepers.{Tells}
-use Rattle.journey_book.specs.Reports.{IsListing, IsRecheck}
-use Rattle.journey_book.specs.Reviews.{IsReview}
+use Rattle.journey_book.specs.Reports.{IsListing, IsReported, recheck_rule}
+use Rattle.journey_book.specs.Reviews.{review_rule}
 use Rattle.journey_book.specs.Requests.{Request, keep, drop, list, show, recheck, review}
-use Rattle.journey_book.specs.Sayings.{Saying, Ends, OnFile, Changes, Writes}
+use Rattle.journey_book.specs.Sayings.{Saying, Ends, OnFile, Changes, ThenDone, Writes}
 use Rattle.journey_book.specs.declared.outcome.BookFile.TheVariants.{Region, Certificate}
 use Rattle.journey_book.specs.declared.outcome.BookOutcome.TheVariants.{BadRegion, BadCertificate, Invalid, Absent}
 
@@ -55,13 +55,16 @@ IsAbsent name old new outcome = Tells old.keeper (λ book. book name ≡ None) �
 
 -- What a run says that was asked for this. `keep` keeps the certificate's bytes under the name, where it is valid in the
 -- region; `drop` removes a name that is there; `list` writes the names; `show` what is kept under a name that is there;
--- `recheck` which of the certificates hold in the region; `review` what the region does to their journeys.
+-- `recheck` which of the certificates hold in the region; `review` what the region does to their journeys; each of the two may
+-- be asked to fail where a line is not well.
 abbrev pub says : Caps → Request → Saying
 says caps (keep name region certificate) old new outcome =
     OnRegion caps region (λ n. OnFile Certificate certificate (λ bytes. OnValid n bytes (Changes (λ book. Unit {0}) (kept name bytes)))) old new outcome
 says caps (drop name) old new outcome = IsAbsent name old new outcome ⊎ Changes (λ book. IsSome (book name)) (dropped name) old new outcome
-says caps list old new outcome = Writes (IsListing old.keeper) old new outcome
+says caps list old new outcome = Writes (ThenDone (IsListing old.keeper)) old new outcome
 says caps (show name) old new outcome =
-    IsAbsent name old new outcome ⊎ Writes (λ text. Tells old.keeper (λ book. book name ≡ Some text)) old new outcome
-says caps (recheck region) old new outcome = OnRegion caps region (λ n. Writes (IsRecheck n old.keeper)) old new outcome
-says caps (review region) old new outcome = OnRegion caps region (λ n. Writes (IsReview n old.keeper)) old new outcome
+    IsAbsent name old new outcome ⊎ Writes (ThenDone (λ text. Tells old.keeper (λ book. book name ≡ Some text))) old new outcome
+says caps (recheck region fail) old new outcome =
+    OnRegion caps region (λ n. Writes (IsReported (recheck_rule n) fail old.keeper)) old new outcome
+says caps (review region fail) old new outcome =
+    OnRegion caps region (λ n. Writes (IsReported (review_rule n) fail old.keeper)) old new outcome

@@ -1,5 +1,5 @@
 -- Laws of reports.
-use Rattle.std.specs.Prelude.{◌≡◌, ℕ, List, codes, Option, None, Some}
+use Rattle.std.specs.Prelude.{◌≡◌, ℕ, Bool, List, codes, Option, None, Some}
 use Rattle.mode_network.specs.NetworkLists.{NetworkLists}
 use Rattle.mode_network.specs.Rules.{IsNetwork}
 use Rattle.mode_network.specs.Journeys.{Route}
@@ -7,17 +7,22 @@ use Rattle.certificate.specs.Certificates.{Claim}
 use Rattle.certificate.specs.Valid.{IsValid}
 use Rattle.journey_book.specs.Books.{Book}
 use Rattle.journey_book.specs.Keepers.{KeeperMeaning}
-use Rattle.journey_book.specs.Reports.{IsRecheck}
-use Rattle.journey_book.specs.Reviews.{IsReview, IsReviewed}
+use Rattle.journey_book.specs.Reports.{IsReported, recheck_rule}
+use Rattle.journey_book.specs.Reviews.{IsReviewed, review_rule}
+use Rattle.journey_book.specs.declared.outcome.BookOutcome.{BookOutcome}
 
 -- one text alone is so
 abbrev pub IsFixed : (List ℕ → Type 0) → Type 0
 IsFixed IsText = (one other : List ℕ) → IsText one → IsText other → one ≡ other
 
+-- one text alone is so, and ends a run in one way
+abbrev pub IsFixedEnd : (List ℕ → BookOutcome → Type 0) → Type 0
+IsFixedEnd IsText = (one other : List ℕ) (end last : BookOutcome) → IsText one end → IsText other last → (one ≡ other) × (end ≡ last)
+
 -- what is reported of a book is fixed by the book and the region
 abbrev pub ReportsAreFixed : Type 0
-ReportsAreFixed = (n : NetworkLists) → IsNetwork n → (keeper : KeeperMeaning) (book : Book) → keeper.book ≡ Some book
-    → IsFixed (IsRecheck n keeper) × IsFixed (IsReview n keeper)
+ReportsAreFixed = (n : NetworkLists) → IsNetwork n → (keeper : KeeperMeaning) (book : Book) → keeper.book ≡ Some book → (fail : Bool)
+    → IsFixedEnd (IsReported (recheck_rule n) fail keeper) × IsFixedEnd (IsReported (review_rule n) fail keeper)
 
 -- the journey that is claimed, if one is, starts then
 abbrev pub StartsAt : ℕ → Option (ℕ × Route) → Type 0

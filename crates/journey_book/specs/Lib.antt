@@ -1,6 +1,7 @@
 pub mod Books
 pub mod Keepers
 pub mod Memory
+pub mod Given
 pub mod Requests
 pub mod Statuses
 pub mod Sayings

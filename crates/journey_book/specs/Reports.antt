@@ -1,5 +1,7 @@
 -- What is written of a book: its names, and what a region makes of what it keeps.
-use Rattle.std.specs.Prelude.{◌≡◌, ℕ, ◌⊎◌, List, [], ◌∷◌, ◌++◌, codes, decimal, Option, None, Some, Err}
+use Rattle.std.specs.Prelude.{◌≡◌, ℕ, ◌⊎◌, ◌&&◌, Bool, not, List, [], ◌∷◌, ◌++◌, codes, decimal, Option, None, Some, Err, if◌then◌else◌}
+use Rattle.std.specs.List.{list_all}
+use Rattle.std.specs.Str.{bytes_eq}
 use Rattle.plain_texts.specs.Lines.{lines_text, with_feed}
 use Rattle.mode_network.specs.NetworkLists.{NetworkLists}
 use Rattle.journey.specs.declared.verdict.CertFault.TheVariants.{BadLine}
@@ -11,6 +13,8 @@ use Rattle.certificate.specs.Reading.{cert_of}
 use Rattle.certificate.specs.Verdicts.{IsCertVerdict}
 use Rattle.journey_book.specs.Books.{AreNamesOf}
 use Rattle.journey_book.specs.Keepers.{KeeperMeaning, Tells}
+use Rattle.journey_book.specs.declared.outcome.BookOutcome.{BookOutcome}
+use Rattle.journey_book.specs.declared.outcome.BookOutcome.TheVariants.{Done, NotWell}
 
 -- the names of the book, each on a line
 abbrev pub IsListing : KeeperMeaning → List ℕ → Type 0
@@ -33,25 +37,42 @@ abbrev pub IsSaidOn : ClaimRule → Option (List ℕ) → List ℕ → Type 0
 IsSaidOn AreRight (Some bytes) words = IsSaid AreRight bytes words
 IsSaidOn AreRight None words = words ≡ codes "absent"
 
--- a line of a report: the name, and what is said of what is kept under it
-pub record IsReportLine (AreRight : ClaimRule) (keeper : KeeperMeaning) (name line : List ℕ) : Type 0 where
+-- these words are right for what is kept under a name
+pub record IsSaidOf (AreRight : ClaimRule) (keeper : KeeperMeaning) (name words : List ℕ) : Type 0 where
   pub held : Option (List ℕ)
   pub told : Tells keeper (λ book. book name ≡ held)
-  pub words : List ℕ
   pub says : IsSaidOn AreRight held words
-  pub line_is : line ≡ name ++ codes " " ++ words
 
--- a line for each of these names, in order
-abbrev pub AreReported : ClaimRule → KeeperMeaning → List (List ℕ) → List ℕ → Type 0
-AreReported AreRight keeper [] out = out ≡ []
-AreReported AreRight keeper (name ∷ names) out =
-    (line : List ℕ) × (rest : List ℕ) × IsReportLine AreRight keeper name line × AreReported AreRight keeper names rest
-    × (out ≡ with_feed line ++ rest)
+-- a line for each of these names, in order, with what is said of it
+abbrev pub AreReported : ClaimRule → KeeperMeaning → List (List ℕ) → List (List ℕ) → List ℕ → Type 0
+AreReported AreRight keeper [] [] out = out ≡ []
+AreReported AreRight keeper (name ∷ names) (words ∷ said) out =
+    (rest : List ℕ) × IsSaidOf AreRight keeper name words × AreReported AreRight keeper names said rest
+    × (out ≡ with_feed (name ++ codes " " ++ words) ++ rest)
+AreReported AreRight keeper _ _ out = ⊥
 
--- a line for each name of the book, in order
-abbrev pub IsReport : ClaimRule → KeeperMeaning → List ℕ → Type 0
-IsReport AreRight keeper out =
-    (names : List (List ℕ)) × Tells keeper (λ book. AreNamesOf book names) × AreReported AreRight keeper names out
+-- which words are right for a certificate, and which of the words of a line are well
+pub record ReportRule : Type 1 where
+  pub AreRight : ClaimRule
+  pub is_well : List ℕ → Bool
+
+-- a line for each of these names, in order; and whether all of them are well
+abbrev pub HasReported : ReportRule → KeeperMeaning → List (List ℕ) → List ℕ → Bool → Type 0
+HasReported rule keeper names out well =
+    (said : List (List ℕ)) × AreReported rule.AreRight keeper names said out × (well ≡ list_all rule.is_well said)
+
+-- a line for each name of the book, in order; and whether all of them are well
+abbrev pub IsReport : ReportRule → KeeperMeaning → List ℕ → Bool → Type 0
+IsReport rule keeper out well =
+    (names : List (List ℕ)) × Tells keeper (λ book. AreNamesOf book names) × HasReported rule keeper names out well
+
+-- how a report ends a run, which may be asked to fail where a line is not well
+abbrev pub end_by : Bool → Bool → BookOutcome
+end_by fail well = if fail && not well then NotWell else Done
+
+-- a report, and the end of the run that writes it
+abbrev pub IsReported : ReportRule → Bool → KeeperMeaning → List ℕ → BookOutcome → Type 0
+IsReported rule fail keeper out end = (well : Bool) × IsReport rule keeper out well × (end ≡ end_by fail well)
 
 -- ---- which certificates hold
 
@@ -64,6 +85,10 @@ verdict_words (Invalid clause at) = codes "invalid " ++ decimal clause ++ codes 
 abbrev pub IsJudged : NetworkLists → ClaimRule
 IsJudged n claim words = (verdict : CertVerdict) × IsCertVerdict n None claim verdict × (words ≡ verdict_words verdict)
 
+-- a line is well that says `valid`
+abbrev pub says_valid : List ℕ → Bool
+says_valid words = bytes_eq words (codes "valid")
+
 -- which of the certificates hold in a region
-abbrev pub IsRecheck : NetworkLists → KeeperMeaning → List ℕ → Type 0
-IsRecheck n = IsReport (IsJudged n)
+abbrev pub recheck_rule : NetworkLists → ReportRule
+recheck_rule n = record { AreRight = IsJudged n; is_well = says_valid }

@@ -1,26 +1,27 @@
 -- What a command line of the book asks for, and which words ask for it.
-use Rattle.std.specs.Prelude.{◌≡◌, ℕ, ◌&&◌, ◌||◌, nat_le, nat_eq, Bool, true, false, List, [], ◌∷◌, length, codes}
+use Rattle.std.specs.Prelude.{◌≡◌, ℕ, ◌&&◌, ◌||◌, nat_le, nat_eq, Bool, true, false, List, [], ◌∷◌, length, codes, find, Option, Some, None, option_and_then, if◌then◌else◌}
 use Rattle.std.specs.List.{list_all}
 use Rattle.std.specs.Str.{bytes_eq}
+use Rattle.journey_book.specs.Given.{Given, given_by}
 use Rattle.journey_book.specs.declared.words.BookCommand.{BookCommand}
 use Rattle.journey_book.specs.declared.words.BookCommand.TheVariants as command
 
--- a command with what it works on: names, and the paths of files
+-- a command with what it works on: names, and the paths of files; and whether it fails where a line of its report is not well
 pub data Request : Type 0 where
   keep : (name region certificate : List ℕ) → Request
   drop : (name : List ℕ) → Request
   list : Request
   show : (name : List ℕ) → Request
-  recheck : (region : List ℕ) → Request
-  review : (region : List ℕ) → Request
+  recheck : (region : List ℕ) (fail : Bool) → Request
+  review : (region : List ℕ) (fail : Bool) → Request
 
 abbrev pub request_of : BookCommand → Request
 request_of (command.Keep name region certificate) = keep name.now region.now certificate.now
 request_of (command.Drop name) = drop name.now
 request_of command.List = list
 request_of (command.Show name) = show name.now
-request_of (command.Recheck region) = recheck region.now
-request_of (command.Review region) = review region.now
+request_of (command.Recheck region fail) = recheck region.now fail
+request_of (command.Review region fail) = review region.now fail
 
 -- a small letter or a digit
 abbrev pub is_letter_or_digit : ℕ → Bool
@@ -37,24 +38,59 @@ is_name_byte b = is_letter_or_digit b || nat_eq b 45 || nat_eq b 95
 abbrev pub is_name : List ℕ → Bool
 is_name word = begins_name word && nat_le (length word) 64 && list_all is_name_byte word
 
--- help is asked for in the place of a region
-abbrev pub asks_help : List ℕ → Bool
-asks_help word = bytes_eq word (codes "--help")
+-- ---- what each command asks for, by its plain words, what `--hierarchy` names, and whether `--fail` stands there
 
--- the words are the program's name and the book's, which may be any, a command's name, and then these
-pub record AreWords (words : List (List ℕ)) (name : List ℕ) (given : List (List ℕ)) : Type 0 where
-  pub program : List ℕ
-  pub book : List ℕ
-  pub are : words ≡ program ∷ book ∷ name ∷ given
+abbrev pub keep_by : List (List ℕ) → Option (List ℕ) → Bool → Option Request
+keep_by (name ∷ region ∷ certificate ∷ []) None false = if is_name name then Some (keep name region certificate) else None
+keep_by _ _ _ = None
+
+abbrev pub drop_by : List (List ℕ) → Option (List ℕ) → Bool → Option Request
+drop_by (name ∷ []) None false = if is_name name then Some (drop name) else None
+drop_by _ _ _ = None
+
+abbrev pub list_by : List (List ℕ) → Option (List ℕ) → Bool → Option Request
+list_by [] None false = Some list
+list_by _ _ _ = None
+
+abbrev pub show_by : List (List ℕ) → Option (List ℕ) → Bool → Option Request
+show_by (name ∷ []) None false = if is_name name then Some (show name) else None
+show_by _ _ _ = None
+
+abbrev pub recheck_by : List (List ℕ) → Option (List ℕ) → Bool → Option Request
+recheck_by (region ∷ []) None fail = Some (recheck region fail)
+recheck_by _ _ _ = None
+
+abbrev pub review_by : List (List ℕ) → Option (List ℕ) → Bool → Option Request
+review_by (region ∷ []) None fail = Some (review region fail)
+review_by _ _ _ = None
+
+-- the commands by their names
+abbrev pub commands : List (List ℕ × (List (List ℕ) → Option (List ℕ) → Bool → Option Request))
+commands =
+    (codes "keep", keep_by)
+    ∷ (codes "drop", drop_by)
+    ∷ (codes "list", list_by)
+    ∷ (codes "show", show_by)
+    ∷ (codes "recheck", recheck_by)
+    ∷ (codes "review", review_by)
+    ∷ []
+
+-- what a command of this name asks for, where this stands behind it
+abbrev pub request_by : List ℕ → Given → Option Request
+request_by name given =
+    option_and_then (λ command. command.1 given.words given.hierarchy given.fail)
+    (find (λ command. bytes_eq command.0 name) commands)
+
+-- ---- what words ask for
+
+-- behind the program's name and the book's, which may be any, stand a command's name and its words
+abbrev pub asked_by : List (List ℕ) → Option Request
+asked_by (program ∷ book ∷ name ∷ behind) = option_and_then (request_by name) (given_by behind)
+asked_by _ = None
 
 -- the words ask for this
 abbrev pub AsksFor : List (List ℕ) → Request → Type 0
-AsksFor words (keep name region certificate) = AreWords words (codes "keep") (name ∷ region ∷ certificate ∷ []) × (is_name name ≡ true)
-AsksFor words (drop name) = AreWords words (codes "drop") (name ∷ []) × (is_name name ≡ true)
-AsksFor words list = AreWords words (codes "list") []
-AsksFor words (show name) = AreWords words (codes "show") (name ∷ []) × (is_name name ≡ true)
-AsksFor words (recheck region) = AreWords words (codes "recheck") (region ∷ []) × (asks_help region ≡ false)
-AsksFor words (review region) = AreWords words (codes "review") (region ∷ []) × (asks_help region ≡ false)
+AsksFor words r = asked_by words ≡ Some r
 
 -- the words ask for nothing that there is
 abbrev pub AreRefused : List (List ℕ) → Type 0

@@ -1,5 +1,7 @@
 -- What a region does to the journeys that are kept: each query is answered anew, and its arrival set beside the kept one.
-use Rattle.std.specs.Prelude.{◌≡◌, ℕ, ◌+◌, ◌-◌, ◌==◌, nat_lt, ◌⊎◌, List, ◌++◌, codes, Option, None, Some, if◌then◌else◌}
+use Rattle.std.specs.Prelude.{◌≡◌, ℕ, ◌+◌, ◌-◌, ◌==◌, ◌||◌, nat_eq, nat_lt, Bool, ◌⊎◌, List, ◌++◌, codes, Option, None, Some, if◌then◌else◌}
+use Rattle.std.specs.List.{starts_with}
+use Rattle.std.specs.Str.{bytes_eq}
 use Rattle.service_days.specs.Clock.{clock_text_of}
 use Rattle.mode_network.specs.NetworkLists.{NetworkLists}
 use Rattle.mode_network.specs.Journeys.{Route}
@@ -7,8 +9,7 @@ use Rattle.journey.specs.declared.fault.QueryFault.{QueryFault}
 use Rattle.journey.specs.Queries.{IsRefused}
 use Rattle.journey.specs.Best.{Asked, Asks, IsBest, HasNone}
 use Rattle.journey.specs.Texts.{refusal_text}
-use Rattle.journey_book.specs.Keepers.{KeeperMeaning}
-use Rattle.journey_book.specs.Reports.{ClaimRule, IsReport}
+use Rattle.journey_book.specs.Reports.{ClaimRule, ReportRule}
 
 -- When a kept journey arrives, where its query departs then: as long after the departure as it says that it arrives after its
 -- start. Its own times count from the first date of a region that is not there any more.
@@ -44,6 +45,11 @@ IsReviewed n claim words =
     ((fault : QueryFault) × IsRefused n claim.line fault × (words ≡ refusal_text fault))
     ⊎ ((asked : Asked) × Asks n claim.line asked × IsAnswered n claim.result asked words)
 
+-- a line is well that says `same`, `earlier` or `found`: one is there no later than was kept
+abbrev pub is_no_later : List ℕ → Bool
+is_no_later words =
+    bytes_eq words (codes "same") || starts_with nat_eq words (codes "earlier ") || starts_with nat_eq words (codes "found ")
+
 -- what a region does to the journeys that are kept
-abbrev pub IsReview : NetworkLists → KeeperMeaning → List ℕ → Type 0
-IsReview n = IsReport (IsReviewed n)
+abbrev pub review_rule : NetworkLists → ReportRule
+review_rule n = record { AreRight = IsReviewed n; is_well = is_no_later }

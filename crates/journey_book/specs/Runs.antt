@@ -46,8 +46,8 @@ may_change (keep name region certificate) = true
 may_change (drop name) = true
 may_change list = false
 may_change (show name) = false
-may_change (recheck region) = false
-may_change (review region) = false
+may_change (recheck region fail) = false
+may_change (review region fail) = false
 
 -- What a run that was asked to keep or to drop, and did its work, does to a book; any other does nothing. What is kept is what
 -- the shelf holds under the certificate's name.

@@ -8,7 +8,7 @@ use Rattle.journey_book.specs.Books.{Book}
 use Rattle.journey_book.specs.Keepers.{KeeperMeaning, Becomes, Stays, Tells}
 use Rattle.journey_book.specs.declared.outcome.BookFile.{BookFile}
 use Rattle.journey_book.specs.declared.outcome.BookOutcome.{BookOutcome}
-use Rattle.journey_book.specs.declared.outcome.BookOutcome.TheVariants.{Done, Missing, ReadFault, TooLong, WriteFault, OutOfMemory, KeepFault}
+use Rattle.journey_book.specs.declared.outcome.BookOutcome.TheVariants.{Done, Missing, ReadFault, TooLong, WriteFault, OutOfMemory, KeepFault, NotWell}
 
 -- what a run works on: the shelf that it reads from, the keeper, and the output
 pub record Scene : Type 0 where
@@ -84,14 +84,23 @@ pub record HasWritten (P : List ℕ → Type 0) (old new : SinkMeaning) : Type 0
   pub is : P out
   pub appended : Appended old new out
 
--- these bytes begin a text that has P
-abbrev pub BeginsOne : (List ℕ → Type 0) → List ℕ → Type 0
-BeginsOne P part = (whole : List ℕ) × (count : ℕ) × P whole × (part ≡ take count whole)
+-- a text that may end a run so, and these bytes begin it
+abbrev pub BeginsOne : (List ℕ → BookOutcome → Type 0) → List ℕ → Type 0
+BeginsOne IsText part = (whole : List ℕ) × (end : BookOutcome) × (count : ℕ) × IsText whole end × (part ≡ take count whole)
 
--- a text is written, or a front of one; or the keeper fails, or memory runs out, and nothing is written
-abbrev pub Writes : (List ℕ → Type 0) → Saying
-Writes IsText old new Done = HasWritten IsText old.out new.out × Stays old.keeper new.keeper
+-- a text is written with which the run may end so, and the book stays
+abbrev pub HasEnded : (List ℕ → BookOutcome → Type 0) → Saying
+HasEnded IsText old new outcome = HasWritten (λ text. IsText text outcome) old.out new.out × Stays old.keeper new.keeper
+
+-- a text is written, which says how the run ends; or a front of one; or the keeper fails, or memory runs out, and nothing is written
+abbrev pub Writes : (List ℕ → BookOutcome → Type 0) → Saying
+Writes IsText old new Done = HasEnded IsText old new Done
+Writes IsText old new NotWell = HasEnded IsText old new NotWell
 Writes IsText old new WriteFault = Rose old.out.faults new.out.faults × HasWritten (BeginsOne IsText) old.out new.out × Stays old.keeper new.keeper
 Writes IsText old new KeepFault = Rose old.keeper.faults new.keeper.faults × IsUntouched old new
 Writes IsText old new OutOfMemory = IsUntouched old new
 Writes IsText old new _ = ⊥
+
+-- a text that has P, with which all is done
+abbrev pub ThenDone : (List ℕ → Type 0) → List ℕ → BookOutcome → Type 0
+ThenDone P text end = P text × (end ≡ Done)

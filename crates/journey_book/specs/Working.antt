@@ -1,5 +1,5 @@
 -- What the steps of a run answer.
-use Rattle.std.specs.Prelude.{◌≡◌, ℕ, ◌≤◌, List, None, Err, Ok}
+use Rattle.std.specs.Prelude.{◌≡◌, ℕ, ◌≤◌, ⊤, Bool, List, None, Result, Err, Ok}
 use Rattle.plan_base.specs.Counts.{Rose}
 use Rattle.plan_base.specs.Shelves.{ShelfMeaning, HasRead}
 use Rattle.plan_base.specs.Sinks.{SinkMeaning, AppendedPart}
@@ -20,6 +20,7 @@ use Rattle.certificate.specs.Texts.{IsCertText}
 use Rattle.certificate.specs.Reading.{cert_of}
 use Rattle.certificate.specs.Verdicts.{IsCertVerdict}
 use Rattle.journey_book.specs.Keepers.{KeeperMeaning, IsKeepFault}
+use Rattle.journey_book.specs.Reports.{end_by}
 use Rattle.journey_book.specs.Sayings.{most_bytes, IsUnread}
 use Rattle.journey_book.specs.declared.keeper.KeepFault.{KeepFault as KeepCause}
 use Rattle.journey_book.specs.declared.keeper.KeepFault.TheVariants as keep_cause
@@ -79,6 +80,11 @@ abbrev pub IsKeeperOutcome : KeeperMeaning → KeeperMeaning → BookOutcome →
 IsKeeperOutcome old new KeepFault = Rose old.faults new.faults
 IsKeeperOutcome old new OutOfMemory = Unit {0}
 IsKeeperOutcome old new _ = ⊥
+
+-- how a report ends a run, which was written, or was not
+abbrev pub ended_by : Result ⊤ BookOutcome → Bool → Bool → BookOutcome
+ended_by (Ok _) fail well = end_by fail well
+ended_by (Err outcome) fail well = outcome
 
 -- why a text was not written whole
 abbrev pub IsTextOutcome : SinkMeaning → SinkMeaning → List ℕ → BookOutcome → Type 0

@@ -4,6 +4,7 @@
 //! any keeper. [`MemoryKeeper`] tells its book; [`SqliteKeeper`], over a real database, tells nothing and counts its refusals.
 #![tactic(auto)]
 
+mod given;
 pub mod keeper;
 mod keeping;
 mod laws;
@@ -23,7 +24,7 @@ pub use laws::{reports_are_fixed, runs_fold, valid_is_same};
 pub use memory_keeper::MemoryKeeper;
 pub use outcome::{BookFile, BookOutcome};
 pub use rechecking::Recheck;
-pub use reports::{Report, report_of};
+pub use reports::{Report, Reported, report_of};
 pub use reviewing::Review;
 pub use running::{run_book, run_book_within};
 pub use sqlite_keeper::{Refusal, SqliteKeeper};

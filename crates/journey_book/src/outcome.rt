@@ -50,6 +50,8 @@ pub enum BookOutcome {
     KeepFault,
     /// Nothing is kept under the name.
     Absent,
+    /// The report is written, and a line of it is not well, for which the run was asked to fail.
+    NotWell,
 }
 
 impl BookOutcome {
@@ -70,6 +72,7 @@ impl BookOutcome {
             BookOutcome::OutOfMemory => 13,
             BookOutcome::KeepFault => 14,
             BookOutcome::Absent => 15,
+            BookOutcome::NotWell => 16,
         }
     }
 
@@ -81,6 +84,7 @@ impl BookOutcome {
             BookOutcome::Absent => Some(
                 "nothing is kept under this name; list writes the names that there are",
             ),
+            BookOutcome::NotWell => Some("a line says that something does not hold, or is worse"),
             BookOutcome::OutOfMemory => Some("memory ran out"),
             _ => None,
         }

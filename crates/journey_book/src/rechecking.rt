@@ -1,7 +1,7 @@
 //! Which of the certificates that are kept hold in a region.
 
 ghost use Rattle.std.specs.Prelude.{◌≡◌, ◌++◌, OnOk};
-ghost use Rattle.journey_book.specs.Reports.{verdict_words};
+ghost use Rattle.journey_book.specs.Reports.{says_valid, verdict_words};
 
 use crate::reports::Report;
 use certificate::{CertVerdict, Certificate, verify};
@@ -17,9 +17,9 @@ pub struct Recheck<'a> {
 }
 
 impl Report for Recheck<'_> {
-    ghost use Rattle.journey_book.specs.Reports.{IsJudged};
+    ghost use Rattle.journey_book.specs.Reports.{recheck_rule};
 
-    ghost rule = { λ it. IsJudged it.network.now };
+    ghost rule = { λ it. recheck_rule it.network.now };
 
     fn push_words(
         &self,
@@ -31,6 +31,17 @@ impl Report for Recheck<'_> {
         let verdict = verify(alloc, self.network, None, certificate)?;
         push_verdict(verdict, text)
     }
+
+    fn is_well(&self, words: &[u8]) -> bool {
+        says_valid(words)
+    }
+}
+
+/// Whether a line says `valid`.
+fn says_valid(words: &[u8]) -> bool
+    ensures { result ≡ says_valid words.now }
+{
+    words == b"valid".as_slice()
 }
 
 /// The words of a verdict.

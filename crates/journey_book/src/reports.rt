@@ -1,11 +1,11 @@
 //! Reports: what is said of each certificate that is kept.
 
-ghost use Rattle.std.specs.Prelude.{◌≡◌, ◌≤◌, ℕ, List, ◌++◌, codes, map, option_map, string_bytes, IfErr, IfOk, OnOk};
+ghost use Rattle.std.specs.Prelude.{◌≡◌, ◌≤◌, ℕ, List, ◌++◌, ◌&&◌, codes, map, option_map, string_bytes, IfErr, IfOk, OnOk};
 ghost use Rattle.plain_texts.specs.Lines.{with_feed};
 ghost use Rattle.journey.specs.Blocks.{AddsText};
 ghost use Rattle.certificate.specs.Valid.{HaveTimes};
 ghost use Rattle.journey_book.specs.Keepers.{IsKeepFault, Stays};
-ghost use Rattle.journey_book.specs.Reports.{AreReported, ClaimRule, IsReport, IsSaid, IsSaidOn};
+ghost use Rattle.journey_book.specs.Reports.{HasReported, IsReport, IsSaid, IsSaidOn};
 
 use crate::keeper::{KeepFault, Keeper};
 use certificate::{CertFault, Certificate, read};
@@ -15,8 +15,10 @@ use std::alloc::{AllocError, Global};
 
 /// What says something of a certificate.
 pub trait Report {
-    /// Which words are right.
-    ghost rule: { Self → ClaimRule };
+    ghost use Rattle.journey_book.specs.Reports.{ReportRule};
+
+    /// Which words are right, and which of them are well.
+    ghost rule: { Self → ReportRule };
 
     /// Appends words that are right for a certificate. Searches may use the workspace.
     fn push_words(
@@ -27,11 +29,22 @@ pub trait Report {
         text: &mut Vec<u8>,
     ) -> Result<(), AllocError>
         requires { HaveTimes certificate.now }
-        ensures { OnOk result (AddsText (rule self.now certificate.now) text.old.items text.new.items) };
+        ensures { OnOk result (AddsText ((rule self.now).AreRight certificate.now) text.old.items text.new.items) };
+
+    /// Whether the words of a line are well.
+    fn is_well(&self, words: &[u8]) -> bool
+        ensures { result ≡ (rule self.now).is_well words.now };
+}
+
+/// The lines of a report, and whether all of them are well.
+#[derive(Drop)]
+pub struct Reported {
+    pub text: Vec<u8>,
+    pub well: bool,
 }
 
 /// What is said of all that a keeper keeps: a line for each name, ascending by bytes, with what is said of the certificate
-/// that is kept under it, or `bad LINE` where that is none.
+/// that is kept under it, or `bad LINE` where that is none; and whether all lines are well.
 ///
 /// # Errors
 ///
@@ -40,9 +53,9 @@ pub fn report_of<R: Report, K: Keeper>(
     alloc: Global,
     report: &R,
     keeper: &mut K,
-) -> Result<Vec<u8>, KeepFault>
+) -> Result<Reported, KeepFault>
     ensures later { (K.meaning keeper.old).faults ≤ (K.meaning keeper.new).faults }
-    ensures ok { IfOk result (λ text. IsReport (R.rule report.now) (K.meaning keeper.old) text.items) }
+    ensures ok { IfOk result (λ it. IsReport (R.rule report.now) (K.meaning keeper.old) it.text.items it.well) }
     ensures same { Stays (K.meaning keeper.old) (K.meaning keeper.new) }
     ensures cause { IfErr result (IsKeepFault (K.meaning keeper.old) (K.meaning keeper.new)) }
 {
@@ -56,46 +69,55 @@ fn report_all<R: Report, K: Keeper>(
     report: &R,
     keeper: &mut K,
     names: &[String],
-) -> Result<Vec<u8>, KeepFault>
+) -> Result<Reported, KeepFault>
     ensures later { (K.meaning keeper.old).faults ≤ (K.meaning keeper.new).faults }
-    ensures ok { IfOk result (λ text.
-        AreReported (R.rule report.now) (K.meaning keeper.old) (map string_bytes names.now) text.items) }
+    ensures ok { IfOk result (λ it. HasReported (R.rule report.now) (K.meaning keeper.old) (map string_bytes names.now)
+        it.text.items it.well) }
     ensures same { Stays (K.meaning keeper.old) (K.meaning keeper.new) }
     ensures cause { IfErr result (IsKeepFault (K.meaning keeper.old) (K.meaning keeper.new)) }
 {
     let mut workspace = Workspace::new(alloc);
     let mut text = Vec::new(alloc);
+    let mut well = true;
     for name in names {
-        let held = keeper.get(name.as_str())?;
-        push_line(
-            alloc,
-            report,
-            &mut workspace,
-            name.as_str(),
-            &held,
-            &mut text,
-        )?;
+        let key = name.as_str();
+        let held = keeper.get(key)?;
+        let words = said_on(alloc, report, &mut workspace, &held)?;
+        let said = words.as_slice();
+        push_line(key, said, &mut text)?;
+        well = both(well, report.is_well(said));
     }
-    Ok(text)
+    Ok(Reported { text, well })
+}
+
+fn both(one: bool, other: bool) -> bool
+    ensures { result ≡ (one && other) }
+{
+    one && other
 }
 
 /// A line on what is kept under a name.
-fn push_line<R: Report>(
-    alloc: Global,
-    report: &R,
-    workspace: &mut Workspace,
-    name: &str,
-    held: &Option<Vec<u8>>,
-    text: &mut Vec<u8>,
-) -> Result<(), AllocError>
-    ensures { OnOk result ((words : List ℕ)
-        × IsSaidOn (R.rule report.now) (option_map (λ body. body.items) held.now) words
-        × (text.new.items ≡ text.old.items ++ with_feed (name.now ++ codes " " ++ words))) }
+fn push_line(name: &str, words: &[u8], text: &mut Vec<u8>) -> Result<(), AllocError>
+    ensures { OnOk result (text.new.items ≡ text.old.items ++ with_feed (name.now ++ codes " " ++ words.now)) }
 {
     text.extend_from_slice(name.as_bytes())?;
     text.push(b' ')?;
-    push_held(alloc, report, workspace, held, text)?;
+    text.extend_from_slice(words)?;
     push_line_feed(text)
+}
+
+/// What is said of what is kept under a name.
+fn said_on<R: Report>(
+    alloc: Global,
+    report: &R,
+    workspace: &mut Workspace,
+    held: &Option<Vec<u8>>,
+) -> Result<Vec<u8>, AllocError>
+    ensures { IfOk result (λ words. IsSaidOn (R.rule report.now).AreRight (option_map (λ body. body.items) held.now) words.items) }
+{
+    let mut words = Vec::new(alloc);
+    push_held(alloc, report, workspace, held, &mut words)?;
+    Ok(words)
 }
 
 /// What is said of what is kept under a name.
@@ -106,7 +128,7 @@ fn push_held<R: Report>(
     held: &Option<Vec<u8>>,
     text: &mut Vec<u8>,
 ) -> Result<(), AllocError>
-    ensures { OnOk result (AddsText (IsSaidOn (R.rule report.now) (option_map (λ body. body.items) held.now))
+    ensures { OnOk result (AddsText (IsSaidOn (R.rule report.now).AreRight (option_map (λ body. body.items) held.now))
         text.old.items text.new.items) }
 {
     match held {
@@ -123,7 +145,7 @@ fn push_said<R: Report>(
     bytes: &[u8],
     text: &mut Vec<u8>,
 ) -> Result<(), AllocError>
-    ensures { OnOk result (AddsText (IsSaid (R.rule report.now) bytes.now) text.old.items text.new.items) }
+    ensures { OnOk result (AddsText (IsSaid (R.rule report.now).AreRight bytes.now) text.old.items text.new.items) }
 {
     match read(alloc, bytes) {
         Ok(certificate) => report.push_words(alloc, workspace, &certificate, text),

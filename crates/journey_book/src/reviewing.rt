@@ -6,7 +6,7 @@ ghost use Rattle.journey.specs.Best.{Asked, IsBest, asked_by};
 ghost use Rattle.journey.specs.Blocks.{AddsText, IsPrintable};
 ghost use Rattle.journey.specs.Ends.{HasTimes};
 ghost use Rattle.planning.specs.Plans.{IsRead};
-ghost use Rattle.journey_book.specs.Reviews.{IsAnswered, arrival_words, beside, kept_arrival, nothing_words};
+ghost use Rattle.journey_book.specs.Reviews.{IsAnswered, arrival_words, beside, is_no_later, kept_arrival, nothing_words};
 
 use crate::reports::Report;
 use certificate::Certificate;
@@ -26,9 +26,9 @@ pub struct Review<'a> {
 }
 
 impl Report for Review<'_> {
-    ghost use Rattle.journey_book.specs.Reviews.{IsReviewed};
+    ghost use Rattle.journey_book.specs.Reviews.{review_rule};
 
-    ghost rule = { λ it. IsReviewed it.network.now };
+    ghost rule = { λ it. review_rule it.network.now };
 
     fn push_words(
         &self,
@@ -46,6 +46,17 @@ impl Report for Review<'_> {
             Err(fault) => push_refusal(text, fault),
         }
     }
+
+    fn is_well(&self, words: &[u8]) -> bool {
+        is_no_later(words)
+    }
+}
+
+/// Whether a line says `same`, `earlier` or `found`.
+fn is_no_later(words: &[u8]) -> bool
+    ensures { result ≡ is_no_later words.now }
+{
+    words == b"same".as_slice() || words.starts_with(b"earlier ") || words.starts_with(b"found ")
 }
 
 /// What is said of a kept result whose query asks this.

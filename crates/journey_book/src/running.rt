@@ -38,11 +38,11 @@ fn carry_out<F: Shelf, K: Keeper, O: Sink, E: Sink>(
         BookCommand::Drop { name } => drop_name(name, keeper, caps),
         BookCommand::List => list(alloc, keeper, out, caps),
         BookCommand::Show { name } => show(name, keeper, out, caps),
-        BookCommand::Recheck { region } => {
-            recheck_all(alloc, region, shelf, keeper, out, notes, caps)
+        BookCommand::Recheck { region, fail } => {
+            recheck_all(alloc, region, fail, shelf, keeper, out, notes, caps)
         }
-        BookCommand::Review { region } => {
-            review_all(alloc, region, shelf, keeper, out, notes, caps)
+        BookCommand::Review { region, fail } => {
+            review_all(alloc, region, fail, shelf, keeper, out, notes, caps)
         }
     }
 }
@@ -74,9 +74,9 @@ pub fn run_book_within<F: Shelf, K: Keeper, O: Sink, E: Sink>(
 ///
 /// `keep` keeps a certificate's bytes under a name, where it is valid in a region; `drop` removes a name; `list` writes all
 /// names and `show` what is kept under one; `recheck` writes which of the certificates that are kept hold in a region, and
-/// `review` what it does to their journeys. The outcome says how the run ended. Where the shelf tells that all files are
-/// there, they are without fault, and no count of faults rose, all of the work is done, unless nothing is kept under the name
-/// or memory ran out. `notes` is told why a run did not end with its work done, and where the words ask for nothing, what they
+/// `review` what it does to their journeys; with `--fail` these two end as `NotWell` where one does not hold, or is worse. The
+/// outcome says how the run ended. Where the shelf tells that all files are there, they are without fault, and no count of
+/// faults rose, all of the work is done, unless nothing is kept under the name or memory ran out. `notes` is told why a run did not end with its work done, and where the words ask for nothing, what they
 /// may be; a fault of `notes` changes nothing.
 pub fn run_book<F: Shelf, K: Keeper, O: Sink, E: Sink>(
     alloc: Global,

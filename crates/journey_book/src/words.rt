@@ -1,8 +1,11 @@
 //! What the words of a command line ask for.
 
-ghost use Rattle.std.specs.Prelude.{◌≡◌, ℕ, List, [], ◌∷◌, None, true, false, map, string_bytes, IfSome};
+ghost use Rattle.std.specs.Prelude.{◌≡◌, map, option_and_then, option_map, string_bytes};
 ghost use Rattle.std.specs.List.{list_all};
-ghost use Rattle.journey_book.specs.Requests.{AreRefused, AsksFor, Request, asks_help, begins_name, is_letter_or_digit, is_name, is_name_byte, request_of};
+ghost use Rattle.journey_book.specs.Given.{given_of};
+ghost use Rattle.journey_book.specs.Requests.{asked_by, begins_name, drop_by, is_letter_or_digit, is_name, is_name_byte, keep_by, list_by, recheck_by, request_by, request_of, review_by, show_by};
+
+use crate::given::{GivenWords, Plain, read_given};
 
 /// What a command line asks for. Files are named by their paths.
 #[derive(Clone, Copy)]
@@ -23,127 +26,154 @@ pub enum BookCommand<'a> {
     Show {
         name: &'a str,
     },
-    /// Which of the certificates that are kept hold in a region.
+    /// Which of the certificates that are kept hold in a region; and whether it is to fail where one does not.
     Recheck {
         region: &'a str,
+        fail: bool,
     },
-    /// What a region does to the journeys that are kept.
+    /// What a region does to the journeys that are kept; and whether it is to fail where one is worse.
     Review {
         region: &'a str,
+        fail: bool,
     },
 }
 
 /// The command that the words ask for: the program's name, the book's, the command's, and what it works on. None exactly where they
 /// ask for nothing.
-pub fn read_words<'a>(words: &'a [String]) -> Option<BookCommand<'a>>
-    ensures some { IfSome result (λ command. AsksFor (map string_bytes words.now) (request_of command)) }
-    ensures none { result ≡ None → AreRefused (map string_bytes words.now) }
-    ensures only { (r : Request) → AsksFor (map string_bytes words.now) r → IfSome result (λ command. request_of command ≡ r) }
+pub fn read_words(words: &[String]) -> Option<BookCommand<'_>>
+    ensures { option_map request_of result ≡ asked_by (map string_bytes words.now) }
 {
     match words {
-        [_, _, command, given @ ..] => named(command.as_str(), given),
+        [_, _, command, behind @ ..] => named_behind(command.as_str(), read_given(behind)),
         _ => None,
     }
 }
 
-/// The command of this name, with the words behind it.
-fn named<'a>(command: &str, given: &'a [String]) -> Option<BookCommand<'a>>
-    ensures some { (program book : List ℕ) → IfSome result (λ c. AsksFor (program ∷ book ∷ command.now ∷ map string_bytes given.now) (request_of c)) }
-    ensures none { result ≡ None → (program book : List ℕ) → AreRefused (program ∷ book ∷ command.now ∷ map string_bytes given.now) }
-    ensures only { (program book : List ℕ) (r : Request) → AsksFor (program ∷ book ∷ command.now ∷ map string_bytes given.now) r → IfSome result (λ c. request_of c ≡ r) }
+/// The command of this name, if the words behind it are those of any.
+fn named_behind<'a>(command: &str, given: Option<GivenWords<'a>>) -> Option<BookCommand<'a>>
+    ensures { option_map request_of result
+        ≡ option_and_then (request_by command.now) (option_map given_of given.entry) }
+{
+    named(command, given?)
+}
+
+/// The command of this name, behind which this stands.
+fn named<'a>(command: &str, given: GivenWords<'a>) -> Option<BookCommand<'a>>
+    ensures { option_map request_of result ≡ request_by command.now (given_of given.entry) }
 {
     match command {
-        "keep" => {
-            let (name, region, certificate) = name_and_files(given)?;
-            Some(BookCommand::Keep {
-                name,
-                region,
-                certificate,
-            })
-        }
-        "drop" => Some(BookCommand::Drop {
-            name: only_name(given)?,
-        }),
-        "list" => {
-            if given.is_empty() {
-                Some(BookCommand::List)
-            } else {
-                None
-            }
-        }
-        "show" => Some(BookCommand::Show {
-            name: only_name(given)?,
-        }),
-        "recheck" => Some(BookCommand::Recheck {
-            region: only_region(given)?,
-        }),
-        "review" => Some(BookCommand::Review {
-            region: only_region(given)?,
-        }),
+        "keep" => keep(given),
+        "drop" => drop_name(given),
+        "list" => list(given),
+        "show" => show(given),
+        "recheck" => recheck(given),
+        "review" => review(given),
         _ => None,
     }
 }
 
-/// The only word.
-fn only_word(given: &[String]) -> Option<&str>
-    ensures some { IfSome result (λ word. map string_bytes given.now ≡ word.now ∷ []) }
-    ensures none { result ≡ None → (word : List ℕ) → map string_bytes given.now ≡ word ∷ [] → ⊥ }
+fn keep(given: GivenWords<'_>) -> Option<BookCommand<'_>>
+    ensures { option_map request_of result
+        ≡ keep_by (given_of given.entry).words (given_of given.entry).hierarchy given.entry.fail }
 {
-    match given {
-        [word] => Some(word.as_str()),
-        _ => None,
+    if given.fail || given.hierarchy.is_some() {
+        return None;
     }
-}
-
-/// The only word, if it is a region's path and does not ask for help.
-fn only_region(given: &[String]) -> Option<&str>
-    ensures some { IfSome result (λ region. map string_bytes given.now ≡ region.now ∷ []) }
-    ensures path { IfSome result (λ region. asks_help region.now ≡ false) }
-    ensures none { result ≡ None → (region : List ℕ) → map string_bytes given.now ≡ region ∷ [] → asks_help region ≡ false → ⊥ }
-{
-    let word = only_word(given)?;
-    if asks_help(word.as_bytes()) {
-        None
-    } else {
-        Some(word)
-    }
-}
-
-/// Whether a word asks for help.
-fn asks_help(word: &[u8]) -> bool
-    ensures { result ≡ asks_help word.now }
-{
-    word == b"--help".as_slice()
-}
-
-/// The only word, if it is a name.
-fn only_name(given: &[String]) -> Option<&str>
-    ensures some { IfSome result (λ name. map string_bytes given.now ≡ name.now ∷ []) }
-    ensures name { IfSome result (λ name. is_name name.now ≡ true) }
-    ensures none { result ≡ None → (word : List ℕ) → map string_bytes given.now ≡ word ∷ [] → is_name word ≡ true → ⊥ }
-{
-    let word = only_word(given)?;
-    if is_name(word.as_bytes()) {
-        Some(word)
-    } else {
-        None
-    }
-}
-
-/// A name and the paths of two files.
-fn name_and_files(given: &[String]) -> Option<(&str, &str, &str)>
-    ensures some { IfSome result (λ k. map string_bytes given.now ≡ k.0.now ∷ k.1.now ∷ k.2.now ∷ []) }
-    ensures name { IfSome result (λ k. is_name k.0.now ≡ true) }
-    ensures none { result ≡ None → (name first second : List ℕ) → map string_bytes given.now ≡ name ∷ first ∷ second ∷ [] → is_name name ≡ true → ⊥ }
-{
-    match given {
-        [name, first, second] => {
+    match given.plain {
+        Plain::Three(name, region, certificate) => {
             if is_name(name.as_bytes()) {
-                Some((name.as_str(), first.as_str(), second.as_str()))
+                Some(BookCommand::Keep {
+                    name,
+                    region,
+                    certificate,
+                })
             } else {
                 None
             }
         }
+        _ => None,
+    }
+}
+
+fn drop_name(given: GivenWords<'_>) -> Option<BookCommand<'_>>
+    ensures { option_map request_of result
+        ≡ drop_by (given_of given.entry).words (given_of given.entry).hierarchy given.entry.fail }
+{
+    if given.fail || given.hierarchy.is_some() {
+        return None;
+    }
+    match given.plain {
+        Plain::One(name) => {
+            if is_name(name.as_bytes()) {
+                Some(BookCommand::Drop { name })
+            } else {
+                None
+            }
+        }
+        _ => None,
+    }
+}
+
+fn list(given: GivenWords<'_>) -> Option<BookCommand<'_>>
+    ensures { option_map request_of result
+        ≡ list_by (given_of given.entry).words (given_of given.entry).hierarchy given.entry.fail }
+{
+    if given.fail || given.hierarchy.is_some() {
+        return None;
+    }
+    match given.plain {
+        Plain::No => Some(BookCommand::List),
+        _ => None,
+    }
+}
+
+fn show(given: GivenWords<'_>) -> Option<BookCommand<'_>>
+    ensures { option_map request_of result
+        ≡ show_by (given_of given.entry).words (given_of given.entry).hierarchy given.entry.fail }
+{
+    if given.fail || given.hierarchy.is_some() {
+        return None;
+    }
+    match given.plain {
+        Plain::One(name) => {
+            if is_name(name.as_bytes()) {
+                Some(BookCommand::Show { name })
+            } else {
+                None
+            }
+        }
+        _ => None,
+    }
+}
+
+fn recheck(given: GivenWords<'_>) -> Option<BookCommand<'_>>
+    ensures { option_map request_of result
+        ≡ recheck_by (given_of given.entry).words (given_of given.entry).hierarchy given.entry.fail }
+{
+    if given.hierarchy.is_some() {
+        return None;
+    }
+    match given.plain {
+        Plain::One(region) => Some(BookCommand::Recheck {
+            region,
+            fail: given.fail,
+        }),
+        _ => None,
+    }
+}
+
+fn review(given: GivenWords<'_>) -> Option<BookCommand<'_>>
+    ensures { option_map request_of result
+        ≡ review_by (given_of given.entry).words (given_of given.entry).hierarchy given.entry.fail }
+{
+    if given.hierarchy.is_some() {
+        return None;
+    }
+    match given.plain {
+        Plain::One(region) => Some(BookCommand::Review {
+            region,
+            fail: given.fail,
+        }),
         _ => None,
     }
 }

@@ -1,4 +1,5 @@
-//! A keeper over the file of a book. It opens the file at the first call, and makes it only to keep something.
+//! A keeper over the file of a book. It opens the file at the first call, waits for one that is held, and makes one only to keep
+//! something.
 
 ghost use Rattle.journey_book.specs.Working.{IsRefusal};
 
@@ -7,7 +8,13 @@ use journey_book::{BookOutcome, KeepFault, Keeper, Refusal, SqliteKeeper};
 use plan_base::{StreamSink, write_all};
 use sqlite::{Connection, Error, ErrorCode, File, FileStore};
 use std::alloc::AllocError;
-use std::fs;
+use std::time::Duration;
+use std::{fs, thread};
+
+/// How often the open of a book is tried that another process holds, and how many milliseconds are let pass between.
+const TRIES: u32 = 100;
+
+const PAUSE: u64 = 50;
 
 /// A book in a file. A call that keeps nothing finds an empty book where there is none. It tells nothing of what it keeps, and counts
 /// its failures.
@@ -78,12 +85,18 @@ impl BookFile<'_> {
     }
 
     fn connect(&mut self) -> Result<(), KeepFault> {
-        match Connection::open(self.rt, self.path) {
+        match open_free(self.rt, self.path) {
             Ok(connection) => {
                 self.book = Some(SqliteKeeper::adopt(self.rt.alloc(), connection));
                 Ok(())
             }
             Err(Error::SqliteFailure(ErrorCode::OutOfMemory)) => Err(KeepFault::OutOfMemory),
+            Err(Error::SqliteFailure(ErrorCode::DatabaseBusy)) => {
+                self.tell(
+                    "another process holds this book, and has not let it go for five seconds",
+                );
+                Err(KeepFault::Failed)
+            }
             Err(error) => {
                 self.tell_why(Refusal::Database(error));
                 if is_no_database(error) {
@@ -173,6 +186,19 @@ impl BookFile<'_> {
             let _ = write_all(&mut notes, line.as_bytes());
         }
     }
+}
+
+/// Opens a database. One that another process holds is waited for.
+fn open_free(rt: &HostRuntime, path: &str) -> Result<Connection<FileStore<File>>, Error> {
+    for _ in 1..TRIES {
+        match Connection::open(rt, path) {
+            Err(Error::SqliteFailure(ErrorCode::DatabaseBusy)) => {
+                thread::sleep(rt, Duration::from_millis(PAUSE));
+            }
+            opened => return opened,
+        }
+    }
+    Connection::open(rt, path)
 }
 
 /// Whether a file was refused for what it holds.

@@ -1,6 +1,6 @@
 use Rattle.std.specs.Prelude.{◌≤◌, map, string_bytes, take}
 use Rattle.journey_book.specs.Keepers.{Stays}
-use Rattle.journey_book.specs.Reports.{AreReported}
+use Rattle.journey_book.specs.Reports.{HasReported}
 use Rattle.journey_book.proofs.reports.report_all.Given as goal
 
 -- the book has stayed, and the lines so far are of the names so far
@@ -8,5 +8,5 @@ abbrev pub invariant-loop-name : goal.invariant-loop-name
 invariant-loop-name g l = record {
   later : (g.K.Keeper.meaning l.fn.keeper).faults ≤ (g.K.Keeper.meaning l.keeper).faults;
   stays : Stays (g.K.Keeper.meaning l.fn.keeper) (g.K.Keeper.meaning l.keeper);
-  lines : AreReported (g.R.Report.rule l.report) (g.K.Keeper.meaning l.fn.keeper) (map string_bytes (take l.name-index l.names)) l.text.items;
+  lines : HasReported (g.R.Report.rule l.report) (g.K.Keeper.meaning l.fn.keeper) (map string_bytes (take l.name-index l.names)) l.text.items l.well;
 }
