@@ -86,7 +86,9 @@ def _of_region(region: bytes, queries: bytes, program: Program) -> Iterator[Call
     yield Call("check", ("check", "{region}", "{hierarchy}"), over)
     yield Call("answer", ("answer", "{region}", "{queries}", "--hierarchy", "{hierarchy}"), {**over, "queries": queries})
     lines = [line for line in queries.decode().splitlines() if line and not line.startswith("#")]
-    yield Call("requests", ("requests", "{region}", "{requests}", "--hierarchy", "{hierarchy}"), {**over, "requests": _requests(lines)})
+    asked = {**over, "requests": _requests(lines)}
+    for limits in ((), ("--places", "3", "--labels", "20")):
+        yield Call("requests", ("requests", "{region}", "{requests}", "--hierarchy", "{hierarchy}", *limits), asked)
     yield _matrix(lines, over)
     for line in lines[:MOST_LINES]:
         yield from _of_line(line, region, hierarchy, program)
