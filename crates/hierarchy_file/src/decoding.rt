@@ -8,26 +8,10 @@ ghost use Rattle.hierarchy_file.specs.Reading.{Gives, GivesHierarchy, records_of
 
 use crate::fault::{HFileFault, Halt};
 use crate::head::{Counts, head_at};
+use crate::lists::Lists;
 use crate::records::{entries_of, nodes_of, witnesses_of};
-use hierarchy::{Entry, Hierarchy, Witness};
+use hierarchy::Hierarchy;
 use std::alloc::Global;
-use std::marker::Model;
-
-/// The lists of a hierarchy. A contract sees them as lists.
-#[derive(Drop)]
-pub struct Lists {
-    order: Vec<u32>,
-    entries: Vec<Entry>,
-    witnesses: Vec<Witness>,
-}
-
-impl Model for Lists {
-    ghost use Rattle.hierarchy.specs.Lists.{HierarchyLists};
-
-    ghost Value = { HierarchyLists };
-
-    ghost view = { λ l. record { order = l.order.items; entries = l.entries.items; witnesses = l.witnesses.items } };
-}
 
 /// All records, and the bytes behind them.
 #[tactic(auto, unfolding(crate::specs::Reading::records_of))]
@@ -75,12 +59,16 @@ fn lists_of(alloc: Global, bytes: &[u8]) -> Result<Lists, HFileFault>
 fn read(alloc: Global, bytes: &[u8]) -> Result<Hierarchy, HFileFault>
     ensures { GivesHierarchy result (hierarchy_of bytes.now) }
 {
-    let Lists {
-        order,
-        entries,
-        witnesses,
-    } = lists_of(alloc, bytes)?;
-    Ok(Hierarchy::new(alloc, order, entries, witnesses)?)
+    let lists = decode_lists(alloc, bytes)?;
+    Ok(lists.into_hierarchy(alloc)?)
+}
+
+/// The lists of the hierarchy that the bytes spell, or the first fault of the bytes, as [`decode`] finds them.
+pub fn decode_lists(alloc: Global, bytes: &[u8]) -> Result<Lists, HFileFault>
+    ensures found { IfOk result (λ lists. HasSpelling lists × (bytes.now ≡ hierarchy_text lists)) }
+    ensures exact { GivesHierarchy result (hierarchy_of bytes.now) }
+{
+    lists_of(alloc, bytes)
 }
 
 /// The hierarchy that the bytes spell.
