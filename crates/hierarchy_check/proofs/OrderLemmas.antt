@@ -1,16 +1,18 @@
--- Which node may stand at a place of the order.
-use Rattle.std.proofs.Common.{◌≡◌, ℕ, ◌<◌, ◌==◌, ◌||◌, Bool, true, false, not, nat_eq, List, length, get_or, Some, inl, inr, sym, ◌∙◌, subst, arith}
+-- Which node may stand at a place of the order, by those that were met before.
+use Rattle.std.proofs.Common.{◌≡◌, ◌≢◌, ℕ, ◌+◌, ◌<◌, ◌≤◌, ◌==◌, ◌||◌, Bool, true, false, not, nat_eq, List, ◌++◌, length, get_or, set, replicate, Some, None, inl, inr, refl, sym, ◌∙◌, subst, arith}
 use Rattle.std.specs.Prelude.{IsTrue, ◌↔◌, slice_get}
-use Rattle.std.proofs.lemmas.Bool.{false≢true, both_ways, not-true, not_from_false, eqb-true, eq-eqb, ne_eqb, or_from, or_left, or_right, cases_lt}
-use Rattle.std.proofs.lemmas.List.{get_or_default}
+use Rattle.std.proofs.lemmas.Bool.{false≢true, both_ways, not-true, not_from_false, eqb-true, eqb-false, eq-eqb, ne_eqb, or_from, or_left, or_right, cases_lt, cases_Bool}
+use Rattle.std.proofs.lemmas.Option.{option_and_then_some, slice_get_within}
+use Rattle.std.proofs.lemmas.List.{length-append, get_or_default, get_or-replicate, get_or_past, get_or-set_same, get_or-set_other, length-set, length-replicate}
 use Rattle.std.proofs.lemmas.List.Folds.{list_any_none, list_any_at}
-use Rattle.std.proofs.lemmas.Option.{get_or_from_slice_get}
 use Rattle.mode_network.specs.declared.nodes.Arc.{Arc}
-use Rattle.mode_network.specs.NetworkLists.{NetworkLists, mode_at}
+use Rattle.mode_network.specs.declared.nodes.Node.{Node}
+use Rattle.mode_network.specs.NetworkLists.{NetworkLists, mode_at, mode_of, nodes_of}
 use Rattle.mode_network.specs.Indexes.{is_end_of}
-use Rattle.hierarchy.specs.Lists.{height_in}
-use Rattle.hierarchy.specs.Soundness.{IsFree, IsNewAt, MayStandAt}
-use Rattle.hierarchy.proofs.HeightLemmas.{height_least, height_is}
+use Rattle.hierarchy.specs.Soundness.{HoldsBelow, IsFree, MayStandAt}
+use Rattle.hierarchy.specs.FirstBroken.{FailsFirstAt}
+use Rattle.hierarchy_check.proofs.PlaceLemmas.{one_fails}
+use Rattle.hierarchy_check.specs.Meetings.{AreMet, IsFirstMeeting}
 
 -- ---- links
 
@@ -30,31 +32,75 @@ free_iff n x mode road b is = (λ h. free (sym is ∙ not-true b h), λ h. not_f
   unlinked : IsFree n x → is_end_of n.links x ≡ false
   unlinked h = list_any_none (touches x) n.links (λ k d lt. or_from _ _ (ne_eqb _ _ (h.none_from k d lt)) (ne_eqb _ _ (h.none_to k d lt)))
 
--- ---- heights
+-- ---- meetings
 
-new_iff : (order : List ℕ) (k x : ℕ) → k < length order → get_or order k x ≡ x → (nat_eq (height_in order x) k ≡ true) ↔ IsNewAt order k
-new_iff order k x lt is = (λ h j d before same. first (eqb-true _ _ h) j d before same, λ new. eq-eqb _ _ (at_place new)) where
-  here : (d : ℕ) → get_or order k d ≡ x
-  here d = get_or_default order k d x lt ∙ is
+-- before the first place
+pub none_met : (n : NetworkLists) (order : List ℕ) → AreMet n order 0 (replicate (length (nodes_of n)) false)
+none_met n order = record {
+  one_each = length-replicate (length (nodes_of n)) false;
+  stands = λ v d is. absurd (false≢true (sym (blank v) ∙ is));
+  noted = λ j d lt. absurd (omega (arith, lt));
+  in_order = λ j lt. absurd (omega (arith, lt));
+} where
+  blank : (v : ℕ) → get_or (replicate (length (nodes_of n)) false) v false ≡ false
+  blank v = elim (cases_lt v (length (nodes_of n))) [
+    | inl lt ↦ get_or-replicate (length (nodes_of n)) v false false lt
+    | inr ge ↦ get_or_past (replicate (length (nodes_of n)) false) v false (omega (arith, length-replicate (length (nodes_of n)) false))
+  ]
 
-  first : height_in order x ≡ k → (j d : ℕ) → j < k → get_or order j d ≡ get_or order k d → ⊥
-  first height j d before same = omega (arith, height_least order x j d (omega arith) (same ∙ here d))
+module _ (n : NetworkLists) (order : List ℕ) (k x : ℕ) (met : List Bool) (are : AreMet n order k met) (lt : k < length order) (is : (d : ℕ) → get_or order k d ≡ x) where
+  -- who is met for the first time may stand there
+  stands_here : IsFirstMeeting n met x → MayStandAt n order k
+  stands_here first = (
+    λ d. subst (IsFree n) (sym (is d)) first.0,
+    λ j d before same. false≢true (sym first.1 ∙ subst (λ v. get_or met v false ≡ true) (same ∙ is d) (are.noted j d before)),
+  )
 
-  at_place : IsNewAt order k → height_in order x ≡ k
-  at_place new =
-      let most = height_least order x k x lt is in
-      elim (cases_lt (height_in order x) k) [
-        | inl before ↦ absurd (new (height_in order x) x before (height_is order x x (omega arith) ∙ sym is))
-        | inr after ↦ omega arith
-      ]
+  pub meeting_iff : (b : Bool) → (IsTrue b ↔ IsFirstMeeting n met x) → IsTrue b ↔ MayStandAt n order k
+  meeting_iff b test = (λ h. stands_here (test.0 h), λ may. test.1 (subst (IsFree n) (is 0) (may.0 0), is_new may)) where
+    is_new : MayStandAt n order k → get_or met x false ≡ false
+    is_new may = elim (cases_Bool (get_or met x false)) [
+      | inl met_it ↦ let found = are.stands x 0 met_it in absurd (may.1 found.0 0 found.1 (found.2 ∙ sym (is 0)))
+      | inr unmet ↦ unmet
+    ]
 
-pub stands_if_free : (n : NetworkLists) (order : List ℕ) (k x : ℕ) → k < length order → slice_get order k ≡ Some x → IsFree n x
-    → (nat_eq (height_in order x) k ≡ true) ↔ MayStandAt n order k
-stands_if_free n order k x lt at free =
-    let is = get_or_from_slice_get order k x x at in
-    let new = new_iff order k x lt is in
-    (λ h. (λ d. subst (IsFree n) (sym (get_or_default order k d x lt ∙ is)) free, new.0 h), λ h. new.1 h.1)
+  pub met_more : x < length (nodes_of n) → IsFirstMeeting n met x → AreMet n order (k + 1) (set met x true)
+  met_more low first = record {
+    one_each = length-set met x true ∙ are.one_each;
+    stands = λ v d there. stands_after v d there (nat_eq v x) refl;
+    noted = λ j d before. noted_after j d before (nat_eq (get_or order j d) x) refl;
+    in_order = in_order;
+  } where
+    stands_after : (v d : ℕ) → get_or (set met x true) v false ≡ true → (b : Bool) → nat_eq v x ≡ b → (j : ℕ) × (j < k + 1) × (get_or order j d ≡ v)
+    stands_after v d there true e = (k, omega arith, is d ∙ sym (eqb-true v x e))
+    stands_after v d there false e =
+        let found = are.stands v d (sym (get_or-set_other met x v true false (eqb-false v x e)) ∙ there) in
+        (found.0, omega (arith, found.1), found.2)
 
-pub not_if_bound : (n : NetworkLists) (order : List ℕ) (k x : ℕ) → slice_get order k ≡ Some x → (IsFree n x → ⊥) → (false ≡ true) ↔ MayStandAt n order k
-not_if_bound n order k x at bound =
-    (λ h. absurd (false≢true h), λ h. absurd (bound (subst (IsFree n) (get_or_from_slice_get order k x x at) (h.0 x))))
+    earlier : (j d : ℕ) → j < k + 1 → nat_eq (get_or order j d) x ≡ false → j < k
+    earlier j d before e = elim (cases_lt j k) [
+      | inl lt ↦ lt
+      | inr ge ↦ let same : j ≡ k = omega (arith, before, ge) in absurd (eqb-false _ _ e (subst (λ i. get_or order i d ≡ x) (sym same) (is d)))
+    ]
+
+    noted_after : (j d : ℕ) → j < k + 1 → (b : Bool) → nat_eq (get_or order j d) x ≡ b → get_or (set met x true) (get_or order j d) false ≡ true
+    noted_after j d before true e = subst (λ v. get_or (set met x true) v false ≡ true) (sym (eqb-true _ _ e)) (get_or-set_same met x true false (omega (arith, are.one_each)))
+    noted_after j d before false e = get_or-set_other met x (get_or order j d) true false (eqb-false _ _ e) ∙ are.noted j d (earlier j d before e)
+
+    in_order : HoldsBelow (k + 1) (MayStandAt n order)
+    in_order j before = elim (cases_lt j k) [
+      | inl lt ↦ are.in_order j lt
+      | inr ge ↦ let same : j ≡ k = omega (arith, before, ge) in subst (MayStandAt n order) (sym same) (stands_here first)
+    ]
+
+-- a free node is a node of the network
+pub free_below : (n : NetworkLists) (x : ℕ) → IsFree n x → x < length (nodes_of n)
+free_below n x free =
+    option_and_then_some (λ (node : Node). mode_of node.key) (slice_get n.roads x) free.mode free.road
+    (λ node at moded. let within : x < length (n.roads ++ n.stops ++ n.switches) =
+    omega (arith, slice_get_within n.roads x node at, length-append n.roads n.stops, length-append (n.roads ++ n.stops) n.switches) in within)
+
+-- the first who is not met for the first time may not stand there, and all before may
+pub misplaced : (n : NetworkLists) (order : List ℕ) (k x : ℕ) (met : List Bool) → AreMet n order k met → k < length order → ((d : ℕ) → get_or order k d ≡ x)
+    → (b : Bool) → (IsTrue b ↔ IsFirstMeeting n met x) → b ≡ false → FailsFirstAt (length order) (MayStandAt n order) k
+misplaced n order k x met are lt is b test failed = one_fails (length order) (MayStandAt n order) k b lt (meeting_iff n order k x met are lt is b test) failed are.in_order

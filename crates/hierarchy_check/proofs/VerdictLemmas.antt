@@ -1,5 +1,6 @@
 -- A sound hierarchy has no clause that fails.
 use Rattle.std.proofs.Common.{◌≡◌, ℕ, inl, inr, refl}
+use Rattle.std.specs.Prelude.{Result, Ok, Err, IfOk}
 use Rattle.mode_network.specs.NetworkLists.{NetworkLists}
 use Rattle.hierarchy.specs.declared.verdict.Verdict.{Verdict}
 use Rattle.hierarchy.specs.declared.verdict.Verdict.TheVariants.{Sound, Broken}
@@ -17,3 +18,7 @@ not_both n h clause at by sound (inr (inr (inr (inr (is, order, layers, covered,
 pub sound_verdict : (n : NetworkLists) (h : HierarchyLists) (verdict : Verdict) → IsVerdict n h verdict → IsSound n h → verdict ≡ Sound
 sound_verdict n h Sound is sound = refl
 sound_verdict n h (Broken clause at by) is sound = absurd (not_both n h clause at by sound is)
+
+pub sound_checked : {E : Type 0} (n : NetworkLists) (h : HierarchyLists) (checked : Result Verdict E) → IfOk checked (IsVerdict n h) → IsSound n h → IfOk checked (λ verdict. verdict ≡ Sound)
+sound_checked n h (Ok verdict) is sound = sound_verdict n h verdict is sound
+sound_checked n h (Err fault) is sound = is

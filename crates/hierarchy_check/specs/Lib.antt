@@ -1,1 +1,3 @@
 pub mod Light
+pub mod Meetings
+pub mod Nodes

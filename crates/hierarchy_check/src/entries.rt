@@ -14,12 +14,11 @@ use mode_network::{Arc, Network};
 const HEAVY: u64 = 1 << 56;
 
 /// The first entry whose ends are no different road nodes of one layer, or that is too heavy.
-pub(crate) fn first_across_layers(network: &Network, h: &Hierarchy) -> Option<u64>
+pub(crate) fn first_across_layers(network: &Network, entries: &[Entry]) -> Option<u64>
     ensures { MatchOption result
-        (All (FitsLayer network.now) h.now.entries)
-        (FailsFirst (FitsLayer network.now) h.now.entries) }
+        (All (FitsLayer network.now) entries.now)
+        (FailsFirst (FitsLayer network.now) entries.now) }
 {
-    let entries = h.entries();
     for at in 0..entries.len() {
         if !fits_layer(network, entries[at]) {
             return Some(at as u64);

@@ -8,4 +8,4 @@ mod order;
 mod rows;
 mod witnesses;
 
-pub use checking::check;
+pub use checking::{check, check_nodes, check_ways};

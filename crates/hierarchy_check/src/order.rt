@@ -1,34 +1,44 @@
 //! Clause 1: the order lists distinct road nodes that no link joins.
 
-ghost use Rattle.std.specs.Prelude.{◌≡◌, ◌<◌, ◌↔◌, Some, IsTrue, MatchOption, length, slice_get};
-ghost use Rattle.hierarchy.specs.Soundness.{IsFree, MayStandAt};
-ghost use Rattle.hierarchy.specs.FirstBroken.{OrderHolds, FailsFirstAt};
+ghost use Rattle.std.specs.Prelude.{◌≡◌, ◌↔◌, IfOk, IsTrue, MatchOption, length};
+ghost use Rattle.mode_network.specs.NetworkLists.{nodes_of};
+ghost use Rattle.hierarchy.specs.Soundness.{HoldsBelow, IsFree, MayStandAt};
+ghost use Rattle.hierarchy.specs.FirstBroken.{FailsFirstAt};
+ghost use Rattle.hierarchy_check.specs.Meetings.{IsFirstMeeting, meets};
 
-use hierarchy::Hierarchy;
 use mode_network::Network;
+use std::alloc::{AllocError, Global};
 
-/// The first place of the order whose node is no road node, has a link, or stands before.
-pub(crate) fn first_misplaced(network: &Network, h: &Hierarchy) -> Option<u64>
-    ensures { MatchOption result
-        (OrderHolds network.now h.now)
-        (FailsFirstAt (length h.now.order) (MayStandAt network.now h.now.order)) }
+/// The first place of an order whose node is no road node, has a link, or stands before.
+pub(crate) fn first_misplaced(
+    alloc: Global,
+    network: &Network,
+    order: &[u32],
+) -> Result<Option<u64>, AllocError>
+    ensures { IfOk result (λ found. MatchOption found
+        (HoldsBelow (length order.now) (MayStandAt network.now order.now))
+        (FailsFirstAt (length order.now) (MayStandAt network.now order.now))) }
 {
-    let order = h.order();
+    let mut met = vec![in alloc; false; network.nodes() as usize]?;
     for place in 0..order.len() {
-        if !may_stand_at(network, h, place as u64, order[place]) {
-            return Some(place as u64);
+        if !meet(network, &mut met, order[place]) {
+            return Ok(Some(place as u64));
         }
     }
-    None
+    Ok(None)
 }
 
-/// Whether this node, which stands at this place of the order, may stand there.
-fn may_stand_at(network: &Network, h: &Hierarchy, place: u64, x: u32) -> bool
-    requires within { place < length h.now.order }
-    requires is { slice_get h.now.order place ≡ Some x }
-    ensures { IsTrue result ↔ MayStandAt network.now h.now.order place }
+/// Whether a node is free and was not met before. It is then noted as met.
+fn meet(network: &Network, met: &mut Vec<bool>, x: u32) -> bool
+    requires { length met.old.items ≡ length (nodes_of network.now) }
+    ensures is { IsTrue result ↔ IsFirstMeeting network.now met.old.items x }
+    ensures noted { met.new.items ≡ meets result met.old.items x }
 {
-    is_free(network, x) && h.height(x) == place
+    if !is_free(network, x) || met[x as usize] {
+        return false;
+    }
+    met[x as usize] = true;
+    true
 }
 
 /// Whether the node is a road node that no link joins.

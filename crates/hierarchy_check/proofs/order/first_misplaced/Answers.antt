@@ -1,19 +1,21 @@
-use Rattle.std.proofs.Common.{length, subst, arith}
-use Rattle.hierarchy.specs.Soundness.{HoldsBelow, MayStandAt}
-use Rattle.hierarchy.specs.FirstBroken.{FailsFirstAt}
-use Rattle.hierarchy_check.proofs.PlaceLemmas.{one_fails, hold_more}
+use Rattle.std.proofs.Common.{ℕ, ◌≡◌, get_or, length, arith, subst}
+use Rattle.std.proofs.lemmas.List.{get_or_default}
+use Rattle.mode_network.specs.NetworkLists.{nodes_of}
+use Rattle.hierarchy_check.proofs.OrderLemmas.{misplaced, met_more, none_met, free_below}
 use Rattle.hierarchy_check.proofs.order.first_misplaced.Goals as goal
 
-pub returns-then-not-may_stand_at : goal.returns-then-not-may_stand_at
-returns-then-not-may_stand_at c =
-    subst (λ order. FailsFirstAt (length order) (MayStandAt c.args.network.now order) c.loop-place.place) c.order-order.ensures
-    (one_fails (length c.order-order.result.now) (MayStandAt c.args.network.now c.order-order.result.now) c.loop-place.place c.may_stand_at.result c.loop-place-test.true (rw c.order-order.ensures c.may_stand_at.ensures) c.if-not-may_stand_at.true c.loop-place.invariant)
+pub returns-then-not-meet : goal.returns-then-not-meet
+returns-then-not-meet c =
+    let x = get_or c.args.order.now c.loop-place.place 0 in
+    misplaced c.args.network.now c.args.order.now c.loop-place.place x c.loop-place.met.items c.loop-place.invariant c.loop-place-test.true
+    (λ d. get_or_default c.args.order.now c.loop-place.place d 0 c.loop-place-test.true) c.meet.result c.meet.ensures.is c.if-not-meet.true
 
 pub loop-place-preserved : goal.loop-place-preserved
 loop-place-preserved c =
-    hold_more c.loop-place.place (MayStandAt c.args.network.now c.order-order.result.now) c.loop-place.invariant (rw c.order-order.ensures (c.may_stand_at.ensures.0 c.if-not-may_stand_at.false))
+    let x = get_or c.args.order.now c.loop-place.place 0 in
+    let first = c.meet.ensures.is.0 c.if-not-meet.false in
+    rw c.meet.ensures.noted (rw c.if-not-meet.false (met_more c.args.network.now c.args.order.now c.loop-place.place x c.loop-place.met.items c.loop-place.invariant c.loop-place-test.true
+    (λ d. get_or_default c.args.order.now c.loop-place.place d 0 c.loop-place-test.true) (free_below c.args.network.now x first.0) first))
 
 pub returns : goal.returns
-returns c =
-    subst (λ order. HoldsBelow (length order) (MayStandAt c.args.network.now order)) c.order-order.ensures
-    (λ k lt. c.loop-place.invariant k (omega (arith, c.loop-place-test.false)))
+returns c = λ k lt. c.loop-place.invariant.in_order k (omega (arith, lt, c.loop-place-test.false))

@@ -1,5 +1,5 @@
-use Rattle.hierarchy.specs.Soundness.{HoldsBelow, MayStandAt}
+use Rattle.hierarchy_check.specs.Meetings.{AreMet}
 use Rattle.hierarchy_check.proofs.order.first_misplaced.Given as goal
 
 abbrev pub invariant-loop-place : goal.invariant-loop-place
-invariant-loop-place l = HoldsBelow l.place (MayStandAt l.network l.order)
+invariant-loop-place l = AreMet l.network l.order l.place l.met.items

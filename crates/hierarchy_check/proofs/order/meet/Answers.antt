@@ -1,0 +1,1 @@
+use Rattle.hierarchy_check.proofs.order.meet.Goals as goal
