@@ -16,6 +16,16 @@ use Rattle.run_steps.specs.Sayings.{IsUnread, most_bytes}
 abbrev pub AreSound : NetworkLists → List ℕ → HierarchyLists → Type 0
 AreSound n bytes h = (hierarchy_of bytes ≡ Ok h) × IsHierarchy h × IsSound n h
 
+-- a hierarchy with these lists is sound
+abbrev pub IsSoundOf : NetworkLists → HierarchyLists → HierarchyLists → Type 0
+IsSoundOf n lists h = (h ≡ lists) × IsSound n h
+
+-- why there is none with these lists
+abbrev pub IsUnsoundOf : NetworkLists → HierarchyLists → Outcome → Type 0
+IsUnsoundOf n lists (Unsound clause at by) = IsFirstBroken n lists clause at by
+IsUnsoundOf n lists OutOfMemory = Unit {0}
+IsUnsoundOf n lists _ = ⊥
+
 -- why the bytes spell none
 abbrev pub AreUnsound : NetworkLists → List ℕ → Outcome → Type 0
 AreUnsound n bytes (BadHierarchy fault) = hierarchy_of bytes ≡ Err fault

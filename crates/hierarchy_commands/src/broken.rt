@@ -1,68 +1,71 @@
 //! What a hierarchy that is not sound breaks, told to people by the keys of the nodes.
 
-use hierarchy::{Entry, Hierarchy};
+use hierarchy::Entry;
 use mode_expression::Letter;
 use mode_network::{Network, NodeKey};
 use std::alloc::{AllocError, Global};
 
-/// Which node of the order, road arc or entries a clause fails at, each counted from 0, and what the clause asks for.
-pub(crate) fn broken(
-    alloc: Global,
-    network: &Network,
-    path: &str,
-    h: &Hierarchy,
-    clause: u8,
-    at: u64,
-    by: u64,
-) -> Result<String, AllocError> {
-    let what = broken_at(alloc, network, h, clause, at, by)?;
-    let rule = sound_rule(clause);
-    format!(in alloc;
-        "{path}: the hierarchy is not sound for the region: {what}; by clause {clause}, {rule}"
-    )
+/// What a verdict on a hierarchy speaks of: the lists of the file of this path, and the network.
+#[derive(Clone, Copy)]
+pub(crate) struct Judged<'a> {
+    pub network: &'a Network,
+    pub path: &'a str,
+    pub order: &'a [u32],
+    pub entries: &'a [Entry],
 }
 
-/// The node of the order, the road arc or the entries that a clause fails at.
-fn broken_at(
-    alloc: Global,
-    network: &Network,
-    h: &Hierarchy,
-    clause: u8,
-    at: u64,
-    by: u64,
-) -> Result<String, AllocError> {
-    match clause {
-        1 => {
-            let node = match h.order().get(at as usize) {
-                Some(v) => key(alloc, network, *v)?,
-                None => String::new(alloc),
-            };
-            format!(in alloc; "number {at} of its order is {node}")
-        }
-        2 => {
-            let arc = match network.arcs().get(at as usize) {
-                Some(arc) => leg(alloc, network, arc.from, arc.to, arc.ms as u64)?,
-                None => String::new(alloc),
-            };
-            format!(in alloc; "arc {at} of the region leads {arc}")
-        }
-        4 => {
-            let first = entry(alloc, network, h.entries().get(at as usize))?;
-            let second = entry(alloc, network, h.entries().get(by as usize))?;
-            format!(in alloc; "entry {at} leads {first}, and entry {by} {second}")
-        }
-        _ => {
-            let entry = entry(alloc, network, h.entries().get(at as usize))?;
-            format!(in alloc; "entry {at} leads {entry}")
+impl Judged<'_> {
+    /// Which node of the order, road arc or entries a clause fails at, each counted from 0, and what the clause asks for.
+    pub(crate) fn broken(
+        &self,
+        alloc: Global,
+        clause: u8,
+        at: u64,
+        by: u64,
+    ) -> Result<String, AllocError> {
+        let path = self.path;
+        let what = self.broken_at(alloc, clause, at, by)?;
+        let rule = sound_rule(clause);
+        format!(in alloc;
+            "{path}: the hierarchy is not sound for the region: {what}; by clause {clause}, {rule}"
+        )
+    }
+
+    /// The node of the order, the road arc or the entries that a clause fails at.
+    fn broken_at(&self, alloc: Global, clause: u8, at: u64, by: u64) -> Result<String, AllocError> {
+        match clause {
+            1 => {
+                let node = match self.order.get(at as usize) {
+                    Some(v) => key(alloc, self.network, *v)?,
+                    None => String::new(alloc),
+                };
+                format!(in alloc; "number {at} of its order is {node}")
+            }
+            2 => {
+                let arc = match self.network.arcs().get(at as usize) {
+                    Some(arc) => leg(alloc, self.network, arc.from, arc.to, arc.ms as u64)?,
+                    None => String::new(alloc),
+                };
+                format!(in alloc; "arc {at} of the region leads {arc}")
+            }
+            4 => {
+                let first = self.entry(alloc, at)?;
+                let second = self.entry(alloc, by)?;
+                format!(in alloc; "entry {at} leads {first}, and entry {by} {second}")
+            }
+            _ => {
+                let entry = self.entry(alloc, at)?;
+                format!(in alloc; "entry {at} leads {entry}")
+            }
         }
     }
-}
 
-/// The ends of an entry, and its weight.
-fn entry(alloc: Global, network: &Network, e: Option<&Entry>) -> Result<String, AllocError> {
-    match e {
-        Some(e) => leg(alloc, network, e.from, e.to, e.weight),
-        None => Ok(String::new(alloc)),
+    /// The ends of the entry at a place, and its weight.
+    fn entry(&self, alloc: Global, at: u64) -> Result<String, AllocError> {
+        match self.entries.get(at as usize) {
+            Some(e) => leg(alloc, self.network, e.from, e.to, e.weight),
+            None => Ok(String::new(alloc)),
+        }
     }
 }
 

@@ -1,13 +1,16 @@
 //! Reading a hierarchy, which is checked at once.
 
 ghost use Rattle.std.specs.Prelude.{◌≡◌, IfErr, IfOk, option_map};
+ghost use Rattle.hierarchy.specs.Rules.{IsHierarchy};
+ghost use Rattle.hierarchy_check.specs.Nodes.{HasNodes};
 ghost use Rattle.plan_base.specs.Shelves.{IsLater};
-ghost use Rattle.hierarchy_commands.specs.Working.{HasSound, AreSound, AreUnsound, IsHierarchyOutcome, IsFoundSound, IsNamedOutcome};
+ghost use Rattle.hierarchy_commands.specs.Working.{HasSound, AreSound, AreUnsound, IsSoundOf, IsUnsoundOf, IsHierarchyOutcome, IsFoundSound, IsNamedOutcome};
 
-use crate::broken::broken;
+use crate::broken::Judged;
 use fault_notes::bad_hierarchy;
 use hierarchy::{Hierarchy, Verdict};
-use hierarchy_file::{HFileFault, decode};
+use hierarchy_check::{check_nodes, check_ways};
+use hierarchy_file::{HFileFault, Lists, decode_lists};
 use mode_network::Network;
 use plan_base::{Shelf, Sink};
 use run_steps::{FileRole, Outcome, read_file, tell};
@@ -60,25 +63,74 @@ fn sound<E: Sink>(
     ensures ok { IfOk result (AreSound network.now bytes.now) }
     ensures err { IfErr result (AreUnsound network.now bytes.now) }
 {
-    let h = match decode(alloc, bytes) {
-        Ok(h) => h,
-        Err(HFileFault::OutOfMemory) => return Err(Outcome::OutOfMemory),
+    match decode_lists(alloc, bytes) {
+        Ok(lists) => sound_of(alloc, network, path, lists, notes),
+        Err(HFileFault::OutOfMemory) => Err(Outcome::OutOfMemory),
         Err(fault) => {
             tell(alloc, notes, bad_hierarchy(alloc, path, fault));
-            return Err(Outcome::BadHierarchy { fault });
+            Err(Outcome::BadHierarchy { fault })
         }
+    }
+}
+
+/// The hierarchy of these lists, which is sound for the network; or the first clause that fails, which `notes` is told too.
+///
+/// Its tables are made when the order and the entries are known to name nodes of the network alone, so that they are no
+/// longer than these are many.
+fn sound_of<E: Sink>(
+    alloc: Global,
+    network: &Network,
+    path: &str,
+    lists: Lists,
+    notes: &mut E,
+) -> Result<Hierarchy, Outcome>
+    requires { IsHierarchy lists }
+    ensures ok { IfOk result (IsSoundOf network.now lists) }
+    ensures err { IfErr result (IsUnsoundOf network.now lists) }
+{
+    match check_nodes(alloc, network, lists.order(), lists.entries()) {
+        Ok(Verdict::Sound) => joined(alloc, network, path, lists, notes),
+        Ok(Verdict::Broken { clause, at, by }) => {
+            let judged = Judged {
+                network,
+                path,
+                order: lists.order(),
+                entries: lists.entries(),
+            };
+            tell(alloc, notes, judged.broken(alloc, clause, at, by));
+            Err(Outcome::Unsound { clause, at, by })
+        }
+        Err(_) => Err(Outcome::OutOfMemory),
+    }
+}
+
+/// The hierarchy of lists that name nodes of the network alone, which is sound for it; or the first clause that fails, which
+/// `notes` is told too.
+fn joined<E: Sink>(
+    alloc: Global,
+    network: &Network,
+    path: &str,
+    lists: Lists,
+    notes: &mut E,
+) -> Result<Hierarchy, Outcome>
+    requires rules { IsHierarchy lists }
+    requires nodes { HasNodes network.now lists }
+    ensures ok { IfOk result (IsSoundOf network.now lists) }
+    ensures err { IfErr result (IsUnsoundOf network.now lists) }
+{
+    let Ok(h) = lists.into_hierarchy(alloc) else {
+        return Err(Outcome::OutOfMemory);
     };
-    match hierarchy_check::check(network, &h) {
-        Verdict::Sound => {
-            h.known();
-            Ok(h)
-        }
+    match check_ways(network, &h) {
+        Verdict::Sound => Ok(h),
         Verdict::Broken { clause, at, by } => {
-            tell(
-                alloc,
-                notes,
-                broken(alloc, network, path, &h, clause, at, by),
-            );
+            let judged = Judged {
+                network,
+                path,
+                order: h.order(),
+                entries: h.entries(),
+            };
+            tell(alloc, notes, judged.broken(alloc, clause, at, by));
             Err(Outcome::Unsound { clause, at, by })
         }
     }

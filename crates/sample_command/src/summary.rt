@@ -113,7 +113,7 @@ fn contracted<E: Sink>(
 {
     let mut told = ContractionNotes::new(alloc, notes);
     let hierarchy = contract(alloc, city, 0, &mut told)?;
-    match check(city, &hierarchy) {
+    match check(alloc, city, &hierarchy)? {
         Verdict::Sound => Ok(hierarchy),
         Verdict::Broken { .. } => unreachable!(),
     }
