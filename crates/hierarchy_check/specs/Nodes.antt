@@ -1,5 +1,5 @@
 -- The verdict by the clauses on nodes alone, 1 and 5.
-use Rattle.std.specs.Prelude.{ℕ, All}
+use Rattle.std.specs.Prelude.{All}
 use Rattle.mode_network.specs.NetworkLists.{NetworkLists}
 use Rattle.hierarchy.specs.declared.verdict.Verdict.{Verdict}
 use Rattle.hierarchy.specs.declared.verdict.Verdict.TheVariants.{Sound, Broken}

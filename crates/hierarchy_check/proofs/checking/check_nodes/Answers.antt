@@ -9,8 +9,12 @@ pub returns-in-Some-first_across_layers : goal.returns-in-Some-first_across_laye
 returns-in-Some-first_across_layers c = rw c.broken-in-Some-first_across_layers.ensures (λ h order entries.
     let n = c.args.network.now in
     let holds : HoldsBelow (length c.args.order.now) (MayStandAt n c.args.order.now) = rw c.in-None.is at c.in_ok-at.ensures in
-    inr (inl (refl, refl, subst (λ it. HoldsBelow (length it) (MayStandAt n it)) (sym order) holds,
-    subst (λ (it : List Entry). FailsFirst (FitsLayer n) it c.in-Some-first_across_layers.at) (sym entries) c.in-Some-first_across_layers.ensures)))
+    inr (inl (
+      refl,
+      refl,
+      subst (λ it. HoldsBelow (length it) (MayStandAt n it)) (sym order) holds,
+      subst (λ (it : List Entry). FailsFirst (FitsLayer n) it c.in-Some-first_across_layers.at) (sym entries) c.in-Some-first_across_layers.ensures,
+    )))
 
 pub returns-in-None-first_across_layers : goal.returns-in-None-first_across_layers
 returns-in-None-first_across_layers c = λ h order entries.

@@ -1,7 +1,6 @@
-use Rattle.std.proofs.Common.{ℕ, ◌≡◌, get_or, length, arith, subst}
+use Rattle.std.proofs.Common.{get_or, arith}
 use Rattle.std.proofs.lemmas.List.{get_or_default}
-use Rattle.mode_network.specs.NetworkLists.{nodes_of}
-use Rattle.hierarchy_check.proofs.OrderLemmas.{misplaced, met_more, none_met, free_below}
+use Rattle.hierarchy_check.proofs.OrderLemmas.{misplaced, met_more, free_below}
 use Rattle.hierarchy_check.proofs.order.first_misplaced.Goals as goal
 
 pub returns-then-not-meet : goal.returns-then-not-meet

@@ -1,1 +1,0 @@
-use Rattle.hierarchy_check.proofs.order.meet.Goals as goal
