@@ -103,6 +103,7 @@ def town(_: int) -> str:
     return region(400, both_ways(grid(20)))
 
 
+CUTTING = "each arm that is contracted is left out of the row of the hub, which is as long as the arms that are left"
 CONTRACTING = "shortcuts between the neighbours of what is contracted; keep some nodes (docs/MANY_QUERIES.md)"
 BY_PLACES = "the product has a state for each place of the expression at each node"
 
@@ -132,7 +133,7 @@ FAMILIES = [
         queries=lambda n: "n1 n2 20240701 08:00:00 " + "foot " * n + "\n")),
     Family("answer any{n}", 6, over_region("answer", "queries", region=town, queries=any_times), BY_PLACES),
     Family("few any{n}", 6, over_region("few", "queries", region=town, queries=any_times), BY_PLACES),
-    Family("contract a star", 500, over_region("contract", region=lambda n: region(n + 1, star(n)))),
+    Family("contract a star", 500, over_region("contract", region=lambda n: region(n + 1, star(n))), CUTTING),
     Family("contract a path", 2_000, over_region("contract", region=lambda n: region(n, path(n)))),
     Family("contract a clique", 10, over_region("contract", region=lambda n: region(n, complete(n))), CONTRACTING),
     Family("contract a grid of equal weights", 10, over_region(
