@@ -12,6 +12,8 @@ pub const NAMES: &str =
 
 const REGION: &str = "The region file, in either format";
 
+const HIERARCHY: &str = "A hierarchy of the region's roads, as `modeplan contract` writes it, which certificates are over; it is checked before it is used [default: none]";
+
 /// What is said at the end of the help on all commands.
 const MORE: &str = "\
 BOOK is the file of the book, a database, which keep makes where there is none; or - for a book in memory.
@@ -50,6 +52,16 @@ fn with_word<'a>(
     command.arg(word)
 }
 
+/// The command with the option `--hierarchy`.
+fn with_hierarchy<'a>(alloc: Global, command: Command<'a>) -> Result<Command<'a>, AllocError> {
+    let option = Arg::new(alloc, "hierarchy")
+        .long("hierarchy")
+        .value_name("FILE")
+        .help(HIERARCHY)
+        .action(ArgAction::Set);
+    command.arg(option)
+}
+
 /// The command that keeps a certificate.
 fn keep<'a>(alloc: Global) -> Result<Command<'a>, AllocError> {
     let about = "Keep a certificate under a name, if it is valid in a region";
@@ -61,13 +73,14 @@ fn keep<'a>(alloc: Global) -> Result<Command<'a>, AllocError> {
     );
     let command = with_word(alloc, command, NAME, "NAME", NAMES)?;
     let command = with_word(alloc, command, "region", "REGION", REGION)?;
-    with_word(
+    let command = with_word(
         alloc,
         command,
         "certificate",
         "CERTIFICATE",
         "The certificate file, as `modeplan certify` writes it",
-    )
+    )?;
+    with_hierarchy(alloc, command)
 }
 
 /// A command on a name.
@@ -96,6 +109,7 @@ fn over_region<'a>(
 ) -> Result<Command<'a>, AllocError> {
     let command = named(alloc, name, about, example);
     let command = with_word(alloc, command, "region", "REGION", REGION)?;
+    let command = with_hierarchy(alloc, command)?;
     let flag = Arg::new(alloc, "fail")
         .long("fail")
         .help(fail)

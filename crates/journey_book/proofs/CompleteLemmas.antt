@@ -1,31 +1,39 @@
 -- A run whose files are there and without fault ends with its work done, unless nothing is kept under the name: each other outcome
 -- has a cause that is not there.
-use Rattle.std.proofs.Common.{◌≡◌, ℕ, ◌<◌, ◌≤◌, ◌∙◌, inl, inr, List, Option, Some, None, subst, sym, arith}
-use Rattle.std.specs.Prelude.{Result, length, IfSome, IsSomeAnd}
+use Rattle.std.proofs.Common.{◌≡◌, ℕ, inl, inr, List, Option, Some, subst, sym}
+use Rattle.std.specs.Prelude.{IsSome}
 use Rattle.plan_base.specs.Counts.{Rose}
-use Rattle.plan_base.specs.Shelves.{ShelfMeaning, Told}
+use Rattle.plan_base.specs.Shelves.{ShelfMeaning}
+use Rattle.plan_base.specs.Sinks.{Stays}
 use Rattle.plan_base.specs.declared.limits.Caps.{Caps}
 use Rattle.mode_network.specs.NetworkLists.{NetworkLists}
-use Rattle.mode_network.specs.Rules.{IsNetwork}
-use Rattle.region_file.specs.declared.fault.RegionFault.{RegionFault}
-use Rattle.region_file.specs.Regions.{region_of}
-use Rattle.journey.specs.declared.verdict.CertVerdict.TheVariants as verdict
-use Rattle.certificate.specs.Certificates.{Claim}
-use Rattle.certificate.specs.Verdicts.{IsCertVerdict}
-use Rattle.certificate.proofs.ReadLaws.{again}
-use Rattle.certificate.proofs.UniqueLemmas.{verdict_is_unique}
-use Rattle.journey_book.proofs.LawLemmas.{same_claim}
-use Rattle.journey_book.specs.Books.{Book}
-use Rattle.journey_book.specs.Commands.{OnNetwork, OnValid, SpellsValid, says}
-use Rattle.journey_book.specs.Complete.{Files, IsHeld, SpellsNetwork, CanBeDone, IsDoneOrAbsent}
+use Rattle.hierarchy.specs.Lists.{HierarchyLists}
+use Rattle.hierarchy_commands.specs.Commands.{OnHierarchyIfNamed}
+use Rattle.hierarchy_commands.proofs.CompleteLemmas.{named_completes}
+use Rattle.run_steps.specs.declared.outcome.Outcome.{Outcome}
+use Rattle.run_steps.specs.declared.outcome.Outcome.TheVariants.{Done, WriteFault, OutOfMemory}
+use Rattle.run_steps.specs.Certificates.{SaysVerified}
+use Rattle.run_steps.specs.Complete.{Files, Completes, IsDoneOrMemory}
+use Rattle.run_steps.specs.Regions.{OnRegion}
+use Rattle.run_steps.specs.Scene.{scene as shown}
+use Rattle.run_steps.specs.Sayings.{WritesText}
+use Rattle.run_steps.proofs.CertificateOutcomes.{certificate_fails}
+use Rattle.run_steps.proofs.CompleteSteps.{file_completes, network_completes, writes_completes}
+use Rattle.answer_commands.specs.Complete.{CanVerify}
+use Rattle.answer_commands.specs.Outputs.{best_certificates}
+use Rattle.answer_commands.specs.Working.{HasBoth, IsBothOutcome}
+use Rattle.answer_commands.proofs.BothLemmas.{both_fail, on_both}
+use Rattle.answer_commands.proofs.CompleteLemmas.{verify_completes}
+use Rattle.journey_book.specs.Books.{Book, dropped, kept}
+use Rattle.journey_book.specs.Commands.{says}
+use Rattle.journey_book.specs.Complete.{AreHeld, CanBeDone, IsDoneOrAbsent}
 use Rattle.journey_book.specs.Keepers.{Tells}
 use Rattle.journey_book.specs.Reports.{IsListing, IsReported, recheck_rule}
 use Rattle.journey_book.specs.Reviews.{review_rule}
 use Rattle.journey_book.specs.Requests.{Request, keep, drop, list, show, recheck, review}
-use Rattle.journey_book.specs.Sayings.{Scene, Saying, scene, OnFile, IsUnread, Changes, ThenDone, Writes, most_bytes}
-use Rattle.journey_book.specs.declared.outcome.BookFile.{BookFile}
+use Rattle.journey_book.specs.Sayings.{Scene, scene, Changes, EndsBy, IsCertificateOutcome, OnBoth, ThenDone, Writes}
 use Rattle.journey_book.specs.declared.outcome.BookOutcome.{BookOutcome}
-use Rattle.journey_book.specs.declared.outcome.BookOutcome.TheVariants.{Done, Missing, ReadFault, TooLong, WriteFault, OutOfMemory, KeepFault, Absent, NotWell}
+use Rattle.journey_book.specs.declared.outcome.BookOutcome.TheVariants.{Common, KeepFault, Absent, NotWell}
 
 -- no count of faults rose
 pub record IsQuiet (old new : Scene) : Type 0 where
@@ -33,88 +41,81 @@ pub record IsQuiet (old new : Scene) : Type 0 where
   pub keeper : Rose old.keeper.faults new.keeper.faults → ⊥
   pub out : Rose old.out.faults new.out.faults → ⊥
 
--- where the shelf tells these files, they have P, and no count of faults rose, a run of which this is said has done all of its work
-abbrev Completes : Files → Type 0 → Saying → Type 0
-Completes files P S = P → (old new : Scene) (outcome : BookOutcome) → old.shelf.files ≡ Some files → IsQuiet old new → S old new outcome → IsDoneOrAbsent outcome
+changes_complete : (P : Book → Type 0) (change : Book → Book) (old new : Scene) (outcome : BookOutcome) → (Rose old.keeper.faults new.keeper.faults → ⊥) → Changes P change old new outcome → IsDoneOrAbsent outcome
+changes_complete P change old new (Common Done) quiet is = tt
+changes_complete P change old new (Common OutOfMemory) quiet is = tt
+changes_complete P change old new KeepFault quiet (rose, same) = absurd (quiet rose)
+changes_complete P change old new outcome quiet none = absurd none
 
-rose_over : (first second third : ℕ) → first ≤ second → Rose second third → Rose first third
-rose_over first second third le (inl more) = inl (omega arith)
-rose_over first second third le (inr last) = inr last
+writes_complete : (IsText : List ℕ → BookOutcome → Type 0) (old new : Scene) (outcome : BookOutcome) → (Rose old.keeper.faults new.keeper.faults → ⊥) → (Rose old.out.faults new.out.faults → ⊥)
+    → Writes IsText old new outcome → IsDoneOrAbsent outcome
+writes_complete IsText old new (Common Done) quiet calm is = tt
+writes_complete IsText old new NotWell quiet calm is = tt
+writes_complete IsText old new (Common OutOfMemory) quiet calm is = tt
+writes_complete IsText old new (Common WriteFault) quiet calm (rose, front, stays) = absurd (calm rose)
+writes_complete IsText old new KeepFault quiet calm (rose, same) = absurd (quiet rose)
+writes_complete IsText old new outcome quiet calm none = absurd none
 
--- what a shelf tells that holds these bytes
-told_held : (shelf : ShelfMeaning) (files : Files) (name bytes : List ℕ) → shelf.files ≡ Some files → files name ≡ Some bytes
-    → (P : Option (List ℕ) → Type 0) → Told shelf name P → P (Some bytes)
-told_held shelf files name bytes tells held P told = subst P held (subst (λ (f : Option Files). IfSome f (λ g. P (g name))) tells told)
+absent_completes : (outcome : BookOutcome) → outcome ≡ Absent → IsDoneOrAbsent outcome
+absent_completes outcome is = subst IsDoneOrAbsent (sym is) tt
 
-module _ (files : Files) where
-  -- a file that is held is read
-  unread : (old new : ShelfMeaning) (file : BookFile) (name : List ℕ) (P : List ℕ → Type 0) (held : IsHeld files name P) → old.files ≡ Some files
-      → (Rose old.faults new.faults → ⊥) → (outcome : BookOutcome) → IsUnread old new name file outcome → IsDoneOrAbsent outcome
-  unread old new file name P held tells quiet (Missing other) (e, rose, told) =
-      let none = told_held old files name held.bytes tells held.held (λ h. h ≡ None) told in
-      absurd (cc)
-  unread old new file name P held tells quiet (ReadFault other) (e, rose) = absurd (quiet rose)
-  unread old new file name P held tells quiet (TooLong other) (e, told) =
-      let long = told_held old files name held.bytes tells held.held (λ h. IsSomeAnd h (λ bytes. most_bytes < length bytes)) told in
-      let within = held.within in
-      absurd (omega arith)
-  unread old new file name P held tells quiet OutOfMemory none = none
-  unread old new file name P held tells quiet outcome none = absurd none
+-- it ends as a run of the planner does that is as complete
+by_completes : (IsCause : Outcome → Type 0) (old new : Scene) (outcome : BookOutcome) → ((common : Outcome) → IsCause common → Stays old.out new.out → IsDoneOrMemory common)
+    → EndsBy IsCause old new outcome → IsDoneOrAbsent outcome
+by_completes IsCause old new (Common common) complete (why, same) = complete common why same.0
+by_completes IsCause old new outcome complete none = absurd none
 
-  file_completes : (file : BookFile) (name : List ℕ) (P : List ℕ → Type 0) (rest : List ℕ → Saying) → ((bytes : List ℕ) → Completes files (P bytes) (rest bytes))
-      → Completes files (IsHeld files name P) (OnFile file name rest)
-  file_completes file name P rest more held old new outcome tells quiet (inl (not, same)) = unread old.shelf new.shelf file name P held tells quiet.shelf outcome not
-  file_completes file name P rest more held old new outcome tells quiet (inr on) =
-      let file_is = told_held old.shelf files name held.bytes tells held.held (λ h. h ≡ Some on.bytes) on.file.file in
-      let bytes : held.bytes ≡ on.bytes = cc in
-      more on.bytes (subst P bytes held.fine) (scene on.mid old.keeper old.out) new outcome (on.later.files ∙ tells)
-      (record { shelf = λ rose. quiet.shelf (rose_over old.shelf.faults on.mid.faults new.shelf.faults on.later.faults rose); keeper = quiet.keeper; out = quiet.out }) on.says
+-- a region that is held, and a hierarchy, if one is named, are read
+reads : (caps : Caps) (files : Files) (region : List ℕ) (named : Option (List ℕ))
+    → Completes files (AreHeld caps files region named) (OnRegion caps region (λ n. OnHierarchyIfNamed n named (λ h. WritesText (λ text. Unit {0}))))
+reads caps files region named =
+    file_completes files _ region _ _ (network_completes files caps _ _ (λ n rules. named_completes files n named _ _ (λ h sound. writes_completes files _ _)))
 
-  network_completes : (caps : Caps) (P : NetworkLists → Type 0) (rest : NetworkLists → Saying) → ((n : NetworkLists) → IsNetwork n → Completes files (P n) (rest n))
-      → (bytes : List ℕ) → Completes files (SpellsNetwork caps P bytes) (OnNetwork (region_of caps bytes) rest)
-  network_completes caps P rest more bytes (n, spells, p) old new outcome tells quiet said =
-      let on = subst (λ (r : Result NetworkLists RegionFault). OnNetwork r rest old new outcome) spells said in
-      more n on.0 p old new outcome tells quiet on.1
+module _ (caps : Caps) (files : Files) (old new : Scene) (tells : old.shelf.files ≡ Some files) (quiet : IsQuiet old new) where
+  both_complete : (region : List ℕ) (named : Option (List ℕ)) → AreHeld caps files region named
+      → (common : Outcome) → IsBothOutcome caps old.shelf new.shelf region named common → Stays old.out new.out → IsDoneOrMemory common
+  both_complete region named held common why same =
+      reads caps files region named held (shown old.shelf old.out) (shown new.shelf new.out) common tells (record { shelf = quiet.shelf; out = quiet.out })
+      (both_fail caps old.shelf new.shelf new.shelf old.out new.out region named (λ n h. WritesText (λ text. Unit {0})) common why same)
 
-  valid_completes : (n : NetworkLists) → IsNetwork n → (rest : List ℕ → Saying) → ((bytes : List ℕ) → Completes files (Unit {0}) (rest bytes))
-      → (bytes : List ℕ) → Completes files (SpellsValid n bytes) (OnValid n bytes (rest bytes))
-  valid_completes n rules rest more bytes (claim, spells, valid) old new outcome tells quiet (inl (line, first, ends)) =
-      let good = again bytes claim spells in
-      absurd (cc)
-  valid_completes n rules rest more bytes (claim, spells, valid) old new outcome tells quiet (inr (inl (other, clause, at, reads_so, fails, ends))) =
-      let fails_here = subst (λ (c : Claim). IsCertVerdict n None c (verdict.Invalid clause at)) (same_claim bytes other claim reads_so spells) fails in
-      let both = verdict_is_unique n rules None tt claim verdict.Valid (verdict.Invalid clause at) valid fails_here in
-      absurd (cc)
-  valid_completes n rules rest more bytes valid old new outcome tells quiet (inr (inr (is, rests))) = more bytes tt old new outcome tells quiet rests
+  report_completes : (region : List ℕ) (named : Option (List ℕ)) (IsText : NetworkLists → Option HierarchyLists → List ℕ → BookOutcome → Type 0) → AreHeld caps files region named
+      → (outcome : BookOutcome) → OnBoth caps region named (λ n h. Writes (IsText n h)) old new outcome → IsDoneOrAbsent outcome
+  report_completes region named IsText held outcome (inl ends) = by_completes (IsBothOutcome caps old.shelf new.shelf region named) old new outcome (both_complete region named held) ends
+  report_completes region named IsText held outcome (inr (n, h, mid, both, wrote)) = writes_complete (IsText n h) (scene mid old.keeper old.out) new outcome quiet.keeper quiet.out wrote
 
-  changes_complete : (P : Book → Type 0) (change : Book → Book) → Completes files (Unit {0}) (Changes P change)
-  changes_complete P change p old new Done tells quiet is = tt
-  changes_complete P change p old new OutOfMemory tells quiet is = tt
-  changes_complete P change p old new KeepFault tells quiet (rose, same) = absurd (quiet.keeper rose)
-  changes_complete P change p old new outcome tells quiet none = absurd none
+  -- a certificate that is held, and is valid, is kept
+  module _ (region certificate : List ℕ) (named : Option (List ℕ)) (held : CanVerify caps files region certificate named) where
+    region_completes : (common : Outcome) → IsBothOutcome caps old.shelf new.shelf region named common → Stays old.out new.out → IsDoneOrMemory common
+    region_completes common why same =
+        verify_completes caps files region certificate named held (shown old.shelf old.out) (shown new.shelf new.out) common tells (record { shelf = quiet.shelf; out = quiet.out })
+        (both_fail caps old.shelf new.shelf new.shelf old.out new.out region named (λ n h. SaysVerified (best_certificates n h) certificate) common why same)
 
-  writes_complete : (IsText : List ℕ → BookOutcome → Type 0) (old new : Scene) (outcome : BookOutcome) → IsQuiet old new → Writes IsText old new outcome → IsDoneOrAbsent outcome
-  writes_complete IsText old new Done quiet is = tt
-  writes_complete IsText old new NotWell quiet is = tt
-  writes_complete IsText old new OutOfMemory quiet is = tt
-  writes_complete IsText old new WriteFault quiet (rose, front, stays) = absurd (quiet.out rose)
-  writes_complete IsText old new KeepFault quiet (rose, same) = absurd (quiet.keeper rose)
-  writes_complete IsText old new outcome quiet none = absurd none
+    certificate_completes : (n : NetworkLists) (h : Option HierarchyLists) (mid : ShelfMeaning) → HasBoth caps old.shelf mid region named n h
+        → (common : Outcome) → IsCertificateOutcome n h mid new.shelf certificate common → Stays old.out new.out → IsDoneOrMemory common
+    certificate_completes n h mid both common why same =
+        verify_completes caps files region certificate named held (shown old.shelf old.out) (shown new.shelf new.out) common tells (record { shelf = quiet.shelf; out = quiet.out })
+        (on_both caps old.shelf mid new.shelf old.out new.out region named (λ n h. SaysVerified (best_certificates n h) certificate) n h both common
+        (unverified n h mid common same why))
+      where
+        unverified : (n : NetworkLists) (h : Option HierarchyLists) (mid : ShelfMeaning) (common : Outcome) → Stays old.out new.out → IsCertificateOutcome n h mid new.shelf certificate common
+            → SaysVerified (best_certificates n h) certificate (shown mid old.out) (shown new.shelf new.out) common
+        unverified n h mid common same (inl unread) = inl (unread, same)
+        unverified n h mid common same (inr has) =
+            certificate_fails (best_certificates n h) mid new.shelf old.out new.out certificate has.bytes has.file has.later common has.fails same
 
-  absent_completes : (outcome : BookOutcome) → outcome ≡ Absent → IsDoneOrAbsent outcome
-  absent_completes outcome is = subst IsDoneOrAbsent (sym is) tt
+    keep_completes : (name : List ℕ) (outcome : BookOutcome) → says caps (keep name region certificate named) old new outcome → IsDoneOrAbsent outcome
+    keep_completes name outcome (inl ends) = by_completes (IsBothOutcome caps old.shelf new.shelf region named) old new outcome region_completes ends
+    keep_completes name outcome (inr (n, h, mid, both, inl ends)) =
+        by_completes (IsCertificateOutcome n h mid new.shelf certificate) (scene mid old.keeper old.out) new outcome (certificate_completes n h mid both) ends
+    keep_completes name outcome (inr (n, h, mid, both, inr (bytes, then, has, changed))) = changes_complete (λ book. Unit {0}) (kept name bytes) (scene then old.keeper old.out) new outcome quiet.keeper changed
 
   -- what can be done is done
-  pub completes : (caps : Caps) (r : Request) → Completes files (CanBeDone caps files r) (says caps r)
-  completes caps (keep name region certificate) can old new outcome tells quiet said =
-      file_completes _ region _ _ (network_completes caps _ _ (λ n rules. file_completes _ certificate _ _ (valid_completes n rules _ (λ bytes. changes_complete _ _)))) can old new outcome tells quiet said
-  completes caps (recheck region fail) can old new outcome tells quiet said =
-      file_completes _ region _ _ (network_completes caps _ _ (λ n rules p from to end told calm says. writes_complete (IsReported (recheck_rule n) fail old.keeper) from to end calm says)) can old new outcome tells quiet said
-  completes caps (review region fail) can old new outcome tells quiet said =
-      file_completes _ region _ _ (network_completes caps _ _ (λ n rules p from to end told calm says. writes_complete (IsReported (review_rule n) fail old.keeper) from to end calm says)) can old new outcome tells quiet said
-  completes caps (drop name) can old new outcome tells quiet (inl (none, ends)) = absent_completes outcome ends.0
-  completes caps (drop name) can old new outcome tells quiet (inr changed) = changes_complete _ _ tt old new outcome tells quiet changed
-  completes caps list can old new outcome tells quiet said = writes_complete (ThenDone (IsListing old.keeper)) old new outcome quiet said
-  completes caps (show name) can old new outcome tells quiet (inl (none, ends)) = absent_completes outcome ends.0
-  completes caps (show name) can old new outcome tells quiet (inr written) =
-      writes_complete (ThenDone (λ text. Tells old.keeper (λ book. book name ≡ Some text))) old new outcome quiet written
+  pub completes : (r : Request) → CanBeDone caps files r → (outcome : BookOutcome) → says caps r old new outcome → IsDoneOrAbsent outcome
+  completes (keep name region certificate hierarchy) can outcome said = keep_completes region certificate hierarchy can name outcome said
+  completes (recheck region hierarchy fail) can outcome said = report_completes region hierarchy (λ n h. IsReported (recheck_rule n h) fail old.keeper) can outcome said
+  completes (review region hierarchy fail) can outcome said = report_completes region hierarchy (λ n h. IsReported (review_rule n) fail old.keeper) can outcome said
+  completes (drop name) can outcome (inl (none, ends)) = absent_completes outcome ends.0
+  completes (drop name) can outcome (inr changed) = changes_complete (λ book. IsSome (book name)) (dropped name) old new outcome quiet.keeper changed
+  completes list can outcome said = writes_complete (ThenDone (IsListing old.keeper)) old new outcome quiet.keeper quiet.out said
+  completes (show name) can outcome (inl (none, ends)) = absent_completes outcome ends.0
+  completes (show name) can outcome (inr written) = writes_complete (ThenDone (λ text. Tells old.keeper (λ book. book name ≡ Some text))) old new outcome quiet.keeper quiet.out written

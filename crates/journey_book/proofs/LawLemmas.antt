@@ -16,7 +16,8 @@ use Rattle.mode_network.specs.Journeys.{Route, IsJourney}
 use Rattle.plain_graph.specs.PlainArcs.{plain_meaning}
 use Rattle.plain_graph.specs.Lawful.{plain_lawful}
 use Rattle.plain_graph.proofs.Same.{journeys_are_walks}
-use Rattle.phase_graph.specs.InUse.{IsPlain}
+use Rattle.hierarchy.specs.Lists.{HierarchyLists}
+use Rattle.phase_graph.specs.InUse.{IsInUse, IsPlain, IsSoundIfGiven}
 use Rattle.search_laws.specs.GraphLaws.{GraphMeaning}
 use Rattle.journey.specs.Best.{Asked}
 use Rattle.journey.specs.Texts.{refusal_text}
@@ -92,9 +93,9 @@ report_once rule exact keeper book is fail one other end last (well, (names, are
 
 -- ---- what is said of a certificate
 
-judged_once : (n : NetworkLists) → IsNetwork n → IsExact (IsJudged n)
-judged_once n network claim one other (verdict, is, e) (verdict2, is2, f) =
-    e ∙ ap verdict_words (verdict_is_unique n network None tt claim verdict verdict2 is is2) ∙ sym f
+judged_once : (n : NetworkLists) → IsNetwork n → (h : Option HierarchyLists) → IsSoundIfGiven n h → IsExact (IsJudged n h)
+judged_once n network h sound claim one other (verdict, is, e) (verdict2, is2, f) =
+    e ∙ ap verdict_words (verdict_is_unique n network h sound claim verdict verdict2 is is2) ∙ sym f
 
 module _ (n : NetworkLists) (network : IsNetwork n) where
   answered_once : (kept : Option (ℕ × Route)) (asked : Asked) → IsFixed (IsAnswered n kept asked)
@@ -122,8 +123,8 @@ module _ (n : NetworkLists) (network : IsNetwork n) where
       answered_once claim.result asked2 one other (subst (λ (q : Asked). IsAnswered n claim.result q one) same answer) answer2
 
 pub reports_are_fixed : ReportsAreFixed
-reports_are_fixed n network keeper book is fail =
-    (report_once (recheck_rule n) (judged_once n network) keeper book is fail, report_once (review_rule n) (reviewed_once n network) keeper book is fail)
+reports_are_fixed n network h sound keeper book is fail =
+    (report_once (recheck_rule n h) (judged_once n network h sound) keeper book is fail, report_once (review_rule n) (reviewed_once n network) keeper book is fail)
 
 -- ---- a certificate that is valid
 
@@ -147,10 +148,16 @@ module _ (n : NetworkLists) (network : IsNetwork n) where
       let same : best.arrival ≡ kept_arrival asked.depart kept = omega arith in
       inr (kept.1, best, sym (beside_same best.arrival (kept_arrival asked.depart kept) same))
 
+-- a graph of the network, where that of a hierarchy is in use too
+plain_of : (n : NetworkLists) (h : Option HierarchyLists) (targets : List ℕ) (g : GraphMeaning) → IsInUse n h targets g → (plain : GraphMeaning) × IsPlain n plain
+plain_of n None targets g plain = (g, plain)
+plain_of n (Some h) targets g phases = (plain_meaning n phases.table, record { table = phases.table; of = phases.of; keeps = phases.keeps; is = refl })
+
 pub valid_is_same : ValidIsSame
-valid_is_same n network claim valid starts words said =
-    let proves = valid_proves n network None tt claim valid in
+valid_is_same n network h sound claim valid starts words said =
+    let proves = valid_proves n network h sound claim valid in
     let both = reading_is_unique n claim.line (Ok valid.setting.asked) (Ok proves.asked) valid.setting.asks proves.asks in
     let same : valid.setting.asked ≡ proves.asked = cc in
     let at = subst (λ (q : Asked). StartsAt q.depart claim.result) same starts in
-    reviewed_once n network claim words (codes "same") said (inr (proves.asked, proves.asks, stays n network valid.setting.graph valid.setting.in_use proves.asked claim.result at proves.best))
+    let plain = plain_of n h valid.setting.targets valid.setting.graph valid.setting.in_use in
+    reviewed_once n network claim words (codes "same") said (inr (proves.asked, proves.asks, stays n network plain.0 plain.1 proves.asked claim.result at proves.best))

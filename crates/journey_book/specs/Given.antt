@@ -1,5 +1,5 @@
--- What the words behind a command say: plain ones, in their order, and among them the options, each at most once.
-use Rattle.std.specs.Prelude.{◌≡◌, ℕ, nat_eq, nat_lt, Bool, true, false, List, [], ◌∷◌, length, codes, Option, Some, None, is_some, option_and_then, option_map, if◌then◌else◌}
+-- What the words behind a command say: plain ones, in order, and among them the options, each at most once.
+use Rattle.std.specs.Prelude.{ℕ, nat_eq, nat_lt, Bool, true, false, List, [], ◌∷◌, length, codes, Option, Some, None, is_some, option_and_then, option_map, if◌then◌else◌}
 use Rattle.std.specs.Str.{bytes_eq}
 use Rattle.journey_book.specs.declared.given.GivenWords.{GivenWords}
 use Rattle.journey_book.specs.declared.given.Plain.{Plain}
@@ -54,4 +54,8 @@ words_of (plain.Two first second) = first.now ∷ second.now ∷ []
 words_of (plain.Three first second third) = first.now ∷ second.now ∷ third.now ∷ []
 
 abbrev pub given_of : GivenWords → Given
-given_of it = record { words = words_of it.plain; hierarchy = option_map (λ file. file.now) it.hierarchy; fail = it.fail }
+given_of it = record {
+  words = words_of it.plain;
+  hierarchy = option_map (λ file. file.now) it.hierarchy;
+  fail = it.fail;
+}

@@ -4,6 +4,7 @@ use Rattle.std.specs.List.{list_all}
 use Rattle.std.specs.Str.{bytes_eq}
 use Rattle.plain_texts.specs.Lines.{lines_text, with_feed}
 use Rattle.mode_network.specs.NetworkLists.{NetworkLists}
+use Rattle.hierarchy.specs.Lists.{HierarchyLists}
 use Rattle.journey.specs.declared.verdict.CertFault.TheVariants.{BadLine}
 use Rattle.journey.specs.declared.verdict.CertVerdict.{CertVerdict}
 use Rattle.journey.specs.declared.verdict.CertVerdict.TheVariants.{Valid, Invalid}
@@ -11,14 +12,16 @@ use Rattle.certificate.specs.Certificates.{Claim}
 use Rattle.certificate.specs.Texts.{IsCertText}
 use Rattle.certificate.specs.Reading.{cert_of}
 use Rattle.certificate.specs.Verdicts.{IsCertVerdict}
+use Rattle.run_steps.specs.declared.outcome.Outcome.TheVariants.{Done}
 use Rattle.journey_book.specs.Books.{AreNamesOf}
 use Rattle.journey_book.specs.Keepers.{KeeperMeaning, Tells}
 use Rattle.journey_book.specs.declared.outcome.BookOutcome.{BookOutcome}
-use Rattle.journey_book.specs.declared.outcome.BookOutcome.TheVariants.{Done, NotWell}
+use Rattle.journey_book.specs.declared.outcome.BookOutcome.TheVariants.{Common, NotWell}
 
 -- the names of the book, each on a line
 abbrev pub IsListing : KeeperMeaning → List ℕ → Type 0
-IsListing keeper out = (names : List (List ℕ)) × Tells keeper (λ book. AreNamesOf book names) × (out ≡ lines_text names)
+IsListing keeper out =
+    (names : List (List ℕ)) × Tells keeper (λ book. AreNamesOf book names) × (out ≡ lines_text names)
 
 -- ---- a report: something is said of each certificate that is kept
 
@@ -59,20 +62,23 @@ pub record ReportRule : Type 1 where
 -- a line for each of these names, in order; and whether all of them are well
 abbrev pub HasReported : ReportRule → KeeperMeaning → List (List ℕ) → List ℕ → Bool → Type 0
 HasReported rule keeper names out well =
-    (said : List (List ℕ)) × AreReported rule.AreRight keeper names said out × (well ≡ list_all rule.is_well said)
+    (said : List (List ℕ)) × AreReported rule.AreRight keeper names said out
+    × (well ≡ list_all rule.is_well said)
 
 -- a line for each name of the book, in order; and whether all of them are well
 abbrev pub IsReport : ReportRule → KeeperMeaning → List ℕ → Bool → Type 0
 IsReport rule keeper out well =
-    (names : List (List ℕ)) × Tells keeper (λ book. AreNamesOf book names) × HasReported rule keeper names out well
+    (names : List (List ℕ)) × Tells keeper (λ book. AreNamesOf book names)
+    × HasReported rule keeper names out well
 
 -- how a report ends a run, which may be asked to fail where a line is not well
 abbrev pub end_by : Bool → Bool → BookOutcome
-end_by fail well = if fail && not well then NotWell else Done
+end_by fail well = if fail && not well then NotWell else Common Done
 
 -- a report, and the end of the run that writes it
 abbrev pub IsReported : ReportRule → Bool → KeeperMeaning → List ℕ → BookOutcome → Type 0
-IsReported rule fail keeper out end = (well : Bool) × IsReport rule keeper out well × (end ≡ end_by fail well)
+IsReported rule fail keeper out end =
+    (well : Bool) × IsReport rule keeper out well × (end ≡ end_by fail well)
 
 -- ---- which certificates hold
 
@@ -81,14 +87,15 @@ abbrev pub verdict_words : CertVerdict → List ℕ
 verdict_words Valid = codes "valid"
 verdict_words (Invalid clause at) = codes "invalid " ++ decimal clause ++ codes " " ++ decimal at
 
--- the words of the verdict on a certificate in a region
-abbrev pub IsJudged : NetworkLists → ClaimRule
-IsJudged n claim words = (verdict : CertVerdict) × IsCertVerdict n None claim verdict × (words ≡ verdict_words verdict)
+-- the words of the verdict on a certificate in a region, over a hierarchy, if there is one
+abbrev pub IsJudged : NetworkLists → Option HierarchyLists → ClaimRule
+IsJudged n h claim words =
+    (verdict : CertVerdict) × IsCertVerdict n h claim verdict × (words ≡ verdict_words verdict)
 
 -- a line is well that says `valid`
 abbrev pub says_valid : List ℕ → Bool
 says_valid words = bytes_eq words (codes "valid")
 
 -- which of the certificates hold in a region
-abbrev pub recheck_rule : NetworkLists → ReportRule
-recheck_rule n = record { AreRight = IsJudged n; is_well = says_valid }
+abbrev pub recheck_rule : NetworkLists → Option HierarchyLists → ReportRule
+recheck_rule n h = record { AreRight = IsJudged n h; is_well = says_valid }

@@ -1,27 +1,31 @@
 -- What a command line of the book asks for, and which words ask for it.
-use Rattle.std.specs.Prelude.{◌≡◌, ℕ, ◌&&◌, ◌||◌, nat_le, nat_eq, Bool, true, false, List, [], ◌∷◌, length, codes, find, Option, Some, None, option_and_then, if◌then◌else◌}
+use Rattle.std.specs.Prelude.{◌≡◌, ℕ, ◌&&◌, ◌||◌, nat_le, nat_eq, Bool, false, List, [], ◌∷◌, length, codes, find, Option, Some, None, option_and_then, option_map, if◌then◌else◌}
 use Rattle.std.specs.List.{list_all}
 use Rattle.std.specs.Str.{bytes_eq}
 use Rattle.journey_book.specs.Given.{Given, given_by}
 use Rattle.journey_book.specs.declared.words.BookCommand.{BookCommand}
 use Rattle.journey_book.specs.declared.words.BookCommand.TheVariants as command
 
--- a command with what it works on: names, and the paths of files; and whether it fails where a line of its report is not well
+-- a command with what it works on: names, and the paths of files; and whether it is to fail where a line of its
+-- report is not well
 pub data Request : Type 0 where
-  keep : (name region certificate : List ℕ) → Request
+  keep : (name region certificate : List ℕ) (hierarchy : Option (List ℕ)) → Request
   drop : (name : List ℕ) → Request
   list : Request
   show : (name : List ℕ) → Request
-  recheck : (region : List ℕ) (fail : Bool) → Request
-  review : (region : List ℕ) (fail : Bool) → Request
+  recheck : (region : List ℕ) (hierarchy : Option (List ℕ)) (fail : Bool) → Request
+  review : (region : List ℕ) (hierarchy : Option (List ℕ)) (fail : Bool) → Request
 
 abbrev pub request_of : BookCommand → Request
-request_of (command.Keep name region certificate) = keep name.now region.now certificate.now
+request_of (command.Keep name region certificate hierarchy) =
+    keep name.now region.now certificate.now (option_map (λ h. h.now) hierarchy)
 request_of (command.Drop name) = drop name.now
 request_of command.List = list
 request_of (command.Show name) = show name.now
-request_of (command.Recheck region fail) = recheck region.now fail
-request_of (command.Review region fail) = review region.now fail
+request_of (command.Recheck region hierarchy fail) =
+    recheck region.now (option_map (λ h. h.now) hierarchy) fail
+request_of (command.Review region hierarchy fail) =
+    review region.now (option_map (λ h. h.now) hierarchy) fail
 
 -- a small letter or a digit
 abbrev pub is_letter_or_digit : ℕ → Bool
@@ -38,10 +42,11 @@ is_name_byte b = is_letter_or_digit b || nat_eq b 45 || nat_eq b 95
 abbrev pub is_name : List ℕ → Bool
 is_name word = begins_name word && nat_le (length word) 64 && list_all is_name_byte word
 
--- ---- what each command asks for, by its plain words, what `--hierarchy` names, and whether `--fail` stands there
+-- ---- what each command asks for, by its plain words, the file behind `--hierarchy`, and whether `--fail` stands there
 
 abbrev pub keep_by : List (List ℕ) → Option (List ℕ) → Bool → Option Request
-keep_by (name ∷ region ∷ certificate ∷ []) None false = if is_name name then Some (keep name region certificate) else None
+keep_by (name ∷ region ∷ certificate ∷ []) hierarchy false =
+    if is_name name then Some (keep name region certificate hierarchy) else None
 keep_by _ _ _ = None
 
 abbrev pub drop_by : List (List ℕ) → Option (List ℕ) → Bool → Option Request
@@ -57,11 +62,11 @@ show_by (name ∷ []) None false = if is_name name then Some (show name) else No
 show_by _ _ _ = None
 
 abbrev pub recheck_by : List (List ℕ) → Option (List ℕ) → Bool → Option Request
-recheck_by (region ∷ []) None fail = Some (recheck region fail)
+recheck_by (region ∷ []) hierarchy fail = Some (recheck region hierarchy fail)
 recheck_by _ _ _ = None
 
 abbrev pub review_by : List (List ℕ) → Option (List ℕ) → Bool → Option Request
-review_by (region ∷ []) None fail = Some (review region fail)
+review_by (region ∷ []) hierarchy fail = Some (review region hierarchy fail)
 review_by _ _ _ = None
 
 -- the commands by their names

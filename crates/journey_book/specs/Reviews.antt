@@ -48,7 +48,8 @@ IsReviewed n claim words =
 -- a line is well that says `same`, `earlier` or `found`: one is there no later than was kept
 abbrev pub is_no_later : List ℕ → Bool
 is_no_later words =
-    bytes_eq words (codes "same") || starts_with nat_eq words (codes "earlier ") || starts_with nat_eq words (codes "found ")
+    bytes_eq words (codes "same")
+    || starts_with nat_eq words (codes "earlier ") || starts_with nat_eq words (codes "found ")
 
 -- what a region does to the journeys that are kept
 abbrev pub review_rule : NetworkLists → ReportRule

@@ -1,5 +1,5 @@
 -- Runs over one book, one after the other.
-use Rattle.std.specs.Prelude.{◌≡◌, ℕ, ◌⊎◌, Bool, true, false, List, [], ◌∷◌, fold, Some}
+use Rattle.std.specs.Prelude.{◌≡◌, ℕ, ◌⊎◌, Bool, true, false, List, [], ◌∷◌, fold, Option, Some}
 use Rattle.std.specs.List.{AllZip}
 use Rattle.plan_base.specs.Shelves.{Told}
 use Rattle.plan_base.specs.declared.limits.Caps.{Caps}
@@ -9,7 +9,8 @@ use Rattle.journey_book.specs.Outcomes.{IsOutcome}
 use Rattle.journey_book.specs.Requests.{AsksFor, Request, keep, drop, list, show, recheck, review}
 use Rattle.journey_book.specs.Sayings.{Scene}
 use Rattle.journey_book.specs.declared.outcome.BookOutcome.{BookOutcome}
-use Rattle.journey_book.specs.declared.outcome.BookOutcome.TheVariants.{Done}
+use Rattle.journey_book.specs.declared.outcome.BookOutcome.TheVariants.{Common}
+use Rattle.run_steps.specs.declared.outcome.Outcome.TheVariants.{Done}
 
 -- what a run does to a book
 pub data Change : Type 0 where
@@ -42,21 +43,23 @@ AreRuns caps first (run ∷ runs) last =
 
 -- whether a request is one to keep or to drop
 abbrev pub may_change : Request → Bool
-may_change (keep name region certificate) = true
+may_change (keep name region certificate hierarchy) = true
 may_change (drop name) = true
 may_change list = false
 may_change (show name) = false
-may_change (recheck region fail) = false
-may_change (review region fail) = false
+may_change (recheck region hierarchy fail) = false
+may_change (review region hierarchy fail) = false
 
 -- What a run that was asked to keep or to drop, and did its work, does to a book; any other does nothing. What is kept is what
 -- the shelf holds under the certificate's name.
 abbrev pub Does : Run → Change → Type 0
 Does run (keeps name body) =
-    (run.outcome ≡ Done) × (region : List ℕ) × (certificate : List ℕ) × AsksFor run.words (keep name region certificate)
+    (run.outcome ≡ Common Done) × (region : List ℕ) × (certificate : List ℕ) × (hierarchy : Option (List ℕ))
+    × AsksFor run.words (keep name region certificate hierarchy)
     × Told run.old.shelf certificate (λ held. held ≡ Some body)
-Does run (drops name) = (run.outcome ≡ Done) × AsksFor run.words (drop name)
-Does run nothing = (run.outcome ≡ Done → ⊥) ⊎ ((r : Request) × AsksFor run.words r × (may_change r ≡ false))
+Does run (drops name) = (run.outcome ≡ Common Done) × AsksFor run.words (drop name)
+Does run nothing =
+    (run.outcome ≡ Common Done → ⊥) ⊎ ((r : Request) × AsksFor run.words r × (may_change r ≡ false))
 
 -- runs one after the other leave the book that their changes make of the first
 abbrev pub RunsFold : Type 0

@@ -1,14 +1,24 @@
 -- What a run says by its outcome, put together from what it reads, keeps and writes.
-use Rattle.std.specs.Prelude.{◌≡◌, ℕ, ◌<◌, ◌^◌, ◌⊎◌, ⊤, List, length, take, None, Result, Ok, Err, IsSomeAnd}
+use Rattle.std.specs.Prelude.{◌≡◌, ℕ, ◌⊎◌, ⊤, List, take, Option, Result, Ok, Err}
 use Rattle.plan_base.specs.Counts.{Rose}
-use Rattle.plan_base.specs.Shelves.{ShelfMeaning, IsLater, Told, HasRead}
+use Rattle.plan_base.specs.Shelves.{ShelfMeaning, IsLater, HasRead}
 use Rattle.plan_base.specs.Sinks as sinks
-use Rattle.plan_base.specs.Sinks.{SinkMeaning, Appended}
+use Rattle.plan_base.specs.Sinks.{SinkMeaning}
+use Rattle.plan_base.specs.declared.limits.Caps.{Caps}
+use Rattle.mode_network.specs.NetworkLists.{NetworkLists}
+use Rattle.hierarchy.specs.Lists.{HierarchyLists}
+use Rattle.run_steps.specs.declared.outcome.FileRole.TheVariants.{Certificate}
+use Rattle.run_steps.specs.declared.outcome.Outcome.{Outcome}
+use Rattle.run_steps.specs.declared.outcome.Outcome.TheVariants.{Done, WriteFault, OutOfMemory}
+use Rattle.run_steps.specs.CertificateCauses.{IsUnverified}
+use Rattle.run_steps.specs.Sayings.{HasWritten, IsUnread, most_bytes}
+use Rattle.answer_commands.specs.Complete.{SpellsValid}
+use Rattle.answer_commands.specs.Outputs.{best_certificates}
+use Rattle.answer_commands.specs.Working.{HasBoth, IsBothOutcome}
 use Rattle.journey_book.specs.Books.{Book}
 use Rattle.journey_book.specs.Keepers.{KeeperMeaning, Becomes, Stays, Tells}
-use Rattle.journey_book.specs.declared.outcome.BookFile.{BookFile}
 use Rattle.journey_book.specs.declared.outcome.BookOutcome.{BookOutcome}
-use Rattle.journey_book.specs.declared.outcome.BookOutcome.TheVariants.{Done, Missing, ReadFault, TooLong, WriteFault, OutOfMemory, KeepFault, NotWell}
+use Rattle.journey_book.specs.declared.outcome.BookOutcome.TheVariants.{Common, KeepFault, NotWell}
 
 -- what a run works on: the shelf that it reads from, the keeper, and the output
 pub record Scene : Type 0 where
@@ -25,82 +35,95 @@ Saying = Scene → Scene → BookOutcome → Type 0
 
 -- how a step of a run ends the run, or that it goes on to its end
 abbrev pub end_of : Result ⊤ BookOutcome → BookOutcome
-end_of (Ok _) = Done
+end_of (Ok _) = Common Done
 end_of (Err outcome) = outcome
-
--- nothing is written
-abbrev pub IsUnwritten : Scene → Scene → Type 0
-IsUnwritten old new = sinks.Stays old.out new.out
 
 -- nothing is written, and the book stays
 abbrev pub IsUntouched : Scene → Scene → Type 0
-IsUntouched old new = IsUnwritten old new × Stays old.keeper new.keeper
+IsUntouched old new = sinks.Stays old.out new.out × Stays old.keeper new.keeper
 
 -- the run ends so, and nothing is changed
 abbrev pub Ends : BookOutcome → Saying
 Ends end old new outcome = (outcome ≡ end) × IsUntouched old new
 
+-- the run ends as one of the planner that has this cause, and nothing is changed
+abbrev pub EndsBy : (Outcome → Type 0) → Saying
+EndsBy IsCause old new (Common outcome) = IsCause outcome × IsUntouched old new
+EndsBy IsCause old new _ = ⊥
+
 -- ---- reading
 
--- a file has at most so many bytes
-abbrev pub most_bytes : ℕ
-most_bytes = 2 ^ 30
+-- a region is read, and a hierarchy that is sound for it, if one is named: they are not to be had, or the rest says
+-- this of them
+abbrev pub OnBoth : Caps → List ℕ → Option (List ℕ) → (NetworkLists → Option HierarchyLists → Saying) → Saying
+OnBoth caps region named rest old new outcome =
+    EndsBy (IsBothOutcome caps old.shelf new.shelf region named) old new outcome
+    ⊎ ((n : NetworkLists) × (h : Option HierarchyLists) × (mid : ShelfMeaning)
+    × HasBoth caps old.shelf mid region named n h × rest n h (scene mid old.keeper old.out) new outcome)
 
--- why the file of this name, which has this role, was not read whole
-abbrev pub IsUnread : ShelfMeaning → ShelfMeaning → List ℕ → BookFile → BookOutcome → Type 0
-IsUnread old new name file (Missing other) = (other ≡ file) × Rose old.misses new.misses × Told old name (λ held. held ≡ None)
-IsUnread old new name file (ReadFault other) = (other ≡ file) × Rose old.faults new.faults
-IsUnread old new name file (TooLong other) = (other ≡ file) × Told old name (λ held. IsSomeAnd held (λ bytes. most_bytes < length bytes))
-IsUnread old new name file OutOfMemory = Unit {0}
-IsUnread old new name file _ = ⊥
+-- the file of this name was read whole, and spells a certificate that is valid
+pub record HasValid (n : NetworkLists) (h : Option HierarchyLists) (old new : ShelfMeaning)
+    (name bytes : List ℕ) : Type 0 where
+  pub file : HasRead old name most_bytes bytes
+  pub later : IsLater old new
+  pub valid : SpellsValid n h bytes
 
--- the file was read whole, and the rest of the run says this of its bytes
-pub record HasGoneOn (name : List ℕ) (rest : List ℕ → Saying) (old new : Scene) (outcome : BookOutcome) : Type 0 where
+-- it was read whole, and spells none
+pub record HasInvalid (n : NetworkLists) (h : Option HierarchyLists) (old new : ShelfMeaning)
+    (name : List ℕ) (outcome : Outcome) : Type 0 where
   pub bytes : List ℕ
-  pub file : HasRead old.shelf name most_bytes bytes
-  pub mid : ShelfMeaning
-  pub later : IsLater old.shelf mid
-  pub says : rest bytes (scene mid old.keeper old.out) new outcome
+  pub file : HasRead old name most_bytes bytes
+  pub later : IsLater old new
+  pub fails : IsUnverified (best_certificates n h) bytes outcome
 
--- a file is read: it was not read whole, or the rest says this of its bytes
-abbrev pub OnFile : BookFile → List ℕ → (List ℕ → Saying) → Saying
-OnFile file name rest old new outcome =
-    (IsUnread old.shelf new.shelf name file outcome × IsUntouched old new) ⊎ HasGoneOn name rest old new outcome
+-- why no valid certificate was had
+abbrev pub IsCertificateOutcome : NetworkLists → Option HierarchyLists → ShelfMeaning → ShelfMeaning
+    → List ℕ → Outcome → Type 0
+IsCertificateOutcome n h old new name outcome =
+    IsUnread old new name Certificate outcome ⊎ HasInvalid n h old new name outcome
+
+-- a certificate is read and verified: it is not to be had or not valid, or the rest says this of its bytes
+abbrev pub OnValid : NetworkLists → Option HierarchyLists → List ℕ → (List ℕ → Saying) → Saying
+OnValid n h name rest old new outcome =
+    EndsBy (IsCertificateOutcome n h old.shelf new.shelf name) old new outcome
+    ⊎ ((bytes : List ℕ) × (mid : ShelfMeaning) × HasValid n h old.shelf mid name bytes
+    × rest bytes (scene mid old.keeper old.out) new outcome)
 
 -- ---- the book
 
--- the book, which has P, becomes what the change makes of it; or the keeper fails, or memory runs out, and nothing is changed
+-- the book, which has P, becomes what the change makes of it; or the keeper fails, or memory runs out, and nothing is
+-- changed
 abbrev pub Changes : (Book → Type 0) → (Book → Book) → Saying
-Changes P change old new Done = Tells old.keeper P × Becomes old.keeper new.keeper change × IsUnwritten old new
+Changes P change old new (Common Done) =
+    Tells old.keeper P × Becomes old.keeper new.keeper change × sinks.Stays old.out new.out
+Changes P change old new (Common OutOfMemory) = IsUntouched old new
 Changes P change old new KeepFault = Rose old.keeper.faults new.keeper.faults × IsUntouched old new
-Changes P change old new OutOfMemory = IsUntouched old new
 Changes P change old new _ = ⊥
 
 -- ---- writing
 
--- the text was appended that has P
-pub record HasWritten (P : List ℕ → Type 0) (old new : SinkMeaning) : Type 0 where
-  pub out : List ℕ
-  pub is : P out
-  pub appended : Appended old new out
-
 -- a text that may end a run so, and these bytes begin it
 abbrev pub BeginsOne : (List ℕ → BookOutcome → Type 0) → List ℕ → Type 0
-BeginsOne IsText part = (whole : List ℕ) × (end : BookOutcome) × (count : ℕ) × IsText whole end × (part ≡ take count whole)
+BeginsOne IsText part =
+    (whole : List ℕ) × (end : BookOutcome) × (count : ℕ) × IsText whole end × (part ≡ take count whole)
 
 -- a text is written with which the run may end so, and the book stays
 abbrev pub HasEnded : (List ℕ → BookOutcome → Type 0) → Saying
-HasEnded IsText old new outcome = HasWritten (λ text. IsText text outcome) old.out new.out × Stays old.keeper new.keeper
+HasEnded IsText old new outcome =
+    HasWritten (λ text. IsText text outcome) old.out new.out × Stays old.keeper new.keeper
 
--- a text is written, which says how the run ends; or a front of one; or the keeper fails, or memory runs out, and nothing is written
+-- a text is written, which says how the run ends; or a front of one; or the keeper fails, or memory runs out, and
+-- nothing is written
 abbrev pub Writes : (List ℕ → BookOutcome → Type 0) → Saying
-Writes IsText old new Done = HasEnded IsText old new Done
+Writes IsText old new (Common Done) = HasEnded IsText old new (Common Done)
 Writes IsText old new NotWell = HasEnded IsText old new NotWell
-Writes IsText old new WriteFault = Rose old.out.faults new.out.faults × HasWritten (BeginsOne IsText) old.out new.out × Stays old.keeper new.keeper
+Writes IsText old new (Common WriteFault) =
+    Rose old.out.faults new.out.faults × HasWritten (BeginsOne IsText) old.out new.out
+    × Stays old.keeper new.keeper
+Writes IsText old new (Common OutOfMemory) = IsUntouched old new
 Writes IsText old new KeepFault = Rose old.keeper.faults new.keeper.faults × IsUntouched old new
-Writes IsText old new OutOfMemory = IsUntouched old new
 Writes IsText old new _ = ⊥
 
 -- a text that has P, with which all is done
 abbrev pub ThenDone : (List ℕ → Type 0) → List ℕ → BookOutcome → Type 0
-ThenDone P text end = P text × (end ≡ Done)
+ThenDone P text end = P text × (end ≡ Common Done)

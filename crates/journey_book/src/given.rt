@@ -64,7 +64,8 @@ fn nothing() -> GivenWords<'static>
 
 /// With this word in front.
 fn with_word<'a>(word: &'a str, given: Option<GivenWords<'a>>) -> Option<GivenWords<'a>>
-    ensures { option_map given_of result ≡ option_and_then (with_word word.now) (option_map given_of given.entry) }
+    ensures { option_map given_of result
+        ≡ option_and_then (with_word word.now) (option_map given_of given.entry) }
 {
     let given = given?;
     if word == "--fail" {

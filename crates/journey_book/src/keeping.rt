@@ -1,96 +1,158 @@
 //! The commands `keep` and `drop`, which change the book.
 
-ghost use Rattle.std.specs.Prelude.{◌≡◌, IfErr, IfOk, OnOk};
+ghost use Rattle.std.specs.Prelude.{◌≡◌, IfErr, IfOk, IfSome, OnOk, option_map};
 ghost use Rattle.plan_base.specs.Sinks.{SinkMeaning};
 ghost use Rattle.plan_base.specs.Shelves.{ShelfMeaning};
+ghost use Rattle.hierarchy.specs.Soundness.{IsSound};
+ghost use Rattle.run_steps.specs.CertificateCauses.{IsUnverified};
+ghost use Rattle.answer_commands.specs.Complete.{SpellsValid};
+ghost use Rattle.answer_commands.specs.Outputs.{best_certificates};
 ghost use Rattle.journey_book.specs.Books.{kept};
-ghost use Rattle.journey_book.specs.Commands.{OnValid, SpellsValid, says};
+ghost use Rattle.journey_book.specs.Commands.{says};
 ghost use Rattle.journey_book.specs.Requests.{keep, drop};
-ghost use Rattle.journey_book.specs.Sayings.{Changes, OnFile, end_of, scene};
-ghost use Rattle.journey_book.specs.Working.{IsUnjudged, IsUnverified, IsVerdictOn};
-ghost use Rattle.journey_book.specs.declared.outcome.BookFile.TheVariants.{Certificate};
+ghost use Rattle.journey_book.specs.Sayings.{Changes, HasValid, IsCertificateOutcome, OnValid, end_of, scene};
 
 use crate::keeper::Keeper;
-use crate::outcome::{BookFile, BookOutcome};
-use crate::steps::{outcome_of_keeper, read_file, read_region, tell};
+use crate::outcome::BookOutcome;
+use crate::steps::outcome_of_keeper;
+use answer_commands::read_both;
 use certificate::{CertFault, CertVerdict, read, verify};
 use fault_notes::{bad_certificate, invalid_certificate};
+use hierarchy::Hierarchy;
 use mode_network::Network;
 use plan_base::{Caps, Shelf, Sink};
+use run_steps::{FileRole, Outcome, read_file, tell};
 use std::alloc::Global;
 
-/// Reads a region and a certificate, and keeps the certificate's bytes under the name, if it is valid in the region.
+/// Reads a region, the hierarchy, if one is named, and a certificate, and keeps the certificate's bytes under the name,
+/// if it is valid.
 pub(crate) fn keep<F: Shelf, K: Keeper, E: Sink>(
     alloc: Global,
     name: &str,
     region: &str,
     certificate: &str,
+    hierarchy: Option<&str>,
     shelf: &mut F,
     keeper: &mut K,
     notes: &mut E,
     caps: &Caps,
 ) -> Result<(), BookOutcome>
-    ensures { (out : SinkMeaning) → says caps.now (keep name.now region.now certificate.now)
-        (scene (F.meaning shelf.old) (K.meaning keeper.old) out) (scene (F.meaning shelf.new) (K.meaning keeper.new) out) (end_of result) }
+    ensures { (out : SinkMeaning) → says caps.now
+        (keep name.now region.now certificate.now (option_map (λ it. it.now) hierarchy.entry))
+        (scene (F.meaning shelf.old) (K.meaning keeper.old) out)
+        (scene (F.meaning shelf.new) (K.meaning keeper.new) out) (end_of result) }
 {
-    let network = read_region(alloc, shelf, region, caps, notes)?;
-    keep_in(alloc, name, &network, certificate, shelf, keeper, notes)
+    match read_both(alloc, region, hierarchy, shelf, notes, caps) {
+        Ok(both) => keep_over(
+            alloc,
+            name,
+            &both.0,
+            both.1.as_ref(),
+            certificate,
+            shelf,
+            keeper,
+            notes,
+        ),
+        Err(outcome) => Err(BookOutcome::Common(outcome)),
+    }
 }
 
-/// Reads a certificate, and keeps its bytes under the name, if it is valid in the network.
-fn keep_in<F: Shelf, K: Keeper, E: Sink>(
+/// Reads a certificate, whose labels are over the hierarchy, if there is one, and keeps its bytes under the name, if it
+/// is valid.
+fn keep_over<F: Shelf, K: Keeper, E: Sink>(
     alloc: Global,
     name: &str,
     network: &Network,
+    hierarchy: Option<&Hierarchy>,
     certificate: &str,
     shelf: &mut F,
     keeper: &mut K,
     notes: &mut E,
 ) -> Result<(), BookOutcome>
-    ensures { (out : SinkMeaning) → OnFile Certificate certificate.now (λ bytes. OnValid network.now bytes (Changes (λ book. Unit {0}) (kept name.now bytes)))
-        (scene (F.meaning shelf.old) (K.meaning keeper.old) out) (scene (F.meaning shelf.new) (K.meaning keeper.new) out) (end_of result) }
+    requires { IfSome hierarchy (λ h. IsSound network.now h.now) }
+    ensures { (out : SinkMeaning) → OnValid network.now (option_map (λ h. h.now) hierarchy.entry)
+        certificate.now (λ bytes. Changes (λ book. Unit {0}) (kept name.now bytes))
+        (scene (F.meaning shelf.old) (K.meaning keeper.old) out)
+        (scene (F.meaning shelf.new) (K.meaning keeper.new) out) (end_of result) }
 {
-    let bytes = read_file(alloc, shelf, certificate, BookFile::Certificate, notes)?;
-    check_valid(alloc, network, certificate, &bytes, notes)?;
-    match keeper.put(name, &bytes) {
+    match read_valid(alloc, network, hierarchy, certificate, shelf, notes) {
+        Ok(bytes) => put(name, bytes.as_slice(), keeper),
+        Err(outcome) => Err(BookOutcome::Common(outcome)),
+    }
+}
+
+/// Keeps bytes under a name.
+fn put<K: Keeper>(name: &str, bytes: &[u8], keeper: &mut K) -> Result<(), BookOutcome>
+    ensures { (shelf : ShelfMeaning) (out : SinkMeaning) → Changes (λ book. Unit {0})
+        (kept name.now bytes.now) (scene shelf (K.meaning keeper.old) out) (scene shelf (K.meaning keeper.new) out) (end_of result) }
+{
+    match keeper.put(name, bytes) {
         Ok(()) => Ok(()),
         Err(fault) => Err(outcome_of_keeper(fault)),
     }
 }
 
-/// Checks that bytes spell a certificate that is valid in the network. If they do not, `notes` is told why.
-fn check_valid<E: Sink>(
+/// The bytes of the certificate of the file of this path, which is valid. If there is none, `notes` is told why.
+fn read_valid<F: Shelf, E: Sink>(
     alloc: Global,
     network: &Network,
+    hierarchy: Option<&Hierarchy>,
     path: &str,
-    bytes: &[u8],
+    shelf: &mut F,
     notes: &mut E,
-) -> Result<(), BookOutcome>
-    ensures ok { OnOk result (SpellsValid network.now bytes.now) }
-    ensures err { IfErr result (IsUnverified network.now bytes.now) }
+) -> Result<Vec<u8>, Outcome>
+    requires { IfSome hierarchy (λ h. IsSound network.now h.now) }
+    ensures ok { IfOk result (λ bytes. HasValid network.now (option_map (λ h. h.now) hierarchy.entry)
+        (F.meaning shelf.old) (F.meaning shelf.new) path.now bytes.items) }
+    ensures err { IfErr result (IsCertificateOutcome network.now (option_map (λ h. h.now) hierarchy.entry)
+        (F.meaning shelf.old) (F.meaning shelf.new) path.now) }
 {
-    match verdict_on(alloc, network, bytes) {
-        Ok(CertVerdict::Valid) => Ok(()),
-        Ok(CertVerdict::Invalid { clause, at }) => {
-            tell(alloc, notes, invalid_certificate(alloc, path, clause, at));
-            Err(BookOutcome::Invalid { clause, at })
+    let bytes = read_file(alloc, shelf, path, FileRole::Certificate, notes)?;
+    let text = bytes.as_slice();
+    match check_valid(alloc, network, hierarchy, text) {
+        Ok(()) => Ok(bytes),
+        Err(outcome) => {
+            tell_why(alloc, path, text, outcome, notes);
+            Err(outcome)
         }
-        Err(CertFault::BadLine { line }) => {
-            tell(alloc, notes, bad_certificate(alloc, path, bytes, line));
-            Err(BookOutcome::BadCertificate { line })
-        }
-        Err(CertFault::OutOfMemory) => Err(BookOutcome::OutOfMemory),
     }
 }
 
-/// The verdict on the certificate that bytes spell, or why they spell none.
-fn verdict_on(alloc: Global, network: &Network, bytes: &[u8]) -> Result<CertVerdict, CertFault>
-    ensures ok { IfOk result (IsVerdictOn network.now bytes.now) }
-    ensures err { IfErr result (IsUnjudged bytes.now) }
+/// Checks that bytes spell a certificate that is valid.
+fn check_valid(
+    alloc: Global,
+    network: &Network,
+    hierarchy: Option<&Hierarchy>,
+    bytes: &[u8],
+) -> Result<(), Outcome>
+    requires { IfSome hierarchy (λ h. IsSound network.now h.now) }
+    ensures ok { OnOk result (SpellsValid network.now (option_map (λ h. h.now) hierarchy.entry) bytes.now) }
+    ensures err { IfErr result (IsUnverified
+        (best_certificates network.now (option_map (λ h. h.now) hierarchy.entry)) bytes.now) }
 {
-    let certificate = read(alloc, bytes)?;
-    let verdict = verify(alloc, network, None, &certificate)?;
-    Ok(verdict)
+    let certificate = match read(alloc, bytes) {
+        Ok(certificate) => certificate,
+        Err(CertFault::BadLine { line }) => return Err(Outcome::BadCertificate { line }),
+        Err(CertFault::OutOfMemory) => return Err(Outcome::OutOfMemory),
+    };
+    match verify(alloc, network, hierarchy, &certificate) {
+        Ok(CertVerdict::Valid) => Ok(()),
+        Ok(CertVerdict::Invalid { clause, at }) => Err(Outcome::Invalid { clause, at }),
+        Err(_) => Err(Outcome::OutOfMemory),
+    }
+}
+
+/// Tells why bytes spell no valid certificate.
+fn tell_why<E: Sink>(alloc: Global, path: &str, bytes: &[u8], outcome: Outcome, notes: &mut E) {
+    match outcome {
+        Outcome::BadCertificate { line } => {
+            tell(alloc, notes, bad_certificate(alloc, path, bytes, line));
+        }
+        Outcome::Invalid { clause, at } => {
+            tell(alloc, notes, invalid_certificate(alloc, path, clause, at));
+        }
+        _ => {}
+    }
 }
 
 /// Removes a name.
@@ -99,7 +161,8 @@ pub(crate) fn drop_name<K: Keeper>(
     keeper: &mut K,
     caps: &Caps,
 ) -> Result<(), BookOutcome>
-    ensures { (shelf : ShelfMeaning) (out : SinkMeaning) → says caps.now (drop name.now) (scene shelf (K.meaning keeper.old) out) (scene shelf (K.meaning keeper.new) out) (end_of result) }
+    ensures { (shelf : ShelfMeaning) (out : SinkMeaning) → says caps.now (drop name.now)
+        (scene shelf (K.meaning keeper.old) out) (scene shelf (K.meaning keeper.new) out) (end_of result) }
 {
     match keeper.remove(name) {
         Ok(true) => Ok(()),

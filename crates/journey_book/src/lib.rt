@@ -22,7 +22,7 @@ pub mod words;
 pub use keeper::{KeepFault, Keeper};
 pub use laws::{reports_are_fixed, runs_fold, valid_is_same};
 pub use memory_keeper::MemoryKeeper;
-pub use outcome::{BookFile, BookOutcome};
+pub use outcome::BookOutcome;
 pub use rechecking::Recheck;
 pub use reports::{Report, Reported, report_of};
 pub use reviewing::Review;

@@ -5,21 +5,27 @@ ghost use Rattle.journey_book.specs.Reports.{says_valid, verdict_words};
 
 use crate::reports::Report;
 use certificate::{CertVerdict, Certificate, verify};
+use hierarchy::Hierarchy;
 use mode_network::Network;
 use plain_texts::push_decimal;
 use product_search::Workspace;
 use std::alloc::{AllocError, Global};
 
-/// Says of a certificate whether it is valid in a network: `valid`, or `invalid CLAUSE AT`.
+/// Says of a certificate whether it is valid in a network, over a hierarchy, if there is one: `valid`, or `invalid CLAUSE AT`.
 #[derive(Drop)]
 pub struct Recheck<'a> {
     pub network: &'a Network,
+    pub hierarchy: Option<&'a Hierarchy>,
 }
 
 impl Report for Recheck<'_> {
+    ghost use Rattle.std.specs.Prelude.{IfSome, option_map};
+    ghost use Rattle.hierarchy.specs.Soundness.{IsSound};
     ghost use Rattle.journey_book.specs.Reports.{recheck_rule};
 
-    ghost rule = { λ it. recheck_rule it.network.now };
+    ghost may = { λ it. IfSome it.hierarchy (λ h. IsSound it.network.now h.now) };
+
+    ghost rule = { λ it. recheck_rule it.network.now (option_map (λ h. h.now) it.hierarchy) };
 
     fn push_words(
         &self,
@@ -28,7 +34,7 @@ impl Report for Recheck<'_> {
         certificate: &Certificate,
         text: &mut Vec<u8>,
     ) -> Result<(), AllocError> {
-        let verdict = verify(alloc, self.network, None, certificate)?;
+        let verdict = verify(alloc, self.network, self.hierarchy, certificate)?;
         push_verdict(verdict, text)
     }
 

@@ -17,6 +17,9 @@ use std::alloc::{AllocError, Global};
 pub trait Report {
     ghost use Rattle.journey_book.specs.Reports.{ReportRule};
 
+    /// When it may be asked.
+    ghost may: { Self → Type 0 } = { λ _. Unit {0} };
+
     /// Which words are right, and which of them are well.
     ghost rule: { Self → ReportRule };
 
@@ -28,8 +31,10 @@ pub trait Report {
         certificate: &Certificate,
         text: &mut Vec<u8>,
     ) -> Result<(), AllocError>
-        requires { HaveTimes certificate.now }
-        ensures { OnOk result (AddsText ((rule self.now).AreRight certificate.now) text.old.items text.new.items) };
+        requires may { may self.now }
+        requires times { HaveTimes certificate.now }
+        ensures { OnOk result (AddsText ((rule self.now).AreRight certificate.now)
+            text.old.items text.new.items) };
 
     /// Whether the words of a line are well.
     fn is_well(&self, words: &[u8]) -> bool
@@ -54,8 +59,10 @@ pub fn report_of<R: Report, K: Keeper>(
     report: &R,
     keeper: &mut K,
 ) -> Result<Reported, KeepFault>
+    requires { R.may report.now }
     ensures later { (K.meaning keeper.old).faults ≤ (K.meaning keeper.new).faults }
-    ensures ok { IfOk result (λ it. IsReport (R.rule report.now) (K.meaning keeper.old) it.text.items it.well) }
+    ensures ok { IfOk result (λ it. IsReport (R.rule report.now) (K.meaning keeper.old)
+        it.text.items it.well) }
     ensures same { Stays (K.meaning keeper.old) (K.meaning keeper.new) }
     ensures cause { IfErr result (IsKeepFault (K.meaning keeper.old) (K.meaning keeper.new)) }
 {
@@ -70,9 +77,10 @@ fn report_all<R: Report, K: Keeper>(
     keeper: &mut K,
     names: &[String],
 ) -> Result<Reported, KeepFault>
+    requires { R.may report.now }
     ensures later { (K.meaning keeper.old).faults ≤ (K.meaning keeper.new).faults }
-    ensures ok { IfOk result (λ it. HasReported (R.rule report.now) (K.meaning keeper.old) (map string_bytes names.now)
-        it.text.items it.well) }
+    ensures ok { IfOk result (λ it. HasReported (R.rule report.now) (K.meaning keeper.old)
+        (map string_bytes names.now) it.text.items it.well) }
     ensures same { Stays (K.meaning keeper.old) (K.meaning keeper.new) }
     ensures cause { IfErr result (IsKeepFault (K.meaning keeper.old) (K.meaning keeper.new)) }
 {
@@ -98,7 +106,8 @@ fn both(one: bool, other: bool) -> bool
 
 /// A line on what is kept under a name.
 fn push_line(name: &str, words: &[u8], text: &mut Vec<u8>) -> Result<(), AllocError>
-    ensures { OnOk result (text.new.items ≡ text.old.items ++ with_feed (name.now ++ codes " " ++ words.now)) }
+    ensures { OnOk result (text.new.items
+        ≡ text.old.items ++ with_feed (name.now ++ codes " " ++ words.now)) }
 {
     text.extend_from_slice(name.as_bytes())?;
     text.push(b' ')?;
@@ -113,7 +122,9 @@ fn said_on<R: Report>(
     workspace: &mut Workspace,
     held: &Option<Vec<u8>>,
 ) -> Result<Vec<u8>, AllocError>
-    ensures { IfOk result (λ words. IsSaidOn (R.rule report.now).AreRight (option_map (λ body. body.items) held.now) words.items) }
+    requires { R.may report.now }
+    ensures { IfOk result (λ words. IsSaidOn (R.rule report.now).AreRight
+        (option_map (λ body. body.items) held.now) words.items) }
 {
     let mut words = Vec::new(alloc);
     push_held(alloc, report, workspace, held, &mut words)?;
@@ -128,7 +139,9 @@ fn push_held<R: Report>(
     held: &Option<Vec<u8>>,
     text: &mut Vec<u8>,
 ) -> Result<(), AllocError>
-    ensures { OnOk result (AddsText (IsSaidOn (R.rule report.now).AreRight (option_map (λ body. body.items) held.now))
+    requires { R.may report.now }
+    ensures { OnOk result (AddsText
+        (IsSaidOn (R.rule report.now).AreRight (option_map (λ body. body.items) held.now))
         text.old.items text.new.items) }
 {
     match held {
@@ -145,7 +158,9 @@ fn push_said<R: Report>(
     bytes: &[u8],
     text: &mut Vec<u8>,
 ) -> Result<(), AllocError>
-    ensures { OnOk result (AddsText (IsSaid (R.rule report.now).AreRight bytes.now) text.old.items text.new.items) }
+    requires { R.may report.now }
+    ensures { OnOk result (AddsText (IsSaid (R.rule report.now).AreRight bytes.now)
+        text.old.items text.new.items) }
 {
     match read(alloc, bytes) {
         Ok(certificate) => report.push_words(alloc, workspace, &certificate, text),

@@ -5,11 +5,13 @@ ghost use Rattle.service_days.specs.Clock.{clock_text_of};
 ghost use Rattle.journey.specs.Best.{Asked, IsBest, asked_by};
 ghost use Rattle.journey.specs.Blocks.{AddsText, IsPrintable};
 ghost use Rattle.journey.specs.Ends.{HasTimes};
+ghost use Rattle.hierarchy.specs.Soundness.{IsSound};
 ghost use Rattle.planning.specs.Plans.{IsRead};
 ghost use Rattle.journey_book.specs.Reviews.{IsAnswered, arrival_words, beside, is_no_later, kept_arrival, nothing_words};
 
 use crate::reports::Report;
 use certificate::Certificate;
+use hierarchy::Hierarchy;
 use journey::{Query, QueryFault, ends, push_refusal, read_query};
 use mode_network::{Journey, Network};
 use plan_base::Time;
@@ -17,16 +19,21 @@ use planning::{BestPlan, find_best};
 use product_search::Workspace;
 use std::alloc::{AllocError, Global};
 
-/// Answers the query of a certificate anew in a network, and says whether its journey arrives as is kept: `same`,
-/// `earlier CLOCK`, `later CLOCK`, `none` where there is none any more, `found CLOCK` where there was none; or how the query
+/// Answers the query of a certificate anew in a network, over a hierarchy, if there is one, and says whether its journey
+/// arrives as is kept: `same`, `earlier CLOCK`, `later CLOCK`, `none` where there is none any more, `found CLOCK` where there was none; or how the query
 /// is refused.
 #[derive(Drop)]
 pub struct Review<'a> {
     pub network: &'a Network,
+    pub hierarchy: Option<&'a Hierarchy>,
 }
 
 impl Report for Review<'_> {
+    ghost use Rattle.std.specs.Prelude.{IfSome};
+    ghost use Rattle.hierarchy.specs.Soundness.{IsSound};
     ghost use Rattle.journey_book.specs.Reviews.{review_rule};
+
+    ghost may = { λ it. IfSome it.hierarchy (λ h. IsSound it.network.now h.now) };
 
     ghost rule = { λ it. review_rule it.network.now };
 
@@ -40,7 +47,8 @@ impl Report for Review<'_> {
         match read_query(alloc, self.network, certificate.line.as_slice()) {
             Ok(query) => {
                 let kept = &certificate.result;
-                push_answer(alloc, workspace, self.network, &query, kept, text)
+                let (network, hierarchy) = (self.network, self.hierarchy);
+                push_answer(alloc, workspace, network, hierarchy, &query, kept, text)
             }
             Err(QueryFault::OutOfMemory) => Err(AllocError),
             Err(fault) => push_refusal(text, fault),
@@ -64,16 +72,18 @@ fn push_answer(
     alloc: Global,
     workspace: &mut Workspace,
     network: &Network,
+    hierarchy: Option<&Hierarchy>,
     query: &Query,
     kept: &Option<(Time, Journey)>,
     text: &mut Vec<u8>,
 ) -> Result<(), AllocError>
+    requires sound { IfSome hierarchy (λ h. IsSound network.now h.now) }
     requires read { IsRead network.now query.now }
     requires times { IfSome kept.now (λ kept. (kept.0 < 10 ^ 30) × HasTimes kept.1) }
     ensures { OnOk result (AddsText (IsAnswered network.now kept.now (asked_by query.now))
         text.old.items text.new.items) }
 {
-    let BestPlan { journey, .. } = find_best(alloc, workspace, network, None, query)?;
+    let BestPlan { journey, .. } = find_best(alloc, workspace, network, hierarchy, query)?;
     match journey {
         Some(journey) => {
             let arrival = arrival_of(network, &journey);

@@ -11,10 +11,10 @@ use crate::keeper::Keeper;
 use crate::keeping::{drop_name, keep};
 use crate::outcome::BookOutcome;
 use crate::showing::{list, recheck_all, review_all, show};
-use crate::steps::tell;
 use crate::words::{BookCommand, read_words};
 use book_help::help;
 use plan_base::{Caps, Shelf, Sink, write_all};
+use run_steps::{Outcome, tell};
 use std::alloc::Global;
 
 /// Does what a command asks for.
@@ -27,23 +27,44 @@ fn carry_out<F: Shelf, K: Keeper, O: Sink, E: Sink>(
     notes: &mut E,
     caps: &Caps,
 ) -> Result<(), BookOutcome>
-    ensures { says caps.now (request_of command.entry) (scene (F.meaning shelf.old) (K.meaning keeper.old) (O.meaning out.old)) (scene (F.meaning shelf.new) (K.meaning keeper.new) (O.meaning out.new)) (end_of result) }
+    ensures { says caps.now (request_of command.entry)
+        (scene (F.meaning shelf.old) (K.meaning keeper.old) (O.meaning out.old))
+        (scene (F.meaning shelf.new) (K.meaning keeper.new) (O.meaning out.new)) (end_of result) }
 {
     match command {
         BookCommand::Keep {
             name,
             region,
             certificate,
-        } => keep(alloc, name, region, certificate, shelf, keeper, notes, caps),
+            hierarchy,
+        } => keep(
+            alloc,
+            name,
+            region,
+            certificate,
+            hierarchy,
+            shelf,
+            keeper,
+            notes,
+            caps,
+        ),
         BookCommand::Drop { name } => drop_name(name, keeper, caps),
         BookCommand::List => list(alloc, keeper, out, caps),
         BookCommand::Show { name } => show(name, keeper, out, caps),
-        BookCommand::Recheck { region, fail } => {
-            recheck_all(alloc, region, fail, shelf, keeper, out, notes, caps)
-        }
-        BookCommand::Review { region, fail } => {
-            review_all(alloc, region, fail, shelf, keeper, out, notes, caps)
-        }
+        BookCommand::Recheck {
+            region,
+            hierarchy,
+            fail,
+        } => recheck_all(
+            alloc, region, hierarchy, fail, shelf, keeper, out, notes, caps,
+        ),
+        BookCommand::Review {
+            region,
+            hierarchy,
+            fail,
+        } => review_all(
+            alloc, region, hierarchy, fail, shelf, keeper, out, notes, caps,
+        ),
     }
 }
 
@@ -57,27 +78,32 @@ pub fn run_book_within<F: Shelf, K: Keeper, O: Sink, E: Sink>(
     notes: &mut E,
     caps: &Caps,
 ) -> BookOutcome
-    ensures outcome { IsOutcome caps.now (map string_bytes words.now) (scene (F.meaning shelf.old) (K.meaning keeper.old) (O.meaning out.old)) (scene (F.meaning shelf.new) (K.meaning keeper.new) (O.meaning out.new)) result }
-    ensures complete { IsComplete caps.now (map string_bytes words.now) (scene (F.meaning shelf.old) (K.meaning keeper.old) (O.meaning out.old)) (scene (F.meaning shelf.new) (K.meaning keeper.new) (O.meaning out.new)) result }
+    ensures outcome { IsOutcome caps.now (map string_bytes words.now)
+        (scene (F.meaning shelf.old) (K.meaning keeper.old) (O.meaning out.old))
+        (scene (F.meaning shelf.new) (K.meaning keeper.new) (O.meaning out.new)) result }
+    ensures complete { IsComplete caps.now (map string_bytes words.now)
+        (scene (F.meaning shelf.old) (K.meaning keeper.old) (O.meaning out.old))
+        (scene (F.meaning shelf.new) (K.meaning keeper.new) (O.meaning out.new)) result }
 {
     let Some(command) = read_words(words) else {
-        return BookOutcome::Usage;
+        return BookOutcome::Common(Outcome::Usage);
     };
     match carry_out(alloc, command, shelf, keeper, out, notes, caps) {
-        Ok(()) => BookOutcome::Done,
+        Ok(()) => BookOutcome::Common(Outcome::Done),
         Err(outcome) => outcome,
     }
 }
 
-/// Does what a command with these words asks for: the program's name, the book's, which is not looked at, the command's, and what it
-/// works on.
+/// Does what a command with these words asks for: the program's name, the book's, which is not looked at, the
+/// command's, and what it works on.
 ///
-/// `keep` keeps a certificate's bytes under a name, where it is valid in a region; `drop` removes a name; `list` writes all
-/// names and `show` what is kept under one; `recheck` writes which of the certificates that are kept hold in a region, and
-/// `review` what it does to their journeys; with `--fail` these two end as `NotWell` where one does not hold, or is worse. The
-/// outcome says how the run ended. Where the shelf tells that all files are there, they are without fault, and no count of
-/// faults rose, all of the work is done, unless nothing is kept under the name or memory ran out. `notes` is told why a run did not end with its work done, and where the words ask for nothing, what they
-/// may be; a fault of `notes` changes nothing.
+/// `keep` keeps a certificate's bytes under a name, where it is valid in a region; `drop` removes a name; `list` writes
+/// all names and `show` what is kept under one; `recheck` writes which of the certificates that are kept hold in a
+/// region, and `review` what it does to their journeys; with `--fail` these two end as `NotWell` where one does not
+/// hold, or is worse. Certificates are those over a hierarchy, if one is named. The outcome says how the run ended.
+/// Where the shelf tells that all files are there, they are without fault, and no count of faults rose, all of the work
+/// is done, unless nothing is kept under the name or memory ran out. `notes` is told why a run did not end with its
+/// work done, and where the words ask for nothing, what they may be; a fault of `notes` changes nothing.
 pub fn run_book<F: Shelf, K: Keeper, O: Sink, E: Sink>(
     alloc: Global,
     words: &[String],
@@ -86,8 +112,12 @@ pub fn run_book<F: Shelf, K: Keeper, O: Sink, E: Sink>(
     out: &mut O,
     notes: &mut E,
 ) -> BookOutcome
-    ensures outcome { (caps : Caps) × AreFull caps × IsOutcome caps (map string_bytes words.now) (scene (F.meaning shelf.old) (K.meaning keeper.old) (O.meaning out.old)) (scene (F.meaning shelf.new) (K.meaning keeper.new) (O.meaning out.new)) result }
-    ensures complete { (caps : Caps) × AreFull caps × IsComplete caps (map string_bytes words.now) (scene (F.meaning shelf.old) (K.meaning keeper.old) (O.meaning out.old)) (scene (F.meaning shelf.new) (K.meaning keeper.new) (O.meaning out.new)) result }
+    ensures outcome { (caps : Caps) × AreFull caps × IsOutcome caps (map string_bytes words.now)
+        (scene (F.meaning shelf.old) (K.meaning keeper.old) (O.meaning out.old))
+        (scene (F.meaning shelf.new) (K.meaning keeper.new) (O.meaning out.new)) result }
+    ensures complete { (caps : Caps) × AreFull caps × IsComplete caps (map string_bytes words.now)
+        (scene (F.meaning shelf.old) (K.meaning keeper.old) (O.meaning out.old))
+        (scene (F.meaning shelf.new) (K.meaning keeper.new) (O.meaning out.new)) result }
 {
     let outcome = run_book_within(alloc, words, shelf, keeper, out, notes, &Caps::FULL);
     tell_end(alloc, words, outcome, notes);
@@ -97,7 +127,7 @@ pub fn run_book<F: Shelf, K: Keeper, O: Sink, E: Sink>(
 /// Tells people how a run with these words ended; where they ask for nothing, what they may be.
 fn tell_end<E: Sink>(alloc: Global, words: &[String], outcome: BookOutcome, notes: &mut E) {
     match outcome {
-        BookOutcome::Usage => {
+        BookOutcome::Common(Outcome::Usage) => {
             if let Ok(text) = help(alloc, words) {
                 let _ = write_all(notes, text.as_bytes());
             }

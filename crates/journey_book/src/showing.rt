@@ -1,22 +1,27 @@
 //! The commands `list`, `show`, `recheck` and `review`, which write what is kept and what is said of it.
 
-ghost use Rattle.std.specs.Prelude.{◌≡◌, map, string_bytes, IfOk};
+ghost use Rattle.std.specs.Prelude.{◌≡◌, IfOk, IfSome, map, option_map, string_bytes};
 ghost use Rattle.plain_texts.specs.Lines.{lines_text};
 ghost use Rattle.plan_base.specs.Shelves.{ShelfMeaning};
+ghost use Rattle.hierarchy.specs.Soundness.{IsSound};
 ghost use Rattle.journey_book.specs.Commands.{says};
 ghost use Rattle.journey_book.specs.Requests.{list, show, recheck, review};
-ghost use Rattle.journey_book.specs.Reports.{IsReported};
+ghost use Rattle.journey_book.specs.Reports.{IsReported, end_by, recheck_rule};
+ghost use Rattle.journey_book.specs.Reviews.{review_rule};
 ghost use Rattle.journey_book.specs.Sayings.{Writes, end_of, scene};
-ghost use Rattle.journey_book.specs.Working.{ended_by};
 
 use crate::keeper::Keeper;
 use crate::outcome::BookOutcome;
 use crate::rechecking::Recheck;
 use crate::reports::{Report, report_of};
 use crate::reviewing::Review;
-use crate::steps::{outcome_of_keeper, read_region, write_text};
+use crate::steps::{ended, outcome_of_keeper};
+use answer_commands::read_both;
+use hierarchy::Hierarchy;
+use mode_network::Network;
 use plain_texts::push_line_feed;
 use plan_base::{Caps, Shelf, Sink};
+use run_steps::{Outcome, write_text};
 use std::alloc::{AllocError, Global};
 
 /// Writes all names.
@@ -26,16 +31,18 @@ pub(crate) fn list<K: Keeper, O: Sink>(
     out: &mut O,
     caps: &Caps,
 ) -> Result<(), BookOutcome>
-    ensures { (shelf : ShelfMeaning) → says caps.now list (scene shelf (K.meaning keeper.old) (O.meaning out.old)) (scene shelf (K.meaning keeper.new) (O.meaning out.new)) (end_of result) }
+    ensures { (shelf : ShelfMeaning) → says caps.now list
+        (scene shelf (K.meaning keeper.old) (O.meaning out.old))
+        (scene shelf (K.meaning keeper.new) (O.meaning out.new)) (end_of result) }
 {
     let names = match keeper.names() {
         Ok(names) => names,
         Err(fault) => return Err(outcome_of_keeper(fault)),
     };
     let Ok(text) = listed(alloc, &names) else {
-        return Err(BookOutcome::OutOfMemory);
+        return Err(BookOutcome::Common(Outcome::OutOfMemory));
     };
-    write_text(out, &text)
+    ended(write_text(out, &text), Ok(()))
 }
 
 /// Names, each on a line.
@@ -57,19 +64,22 @@ pub(crate) fn show<K: Keeper, O: Sink>(
     out: &mut O,
     caps: &Caps,
 ) -> Result<(), BookOutcome>
-    ensures { (shelf : ShelfMeaning) → says caps.now (show name.now) (scene shelf (K.meaning keeper.old) (O.meaning out.old)) (scene shelf (K.meaning keeper.new) (O.meaning out.new)) (end_of result) }
+    ensures { (shelf : ShelfMeaning) → says caps.now (show name.now)
+        (scene shelf (K.meaning keeper.old) (O.meaning out.old))
+        (scene shelf (K.meaning keeper.new) (O.meaning out.new)) (end_of result) }
 {
     match keeper.get(name) {
-        Ok(Some(body)) => write_text(out, &body),
+        Ok(Some(body)) => ended(write_text(out, &body), Ok(())),
         Ok(None) => Err(BookOutcome::Absent),
         Err(fault) => Err(outcome_of_keeper(fault)),
     }
 }
 
-/// Reads a region, and writes which of the certificates that are kept hold in it.
+/// Reads a region and the hierarchy, if one is named, and writes which of the certificates that are kept hold.
 pub(crate) fn recheck_all<F: Shelf, K: Keeper, O: Sink, E: Sink>(
     alloc: Global,
     region: &str,
+    hierarchy: Option<&str>,
     fail: bool,
     shelf: &mut F,
     keeper: &mut K,
@@ -77,17 +87,41 @@ pub(crate) fn recheck_all<F: Shelf, K: Keeper, O: Sink, E: Sink>(
     notes: &mut E,
     caps: &Caps,
 ) -> Result<(), BookOutcome>
-    ensures { says caps.now (recheck region.now fail) (scene (F.meaning shelf.old) (K.meaning keeper.old) (O.meaning out.old)) (scene (F.meaning shelf.new) (K.meaning keeper.new) (O.meaning out.new)) (end_of result) }
+    ensures { says caps.now (recheck region.now (option_map (λ it. it.now) hierarchy.entry) fail)
+        (scene (F.meaning shelf.old) (K.meaning keeper.old) (O.meaning out.old))
+        (scene (F.meaning shelf.new) (K.meaning keeper.new) (O.meaning out.new)) (end_of result) }
 {
-    let network = read_region(alloc, shelf, region, caps, notes)?;
-    let recheck = Recheck { network: &network };
+    match read_both(alloc, region, hierarchy, shelf, notes, caps) {
+        Ok(both) => recheck_over(alloc, &both.0, both.1.as_ref(), fail, keeper, out),
+        Err(outcome) => Err(BookOutcome::Common(outcome)),
+    }
+}
+
+/// Writes which of the certificates that are kept hold.
+fn recheck_over<K: Keeper, O: Sink>(
+    alloc: Global,
+    network: &Network,
+    hierarchy: Option<&Hierarchy>,
+    fail: bool,
+    keeper: &mut K,
+    out: &mut O,
+) -> Result<(), BookOutcome>
+    requires { IfSome hierarchy (λ h. IsSound network.now h.now) }
+    ensures { (shelf : ShelfMeaning) → Writes
+        (IsReported (recheck_rule network.now (option_map (λ h. h.now) hierarchy.entry)) fail
+        (K.meaning keeper.old))
+        (scene shelf (K.meaning keeper.old) (O.meaning out.old))
+        (scene shelf (K.meaning keeper.new) (O.meaning out.new)) (end_of result) }
+{
+    let recheck = Recheck { network, hierarchy };
     write_report(alloc, &recheck, fail, keeper, out)
 }
 
-/// Reads a region, and writes what it does to the journeys that are kept.
+/// Reads a region and the hierarchy, if one is named, and writes what that does to the journeys that are kept.
 pub(crate) fn review_all<F: Shelf, K: Keeper, O: Sink, E: Sink>(
     alloc: Global,
     region: &str,
+    hierarchy: Option<&str>,
     fail: bool,
     shelf: &mut F,
     keeper: &mut K,
@@ -95,10 +129,32 @@ pub(crate) fn review_all<F: Shelf, K: Keeper, O: Sink, E: Sink>(
     notes: &mut E,
     caps: &Caps,
 ) -> Result<(), BookOutcome>
-    ensures { says caps.now (review region.now fail) (scene (F.meaning shelf.old) (K.meaning keeper.old) (O.meaning out.old)) (scene (F.meaning shelf.new) (K.meaning keeper.new) (O.meaning out.new)) (end_of result) }
+    ensures { says caps.now (review region.now (option_map (λ it. it.now) hierarchy.entry) fail)
+        (scene (F.meaning shelf.old) (K.meaning keeper.old) (O.meaning out.old))
+        (scene (F.meaning shelf.new) (K.meaning keeper.new) (O.meaning out.new)) (end_of result) }
 {
-    let network = read_region(alloc, shelf, region, caps, notes)?;
-    let review = Review { network: &network };
+    match read_both(alloc, region, hierarchy, shelf, notes, caps) {
+        Ok(both) => review_over(alloc, &both.0, both.1.as_ref(), fail, keeper, out),
+        Err(outcome) => Err(BookOutcome::Common(outcome)),
+    }
+}
+
+/// Writes what the region does to the journeys that are kept.
+fn review_over<K: Keeper, O: Sink>(
+    alloc: Global,
+    network: &Network,
+    hierarchy: Option<&Hierarchy>,
+    fail: bool,
+    keeper: &mut K,
+    out: &mut O,
+) -> Result<(), BookOutcome>
+    requires { IfSome hierarchy (λ h. IsSound network.now h.now) }
+    ensures { (shelf : ShelfMeaning) → Writes
+        (IsReported (review_rule network.now) fail (K.meaning keeper.old))
+        (scene shelf (K.meaning keeper.old) (O.meaning out.old))
+        (scene shelf (K.meaning keeper.new) (O.meaning out.new)) (end_of result) }
+{
+    let review = Review { network, hierarchy };
     write_report(alloc, &review, fail, keeper, out)
 }
 
@@ -110,21 +166,21 @@ fn write_report<R: Report, K: Keeper, O: Sink>(
     keeper: &mut K,
     out: &mut O,
 ) -> Result<(), BookOutcome>
+    requires { R.may report.now }
     ensures { (shelf : ShelfMeaning) → Writes (IsReported (R.rule report.now) fail (K.meaning keeper.old))
-        (scene shelf (K.meaning keeper.old) (O.meaning out.old)) (scene shelf (K.meaning keeper.new) (O.meaning out.new))
-        (end_of result) }
+        (scene shelf (K.meaning keeper.old) (O.meaning out.old))
+        (scene shelf (K.meaning keeper.new) (O.meaning out.new)) (end_of result) }
 {
     match report_of(alloc, report, keeper) {
-        Ok(reported) => end_by(write_text(out, &reported.text), fail, reported.well),
+        Ok(reported) => ended(write_text(out, &reported.text), end_by(fail, reported.well)),
         Err(fault) => Err(outcome_of_keeper(fault)),
     }
 }
 
-/// How a report ends, which was written, or was not.
-fn end_by(written: Result<(), BookOutcome>, fail: bool, well: bool) -> Result<(), BookOutcome>
-    ensures { end_of result ≡ ended_by written fail well }
+/// How a report ends a run.
+fn end_by(fail: bool, well: bool) -> Result<(), BookOutcome>
+    ensures { end_of result ≡ end_by fail well }
 {
-    written?;
     if fail && !well {
         return Err(BookOutcome::NotWell);
     }

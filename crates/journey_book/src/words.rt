@@ -10,11 +10,12 @@ use crate::given::{GivenWords, Plain, read_given};
 /// What a command line asks for. Files are named by their paths.
 #[derive(Clone, Copy)]
 pub enum BookCommand<'a> {
-    /// Keeps a certificate under a name, if it is valid in the region.
+    /// Keeps a certificate under a name, if it is valid in the region, over the hierarchy, if one is named.
     Keep {
         name: &'a str,
         region: &'a str,
         certificate: &'a str,
+        hierarchy: Option<&'a str>,
     },
     /// Removes a name.
     Drop {
@@ -26,14 +27,18 @@ pub enum BookCommand<'a> {
     Show {
         name: &'a str,
     },
-    /// Which of the certificates that are kept hold in a region; and whether it is to fail where one does not.
+    /// Which of the certificates that are kept hold in a region, over the hierarchy, if one is named; and whether it is to fail
+    /// where one does not.
     Recheck {
         region: &'a str,
+        hierarchy: Option<&'a str>,
         fail: bool,
     },
-    /// What a region does to the journeys that are kept; and whether it is to fail where one is worse.
+    /// What a region does to the journeys that are kept, found over the hierarchy, if one is named; and whether it is to fail
+    /// where one is worse.
     Review {
         region: &'a str,
+        hierarchy: Option<&'a str>,
         fail: bool,
     },
 }
@@ -76,7 +81,7 @@ fn keep(given: GivenWords<'_>) -> Option<BookCommand<'_>>
     ensures { option_map request_of result
         ≡ keep_by (given_of given.entry).words (given_of given.entry).hierarchy given.entry.fail }
 {
-    if given.fail || given.hierarchy.is_some() {
+    if given.fail {
         return None;
     }
     match given.plain {
@@ -86,6 +91,7 @@ fn keep(given: GivenWords<'_>) -> Option<BookCommand<'_>>
                     name,
                     region,
                     certificate,
+                    hierarchy: given.hierarchy,
                 })
             } else {
                 None
@@ -150,12 +156,10 @@ fn recheck(given: GivenWords<'_>) -> Option<BookCommand<'_>>
     ensures { option_map request_of result
         ≡ recheck_by (given_of given.entry).words (given_of given.entry).hierarchy given.entry.fail }
 {
-    if given.hierarchy.is_some() {
-        return None;
-    }
     match given.plain {
         Plain::One(region) => Some(BookCommand::Recheck {
             region,
+            hierarchy: given.hierarchy,
             fail: given.fail,
         }),
         _ => None,
@@ -166,12 +170,10 @@ fn review(given: GivenWords<'_>) -> Option<BookCommand<'_>>
     ensures { option_map request_of result
         ≡ review_by (given_of given.entry).words (given_of given.entry).hierarchy given.entry.fail }
 {
-    if given.hierarchy.is_some() {
-        return None;
-    }
     match given.plain {
         Plain::One(region) => Some(BookCommand::Review {
             region,
+            hierarchy: given.hierarchy,
             fail: given.fail,
         }),
         _ => None,

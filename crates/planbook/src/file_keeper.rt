@@ -6,6 +6,7 @@ ghost use Rattle.journey_book.specs.Working.{IsRefusal};
 use crate::paths::{Found, log_path, look_at};
 use journey_book::{BookOutcome, KeepFault, Keeper, Refusal, SqliteKeeper};
 use plan_base::{StreamSink, write_all};
+use run_steps::Outcome;
 use sqlite::{Connection, Error, ErrorCode, File, FileStore};
 use std::alloc::AllocError;
 use std::time::Duration;
@@ -168,7 +169,7 @@ impl BookFile<'_> {
     }
 
     fn tell_new(&self, outcome: BookOutcome) {
-        if self.before == Found::Nothing && matches!(outcome, BookOutcome::Done) {
+        if self.before == Found::Nothing && matches!(outcome, BookOutcome::Common(Outcome::Done)) {
             self.tell("a new book");
         }
     }

@@ -2,12 +2,15 @@
 #![tactic(auto)]
 
 mod file_keeper;
+mod notes;
 mod paths;
 
 use crate::file_keeper::FileKeeper;
+use crate::notes::Notes;
 use journey_book::words::read_words;
 use journey_book::{BookOutcome, Keeper, MemoryKeeper, run_book};
 use plan_base::{FolderShelf, StreamSink};
+use run_steps::Outcome;
 use std::collections::BTreeMap;
 use std::env;
 use std::io::{self, ErrorKind};
@@ -16,8 +19,10 @@ use std::process::ExitCode;
 fn main(rt: HostRuntime) -> ExitCode {
     let outcome = match words(&rt) {
         Ok(words) => run(&rt, words.as_slice()),
-        Err(error) if error.kind() == ErrorKind::OutOfMemory => BookOutcome::OutOfMemory,
-        Err(_) => BookOutcome::Usage,
+        Err(error) if error.kind() == ErrorKind::OutOfMemory => {
+            BookOutcome::Common(Outcome::OutOfMemory)
+        }
+        Err(_) => BookOutcome::Common(Outcome::Usage),
     };
     ExitCode::from(outcome.status())
 }
@@ -57,6 +62,6 @@ fn run_in_file(rt: &HostRuntime, words: &[String], path: &str) -> BookOutcome {
 fn run_over<K: Keeper>(rt: &HostRuntime, words: &[String], keeper: &mut K) -> BookOutcome {
     let mut shelf = FolderShelf::new(rt);
     let mut out = StreamSink::new(rt.stdout());
-    let mut notes = StreamSink::new(rt.stderr());
+    let mut notes = Notes::new(StreamSink::new(rt.stderr()));
     run_book(rt.alloc(), words, &mut shelf, keeper, &mut out, &mut notes)
 }

@@ -2,7 +2,7 @@
 
 use crate::runs::{NOTHING, Sinks};
 use case_script::{Given, Script, words, words_and_files};
-use journey_book::{Keeper, MemoryKeeper, SqliteKeeper, run_book};
+use journey_book::{BookOutcome, Keeper, MemoryKeeper, SqliteKeeper, run_book};
 use plan_base::MemoryShelf;
 use sqlite::Connection;
 use std::alloc::{AllocError, Global};
@@ -122,8 +122,17 @@ fn run<K: Keeper>(
     let Sinks { mut out, mut notes } = Sinks::new(alloc, NOTHING)?;
     let outcome = run_book(alloc, &words, &mut shelf, keeper, &mut out, &mut notes);
     let status = outcome.status();
+    let ended = ended(alloc, outcome)?;
     let text = String::from_utf8_lossy(alloc, out.bytes())?;
-    format!(in alloc; "{outcome:?}, status {status}\n{text}")
+    format!(in alloc; "{ended}, status {status}\n{text}")
+}
+
+/// How a run ended, as that of a command of the planner is told.
+fn ended(alloc: Global, outcome: BookOutcome) -> Result<String, AllocError> {
+    match outcome {
+        BookOutcome::Common(outcome) => format!(in alloc; "{outcome:?}"),
+        _ => format!(in alloc; "{outcome:?}"),
+    }
 }
 
 /// `put NAME TEXT`: keeps a text under a name, whatever it is.

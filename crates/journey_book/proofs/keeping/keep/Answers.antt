@@ -1,10 +1,15 @@
-use Rattle.journey_book.proofs.RunLemmas.{on_region}
+use Rattle.std.proofs.Common.{inl, inr}
+use Rattle.plan_base.proofs.MoreWritten.{stays_so as unwritten}
+use Rattle.answer_commands.proofs.LentLemmas.{lent_sound}
+use Rattle.journey_book.proofs.KeeperLemmas.{stays_so}
 use Rattle.journey_book.proofs.keeping.keep.Goals as goal
 
-pub returns : goal.returns
-returns g c out =
-    let before = g.K.Keeper.meaning c.args.keeper.now in
-    let after = g.K.Keeper.meaning c.keep_in.new.keeper in
-    let mid = g.F.Shelf.meaning c.read_region.new.shelf in
-    on_region (g.F.Shelf.meaning c.args.shelf.now) mid (g.F.Shelf.meaning c.keep_in.new.shelf) before after out out c.args.region.now
-    c.args.caps.now _ c.in_ok-network.network c.in_ok-network.ensures.ok c.in_ok-network.ensures.later _ (c.keep_in.ensures out)
+pub keep_over-requires : goal.keep_over-requires
+keep_over-requires g c = lent_sound c.in-Ok.both.0 c.as_ref.result c.in-Ok.both.1 c.as_ref.ensures.value c.in-Ok.ensures.sound
+
+pub returns-in-Ok : goal.returns-in-Ok
+returns-in-Ok g c out =
+    inr (c.in-Ok.both.0, c.in-Ok.both.1, g.F.Shelf.meaning c.read_both.new.shelf, c.in-Ok.ensures.ok, rw c.as_ref.ensures.value at (c.keep_over.ensures out))
+
+pub returns-in-Err : goal.returns-in-Err
+returns-in-Err g c out = inl (c.in-Err.ensures.err, (unwritten out, stays_so (g.K.Keeper.meaning c.args.keeper.now)))

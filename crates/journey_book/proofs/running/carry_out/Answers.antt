@@ -8,3 +8,6 @@ returns-in-List g c = rw (c.in-List.is) (c.list.ensures (g.F.Shelf.meaning c.arg
 
 pub returns-in-Show : goal.returns-in-Show
 returns-in-Show g c = rw (c.in-Show.is) (c.show.ensures (g.F.Shelf.meaning c.args.shelf.now))
+
+pub returns-in-Keep : goal.returns-in-Keep
+returns-in-Keep g c = rw (c.in-Keep.is) (c.keep.ensures (g.O.Sink.meaning c.args.out.now))

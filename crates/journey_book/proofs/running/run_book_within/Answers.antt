@@ -11,5 +11,5 @@ returns-in-Err-clause-complete g c r files asks tells can reads keeps writes =
     let old = scene (g.F.Shelf.meaning c.args.shelf.now) (g.K.Keeper.meaning c.args.keeper.now) (g.O.Sink.meaning c.args.out.now) in
     let new = scene (g.F.Shelf.meaning c.carry_out.new.shelf) (g.K.Keeper.meaning c.carry_out.new.keeper) (g.O.Sink.meaning c.carry_out.new.out) in
     let same = asked_once (map string_bytes c.args.words.now) (request_of c.in-Some.command) r c.in-Some.ensures asks in
-    completes files c.args.caps.now r can old new c.in-Err.outcome tells (record { shelf = reads; keeper = keeps; out = writes })
+    completes c.args.caps.now files old new tells (record { shelf = reads; keeper = keeps; out = writes }) r can c.in-Err.outcome
     (subst (λ (q : Request). says c.args.caps.now q old new c.in-Err.outcome) same c.in-Err.ensures)

@@ -1,10 +1,16 @@
-use Rattle.journey_book.proofs.RunLemmas.{on_region}
+use Rattle.std.proofs.Common.{inl, inr}
+use Rattle.answer_commands.proofs.LentLemmas.{lent_sound}
+use Rattle.journey_book.proofs.KeeperLemmas.{stays_so}
+use Rattle.plan_base.proofs.MoreWritten.{stays_so as unwritten}
 use Rattle.journey_book.proofs.showing.recheck_all.Goals as goal
 
-pub returns : goal.returns
-returns g c =
-    let before = g.K.Keeper.meaning c.args.keeper.now in
-    let after = g.K.Keeper.meaning c.write_report.new.keeper in
-    let mid = g.F.Shelf.meaning c.read_region.new.shelf in
-    on_region (g.F.Shelf.meaning c.args.shelf.now) mid mid before after (g.O.Sink.meaning c.args.out.now) (g.O.Sink.meaning c.write_report.new.out) c.args.region.now
-    c.args.caps.now _ c.in_ok-network.network c.in_ok-network.ensures.ok c.in_ok-network.ensures.later _ (c.write_report.ensures mid)
+pub recheck_over-requires : goal.recheck_over-requires
+recheck_over-requires g c = lent_sound c.in-Ok.both.0 c.as_ref.result c.in-Ok.both.1 c.as_ref.ensures.value c.in-Ok.ensures.sound
+
+pub returns-in-Ok : goal.returns-in-Ok
+returns-in-Ok g c =
+    let mid = g.F.Shelf.meaning c.read_both.new.shelf in
+    inr (c.in-Ok.both.0, c.in-Ok.both.1, mid, c.in-Ok.ensures.ok, rw c.as_ref.ensures.value at (c.recheck_over.ensures mid))
+
+pub returns-in-Err : goal.returns-in-Err
+returns-in-Err g c = inl (c.in-Err.ensures.err, (unwritten (g.O.Sink.meaning c.args.out.now), stays_so (g.K.Keeper.meaning c.args.keeper.now)))

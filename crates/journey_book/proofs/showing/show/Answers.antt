@@ -1,0 +1,19 @@
+use Rattle.std.proofs.Common.{◌≡◌, ℕ, List, Option, Some, Global, inr, option_map, subst, sym}
+use Rattle.std.specs.Prelude.{Vec}
+use Rattle.journey_book.specs.Keepers.{Tells}
+use Rattle.journey_book.specs.Sayings.{ThenDone, Writes, scene}
+use Rattle.journey_book.specs.declared.outcome.BookOutcome.{BookOutcome}
+use Rattle.journey_book.proofs.RunLemmas.{text_written}
+use Rattle.journey_book.proofs.showing.show.Goals as goal
+
+pub returns-in-Ok-Some : goal.returns-in-Ok-Some
+returns-in-Ok-Some g c shelf =
+    let name = c.args.name.now in
+    let before = g.K.Keeper.meaning c.args.keeper.now in
+    let old = scene shelf before (g.O.Sink.meaning c.args.out.now) in
+    let new = scene shelf (g.K.Keeper.meaning c.get.new.self) (g.O.Sink.meaning c.write_text.new.out) in
+    let told =
+    subst (λ (held : Option (Vec ℕ Global)). Tells before (λ book. book name ≡ option_map (λ body. body.items) held)) c.in-Ok-Some.field-0-is c.in-Ok-Some.ensures.ok in
+    let is = subst (λ (text : List ℕ). Tells before (λ book. book name ≡ Some text)) (sym c.deref.ensures.value) told in
+    inr (subst (λ (end : BookOutcome). Writes (ThenDone (λ text. Tells before (λ book. book name ≡ Some text))) old new end) (sym c.ended.ensures)
+    (text_written old new c.in-Ok-Some.ensures.same (λ text. Tells before (λ book. book name ≡ Some text)) c.deref.result.now is c.write_text.result c.write_text.ensures.ok c.write_text.ensures.err))
