@@ -12,7 +12,8 @@ pub const NAMES: &str =
 
 const REGION: &str = "The region file, in either format";
 
-const HIERARCHY: &str = "A hierarchy of the region's roads, as `modeplan contract` writes it, which certificates are over; it is checked before it is used [default: none]";
+const HIERARCHY: &str =
+    "A hierarchy of the region's roads, as `modeplan contract` writes it, which certificates are over; it is checked before it is used [default: none]";
 
 /// What is said at the end of the help on all commands.
 const MORE: &str = "\

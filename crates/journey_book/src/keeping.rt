@@ -84,7 +84,8 @@ fn keep_over<F: Shelf, K: Keeper, E: Sink>(
 /// Keeps bytes under a name.
 fn put<K: Keeper>(name: &str, bytes: &[u8], keeper: &mut K) -> Result<(), BookOutcome>
     ensures { (shelf : ShelfMeaning) (out : SinkMeaning) → Changes (λ book. Unit {0})
-        (kept name.now bytes.now) (scene shelf (K.meaning keeper.old) out) (scene shelf (K.meaning keeper.new) out) (end_of result) }
+        (kept name.now bytes.now) (scene shelf (K.meaning keeper.old) out)
+        (scene shelf (K.meaning keeper.new) out) (end_of result) }
 {
     match keeper.put(name, bytes) {
         Ok(()) => Ok(()),

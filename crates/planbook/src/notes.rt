@@ -6,6 +6,7 @@ use plan_base::{Sink, SinkFailed};
 
 /// How the steps that are shared with `modeplan` begin a note; and this program, as many bytes.
 const SHARED: &[u8] = b"modeplan: ";
+
 const OWN: &[u8] = b"planbook: ";
 
 /// A sink of notes. One that begins with the name `modeplan` gets this program's in its place. It tells nothing of what it takes.
@@ -26,7 +27,11 @@ fn renamed(piece: &[u8]) -> &[u8]
     ensures within { length result.now ≤ length piece.now }
     ensures some { 0 < length piece.now → 0 < length result.now }
 {
-    if piece.starts_with(SHARED) { OWN } else { piece }
+    if piece.starts_with(SHARED) {
+        OWN
+    } else {
+        piece
+    }
 }
 
 impl<S: Sink> Sink for Notes<S> {
