@@ -46,7 +46,7 @@ fn wrong_name(alloc: Global, matches: &ArgMatches) -> Result<String, AllocError>
                 "error: invalid value '{name}' for '<NAME>'\n\n  {NAMES}\n\nFor more information, try 'planbook BOOK {command} --help'.\n"
             ),
             None => format!(in alloc;
-                "error: '{command}' takes its words and options alone, and no word may begin with '-'\n\nFor more information, try 'planbook BOOK {command} --help'.\n"
+                "error: '{command}' takes its words and options alone; an option and its value are two words\n\nFor more information, try 'planbook BOOK {command} --help'.\n"
             ),
         },
         None => general_help(alloc),

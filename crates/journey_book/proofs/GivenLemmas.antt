@@ -4,8 +4,9 @@ use Rattle.std.specs.Prelude.{IfSome, codes, nat_lt, option_and_then}
 use Rattle.std.specs.Str.{bytes_eq}
 use Rattle.std.specs.declared.string.String.{String}
 use Rattle.std.proofs.lemmas.List.{take_all}
+use Rattle.std.proofs.lemmas.Slice.Eq.{bytes_eq-Decides}
 use borrow.Author.Tests.{ltb-true}
-use Rattle.journey_book.specs.Given.{Given, begins_option, given_by, nothing_given, with_fail, with_hierarchy, with_plain, with_word}
+use Rattle.journey_book.specs.Given.{Given, is_option, given_by, nothing_given, with_fail, with_hierarchy, with_plain, with_word}
 
 abbrev weight : Bool → ℕ → ℕ
 weight true count = count
@@ -33,7 +34,7 @@ fail_so count given so = go given.fail refl
     go false is = let none : weight given.fail 1 ≡ 0 = ap (λ (b : Bool). weight b 1) is in record { counts = omega (arith, none, so.counts); few = so.few }
 
 hierarchy_so : (file : List ℕ) (count : ℕ) (given : Given) → AreSo count given → IfSome (with_hierarchy file given) (AreSo (count + 2))
-hierarchy_so file count given so = go (begins_option file) (is_some given.hierarchy) refl
+hierarchy_so file count given so = go (is_option file) (is_some given.hierarchy) refl
   where
     go : (option b : Bool) → is_some given.hierarchy ≡ b → IfSome (cond option None (cond b None (Some (record given { hierarchy = Some file })))) (AreSo (count + 2))
     go true b is = tt
@@ -41,7 +42,7 @@ hierarchy_so file count given so = go (begins_option file) (is_some given.hierar
     go false false is = let none : weight (is_some given.hierarchy) 2 ≡ 0 = ap (λ (b : Bool). weight b 2) is in record { counts = omega (arith, none, so.counts); few = so.few }
 
 plain_so : (word : List ℕ) (count : ℕ) (given : Given) → AreSo count given → IfSome (with_plain word given) (AreSo (count + 1))
-plain_so word count given so = go (begins_option word) (nat_lt (length given.words) 3) refl
+plain_so word count given so = go (is_option word) (nat_lt (length given.words) 3) refl
   where
     go : (option b : Bool) → nat_lt (length given.words) 3 ≡ b → IfSome (cond option None (cond b (Some (record given { words = word ∷ given.words })) None)) (AreSo (count + 1))
     go true b is = tt
@@ -88,6 +89,13 @@ word_first word (next ∷ rest) not = rw not refl
 hierarchy_first : (word file : List ℕ) (rest : List (List ℕ)) → bytes_eq word (codes "--hierarchy") ≡ true → given_by (word ∷ file ∷ rest) ≡ option_and_then (with_hierarchy file) (given_by rest)
 hierarchy_first word file rest is = rw is refl
 
+-- `--hierarchy` with no file behind it
+alone : (word : List ℕ) (rest : List (String Global)) → length rest < 1 → bytes_eq word (codes "--hierarchy") ≡ true → None ≡ given_by (word ∷ map string_bytes rest)
+alone word [] none here =
+    let is : word ≡ codes "--hierarchy" = (bytes_eq-Decides word (codes "--hierarchy")).0 here in
+    subst (λ (w : List ℕ). None ≡ given_by (w ∷ [])) (sym is) refl
+alone word (first ∷ rest) none here = absurd (omega arith)
+
 -- ---- what a slice's pattern tells
 
 abbrev pub tail : List (String Global) → List (String Global)
@@ -107,6 +115,10 @@ module _ (words : List (String Global)) (word : String Global) (some : 1 ≤ len
   word_read not found says result is =
       is ∙ ap (option_and_then (with_word (string_bytes word))) says ∙ sym (word_first (string_bytes word) (map string_bytes (tail words)) not)
       ∙ sym (ap given_by (split_one words word some first))
+
+  -- `--hierarchy` and no more
+  pub alone_read : bytes_eq (string_bytes word) (codes "--hierarchy") ≡ true → length (tail words) < 1 → None ≡ given_by (map string_bytes words)
+  alone_read here none = alone (string_bytes word) (tail words) none here ∙ sym (ap given_by (split_one words word some first))
 
   -- `--hierarchy`, its file, and those behind them
   pub hierarchy_read : bytes_eq (string_bytes word) (codes "--hierarchy") ≡ true → (file : String Global) → 1 ≤ length (tail words) → file ≡ get_or (tail words) 0 file

@@ -1,5 +1,5 @@
 -- What the words behind a command say: plain ones, in order, and among them the options, each at most once.
-use Rattle.std.specs.Prelude.{ℕ, nat_eq, nat_lt, Bool, true, false, List, [], ◌∷◌, length, codes, Option, Some, None, is_some, option_and_then, option_map, if◌then◌else◌}
+use Rattle.std.specs.Prelude.{ℕ, ◌||◌, nat_lt, Bool, true, false, List, [], ◌∷◌, length, codes, Option, Some, None, is_some, option_and_then, option_map, if◌then◌else◌}
 use Rattle.std.specs.Str.{bytes_eq}
 use Rattle.journey_book.specs.declared.given.GivenWords.{GivenWords}
 use Rattle.journey_book.specs.declared.given.Plain.{Plain}
@@ -14,23 +14,22 @@ pub record Given : Type 0 where
 abbrev pub nothing_given : Given
 nothing_given = record { words = []; hierarchy = None; fail = false }
 
--- a word that begins with `-` is no plain word, and no file
-abbrev pub begins_option : List ℕ → Bool
-begins_option [] = false
-begins_option (b ∷ rest) = nat_eq b 45
+-- a word is an option's, and so no plain word and no file; behind `--help` nothing is asked for
+abbrev pub is_option : List ℕ → Bool
+is_option word = bytes_eq word (codes "--fail") || bytes_eq word (codes "--hierarchy") || bytes_eq word (codes "--help")
 
 abbrev pub with_fail : Given → Option Given
 with_fail given = if given.fail then None else Some (record given { fail = true })
 
 abbrev pub with_hierarchy : List ℕ → Given → Option Given
 with_hierarchy file given =
-    if begins_option file then None
+    if is_option file then None
     else (if is_some given.hierarchy then None else Some (record given { hierarchy = Some file }))
 
 -- no command has more than three plain words
 abbrev pub with_plain : List ℕ → Given → Option Given
 with_plain word given =
-    if begins_option word then None
+    if is_option word then None
     else (if nat_lt (length given.words) 3 then Some (record given { words = word ∷ given.words }) else None)
 
 -- with this word in front

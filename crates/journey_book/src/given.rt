@@ -1,7 +1,7 @@
 //! The words behind a command: plain ones, and the options among them.
 
 ghost use Rattle.std.specs.Prelude.{◌≡◌, map, option_and_then, option_map, string_bytes};
-ghost use Rattle.journey_book.specs.Given.{begins_option, given_by, given_of, nothing_given, with_fail, with_hierarchy, with_plain, with_word};
+ghost use Rattle.journey_book.specs.Given.{is_option, given_by, given_of, nothing_given, with_fail, with_hierarchy, with_plain, with_word};
 
 /// What the words behind a command say.
 #[derive(Clone, Copy)]
@@ -94,7 +94,7 @@ fn with_hierarchy<'a>(file: &'a str, given: Option<GivenWords<'a>>) -> Option<Gi
         ≡ option_and_then (with_hierarchy file.now) (option_map given_of given.entry) }
 {
     let given = given?;
-    if begins_option(file.as_bytes()) || given.hierarchy.is_some() {
+    if is_option(file) || given.hierarchy.is_some() {
         return None;
     }
     Some(GivenWords {
@@ -107,7 +107,7 @@ fn with_hierarchy<'a>(file: &'a str, given: Option<GivenWords<'a>>) -> Option<Gi
 fn with_plain<'a>(word: &'a str, given: GivenWords<'a>) -> Option<GivenWords<'a>>
     ensures { option_map given_of result ≡ with_plain word.now (given_of given.entry) }
 {
-    if begins_option(word.as_bytes()) {
+    if is_option(word) {
         return None;
     }
     let plain = match given.plain {
@@ -123,12 +123,9 @@ fn with_plain<'a>(word: &'a str, given: GivenWords<'a>) -> Option<GivenWords<'a>
     })
 }
 
-/// Whether a word begins with `-`.
-fn begins_option(word: &[u8]) -> bool
-    ensures { result ≡ begins_option word.now }
+/// Whether a word is an option's.
+fn is_option(word: &str) -> bool
+    ensures { result ≡ is_option word.now }
 {
-    match word {
-        [b, ..] => *b == b'-',
-        [] => false,
-    }
+    word == "--fail" || word == "--hierarchy" || word == "--help"
 }

@@ -2,8 +2,14 @@ use Rattle.std.proofs.Common.{◌≡◌, ◌∙◌, List, ℕ, true, false, ap, 
 use Rattle.std.specs.Prelude.{codes, option_and_then, option_map}
 use Rattle.std.specs.Str.{bytes_eq}
 use Rattle.journey_book.specs.Given.{given_of, with_hierarchy, with_word}
-use Rattle.journey_book.proofs.GivenLemmas.{hierarchy_read, word_read}
+use Rattle.journey_book.proofs.GivenLemmas.{alone_read, hierarchy_read, word_read}
 use Rattle.journey_book.proofs.given.+read_few.Goals as goal
+
+pub returns-in_default-rest : goal.returns-in_default-rest
+returns-in_default-rest t c =
+    let word = string_bytes c.word-item.result in
+    let here : bytes_eq word (codes "--hierarchy") ≡ true = ap (λ (w : List ℕ). bytes_eq w (codes "--hierarchy")) (sym c.as_str.ensures.value) ∙ sym c.eq.ensures ∙ c.if-eq.true in
+    alone_read c.args.words.now c.word-item.result c.in-len1-up.len_at_least c.word-item.is here c.in_default-rest.len_below
 
 pub returns-then-eq : goal.returns-then-eq
 returns-then-eq t c =
