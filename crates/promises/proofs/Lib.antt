@@ -1,0 +1,3 @@
+pub mod HierarchyLemmas
+pub mod SearchLemmas
+pub mod AutomatonLemmas

@@ -1,0 +1,6 @@
+//! Laws that follow from what the commands promise.
+#![tactic(auto)]
+
+mod unique;
+
+pub use unique::check_verdict_is_unique;
