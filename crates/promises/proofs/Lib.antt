@@ -1,3 +1,5 @@
 pub mod HierarchyLemmas
 pub mod SearchLemmas
 pub mod AutomatonLemmas
+pub mod OrderLemmas
+pub mod CityLemmas

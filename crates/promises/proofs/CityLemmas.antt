@@ -1,0 +1,69 @@
+-- Of each size there is one sample city that keeps the rules of networks.
+use Rattle.std.proofs.Common.{◌≡◌, ℕ, List, map, length, refl, sym, ap, ◌∙◌, subst}
+use Rattle.std.specs.List.Sorted.{IsPermutation}
+use Rattle.std.proofs.lemmas.Cmp.{on_total}
+use Rattle.mode_network.specs.NetworkLists.{NetworkLists}
+use Rattle.mode_network.specs.Rules.{AreInOrder, IsAscending, IsNetwork, arc_cmp, name_cmp}
+use Rattle.mode_network.specs.declared.nodes.Arc.{Arc}
+use Rattle.mode_network.specs.declared.nodes.Node.{Node}
+use Rattle.mode_network.proofs.RuleLemmas.{arcs_total, names_total}
+use Rattle.sample_city.specs.Roads.{city_arcs, road_number}
+use Rattle.sample_city.specs.Stops.{city_links, city_stops, stop_nodes}
+use Rattle.sample_city.specs.Trips.{city_trips}
+use Rattle.sample_city.specs.SampleCity.{IsSampleCity}
+use Rattle.promises.proofs.OrderLemmas.{ascending_permutation_once, ascends_by}
+
+-- arcs that ascend stand in one order
+arcs_once : (given xs ys : List Arc) → AreInOrder given xs → AreInOrder given ys → IsAscending arc_cmp xs → IsAscending arc_cmp ys → xs ≡ ys
+arcs_once given xs ys one other up above = ascending_permutation_once arc_cmp arcs_total given xs ys one.same other.same up above
+
+-- networks of the same lists are the same
+same_network : (a b : NetworkLists) → a.days ≡ b.days → a.roads ≡ b.roads → a.stop_names ≡ b.stop_names → a.stops ≡ b.stops → a.switches ≡ b.switches
+    → a.arcs ≡ b.arcs → a.links ≡ b.links → a.trips ≡ b.trips → a ≡ b
+same_network a b days roads names stops switches arcs links trips =
+    ap (λ x. record a { days = x }) days
+    ∙ ap (λ x. record a { days = b.days; roads = x }) roads
+    ∙ ap (λ x. record a { days = b.days; roads = b.roads; stop_names = x }) names
+    ∙ ap (λ x. record a { days = b.days; roads = b.roads; stop_names = b.stop_names; stops = x }) stops
+    ∙ ap (λ x. record b { switches = x; arcs = a.arcs; links = a.links; trips = a.trips }) switches
+    ∙ ap (λ x. record b { arcs = x; links = a.links; trips = a.trips }) arcs
+    ∙ ap (λ x. record b { links = x; trips = a.trips }) links
+    ∙ ap (λ x. record b { trips = x }) trips
+
+-- things that ascend by their names stand in one order
+named_once : {X : Type 0} (given xs ys : List X) (name : X → List ℕ) (names also : List (List ℕ)) → IsPermutation given xs → IsPermutation given ys
+    → names ≡ map name xs → also ≡ map name ys → IsAscending name_cmp names → IsAscending name_cmp also → xs ≡ ys
+named_once given xs ys name names also one other is too up above =
+    ascending_permutation_once (λ a b. name_cmp (name a) (name b)) (on_total name names_total) given xs ys one other
+    (ascends_by name name_cmp xs (subst (IsAscending name_cmp) is up)) (ascends_by name name_cmp ys (subst (IsAscending name_cmp) too above))
+
+module _ (n : ℕ) (one other : NetworkLists) (rules : IsNetwork one) (also : IsNetwork other) (is : IsSampleCity n one) (too : IsSampleCity n other) where
+  same_stops : is.city ≡ too.city
+  same_stops = named_once (city_stops n) is.city too.city (λ stop. stop.name) one.stop_names other.stop_names is.city_is too.city_is is.names too.names rules.names_ascend also.names_ascend
+
+  same_roads : one.roads ≡ other.roads
+  same_roads = is.roads ∙ sym too.roads
+
+  same_arcs : one.arcs ≡ other.arcs
+  same_arcs =
+      arcs_once (city_arcs n (road_number one.roads)) one.arcs other.arcs is.arcs
+      (subst (λ (roads : List Node). AreInOrder (city_arcs n (road_number roads)) other.arcs) (sym same_roads) too.arcs) rules.arcs_ascend also.arcs_ascend
+
+  same_links : one.links ≡ other.links
+  same_links =
+      arcs_once (city_links n (road_number one.roads) (length one.roads) is.city) one.links other.links is.links
+      (subst (λ (roads : List Node). AreInOrder (city_links n (road_number roads) (length roads) is.city) other.links) (sym same_roads)
+      (subst (λ city. AreInOrder (city_links n (road_number other.roads) (length other.roads) city) other.links) (sym same_stops) too.links))
+      rules.links_ascend also.links_ascend
+
+  pub city_once : one ≡ other
+  city_once =
+      let days = is.days ∙ sym too.days in
+      let roads = same_roads in
+      let names = is.names ∙ ap (λ city. map (λ stop. stop.name) city) same_stops ∙ sym too.names in
+      let stops = is.stops ∙ ap (stop_nodes 0) same_stops ∙ sym too.stops in
+      let switches = is.switches ∙ sym too.switches in
+      let arcs = same_arcs in
+      let links = same_links in
+      let trips = is.trips ∙ ap (city_trips n) same_stops ∙ sym too.trips in
+      same_network one other days roads names stops switches arcs links trips
