@@ -1,1 +1,2 @@
 pub mod Hierarchies
+pub mod Searches
