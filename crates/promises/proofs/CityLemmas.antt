@@ -11,31 +11,7 @@ use Rattle.sample_city.specs.Roads.{city_arcs, road_number}
 use Rattle.sample_city.specs.Stops.{city_links, city_stops, stop_nodes}
 use Rattle.sample_city.specs.Trips.{city_trips}
 use Rattle.sample_city.specs.SampleCity.{IsSampleCity}
-use Rattle.promises.proofs.OrderLemmas.{ascending_permutation_once, ascends_by}
-
--- arcs that ascend stand in one order
-arcs_once : (given xs ys : List Arc) → AreInOrder given xs → AreInOrder given ys → IsAscending arc_cmp xs → IsAscending arc_cmp ys → xs ≡ ys
-arcs_once given xs ys one other up above = ascending_permutation_once arc_cmp arcs_total given xs ys one.same other.same up above
-
--- networks of the same lists are the same
-same_network : (a b : NetworkLists) → a.days ≡ b.days → a.roads ≡ b.roads → a.stop_names ≡ b.stop_names → a.stops ≡ b.stops → a.switches ≡ b.switches
-    → a.arcs ≡ b.arcs → a.links ≡ b.links → a.trips ≡ b.trips → a ≡ b
-same_network a b days roads names stops switches arcs links trips =
-    ap (λ x. record a { days = x }) days
-    ∙ ap (λ x. record a { days = b.days; roads = x }) roads
-    ∙ ap (λ x. record a { days = b.days; roads = b.roads; stop_names = x }) names
-    ∙ ap (λ x. record a { days = b.days; roads = b.roads; stop_names = b.stop_names; stops = x }) stops
-    ∙ ap (λ x. record b { switches = x; arcs = a.arcs; links = a.links; trips = a.trips }) switches
-    ∙ ap (λ x. record b { arcs = x; links = a.links; trips = a.trips }) arcs
-    ∙ ap (λ x. record b { links = x; trips = a.trips }) links
-    ∙ ap (λ x. record b { trips = x }) trips
-
--- things that ascend by their names stand in one order
-named_once : {X : Type 0} (given xs ys : List X) (name : X → List ℕ) (names also : List (List ℕ)) → IsPermutation given xs → IsPermutation given ys
-    → names ≡ map name xs → also ≡ map name ys → IsAscending name_cmp names → IsAscending name_cmp also → xs ≡ ys
-named_once given xs ys name names also one other is too up above =
-    ascending_permutation_once (λ a b. name_cmp (name a) (name b)) (on_total name names_total) given xs ys one other
-    (ascends_by name name_cmp xs (subst (IsAscending name_cmp) is up)) (ascends_by name name_cmp ys (subst (IsAscending name_cmp) too above))
+use Rattle.promises.proofs.NetworkLemmas.{arcs_once, named_once, same_network}
 
 module _ (n : ℕ) (one other : NetworkLists) (rules : IsNetwork one) (also : IsNetwork other) (is : IsSampleCity n one) (too : IsSampleCity n other) where
   same_stops : is.city ≡ too.city

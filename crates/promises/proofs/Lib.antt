@@ -4,4 +4,6 @@ pub mod AutomatonLemmas
 pub mod LineLemmas
 pub mod LabelsLemmas
 pub mod OrderLemmas
+pub mod NetworkLemmas
 pub mod CityLemmas
+pub mod SourceLemmas

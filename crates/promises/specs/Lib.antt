@@ -1,2 +1,3 @@
 pub mod Hierarchies
 pub mod Searches
+pub mod Compiled
