@@ -7,3 +7,5 @@ pub mod OrderLemmas
 pub mod NetworkLemmas
 pub mod CityLemmas
 pub mod SourceLemmas
+pub mod DraftLemmas
+pub mod RegionLemmas

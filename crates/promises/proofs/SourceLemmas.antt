@@ -58,7 +58,7 @@ test_flips x y = by_test (nat_eq x y) refl
 -- pairs that tie are the same
 pair_tested : (a b c d : ℕ) → ordering_then (nat_cmp a c) (nat_cmp b d) ≡ Equal → (nat_eq a c && nat_eq b d) ≡ true
 pair_tested a b c d e =
-    let pair : (a, b) ≡ (c, d) = exact_pairs nat_cmp nat_cmp exact_unsigned exact_unsigned (a, b) (c, d) e in
+    let pair : Path (ℕ × ℕ) (a, b) (c, d) = exact_pairs nat_cmp nat_cmp exact_unsigned exact_unsigned (a, b) (c, d) e in
     let first : a ≡ c = ap (λ (p : ℕ × ℕ). p.0) pair in
     let second : b ≡ d = ap (λ (p : ℕ × ℕ). p.1) pair in
     grind (arith, nat_tests)

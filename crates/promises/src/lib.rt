@@ -3,4 +3,4 @@
 
 mod unique;
 
-pub use unique::{check_verdict_is_unique, labels_are_unique};
+pub use unique::{check_verdict_is_unique, compiled_is_unique, labels_are_unique};

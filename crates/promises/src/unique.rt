@@ -1,5 +1,6 @@
 //! What the definitions leave no choice of.
 
+ghost use Rattle.promises.specs.Compiled.{CompiledIsUnique};
 ghost use Rattle.promises.specs.Hierarchies.{CheckVerdictIsUnique};
 ghost use Rattle.promises.specs.Searches.{LabelsAreUnique};
 
@@ -12,4 +13,9 @@ pub fn check_verdict_is_unique()
 /// into patterns, and whichever position automaton of the expression is taken.
 pub fn labels_are_unique()
     ensures { LabelsAreUnique }
+{}
+
+/// A map and a feed give over some days one region, or one fault that is the first, and never both.
+pub fn compiled_is_unique()
+    ensures { CompiledIsUnique }
 {}

@@ -1,0 +1,157 @@
+-- What a map and a feed give are the same lists, list by list.
+use Rattle.std.proofs.Common.{◌≡◌, ℕ, ℤ, ◌+◌, ◌≤◌, Bool, true, false, ◌&&◌, List, [], ◌∷◌, ◌++◌, map, Option, Some, None, if◌then◌else◌, refl, sym, ap, ap₂, ◌∙◌, subst, arith}
+use Rattle.std.specs.Prelude.{bytes_eq, option_to_list}
+use Rattle.std.specs.List.{AllByRecursion, IsDistinct, flat_map}
+use Rattle.std.specs.List.Sorted.{IsPermutation, IsSorted}
+use Rattle.std.specs.Cmp.{IsTotalOrder}
+use Rattle.std.specs.Ordering.{int_cmp, int_eq, is_eq, nat_cmp}
+use Rattle.std.specs.declared.cmp.Ordering.TheVariants.{Equal}
+use Rattle.std.proofs.lemmas.Bool.{false≢true}
+use Rattle.std.proofs.lemmas.Bool.Decides.{Decides-int_eq}
+use Rattle.std.proofs.lemmas.Cmp.{int_cmp_total, nat_cmp_total, on_total, then_total}
+use Rattle.std.proofs.lemmas.Map.Lookups.{exact_pairs, exact_signed, exact_unsigned}
+use Rattle.std.proofs.lemmas.Map.Text.{is_eq-slice_cmp}
+use Rattle.std.proofs.lemmas.Slice.Eq.{bytes_eq-Decides}
+use Rattle.plain_texts.specs.Escape.{escaped}
+use Rattle.plain_texts.proofs.EscapeLaws.{escaped_of_one}
+use Rattle.plan_base.specs.declared.places.Place.{Place}
+use Rattle.geo_length.proofs.NearestLaws.{IsNearest-only}
+use Rattle.opl_reader.specs.declared.objects.Amenity.{Amenity}
+use Rattle.opl_reader.specs.declared.objects.Amenity.TheVariants.{Nothing, Parking, BicycleParking, BicycleRental}
+use Rattle.opl_reader.specs.declared.objects.OsmNode.{OsmNode}
+use Rattle.opl_reader.specs.ObjectLists.{AreObjects, ObjectLists, ids_of}
+use Rattle.road_profile.specs.Arcs.{AreArcsOf, row_cmp}
+use Rattle.road_profile.specs.declared.rows.RoadRow.{RoadRow}
+use Rattle.gtfs_tables.specs.declared.stops.StopRow.{StopRow}
+use Rattle.mode_network.specs.Rules.{name_cmp}
+use Rattle.mode_network.specs.declared.nodes.Node.{Node}
+use Rattle.mode_network.proofs.RuleLemmas.{names_total}
+use Rattle.region_build.specs.Ends.{AreEnds, End, end_cmp, ends_at, once_behind}
+use Rattle.region_build.specs.Links.{FindsNearest, join, join_links, layer, linked_to, links_at, stop_joins, stop_links, switch_joins, switch_links}
+use Rattle.region_build.specs.StopNames.{entries_from}
+use Rattle.region_build.specs.Switches.{AreSwitches, is_switch, switch_at}
+use Rattle.promises.proofs.OrderLemmas.{ascending_once, distinct_by, distinct_once, sorted_once}
+
+-- ---- roads
+
+rows_total : IsTotalOrder row_cmp
+rows_total = then_total (on_total (λ (row : RoadRow). row.from) int_cmp_total) (then_total (on_total (λ (row : RoadRow). row.to) int_cmp_total) (on_total (λ (row : RoadRow). row.mode) nat_cmp_total))
+
+pub rows_once : (legs xs ys : List RoadRow) → AreArcsOf legs xs → AreArcsOf legs ys → xs ≡ ys
+rows_once legs xs ys one other =
+    ascending_once row_cmp rows_total xs ys one.ascending other.ascending
+    (λ z has. (other.arcs z).1 ((one.arcs z).0 has)) (λ z has. (one.arcs z).1 ((other.arcs z).0 has))
+
+ends_total : IsTotalOrder end_cmp
+ends_total = then_total (on_total (λ (end : End). end.0) int_cmp_total) (on_total (λ (end : End). end.1) nat_cmp_total)
+
+pub ends_once : (rows : List RoadRow) (xs ys : List End) → AreEnds rows xs → AreEnds rows ys → xs ≡ ys
+ends_once rows xs ys one other =
+    let sorted = sorted_once end_cmp ends_total (λ x y e. exact_pairs int_cmp nat_cmp exact_signed exact_unsigned x y e) (flat_map ends_at rows) one.sorted other.sorted one.same other.same one.ascend other.ascend in
+    one.once ∙ ap (once_behind []) sorted ∙ sym other.once
+
+-- ---- stops
+
+names_tested : (x y : List ℕ) → name_cmp x y ≡ Equal → bytes_eq x y ≡ true
+names_tested x y e = sym (is_eq-slice_cmp x y) ∙ ap is_eq e
+
+names_flip : (x y : List ℕ) → bytes_eq x y ≡ bytes_eq y x
+names_flip x y = by_test (bytes_eq x y) (bytes_eq y x) refl refl
+  where
+    by_test : (s t : Bool) → bytes_eq x y ≡ s → bytes_eq y x ≡ t → bytes_eq x y ≡ bytes_eq y x
+    by_test true true p q = p ∙ sym q
+    by_test true false p q = absurd (false≢true (sym q ∙ (bytes_eq-Decides y x).1 (sym ((bytes_eq-Decides x y).0 p))))
+    by_test false true p q = absurd (false≢true (sym p ∙ (bytes_eq-Decides x y).1 (sym ((bytes_eq-Decides y x).0 q))))
+    by_test false false p q = p ∙ sym q
+
+-- names of ids that differ differ
+pub names_differ : (stops : List StopRow) (k : ℕ) → IsDistinct bytes_eq (map (λ (stop : StopRow). stop.id) stops) → IsDistinct bytes_eq (map (λ entry. entry.name) (entries_from k stops))
+unfolding IsDistinct
+names_differ [] k distinct = tt
+names_differ (stop ∷ stops) k distinct = (each stops (k + 1) distinct.0, names_differ stops (k + 1) distinct.1)
+  where
+    by_test : (id : List ℕ) (t : Bool) → bytes_eq stop.id id ≡ false → bytes_eq (escaped stop.id) (escaped id) ≡ t → bytes_eq (escaped stop.id) (escaped id) ≡ false
+    by_test id false differ e = e
+    by_test id true differ e =
+        absurd (false≢true (sym differ ∙ (bytes_eq-Decides stop.id id).1 (escaped_of_one stop.id id ((bytes_eq-Decides (escaped stop.id) (escaped id)).0 e))))
+
+    each : (others : List StopRow) (j : ℕ) → AllByRecursion (λ id. bytes_eq stop.id id ≡ false) (map (λ (other : StopRow). other.id) others)
+        → AllByRecursion (λ name. bytes_eq (escaped stop.id) name ≡ false) (map (λ entry. entry.name) (entries_from j others))
+    each [] j all = tt
+    each (other ∷ others) j all = (by_test other.id (bytes_eq (escaped stop.id) (escaped other.id)) all.0 refl, each others (j + 1) all.1)
+
+-- things whose names differ stand in one order
+pub named_apart_once : {X : Type 0} (given xs ys : List X) (name : X → List ℕ) → IsDistinct bytes_eq (map name given) → IsPermutation given xs → IsPermutation given ys
+    → IsSorted (λ a b. name_cmp (name a) (name b)) xs → IsSorted (λ a b. name_cmp (name a) (name b)) ys → xs ≡ ys
+named_apart_once given xs ys name distinct one other sorted also =
+    distinct_once (λ a b. name_cmp (name a) (name b)) (on_total name names_total) (λ a b. bytes_eq (name a) (name b)) (λ a b. names_flip (name a) (name b))
+    (λ a b e. names_tested (name a) (name b) e) given xs ys (distinct_by name bytes_eq given distinct) one other sorted also
+
+-- ---- switches
+
+ids_flip : (x y : ℤ) → int_eq x y ≡ int_eq y x
+ids_flip x y = by_test (int_eq x y) (int_eq y x) refl refl
+  where
+    by_test : (s t : Bool) → int_eq x y ≡ s → int_eq y x ≡ t → int_eq x y ≡ int_eq y x
+    by_test true true p q = p ∙ sym q
+    by_test true false p q = absurd (false≢true (sym q ∙ (Decides-int_eq y x).1 (sym ((Decides-int_eq x y).0 p))))
+    by_test false true p q = absurd (false≢true (sym p ∙ (Decides-int_eq x y).1 (sym ((Decides-int_eq y x).0 q))))
+    by_test false false p q = p ∙ sym q
+
+abbrev same_id : OsmNode → OsmNode → Bool
+same_id a b = int_eq a.id b.id
+
+abbrev switches_among : List OsmNode → List OsmNode
+switches_among nodes = flat_map (λ node. option_to_list (switch_at node)) nodes
+
+switches_differ : (nodes : List OsmNode) → IsDistinct same_id nodes → IsDistinct same_id (switches_among nodes)
+unfolding IsDistinct
+switches_differ [] distinct = tt
+switches_differ (node ∷ nodes) distinct = by_test (is_switch node.amenity) (switches_differ nodes distinct.1)
+  where
+    few : (more : List OsmNode) → AllByRecursion (λ y. same_id node y ≡ false) more → AllByRecursion (λ y. same_id node y ≡ false) (switches_among more)
+    few [] all = tt
+    few (x ∷ more) all = by_amenity (is_switch x.amenity) (few more all.1)
+      where
+        by_amenity : (t : Bool) → AllByRecursion (λ y. same_id node y ≡ false) (switches_among more)
+            → AllByRecursion (λ y. same_id node y ≡ false) (option_to_list (if t then Some x else None) ++ switches_among more)
+        by_amenity true rest = (all.0, rest)
+        by_amenity false rest = rest
+
+    by_test : (t : Bool) → IsDistinct same_id (switches_among nodes) → IsDistinct same_id (option_to_list (if t then Some node else None) ++ switches_among nodes)
+    by_test true rest = (few nodes distinct.0, rest)
+    by_test false rest = rest
+
+pub switches_once : (objects : ObjectLists) → AreObjects objects → (xs ys : List OsmNode) → AreSwitches objects.nodes xs → AreSwitches objects.nodes ys → xs ≡ ys
+switches_once objects sound xs ys one other =
+    distinct_once (λ (a b : OsmNode). int_cmp a.id b.id) (on_total (λ (node : OsmNode). node.id) int_cmp_total) same_id (λ a b. ids_flip a.id b.id)
+    (λ a b e. (Decides-int_eq a.id b.id).1 (exact_signed a.id b.id e)) (switches_among objects.nodes) xs ys
+    (switches_differ objects.nodes (distinct_by (λ (node : OsmNode). node.id) int_eq objects.nodes sound.distinct)) one.same other.same one.ascend other.ascend
+
+-- ---- links
+
+module _ (roads : List Node) (ends : List End) (near other : ℕ → Place → Option (ℤ × ℕ)) (finds : FindsNearest roads near) (also : FindsNearest roads other) where
+  same_near : (mode : ℕ) (place : Place) → mode ≤ 2 → near mode place ≡ other mode place
+  same_near mode place le = IsNearest-only place 500000 (layer mode roads) (near mode place) (other mode place) (finds.nearest mode place le) (also.nearest mode place le)
+
+  at_stop : (k : ℕ) (place : Place) → links_at near ends k place stop_joins ≡ links_at other ends k place stop_joins
+  unfolding links_at join_links
+  at_stop k place = ap (λ x. linked_to ends (join 0 true true) k x ++ []) (same_near 0 place (omega arith))
+
+  at_switch : (k : ℕ) (place : Place) (amenity : Amenity) → links_at near ends k place (switch_joins amenity) ≡ links_at other ends k place (switch_joins amenity)
+  unfolding links_at join_links
+  at_switch k place Nothing = refl
+  at_switch k place Parking =
+      ap₂ (λ x y. linked_to ends (join 2 true true) k x ++ (linked_to ends (join 0 true true) k y ++ [])) (same_near 2 place (omega arith)) (same_near 0 place (omega arith))
+  at_switch k place BicycleParking =
+      ap₂ (λ x y. linked_to ends (join 1 true false) k x ++ (linked_to ends (join 0 false true) k y ++ [])) (same_near 1 place (omega arith)) (same_near 0 place (omega arith))
+  at_switch k place BicycleRental =
+      ap₂ (λ x y. linked_to ends (join 0 true true) k x ++ (linked_to ends (join 1 true true) k y ++ [])) (same_near 0 place (omega arith)) (same_near 1 place (omega arith))
+
+  pub stop_links_once : (k : ℕ) (entries : _) → stop_links near ends k entries ≡ stop_links other ends k entries
+  stop_links_once k [] = refl
+  stop_links_once k (entry ∷ entries) = ap₂ (λ xs ys. xs ++ ys) (at_stop k entry.place) (stop_links_once (k + 1) entries)
+
+  pub switch_links_once : (k : ℕ) (switches : List OsmNode) → switch_links near ends k switches ≡ switch_links other ends k switches
+  switch_links_once k [] = refl
+  switch_links_once k (switch ∷ switches) = ap₂ (λ xs ys. xs ++ ys) (at_switch k switch.place switch.amenity) (switch_links_once (k + 1) switches)
