@@ -9,3 +9,4 @@ pub mod CityLemmas
 pub mod SourceLemmas
 pub mod DraftLemmas
 pub mod RegionLemmas
+pub mod HeadwayLemmas

@@ -1,6 +1,7 @@
 -- A map and a feed give over some days one region or one fault.
 use Rattle.std.proofs.Common.{◌≡◌, ℕ, ◌+◌, List, ◌++◌, map, length, Option, Some, None, Ok, Err, sym, ap, ap₂, ◌∙◌, subst}
 use Rattle.std.specs.Prelude.{Result}
+use Rattle.std.specs.List.{IsDistinct}
 use Rattle.std.proofs.lemmas.List.Sorted.{length_permutation}
 use Rattle.std.proofs.lemmas.Option.{none-some, same_Some}
 use Rattle.plan_base.specs.declared.limits.Caps.{Caps}
@@ -12,6 +13,7 @@ use Rattle.opl_reader.specs.ObjectLists.{AreObjects, ObjectLists}
 use Rattle.road_profile.specs.Legs.{legs_of, place_at}
 use Rattle.road_profile.specs.declared.rows.RoadRow.{RoadRow}
 use Rattle.gtfs_tables.specs.FeedLists.{FeedLists}
+use Rattle.gtfs_tables.specs.Sound.{IsFeed}
 use Rattle.mode_network.specs.NetworkLists.{NetworkLists, nodes_of}
 use Rattle.mode_network.specs.Rules.{AreInOrder, IsNetwork}
 use Rattle.mode_network.specs.declared.nodes.Arc.{Arc}
@@ -26,20 +28,21 @@ use Rattle.region_build.specs.Roads.{arcs_of, road_nodes}
 use Rattle.region_build.specs.Sources.{SourceLists}
 use Rattle.region_build.specs.StopNames.{entries_from, stop_nodes, stop_number}
 use Rattle.region_build.specs.Switches.{switch_node}
-use Rattle.promises.specs.Compiled.{CompiledIsUnique, IsBuilt, IsReadFeed}
+use Rattle.promises.specs.Compiled.{CompiledIsUnique, IsBuilt}
 use Rattle.promises.proofs.DraftLemmas.{ends_once, named_apart_once, names_differ, rows_once, stop_links_once, switch_links_once, switches_once}
+use Rattle.promises.proofs.HeadwayLemmas.{headways_apart, is_same_headway}
 use Rattle.promises.proofs.NetworkLemmas.{arcs_once, same_network}
 use Rattle.promises.proofs.SourceLemmas.{sources_once}
 
-module _ (objects : ObjectLists) (sound : AreObjects objects) (feed : FeedLists) (read : IsReadFeed feed) (days : DaysMeaning) (e f : _) (s t : List SourceLists) (n m : NetworkLists)
+module _ (objects : ObjectLists) (sound : AreObjects objects) (feed : FeedLists) (rules : IsFeed feed) (apart : IsDistinct is_same_headway feed.frequencies) (days : DaysMeaning) (e f : _) (s t : List SourceLists) (n m : NetworkLists)
     (one : IsDraft objects feed days e s n) (other : IsDraft objects feed days f t m) where
   same_entries : e ≡ f
   same_entries =
-      named_apart_once (entries_from 0 feed.stops) e f (λ entry. entry.name) (names_differ feed.stops 0 read.rules.stop_ids)
+      named_apart_once (entries_from 0 feed.stops) e f (λ entry. entry.name) (names_differ feed.stops 0 rules.stop_ids)
       one.lists.entries_are.same other.lists.entries_are.same one.lists.entries_are.ascend other.lists.entries_are.ascend
 
   same_sources : s ≡ t
-  same_sources = sources_once feed days read s t one.said other.said
+  same_sources = sources_once feed days rules apart s t one.said other.said
 
   same_rows : one.lists.roads_are.rows ≡ other.lists.roads_are.rows
   same_rows = rows_once (legs_of objects) one.lists.roads_are.rows other.lists.roads_are.rows one.lists.roads_are.rows_are other.lists.roads_are.rows_are
@@ -89,10 +92,10 @@ module _ (objects : ObjectLists) (sound : AreObjects objects) (feed : FeedLists)
 
   -- two networks that keep the rules are one
   pub one_region : IsNetwork n → IsNetwork m → n ≡ m
-  one_region rules also =
+  one_region keeps also =
       same_network n m (one.days_are ∙ sym other.days_are) same_roads same_names same_stops same_switches
-      (arcs_once _ n.arcs m.arcs arcs_moved other.lists.roads_are.arcs_are rules.arcs_ascend also.arcs_ascend)
-      (arcs_once _ n.links m.links links_moved other.lists.links_are.are rules.links_ascend also.links_ascend) same_trips
+      (arcs_once _ n.arcs m.arcs arcs_moved other.lists.roads_are.arcs_are keeps.arcs_ascend also.arcs_ascend)
+      (arcs_once _ n.links m.links links_moved other.lists.links_are.are keeps.links_ascend also.links_ascend) same_trips
 
   -- ---- the first fault, by what is counted
 
@@ -120,14 +123,20 @@ module _ (objects : ObjectLists) (sound : AreObjects objects) (feed : FeedLists)
         ∙ ap (λ (sources : List SourceLists). fault_of (length (nodes_of m)) (length m.stops) (length m.arcs) (length m.links) m.trips sources) same_sources
 
 pub compiled_is_unique : CompiledIsUnique
-compiled_is_unique caps objects sound feed read days (Ok n) (Ok m) (one, rules) (other, also) =
-    ap (λ (x : NetworkLists). Ok x) (one_region objects sound feed read days one.entries other.entries one.sources other.sources n m one.draft other.draft rules also)
-compiled_is_unique caps objects sound feed read days (Ok n) (Err fault) (one, rules) other =
-    let same = one_fault objects sound feed read days one.entries other.entries one.sources other.sources n other.lists one.draft other.draft caps in
-    absurd (none-some fault (sym one.faultless ∙ same ∙ other.first))
-compiled_is_unique caps objects sound feed read days (Err fault) (Ok m) one (other, also) =
-    let same = one_fault objects sound feed read days one.entries other.entries one.sources other.sources one.lists m one.draft other.draft caps in
-    absurd (none-some fault (sym other.faultless ∙ sym same ∙ one.first))
-compiled_is_unique caps objects sound feed read days (Err fault) (Err next) one other =
-    let same = one_fault objects sound feed read days one.entries other.entries one.sources other.sources one.lists other.lists one.draft other.draft caps in
-    ap (λ (x : BuildFault). Err x) (same_Some fault next (sym one.first ∙ same ∙ other.first))
+compiled_is_unique caps objects sound files feed given rules days one other p q = by_answer one other p q
+  where
+    apart : IsDistinct is_same_headway feed.frequencies
+    apart = headways_apart caps files feed given
+
+    by_answer : (one other : Result NetworkLists BuildFault) → IsBuilt caps objects feed days one → IsBuilt caps objects feed days other → one ≡ other
+    by_answer (Ok n) (Ok m) (is, keeps) (too, also) =
+        ap (λ (x : NetworkLists). Ok x) (one_region objects sound feed rules apart days is.entries too.entries is.sources too.sources n m is.draft too.draft keeps also)
+    by_answer (Ok n) (Err fault) (is, keeps) too =
+        let same = one_fault objects sound feed rules apart days is.entries too.entries is.sources too.sources n too.lists is.draft too.draft caps in
+        absurd (none-some fault (sym is.faultless ∙ same ∙ too.first))
+    by_answer (Err fault) (Ok m) is (too, also) =
+        let same = one_fault objects sound feed rules apart days is.entries too.entries is.sources too.sources is.lists m is.draft too.draft caps in
+        absurd (none-some fault (sym too.faultless ∙ sym same ∙ is.first))
+    by_answer (Err fault) (Err next) is too =
+        let same = one_fault objects sound feed rules apart days is.entries too.entries is.sources too.sources is.lists too.lists is.draft too.draft caps in
+        ap (λ (x : BuildFault). Err x) (same_Some fault next (sym is.first ∙ same ∙ too.first))

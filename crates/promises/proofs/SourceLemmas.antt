@@ -2,6 +2,7 @@
 use Rattle.std.proofs.Common.{◌≡◌, ℕ, zero, suc, ◌+◌, ◌/◌, ◌%◌, ◌<◌, ◌≤◌, Bool, true, false, ◌==◌, ◌&&◌, List, [], ◌∷◌, refl, sym, ap, ap₂, ◌∙◌, subst, arith}
 use Rattle.std.specs.Prelude.{filter, nat_eq}
 use Rattle.std.specs.Int.{bit_at}
+use Rattle.std.specs.List.{IsDistinct}
 use Rattle.std.specs.Cmp.{IsTotalOrder}
 use Rattle.std.specs.Ordering.{nat_cmp, ordering_then}
 use Rattle.std.specs.declared.cmp.Ordering.{Ordering}
@@ -13,14 +14,14 @@ use Rattle.std.proofs.lemmas.Nat.Bits.{bit_at-lt, bit_at-suc, bit_at_lowest}
 use Rattle.plan_base.specs.declared.days.DaySet.{DaySet}
 use Rattle.service_days.specs.DaysMeaning.{DaysMeaning}
 use Rattle.gtfs_tables.specs.FeedLists.{FeedLists}
-use Rattle.gtfs_tables.specs.Sound.{is_same_call}
+use Rattle.gtfs_tables.specs.Sound.{IsFeed, is_same_call}
 use Rattle.gtfs_tables.specs.declared.calls.CallRow.{CallRow}
 use Rattle.gtfs_tables.specs.declared.frequencies.FrequencyRow.{FrequencyRow}
 use Rattle.gtfs_tables.specs.declared.trips.TripRow.{TripRow}
 use Rattle.region_build.specs.Groups.{is_of, trip_of_call, trip_of_frequency}
 use Rattle.region_build.specs.Services.{AreDaysOf}
 use Rattle.region_build.specs.Sources.{AreCallsInOrder, AreFrequenciesInOrder, AreSources, AreSourcesFrom, IsSource, SourceLists}
-use Rattle.promises.specs.Compiled.{IsReadFeed, is_same_headway}
+use Rattle.promises.proofs.HeadwayLemmas.{is_same_headway}
 use Rattle.promises.proofs.OrderLemmas.{distinct_once}
 
 -- ---- days
@@ -75,16 +76,16 @@ headway_cmp a b = ordering_then (nat_cmp a.trip b.trip) (nat_cmp a.row b.row)
 headways_total : IsTotalOrder headway_cmp
 headways_total = then_total (on_total (λ (a : FrequencyRow). a.trip) nat_cmp_total) (on_total (λ (a : FrequencyRow). a.row) nat_cmp_total)
 
-module _ (feed : FeedLists) (read : IsReadFeed feed) where
+module _ (feed : FeedLists) (rules : IsFeed feed) (apart : IsDistinct is_same_headway feed.frequencies) where
   calls_once : (xs ys : List CallRow) → AreCallsInOrder feed.calls xs → AreCallsInOrder feed.calls ys → xs ≡ ys
   calls_once xs ys one other =
       distinct_once call_cmp calls_total is_same_call (λ x y. ap₂ (λ a b. a && b) (test_flips x.trip y.trip) (test_flips x.sequence y.sequence))
-      (λ x y e. pair_tested x.trip x.sequence y.trip y.sequence e) feed.calls xs ys read.rules.sequences one.same other.same one.ascend other.ascend
+      (λ x y e. pair_tested x.trip x.sequence y.trip y.sequence e) feed.calls xs ys rules.sequences one.same other.same one.ascend other.ascend
 
   headways_once : (xs ys : List FrequencyRow) → AreFrequenciesInOrder feed.frequencies xs → AreFrequenciesInOrder feed.frequencies ys → xs ≡ ys
   headways_once xs ys one other =
       distinct_once headway_cmp headways_total is_same_headway (λ x y. ap₂ (λ a b. a && b) (test_flips x.trip y.trip) (test_flips x.row y.row))
-      (λ x y e. pair_tested x.trip x.row y.trip y.row e) feed.frequencies xs ys read.rows one.same other.same one.ascend other.ascend
+      (λ x y e. pair_tested x.trip x.row y.trip y.row e) feed.frequencies xs ys apart one.same other.same one.ascend other.ascend
 
 -- ---- trips
 
@@ -115,10 +116,10 @@ module _ (feed : FeedLists) (days : DaysMeaning) where
         ap₂ (λ (s : SourceLists) (ss : List SourceLists). s ∷ ss) (source_once (filter (is_of trip_of_call k) calls) (filter (is_of trip_of_frequency k) headways) trip x y p q) (sources_from (k + 1) trips xs ys ps qs)
 
   -- one list of what is said of all trips
-  pub sources_once : IsReadFeed feed → (xs ys : List SourceLists) → AreSources feed days xs → AreSources feed days ys → xs ≡ ys
-  sources_once read xs ys one other =
-      let calls = calls_once feed read one.calls other.calls one.calls_are other.calls_are in
-      let headways = headways_once feed read one.frequencies other.frequencies one.frequencies_are other.frequencies_are in
+  pub sources_once : IsFeed feed → IsDistinct is_same_headway feed.frequencies → (xs ys : List SourceLists) → AreSources feed days xs → AreSources feed days ys → xs ≡ ys
+  sources_once rules apart xs ys one other =
+      let calls = calls_once feed rules apart one.calls other.calls one.calls_are other.calls_are in
+      let headways = headways_once feed rules apart one.frequencies other.frequencies one.frequencies_are other.frequencies_are in
       sources_from other.calls other.frequencies 0 feed.trips xs ys
       (subst (λ (hs : List FrequencyRow). AreSourcesFrom feed days other.calls hs 0 feed.trips xs) headways
       (subst (λ (cs : List CallRow). AreSourcesFrom feed days cs one.frequencies 0 feed.trips xs) calls one.each)) other.each
