@@ -12,12 +12,15 @@ use Rattle.mode_network.specs.Rules.{IsNetwork}
 use Rattle.region_build.specs.declared.faults.BuildFault.{BuildFault}
 use Rattle.region_build.specs.Answers.{HasFault, IsCompiled}
 
--- a region, which keeps the rules of networks, or the first fault
+-- a region, which keeps the rules of networks; or the first fault
 abbrev pub IsBuilt : Caps → ObjectLists → FeedLists → DaysMeaning → Result NetworkLists BuildFault → Type 0
 IsBuilt caps objects feed days (Ok n) = IsCompiled caps objects feed days n × IsNetwork n
 IsBuilt caps objects feed days (Err fault) = HasFault caps objects feed days fault
 
--- the objects of a map and the feed that some files give are over some days one region or one fault, and never both
+-- The objects of a map, and the feed that some files give, are over some days one region or one fault, and never
+-- both.
 abbrev pub CompiledIsUnique : Type 0
-CompiledIsUnique = (caps : Caps) (objects : ObjectLists) → AreObjects objects → (files : FeedFiles) (feed : FeedLists) → feed_of caps files ≡ Ok feed → IsFeed feed
-    → (days : DaysMeaning) (one other : Result NetworkLists BuildFault) → IsBuilt caps objects feed days one → IsBuilt caps objects feed days other → one ≡ other
+CompiledIsUnique = (caps : Caps) (objects : ObjectLists) → AreObjects objects
+    → (files : FeedFiles) (feed : FeedLists) → feed_of caps files ≡ Ok feed → IsFeed feed
+    → (days : DaysMeaning) (one other : Result NetworkLists BuildFault)
+    → IsBuilt caps objects feed days one → IsBuilt caps objects feed days other → one ≡ other

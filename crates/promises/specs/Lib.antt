@@ -1,3 +1,4 @@
 pub mod Hierarchies
 pub mod Searches
 pub mod Compiled
+pub mod Runs

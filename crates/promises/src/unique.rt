@@ -4,13 +4,14 @@ ghost use Rattle.promises.specs.Compiled.{CompiledIsUnique};
 ghost use Rattle.promises.specs.Hierarchies.{CheckVerdictIsUnique};
 ghost use Rattle.promises.specs.Searches.{LabelsAreUnique};
 
-/// Of one region and one hierarchy `check` has one verdict: it is sound, or one clause is the first that fails, at one place.
+/// Of one region and one hierarchy `check` has one verdict: it is sound, or one clause is the first that fails,
+/// at one place.
 pub fn check_verdict_is_unique()
     ensures { CheckVerdictIsUnique }
 {}
 
-/// The search for what is asked has one list of labels, over a network or over a hierarchy of it, however its runs are sorted
-/// into patterns, and whichever position automaton of the expression is taken.
+/// The search for what is asked has one list of labels, over a network or over a hierarchy of it, however its
+/// runs are sorted into patterns, and whichever position automaton of the expression is taken.
 pub fn labels_are_unique()
     ensures { LabelsAreUnique }
 {}

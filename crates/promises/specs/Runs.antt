@@ -1,0 +1,34 @@
+-- Runs of the planner whose shelf and whose output tell what they hold.
+use Rattle.std.specs.Prelude.{◌≡◌, ℕ, ◌≤◌, ⊤, List, ◌++◌, length, Option, Some, IfSome}
+use Rattle.run_steps.specs.declared.outcome.Outcome.{Outcome}
+use Rattle.run_steps.specs.declared.outcome.Outcome.TheVariants.{Done}
+use Rattle.run_steps.specs.Scene.{Scene}
+use Rattle.run_steps.specs.Sayings.{Saying, most_bytes}
+use Rattle.run_steps.specs.Complete.{Files, IsQuiet, IsDoneOrMemory}
+
+-- a run of which this is said had these files, did all of its work, and wrote this
+pub record Wrote (S : Saying) (files : Files) (out : List ℕ) : Type 0 where
+  pub old : Scene ⊤
+  pub new : Scene ⊤
+  pub said : S old new Done
+  pub told : old.shelf.files ≡ Some files
+  pub before : List ℕ
+  pub stood : old.out.bytes ≡ Some before
+  pub stands : new.out.bytes ≡ Some (before ++ out)
+
+-- Each run of which this is said, with these files, does all of its work where no count of faults rises, unless
+-- memory runs out.
+abbrev pub Succeeds : Saying → Files → Type 0
+Succeeds S files = (old new : Scene ⊤) (outcome : Outcome)
+    → old.shelf.files ≡ Some files → IsQuiet old new → S old new outcome → IsDoneOrMemory outcome
+
+-- Later the region stands as it did, and this name holds what was written, which is no longer than a file that is
+-- read whole may be.
+pub record IsKept (files later : Files) (region name out : List ℕ) : Type 0 where
+  pub region_stays : later region ≡ files region
+  pub held : later name ≡ Some out
+  pub within : length out ≤ most_bytes
+
+-- the file stands as it did, where one is named
+abbrev pub StaysIfNamed : Files → Files → Option (List ℕ) → Type 0
+StaysIfNamed files later named = IfSome named (λ name. later name ≡ files name)
