@@ -10,3 +10,4 @@ pub mod SourceLemmas
 pub mod DraftLemmas
 pub mod RegionLemmas
 pub mod HeadwayLemmas
+pub mod RunLemmas

@@ -1,11 +1,17 @@
 -- The lists of networks that ascend are fixed by their elements, and networks by their lists.
-use Rattle.std.proofs.Common.{◌≡◌, ℕ, List, map, ap, ◌∙◌, subst}
+use Rattle.std.proofs.Common.{◌≡◌, ℕ, List, map, length, Option, Some, None, refl, ap, ◌∙◌, subst}
+use Rattle.std.specs.Prelude.{option_map, position, not}
 use Rattle.std.specs.List.Sorted.{IsPermutation}
 use Rattle.std.proofs.lemmas.Cmp.{on_total}
-use Rattle.mode_network.specs.NetworkLists.{NetworkLists}
-use Rattle.mode_network.specs.Rules.{AreInOrder, IsAscending, arc_cmp, name_cmp}
+use Rattle.plan_base.specs.declared.limits.Caps.{Caps}
+use Rattle.plan_base.specs.declared.limits.Kind.{Kind}
+use Rattle.plan_base.specs.declared.limits.Kind.TheVariants.{Nodes, Stops, Arcs, Links}
+use Rattle.mode_network.specs.declared.faults.NetFault.{NetFault}
+use Rattle.mode_network.specs.declared.faults.NetFault.TheVariants.{Table}
+use Rattle.mode_network.specs.NetworkLists.{NetworkLists, nodes_of}
+use Rattle.mode_network.specs.Rules.{AreInOrder, IsAscending, arc_cmp, arcs_fault, count_fault, first_fault, first_unsorted, joins_layers, joins_modes, links_fault, lists_fault, name_cmp, node_cmp, or_else, row_fault, trips_fault, unsorted_fault}
 use Rattle.mode_network.specs.declared.nodes.Arc.{Arc}
-use Rattle.mode_network.proofs.RuleLemmas.{arcs_total, names_total}
+use Rattle.mode_network.proofs.RuleLemmas.{arcs_total, ascending_from, names_total}
 use Rattle.promises.proofs.OrderLemmas.{ascending_permutation_once, ascends_by}
 
 -- arcs that ascend stand in one order
@@ -31,3 +37,32 @@ pub named_once : {X : Type 0} (given xs ys : List X) (name : X → List ℕ) (na
 named_once given xs ys name names also one other is too up above =
     ascending_permutation_once (λ a b. name_cmp (name a) (name b)) (on_total name names_total) given xs ys one other
     (ascends_by name name_cmp xs (subst (IsAscending name_cmp) is up)) (ascends_by name name_cmp ys (subst (IsAscending name_cmp) too above))
+
+-- ---- networks that break no rule
+
+neither : (a b : Option NetFault) → or_else a b ≡ None → (a ≡ None) × (b ≡ None)
+neither None b e = (refl, e)
+neither (Some fault) b e = absurd (cc)
+
+in_order : (kind : Kind) (bad unsorted : Option ℕ) → row_fault kind bad unsorted ≡ None → unsorted ≡ None
+in_order kind None None e = refl
+in_order kind (Some bad) None e = refl
+in_order kind None (Some row) e = absurd (cc)
+in_order kind (Some bad) (Some row) e = absurd (cc)
+
+-- their arcs and their links ascend
+pub ways_ascend : (caps : Caps) (n : NetworkLists) → first_fault caps n ≡ None → IsAscending arc_cmp n.arcs × IsAscending arc_cmp n.links
+ways_ascend caps n none =
+    let switches = unsorted_fault Nodes (first_unsorted node_cmp 0 n.switches) in
+    let names = unsorted_fault Stops (first_unsorted name_cmp 0 n.stop_names) in
+    let roads = unsorted_fault Nodes (first_unsorted node_cmp 0 n.roads) in
+    let last = or_else (arcs_fault n) (links_fault n) in
+    let lists = (neither (lists_fault caps n) (option_map Table (trips_fault caps n)) none).0 in
+    let behind_counts = (neither (count_fault caps n) (or_else roads (or_else names (or_else switches last))) lists).1 in
+    let behind_roads = (neither roads (or_else names (or_else switches last)) behind_counts).1 in
+    let behind_names = (neither names (or_else switches last) behind_roads).1 in
+    let behind_switches = (neither switches last behind_names).1 in
+    let ways = neither (arcs_fault n) (links_fault n) behind_switches in (
+      ascending_from arc_cmp arcs_total n.arcs 0 (in_order Arcs (position (λ arc. not (joins_modes n.roads arc)) n.arcs) (first_unsorted arc_cmp 0 n.arcs) ways.0),
+      ascending_from arc_cmp arcs_total n.links 0 (in_order Links (position (λ link. not (joins_layers (length n.roads) (length (nodes_of n)) link)) n.links) (first_unsorted arc_cmp 0 n.links) ways.1),
+    )

@@ -15,7 +15,7 @@ use Rattle.road_profile.specs.declared.rows.RoadRow.{RoadRow}
 use Rattle.gtfs_tables.specs.FeedLists.{FeedLists}
 use Rattle.gtfs_tables.specs.Sound.{IsFeed}
 use Rattle.mode_network.specs.NetworkLists.{NetworkLists, nodes_of}
-use Rattle.mode_network.specs.Rules.{AreInOrder, IsNetwork}
+use Rattle.mode_network.specs.Rules.{AreInOrder, first_fault}
 use Rattle.mode_network.specs.declared.nodes.Arc.{Arc}
 use Rattle.mode_network.specs.declared.nodes.Node.{Node}
 use Rattle.region_build.specs.declared.faults.BuildFault.{BuildFault}
@@ -31,7 +31,7 @@ use Rattle.region_build.specs.Switches.{switch_node}
 use Rattle.promises.specs.Compiled.{CompiledIsUnique, IsBuilt}
 use Rattle.promises.proofs.DraftLemmas.{ends_once, named_apart_once, names_differ, rows_once, stop_links_once, switch_links_once, switches_once}
 use Rattle.promises.proofs.HeadwayLemmas.{headways_apart, is_same_headway}
-use Rattle.promises.proofs.NetworkLemmas.{arcs_once, same_network}
+use Rattle.promises.proofs.NetworkLemmas.{arcs_once, same_network, ways_ascend}
 use Rattle.promises.proofs.SourceLemmas.{sources_once}
 
 module _ (objects : ObjectLists) (sound : AreObjects objects) (feed : FeedLists) (rules : IsFeed feed) (apart : IsDistinct is_same_headway feed.frequencies) (days : DaysMeaning) (e f : _) (s t : List SourceLists) (n m : NetworkLists)
@@ -90,12 +90,14 @@ module _ (objects : ObjectLists) (sound : AreObjects objects) (feed : FeedLists)
       ∙ ap (λ (places : List OsmNode). stop_links near other.lists.ends (length m.roads) f ++ switch_links near other.lists.ends (length m.roads + length f) places) same_places in
       subst (λ (links : List Arc). AreInOrder links n.links) (first ∙ rest) one.lists.links_are.are
 
-  -- two networks that keep the rules are one
-  pub one_region : IsNetwork n → IsNetwork m → n ≡ m
-  one_region keeps also =
+  -- two networks that break no rule are one
+  pub one_region : (caps : Caps) → first_fault caps n ≡ None → first_fault caps m ≡ None → n ≡ m
+  one_region caps none also =
+      let keeps = ways_ascend caps n none in
+      let too = ways_ascend caps m also in
       same_network n m (one.days_are ∙ sym other.days_are) same_roads same_names same_stops same_switches
-      (arcs_once _ n.arcs m.arcs arcs_moved other.lists.roads_are.arcs_are keeps.arcs_ascend also.arcs_ascend)
-      (arcs_once _ n.links m.links links_moved other.lists.links_are.are keeps.links_ascend also.links_ascend) same_trips
+      (arcs_once _ n.arcs m.arcs arcs_moved other.lists.roads_are.arcs_are keeps.0 too.0)
+      (arcs_once _ n.links m.links links_moved other.lists.links_are.are keeps.1 too.1) same_trips
 
   -- ---- the first fault, by what is counted
 
@@ -130,7 +132,7 @@ compiled_is_unique caps objects sound files feed given rules days one other p q 
 
     by_answer : (one other : Result NetworkLists BuildFault) → IsBuilt caps objects feed days one → IsBuilt caps objects feed days other → one ≡ other
     by_answer (Ok n) (Ok m) (is, keeps) (too, also) =
-        ap (λ (x : NetworkLists). Ok x) (one_region objects sound feed rules apart days is.entries too.entries is.sources too.sources n m is.draft too.draft keeps also)
+        ap (λ (x : NetworkLists). Ok x) (one_region objects sound feed rules apart days is.entries too.entries is.sources too.sources n m is.draft too.draft caps keeps also)
     by_answer (Ok n) (Err fault) (is, keeps) too =
         let same = one_fault objects sound feed rules apart days is.entries too.entries is.sources too.sources n too.lists is.draft too.draft caps in
         absurd (none-some fault (sym is.faultless ∙ same ∙ too.first))

@@ -1,5 +1,5 @@
 -- What a map and a feed give over some days is one thing.
-use Rattle.std.specs.Prelude.{◌≡◌, Result, Ok, Err}
+use Rattle.std.specs.Prelude.{◌≡◌, None, Result, Ok, Err}
 use Rattle.plan_base.specs.declared.limits.Caps.{Caps}
 use Rattle.service_days.specs.DaysMeaning.{DaysMeaning}
 use Rattle.opl_reader.specs.ObjectLists.{AreObjects, ObjectLists}
@@ -8,13 +8,13 @@ use Rattle.gtfs_tables.specs.FeedLists.{FeedLists}
 use Rattle.gtfs_tables.specs.Feeds.{feed_of}
 use Rattle.gtfs_tables.specs.Sound.{IsFeed}
 use Rattle.mode_network.specs.NetworkLists.{NetworkLists}
-use Rattle.mode_network.specs.Rules.{IsNetwork}
+use Rattle.mode_network.specs.Rules.{first_fault}
 use Rattle.region_build.specs.declared.faults.BuildFault.{BuildFault}
 use Rattle.region_build.specs.Answers.{HasFault, IsCompiled}
 
--- a region, which keeps the rules of networks; or the first fault
+-- a region, which breaks no rule of networks; or the first fault
 abbrev pub IsBuilt : Caps → ObjectLists → FeedLists → DaysMeaning → Result NetworkLists BuildFault → Type 0
-IsBuilt caps objects feed days (Ok n) = IsCompiled caps objects feed days n × IsNetwork n
+IsBuilt caps objects feed days (Ok n) = IsCompiled caps objects feed days n × (first_fault caps n ≡ None)
 IsBuilt caps objects feed days (Err fault) = HasFault caps objects feed days fault
 
 -- The objects of a map, and the feed that some files give, are over some days one region or one fault, and never

@@ -1,0 +1,124 @@
+-- What a run has read and written that did all of its work.
+use Rattle.std.proofs.Common.{◌≡◌, ℕ, ◌≤◌, ◌∙◌, inl, inr, List, ◌++◌, length, Option, Some, None, Ok, Err, refl, sym, subst}
+use Rattle.std.specs.Prelude.{⊤, Result, IfSome}
+use Rattle.std.proofs.lemmas.List.{append_cancel_left}
+use Rattle.std.proofs.lemmas.Option.{same_Some}
+use Rattle.plan_base.specs.Shelves.{ShelfMeaning, Told}
+use Rattle.plan_base.specs.Sinks.{SinkMeaning, Appended}
+use Rattle.plan_base.specs.declared.limits.Caps.{Caps}
+use Rattle.mode_network.specs.NetworkLists.{NetworkLists}
+use Rattle.mode_network.specs.Rules.{IsNetwork}
+use Rattle.region_file.specs.declared.fault.RegionFault.{RegionFault}
+use Rattle.region_file.specs.Regions.{region_of}
+use Rattle.hierarchy.specs.Lists.{HierarchyLists}
+use Rattle.hierarchy.specs.Rules.{IsHierarchy}
+use Rattle.hierarchy.specs.Soundness.{IsSound}
+use Rattle.hierarchy_file.specs.declared.fault.HFileFault.{HFileFault}
+use Rattle.hierarchy_file.specs.Reading.{hierarchy_of}
+use Rattle.run_steps.specs.declared.outcome.FileRole.{FileRole}
+use Rattle.run_steps.specs.declared.outcome.FileRole.TheVariants.{Region, Hierarchy}
+use Rattle.run_steps.specs.declared.outcome.Outcome.TheVariants.{Done}
+use Rattle.run_steps.specs.Scene.{Scene, with_shelf}
+use Rattle.run_steps.specs.Sayings.{Saying, HasGoneOn, OnFile, most_bytes}
+use Rattle.run_steps.specs.Regions.{OnNetwork, OnRegion}
+use Rattle.run_steps.specs.Complete.{Files, IsHeld, SpellsNetwork}
+use Rattle.hierarchy_commands.specs.Commands.{OnSound, OnHierarchyIfNamed}
+use Rattle.hierarchy_commands.specs.Complete.{IsSoundIfNamed}
+use Rattle.promises.specs.Runs.{StaysIfNamed}
+
+-- what a shelf tells of its files
+pub told_of : (shelf : ShelfMeaning) (files : Files) (name : List ℕ) → shelf.files ≡ Some files → (P : Option (List ℕ) → Type 0) → Told shelf name P → P (files name)
+told_of shelf files name tells P told = subst (λ (f : Option Files). IfSome f (λ g. P (g name))) tells told
+
+-- one output was appended
+pub same_output : (old new : SinkMeaning) (before one other : List ℕ) → old.bytes ≡ Some before → Appended old new one → new.bytes ≡ Some (before ++ other) → one ≡ other
+same_output old new before one other stood appended stands =
+    let there = subst (λ (o : Option (List ℕ)). IfSome o (λ bytes. new.bytes ≡ Some (bytes ++ one))) stood appended in
+    append_cancel_left before one other (same_Some (before ++ one) (before ++ other) (sym there ∙ stands))
+
+module _ (files : Files) where
+  -- a file was read, and the rest was done
+  pub record HasRead (name : List ℕ) (rest : List ℕ → Saying) (old new : Scene ⊤) : Type 0 where
+    pub bytes : List ℕ
+    pub held : files name ≡ Some bytes
+    pub within : length bytes ≤ most_bytes
+    pub mid : ShelfMeaning
+    pub tells : mid.files ≡ Some files
+    pub says : rest bytes (with_shelf old mid) new Done
+
+  pub file_done : (file : FileRole) (name : List ℕ) (rest : List ℕ → Saying) (old new : Scene ⊤) → old.shelf.files ≡ Some files
+      → OnFile file name rest old new Done → HasRead name rest old new
+  file_done file name rest old new tells (inl (unread, same)) = absurd unread
+  file_done file name rest old new tells (inr on) = record {
+    bytes = on.bytes;
+    held = told_of old.shelf files name tells (λ h. h ≡ Some on.bytes) on.file.file;
+    within = on.file.within;
+    mid = on.mid;
+    tells = on.later.files ∙ tells;
+    says = on.says;
+  }
+
+  -- a region was read, and the rest was done
+  pub record HasReadRegion (caps : Caps) (name : List ℕ) (rest : NetworkLists → Saying) (old new : Scene ⊤) : Type 0 where
+    pub bytes : List ℕ
+    pub held : files name ≡ Some bytes
+    pub within : length bytes ≤ most_bytes
+    pub network : NetworkLists
+    pub spells : region_of caps bytes ≡ Ok network
+    pub rules : IsNetwork network
+    pub mid : ShelfMeaning
+    pub tells : mid.files ≡ Some files
+    pub says : rest network (with_shelf old mid) new Done
+
+  pub region_done : (caps : Caps) (name : List ℕ) (rest : NetworkLists → Saying) (old new : Scene ⊤) → old.shelf.files ≡ Some files
+      → OnRegion caps name rest old new Done → HasReadRegion caps name rest old new
+  region_done caps name rest old new tells said = spelled (region_of caps read.bytes) refl read.says
+    where
+      read : HasRead name (λ bytes. OnNetwork (region_of caps bytes) rest) old new
+      read = file_done Region name (λ bytes. OnNetwork (region_of caps bytes) rest) old new tells said
+
+      spelled : (r : Result NetworkLists RegionFault) → region_of caps read.bytes ≡ r → OnNetwork r rest (with_shelf old read.mid) new Done → HasReadRegion caps name rest old new
+      spelled (Ok n) is (rules, says) = record {
+        bytes = read.bytes;
+        held = read.held;
+        within = read.within;
+        network = n;
+        spells = is;
+        rules = rules;
+        mid = read.mid;
+        tells = read.tells;
+        says = says;
+      }
+      spelled (Err fault) is (ends, same) = absurd (cc)
+
+  -- the region is there later too, and spells a network that has P
+  pub region_again : (later : Files) (caps : Caps) (name : List ℕ) (rest : NetworkLists → Saying) (old new : Scene ⊤) (read : HasReadRegion caps name rest old new)
+      → later name ≡ files name → (P : NetworkLists → Type 0) → P read.network → IsHeld later name (SpellsNetwork caps P)
+  region_again later caps name rest old new read stays P p =
+      record { bytes = read.bytes; held = stays ∙ read.held; within = read.within; fine = (read.network, read.spells, p) }
+
+  -- a hierarchy was read that is sound, where one was named, and the rest was done; later that is there too
+  pub record HasReadSound (later : Files) (n : NetworkLists) (named : Option (List ℕ)) (rest : Option HierarchyLists → Saying) (P : Option HierarchyLists → Type 0) (old new : Scene ⊤) : Type 0 where
+    pub hierarchy : Option HierarchyLists
+    pub mid : ShelfMeaning
+    pub says : rest hierarchy (with_shelf old mid) new Done
+    pub again : P hierarchy → IsSoundIfNamed later n named P
+
+  pub named_done : (later : Files) (n : NetworkLists) (named : Option (List ℕ)) (rest : Option HierarchyLists → Saying) (P : Option HierarchyLists → Type 0) (old new : Scene ⊤)
+      → old.shelf.files ≡ Some files → StaysIfNamed files later named → OnHierarchyIfNamed n named rest old new Done → HasReadSound later n named rest P old new
+  named_done later n None rest P old new tells stays says = record { hierarchy = None; mid = old.shelf; says = says; again = λ p. p }
+  named_done later n (Some name) rest P old new tells stays said = spelled (hierarchy_of read.bytes) refl read.says
+    where
+      read : HasRead name (λ bytes. OnSound n (hierarchy_of bytes) (λ h. rest (Some h))) old new
+      read = file_done Hierarchy name (λ bytes. OnSound n (hierarchy_of bytes) (λ h. rest (Some h))) old new tells said
+
+      spelled : (r : Result HierarchyLists HFileFault) → hierarchy_of read.bytes ≡ r → OnSound n r (λ h. rest (Some h)) (with_shelf old read.mid) new Done
+          → HasReadSound later n (Some name) rest P old new
+      spelled (Ok h) is (inl (clause, at, by, broken, (ends, same))) = absurd (cc)
+      spelled (Ok h) is (inr (rules, sound, says)) = record {
+        hierarchy = Some h;
+        mid = read.mid;
+        says = says;
+        again = λ p. record { bytes = read.bytes; held = stays ∙ read.held; within = read.within; fine = (h, is, sound, p) };
+      }
+      spelled (Err fault) is (ends, same) = absurd (cc)
