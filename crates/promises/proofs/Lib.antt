@@ -11,3 +11,5 @@ pub mod DraftLemmas
 pub mod RegionLemmas
 pub mod HeadwayLemmas
 pub mod RunLemmas
+pub mod AcceptLemmas
+pub mod SettledLemmas

@@ -1,4 +1,6 @@
+pub mod Runs
+pub mod Accepted
 pub mod Hierarchies
 pub mod Searches
+pub mod Settled
 pub mod Compiled
-pub mod Runs

@@ -1,6 +1,9 @@
 //! Laws that follow from what the commands promise.
 #![tactic(auto)]
 
+mod accepted;
 mod unique;
 
-pub use unique::{check_verdict_is_unique, compiled_is_unique, labels_are_unique};
+pub use accepted::what_certify_latest_prints_verify_latest_accepts;
+pub use accepted::{what_certify_prints_verify_accepts, what_contract_writes_check_accepts};
+pub use unique::{check_verdict_is_unique, compiled_is_unique, labels_are_unique, settled_is_unique};

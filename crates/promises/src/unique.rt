@@ -3,6 +3,9 @@
 ghost use Rattle.promises.specs.Compiled.{CompiledIsUnique};
 ghost use Rattle.promises.specs.Hierarchies.{CheckVerdictIsUnique};
 ghost use Rattle.promises.specs.Searches.{LabelsAreUnique};
+ghost use Rattle.promises.specs.Settled.{SettledIsUnique};
+
+use product_search::stops_are_due;
 
 /// Of one region and one hierarchy `check` has one verdict: it is sound, or one clause is the first that fails,
 /// at one place.
@@ -20,3 +23,11 @@ pub fn labels_are_unique()
 pub fn compiled_is_unique()
     ensures { CompiledIsUnique }
 {}
+
+/// For query lines, within limits or without, the searches over a network or over a hierarchy of it have one sum of
+/// labels, which `answer` tells behind `settled`.
+pub fn settled_is_unique()
+    ensures { SettledIsUnique }
+{
+    stops_are_due();
+}
