@@ -13,3 +13,4 @@ pub mod HeadwayLemmas
 pub mod RunLemmas
 pub mod AcceptLemmas
 pub mod SettledLemmas
+pub mod SampleLemmas

@@ -4,3 +4,4 @@ pub mod Hierarchies
 pub mod Searches
 pub mod Settled
 pub mod Compiled
+pub mod Samples

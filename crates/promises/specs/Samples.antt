@@ -1,0 +1,26 @@
+-- What the command `sample` writes for one size.
+use Rattle.std.specs.Prelude.{◌≡◌, ℕ, List, ◌++◌, Option}
+use Rattle.mode_network.specs.NetworkLists.{NetworkLists}
+use Rattle.mode_network.specs.Rules.{IsNetwork}
+use Rattle.sample_city.specs.SampleCity.{IsSampleCity}
+use Rattle.sample_command.specs.Summary.{IsSummary}
+use Rattle.sample_command.specs.Texts.{city_text, times_text}
+
+-- there is one sample city of each size that keeps the rules of networks
+abbrev pub SampleCityIsUnique : Type 0
+SampleCityIsUnique = (n : ℕ) (one other : NetworkLists) → IsNetwork one → IsNetwork other
+    → IsSampleCity n one → IsSampleCity n other → one ≡ other
+
+-- Two summaries of one size tell of the same city and the same times. How many labels the searches have over
+-- a hierarchy, `settled`, each tells for itself: that depends on the order in which nodes were contracted, which
+-- is left free.
+pub record AreAlike (n : ℕ) (one other : List ℕ) : Type 0 where
+  pub city : NetworkLists
+  pub times : List (Option ℕ)
+  pub settled : ℕ
+  pub also_settled : ℕ
+  pub one_is : one ≡ city_text n city ++ times_text times times settled
+  pub other_is : other ≡ city_text n city ++ times_text times times also_settled
+
+abbrev pub SummariesAreAlike : Type 0
+SummariesAreAlike = (n : ℕ) (one other : List ℕ) → IsSummary n one → IsSummary n other → AreAlike n one other
