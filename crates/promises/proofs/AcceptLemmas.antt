@@ -1,12 +1,11 @@
 -- What one command writes another one accepts: it is what the other one asks of its file.
 use Rattle.std.proofs.Common.{◌≡◌, ℕ, ◌⊎◌, inl, inr, List, Option, Some, None, Ok, subst}
-use Rattle.std.specs.Prelude.{⊤}
 use Rattle.hierarchy.specs.Lists.{HierarchyLists}
 use Rattle.hierarchy_file.specs.Reading.{hierarchy_of}
 use Rattle.mode_network.specs.NetworkLists.{NetworkLists}
 use Rattle.run_steps.specs.declared.limits.Limits.{Limits}
-use Rattle.run_steps.specs.Sayings.{HasWritten, WritesText}
-use Rattle.run_steps.specs.Complete.{Files, IsHeld}
+use Rattle.run_steps.specs.Sayings.{WritesText}
+use Rattle.run_steps.specs.Complete.{IsHeld}
 use Rattle.hierarchy_commands.specs.Commands.{IsContraction, OnHierarchyIfNamed}
 use Rattle.hierarchy_commands.proofs.CompleteLemmas.{check_completes}
 use Rattle.answer_commands.specs.Complete.{SpellsValid}
@@ -19,7 +18,6 @@ use Rattle.latest_departure.specs.Limits.{IsWithinLateLabels}
 use Rattle.journey.specs.Best.{IsRefusedBlock}
 use Rattle.planning.specs.Limits.{IsWithinLabels}
 use Rattle.journey.specs.Large.{stopped_block}
-use Rattle.promises.specs.Runs.{IsKept}
 use Rattle.promises.specs.Accepted.{IsBlockOf, WhatContractWritesCheckAccepts, WhatCertifyPrintsVerifyAccepts, WhatCertifyLatestPrintsVerifyLatestAccepts}
 use Rattle.promises.proofs.RunLemmas.{same_output, region_done, region_again, named_done}
 
@@ -63,8 +61,8 @@ what_certify_prints_verify_accepts caps limits files later region query name out
     elim (written_for n both.hierarchy limits query out is) [
       | inl block ↦ inl block
       | inr valid ↦ inr (verify_completes caps later region name hierarchy
-      (region_again files later caps region rest run.old run.new read kept.region_stays _
-      (both.again (record { bytes = out; held = kept.held; within = kept.within; fine = valid }))))
+          (region_again files later caps region rest run.old run.new read kept.region_stays _
+          (both.again (record { bytes = out; held = kept.held; within = kept.within; fine = valid }))))
     ]
 
 -- ---- the latest departure
@@ -95,5 +93,5 @@ what_certify_latest_prints_verify_latest_accepts caps limits files later region 
     elim (late_written_for n limits query out is) [
       | inl block ↦ inl block
       | inr valid ↦ inr (verify_latest_completes caps later region name
-      (region_again files later caps region _ run.old run.new read kept.region_stays _ (record { bytes = out; held = kept.held; within = kept.within; fine = valid })))
+          (region_again files later caps region _ run.old run.new read kept.region_stays _ (record { bytes = out; held = kept.held; within = kept.within; fine = valid })))
     ]

@@ -2,7 +2,7 @@
 use Rattle.std.proofs.Common.{◌≡◌, ◌≢◌, ℕ, ◌+◌, ◌-◌, ◌*◌, ◌/◌, ◌%◌, ◌^◌, ◌<◌, Bool, true, false, ◌==◌, ◌&&◌, ◌⊎◌, inl, inr, bit_and, IsBitSet, if◌then◌else◌, refl, sym, ap, ◌∙◌, subst, arith}
 use Rattle.std.proofs.lemmas.Bool.Decides.{nat_tests}
 use Rattle.search_laws.specs.declared.labels.Move.{Move}
-use Rattle.search_laws.specs.LabelLaws.{LabelsMeaning, HasMove, IsMove}
+use Rattle.search_laws.specs.LabelLaws.{LabelsMeaning, HasMove}
 use Rattle.automaton.specs.Written.{Written}
 use Rattle.automaton.specs.Rows.{rows, entry}
 use Rattle.automaton.specs.States.{IsPositionAutomaton}

@@ -1,12 +1,8 @@
 -- Of each size there is one sample city that keeps the rules of networks.
-use Rattle.std.proofs.Common.{◌≡◌, ℕ, List, map, length, refl, sym, ap, ◌∙◌, subst}
-use Rattle.std.specs.List.Sorted.{IsPermutation}
-use Rattle.std.proofs.lemmas.Cmp.{on_total}
+use Rattle.std.proofs.Common.{◌≡◌, ℕ, List, map, length, sym, ap, ◌∙◌, subst}
 use Rattle.mode_network.specs.NetworkLists.{NetworkLists}
-use Rattle.mode_network.specs.Rules.{AreInOrder, IsAscending, IsNetwork, arc_cmp, name_cmp}
-use Rattle.mode_network.specs.declared.nodes.Arc.{Arc}
+use Rattle.mode_network.specs.Rules.{AreInOrder, IsNetwork}
 use Rattle.mode_network.specs.declared.nodes.Node.{Node}
-use Rattle.mode_network.proofs.RuleLemmas.{arcs_total, names_total}
 use Rattle.sample_city.specs.Roads.{city_arcs, road_number}
 use Rattle.sample_city.specs.Stops.{city_links, city_stops, stop_nodes}
 use Rattle.sample_city.specs.Trips.{city_trips}

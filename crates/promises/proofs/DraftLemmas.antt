@@ -1,5 +1,5 @@
 -- What a map and a feed give are the same lists, list by list.
-use Rattle.std.proofs.Common.{◌≡◌, ℕ, ℤ, ◌+◌, ◌≤◌, Bool, true, false, ◌&&◌, List, [], ◌∷◌, ◌++◌, map, Option, Some, None, if◌then◌else◌, refl, sym, ap, ap₂, ◌∙◌, subst, arith}
+use Rattle.std.proofs.Common.{◌≡◌, ℕ, ℤ, ◌+◌, ◌≤◌, Bool, true, false, List, [], ◌∷◌, ◌++◌, map, Option, Some, None, if◌then◌else◌, refl, sym, ap, ap₂, ◌∙◌, arith}
 use Rattle.std.specs.Prelude.{bytes_eq, option_to_list}
 use Rattle.std.specs.List.{AllByRecursion, IsDistinct, flat_map}
 use Rattle.std.specs.List.Sorted.{IsPermutation, IsSorted}
@@ -19,7 +19,7 @@ use Rattle.geo_length.proofs.NearestLaws.{IsNearest-only}
 use Rattle.opl_reader.specs.declared.objects.Amenity.{Amenity}
 use Rattle.opl_reader.specs.declared.objects.Amenity.TheVariants.{Nothing, Parking, BicycleParking, BicycleRental}
 use Rattle.opl_reader.specs.declared.objects.OsmNode.{OsmNode}
-use Rattle.opl_reader.specs.ObjectLists.{AreObjects, ObjectLists, ids_of}
+use Rattle.opl_reader.specs.ObjectLists.{AreObjects, ObjectLists}
 use Rattle.road_profile.specs.Arcs.{AreArcsOf, row_cmp}
 use Rattle.road_profile.specs.declared.rows.RoadRow.{RoadRow}
 use Rattle.gtfs_tables.specs.declared.stops.StopRow.{StopRow}

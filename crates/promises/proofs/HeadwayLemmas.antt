@@ -1,5 +1,5 @@
 -- Each headway of a feed that files give is of a row of its own.
-use Rattle.std.proofs.Common.{◌≡◌, ℕ, suc, ◌+◌, ◌<◌, ◌≤◌, Bool, true, false, ◌&&◌, List, [], ◌∷◌, ◌++◌, length, map, Option, Some, None, Ok, Err, refl, sym, ap, ◌∙◌, subst, arith}
+use Rattle.std.proofs.Common.{◌≡◌, ℕ, suc, ◌+◌, ◌≤◌, Bool, true, false, ◌&&◌, List, [], ◌∷◌, ◌++◌, length, map, Option, Some, None, Ok, Err, refl, sym, ap, ◌∙◌, subst, arith}
 use Rattle.std.specs.Prelude.{Result, filter_map, nat_eq, option_map}
 use Rattle.std.specs.List.{AllByRecursion, IsDistinct, cons_option}
 use Rattle.std.proofs.lemmas.Bool.Decides.{nat_tests}
@@ -20,7 +20,7 @@ use Rattle.gtfs_tables.specs.Services.{services}
 use Rattle.gtfs_tables.specs.ServiceDates.{dates}
 use Rattle.gtfs_tables.specs.Calls.{calls}
 use Rattle.gtfs_tables.specs.TableRows.{TableRow, id_in}
-use Rattle.gtfs_tables.specs.Tables.{Table, given, header_in, judged, missing_column, records_of, row_fault, row_of, rows_behind, rows_below, rows_of, table_of}
+use Rattle.gtfs_tables.specs.Tables.{Table, given, header_in, judged, missing_column, records_of, row_fault, row_of, rows_behind, rows_below, rows_of}
 use Rattle.gtfs_tables.specs.Trips.{place_among, trips}
 
 -- two headways are of one trip and one row of frequencies.txt

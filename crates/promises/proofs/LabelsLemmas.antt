@@ -1,5 +1,5 @@
 -- A query has one list of labels, and so one number of them, within limits or without.
-use Rattle.std.proofs.Common.{◌≡◌, ℕ, ◌+◌, ◌<◌, ◌≤◌, inl, inr, List, [], ◌∷◌, length, Option, Some, None, Ok, Err, refl, sym, ap, ap₂, ◌∙◌, subst, arith}
+use Rattle.std.proofs.Common.{◌≡◌, ℕ, inl, inr, List, length, Option, Some, None, sym, ap, ◌∙◌, subst, arith}
 use Rattle.search_laws.specs.GraphLaws.{GraphMeaning}
 use Rattle.search_laws.specs.LabelLaws.{LabelsMeaning}
 use Rattle.product_search.specs.declared.label.Label.{Label}
@@ -11,7 +11,7 @@ use Rattle.hierarchy.specs.Lists.{HierarchyLists}
 use Rattle.phase_graph.specs.InUse.{IsInUse, starts_in, ends_in}
 use Rattle.mode_network.specs.NetworkLists.{NetworkLists}
 use Rattle.journey.specs.CopyLists.{AreTheCopies}
-use Rattle.journey.specs.Best.{Asked, Asks}
+use Rattle.journey.specs.Best.{Asked}
 use Rattle.journey.proofs.CopyLemmas.{one_list_of_copies}
 use Rattle.planning.specs.Plans.{AreTheLabels, AreLabelsOver}
 use Rattle.planning.specs.Settled.{IsLabelCount, IsSettledBy}

@@ -1,5 +1,5 @@
 -- A map and a feed give over some days one region or one fault.
-use Rattle.std.proofs.Common.{◌≡◌, ℕ, ◌+◌, List, ◌++◌, map, length, Option, Some, None, Ok, Err, sym, ap, ap₂, ◌∙◌, subst}
+use Rattle.std.proofs.Common.{◌≡◌, ℕ, ◌+◌, List, ◌++◌, map, length, Option, None, Ok, Err, sym, ap, ap₂, ◌∙◌, subst}
 use Rattle.std.specs.Prelude.{Result}
 use Rattle.std.specs.List.{IsDistinct}
 use Rattle.std.proofs.lemmas.List.Sorted.{length_permutation}
@@ -19,7 +19,7 @@ use Rattle.mode_network.specs.Rules.{AreInOrder, first_fault}
 use Rattle.mode_network.specs.declared.nodes.Arc.{Arc}
 use Rattle.mode_network.specs.declared.nodes.Node.{Node}
 use Rattle.region_build.specs.declared.faults.BuildFault.{BuildFault}
-use Rattle.region_build.specs.Answers.{HasFault, IsCompiled, draft_fault, fault_by}
+use Rattle.region_build.specs.Answers.{draft_fault, fault_by}
 use Rattle.region_build.specs.Compiled.{IsDraft}
 use Rattle.region_build.specs.Copies.{expanded, first_back}
 use Rattle.region_build.specs.Ends.{AreEnds, End}

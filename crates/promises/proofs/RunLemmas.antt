@@ -11,15 +11,13 @@ use Rattle.mode_network.specs.Rules.{IsNetwork}
 use Rattle.region_file.specs.declared.fault.RegionFault.{RegionFault}
 use Rattle.region_file.specs.Regions.{region_of}
 use Rattle.hierarchy.specs.Lists.{HierarchyLists}
-use Rattle.hierarchy.specs.Rules.{IsHierarchy}
-use Rattle.hierarchy.specs.Soundness.{IsSound}
 use Rattle.hierarchy_file.specs.declared.fault.HFileFault.{HFileFault}
 use Rattle.hierarchy_file.specs.Reading.{hierarchy_of}
 use Rattle.run_steps.specs.declared.outcome.FileRole.{FileRole}
 use Rattle.run_steps.specs.declared.outcome.FileRole.TheVariants.{Region, Hierarchy}
 use Rattle.run_steps.specs.declared.outcome.Outcome.TheVariants.{Done}
 use Rattle.run_steps.specs.Scene.{Scene, with_shelf}
-use Rattle.run_steps.specs.Sayings.{Saying, HasGoneOn, OnFile, most_bytes}
+use Rattle.run_steps.specs.Sayings.{Saying, OnFile, most_bytes}
 use Rattle.run_steps.specs.Regions.{OnNetwork, OnRegion}
 use Rattle.run_steps.specs.Complete.{Files, IsHeld, SpellsNetwork}
 use Rattle.hierarchy_commands.specs.Commands.{OnSound, OnHierarchyIfNamed}
