@@ -14,3 +14,5 @@ pub mod RunLemmas
 pub mod AcceptLemmas
 pub mod SettledLemmas
 pub mod SampleLemmas
+pub mod AskedLemmas
+pub mod AnswerLemmas

@@ -5,3 +5,5 @@ pub mod Searches
 pub mod Settled
 pub mod Compiled
 pub mod Samples
+pub mod Asked
+pub mod Answer

@@ -1,0 +1,16 @@
+-- Words ask for one thing, and a run is what is said of that.
+use Rattle.std.proofs.Common.{◌≡◌, ℕ, inl, inr, List, sym, ◌∙◌, subst}
+use Rattle.std.specs.Prelude.{⊤}
+use Rattle.std.proofs.lemmas.Option.{same_Some}
+use Rattle.command_words.specs.Requests.{Request}
+use Rattle.planner_core.specs.Commands.{says}
+use Rattle.promises.specs.Asked.{RunsAreAsAsked, WordsAskOneThing}
+
+pub words_ask_one_thing : WordsAskOneThing
+words_ask_one_thing words one other p q = same_Some one other (sym p.asks ∙ q.asks)
+
+pub runs_are_as_asked : RunsAreAsAsked
+runs_are_as_asked caps words r asks old new outcome (inl (refused, ends)) = absurd (refused r asks)
+runs_are_as_asked caps words r asks old new outcome (inr (inl ends)) = inl ends
+runs_are_as_asked caps words r asks old new outcome (inr (inr (other, also, said))) =
+    inr (subst (λ (x : Request). says caps x old new outcome) (words_ask_one_thing words other r also asks) said)
