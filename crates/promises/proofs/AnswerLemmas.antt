@@ -1,17 +1,16 @@
 -- What `answer` prints, from what is said of a run with its words.
-use Rattle.std.proofs.Common.{◌≡◌, ℕ, ◌++◌, ◌∙◌, inl, inr, List, [], ◌∷◌, Option, Some, None, refl, sym, ap, subst}
+use Rattle.std.proofs.Common.{◌≡◌, ℕ, ◌++◌, ◌∙◌, inl, inr, List, [], ◌∷◌, Some, None, refl, sym, ap, subst}
 use Rattle.std.specs.Prelude.{⊤}
 use Rattle.std.specs.List.{concat}
 use Rattle.plan_base.specs.declared.limits.Caps.{Caps}
 use Rattle.plan_base.proofs.MoreWritten.{appended_stays}
 use Rattle.command_words.specs.Requests.{Request, AsksFor, answer}
 use Rattle.command_words.proofs.PlainForms.{plain_asks}
-use Rattle.hierarchy.specs.Lists.{HierarchyLists}
 use Rattle.hierarchy_commands.specs.Commands.{OnHierarchyIfNamed}
 use Rattle.mode_network.specs.NetworkLists.{NetworkLists}
 use Rattle.journey.specs.declared.answer.BlockBody.{BlockBody}
 use Rattle.journey.specs.declared.answer.BlockBody.TheVariants.{Journey, Nothing, Refused}
-use Rattle.journey.specs.Best.{IsBlock, IsRightBody}
+use Rattle.journey.specs.Best.{IsRightBody}
 use Rattle.journey.specs.Blocks.{IsBlockText}
 use Rattle.journey.specs.Texts.{block_text}
 use Rattle.run_steps.specs.declared.limits.Limits.{Limits}
@@ -26,9 +25,8 @@ use Rattle.answer_commands.specs.Answers.{IsAnswer, WritesSettled}
 use Rattle.planner_core.specs.Commands.{says}
 use Rattle.planner_core.specs.Outcomes.{IsOutcome}
 use Rattle.promises.specs.Answer.{AreWords, TellsRight, EachTellsRight, IsPrinted, AnswerPrintsRightBlocks}
-use Rattle.promises.specs.Runs.{Wrote}
 use Rattle.promises.proofs.AskedLemmas.{runs_are_as_asked}
-use Rattle.promises.proofs.RunLemmas.{HasReadRegion, region_done, same_output, told_of}
+use Rattle.promises.proofs.RunLemmas.{DidReadRegion, region_done, same_output, told_of}
 
 -- ---- what the words ask for
 
@@ -78,7 +76,7 @@ module _ (caps : Caps) (files : Files) (region queries out : List ℕ) where
   Rest n old new = InTurn Queries queries (IsAnswer n None unlimited) (WritesSettled n None unlimited) old new Done
 
   printed : (old new : Scene ⊤) (before : List ℕ) → old.out.bytes ≡ Some before → new.out.bytes ≡ Some (before ++ out)
-      → (read : HasReadRegion files caps region (λ n. OnHierarchyIfNamed n None (λ h. InTurn Queries queries (IsAnswer n h unlimited) (WritesSettled n h unlimited))) old new)
+      → (read : DidReadRegion files caps region (λ n. OnHierarchyIfNamed n None (λ h. InTurn Queries queries (IsAnswer n h unlimited) (WritesSettled n h unlimited))) old new)
       → Rest read.network (with_shelf old read.mid) new → IsPrinted caps files region queries out
   printed old new before stood stands read (inl stops) = absurd stops
   printed old new before stood stands read (inr (bytes, mid, answered, (ends, stays))) =

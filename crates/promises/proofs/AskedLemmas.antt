@@ -1,6 +1,5 @@
 -- Words ask for one thing, and a run is what is said of that.
-use Rattle.std.proofs.Common.{◌≡◌, ℕ, inl, inr, List, sym, ◌∙◌, subst}
-use Rattle.std.specs.Prelude.{⊤}
+use Rattle.std.proofs.Common.{inl, inr, sym, ◌∙◌, subst}
 use Rattle.std.proofs.lemmas.Option.{same_Some}
 use Rattle.command_words.specs.Requests.{Request}
 use Rattle.planner_core.specs.Commands.{says}

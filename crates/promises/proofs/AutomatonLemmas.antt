@@ -57,7 +57,7 @@ pub record IsOther (l : LabelsMeaning) (s c r i : ℕ) : Type 0 where
   pub letter : IsBitSet (other_move l s i).letters c
   pub to : (other_move l s i).to ≡ r
 
--- the move that stays is
+-- the move that stays is by this letter, and leads there
 pub record IsStay (s c r : ℕ) : Type 0 where
   pub read : (s % 4 == 0) ≡ false
   pub letter : IsBitSet (stay s).letters c

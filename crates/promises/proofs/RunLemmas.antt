@@ -36,7 +36,7 @@ same_output old new before one other stood appended stands =
 
 module _ (files : Files) where
   -- a file was read, and the rest was done
-  pub record HasRead (name : List ℕ) (rest : List ℕ → Saying) (old new : Scene ⊤) : Type 0 where
+  pub record DidRead (name : List ℕ) (rest : List ℕ → Saying) (old new : Scene ⊤) : Type 0 where
     pub bytes : List ℕ
     pub held : files name ≡ Some bytes
     pub within : length bytes ≤ most_bytes
@@ -45,7 +45,7 @@ module _ (files : Files) where
     pub says : rest bytes (with_shelf old mid) new Done
 
   pub file_done : (file : FileRole) (name : List ℕ) (rest : List ℕ → Saying) (old new : Scene ⊤) → old.shelf.files ≡ Some files
-      → OnFile file name rest old new Done → HasRead name rest old new
+      → OnFile file name rest old new Done → DidRead name rest old new
   file_done file name rest old new tells (inl (unread, same)) = absurd unread
   file_done file name rest old new tells (inr on) = record {
     bytes = on.bytes;
@@ -57,7 +57,7 @@ module _ (files : Files) where
   }
 
   -- a region was read, and the rest was done
-  pub record HasReadRegion (caps : Caps) (name : List ℕ) (rest : NetworkLists → Saying) (old new : Scene ⊤) : Type 0 where
+  pub record DidReadRegion (caps : Caps) (name : List ℕ) (rest : NetworkLists → Saying) (old new : Scene ⊤) : Type 0 where
     pub bytes : List ℕ
     pub held : files name ≡ Some bytes
     pub within : length bytes ≤ most_bytes
@@ -69,13 +69,13 @@ module _ (files : Files) where
     pub says : rest network (with_shelf old mid) new Done
 
   pub region_done : (caps : Caps) (name : List ℕ) (rest : NetworkLists → Saying) (old new : Scene ⊤) → old.shelf.files ≡ Some files
-      → OnRegion caps name rest old new Done → HasReadRegion caps name rest old new
+      → OnRegion caps name rest old new Done → DidReadRegion caps name rest old new
   region_done caps name rest old new tells said = spelled (region_of caps read.bytes) refl read.says
     where
-      read : HasRead name (λ bytes. OnNetwork (region_of caps bytes) rest) old new
+      read : DidRead name (λ bytes. OnNetwork (region_of caps bytes) rest) old new
       read = file_done Region name (λ bytes. OnNetwork (region_of caps bytes) rest) old new tells said
 
-      spelled : (r : Result NetworkLists RegionFault) → region_of caps read.bytes ≡ r → OnNetwork r rest (with_shelf old read.mid) new Done → HasReadRegion caps name rest old new
+      spelled : (r : Result NetworkLists RegionFault) → region_of caps read.bytes ≡ r → OnNetwork r rest (with_shelf old read.mid) new Done → DidReadRegion caps name rest old new
       spelled (Ok n) is (rules, says) = record {
         bytes = read.bytes;
         held = read.held;
@@ -90,28 +90,28 @@ module _ (files : Files) where
       spelled (Err fault) is (ends, same) = absurd (cc)
 
   -- the region is there later too, and spells a network that has P
-  pub region_again : (later : Files) (caps : Caps) (name : List ℕ) (rest : NetworkLists → Saying) (old new : Scene ⊤) (read : HasReadRegion caps name rest old new)
+  pub region_again : (later : Files) (caps : Caps) (name : List ℕ) (rest : NetworkLists → Saying) (old new : Scene ⊤) (read : DidReadRegion caps name rest old new)
       → later name ≡ files name → (P : NetworkLists → Type 0) → P read.network → IsHeld later name (SpellsNetwork caps P)
   region_again later caps name rest old new read stays P p =
       record { bytes = read.bytes; held = stays ∙ read.held; within = read.within; fine = (read.network, read.spells, p) }
 
   -- a hierarchy was read that is sound, where one was named, and the rest was done; later that is there too
-  pub record HasReadSound (later : Files) (n : NetworkLists) (named : Option (List ℕ)) (rest : Option HierarchyLists → Saying) (P : Option HierarchyLists → Type 0) (old new : Scene ⊤) : Type 0 where
+  pub record DidReadSound (later : Files) (n : NetworkLists) (named : Option (List ℕ)) (rest : Option HierarchyLists → Saying) (P : Option HierarchyLists → Type 0) (old new : Scene ⊤) : Type 0 where
     pub hierarchy : Option HierarchyLists
     pub mid : ShelfMeaning
     pub says : rest hierarchy (with_shelf old mid) new Done
     pub again : P hierarchy → IsSoundIfNamed later n named P
 
   pub named_done : (later : Files) (n : NetworkLists) (named : Option (List ℕ)) (rest : Option HierarchyLists → Saying) (P : Option HierarchyLists → Type 0) (old new : Scene ⊤)
-      → old.shelf.files ≡ Some files → StaysIfNamed files later named → OnHierarchyIfNamed n named rest old new Done → HasReadSound later n named rest P old new
+      → old.shelf.files ≡ Some files → StaysIfNamed files later named → OnHierarchyIfNamed n named rest old new Done → DidReadSound later n named rest P old new
   named_done later n None rest P old new tells stays says = record { hierarchy = None; mid = old.shelf; says = says; again = λ p. p }
   named_done later n (Some name) rest P old new tells stays said = spelled (hierarchy_of read.bytes) refl read.says
     where
-      read : HasRead name (λ bytes. OnSound n (hierarchy_of bytes) (λ h. rest (Some h))) old new
+      read : DidRead name (λ bytes. OnSound n (hierarchy_of bytes) (λ h. rest (Some h))) old new
       read = file_done Hierarchy name (λ bytes. OnSound n (hierarchy_of bytes) (λ h. rest (Some h))) old new tells said
 
       spelled : (r : Result HierarchyLists HFileFault) → hierarchy_of read.bytes ≡ r → OnSound n r (λ h. rest (Some h)) (with_shelf old read.mid) new Done
-          → HasReadSound later n (Some name) rest P old new
+          → DidReadSound later n (Some name) rest P old new
       spelled (Ok h) is (inl (clause, at, by, broken, (ends, same))) = absurd (cc)
       spelled (Ok h) is (inr (rules, sound, says)) = record {
         hierarchy = Some h;

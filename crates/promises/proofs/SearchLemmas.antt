@@ -61,6 +61,12 @@ module _ (l m : LabelsMeaning) (forth : IsCovered l m) (back : IsCovered m l) (g
     least = λ u other. at.least u (reached_over m l back g starts dep v q u other);
   }
 
+  least_back : (v q t : ℕ) → IsLeastAt g m starts dep v q t → IsLeastAt g l starts dep v q t
+  least_back v q t at = record {
+    reached = reached_over m l back g starts dep v q t at.reached;
+    least = λ u other. at.least u (reached_over l m forth g starts dep v q u other);
+  }
+
   pub arrival_over : (bound arrival : Option ℕ) → IsArrival g l starts targets dep bound arrival → IsArrival g m starts targets dep bound arrival
   arrival_over bound None none = λ t within at. none t within (arrives_over m l back g starts dep targets t at)
   arrival_over bound (Some a) (is, within) = (
@@ -71,12 +77,11 @@ module _ (l m : LabelsMeaning) (forth : IsCovered l m) (back : IsCovered m l) (g
     within,
   )
 
-module _ (l m : LabelsMeaning) (forth : IsCovered l m) (back : IsCovered m l) (g : GraphMeaning) (starts targets : List ℕ) (dep : ℕ) where
   pub labels_over : (bound arrival : Option ℕ) (list : List Label) → AreLeastLabels g l starts dep bound arrival list → AreLeastLabels g m starts dep bound arrival list
   labels_over bound arrival list are = record {
     ascending = are.ascending;
-    least = λ k d lt. let is = are.least k d lt in (least_over l m forth back g starts targets dep _ _ _ is.0, is.1);
-    complete = λ v q t least listed. are.complete v q t (least_over m l back forth g starts targets dep v q t least) listed;
+    least = λ k d lt. let is = are.least k d lt in (least_over _ _ _ is.0, is.1);
+    complete = λ v q t least listed. are.complete v q t (least_back v q t least) listed;
   }
 
 module _ (g : GraphMeaning) (l : LabelsMeaning) (starts targets : List ℕ) (dep : ℕ) where

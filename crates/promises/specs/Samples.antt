@@ -14,7 +14,7 @@ SampleCityIsUnique = (n : ℕ) (one other : NetworkLists) → IsNetwork one → 
 -- Two summaries of one size tell of the same city and the same times. How many labels the searches have over
 -- a hierarchy, `settled`, each tells for itself: that depends on the order in which nodes were contracted, which
 -- is left free.
-pub record AreAlike (n : ℕ) (one other : List ℕ) : Type 0 where
+pub record TellAlike (n : ℕ) (one other : List ℕ) : Type 0 where
   pub city : NetworkLists
   pub times : List (Option ℕ)
   pub settled : ℕ
@@ -23,4 +23,4 @@ pub record AreAlike (n : ℕ) (one other : List ℕ) : Type 0 where
   pub other_is : other ≡ city_text n city ++ times_text times times also_settled
 
 abbrev pub SummariesAreAlike : Type 0
-SummariesAreAlike = (n : ℕ) (one other : List ℕ) → IsSummary n one → IsSummary n other → AreAlike n one other
+SummariesAreAlike = (n : ℕ) (one other : List ℕ) → IsSummary n one → IsSummary n other → TellAlike n one other
