@@ -32,4 +32,5 @@ WhatCertifyPrintsVerifyAccepts = (caps : Caps) (limits : Limits) (files later : 
 abbrev pub WhatCertifyLatestPrintsVerifyLatestAccepts : Type 0
 WhatCertifyLatestPrintsVerifyLatestAccepts = (caps : Caps) (limits : Limits) (files later : Files)
     → (region query name out : List ℕ) → Wrote (SaysCertifyLatest caps limits region query) files out
-    → IsKept files later region name out → IsBlockOf query out ⊎ Succeeds (SaysVerifyLatest caps region name) later
+    → IsKept files later region name out
+    → IsBlockOf query out ⊎ Succeeds (SaysVerifyLatest caps region name) later

@@ -1,4 +1,5 @@
--- What `modeplan answer REGION QUERIES` prints: for each query line, in order, a block that tells what is right.
+-- What `modeplan answer REGION QUERIES` prints: for each query line, in order, a block that tells what is
+-- right.
 use Rattle.std.specs.Prelude.{◌≡◌, ℕ, ◌⊎◌, List, [], ◌∷◌, codes, Some, Ok}
 use Rattle.std.specs.List.{concat}
 use Rattle.plain_texts.specs.Lines.{with_feed}
@@ -63,8 +64,8 @@ EachTellsRight n [] (block ∷ blocks) = ⊥
 EachTellsRight n (line ∷ lines) [] = ⊥
 EachTellsRight n (line ∷ lines) (block ∷ blocks) = TellsRight n line block × EachTellsRight n lines blocks
 
--- The file of the region spells a network, and what is printed are right blocks for the query lines of the other
--- file.
+-- The file of the region spells a network, and what is printed are right blocks for the query lines of the
+-- other file.
 pub record IsPrinted (caps : Caps) (files : Files) (region queries out : List ℕ) : Type 0 where
   pub network : NetworkLists
   pub region_bytes : List ℕ

@@ -11,10 +11,11 @@ use Rattle.planner_core.specs.Outcomes.{IsOutcome}
 
 -- words ask for no two things
 abbrev pub WordsAskOneThing : Type 0
-WordsAskOneThing = (words : List (List ℕ)) (one other : Request) → AsksFor words one → AsksFor words other → one ≡ other
+WordsAskOneThing = (words : List (List ℕ)) (one other : Request)
+    → AsksFor words one → AsksFor words other → one ≡ other
 
--- A run with words that ask for something is as is said of that, or memory runs out before it is known. So each law
--- of what is said of a command is one of the runs that ask for it.
+-- A run with words that ask for something is as is said of that, or memory runs out before it is known. So
+-- each law of what is said of a command is one of the runs that ask for it.
 abbrev pub RunsAreAsAsked : Type 0
 RunsAreAsAsked = (caps : Caps) (words : List (List ℕ)) (r : Request) → AsksFor words r
     → (old new : Scene ⊤) (outcome : Outcome) → IsOutcome caps words old new outcome

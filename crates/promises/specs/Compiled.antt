@@ -17,8 +17,8 @@ abbrev pub IsBuilt : Caps → ObjectLists → FeedLists → DaysMeaning → Resu
 IsBuilt caps objects feed days (Ok n) = IsCompiled caps objects feed days n × (first_fault caps n ≡ None)
 IsBuilt caps objects feed days (Err fault) = HasFault caps objects feed days fault
 
--- The objects of a map, and the feed that some files give, are over some days one region or one fault, and never
--- both.
+-- The objects of a map, and the feed that some files give, are over some days one region or one fault, and
+-- never both.
 abbrev pub CompiledIsUnique : Type 0
 CompiledIsUnique = (caps : Caps) (objects : ObjectLists) → AreObjects objects
     → (files : FeedFiles) (feed : FeedLists) → feed_of caps files ≡ Ok feed → IsFeed feed

@@ -16,14 +16,14 @@ pub record Wrote (S : Saying) (files : Files) (out : List ℕ) : Type 0 where
   pub stood : old.out.bytes ≡ Some before
   pub stands : new.out.bytes ≡ Some (before ++ out)
 
--- Each run of which this is said, with these files, does all of its work where no count of faults rises, unless
--- memory runs out.
+-- Each run of which this is said, with these files, does all of its work where no count of faults rises,
+-- unless memory runs out.
 abbrev pub Succeeds : Saying → Files → Type 0
 Succeeds S files = (old new : Scene ⊤) (outcome : Outcome)
     → old.shelf.files ≡ Some files → IsQuiet old new → S old new outcome → IsDoneOrMemory outcome
 
--- Later the region stands as it did, and this name holds what was written, which is no longer than a file that is
--- read whole may be.
+-- Later the region stands as it did, and this name holds what was written, which is no longer than a file
+-- that is read whole may be.
 pub record IsKept (files later : Files) (region name out : List ℕ) : Type 0 where
   pub region_stays : later region ≡ files region
   pub held : later name ≡ Some out

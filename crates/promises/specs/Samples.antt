@@ -12,8 +12,8 @@ SampleCityIsUnique = (n : ℕ) (one other : NetworkLists) → IsNetwork one → 
     → IsSampleCity n one → IsSampleCity n other → one ≡ other
 
 -- Two summaries of one size tell of the same city and the same times. How many labels the searches have over
--- a hierarchy, `settled`, each tells for itself: that depends on the order in which nodes were contracted, which
--- is left free.
+-- a hierarchy, `settled`, each tells for itself: that depends on the order in which nodes were contracted,
+-- which is left free.
 pub record TellAlike (n : ℕ) (one other : List ℕ) : Type 0 where
   pub city : NetworkLists
   pub times : List (Option ℕ)

@@ -7,8 +7,8 @@ pub fn sample_city_is_unique()
     ensures { SampleCityIsUnique }
 {}
 
-/// Two summaries of one size tell of the same city and the same times. The number behind `settled` may differ: it
-/// depends on the order in which nodes were contracted.
+/// Two summaries of one size tell of the same city and the same times. The number behind `settled` may
+/// differ: it depends on the order in which nodes were contracted.
 pub fn summaries_are_alike()
     ensures { SummariesAreAlike }
 {}

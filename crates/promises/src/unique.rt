@@ -7,8 +7,8 @@ ghost use Rattle.promises.specs.Settled.{SettledIsUnique};
 
 use product_search::stops_are_due;
 
-/// Of one region and one hierarchy `check` has one verdict: it is sound, or one clause is the first that fails,
-/// at one place.
+/// Of one region and one hierarchy `check` has one verdict: it is sound, or one clause is the first that
+/// fails, at one place.
 pub fn check_verdict_is_unique()
     ensures { CheckVerdictIsUnique }
 {}
@@ -24,8 +24,8 @@ pub fn compiled_is_unique()
     ensures { CompiledIsUnique }
 {}
 
-/// For query lines, within limits or without, the searches over a network or over a hierarchy of it have one sum of
-/// labels, which `answer` tells behind `settled`.
+/// For query lines, within limits or without, the searches over a network or over a hierarchy of it have one
+/// sum of labels, which `answer` tells behind `settled`.
 pub fn settled_is_unique()
     ensures { SettledIsUnique }
 {
