@@ -54,16 +54,17 @@ class Commands:
                 (here / path.name).symlink_to(path)
             seen, last = list(self.examples), None
             for fence in page.fences:
+                wanted = WANTS.match(fence.mark)
                 if fence.language or fence.mark.startswith("not run"):
                     last = None
-                elif (wanted := WANTS.match(fence.mark)) and not is_there(wanted[1]):
+                elif wanted and not is_there(wanted[1]):
                     last = UNTRIED
                 elif NOT_RUN.match(fence.lines[0]):
                     last = None
                 elif found := SYNOPSIS.match(fence.lines[0]):
                     yield from self.of_synopsis(page, fence, found[1])
                     last = None
-                elif any(RUN.search(line) for line in fence.lines):
+                elif wanted or any(RUN.search(line) for line in fence.lines):
                     last = self.run(here, fence)
                     seen += last.texts
                     if last.status:
