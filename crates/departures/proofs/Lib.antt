@@ -10,6 +10,7 @@ pub mod StretchLemmas
 pub mod FastestLemmas
 pub mod LeastArcLemmas
 pub mod LeastWalkLemmas
+pub mod StandLemmas
 pub mod WayLemmas
 pub mod LeastLemmas
 pub mod TextLemmas

@@ -10,7 +10,9 @@ ghost use Rattle.departures.specs.LeastArcs.{least_meaning};
 use crate::fastest::{FastestRun, fastest_runs};
 use mode_network::Network;
 use plain_graph::{Plain, PlainArc};
-use search_laws::{GivenRuns, Graph, GraphArc, Leg, Steady, Time, Way, is_open};
+use search_laws::{
+    GivenRuns, Graph, GraphArc, Leg, Steady, Time, Way, is_open, moving_letters,
+};
 use std::alloc::{AllocError, Global};
 use timetable_arcs::Ride;
 
@@ -192,12 +194,13 @@ impl Graph for LeastTimes<'_> {
         given: &mut GivenRuns,
         ways: &mut Vec<Way>,
     ) -> Result<(), AllocError> {
-        let _ = (leaving, state, given.cells.len());
+        let _ = (state, given.cells.len());
+        let moving = moving_letters(letters, leaving, self.plain.network().mode(v));
         let arcs = self.plain.arcs(v);
         let mut first = self.plain.steady(v).count;
         while first < arcs {
             let past = self.plain.past_letter(v, first);
-            self.push_alike(v, first, past, t, letters, ways)?;
+            self.push_alike(v, first, past, t, moving, ways)?;
             first = past;
         }
         Ok(())

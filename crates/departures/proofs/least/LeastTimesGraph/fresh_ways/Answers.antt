@@ -1,10 +1,12 @@
 use Rattle.std.proofs.Common.{◌≡◌, ◌-◌, ◌≤◌, ◌++◌, ◌∙◌, ap, arith}
-use Rattle.search_laws.specs.Ways.{ways_from, ways_past}
+use Rattle.search_laws.specs.Ways.{moving_letters, ways_from, ways_past}
 use Rattle.search_laws.specs.declared.graph.Graph.{rides-default}
-use Rattle.search_laws.proofs.FreshLemmas.{adds_all, adds_moving}
+use Rattle.search_laws.proofs.FreshLemmas.{adds_all, moving_asked}
+use Rattle.mode_network.specs.NetworkLists.{NetworkLists, mode_at}
 use Rattle.plain_graph.specs.PlainArcs.{count_from, arcs_at}
 use Rattle.departures.specs.declared.least.LeastTimes.{LeastTimes}
 use Rattle.departures.specs.LeastArcs.{least_meaning}
+use Rattle.departures.proofs.StandLemmas.{least_stand}
 use Rattle.departures.proofs.WayLemmas.{more_ways}
 use Rattle.departures.proofs.least.LeastTimesGraph.fresh_ways.Goals as goal
 
@@ -20,7 +22,7 @@ loop-first-preserved c =
     record {
       from = from;
       within = c.past_letter-past.ensures.within;
-      ways = more_ways g c.args.v c.args.t c.args.letters (count_from n.arcs c.args.v) c.loop-first.first past c.args.ways.now.items c.loop-first.ways.items c.push_alike.new.ways.items
+      ways = more_ways g c.args.v c.args.t c.moving_letters-moving.result (count_from n.arcs c.args.v) c.loop-first.first past c.args.ways.now.items c.loop-first.ways.items c.push_alike.new.ways.items
           inv.from to inv.ways c.in_ok-push_alike.ensures;
     }
 
@@ -32,8 +34,14 @@ returns c =
     let first = count_from n.arcs c.args.v in
     let inv = c.loop-first.invariant in
     let all : c.loop-first.first ≡ arcs_at n s.plain.timetable.now c.args.v = omega (arith, inv.within, c.loop-first-test.false, c.arcs-arcs.ensures) in
-    let ways = ways_past g c.args.v c.args.t c.args.letters first in
+    let asked : c.moving_letters-moving.result ≡ moving_letters c.args.letters c.args.leaving (mode_at n.roads c.args.v) =
+    c.moving_letters-moving.ensures ∙ ap (moving_letters c.args.letters c.args.leaving) (c.mode.ensures ∙ ap (λ (x : NetworkLists). mode_at x.roads c.args.v) c.network.ensures) in
+    let ways = ways_past g c.args.v c.args.t c.moving_letters-moving.result first in
     let before = c.args.ways.now.items in
-    adds_moving c.args.v c.args.t c.args.leaving (rides-default LeastTimes s) c.args.state c.args.given.now c.args.given.now ways before c.loop-first.ways.items
-    (adds_all (rides-default LeastTimes s) c.args.state c.args.given.now ways before c.loop-first.ways.items
-    (inv.ways ∙ ap (λ k. before ++ ways_from g c.args.v c.args.t c.args.letters first (k - first)) all))
+    (
+      ways,
+      rw asked (moving_asked g c.args.v c.args.t c.args.letters c.args.leaving first (mode_at n.roads c.args.v) (least_stand n s.plain.timetable.now s.runs.items c.args.v c.args.t c.args.leaving)
+          first (arcs_at n s.plain.timetable.now c.args.v - first) (omega arith)),
+      adds_all (rides-default LeastTimes s) c.args.state c.args.given.now ways before c.loop-first.ways.items
+          (inv.ways ∙ ap (λ k. before ++ ways_from g c.args.v c.args.t c.moving_letters-moving.result first (k - first)) all),
+    )
