@@ -11,6 +11,8 @@ pub mod FastestLemmas
 pub mod LeastArcLemmas
 pub mod LeastWalkLemmas
 pub mod StandLemmas
+pub mod BoardLemmas
+pub mod BoardArcLemmas
 pub mod WayLemmas
 pub mod LeastLemmas
 pub mod TextLemmas

@@ -7,6 +7,7 @@ pub mod Listing
 pub mod Fastest
 pub mod Stretches
 pub mod LeastArcs
+pub mod BoardRides
 pub mod LeastWalks
 pub mod LeastLaws
 pub mod Blocks

@@ -1,6 +1,6 @@
 //! A network in which nobody waits for a ride, and each ride takes as long as it does at least.
 
-ghost use Rattle.std.specs.Prelude.{◌≡◌, IfOk};
+ghost use Rattle.std.specs.Prelude.{◌≡◌, ◌&&◌, nat_lt, IfOk};
 ghost use Rattle.search_laws.specs.GraphLaws.{IsLawfulGraph};
 ghost use Rattle.plain_graph.specs.Lawful.{IsLawfulGraph-prop};
 ghost use Rattle.departures.specs.Fastest.{NoneIsFaster};
@@ -14,7 +14,7 @@ use search_laws::{
     GivenRuns, Graph, GraphArc, Leg, Steady, Time, Way, is_open, moving_letters,
 };
 use std::alloc::{AllocError, Global};
-use timetable_arcs::Ride;
+use timetable_arcs::{Call, Ride};
 
 /// The network as a graph whose walks take no longer than journeys do: its arcs are those of [`Plain`], but a ride begins at once and
 /// takes as long as the fastest run of its pattern. What it needs is found once for all lines.
@@ -27,14 +27,16 @@ pub struct LeastTimes<'a> {
 }
 
 impl<'a> LeastTimes<'a> {
-    ghost use Rattle.std.specs.Prelude.{◌≡◌, ◌<◌, ◌≤◌, ◌-◌, ◌^◌, ◌++◌, ℕ, Some, IfOk, OnOk};
+    ghost use Rattle.std.specs.Prelude.{◌≡◌, ◌<◌, ◌≤◌, ◌-◌, ◌^◌, ◌++◌, ◌+◌, ℕ, length, Some, IfOk, OnOk};
     ghost use Rattle.search_laws.specs.Ways.{ways_from};
     ghost use Rattle.timetable_arcs.specs.Table.{IsTable};
     ghost use Rattle.plain_graph.specs.PlainArcs.{graph_arc};
     ghost use Rattle.plain_graph.specs.declared.plain.PlainArc.TheVariants as plain_arcs;
     ghost use Rattle.plain_graph.specs.Rides.{IsRideOf};
     ghost use Rattle.departures.specs.Fastest.{least_ms};
+    ghost use Rattle.mode_network.specs.NetworkLists.{stop_node};
     ghost use Rattle.departures.specs.LeastArcs.{least_meaning};
+    ghost use Rattle.departures.specs.BoardRides.{AddsAlike, ends_from, least_ways};
 
     /// How long the rides of a network take at least. Fails where memory runs out.
     pub fn new(alloc: Global, network: &'a Network) -> Result<LeastTimes<'a>, AllocError>
@@ -130,12 +132,105 @@ impl<'a> LeastTimes<'a> {
             ++ ways_from (least_meaning self.now.plain.network.now self.now.plain.timetable.now self.now.runs.items) v t letters first (past - first)) }
     {
         if is_open(letters, self.plain.arc_at(v, first).letter) {
-            for place in first..past {
-                ways.push(self.way(v, place, t))?;
+            let mut place = first;
+            while place < past {
+                place = self.push_next(v, place, past, t, ways)?;
             }
         }
         Ok(())
     }
+
+    /// Appends the arc at a place of `v`, or where that is a ride, those from the same board that stand from there on before the place
+    /// `past`. Answers the place of the next arc.
+    fn push_next(
+        &self,
+        v: u32,
+        place: u64,
+        past: u64,
+        t: Time,
+        ways: &mut Vec<Way>,
+    ) -> Result<u64, AllocError>
+        requires node { v < (least_meaning self.now.plain.network.now self.now.plain.timetable.now self.now.runs.items).nodes }
+        requires some { place < past }
+        requires within { past ≤ (least_meaning self.now.plain.network.now self.now.plain.timetable.now self.now.runs.items).arcs v }
+        requires time { t < 2 ^ 127 }
+        ensures later { IfOk result (λ next. place < next) }
+        ensures within { IfOk result (λ next. next ≤ past) }
+        ensures ways { IfOk result (λ next. AddsAlike (least_meaning self.now.plain.network.now self.now.plain.timetable.now self.now.runs.items) v t
+            place next ways.old.items ways.new.items) }
+    {
+        self.known();
+        match self.plain.plain_arc(v, place) {
+            PlainArc::Ride(ride) => self.push_rides(ride, place, past, t, ways),
+            _ => {
+                ways.push(self.way(v, place, t))?;
+                Ok(place + 1)
+            }
+        }
+    }
+
+    /// Appends the rides from where this one begins to where it ends and to each later call at which one may alight, as the arcs from a
+    /// place on before the place `past`. Answers the place of the next arc.
+    fn push_rides(
+        &self,
+        ride: Ride,
+        first: u64,
+        past: u64,
+        t: Time,
+        ways: &mut Vec<Way>,
+    ) -> Result<u64, AllocError>
+        requires ride { IsRideOf self.now.plain.timetable.now ride }
+        requires some { first < past }
+        requires time { t < 2 ^ 127 }
+        ensures next { IfOk result (λ next. next ≡ first + length (ends_from self.now.plain.timetable.now ride.pattern ride.alight (past - first))) }
+        ensures ways { OnOk result (ways.new.items ≡ ways.old.items
+            ++ least_ways self.now.plain.network.now self.now.plain.timetable.now self.now.runs.items t ride first
+            (ends_from self.now.plain.timetable.now ride.pattern ride.alight (past - first))) }
+    {
+        let timetable = self.plain.timetable();
+        let calls = timetable.pattern_calls(ride.pattern);
+        let letter = timetable.pattern_letter(ride.pattern);
+        let mut place = first;
+        for alight in ride.alight as usize..calls.len() {
+            if ends_before(&calls[alight], place, past) {
+                let to = Ride {
+                    pattern: ride.pattern,
+                    board: ride.board,
+                    alight: alight as u32,
+                };
+                ways.push(self.ride_way(to, calls[alight].stop, letter, place, t))?;
+                place += 1;
+            }
+        }
+        Ok(place)
+    }
+
+    /// A ride to this stop as the arc at a place.
+    fn ride_way(&self, ride: Ride, stop: u32, letter: u8, place: u64, t: Time) -> Way
+        requires stop { stop < length self.now.plain.network.now.stop_names }
+        requires time { t < 2 ^ 127 }
+        ensures { result ≡ record {
+            place = place;
+            arc = record { to = stop_node self.now.plain.network.now stop; letter = Some letter };
+            at = t + least_ms self.now.runs.items ride;
+        } }
+    {
+        Way {
+            place,
+            arc: GraphArc {
+                to: self.plain.network().stop_node(stop),
+                letter: Some(letter),
+            },
+            at: t + Time::from(self.ride_ms(ride)),
+        }
+    }
+}
+
+/// Whether one may alight at a call, and the ride to it is an arc at a place before `past`.
+fn ends_before(call: &Call, place: u64, past: u64) -> bool
+    ensures { result ≡ call.now.alight && nat_lt place past }
+{
+    call.alight && place < past
 }
 
 impl Graph for LeastTimes<'_> {

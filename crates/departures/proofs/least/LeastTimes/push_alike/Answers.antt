@@ -3,7 +3,7 @@ use Rattle.search_laws.specs.declared.graph.GraphArc.{GraphArc}
 use Rattle.search_laws.specs.Ways.{is_open}
 use Rattle.departures.specs.LeastArcs.{least_meaning}
 use Rattle.plain_graph.proofs.PlaceTies.{nothing_more}
-use Rattle.departures.proofs.WayLemmas.{closed_ways, open_pushed}
+use Rattle.departures.proofs.WayLemmas.{closed_ways, more_ways}
 use Rattle.departures.proofs.least.LeastTimes.push_alike.Goals as goal
 
 pub is_open-requires : goal.is_open-requires
@@ -15,12 +15,19 @@ pub loop-place-preserved : goal.loop-place-preserved
 loop-place-preserved c =
     let s = c.args.self.now in
     let g = least_meaning s.plain.network.now s.plain.timetable.now s.runs.items in
+    let inv = c.loop-place.invariant in
+    let next = c.in_ok-place.place in
+    let later = c.in_ok-place.ensures.later in
     let first : is_open c.args.letters c.arc_at.result.letter ≡ true = sym c.is_open.ensures ∙ c.if-is_open.true in
-    let same = c.requires.alike c.loop-place.place c.loop-place.auto.place c.loop-place-test.true in
+    let same = c.requires.alike c.loop-place.place inv.from c.loop-place-test.true in
     let opens : is_open c.args.letters (g.arc_at c.args.v c.loop-place.place).letter ≡ true =
     ap (is_open c.args.letters) (same ∙ ap (λ (a : GraphArc). a.letter) (sym c.arc_at.ensures)) ∙ first in
-    open_pushed g c.args.v c.args.t c.args.letters c.args.first c.loop-place.place c.args.ways.now.items c.loop-place.ways.items c.push.new.self.items c.way.result
-    c.loop-place.auto.place c.loop-place.invariant opens c.way.ensures.place c.way.ensures.arc c.way.ensures.arrives c.in_ok-push.ensures.items
+    record {
+      from = omega (arith, inv.from, later);
+      within = c.in_ok-place.ensures.within;
+      ways = more_ways g c.args.v c.args.t c.args.letters c.args.first c.loop-place.place next c.args.ways.now.items c.loop-place.ways.items c.push_next.new.ways.items
+          inv.from (omega (arith, later)) inv.ways (c.in_ok-place.ensures.ways c.args.letters opens);
+    }
 
 pub returns-else-is_open : goal.returns-else-is_open
 returns-else-is_open c =

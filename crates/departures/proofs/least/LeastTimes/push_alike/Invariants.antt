@@ -1,8 +1,14 @@
-use Rattle.std.proofs.Common.{◌≡◌, ◌-◌, ◌++◌}
+use Rattle.std.proofs.Common.{◌≡◌, ◌-◌, ◌≤◌, ◌++◌}
 use Rattle.search_laws.specs.Ways.{ways_from}
 use Rattle.departures.specs.LeastArcs.{least_meaning}
 use Rattle.departures.proofs.least.LeastTimes.push_alike.Given as goal
 
 abbrev pub invariant-loop-place : goal.invariant-loop-place
-invariant-loop-place l =
-    l.ways.items ≡ l.initial.ways.items ++ ways_from (least_meaning l.self.plain.network.now l.self.plain.timetable.now l.self.runs.items) l.v l.t l.letters l.first (l.place - l.first)
+invariant-loop-place l = record {
+  from : l.first ≤ l.place;
+  within : l.place ≤ l.past;
+  ways : l.ways.items ≡ l.initial.ways.items ++ ways_from (least_meaning l.self.plain.network.now l.self.plain.timetable.now l.self.runs.items) l.v l.t l.letters l.first (l.place - l.first);
+}
+
+abbrev pub decreases-loop-place : goal.decreases-loop-place
+decreases-loop-place l = l.past - l.place
