@@ -1,15 +1,14 @@
 -- The arcs of a stop from a ride on are the rides from the same board.
-use Rattle.std.proofs.Common.{◌≡◌, ℕ, zero, suc, ◌+◌, ◌-◌, ◌<◌, ◌≤◌, ◌∙◌, ◌++◌, ◌&&◌, Bool, true, false, cond, nat_lt, List, [], ◌∷◌, length, take, drop, Option, Some, None, inl, inr, refl, sym, ap, subst, arith}
+use Rattle.std.proofs.Common.{◌≡◌, ℕ, suc, ◌+◌, ◌-◌, ◌<◌, ◌≤◌, ◌∙◌, ◌++◌, ◌&&◌, true, false, cond, nat_lt, List, [], ◌∷◌, length, drop, Option, Some, None, inl, inr, refl, sym, ap, subst, arith}
 use Rattle.std.specs.Prelude.{slice_index_or, is_some, Ok, Err, IfOk, OnOk}
 use Rattle.std.specs.declared.result.Result.{Result}
-use Rattle.std.proofs.lemmas.Bool.{ltb-false, lt-ltb, le-ltb, cases_lt}
+use Rattle.std.proofs.lemmas.Bool.{lt-ltb, le-ltb, cases_lt}
 use Rattle.std.proofs.lemmas.List.{get_or-take, length-take}
 use Rattle.search_laws.specs.Ways.{is_open, open_way, way_at, ways_from}
-use Rattle.search_laws.specs.declared.graph.GraphArc.{GraphArc}
 use Rattle.search_laws.specs.declared.graph.Way.{Way}
 use Rattle.timetable_arcs.specs.declared.rides.Ride.{Ride as RideCalls}
 use Rattle.timetable_arcs.specs.Patterns.{TableLists, pattern_trip}
-use Rattle.timetable_arcs.specs.Rides.{rides_at, alights, IsRideAt}
+use Rattle.timetable_arcs.specs.Rides.{rides_at, alights}
 use Rattle.timetable_arcs.specs.Table.{IsTable}
 use Rattle.mode_network.specs.declared.nodes.Arc.{Arc}
 use Rattle.mode_network.specs.NetworkLists.{NetworkLists, mode_at, stop_at}

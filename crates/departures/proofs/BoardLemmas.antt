@@ -1,12 +1,10 @@
 -- The rides from one board stand one behind another among the arcs of a stop.
-use Rattle.std.proofs.Common.{◌≡◌, ℕ, zero, suc, ◌+◌, ◌-◌, ◌<◌, ◌≤◌, ◌∙◌, ◌++◌, ◌&&◌, Bool, true, false, cond, nat_lt, List, [], ◌∷◌, length, map, take, drop, Option, Some, None, inl, inr, refl, sym, ap, subst, append_assoc, append-nil, length-append, arith}
+use Rattle.std.proofs.Common.{◌≡◌, ℕ, zero, suc, ◌+◌, ◌-◌, ◌<◌, ◌≤◌, ◌∙◌, ◌++◌, ◌&&◌, Bool, true, false, cond, nat_lt, List, [], ◌∷◌, length, map, take, drop, inl, inr, refl, sym, ap, subst, append_assoc, length-append, arith}
 use Rattle.std.specs.Prelude.{slice_index_or}
 use Rattle.std.specs.List.{flat_map}
 use Rattle.std.proofs.Math.Seq.{drop-append-add}
-use Rattle.std.proofs.lemmas.Bool.{ltb-true, ltb-false, lt-ltb, le-ltb, cases_lt}
-use Rattle.std.proofs.lemmas.List.{get_or_append_left, get_or-append-add, get_or-drop, get_or-map, drop-map, drop-append-le, drop-drop, drop_more, drop_all, length-map}
-use Rattle.search_laws.specs.GraphLaws.{GraphMeaning}
-use Rattle.search_laws.specs.Ways.{is_open, open_way, way_at, ways_from}
+use Rattle.std.proofs.lemmas.Bool.{ltb-true, ltb-false, cases_lt}
+use Rattle.std.proofs.lemmas.List.{get_or_append_left, get_or-append-add, get_or-drop, get_or-map, drop-map, drop-append-le, drop-drop, drop_more, length-map}
 use Rattle.search_laws.specs.declared.graph.Way.{Way}
 use Rattle.timetable_arcs.specs.declared.trips.Call.{Call}
 use Rattle.timetable_arcs.specs.declared.rides.Board.{Board}
@@ -16,11 +14,8 @@ use Rattle.timetable_arcs.specs.Rides.{rides_at, boards_at, alights}
 use Rattle.timetable_arcs.proofs.RideLemmas.{rides_on, from_rides}
 use Rattle.mode_network.specs.NetworkLists.{NetworkLists}
 use Rattle.mode_network.proofs.RuleLemmas.{both}
-use Rattle.plain_graph.specs.declared.plain.PlainArc.{PlainArc}
-use Rattle.plain_graph.specs.declared.plain.PlainArc.TheVariants.{Ride}
-use Rattle.plain_graph.specs.PlainArcs.{plain_arc, graph_arc, no_ride, pattern_call}
+use Rattle.plain_graph.specs.PlainArcs.{no_ride, pattern_call}
 use Rattle.departures.specs.declared.fastest.FastestCall.{FastestCall}
-use Rattle.departures.specs.LeastArcs.{least_arrival, least_meaning}
 use Rattle.departures.specs.BoardRides.{ride_to, least_way, least_ways, ends_from}
 
 -- ---- the calls at which one may alight
@@ -123,13 +118,6 @@ module _ (t : TableLists) where
 -- ---- a loop over the calls
 
 module _ (t : TableLists) (p : ℕ) where
-  none_of : (m : ℕ) (xs : List ℕ) → xs ≡ [] → take m xs ≡ []
-  none_of zero xs none = refl
-  none_of (suc m) xs none = rw none refl
-
-  pub no_ends : (k m : ℕ) → length (pattern_trip t p).calls ≤ k → ends_from t p k m ≡ []
-  no_ends k m past = none_of m (alights k (drop k (pattern_trip t p).calls)) (ap (alights k) (drop_all k (pattern_trip t p).calls past))
-
   -- one call more
   pub one_end : (k place past : ℕ) (b : Bool) → k < length (pattern_trip t p).calls → ((pattern_call t p k).alight && nat_lt place past) ≡ b
       → ends_from t p k (past - place) ≡ cond b (k ∷ ends_from t p (k + 1) (past - (place + 1))) (ends_from t p (k + 1) (past - place))
@@ -169,9 +157,6 @@ module _ (n : NetworkLists) (t : TableLists) (runs : List (List FastestCall)) (t
     pub next : place + length (ends k (past - place)) ≡ first + length (ends ride.alight (past - first))
     pub ways : now ++ ways_to place (ends k (past - place)) ≡ before ++ ways_to first (ends ride.alight (past - first))
 
-  pub begins : (first past : ℕ) (before : List Way) → first < past → IsUnderWay first past ride.alight first before before
-  begins first past before some = record { to = omega (arith, some); next = refl; ways = refl }
-
   -- no ride to a call
   pub passes : (first past k place : ℕ) (before now : List Way) → k < length (pattern_trip t ride.pattern).calls → ((pattern_call t ride.pattern k).alight && nat_lt place past) ≡ false
       → IsUnderWay first past k place before now → IsUnderWay first past (k + 1) place before now
@@ -199,11 +184,3 @@ module _ (n : NetworkLists) (t : TableLists) (runs : List (List FastestCall)) (t
         ways = append_assoc now (way ∷ []) (ways_to (place + 1) more) ∙ ap (λ (w : Way). now ++ w ∷ ways_to (place + 1) more) at
             ∙ sym (ap (λ (xs : List ℕ). now ++ ways_to place xs) same) ∙ is.ways;
       }
-
-  pub ends_here : (first past k place : ℕ) (before now : List Way) → length (pattern_trip t ride.pattern).calls ≤ k → IsUnderWay first past k place before now
-      → (place ≡ first + length (ends ride.alight (past - first))) × (now ≡ before ++ ways_to first (ends ride.alight (past - first)))
-  ends_here first past k place before now le is =
-      let none = no_ends t ride.pattern k (past - place) le in
-      let count = ap (λ (xs : List ℕ). place + length xs) none in
-      let was = is.next in
-      (omega (arith, count, was), sym (append-nil now) ∙ sym (ap (λ (xs : List ℕ). now ++ ways_to place xs) none) ∙ is.ways)

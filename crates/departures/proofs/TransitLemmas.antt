@@ -1,5 +1,5 @@
 -- An automaton that reads no letter of transit accepts no word with one.
-use Rattle.std.proofs.Common.{◌≡◌, ℕ, ◌^◌, ◌<◌, ◌≤◌, ◌⊎◌, List, [], ◌∷◌, inl, inr, refl, subst, arith}
+use Rattle.std.proofs.Common.{◌≡◌, ℕ, ◌<◌, ◌≤◌, ◌⊎◌, List, [], ◌∷◌, inl, inr, refl, subst, arith}
 use Rattle.std.specs.Prelude.{bit_and, IsBitSet}
 use Rattle.search_laws.specs.LabelLaws.{LabelsMeaning, IsLawfulLabels, Reads, Accepts}
 use Rattle.automaton.specs.CollapsedLaws.{set_and, no_bits, transit_set, letter_below}

@@ -1,5 +1,5 @@
 -- Ways by arcs of one letter.
-use Rattle.std.proofs.Common.{◌≡◌, ℕ, zero, suc, ◌+◌, ◌-◌, ◌<◌, ◌≤◌, ◌∙◌, ◌++◌, List, [], ◌∷◌, Bool, false, true, Some, refl, sym, ap, append_assoc, arith}
+use Rattle.std.proofs.Common.{◌≡◌, ℕ, zero, suc, ◌+◌, ◌-◌, ◌<◌, ◌≤◌, ◌∙◌, ◌++◌, List, [], ◌∷◌, false, true, Some, refl, sym, ap, append_assoc, arith}
 use Rattle.search_laws.specs.GraphLaws.{GraphMeaning}
 use Rattle.search_laws.specs.Ways.{is_open, open_way, ways_from}
 use Rattle.search_laws.specs.declared.graph.GraphArc.{GraphArc}

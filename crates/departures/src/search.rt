@@ -134,6 +134,9 @@ impl<'a> RideSearch<'a> {
         ensures { IfOk result (λ may. may ≡ false → NoneTakesLess (network_of self.now) (asked_of self.now) c) }
     {
         least.known();
+        if !self.reads_transit {
+            return Ok(false);
+        }
         if c == 0 {
             return Ok(false);
         }

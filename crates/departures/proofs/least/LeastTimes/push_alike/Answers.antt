@@ -1,4 +1,4 @@
-use Rattle.std.proofs.Common.{◌≡◌, ◌<◌, ◌∙◌, ◌++◌, List, true, false, sym, ap, arith}
+use Rattle.std.proofs.Common.{◌≡◌, ◌∙◌, true, false, sym, ap, arith}
 use Rattle.search_laws.specs.declared.graph.GraphArc.{GraphArc}
 use Rattle.search_laws.specs.Ways.{is_open}
 use Rattle.departures.specs.LeastArcs.{least_meaning}

@@ -1,7 +1,5 @@
 use Rattle.std.proofs.Common.{◌≡◌, ◌+◌, ◌-◌, ◌<◌, ◌≤◌, ◌++◌, length, sym, arith}
 use Rattle.std.proofs.lemmas.Result.{IfOk-weaker}
-use Rattle.plain_graph.specs.declared.plain.PlainArc.TheVariants.{Ride}
-use Rattle.plain_graph.specs.PlainArcs.{plain_arc}
 use Rattle.departures.specs.LeastArcs.{least_meaning}
 use Rattle.departures.specs.BoardRides.{ends_from, least_ways, AddsAlike}
 use Rattle.departures.proofs.BoardArcLemmas.{count_within, one_at_least, adds_rides, if_both}

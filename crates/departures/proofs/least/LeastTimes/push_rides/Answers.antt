@@ -1,4 +1,4 @@
-use Rattle.std.proofs.Common.{◌≡◌, ◌<◌, ◌&&◌, nat_lt, true, false, length, ◌∙◌, sym}
+use Rattle.std.proofs.Common.{◌≡◌, ◌<◌, ◌&&◌, nat_lt, length, ◌∙◌, sym}
 use Rattle.timetable_arcs.specs.Patterns.{pattern_trip}
 use Rattle.plain_graph.specs.PlainArcs.{pattern_call}
 use Rattle.plain_graph.proofs.RunLemmas.{call_at_stop}

@@ -1,7 +1,4 @@
 use Rattle.plain_graph.proofs.RunLemmas.{ends_at_stop}
-use Rattle.std.proofs.Common.{sym, subst}
-use Rattle.timetable_arcs.specs.Patterns.{TableLists}
-use Rattle.plain_graph.specs.Rides.{IsRideOf}
 use Rattle.departures.proofs.least.LeastTimes.ride_arc.Goals as goal
 
 pub stop_node-requires : goal.stop_node-requires

@@ -1,10 +1,11 @@
-use Rattle.std.proofs.Common.{◌≡◌, ◌∙◌, List, ℕ, false, sym, subst, arith}
-use Rattle.std.specs.Prelude.{is_some}
+use Rattle.std.proofs.Common.{◌∙◌, sym, subst, arith}
 use Rattle.mode_network.specs.NetworkLists.{NetworkLists}
 use Rattle.journey.specs.Best.{asked_by}
 use Rattle.journey.specs.CopyLists.{AreTheCopies}
 use Rattle.departures.specs.Searching.{labels_of, NoneTakesLess}
+use Rattle.departures.proofs.FirstLemmas.{none_accepted}
 use Rattle.departures.proofs.LeastLemmas.{none_found}
+use Rattle.departures.proofs.OrderLemmas.{not_before}
 use Rattle.departures.proofs.ReaderLemmas.{pair_rises}
 use Rattle.departures.proofs.search.RideSearch.may_take_less.Goals as goal
 
@@ -30,3 +31,12 @@ returns-then-c-eq0 c off p pair =
     let s = c.args.self.now in
     let rises = pair_rises s.plain.network.now s.plain.kept (asked_by s.query.now) p pair in
     omega (arith, c.if-c-eq0.true, rises)
+
+pub returns-then-not-self : goal.returns-then-not-self
+returns-then-not-self c off p pair =
+    let s = c.args.self.now in
+    let n = s.plain.network.now in
+    let q = asked_by s.query.now in
+    absurd (none_accepted n s.plain.kept s.plain.timetable.now q (labels_of s) s.origins.items s.destinations.items
+    c.requires.search.reads c.requires.search.journeys c.requires.search.origin c.requires.search.destination q.depart (omega arith) (c.requires.search.none c.if-not-self.true)
+    p pair (not_before n q p pair))
