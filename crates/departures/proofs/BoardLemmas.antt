@@ -82,11 +82,11 @@ module _ (t : TableLists) where
   boards_go_on [] k lt = absurd (omega arith)
   boards_go_on (b ∷ boards) k lt = elim (cases_lt k (length (rides_on t b))) [
     | inl here ↦ record {
-        rest = flat_map (rides_on t) boards;
-        is = drop-append-le k (rides_on t b) (flat_map (rides_on t) boards) (omega (arith, here))
-        ∙ ap (λ (rides : List RideCalls). rides ++ flat_map (rides_on t) boards)
-        (board_goes_on b k here ∙ ap rides_from (sym (get_or_append_left (rides_on t b) (flat_map (rides_on t) boards) no_ride k here)));
-      }
+      rest = flat_map (rides_on t) boards;
+      is = drop-append-le k (rides_on t b) (flat_map (rides_on t) boards) (omega (arith, here))
+          ∙ ap (λ (rides : List RideCalls). rides ++ flat_map (rides_on t) boards)
+          (board_goes_on b k here ∙ ap rides_from (sym (get_or_append_left (rides_on t b) (flat_map (rides_on t) boards) no_ride k here)));
+    }
     | inr past ↦ (let j = k - length (rides_on t b) in
         let sums = length-append (rides_on t b) (flat_map (rides_on t) boards) in
         let at : length (rides_on t b) + j ≡ k = omega (arith, past) in

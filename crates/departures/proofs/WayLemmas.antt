@@ -1,10 +1,9 @@
 -- Ways by arcs of one letter.
-use Rattle.std.proofs.Common.{◌≡◌, ℕ, zero, suc, ◌+◌, ◌-◌, ◌<◌, ◌≤◌, ◌∙◌, ◌++◌, List, [], ◌∷◌, false, true, Some, refl, sym, ap, append_assoc, arith}
+use Rattle.std.proofs.Common.{◌≡◌, ℕ, zero, suc, ◌+◌, ◌-◌, ◌<◌, ◌≤◌, ◌∙◌, ◌++◌, List, [], false, refl, sym, ap, append_assoc, arith}
 use Rattle.search_laws.specs.GraphLaws.{GraphMeaning}
-use Rattle.search_laws.specs.Ways.{is_open, open_way, ways_from}
-use Rattle.search_laws.specs.declared.graph.GraphArc.{GraphArc}
+use Rattle.search_laws.specs.Ways.{is_open, ways_from}
 use Rattle.search_laws.specs.declared.graph.Way.{Way}
-use Rattle.search_laws.proofs.WayLemmas.{ways_split, ways_pushed}
+use Rattle.search_laws.proofs.WayLemmas.{ways_split}
 
 module _ (g : GraphMeaning) (v t letters : ℕ) where
   -- by a letter outside the set there are none
@@ -16,16 +15,6 @@ module _ (g : GraphMeaning) (v t letters : ℕ) where
       → is_open letters (g.arc_at v first).letter ≡ false → ways_from g v t letters first (past - first) ≡ []
   closed_ways first past some alike closed =
       none_open first (past - first) (λ k from to. ap (is_open letters) (alike k from (omega arith)) ∙ closed)
-
-  pub open_pushed : (first i : ℕ) (before now next : List Way) (way : Way) → first ≤ i → now ≡ before ++ ways_from g v t letters first (i - first)
-      → is_open letters (g.arc_at v i).letter ≡ true → way.place ≡ i → way.arc ≡ g.arc_at v i → Some way.at ≡ g.arrive v i t → next ≡ now ++ way ∷ []
-      → next ≡ before ++ ways_from g v t letters first (i + 1 - first)
-  open_pushed first i before now next way from was opens place arc at push =
-      ways_pushed g v t letters first i before now next way.arc (Some way.at) from was arc at
-      (push ∙ ap (λ (ws : List Way). now ++ ws) (sym (opened way i place (ap (λ (a : GraphArc). is_open letters a.letter) arc ∙ opens))))
-    where
-      opened : (way : Way) (i : ℕ) → way.place ≡ i → is_open letters way.arc.letter ≡ true → open_way letters i way.arc (Some way.at) ≡ way ∷ []
-      opened way i place opens = rw opens (ap (λ k. record { place = k; arc = way.arc; at = way.at } ∷ []) (sym place))
 
   pub more_ways : (first i past : ℕ) (before now next : List Way) → first ≤ i → i ≤ past → now ≡ before ++ ways_from g v t letters first (i - first)
       → next ≡ now ++ ways_from g v t letters i (past - i) → next ≡ before ++ ways_from g v t letters first (past - first)

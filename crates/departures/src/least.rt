@@ -10,9 +10,7 @@ ghost use Rattle.departures.specs.LeastArcs.{least_meaning};
 use crate::fastest::{FastestRun, fastest_runs};
 use mode_network::Network;
 use plain_graph::{Plain, PlainArc};
-use search_laws::{
-    GivenRuns, Graph, GraphArc, Leg, Steady, Time, Way, is_open, moving_letters,
-};
+use search_laws::{GivenRuns, Graph, GraphArc, Leg, Steady, Time, Way, is_open, moving_letters};
 use std::alloc::{AllocError, Global};
 use timetable_arcs::{Call, Ride};
 
@@ -210,9 +208,9 @@ impl<'a> LeastTimes<'a> {
         requires stop { stop < length self.now.plain.network.now.stop_names }
         requires time { t < 2 ^ 127 }
         ensures { result ≡ record {
-            place = place;
-            arc = record { to = stop_node self.now.plain.network.now stop; letter = Some letter };
-            at = t + least_ms self.now.runs.items ride;
+          place = place;
+          arc = record { to = stop_node self.now.plain.network.now stop; letter = Some letter };
+          at = t + least_ms self.now.runs.items ride;
         } }
     {
         Way {

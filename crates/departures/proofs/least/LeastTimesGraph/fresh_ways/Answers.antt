@@ -37,8 +37,7 @@ returns c =
     let asked : c.moving_letters-moving.result ≡ moving_letters c.args.letters c.args.leaving (mode_at n.roads c.args.v) =
     c.moving_letters-moving.ensures ∙ ap (moving_letters c.args.letters c.args.leaving) (c.mode.ensures ∙ ap (λ (x : NetworkLists). mode_at x.roads c.args.v) c.network.ensures) in
     let ways = ways_past g c.args.v c.args.t c.moving_letters-moving.result first in
-    let before = c.args.ways.now.items in
-    (
+    let before = c.args.ways.now.items in (
       ways,
       rw asked (moving_asked g c.args.v c.args.t c.args.letters c.args.leaving first (mode_at n.roads c.args.v) (least_stand n s.plain.timetable.now s.runs.items c.args.v c.args.t c.args.leaving)
           first (arcs_at n s.plain.timetable.now c.args.v - first) (omega arith)),
