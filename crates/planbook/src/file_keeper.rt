@@ -1,13 +1,15 @@
-//! A keeper over the file of a book. It opens the file at the first call, waits for one that is held, and makes one only to keep
-//! something.
+//! A keeper over the file of a book. It opens the file at the first call, waits for one that is held, makes one only to keep
+//! something, and reads a copy of one that it may not write.
 
 ghost use Rattle.journey_book.specs.Working.{IsRefusal};
 
+use crate::copy::open_copy;
 use crate::paths::{Found, log_path, look_at};
 use journey_book::{BookOutcome, KeepFault, Keeper, Refusal, SqliteKeeper};
 use plan_base::{StreamSink, write_all};
 use run_steps::Outcome;
 use sqlite::{Connection, Error, ErrorCode, File, FileStore};
+use sqlite_disk::Memory;
 use std::alloc::AllocError;
 use std::time::Duration;
 use std::{fs, thread};
@@ -25,13 +27,24 @@ pub struct FileKeeper<'a> {
     faults: u64,
 }
 
-/// The file of a book, what stood there before, and the open book.
+/// What a book is opened for.
+#[derive(Clone, Copy, PartialEq, Eq)]
+enum Purpose {
+    /// To keep something; where there is no book it is made.
+    Keep,
+    /// To remove something.
+    Drop,
+    Read,
+}
+
+/// The file of a book, what stood there before, and the open book, or the copy that is read in its place.
 #[derive(Drop)]
 struct BookFile<'a> {
     rt: &'a HostRuntime,
     path: &'a str,
     before: Found,
     book: Option<SqliteKeeper<FileStore<File>>>,
+    copy: Option<SqliteKeeper<FileStore<Memory>>>,
 }
 
 impl<'a> FileKeeper<'a> {
@@ -42,6 +55,7 @@ impl<'a> FileKeeper<'a> {
             path,
             before: Found::Nothing,
             book: None,
+            copy: None,
         };
         FileKeeper { file, faults: 0 }
     }
@@ -66,9 +80,9 @@ impl<'a> FileKeeper<'a> {
 }
 
 impl BookFile<'_> {
-    /// Opens the book, if it is not open. Where there is none it is made, if that is asked for.
-    fn open(&mut self, makes: bool) -> Result<(), KeepFault> {
-        if self.book.is_some() {
+    /// Opens the book, if it is not open.
+    fn open(&mut self, purpose: Purpose) -> Result<(), KeepFault> {
+        if self.book.is_some() || self.copy.is_some() {
             return Ok(());
         }
         self.before = look_at(self.rt, self.path)?;
@@ -77,39 +91,59 @@ impl BookFile<'_> {
                 self.tell("this file is no database, and so no book");
                 Err(KeepFault::Failed)
             }
-            Found::Nothing if !makes => {
+            Found::Nothing if purpose != Purpose::Keep => {
                 self.tell("there is no such book; keep makes one");
                 Ok(())
             }
-            _ => self.connect(),
+            _ => self.connect(purpose),
         }
     }
 
-    fn connect(&mut self) -> Result<(), KeepFault> {
+    fn connect(&mut self, purpose: Purpose) -> Result<(), KeepFault> {
         match open_free(self.rt, self.path) {
             Ok(connection) => {
                 self.book = Some(SqliteKeeper::adopt(self.rt.alloc(), connection));
                 Ok(())
             }
-            Err(Error::SqliteFailure(ErrorCode::OutOfMemory)) => Err(KeepFault::OutOfMemory),
-            Err(Error::SqliteFailure(ErrorCode::DatabaseBusy)) => {
+            Err(Error::SqliteFailure(ErrorCode::CannotOpen)) if purpose == Purpose::Read => {
+                self.connect_copy()
+            }
+            Err(error) => Err(self.unopened(error)),
+        }
+    }
+
+    fn connect_copy(&mut self) -> Result<(), KeepFault> {
+        match copy_free(self.rt, self.path) {
+            Ok(connection) => {
+                self.copy = Some(SqliteKeeper::adopt(self.rt.alloc(), connection));
+                Ok(())
+            }
+            Err(error) => Err(self.unopened(error)),
+        }
+    }
+
+    /// Tells why the book can't be opened.
+    fn unopened(&self, error: Error) -> KeepFault {
+        match error {
+            Error::SqliteFailure(ErrorCode::OutOfMemory) => KeepFault::OutOfMemory,
+            Error::SqliteFailure(ErrorCode::DatabaseBusy) => {
                 self.tell(
                     "another process holds this book, and has not let it go for five seconds",
                 );
-                Err(KeepFault::Failed)
+                KeepFault::Failed
             }
-            Err(error) => {
+            _ => {
                 self.tell_why(Refusal::Database(error));
                 if is_no_database(error) {
                     self.remove_log();
                 }
-                Err(KeepFault::Failed)
+                KeepFault::Failed
             }
         }
     }
 
     fn put(&mut self, name: &str, body: &[u8]) -> Result<(), KeepFault> {
-        self.open(true)?;
+        self.open(Purpose::Keep)?;
         match &mut self.book {
             Some(book) => book.put(name, body),
             None => Err(KeepFault::Failed),
@@ -117,7 +151,7 @@ impl BookFile<'_> {
     }
 
     fn remove(&mut self, name: &str) -> Result<bool, KeepFault> {
-        self.open(false)?;
+        self.open(Purpose::Drop)?;
         match &mut self.book {
             Some(book) => book.remove(name),
             None => Ok(false),
@@ -125,17 +159,23 @@ impl BookFile<'_> {
     }
 
     fn get(&mut self, name: &str) -> Result<Option<Vec<u8>>, KeepFault> {
-        self.open(false)?;
-        match &mut self.book {
-            Some(book) => book.get(name),
+        self.open(Purpose::Read)?;
+        if let Some(book) = &mut self.book {
+            return book.get(name);
+        }
+        match &mut self.copy {
+            Some(copy) => copy.get(name),
             None => Ok(None),
         }
     }
 
     fn names(&mut self) -> Result<Vec<String>, KeepFault> {
-        self.open(false)?;
-        match &mut self.book {
-            Some(book) => book.names(),
+        self.open(Purpose::Read)?;
+        if let Some(book) = &mut self.book {
+            return book.names();
+        }
+        match &mut self.copy {
+            Some(copy) => copy.names(),
             None => Ok(Vec::new(self.rt.alloc())),
         }
     }
@@ -143,6 +183,11 @@ impl BookFile<'_> {
     /// The log that stands beside the file is copied into it, where that can be done; else the two belong together. What is no
     /// book is left as it was.
     fn close(mut self, outcome: BookOutcome) {
+        if let Some(copy) = &self.copy {
+            if let Some(why) = copy.why() {
+                self.tell_why(why);
+            }
+        }
         let Some(book) = self.book.take() else {
             return;
         };
@@ -200,6 +245,19 @@ fn open_free(rt: &HostRuntime, path: &str) -> Result<Connection<FileStore<File>>
         }
     }
     Connection::open(rt, path)
+}
+
+/// Opens a copy of a database. One that another process holds is waited for.
+fn copy_free(rt: &HostRuntime, path: &str) -> Result<Connection<FileStore<Memory>>, Error> {
+    for _ in 1..TRIES {
+        match open_copy(rt, path) {
+            Err(Error::SqliteFailure(ErrorCode::DatabaseBusy)) => {
+                thread::sleep(rt, Duration::from_millis(PAUSE));
+            }
+            opened => return opened,
+        }
+    }
+    open_copy(rt, path)
 }
 
 /// Whether a file was refused for what it holds.

@@ -1,6 +1,7 @@
 //! `planbook`: runs a command of the journey book over a database in a file, the file system, standard output and standard error.
 #![tactic(auto)]
 
+mod copy;
 mod file_keeper;
 mod notes;
 mod paths;
