@@ -138,8 +138,8 @@ impl<'a> LeastTimes<'a> {
         Ok(())
     }
 
-    /// Appends the arc at a place of `v`, or where that is a ride, those from the same board that stand from there on before the place
-    /// `past`. Answers the place of the next arc.
+    /// Appends the arc at a place of `v`, or where that is a ride, those from the same board that stand from there
+    /// on before the place `past`. Answers the place of the next arc.
     fn push_next(
         &self,
         v: u32,
@@ -154,8 +154,9 @@ impl<'a> LeastTimes<'a> {
         requires time { t < 2 ^ 127 }
         ensures later { IfOk result (λ next. place < next) }
         ensures within { IfOk result (λ next. next ≤ past) }
-        ensures ways { IfOk result (λ next. AddsAlike (least_meaning self.now.plain.network.now self.now.plain.timetable.now self.now.runs.items) v t
-            place next ways.old.items ways.new.items) }
+        ensures ways { IfOk result (λ next. AddsAlike
+            (least_meaning self.now.plain.network.now self.now.plain.timetable.now self.now.runs.items)
+            v t place next ways.old.items ways.new.items) }
     {
         self.known();
         match self.plain.plain_arc(v, place) {
@@ -167,8 +168,8 @@ impl<'a> LeastTimes<'a> {
         }
     }
 
-    /// Appends the rides from where this one begins to where it ends and to each later call at which one may alight, as the arcs from a
-    /// place on before the place `past`. Answers the place of the next arc.
+    /// Appends the rides from where this one begins to where it ends and to each later call at which one may
+    /// alight, as the arcs from a place on before the place `past`. Answers the place of the next arc.
     fn push_rides(
         &self,
         ride: Ride,
@@ -180,10 +181,11 @@ impl<'a> LeastTimes<'a> {
         requires ride { IsRideOf self.now.plain.timetable.now ride }
         requires some { first < past }
         requires time { t < 2 ^ 127 }
-        ensures next { IfOk result (λ next. next ≡ first + length (ends_from self.now.plain.timetable.now ride.pattern ride.alight (past - first))) }
+        ensures next { IfOk result (λ next. next ≡ first
+            + length (ends_from self.now.plain.timetable.now ride.pattern ride.alight (past - first))) }
         ensures ways { OnOk result (ways.new.items ≡ ways.old.items
-            ++ least_ways self.now.plain.network.now self.now.plain.timetable.now self.now.runs.items t ride first
-            (ends_from self.now.plain.timetable.now ride.pattern ride.alight (past - first))) }
+            ++ least_ways self.now.plain.network.now self.now.plain.timetable.now self.now.runs.items
+            t ride first (ends_from self.now.plain.timetable.now ride.pattern ride.alight (past - first))) }
     {
         let timetable = self.plain.timetable();
         let calls = timetable.pattern_calls(ride.pattern);
