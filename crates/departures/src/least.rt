@@ -28,9 +28,9 @@ impl<'a> LeastTimes<'a> {
     ghost use Rattle.std.specs.Prelude.{◌≡◌, ◌<◌, ◌≤◌, ◌-◌, ◌^◌, ◌++◌, ◌+◌, ℕ, length, Some, IfOk, OnOk};
     ghost use Rattle.search_laws.specs.Ways.{ways_from};
     ghost use Rattle.timetable_arcs.specs.Table.{IsTable};
-    ghost use Rattle.plain_graph.specs.PlainArcs.{graph_arc};
+    ghost use Rattle.plain_graph.specs.PlainArcs.{graph_arc, plain_arc};
     ghost use Rattle.plain_graph.specs.declared.plain.PlainArc.TheVariants as plain_arcs;
-    ghost use Rattle.plain_graph.specs.Rides.{IsRideOf};
+    ghost use Rattle.plain_graph.specs.Rides.{IsRideOf, IsKnownRide};
     ghost use Rattle.departures.specs.Fastest.{least_ms};
     ghost use Rattle.mode_network.specs.NetworkLists.{stop_node};
     ghost use Rattle.departures.specs.LeastArcs.{least_meaning};
@@ -83,17 +83,17 @@ impl<'a> LeastTimes<'a> {
         }
     }
 
-    /// The arc at a place of `v`, and when it arrives.
-    fn way(&self, v: u32, place: u64, t: Time) -> Way
-        requires node { v < (least_meaning self.now.plain.network.now self.now.plain.timetable.now self.now.runs.items).nodes }
-        requires arc { place < (least_meaning self.now.plain.network.now self.now.plain.timetable.now self.now.runs.items).arcs v }
+    /// This arc, which is the one at a place of `v`, and when it arrives.
+    fn way(&self, v: u32, place: u64, arc: PlainArc, t: Time) -> Way
+        requires arc { arc ≡ plain_arc self.now.plain.network.now self.now.plain.timetable.now v place }
+        requires ride { IsKnownRide self.now.plain.timetable.now arc }
         requires time { t < 2 ^ 127 }
         ensures place { result.place ≡ place }
         ensures arc { result.arc ≡ (least_meaning self.now.plain.network.now self.now.plain.timetable.now self.now.runs.items).arc_at v place }
         ensures arrives { Some result.at ≡ (least_meaning self.now.plain.network.now self.now.plain.timetable.now self.now.runs.items).arrive v place t }
     {
         let mode = self.plain.network().mode(v);
-        let (to, letter, at) = match self.plain.plain_arc(v, place) {
+        let (to, letter, at) = match arc {
             PlainArc::Road(arc) => (arc.to, mode, t + Time::from(arc.ms)),
             PlainArc::Link(link) => (link.to, None, t + Time::from(link.ms)),
             PlainArc::Stand => (v, mode, t),
@@ -161,8 +161,8 @@ impl<'a> LeastTimes<'a> {
         self.known();
         match self.plain.plain_arc(v, place) {
             PlainArc::Ride(ride) => self.push_rides(ride, place, past, t, ways),
-            _ => {
-                ways.push(self.way(v, place, t))?;
+            arc => {
+                ways.push(self.way(v, place, arc, t))?;
                 Ok(place + 1)
             }
         }
