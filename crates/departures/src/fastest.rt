@@ -1,9 +1,9 @@
 //! How long rides take at least.
 
-ghost use Rattle.std.specs.Prelude.{◌≡◌, ◌<◌, ℕ, length, IfOk};
+ghost use Rattle.std.specs.Prelude.{◌≡◌, ◌<◌, ◌-◌, ◌*◌, ◌^◌, ℕ, length, IfOk};
 ghost use Rattle.timetable_arcs.specs.declared.trips.Instance.{Instance};
 ghost use Rattle.timetable_arcs.specs.Patterns.{IsIn, trip_at};
-ghost use Rattle.departures.specs.Fastest.{NoneIsFaster};
+ghost use Rattle.departures.specs.Fastest.{NoneIsFaster, fastest_call};
 ghost use Rattle.departures.specs.Stretches.{stretch_at, shortened, AreShortened, AreWithin, calls_from};
 
 use std::alloc::{AllocError, Global};
@@ -128,21 +128,36 @@ pub(crate) fn fastest_runs(
     Ok(runs)
 }
 
+/// The call of a run at this place; both times are 0 where there is none.
+pub(crate) fn fastest_call(run: &[FastestCall], place: u32) -> FastestCall
+    ensures { result ≡ fastest_call run.now place }
+{
+    match run.get(place as usize) {
+        Some(call) => *call,
+        None => FastestCall {
+            arrive: 0,
+            depart: 0,
+        },
+    }
+}
+
+/// How many milliseconds a run rides that departs then, up to a call.
+pub(crate) fn ms_to(run: &[FastestCall], depart: u32, alight: u32) -> u64
+    ensures value { result ≡ 1000 * ((fastest_call run.now alight).arrive - depart) }
+    ensures small { result < 2 ^ 42 }
+{
+    1000 * u64::from(fastest_call(run, alight).arrive.saturating_sub(depart))
+}
+
 impl FastestRun {
     ghost use Rattle.std.specs.Prelude.{◌≡◌, ◌<◌, ◌^◌};
-    ghost use Rattle.departures.specs.Fastest.{fastest_call, ride_ms};
+    ghost use Rattle.departures.specs.Fastest.{ride_ms};
 
-    /// The call at this place; both times are 0 where there is none.
-    fn call(&self, place: u32) -> FastestCall
-        ensures { result ≡ fastest_call self.now place }
+    /// Its calls.
+    pub(crate) fn calls(&self) -> &[FastestCall]
+        ensures { result.now ≡ self.now }
     {
-        match self.calls.get(place as usize) {
-            Some(call) => *call,
-            None => FastestCall {
-                arrive: 0,
-                depart: 0,
-            },
-        }
+        &self.calls
     }
 
     /// How many milliseconds it rides from a call to a later one.
@@ -150,10 +165,7 @@ impl FastestRun {
         ensures value { result ≡ ride_ms self.now board alight }
         ensures small { result < 2 ^ 42 }
     {
-        let seconds = self
-            .call(alight)
-            .arrive
-            .saturating_sub(self.call(board).depart);
-        1000 * u64::from(seconds)
+        let run = self.calls();
+        ms_to(run, fastest_call(run, board).depart, alight)
     }
 }

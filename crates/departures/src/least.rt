@@ -7,7 +7,7 @@ ghost use Rattle.departures.specs.Fastest.{NoneIsFaster};
 ghost use Rattle.departures.specs.LeastLaws.{NoneIsFaster-prop};
 ghost use Rattle.departures.specs.LeastArcs.{least_meaning};
 
-use crate::fastest::{FastestRun, fastest_runs};
+use crate::fastest::{FastestCall, FastestRun, fastest_call, fastest_runs, ms_to};
 use mode_network::Network;
 use plain_graph::{Plain, PlainArc};
 use search_laws::{GivenRuns, Graph, GraphArc, Leg, Steady, Time, Way, is_open, moving_letters};
@@ -25,7 +25,7 @@ pub struct LeastTimes<'a> {
 }
 
 impl<'a> LeastTimes<'a> {
-    ghost use Rattle.std.specs.Prelude.{◌≡◌, ◌<◌, ◌≤◌, ◌-◌, ◌^◌, ◌++◌, ◌+◌, ℕ, length, Some, IfOk, OnOk};
+    ghost use Rattle.std.specs.Prelude.{◌≡◌, ◌<◌, ◌≤◌, ◌-◌, ◌^◌, ◌++◌, ◌+◌, [], ℕ, length, slice_index_or, Some, IfOk, OnOk};
     ghost use Rattle.search_laws.specs.Ways.{ways_from};
     ghost use Rattle.timetable_arcs.specs.Table.{IsTable};
     ghost use Rattle.plain_graph.specs.PlainArcs.{graph_arc, plain_arc};
@@ -190,6 +190,8 @@ impl<'a> LeastTimes<'a> {
         let timetable = self.plain.timetable();
         let calls = timetable.pattern_calls(ride.pattern);
         let letter = timetable.pattern_letter(ride.pattern);
+        let run = self.fastest(ride.pattern);
+        let depart = fastest_call(run, ride.board).depart;
         let mut place = first;
         for alight in ride.alight as usize..calls.len() {
             if ends_before(&calls[alight], place, past) {
@@ -198,21 +200,21 @@ impl<'a> LeastTimes<'a> {
                     board: ride.board,
                     alight: alight as u32,
                 };
-                ways.push(self.ride_way(to, calls[alight].stop, letter, place, t))?;
+                let at = t + Time::from(ms_to(run, depart, to.alight));
+                ways.push(self.ride_way(calls[alight].stop, letter, place, at))?;
                 place += 1;
             }
         }
         Ok(place)
     }
 
-    /// A ride to this stop as the arc at a place.
-    fn ride_way(&self, ride: Ride, stop: u32, letter: u8, place: u64, t: Time) -> Way
-        requires stop { stop < length self.now.plain.network.now.stop_names }
-        requires time { t < 2 ^ 127 }
+    /// A ride to this stop that arrives then, as the arc at a place.
+    fn ride_way(&self, stop: u32, letter: u8, place: u64, at: Time) -> Way
+        requires { stop < length self.now.plain.network.now.stop_names }
         ensures { result ≡ record {
           place = place;
           arc = record { to = stop_node self.now.plain.network.now stop; letter = Some letter };
-          at = t + least_ms self.now.runs.items ride;
+          at = at;
         } }
     {
         Way {
@@ -221,7 +223,17 @@ impl<'a> LeastTimes<'a> {
                 to: self.plain.network().stop_node(stop),
                 letter: Some(letter),
             },
-            at: t + Time::from(self.ride_ms(ride)),
+            at,
+        }
+    }
+
+    /// The calls of the fastest run of a pattern; none where there is no such pattern.
+    fn fastest(&self, pattern: u32) -> &[FastestCall]
+        ensures { result.now ≡ slice_index_or self.now.runs.items pattern [] }
+    {
+        match self.runs.get(pattern as usize) {
+            Some(run) => run.calls(),
+            None => &[],
         }
     }
 }

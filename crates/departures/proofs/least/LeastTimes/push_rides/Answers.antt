@@ -7,8 +7,8 @@ use Rattle.departures.proofs.BoardLemmas.{passes, goes_on}
 use Rattle.departures.proofs.least.LeastTimes.push_rides.Goals.{then-ends_before+in_ok-push, else-ends_before}
 use Rattle.departures.proofs.least.LeastTimes.push_rides.Goals as goal
 
-pub ride_way-requires-clause-stop : goal.ride_way-requires-clause-stop
-ride_way-requires-clause-stop c =
+pub ride_way-requires : goal.ride_way-requires
+ride_way-requires c =
     let plain = c.args.self.now.plain in
     let same = c.timetable-timetable.ensures.same in
     let calls = c.pattern_calls-calls.ensures in
@@ -31,7 +31,7 @@ loop-alight-preserved c =
     let ends : c.ends_before.result ≡ ((pattern_call t ride.pattern k).alight && nat_lt place c.args.past) = rw (calls, same) at c.ends_before.ensures in
     elim c.if-ends_before.branch [
       | then-ends_before+in_ok-push w ↦ (
-          let way : w.ride_way.result ≡ least_way n t s.runs.items c.args.t place (ride_to ride k) = rw (calls, letter, same) at w.ride_way.ensures in
+          let way : w.ride_way.result ≡ least_way n t s.runs.items c.args.t place (ride_to ride k) = rw (calls, letter, same, w.from.ensures, w.ms_to.ensures.value, c.fastest_call-depart.ensures, c.fastest-run.ensures) at w.ride_way.ensures in
           rw (w.place-is, w.ways-is, w.in_ok-push.ensures.items)
           (goes_on n t s.runs.items c.args.t ride c.args.first c.args.past k place c.args.ways.now.items c.loop-alight.ways.items w.ride_way.result within (sym ends ∙ w.if-ends_before.true) way c.loop-alight.invariant))
       | else-ends_before w ↦ rw (w.place-is, w.ways-is)
