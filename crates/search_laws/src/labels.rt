@@ -6,6 +6,12 @@ ghost use Rattle.search_laws.specs.LabelLaws.{LabelsMeaning, IsLawfulLabels, IsR
 /// How many letters there are: they are the numbers below.
 pub const LETTERS: u32 = 14;
 
+/// The set of all letters, each of which is a bit.
+pub const EVERY_LETTER: u32 = 0x3fff;
+
+/// The set of the letters of public transport, which are 3 to 13.
+pub const TRANSIT: u32 = 0x3ff8;
+
 /// A move of an automaton: to the state `to`, by each letter whose bit is set in `letters`.
 #[derive(Clone, Copy)]
 pub struct Move {

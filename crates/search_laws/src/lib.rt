@@ -8,7 +8,7 @@ mod labels;
 
 pub use given::{GivenRun, GivenRuns};
 pub use graph::{Graph, GraphArc, Leg, Steady, Way, is_open, moving_letters, push_way};
-pub use labels::{LETTERS, Labels, Move, RoadLabels};
+pub use labels::{EVERY_LETTER, LETTERS, Labels, Move, RoadLabels, TRANSIT};
 
 /// A moment, in milliseconds from an origin that the graph fixes.
 pub type Time = u128;
