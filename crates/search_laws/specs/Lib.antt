@@ -1,4 +1,5 @@
 pub mod Letters
+pub mod Times
 pub mod GraphLaws
 pub mod LabelLaws
 pub mod Walks
