@@ -4,6 +4,7 @@ use Rattle.std.proofs.lemmas.List.Sums.{position_or_len_is}
 use Rattle.std.proofs.lemmas.Option.{get_or_from_slice_get}
 use Rattle.std.proofs.lemmas.Bool.Decides.{nat_tests}
 use Rattle.std.specs.Str.{bytes_eq}
+use Rattle.search_laws.specs.Letters.{IsLetter, letter_count}
 use Rattle.mode_expression.specs.declared.letter.Letter.{Letter}
 use Rattle.mode_expression.specs.declared.letter.Letter.TheVariants.{Foot, Bike, Car, Tram, Metro, Rail, Bus, Ferry, Cable, Lift, Funicular, Trolley, Monorail, Other}
 use Rattle.plan_base.specs.LetterNames.{letter_names}
@@ -32,8 +33,8 @@ pub name_of_numbered : (n : ℕ) (letter : Letter) (name : List ℕ) → letter_
 name_of_numbered n letter name e named =
     get_or_from_slice_get letter_names n name [] (rw (number_of_numbered n letter e) at named)
 
--- each number below 14 is a letter's
-pub is_numbered : (n : ℕ) → n < 14 → letter_numbered n ≡ None → (A : Type 0) → A
+-- each number below their count is a letter's
+pub is_numbered : (n : ℕ) → IsLetter n → letter_numbered n ≡ None → (A : Type 0) → A
 is_numbered zero lt e = absurd (cc)
 is_numbered (suc zero) lt e = absurd (cc)
 is_numbered (suc (suc zero)) lt e = absurd (cc)
@@ -50,14 +51,14 @@ is_numbered (suc (suc (suc (suc (suc (suc (suc (suc (suc (suc (suc (suc zero))))
 is_numbered (suc (suc (suc (suc (suc (suc (suc (suc (suc (suc (suc (suc (suc zero))))))))))))) lt e = absurd (cc)
 is_numbered (suc (suc (suc (suc (suc (suc (suc (suc (suc (suc (suc (suc (suc (suc n)))))))))))))) lt e = absurd (omega arith)
 
-pub none_named : (name : List ℕ) → ((k : ℕ) → k < 14 → bytes_eq (get_or letter_names k []) name ≡ false) → letter_named name ≡ None
+pub none_named : (name : List ℕ) → ((k : ℕ) → IsLetter k → bytes_eq (get_or letter_names k []) name ≡ false) → letter_named name ≡ None
 none_named name others =
-    let e = position_or_len_is (λ known. bytes_eq known name) letter_names 14 [] (lit≤ tt) others (λ lt. absurd (omega (arith, lt))) in
+    let e = position_or_len_is (λ known. bytes_eq known name) letter_names letter_count [] (lit≤ tt) others (λ lt. absurd (omega (arith, lt))) in
     rw e
 
-pub some_named : (name : List ℕ) (n : ℕ) → n < 14 → ((k : ℕ) → k < n → bytes_eq (get_or letter_names k []) name ≡ false)
+pub some_named : (name : List ℕ) (n : ℕ) → IsLetter n → ((k : ℕ) → k < n → bytes_eq (get_or letter_names k []) name ≡ false)
     → bytes_eq (get_or letter_names n []) name ≡ true → letter_named name ≡ Some n
 some_named name n lt others here =
     let e = position_or_len_is (λ known. bytes_eq known name) letter_names n [] (omega arith) others (λ _. here) in
-    let below : nat_lt n 14 ≡ true = grind (arith, nat_tests) in
+    let below : nat_lt n letter_count ≡ true = grind (arith, nat_tests) in
     rw e (rw below refl)

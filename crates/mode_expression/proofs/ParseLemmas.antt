@@ -3,6 +3,7 @@ use Rattle.std.proofs.Common.{◌≡◌, ℕ, ◌^◌, ◌<◌, ◌≤◌, Bool,
 use Rattle.std.proofs.lemmas.List.Quantifiers.{position-Some}
 use Rattle.std.proofs.lemmas.Nat.{pow_below}
 use Rattle.std.specs.Str.{bytes_eq}
+use Rattle.search_laws.specs.Letters.{IsLetter, IsLetterSet, every_letter, letter_count, transit_letters}
 use Rattle.mode_expression.specs.declared.token.Token.{Token}
 use Rattle.mode_expression.specs.declared.token.Token.TheVariants.{Name, Number, Bar, Star, Plus, Question, OpenBrace, CloseBrace, Comma, Open, Close, Unknown}
 use Rattle.mode_expression.specs.declared.fault.ExprFault.{ExprFault}
@@ -23,7 +24,7 @@ misread text at e = subst (λ result. IsReadAs text result) e (reading_is_right 
 
 -- a name stands for some of the fourteen letters
 abbrev IsKnown : Token → Type 0
-IsKnown (Name bits) = bits < 2 ^ 14
+IsKnown (Name bits) = IsLetterSet bits
 IsKnown _ = Unit {0}
 
 abbrev AllKnown : List Token → Type 0
@@ -90,20 +91,20 @@ mutual
   atom_formed (group choice) known =
       alternative_formed (choice_forms choice) (choice_formed choice (known_front (choice_tokens choice) (Close ∷ []) known.1))
 
-power_below : (n : ℕ) → n < 14 → 2 ^ n < 2 ^ 14
-power_below n lt = pow_below n 14 lt
+power_below : (n : ℕ) → IsLetter n → IsLetterSet (2 ^ n)
+power_below n lt = pow_below n letter_count lt
 
-letters_known : (word : List ℕ) → IfSome (letters_named word) (λ bits. bits < 2 ^ 14)
+letters_known : (word : List ℕ) → IfSome (letters_named word) IsLetterSet
 letters_known word = by_any (bytes_eq word (codes "any")) (bytes_eq word (codes "transit")) (letter_named word) refl
   where
     by_any : (a b : Bool) (o : Option ℕ) → letter_named word ≡ o
-        → IfSome (if a then Some 0x3fff else (if b then Some 0x3ff8 else option_map (λ number. 2 ^ number) o)) (λ bits. bits < 2 ^ 14)
+        → IfSome (if a then Some every_letter else (if b then Some transit_letters else option_map (λ number. 2 ^ number) o)) IsLetterSet
     by_any true b o is = lit< tt
     by_any false true o is = lit< tt
     by_any false false None is = tt
     by_any false false (Some n) is = power_below n (position-Some (λ known. bytes_eq known word) letter_names n [] is).0
 
-name_known : (o : Option ℕ) → IfSome o (λ bits. bits < 2 ^ 14) → IsKnown (name_token o)
+name_known : (o : Option ℕ) → IfSome o IsLetterSet → IsKnown (name_token o)
 name_known None known = tt
 name_known (Some bits) known = known
 

@@ -1,5 +1,6 @@
 -- What an expression is, and the words that it denotes.
-use Rattle.std.specs.Prelude.{◌≡◌, ℕ, ◌+◌, ◌*◌, ◌≤◌, ◌⊎◌, ◌++◌, List, [], ◌∷◌, Option, Some, None, IfSome, IsBitSet, suc, zero, ◌<◌, ◌^◌}
+use Rattle.std.specs.Prelude.{◌≡◌, ℕ, ◌+◌, ◌*◌, ◌≤◌, ◌⊎◌, ◌++◌, List, [], ◌∷◌, Option, Some, None, IfSome, IsBitSet, suc, zero}
+use Rattle.search_laws.specs.Letters.{IsLetterSet}
 use Rattle.mode_expression.specs.declared.expr.Expr.{Expr, Letters, Seq', Alt', Repeat', Row_of-Expr, end_of-Expr, more_of-Expr}
 
 -- An expression as contracts see it. A sequence is `both` of its first part and the rest, up to `empty`,
@@ -82,7 +83,7 @@ IsCount least (Some most) = (1 ≤ most) × (least ≤ most)
 
 -- letters are among the fourteen, and each repetition is one that a suffix may say
 abbrev pub IsWellFormed : Form → Type 0
-IsWellFormed (letters bits) = bits < 2 ^ 14
+IsWellFormed (letters bits) = IsLetterSet bits
 IsWellFormed empty = Unit {0}
 IsWellFormed (both first rest) = IsWellFormed first × IsWellFormed rest
 IsWellFormed never = Unit {0}

@@ -2,6 +2,7 @@
 use Rattle.std.specs.Prelude.{ℕ, List, [], ◌∷◌, Option, Some, ◌^◌, codes, position, option_map, slice_get, if◌then◌else◌}
 use Rattle.std.specs.Str.{bytes_eq}
 use Rattle.plan_base.specs.LetterNames.{letter_names}
+use Rattle.search_laws.specs.Letters.{every_letter, transit_letters}
 use Rattle.mode_expression.specs.declared.letter.Letter.{Letter}
 use Rattle.mode_expression.specs.declared.letter.Letter.TheVariants.{Foot, Bike, Car, Tram, Metro, Rail, Bus, Ferry, Cable, Lift, Funicular, Trolley, Monorail, Other}
 
@@ -35,5 +36,5 @@ letter_named name = position (λ known. bytes_eq known name) letter_names
 -- the letters that a name in an expression stands for, as bits
 abbrev pub letters_named : List ℕ → Option ℕ
 letters_named name =
-    if bytes_eq name (codes "any") then Some 0x3fff
-    else (if bytes_eq name (codes "transit") then Some 0x3ff8 else option_map (λ number. 2 ^ number) (letter_named name))
+    if bytes_eq name (codes "any") then Some every_letter
+    else (if bytes_eq name (codes "transit") then Some transit_letters else option_map (λ number. 2 ^ number) (letter_named name))

@@ -1,4 +1,5 @@
 use crate::letter::Letter;
+use search_laws::{EVERY_LETTER, LETTERS, TRANSIT};
 use std::fmt;
 
 /// An expression: a set of words over the numbers of the letters.
@@ -18,12 +19,6 @@ pub enum Expr {
     },
 }
 
-/// Every letter.
-pub(crate) const ANY: u32 = 0x3fff;
-
-/// Every letter but foot, bike and car.
-pub(crate) const TRANSIT: u32 = 0x3ff8;
-
 /// Writes `|` but before the first of several.
 fn write_separator<W: fmt::Write>(f: &mut fmt::Formatter<W>, first: bool) -> fmt::Result {
     if first { Ok(()) } else { f.write_str("|") }
@@ -31,14 +26,14 @@ fn write_separator<W: fmt::Write>(f: &mut fmt::Formatter<W>, first: bool) -> fmt
 
 /// Writes a set of letters as a name, or as the alternative of its names.
 fn write_letters<W: fmt::Write>(f: &mut fmt::Formatter<W>, bits: u32) -> fmt::Result {
-    if bits == ANY {
+    if bits == EVERY_LETTER {
         return f.write_str("any");
     }
     if bits == TRANSIT {
         return f.write_str("transit");
     }
     let mut first = true;
-    for number in 0..14u8 {
+    for number in 0..LETTERS as u8 {
         if let Some(letter) = Letter::from_number(number) {
             if bits >> number & 1 == 1 {
                 write_separator(f, first)?;

@@ -3,6 +3,8 @@ ghost use Rattle.plan_base.specs.LetterNames.{letter_names};
 ghost use Rattle.mode_expression.specs.Letters.{letter_named, letter_numbered};
 ghost use Rattle.mode_expression.specs.Letters.{number_of};
 
+use search_laws::LETTERS;
+
 /// A means of transport, by the number under which words and sets of letters hold it.
 #[derive(Debug, Clone, Copy, PartialEq, Eq)]
 pub enum Letter {
@@ -79,7 +81,7 @@ impl Letter {
     pub fn from_name(name: &[u8]) -> Option<Letter>
         ensures { option_map number_of result ≡ letter_named name.now }
     {
-        for number in 0..14 {
+        for number in 0..LETTERS as u8 {
             if let Some(letter) = Letter::from_number(number) {
                 if letter.name().as_bytes() == name {
                     return Some(letter);

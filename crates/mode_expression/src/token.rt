@@ -4,8 +4,8 @@ ghost use Rattle.mode_expression.specs.Letters.{letters_named};
 ghost use Rattle.mode_expression.specs.Tokens.{is_lower, is_digit, joins, lexemes, tokens_from};
 ghost use Rattle.mode_expression.specs.Tokens.{decimal, symbol_token, name_token, token_of};
 
-use crate::expr::{ANY, TRANSIT};
 use crate::letter::Letter;
+use search_laws::{EVERY_LETTER, TRANSIT};
 
 /// What the text of an expression is made of.
 #[derive(Clone, Copy)]
@@ -100,7 +100,7 @@ fn letters_of(name: &[u8]) -> Option<u32>
     ensures { result ≡ letters_named name.now }
 {
     if name == b"any".as_slice() {
-        return Some(ANY);
+        return Some(EVERY_LETTER);
     }
     if name == b"transit".as_slice() {
         return Some(TRANSIT);
