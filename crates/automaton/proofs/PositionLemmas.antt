@@ -5,6 +5,7 @@ use Rattle.std.proofs.lemmas.List.{get_or-map, length-map, get_or_append_left, g
 use Rattle.std.proofs.lemmas.Nat.Bits.{and_pow, bit_at-zero}
 use Rattle.std.proofs.Math.Seq.{get_or-append_seam}
 use Rattle.std.proofs.Math.ListN.{get_or-map as get_or-map_default}
+use Rattle.search_laws.specs.Letters.{IsLetterSet}
 use Rattle.search_laws.specs.declared.labels.Move.{Move}
 use Rattle.search_laws.specs.LabelLaws.{LabelsMeaning, HasMove, Reads, Accepts, IsLawfulLabels}
 use Rattle.automaton.specs.Written.{Written, nothing, nowhere, letter, sequence, choice, optional, plus, size, nullable, first, last, follow, IsWritten}
@@ -332,7 +333,7 @@ module _ (e : Written) where
           omega (arith, ap (λ v. length v.moves) (get_or_past (states_for R_of S_of) q no_view past))
 
   -- the automaton keeps its limits, where the letters are among the fourteen
-  pub is_lawful : size e ≤ 200 → ((p : ℕ) → letters_at e p < 2 ^ 14) → IsLawfulLabels automaton_of
+  pub is_lawful : size e ≤ 200 → ((p : ℕ) → IsLetterSet (letters_at e p)) → IsLawfulLabels automaton_of
   is_lawful small letters_below = record {
     few_states = omega (arith, state_total);
     few_moves = λ q lt. omega (arith, moves_few q);
@@ -341,11 +342,11 @@ module _ (e : Written) where
   }
     where
       reach : (q i : ℕ) → q ≤ length R_of → i < automaton_of.moves q
-          → ((automaton_of.move_at q i).to < automaton_of.states) × ((automaton_of.move_at q i).letters < 2 ^ 14)
+          → ((automaton_of.move_at q i).to < automaton_of.states) × IsLetterSet (automaton_of.move_at q i).letters
       reach q i le place =
           let view = view_is R_of S_of q le in
           let good = moves_sound R_of (set_of R_of S_of q) (length R_of) i (subst (λ v. i < length v.moves) view place) in
           let here : automaton_of.move_at q i ≡ get_or (moves_upto R_of (set_of R_of S_of q) (length R_of)) i no_move = ap (λ v. get_or v.moves i no_move) view in
           let to = (get_or (moves_upto R_of (set_of R_of S_of q) (length R_of)) i no_move).to in
           let bits : (automaton_of.move_at q i).letters ≡ letters_at e to = ap (λ m. m.letters) (here ∙ good.3) ∙ letters_same to in
-          (omega (arith, ap (λ m. m.to) here, good.1, state_count R_of S_of), subst (λ b. b < 2 ^ 14) (sym bits) (letters_below to))
+          (omega (arith, ap (λ m. m.to) here, good.1, state_count R_of S_of), subst IsLetterSet (sym bits) (letters_below to))

@@ -1,5 +1,6 @@
 -- What is written out denotes the same words, and has the places that were counted.
-use Rattle.std.proofs.Common.{◌≡◌, ℕ, zero, suc, ◌+◌, ◌-◌, ◌*◌, ◌<◌, ◌≤◌, List, [], ◌∷◌, ◌++◌, Option, Some, None, IfSome, refl, sym, ap, ◌∙◌, subst, inl, inr, append_assoc, get_or, ◌^◌, lit<, arith}
+use Rattle.std.proofs.Common.{◌≡◌, ℕ, zero, suc, ◌+◌, ◌-◌, ◌*◌, ◌<◌, ◌≤◌, List, [], ◌∷◌, ◌++◌, Option, Some, None, IfSome, refl, sym, ap, ◌∙◌, subst, inl, inr, append_assoc, get_or, lit<, arith}
+use Rattle.search_laws.specs.Letters.{IsLetterSet}
 use Rattle.mode_expression.specs.Form.{Form, letters, empty, both, never, either, repeated, IsJoined, IsPower, IsWordOf, IsWellFormed, IsCount, places}
 use Rattle.mode_expression.specs.Form.{copies as copied}
 use Rattle.automaton.specs.Written.{Written, copies_in_turn, options, repeat, written, size, letters_written, IsWritten}
@@ -141,7 +142,7 @@ size_written (repeated a least most) formed =
 -- letters are among the fourteen
 abbrev AllBelow : List ℕ → Type 0
 AllBelow [] = Unit {0}
-AllBelow (b ∷ bits) = (b < 2 ^ 14) × AllBelow bits
+AllBelow (b ∷ bits) = IsLetterSet b × AllBelow bits
 
 below-append : (xs ys : List ℕ) → AllBelow xs → AllBelow ys → AllBelow (xs ++ ys)
 below-append [] ys none in_ys = in_ys
@@ -169,10 +170,10 @@ written_below never formed = tt
 written_below (either a b) formed = below-append (letters_written (written a)) (letters_written (written b)) (written_below a formed.0) (written_below b formed.1)
 written_below (repeated a least most) formed = repeat_below (written a) least most (written_below a formed.0)
 
-at_below : (xs : List ℕ) (k : ℕ) → AllBelow xs → get_or xs k 0 < 2 ^ 14
+at_below : (xs : List ℕ) (k : ℕ) → AllBelow xs → IsLetterSet (get_or xs k 0)
 at_below [] k below = lit< tt
 at_below (x ∷ xs) zero below = below.0
 at_below (x ∷ xs) (suc k) below = at_below xs k below.1
 
-pub letters_below : (f : Form) → IsWellFormed f → (p : ℕ) → letters_at (written f) p < 2 ^ 14
+pub letters_below : (f : Form) → IsWellFormed f → (p : ℕ) → IsLetterSet (letters_at (written f) p)
 letters_below f formed p = at_below (letters_written (written f)) (p - 1) (written_below f formed)

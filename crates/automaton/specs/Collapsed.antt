@@ -1,5 +1,6 @@
 -- An automaton that reads adjacent equal road letters as one.
 use Rattle.std.specs.Prelude.{ℕ, ◌+◌, ◌-◌, ◌*◌, ◌/◌, ◌%◌, ◌^◌, ◌<◌, ◌≤◌, true, ◌&&◌, ◌==◌, ◌↔◌, List, bit_and, if◌then◌else◌}
+use Rattle.search_laws.specs.Letters.{every_letter, transit_letters}
 use Rattle.search_laws.specs.declared.labels.Move.{Move}
 use Rattle.search_laws.specs.LabelLaws.{LabelsMeaning, Accepts}
 use Rattle.search_laws.specs.Collapse.{collapse}
@@ -8,7 +9,7 @@ use Rattle.search_laws.specs.Collapse.{collapse}
 -- are foot, bike and car. The road letter that was read last gives none.
 abbrev pub move_by : ℕ → ℕ → Move → Move
 move_by own kind move =
-    if kind == 0 then record { letters = bit_and move.letters 0x3ff8; to = 4 * move.to }
+    if kind == 0 then record { letters = bit_and move.letters transit_letters; to = 4 * move.to }
     else (if kind == own then record { letters = 0; to = 4 * move.to + kind }
     else record { letters = bit_and move.letters (2 ^ (kind - 1)); to = 4 * move.to + kind })
 
@@ -41,7 +42,7 @@ one_state = record {
   states = 1;
   is_start = λ q. true;
   moves = λ q. 1;
-  move_at = λ q i. record { letters = 0x3fff; to = 0 };
+  move_at = λ q i. record { letters = every_letter; to = 0 };
   accepts = λ q. true;
 }
 

@@ -5,6 +5,7 @@ use Rattle.std.specs.Int.{bit_at}
 use Rattle.std.proofs.lemmas.Bool.Decides.{nat_tests}
 use Rattle.std.proofs.lemmas.Nat.{pow_below, pow_pos, and_le_l}
 use Rattle.std.proofs.lemmas.Nat.Bits.{bit_at_and, and_pow, bit_at-lt, bit_at-zero, bit_at-pow_same, bit_at-pow_other, bit_at_mask_inside, bit_at_mask_below, bit_at_above}
+use Rattle.search_laws.specs.Letters.{IsLetter, IsLetterSet, letter_count, transit_letters}
 use Rattle.search_laws.specs.declared.labels.Move.{Move}
 use Rattle.search_laws.specs.LabelLaws.{LabelsMeaning, IsLawfulLabels, IsMove, HasMove, IsRoadLabels}
 use Rattle.automaton.specs.Collapsed.{move_by, stay, other_move, collapsed, FitsCollapsed}
@@ -51,23 +52,23 @@ pub set_pow : (c : ℕ) → IsBitSet (2 ^ c) c
 set_pow c = bit_set (2 ^ c) c (bit_at-pow_same c)
 
 -- the letters from tram on are those from 3 to 13
-pub transit_set : (c : ℕ) → 3 ≤ c → c < 14 → IsBitSet 0x3ff8 c
-transit_set c low high = bit_set 0x3ff8 c (bit_at_mask_inside 3 14 c low high)
+pub transit_set : (c : ℕ) → 3 ≤ c → IsLetter c → IsBitSet transit_letters c
+transit_set c low high = bit_set transit_letters c (bit_at_mask_inside 3 letter_count c low high)
 
-pub set_transit : (c : ℕ) → IsBitSet 0x3ff8 c → 3 ≤ c
+pub set_transit : (c : ℕ) → IsBitSet transit_letters c → 3 ≤ c
 set_transit c set = by_test (nat_lt c 3) refl
   where
     by_test : (b : Bool) → nat_lt c 3 ≡ b → 3 ≤ c
-    by_test true is = let lt : c < 3 = grind (arith, nat_tests) in let z = bit_at_mask_below 3 14 c lt in let e = set_bit 0x3ff8 c set in absurd (omega arith)
+    by_test true is = let lt : c < 3 = grind (arith, nat_tests) in let z = bit_at_mask_below 3 letter_count c lt in let e = set_bit transit_letters c set in absurd (omega arith)
     by_test false is = grind (arith, nat_tests)
 
--- a set of the fourteen letters has none from 14 on
-pub letter_below : (n c : ℕ) → n < 2 ^ 14 → IsBitSet n c → c < 14
-letter_below n c lt set = by_test (nat_lt c 14) refl
+-- a set of letters has letters alone
+pub letter_below : (n c : ℕ) → IsLetterSet n → IsBitSet n c → IsLetter c
+letter_below n c lt set = by_test (nat_lt c letter_count) refl
   where
-    by_test : (b : Bool) → nat_lt c 14 ≡ b → c < 14
+    by_test : (b : Bool) → nat_lt c letter_count ≡ b → IsLetter c
     by_test true is = grind (arith, nat_tests)
-    by_test false is = let le : 14 ≤ c = grind (arith, nat_tests) in let z = bit_at_above n 14 c lt le in let e = set_bit n c set in absurd (omega arith)
+    by_test false is = let le : letter_count ≤ c = grind (arith, nat_tests) in let z = bit_at_above n letter_count c lt le in let e = set_bit n c set in absurd (omega arith)
 
 -- ---- moves
 -- where a letter leads from an inner state: 1, 2 and 3 after a road letter, and 0 after a transit letter
@@ -89,7 +90,7 @@ code_small c = by_test (nat_lt c 3) refl
 
 abbrev by_kind : Bool → Bool → ℕ → Move → Move
 by_kind zero_kind own_kind kind move =
-    if zero_kind then record { letters = bit_and move.letters 0x3ff8; to = 4 * move.to }
+    if zero_kind then record { letters = bit_and move.letters transit_letters; to = 4 * move.to }
     else (if own_kind then record { letters = 0; to = 4 * move.to + kind }
     else record { letters = bit_and move.letters (2 ^ (kind - 1)); to = 4 * move.to + kind })
 
@@ -109,7 +110,7 @@ given_out own kind move c small set = by_test (kind == 0) (kind == own) refl ref
   where
     by_test : (a b : Bool) → (kind == 0) ≡ a → (kind == own) ≡ b → IsBitSet (by_kind a b kind move).letters c → IsGiven own kind move c
     by_test true b is other set =
-        let both = and_set move.letters 0x3ff8 c set in
+        let both = and_set move.letters transit_letters c set in
         let zero_kind : kind ≡ 0 = grind (arith, nat_tests) in
         record { inner = both.0; kind_is = zero_kind ∙ sym (code_transit c (set_transit c both.1)); other = λ _. zero_kind }
     by_test false true is other set = absurd (no_bits c set)
@@ -120,14 +121,14 @@ given_out own kind move c small set = by_test (kind == 0) (kind == own) refl ref
         let apart : kind ≢ own = grind (arith, nat_tests) in
         road_given own kind move c small both.0 place some apart
 
-pub given_in : (own : ℕ) (move : Move) (c : ℕ) → move.letters < 2 ^ 14 → IsBitSet move.letters c → (code c ≡ own → code c ≡ 0)
+pub given_in : (own : ℕ) (move : Move) (c : ℕ) → IsLetterSet move.letters → IsBitSet move.letters c → (code c ≡ own → code c ≡ 0)
     → IsBitSet (move_by own (code c) move).letters c
 given_in own move c few set other = by_test (code c == 0) (code c == own) refl refl
   where
     by_test : (a b : Bool) → (code c == 0) ≡ a → (code c == own) ≡ b → IsBitSet (by_kind a b (code c) move).letters c
     by_test true b is same =
         let zero_kind : code c ≡ 0 = grind (arith, nat_tests) in
-        set_and move.letters 0x3ff8 c set (transit_set c (transit_of c zero_kind) (letter_below move.letters c few set))
+        set_and move.letters transit_letters c set (transit_set c (transit_of c zero_kind) (letter_below move.letters c few set))
       where
         transit_of : (c : ℕ) → code c ≡ 0 → 3 ≤ c
         transit_of c is = by_road (nat_lt c 3) refl
@@ -158,11 +159,11 @@ move_to own kind move = by_test (kind == 0) (kind == own) refl
     by_test false true is = refl
     by_test false false is = refl
 
-pub move_letters : (own kind : ℕ) (move : Move) → move.letters < 2 ^ 14 → (move_by own kind move).letters < 2 ^ 14
+pub move_letters : (own kind : ℕ) (move : Move) → IsLetterSet move.letters → IsLetterSet (move_by own kind move).letters
 move_letters own kind move few = by_test (kind == 0) (kind == own)
   where
-    by_test : (a b : Bool) → (by_kind a b kind move).letters < 2 ^ 14
-    by_test true b = omega (arith, and_le_l move.letters 0x3ff8)
+    by_test : (a b : Bool) → IsLetterSet (by_kind a b kind move).letters
+    by_test true b = omega (arith, and_le_l move.letters transit_letters)
     by_test false true = lit< tt
     by_test false false = omega (arith, and_le_l move.letters (2 ^ (kind - 1)))
 
@@ -279,7 +280,7 @@ module _ (l : LabelsMeaning) (lawful : IsLawfulLabels l) where
   step_in s c r lt (inr goes) = move_in s c r lt goes
 
   -- where a move leads
-  other_in_range : (s i : ℕ) → s < 4 * l.states → i < 4 * l.moves (s / 4) → ((other_move l s i).to < 4 * l.states) × ((other_move l s i).letters < 2 ^ 14)
+  other_in_range : (s i : ℕ) → s < 4 * l.states → i < 4 * l.moves (s / 4) → ((other_move l s i).to < 4 * l.states) × IsLetterSet (other_move l s i).letters
   other_in_range s i lt place =
       let inner = l.move_at (s / 4) (i / 4) in
       let q : s / 4 < l.states = omega arith in
@@ -287,21 +288,21 @@ module _ (l : LabelsMeaning) (lawful : IsLawfulLabels l) where
       (omega (arith, move_to (s % 4) (i % 4) inner, lawful.to_in_range (s / 4) (i / 4) q j), move_letters (s % 4) (i % 4) inner (lawful.letters_in_range (s / 4) (i / 4) q j))
 
   in_range : (s i : ℕ) → s < 4 * l.states → i < (collapsed l).moves s
-      → (((collapsed l).move_at s i).to < 4 * l.states) × (((collapsed l).move_at s i).letters < 2 ^ 14)
+      → (((collapsed l).move_at s i).to < 4 * l.states) × IsLetterSet ((collapsed l).move_at s i).letters
   in_range s i lt place = by_code (s % 4 == 0) refl place
     where
       Fits : Move → Type 0
-      Fits m = (m.to < 4 * l.states) × (m.letters < 2 ^ 14)
+      Fits m = (m.to < 4 * l.states) × IsLetterSet m.letters
 
       by_code : (b : Bool) → (s % 4 == 0) ≡ b → i < (if b then 4 * l.moves (s / 4) else 4 * l.moves (s / 4) + 1)
           → ((if b then other_move l s i else (if i == 0 then stay s else other_move l s (i - 1))).to < 4 * l.states)
-          × ((if b then other_move l s i else (if i == 0 then stay s else other_move l s (i - 1))).letters < 2 ^ 14)
+          × IsLetterSet (if b then other_move l s i else (if i == 0 then stay s else other_move l s (i - 1))).letters
       by_code true is place = other_in_range s i lt place
       by_code false is place = by_first (i == 0) refl
         where
           by_first : (f : Bool) → (i == 0) ≡ f
-              → ((if f then stay s else other_move l s (i - 1)).to < 4 * l.states) × ((if f then stay s else other_move l s (i - 1)).letters < 2 ^ 14)
-          by_first true first = (lt, pow_below (s % 4 - 1) 14 (omega arith))
+              → ((if f then stay s else other_move l s (i - 1)).to < 4 * l.states) × IsLetterSet (if f then stay s else other_move l s (i - 1)).letters
+          by_first true first = (lt, pow_below (s % 4 - 1) letter_count (omega arith))
           by_first false first = let some : i ≢ 0 = grind (arith, nat_tests) in other_in_range s (i - 1) lt (omega arith)
 
   pub collapsed_lawful : FitsCollapsed l → IsLawfulLabels (collapsed l)

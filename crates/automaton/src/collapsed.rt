@@ -2,10 +2,7 @@ ghost use Rattle.std.specs.Prelude.{◌≡◌, ℕ, ◌<◌, ◌≤◌, ◌^◌}
 ghost use Rattle.automaton.specs.Collapsed.{FitsCollapsed, collapsed, AcceptsCollapsed, move_by};
 ghost use Rattle.automaton.specs.CollapsedLaws.{collapsed_lawful, collapsed_road};
 
-use search_laws::{Labels, Move, RoadLabels};
-
-/// The bits of the letters from tram on.
-const TRANSIT: u32 = 0x3ff8;
+use search_laws::{Labels, Move, RoadLabels, TRANSIT};
 
 /// An automaton that reads adjacent equal road letters as one: it accepts the words whose collapse the
 /// inner one accepts.

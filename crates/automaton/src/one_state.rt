@@ -4,7 +4,7 @@ ghost use Rattle.search_laws.specs.LabelLaws.{Accepts};
 ghost use Rattle.automaton.specs.Collapsed.{one_state};
 ghost use Rattle.automaton.specs.OneStateLaws.{one_lawful, one_road};
 
-use search_laws::{Labels, Move, RoadLabels};
+use search_laws::{EVERY_LETTER, Labels, Move, RoadLabels};
 
 /// One state, which reads every letter: each word is accepted.
 #[derive(Clone, Copy)]
@@ -29,7 +29,7 @@ impl Labels for OneState {
 
     fn move_at(&self, _q: u32, _i: u32) -> Move {
         Move {
-            letters: 0x3fff,
+            letters: EVERY_LETTER,
             to: 0,
         }
     }
