@@ -29,6 +29,7 @@ use Rattle.service_days.specs.Zones.{Zone, dates_and_next, days_in_read, days_ma
 use Rattle.service_days.specs.declared.range.RangeFault.{RangeFault}
 use Rattle.service_days.specs.declared.range.RangeFault.TheVariants.{BadCount, BadDate, BadZone}
 use Rattle.timetable_arcs.specs.declared.trips.Call.{Call}
+use Rattle.search_laws.specs.Letters.{IsLetter}
 use Rattle.mode_network.specs.declared.nodes.Arc.{Arc}
 use Rattle.region_file.specs.declared.lines.Line.{Line}
 use Rattle.region_file.specs.declared.lines.Line.TheVariants as line
@@ -95,7 +96,7 @@ place_laws (suc (suc (suc (suc (suc (suc (suc (suc (suc zero))))))))) h = (refl,
 place_laws (suc (suc (suc (suc (suc (suc (suc (suc (suc (suc zero)))))))))) h = (refl, word_by_test (codes "other") refl)
 place_laws (suc (suc (suc (suc (suc (suc (suc (suc (suc (suc (suc k))))))))))) h = absurd (omega (arith, h))
 
-letter_takes : (name : List ℕ) (letter : ℕ) → letter_at name ≡ Some letter → (letter_name letter ≡ name) × (3 ≤ letter) × (letter < 14)
+letter_takes : (name : List ℕ) (letter : ℕ) → letter_at name ≡ Some letter → (letter_name letter ≡ name) × (3 ≤ letter) × IsLetter letter
 unfolding letter_at
 letter_takes name letter e =
     let found = mapped (λ place. 3 + place) (position (λ known. bytes_eq known name) transit_names) letter e in
@@ -104,13 +105,13 @@ letter_takes name letter e =
     let place : letter - 3 ≡ found.0 = omega (arith, found.2) in
     (ap (λ k. get_or transit_names k []) place ∙ same_bytes (get_or transit_names found.0 []) name at.1, omega (arith, found.2), omega (arith, found.2, few))
 
-letter_again : (letter : ℕ) → 3 ≤ letter → letter < 14 → letter_at (letter_name letter) ≡ Some letter
+letter_again : (letter : ℕ) → 3 ≤ letter → IsLetter letter → letter_at (letter_name letter) ≡ Some letter
 unfolding letter_at
 letter_again letter low high =
     let again : 3 + (letter - 3) ≡ letter = omega (arith, low) in
     ap (option_map (λ place. 3 + place)) (place_laws (letter - 3) (omega (arith, low, high))).0 ∙ ap Some again
 
-letter_is_word : (letter : ℕ) → 3 ≤ letter → letter < 14 → IsWord (letter_name letter)
+letter_is_word : (letter : ℕ) → 3 ≤ letter → IsLetter letter → IsWord (letter_name letter)
 letter_is_word letter low high = (place_laws (letter - 3) (omega (arith, low, high))).1
 
 -- places

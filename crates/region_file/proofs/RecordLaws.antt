@@ -1,5 +1,5 @@
 -- The two laws of each record: what is read is spelled so, and what is spelled so is read.
-use Rattle.std.proofs.Common.{◌≡◌, ℕ, ◌%◌, ◌<◌, ◌≤◌, true, cond, List, [], ◌∷◌, ◌++◌, Some, None, refl, sym, ap, ap₂, subst, ◌∙◌, append_assoc}
+use Rattle.std.proofs.Common.{◌≡◌, ℕ, ◌%◌, ◌≤◌, true, cond, List, [], ◌∷◌, ◌++◌, Some, None, refl, sym, ap, ap₂, subst, ◌∙◌, append_assoc}
 use Rattle.std.specs.Prelude.{◌==◌, nat_le, nat_lt}
 use Rattle.std.specs.Int.{w32, w64}
 use Rattle.std.proofs.lemmas.Bool.{lt-ltb, ltb-true, leb-true, le-leb}
@@ -8,6 +8,7 @@ use Rattle.plain_texts.specs.Names.{is_name}
 use Rattle.plan_base.specs.declared.places.Place.{Place}
 use Rattle.timetable_arcs.specs.declared.trips.Call.{Call}
 use Rattle.timetable_arcs.specs.Trips.{TripLists}
+use Rattle.search_laws.specs.Letters.{IsLetter, letter_count}
 use Rattle.mode_network.specs.declared.nodes.Arc.{Arc}
 use Rattle.mode_network.specs.declared.nodes.Node.{Node}
 use Rattle.mode_network.specs.declared.nodes.NodeKey.{NodeKey}
@@ -189,18 +190,18 @@ pub record FitsHead (trip : TripLists × ℕ) : Type 0 where
   pub fits : FitsTrip trip.0.letter trip.0.days trip.1 trip.0.name
   pub none : trip.0.calls ≡ []
 
-letter_takes : (bytes : List ℕ) (x : ℕ × List ℕ) → IsBytes bytes → letter_front bytes ≡ Some x → Takes bytes (x.0 ∷ []) x.1 × (3 ≤ x.0) × (x.0 < 14)
+letter_takes : (bytes : List ℕ) (x : ℕ × List ℕ) → IsBytes bytes → letter_front bytes ≡ Some x → Takes bytes (x.0 ∷ []) x.1 × (3 ≤ x.0) × IsLetter x.0
 unfolding letter_front
 letter_takes bytes x fits e =
-    option_and_then_some _ (byte_front 14 bytes) x e (λ letter is e.
-    let t = byte_takes 14 bytes letter fits is in
+    option_and_then_some _ (byte_front letter_count bytes) x e (λ letter is e.
+    let t = byte_takes letter_count bytes letter fits is in
     let g = cond_some (nat_le 3 letter.0) (letter.0, letter.1) x e in
-    subst (λ (y : ℕ × List ℕ). Takes bytes (y.0 ∷ []) y.1 × (3 ≤ y.0) × (y.0 < 14)) g.1 (t.0, leb-true _ _ g.0, t.1))
+    subst (λ (y : ℕ × List ℕ). Takes bytes (y.0 ∷ []) y.1 × (3 ≤ y.0) × IsLetter y.0) g.1 (t.0, leb-true _ _ g.0, t.1))
 
-letter_again : (letter : ℕ) (rest : List ℕ) → 3 ≤ letter → letter < 14 → letter_front (letter ∷ rest) ≡ Some (letter, rest)
+letter_again : (letter : ℕ) (rest : List ℕ) → 3 ≤ letter → IsLetter letter → letter_front (letter ∷ rest) ≡ Some (letter, rest)
 unfolding letter_front
 letter_again letter rest low high =
-    and_then (byte_front 14 (letter ∷ rest)) _ (letter, rest) (Some (letter, rest)) (byte_again 14 letter rest high) (ap (λ t. cond t (Some (letter, rest)) None) (le-leb 3 letter low))
+    and_then (byte_front letter_count (letter ∷ rest)) _ (letter, rest) (Some (letter, rest)) (byte_again letter_count letter rest high) (ap (λ t. cond t (Some (letter, rest)) None) (le-leb 3 letter low))
 
 pub trip_takes : (bytes : List ℕ) (x : (TripLists × ℕ) × List ℕ) → IsBytes bytes → trip_front bytes ≡ Some x → Takes bytes (head_bytes_of x.0) x.1 × FitsHead x.0
 unfolding trip_front

@@ -10,6 +10,7 @@ use Rattle.service_days.specs.DaysMeaning.{DaysMeaning}
 use Rattle.service_days.specs.Zones.{days_made}
 use Rattle.timetable_arcs.specs.declared.trips.Call.{Call}
 use Rattle.timetable_arcs.specs.Trips.{TripLists}
+use Rattle.search_laws.specs.Letters.{letter_count}
 use Rattle.mode_network.specs.declared.nodes.Arc.{Arc}
 use Rattle.mode_network.specs.declared.nodes.Node.{Node}
 use Rattle.mode_network.specs.declared.nodes.NodeKey.TheVariants.{Road, Switch}
@@ -92,7 +93,7 @@ call_front bytes = do
 -- the letters of trips are 3 to 13
 unfoldable pub letter_front : List ℕ → Option (ℕ × List ℕ)
 letter_front bytes = do
-  letter ← byte_front 14 bytes
+  letter ← byte_front letter_count bytes
   if nat_le 3 letter.0 then Some (letter.0, letter.1) else None
 
 -- a set of days, which has at least one

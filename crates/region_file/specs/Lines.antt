@@ -12,6 +12,7 @@ use Rattle.service_days.specs.DaysMeaning.{DaysMeaning}
 use Rattle.service_days.specs.Zones.{days_made}
 use Rattle.timetable_arcs.specs.declared.trips.Call.{Call}
 use Rattle.timetable_arcs.specs.Trips.{TripLists}
+use Rattle.search_laws.specs.Letters.{IsLetter}
 use Rattle.mode_network.specs.declared.nodes.Arc.{Arc}
 use Rattle.mode_network.specs.declared.nodes.Node.{Node}
 use Rattle.mode_network.specs.declared.nodes.NodeKey.{NodeKey}
@@ -77,7 +78,7 @@ pub record FitsDays (days : DaysMeaning) : Type 0 where
 -- Letters are 3 to 13. There is some day, and none above 127.
 pub record FitsTrip (letter : ℕ) (days : DaySet) (calls : ℕ) (name : List ℕ) : Type 0 where
   pub from_tram : 3 ≤ letter
-  pub to_other : letter < 14
+  pub to_other : IsLetter letter
   pub some_day : IsHexadecimal days.0
   pub few : calls < 2 ^ 32
   pub named : is_name name ≡ true

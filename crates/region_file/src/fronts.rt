@@ -10,6 +10,7 @@ use crate::kinds::made_days;
 use mode_network::{Arc, Node, NodeKey};
 use plain_texts::Name;
 use plan_base::{DaySet, Place};
+use search_laws::LETTERS;
 use service_days::Days;
 use std::alloc::{AllocError, Global};
 use timetable_arcs::{Call, Trip};
@@ -206,7 +207,7 @@ pub fn call_front(bytes: &[u8]) -> Option<(Call, &[u8])>
 fn letter_front(bytes: &[u8]) -> Option<(u8, &[u8])>
     ensures { option_map (λ x. (x.0, x.1.now)) result ≡ spec.letter_front bytes.now }
 {
-    let (letter, behind) = byte_front(14, bytes)?;
+    let (letter, behind) = byte_front(LETTERS as u8, bytes)?;
     if 3 <= letter {
         Some((letter, behind))
     } else {
