@@ -1,6 +1,7 @@
 -- An automaton that reads no letter of transit accepts no word with one.
 use Rattle.std.proofs.Common.{◌≡◌, ℕ, ◌<◌, ◌≤◌, ◌⊎◌, List, [], ◌∷◌, inl, inr, refl, subst, arith}
 use Rattle.std.specs.Prelude.{bit_and, IsBitSet}
+use Rattle.search_laws.specs.Letters.{transit_letters}
 use Rattle.search_laws.specs.LabelLaws.{LabelsMeaning, IsLawfulLabels, Reads, Accepts}
 use Rattle.automaton.specs.CollapsedLaws.{set_and, no_bits, transit_set, letter_below}
 use Rattle.few_boardings.specs.declared.counted.Side.TheVariants.{AtLeast}
@@ -11,8 +12,8 @@ use Rattle.departures.specs.Transit.{IsTransit, ReadsNoTransit}
 use Rattle.departures.proofs.OrderLemmas.{le_or_above}
 
 -- a set without the bits of the letters of transit has none of them
-pub none_set : (set c : ℕ) → bit_and set 0x3ff8 ≡ 0 → IsTransit c → IsBitSet set c → ⊥
-none_set set c none (high, few) is = no_bits c (subst (λ b. IsBitSet b c) none (set_and set 0x3ff8 c is (transit_set c high few)))
+pub none_set : (set c : ℕ) → bit_and set transit_letters ≡ 0 → IsTransit c → IsBitSet set c → ⊥
+none_set set c none (high, few) is = no_bits c (subst (λ b. IsBitSet b c) none (set_and set transit_letters c is (transit_set c high few)))
 
 module _ (l : LabelsMeaning) (lawful : IsLawfulLabels l) (none : ReadsNoTransit l) where
   -- so a letter that it reads is one of roads

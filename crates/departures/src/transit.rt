@@ -3,10 +3,7 @@
 ghost use Rattle.std.specs.Prelude.{◌≡◌, ◌<◌, false};
 ghost use Rattle.departures.specs.Transit.{NoneByTransit, ReadsNoTransit};
 
-use search_laws::Labels;
-
-/// The bits of the letters from tram on.
-const TRANSIT: u32 = 0x3ff8;
+use search_laws::{Labels, TRANSIT};
 
 /// Whether some move of the state `q` is by a letter from tram on.
 fn leaves_by_transit<L: Labels>(labels: &L, q: u32) -> bool

@@ -1,6 +1,7 @@
 -- An automaton that counts transit letters.
 use Rattle.std.specs.Prelude.{ℕ, ◌+◌, ◌*◌, ◌/◌, ◌%◌, ◌^◌, ◌<◌, ◌≤◌, ◌&&◌, ◌==◌, ◌↔◌, Bool, true, false, nat_lt, nat_le, List, bit_and, if◌then◌else◌}
 use Rattle.std.specs.List.{count_by}
+use Rattle.search_laws.specs.Letters.{transit_letters}
 use Rattle.search_laws.specs.declared.labels.Move.{Move}
 use Rattle.search_laws.specs.LabelLaws.{LabelsMeaning, Accepts}
 use Rattle.few_boardings.specs.declared.counted.Side.{Side}
@@ -38,8 +39,8 @@ state_at limit q k = q * (limit + 1) + k
 abbrev pub counted_move : Bool → ℕ → ℕ → ℕ → Move → Move
 counted_move more limit kind k move =
     if kind == 0 then record { letters = bit_and move.letters 7; to = state_at limit move.to k }
-    else (if nat_lt k limit then record { letters = bit_and move.letters 0x3ff8; to = state_at limit move.to (k + 1) }
-    else record { letters = (if more then bit_and move.letters 0x3ff8 else 0); to = state_at limit move.to k })
+    else (if nat_lt k limit then record { letters = bit_and move.letters transit_letters; to = state_at limit move.to (k + 1) }
+    else record { letters = (if more then bit_and move.letters transit_letters else 0); to = state_at limit move.to k })
 
 -- state q * (limit + 1) + k is the inner state q with the count k
 abbrev pub counted : LabelsMeaning → Side → ℕ → LabelsMeaning

@@ -1,10 +1,11 @@
 -- The counting automaton keeps the laws of automata, and those of road letters where the inner one does. These are proofs, which a
 -- ghost field and ghost members of its type cite; nothing is defined here that a contract means.
-use Rattle.std.proofs.Common.{◌≡◌, ◌≢◌, ℕ, ◌+◌, ◌*◌, ◌/◌, ◌%◌, ◌^◌, ◌<◌, ◌≤◌, Bool, true, false, min, ◌==◌, nat_lt, nat_le, bit_and, IsBitSet, if◌then◌else◌, refl, sym, ap, ◌∙◌, subst, lit<, arith}
+use Rattle.std.proofs.Common.{◌≡◌, ◌≢◌, ℕ, ◌+◌, ◌*◌, ◌/◌, ◌%◌, ◌<◌, ◌≤◌, Bool, true, false, min, ◌==◌, nat_lt, nat_le, bit_and, IsBitSet, if◌then◌else◌, refl, sym, ap, ◌∙◌, subst, lit<, arith}
 use Rattle.std.proofs.lemmas.Bool.Decides.{nat_tests}
 use Rattle.std.proofs.lemmas.Nat.{and_le_l, div-mul-add, mod-mul-add, div-add-mod', mul-add-lt}
 use Rattle.std.proofs.lemmas.Nat.Bits.{bit_at_mask_inside, bit_at_above}
 use Rattle.std.proofs.Math.Nat.{mul_comm, div-lt_iff_lt-mul}
+use Rattle.search_laws.specs.Letters.{IsLetterSet, transit_letters}
 use Rattle.search_laws.specs.declared.labels.Move.{Move}
 use Rattle.search_laws.specs.LabelLaws.{LabelsMeaning, IsLawfulLabels, IsMove, HasMove, IsRoadLabels}
 use Rattle.automaton.specs.CollapsedLaws.{set_bit, bit_set, and_set, set_and, no_bits, letter_below, transit_set, set_transit}
@@ -77,18 +78,18 @@ pub record IsCounted (more : Bool) (limit kind k : ℕ) (move : Move) (c : ℕ) 
 abbrev by_tests : Bool → Bool → Bool → ℕ → ℕ → Move → Move
 by_tests road next more limit k move =
     if road then record { letters = bit_and move.letters 7; to = state_at limit move.to k }
-    else (if next then record { letters = bit_and move.letters 0x3ff8; to = state_at limit move.to (k + 1) }
-    else record { letters = (if more then bit_and move.letters 0x3ff8 else 0); to = state_at limit move.to k })
+    else (if next then record { letters = bit_and move.letters transit_letters; to = state_at limit move.to (k + 1) }
+    else record { letters = (if more then bit_and move.letters transit_letters else 0); to = state_at limit move.to k })
 
 pub counted_out : (more : Bool) (limit kind k : ℕ) (move : Move) (c : ℕ) → kind < 2 → k ≤ limit → IsBitSet (counted_move more limit kind k move).letters c
     → IsCounted more limit kind k move c
 counted_out more limit kind k move c small le set = on_tests (kind == 0) (nat_lt k limit) more refl refl refl set
   where
     -- by a transit letter, to the count after it
-    transit : (next m : Bool) → (kind == 0) ≡ false → nat_lt k limit ≡ next → more ≡ m → IsBitSet (bit_and move.letters 0x3ff8) c → KeepsWithin more limit (k + 1)
+    transit : (next m : Bool) → (kind == 0) ≡ false → nat_lt k limit ≡ next → more ≡ m → IsBitSet (bit_and move.letters transit_letters) c → KeepsWithin more limit (k + 1)
         → (by_tests false next m limit k move).to ≡ state_at limit move.to (count_after limit k 1) → IsCounted more limit kind k move c
     transit next m is test same set keeps to =
-        let both = and_set move.letters 0x3ff8 c set in
+        let both = and_set move.letters transit_letters c set in
         let one = added_transit c (set_transit c both.1) in
         let some : kind ≢ 0 = grind (arith, nat_tests) in
         record {
@@ -119,7 +120,7 @@ counted_out more limit kind k move c small le set = on_tests (kind == 0) (nat_lt
     on_tests false false false is test same set = absurd (no_bits c set)
 
 -- the other way: at the place of its kind a letter of the inner move is one of the counting move
-pub counted_in : (more : Bool) (limit k : ℕ) (move : Move) (c : ℕ) → move.letters < 2 ^ 14 → IsBitSet move.letters c → KeepsWithin more limit (k + added c)
+pub counted_in : (more : Bool) (limit k : ℕ) (move : Move) (c : ℕ) → IsLetterSet move.letters → IsBitSet move.letters c → KeepsWithin more limit (k + added c)
     → IsBitSet (counted_move more limit (added c) k move).letters c
 counted_in more limit k move c few set keeps = by_letter (nat_le 3 c) refl
   where
@@ -133,9 +134,9 @@ counted_in more limit k move c few set keeps = by_letter (nat_le 3 c) refl
         let one = added_transit c le in
         let is : (added c == 0) ≡ false = ap (λ j. j == 0) one in
         subst (λ (t : Bool). IsBitSet (by_tests t (nat_lt k limit) more limit k move).letters c) (sym is)
-        (by_count (nat_lt k limit) more refl refl one (set_and move.letters 0x3ff8 c set (transit_set c le (letter_below move.letters c few set))))
+        (by_count (nat_lt k limit) more refl refl one (set_and move.letters transit_letters c set (transit_set c le (letter_below move.letters c few set))))
       where
-        by_count : (next m : Bool) → nat_lt k limit ≡ next → more ≡ m → added c ≡ 1 → IsBitSet (bit_and move.letters 0x3ff8) c
+        by_count : (next m : Bool) → nat_lt k limit ≡ next → more ≡ m → added c ≡ 1 → IsBitSet (bit_and move.letters transit_letters) c
             → IsBitSet (by_tests false next m limit k move).letters c
         by_count true m test same one set = set
         by_count false true test same one set = set
@@ -151,13 +152,13 @@ move_to more limit kind k n move le lt = on_tests (kind == 0) (nat_lt k limit) r
     on_tests false true test = state_below limit n move.to (k + 1) lt (let below : k < limit = grind (arith, nat_tests) in omega arith)
     on_tests false false test = state_below limit n move.to k lt le
 
-move_letters : (more : Bool) (limit kind k : ℕ) (move : Move) → move.letters < 2 ^ 14 → (counted_move more limit kind k move).letters < 2 ^ 14
+move_letters : (more : Bool) (limit kind k : ℕ) (move : Move) → IsLetterSet move.letters → IsLetterSet (counted_move more limit kind k move).letters
 move_letters more limit kind k move few = on_tests (kind == 0) (nat_lt k limit) more
   where
-    on_tests : (a b m : Bool) → (by_tests a b m limit k move).letters < 2 ^ 14
+    on_tests : (a b m : Bool) → IsLetterSet (by_tests a b m limit k move).letters
     on_tests true b m = omega (arith, and_le_l move.letters 7)
-    on_tests false true m = omega (arith, and_le_l move.letters 0x3ff8)
-    on_tests false false true = omega (arith, and_le_l move.letters 0x3ff8)
+    on_tests false true m = omega (arith, and_le_l move.letters transit_letters)
+    on_tests false false true = omega (arith, and_le_l move.letters transit_letters)
     on_tests false false false = lit< tt
 
 module _ (l : LabelsMeaning) (lawful : IsLawfulLabels l) (side : Side) (limit : ℕ) where

@@ -4,12 +4,10 @@ ghost use Rattle.std.specs.Prelude.{◌≡◌, ℕ, ◌+◌, ◌*◌, ◌<◌, �
 ghost use Rattle.few_boardings.specs.Counted.{FitsCounted, counted, counted_move, reads_on, may_end, AcceptsCounted};
 ghost use Rattle.few_boardings.specs.CountedLaws.{counted_lawful, counted_road};
 
-use search_laws::{Labels, Move, RoadLabels};
+use search_laws::{Labels, Move, RoadLabels, TRANSIT};
 
 /// The bits of the road letters: foot, bike and car.
 const ROAD: u32 = 0x7;
-/// The bits of the letters from tram on.
-const TRANSIT: u32 = 0x3ff8;
 
 /// On which side of a limit a count is to be.
 #[derive(Clone, Copy, Debug, PartialEq, Eq)]

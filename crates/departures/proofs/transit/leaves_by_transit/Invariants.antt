@@ -1,6 +1,7 @@
 use Rattle.std.proofs.Common.{◌≡◌, ℕ, ◌<◌}
 use Rattle.std.specs.Prelude.{bit_and}
+use Rattle.search_laws.specs.Letters.{transit_letters}
 use Rattle.departures.proofs.transit.leaves_by_transit.Given as goal
 
 abbrev pub invariant-loop-i : goal.invariant-loop-i
-invariant-loop-i g l = (i : ℕ) → i < l.i → bit_and ((g.L.Labels.automaton l.labels).move_at l.q i).letters 0x3ff8 ≡ 0
+invariant-loop-i g l = (i : ℕ) → i < l.i → bit_and ((g.L.Labels.automaton l.labels).move_at l.q i).letters transit_letters ≡ 0
