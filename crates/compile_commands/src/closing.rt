@@ -9,6 +9,7 @@ use opl_reader::{Objects, OsmWay};
 use plan_base::Sink;
 use region_build::{LeftOut, Region};
 use run_steps::tell;
+use search_laws::LETTERS;
 use std::alloc::{AllocError, Global};
 
 /// What a map and a feed have that is in no region of them, and when the feed has service.
@@ -127,7 +128,7 @@ fn stops_of(network: &Network) -> u32 {
 
 /// Tells how many trips there are by each means of transport, one line for each.
 fn tell_trips<E: Sink>(alloc: Global, network: &Network, notes: &mut E) {
-    for number in 3..14 {
+    for number in 3..LETTERS as u8 {
         if let Some(letter) = Letter::from_number(number) {
             let count = trips_by(network, letter);
             if count > 0 {

@@ -2,6 +2,7 @@
 use Rattle.std.proofs.Common.{◌≡◌, ℕ, ◌+◌, ◌-◌, ◌^◌, ◌<◌, ◌≤◌, List, length, Option, Some, None, refl, sym, ap, subst, arith}
 use Rattle.std.specs.Prelude.{IfSome, option_map}
 use Rattle.std.proofs.lemmas.List.Elements.{All-contains}
+use Rattle.search_laws.specs.Letters.{IsLetter}
 use Rattle.search_laws.specs.GraphLaws.{IsLawfulGraph, HasArc}
 use Rattle.timetable_arcs.specs.declared.trips.Instance.{Instance}
 use Rattle.timetable_arcs.specs.Patterns.{TableLists, pattern_trip, departs, no_call}
@@ -51,11 +52,11 @@ module _ (n : NetworkLists) (network : IsNetwork n) (t : TableLists) (table : Is
       (stops_in_range n network t table of (pattern_call t ride.pattern ride.alight).stop
       (subst (λ stops. (pattern_call t ride.pattern ride.alight).stop < stops) of.stops (known ride.alight no_call alights.within)))
 
-  mode_fits : (v : ℕ) (o : Option ℕ) → mode_at n.roads v ≡ o → IfSome o (λ c. c < 14)
+  mode_fits : (v : ℕ) (o : Option ℕ) → mode_at n.roads v ≡ o → IfSome o IsLetter
   mode_fits v None e = tt
   mode_fits v (Some mode) e = let low = (mode_is_road n network v mode e).1 in omega arith
 
-  letter_fits : (v : ℕ) (a : PlainArc) → IsInto n t v a → IfSome (mirror_arc n t v a).letter (λ c. c < 14)
+  letter_fits : (v : ℕ) (a : PlainArc) → IsInto n t v a → IfSome (mirror_arc n t v a).letter IsLetter
   letter_fits v (Road arc) into = mode_fits v _ refl
   letter_fits v (Link link) into = tt
   letter_fits v Stand into = mode_fits v _ refl

@@ -9,6 +9,7 @@ use Rattle.std.proofs.lemmas.List.Concat.{length-flat_map}
 use Rattle.std.proofs.lemmas.List.Sums.{sum_by-le, sum_by-le-sum_by}
 use Rattle.std.proofs.lemmas.List.Elements.{All-nil, All-cons}
 use Rattle.std.proofs.lemmas.List.FromFn.{length-range_with_len, get_or-range_with_len, length-map-range_with_len, get_or-map-range_with_len, map-range_with_len_more}
+use Rattle.search_laws.specs.Letters.{IsLetterSet}
 use Rattle.search_laws.specs.declared.labels.Move.{Move}
 use Rattle.search_laws.specs.LabelLaws.{LabelsMeaning, IsLawfulLabels, HasMove, IsMove}
 use Rattle.search_laws.proofs.WayLemmas.{range_more}
@@ -84,7 +85,7 @@ module _ (l : LabelsMeaning) (lawful : IsLawfulLabels l) where
   -- the move comes from a move of the other automaton that leads to r
   pub record IsTurned (r : ℕ) (move : Move) : Type 0 where
     pub to : move.to < l.states
-    pub letters : move.letters < 2 ^ 14
+    pub letters : IsLetterSet move.letters
     pub moves : (c : ℕ) → IsBitSet move.letters c → HasMove l move.to c r
 
   one_turned : (r q i : ℕ) → q < l.states → i < l.moves q → All (IsTurned r) (turned l r q i)

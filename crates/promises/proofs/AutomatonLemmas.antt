@@ -1,6 +1,7 @@
 -- The position automata of an expression have the same moves when they are collapsed, whatever the order of these.
 use Rattle.std.proofs.Common.{◌≡◌, ◌≢◌, ℕ, ◌+◌, ◌-◌, ◌*◌, ◌/◌, ◌%◌, ◌^◌, ◌<◌, Bool, true, false, ◌==◌, ◌&&◌, ◌⊎◌, inl, inr, bit_and, IsBitSet, if◌then◌else◌, refl, sym, ap, ◌∙◌, subst, arith}
 use Rattle.std.proofs.lemmas.Bool.Decides.{nat_tests}
+use Rattle.search_laws.specs.Letters.{transit_letters}
 use Rattle.search_laws.specs.declared.labels.Move.{Move}
 use Rattle.search_laws.specs.LabelLaws.{LabelsMeaning, HasMove}
 use Rattle.automaton.specs.Written.{Written}
@@ -37,7 +38,7 @@ module _ (e : Written) (l m : LabelsMeaning) (is : IsPositionAutomaton e l) (als
 
 abbrev by_kind : Bool → Bool → ℕ → Move → Move
 by_kind zero_kind own_kind kind move =
-    if zero_kind then record { letters = bit_and move.letters 0x3ff8; to = 4 * move.to }
+    if zero_kind then record { letters = bit_and move.letters transit_letters; to = 4 * move.to }
     else (if own_kind then record { letters = 0; to = 4 * move.to + kind }
     else record { letters = bit_and move.letters (2 ^ (kind - 1)); to = 4 * move.to + kind })
 
@@ -47,7 +48,7 @@ given : (own kind : ℕ) (a b : Move) (c : ℕ) → IsBitSet (move_by own kind a
 given own kind a b c set = by_test (kind == 0) (kind == own) set
   where
     by_test : (x y : Bool) → IsBitSet (by_kind x y kind a).letters c → IsBitSet a.letters c × (IsBitSet b.letters c → IsBitSet (by_kind x y kind b).letters c)
-    by_test true y set = let both = and_set a.letters 0x3ff8 c set in (both.0, λ also. set_and b.letters 0x3ff8 c also both.1)
+    by_test true y set = let both = and_set a.letters transit_letters c set in (both.0, λ also. set_and b.letters transit_letters c also both.1)
     by_test false true set = absurd (no_bits c set)
     by_test false false set = let both = and_set a.letters (2 ^ (kind - 1)) c set in (both.0, λ also. set_and b.letters (2 ^ (kind - 1)) c also both.1)
 
