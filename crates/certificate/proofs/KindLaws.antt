@@ -12,6 +12,7 @@ use Rattle.plain_texts.proofs.Decimal.{first_digit, number_takes, number_again}
 use Rattle.plain_texts.proofs.Spaced.{spaced-words_of, words_of-spaced, word_by_test, decimal_is_word}
 use Rattle.mode_network.specs.declared.steps.Step.{Step}
 use Rattle.mode_network.specs.declared.steps.Step.TheVariants.{Wait, Road, Link, Stand, Ride}
+use Rattle.search_laws.specs.Times.{time_bound}
 use Rattle.product_search.specs.declared.label.Label.{Label}
 use Rattle.certificate.specs.declared.lines.Line.{Line}
 use Rattle.certificate.specs.declared.lines.Line.TheVariants as line
@@ -30,10 +31,10 @@ word_again : (n : ℕ) → n < 2 ^ 32 → number_of_word (decimal n) ≡ Some n
 word_again n h = number_again (2 ^ 32) n (omega arith) h
 
 pub time_takes : (text : List ℕ) (t : ℕ) → time_of_word text ≡ Some t → IsTime t × (text ≡ decimal t)
-time_takes text t e = number_takes text (10 ^ 30) t (omega arith) e
+time_takes text t e = number_takes text time_bound t (omega arith) e
 
 pub time_again : (t : ℕ) → IsTime t → time_of_word (decimal t) ≡ Some t
-time_again t h = number_again (10 ^ 30) t (omega arith) h
+time_again t h = number_again time_bound t (omega arith) h
 
 -- bytes that are equal to a literal
 pub same_bytes : (xs ys : List ℕ) → bytes_eq xs ys ≡ true → xs ≡ ys

@@ -1,9 +1,10 @@
 -- Sets of states, state by state and letter by letter.
-use Rattle.std.proofs.Common.{◌≡◌, ℕ, ◌^◌, ◌<◌, inl, inr, Bool, false, List, [], ◌∷◌, ◌++◌, length, get_or, refl, sym, subst, arith}
+use Rattle.std.proofs.Common.{◌≡◌, ℕ, ◌<◌, inl, inr, Bool, false, List, [], ◌∷◌, ◌++◌, length, get_or, refl, sym, subst, arith}
 use Rattle.std.specs.Prelude.{IsBitSet, ◌↔◌}
 use Rattle.std.proofs.lemmas.Bool.{cases_lt}
 use Rattle.std.proofs.lemmas.List.{get_or_past}
 use Rattle.std.proofs.lemmas.Nat.Bits.{bit_at_above}
+use Rattle.search_laws.specs.Letters.{IsLetter, IsLetterSet, letter_count}
 use Rattle.search_laws.specs.LabelLaws.{LabelsMeaning, HasMove, Reads}
 use Rattle.search_laws.proofs.WalkLemmas.{reads_more}
 use Rattle.automaton.specs.CollapsedLaws.{set_bit}
@@ -20,10 +21,10 @@ in_range s q is = elim (cases_lt q (length s)) [
 
 -- ---- letters
 
-pub low_letter : (n c : ℕ) → n < 2 ^ 14 → IsBitSet n c → c < 14
-low_letter n c lt is = elim (cases_lt c 14) [
+pub low_letter : (n c : ℕ) → IsLetterSet n → IsBitSet n c → IsLetter c
+low_letter n c lt is = elim (cases_lt c letter_count) [
   | inl low ↦ low
-  | inr high ↦ (let one = set_bit n c is in let none = bit_at_above n 14 c lt high in cc)
+  | inr high ↦ (let one = set_bit n c is in let none = bit_at_above n letter_count c lt high in cc)
 ]
 
 module _ (l : LabelsMeaning) where

@@ -4,6 +4,7 @@ use Rattle.std.specs.Prelude.{option_to_list, slice_index_or, All}
 use Rattle.std.proofs.Math.Seq.{take-length}
 use Rattle.std.proofs.lemmas.List.{take_more}
 use Rattle.std.proofs.lemmas.Option.{slice_get-get_or}
+use Rattle.search_laws.specs.Times.{time_bound}
 use Rattle.search_laws.specs.LabelLaws.{LabelsMeaning}
 use Rattle.mode_network.specs.declared.steps.Step.{Step}
 use Rattle.mode_network.specs.NetworkLists.{NetworkLists}
@@ -22,7 +23,7 @@ pub record IsWalking (n : NetworkLists) (l : LabelsMeaning) (v t : ℕ) (steps :
   pub letters : List ℕ
   pub before : AreSteps n v t (take k steps) walked.node walked.at letters
   pub states : AreAfter l letters walked.states
-  pub in_time : walked.at < 10 ^ 30 + k * 2 ^ 32
+  pub in_time : walked.at < time_bound + k * 2 ^ 32
 
 -- one step more leads to where and when it ends, and its letter, if it has one, is read
 pub record GoesOn (l : LabelsMeaning) (old new : Walked) (end : StepEnd) : Type 0 where

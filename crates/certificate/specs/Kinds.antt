@@ -4,6 +4,7 @@ use Rattle.std.specs.Str.{bytes_eq}
 use Rattle.plain_texts.specs.Lines.{words_of}
 use Rattle.plain_texts.specs.Numbers.{number_at}
 use Rattle.mode_network.specs.declared.steps.Step.TheVariants.{Wait, Road, Link, Stand, Ride}
+use Rattle.search_laws.specs.Times.{time_bound}
 use Rattle.product_search.specs.declared.label.Label.{Label}
 use Rattle.certificate.specs.declared.lines.Line.{Line}
 use Rattle.certificate.specs.declared.lines.Line.TheVariants as line
@@ -18,7 +19,7 @@ number_of_word text = number_at (2 ^ 32) text
 
 -- a number of at most 30 digits
 abbrev pub time_of_word : List ℕ → Option ℕ
-time_of_word text = number_at (10 ^ 30) text
+time_of_word text = number_at time_bound text
 
 unfoldable pub label_of_words : List (List ℕ) → Option Label
 label_of_words (node ∷ state ∷ at ∷ []) = do

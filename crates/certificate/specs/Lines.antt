@@ -3,6 +3,7 @@ use Rattle.std.specs.Prelude.{ℕ, ◌<◌, ◌^◌, List, [], ◌∷◌, Bool, 
 use Rattle.plain_texts.specs.Lines.{spaced}
 use Rattle.mode_network.specs.declared.steps.Step.{Step}
 use Rattle.mode_network.specs.declared.steps.Step.TheVariants.{Wait, Road, Link, Stand, Ride}
+use Rattle.search_laws.specs.Times.{time_bound}
 use Rattle.product_search.specs.declared.label.Label.{Label}
 use Rattle.certificate.specs.declared.lines.Line.{Line}
 use Rattle.certificate.specs.declared.lines.Line.TheVariants as line
@@ -39,7 +40,7 @@ spelled l = spaced (words l)
 
 -- Times have at most 30 digits.
 abbrev pub IsTime : ℕ → Type 0
-IsTime t = t < 10 ^ 30
+IsTime t = t < time_bound
 
 -- the time of a label is one
 abbrev pub HasLabelTime : Label → Type 0

@@ -1,5 +1,6 @@
 -- When a certificate is valid, and what it then proves.
-use Rattle.std.specs.Prelude.{◌≡◌, ℕ, ◌<◌, ◌^◌, List, Option, Some, None, is_some, IfSome, All, option_map}
+use Rattle.std.specs.Prelude.{◌≡◌, ℕ, ◌<◌, List, Option, Some, None, is_some, IfSome, All, option_map}
+use Rattle.search_laws.specs.Times.{time_bound}
 use Rattle.search_laws.specs.GraphLaws.{GraphMeaning}
 use Rattle.search_laws.specs.LabelLaws.{LabelsMeaning, IsLawfulLabels}
 use Rattle.product_search.specs.Closed.{IsClosed}
@@ -54,8 +55,8 @@ pub record IsValid (n : NetworkLists) (h : Option HierarchyLists) (c : Claim) : 
 
 -- the times of a certificate are below 10 ^ 30
 pub record HaveTimes (c : Claim) : Type 0 where
-  pub result : IfSome c.result (λ claimed. (claimed.0 < 10 ^ 30) × HasTimes claimed.1)
-  pub labels : All (λ label. label.at < 10 ^ 30) c.labels
+  pub result : IfSome c.result (λ claimed. (claimed.0 < time_bound) × HasTimes claimed.1)
+  pub labels : All (λ label. label.at < time_bound) c.labels
 
 -- the journey that is claimed is a best one and has the arrival that is claimed; or it is claimed that there is none, and no journey answers
 abbrev pub IsBestResult : NetworkLists → Asked → Option (ℕ × Route) → Type 0

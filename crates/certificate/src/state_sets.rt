@@ -1,10 +1,11 @@
 //! The states of an automaton that the letters of a journey are read to.
 
-ghost use Rattle.std.specs.Prelude.{◌≡◌, ℕ, ◌<◌, ◌^◌, ◌↔◌, ◌++◌, ◌∷◌, [], List, length, IfOk, IsTrue, IsBitSet};
+ghost use Rattle.std.specs.Prelude.{◌≡◌, ℕ, ◌<◌, ◌↔◌, ◌++◌, ◌∷◌, [], List, length, IfOk, IsTrue, IsBitSet};
+ghost use Rattle.search_laws.specs.Letters.{IsLetterSet};
 ghost use Rattle.search_laws.specs.LabelLaws.{HasMove, Accepts};
 ghost use Rattle.certificate.specs.StateSets.{IsIn, AreAdded, HasMoveFrom, AreAfter};
 
-use search_laws::{Labels, Move};
+use search_laws::{LETTERS, Labels, Move};
 use std::alloc::{AllocError, Global};
 use std::mem::swap;
 
@@ -114,7 +115,7 @@ fn mark_moves<L: Labels>(labels: &L, state: u32, letter: u8, set: &mut [bool])
 /// Puts the state that a move leads to into a set, if it is by the letter.
 fn mark_move(step: Move, letter: u8, set: &mut [bool])
     requires to { step.to < length set.old }
-    requires letters { step.letters < 2 ^ 14 }
+    requires letters { IsLetterSet step.letters }
     ensures { AreAdded set.old set.new (λ r. IsBitSet step.letters letter × (step.to ≡ r)) }
 {
     if has_letter(step, letter) {
@@ -122,10 +123,10 @@ fn mark_move(step: Move, letter: u8, set: &mut [bool])
     }
 }
 
-/// Whether a move is by the letter. Letters are below 14.
+/// Whether a move is by the letter. Letters are below [`LETTERS`].
 fn has_letter(step: Move, letter: u8) -> bool
-    requires { step.letters < 2 ^ 14 }
+    requires { IsLetterSet step.letters }
     ensures { IsTrue result ↔ IsBitSet step.letters letter }
 {
-    letter < 14 && step.letters & (1 << letter) != 0
+    letter < LETTERS as u8 && step.letters & (1 << letter) != 0
 }

@@ -1,6 +1,7 @@
 //! A journey walked step by step, and the states of an automaton that its letters are read to.
 
-ghost use Rattle.std.specs.Prelude.{◌≡◌, ◌<◌, ◌^◌, ◌++◌, [], List, ℕ, All, option_to_list};
+ghost use Rattle.std.specs.Prelude.{◌≡◌, ◌<◌, ◌++◌, [], List, ℕ, All, option_to_list};
+ghost use Rattle.search_laws.specs.Times.{time_bound};
 ghost use Rattle.journey.specs.Ends.{HasTime, HasTimes};
 ghost use Rattle.journey.specs.Rides.{KeepsRules};
 ghost use Rattle.certificate.specs.StateSets.{AreAfter};
@@ -77,7 +78,7 @@ fn walk_steps<L: Labels>(
     steps: &[Step],
     states: StateSets,
 ) -> Result<Walked, u64>
-    requires at { at < 10 ^ 30 }
+    requires at { at < time_bound }
     requires waits { All HasTime steps.now }
     requires states { AreAfter (L.automaton labels.now) [] states }
     ensures { IsTraced network.now (L.automaton labels.now) start at steps.now result }

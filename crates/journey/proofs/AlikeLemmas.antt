@@ -13,6 +13,8 @@ use Rattle.plain_texts.proofs.Spaced.{name_is_word}
 use Rattle.service_days.specs.Clock.{clock_text_of}
 use Rattle.service_days.specs.Days.{date_of}
 use Rattle.plain_texts.specs.FixedDecimal.{fixed_decimal}
+use Rattle.search_laws.specs.Times.{time_bound}
+use Rattle.search_laws.specs.Letters.{IsLetter}
 use Rattle.search_laws.specs.Collapse.{collapse}
 use Rattle.timetable_arcs.specs.Trips.{TripLists}
 use Rattle.timetable_arcs.specs.Patterns.{no_trip}
@@ -52,7 +54,7 @@ feed_there (b ∷ a) x e = cc
 
 module _ (n : NetworkLists) (rules : KeepsRules n) where
   -- the letter of a trip is that of a means that runs by a timetable
-  trip_letter : (place : ℕ) (trip : TripLists) → slice_get n.trips place ≡ Some trip → trip.letter < 14
+  trip_letter : (place : ℕ) (trip : TripLists) → slice_get n.trips place ≡ Some trip → IsLetter trip.letter
   trip_letter place trip is =
       let kept = kept_trip n rules.network place trip is in
       let letter = nat_le 3 trip.letter && nat_le trip.letter 13 in
@@ -84,7 +86,7 @@ module _ (n : NetworkLists) (rules : KeepsRules n) where
       → ride_text n trip day v t ≡ letter_text trip.letter ++ 32 ∷ (fixed_decimal 8 (date_of n.days day) ++ 32 ∷ (node_text n v ++ 32 ∷ (clock_text_of n.days t ++ 32 ∷ trip.name)))
   ride_parts trip day v t = simp append_assoc
 
-  ride_once : (trip other : TripLists) (day day2 v w t u : ℕ) → trip.letter < 14 → other.letter < 14 → v < length (nodes_of n) → w < length (nodes_of n) → t < 2 ^ 128 → u < 2 ^ 128
+  ride_once : (trip other : TripLists) (day day2 v w t u : ℕ) → IsLetter trip.letter → IsLetter other.letter → v < length (nodes_of n) → w < length (nodes_of n) → t < 2 ^ 128 → u < 2 ^ 128
       → ride_text n trip day v t ≡ ride_text n other day2 w u → (v ≡ w) × (t ≡ u) × (trip.letter ≡ other.letter)
   ride_once trip other day day2 v w t u hl ho hv hw ht hu e =
       let lacks = λ (word : List ℕ) (h : IsWord word). word_lacks 32 word (omega arith) h in
@@ -139,7 +141,7 @@ module _ (n : NetworkLists) (rules : KeepsRules n) where
       let one = trip_held trip run ride.run.is in
       let other = trip_held trip2 run2 ride2.run.is in
       let same = ride_once (slice_index_or n.trips trip no_trip) (slice_index_or n.trips trip2 no_trip) day day2 w w2 u u2
-      (subst (λ (x : TripLists). x.letter < 14) (sym one) (trip_letter trip run ride.run.is)) (subst (λ (x : TripLists). x.letter < 14) (sym other) (trip_letter trip2 run2 ride2.run.is))
+      (subst (λ (x : TripLists). IsLetter x.letter) (sym one) (trip_letter trip run ride.run.is)) (subst (λ (x : TripLists). IsLetter x.letter) (sym other) (trip_letter trip2 run2 ride2.run.is))
       hw hw2 hu hu2 (append_cancel_left (codes "ride ") _ _ e) in
       let letters : run.letter ≡ run2.letter = sym (ap (λ (x : TripLists). x.letter) one) ∙ same.2 ∙ ap (λ (x : TripLists). x.letter) other in
       (same.0, same.1, letter ∙ ap Some letters ∙ sym letter2)
@@ -173,7 +175,7 @@ module _ (n : NetworkLists) (rules : KeepsRules n) where
 
   -- after k steps not much time has passed
   abbrev InTime : ℕ → ℕ → List Step → Type 0
-  InTime k t steps = (t < 10 ^ 30 + k * 2 ^ 32) × (k + length steps < 2 ^ 64) × All HasTime steps
+  InTime k t steps = (t < time_bound + k * 2 ^ 32) × (k + length steps < 2 ^ 64) × All HasTime steps
 
   next_in_time : (k v t : ℕ) (step : Step) (steps : List Step) (w u : ℕ) (c : Option ℕ) → InTime k t (step ∷ steps) → IsStep n v t step w u c → InTime (k + 1) u steps × (u < 2 ^ 128)
   next_in_time k v t step steps w u c (soon, few, times) is =

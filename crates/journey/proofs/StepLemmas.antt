@@ -14,6 +14,7 @@ use Rattle.mode_network.specs.Journeys.{IsStep, AreSteps}
 use Rattle.std.proofs.Math.Nat.{lt_of_lt_of_le}
 use Rattle.mode_network.proofs.FindLemmas.{leads_once}
 use Rattle.mode_network.proofs.RuleLemmas.{some_is, arcs_in_range, links_in_range, nodes_hold_roads}
+use Rattle.search_laws.specs.Times.{time_bound}
 use Rattle.journey.specs.Ends.{AreTaken, HasTime}
 use Rattle.journey.specs.Texts.{step_text, AreTold, IsThere}
 use Rattle.journey.specs.Rides.{KeepsRules}
@@ -116,8 +117,8 @@ module _ (n : NetworkLists) where
       rw at held
 
   -- a step ends no more than 2 ^ 32 ms later, or when a wait does
-  pub step_in_time : KeepsRules n → (v t : ℕ) (step : Step) (w u : ℕ) (c : Option ℕ) → HasTime step → IsStep n v t step w u c → (u ≤ t + 2 ^ 32) ⊎ (u < 10 ^ 30)
-  step_in_time rules v t (Wait until) w u c h (later, at, now, none) = inr (subst (λ x. x < 10 ^ 30) (sym now) h)
+  pub step_in_time : KeepsRules n → (v t : ℕ) (step : Step) (w u : ℕ) (c : Option ℕ) → HasTime step → IsStep n v t step w u c → (u ≤ t + 2 ^ 32) ⊎ (u < time_bound)
+  step_in_time rules v t (Wait until) w u c h (later, at, now, none) = inr (subst (λ x. x < time_bound) (sym now) h)
   step_in_time rules v t (Road to) w u c h (ms, (k, lt, is), at, now, read) =
       let fits = subst (λ (a : Arc). a.ms < 2 ^ 32) is (rules.network.arcs_fit k _ lt) in
       inl (omega arith)
@@ -139,7 +140,7 @@ module _ (n : NetworkLists) where
       (slice_get_within n.trips trip run ride.run.is, run_within n rules trip day run ride.run)
 
 -- the times of steps rise no faster
-pub on_time : (k at u : ℕ) → at < 10 ^ 30 + k * 2 ^ 32 → (u ≤ at + 2 ^ 32) ⊎ (u < 10 ^ 30) → u < 10 ^ 30 + (k + 1) * 2 ^ 32
+pub on_time : (k at u : ℕ) → at < time_bound + k * 2 ^ 32 → (u ≤ at + 2 ^ 32) ⊎ (u < time_bound) → u < time_bound + (k + 1) * 2 ^ 32
 on_time k at u before (inl near) = omega arith
 on_time k at u before (inr waited) = omega arith
 

@@ -19,6 +19,7 @@ use Rattle.service_days.specs.Days.{AreDays, base_of, date_of, day_at}
 use Rattle.service_days.specs.Clock.{hours_text, part_text, time_text, clock_text_of}
 use Rattle.service_days.specs.ReadClock.{clock_at}
 use Rattle.service_days.proofs.ClockLaws.{clock_again}
+use Rattle.search_laws.specs.Letters.{IsLetter}
 use Rattle.journey.specs.Texts.{letter_text}
 
 -- ---- a mark after a part that lacks it
@@ -55,7 +56,7 @@ pub record LetterTells (k : ℕ) : Type 0 where
   pub again : position (λ known. bytes_eq known (letter_text k)) letter_names ≡ Some k
   pub plain : Lacks 58 (letter_text k)
 
-pub letter_tells : (k : ℕ) → k < 14 → LetterTells k
+pub letter_tells : (k : ℕ) → IsLetter k → LetterTells k
 letter_tells zero h = record { again = refl; plain = lacks_by_test 58 (codes "foot") refl }
 letter_tells (suc zero) h = record { again = refl; plain = lacks_by_test 58 (codes "bike") refl }
 letter_tells (suc (suc zero)) h = record { again = refl; plain = lacks_by_test 58 (codes "car") refl }
@@ -90,7 +91,7 @@ letter_is_word (suc (suc (suc (suc (suc (suc (suc (suc (suc (suc (suc (suc zero)
 letter_is_word (suc (suc (suc (suc (suc (suc (suc (suc (suc (suc (suc (suc (suc zero))))))))))))) = word_by_test (codes "other") refl
 letter_is_word (suc (suc (suc (suc (suc (suc (suc (suc (suc (suc (suc (suc (suc (suc k)))))))))))))) = All-nil (λ b. 32 < b)
 
-pub letter_once : (k l : ℕ) → k < 14 → l < 14 → letter_text k ≡ letter_text l → k ≡ l
+pub letter_once : (k l : ℕ) → IsLetter k → IsLetter l → letter_text k ≡ letter_text l → k ≡ l
 letter_once k l hk hl e =
     same_Some k l (sym (letter_tells k hk).again ∙ ap (λ text. position (λ known. bytes_eq known text) letter_names) e ∙ (letter_tells l hl).again)
 

@@ -2,6 +2,7 @@
 use Rattle.std.proofs.Common.{◌≡◌, ℕ, ◌+◌, ◌*◌, ◌^◌, ◌<◌, ◌∙◌, List, [], ◌∷◌, ◌++◌, length, take, drop, Option, Some, None, refl, ap, sym, subst, arith, append-nil, suc, add-one, drop-cons}
 use Rattle.std.specs.Prelude.{option_to_list, slice_index_or, All}
 use Rattle.std.proofs.lemmas.List.{take_more}
+use Rattle.search_laws.specs.Times.{time_bound}
 use Rattle.search_laws.specs.Collapse.{collapse}
 use Rattle.plain_texts.specs.Lines.{with_feed}
 use Rattle.mode_network.specs.declared.steps.Step.{Step}
@@ -21,7 +22,7 @@ pub record IsTelling (n : NetworkLists) (v t : ℕ) (steps : List Step) (k node 
   pub word_is : word ≡ collapse letters
   pub rest : AreTaken n node at (drop k steps)
   pub in_range : node < length (nodes_of n)
-  pub in_time : at < 10 ^ 30 + k * 2 ^ 32
+  pub in_time : at < time_bound + k * 2 ^ 32
 
 pub with_more : (letters : List ℕ) (c : Option ℕ) → collapse (letters ++ option_to_list c) ≡ with_letter (collapse letters) c
 with_more letters None = ap collapse (append-nil letters)
@@ -56,7 +57,7 @@ telling_more n rules v t steps times k node at word lines step telling lt is w u
       in_time = on_time k at u telling.in_time (step_in_time n rules node at step w u c time here);
     }
 
-pub telling_starts : (n : NetworkLists) (v t : ℕ) (steps : List Step) → AreTaken n v t steps → v < length (nodes_of n) → t < 10 ^ 30 → IsTelling n v t steps 0 v t [] []
+pub telling_starts : (n : NetworkLists) (v t : ℕ) (steps : List Step) → AreTaken n v t steps → v < length (nodes_of n) → t < time_bound → IsTelling n v t steps 0 v t [] []
 telling_starts n v t steps taken node time = record {
   letters = [];
   told = (refl, refl, refl, refl);

@@ -4,6 +4,7 @@ use Rattle.std.specs.Prelude.{option_to_list, slice_index_or, All, IsTrue, ◌�
 use Rattle.std.proofs.Math.Seq.{take-length}
 use Rattle.std.proofs.lemmas.List.{take_more}
 use Rattle.std.proofs.lemmas.Option.{slice_get-get_or}
+use Rattle.search_laws.specs.Times.{time_bound}
 use Rattle.search_laws.specs.Collapse.{collapse}
 use Rattle.mode_network.specs.declared.steps.Step.{Step}
 use Rattle.mode_network.specs.NetworkLists.{NetworkLists}
@@ -21,13 +22,13 @@ use Rattle.journey.proofs.ToldLemmas.{next_step, with_more}
 pub record IsWalking (n : NetworkLists) (v t : ℕ) (steps : List Step) (k node at : ℕ) : Type 0 where
   pub letters : List ℕ
   pub before : AreSteps n v t (take k steps) node at letters
-  pub in_time : at < 10 ^ 30 + k * 2 ^ 32
+  pub in_time : at < time_bound + k * 2 ^ 32
 
 one_more : (steps : List Step) (k : ℕ) (step : Step) → k < length steps → slice_index_or steps k step ≡ step → take (k + 1) steps ≡ take k steps ++ step ∷ []
 one_more steps k step lt is = take_more steps k step lt ∙ ap (λ (x : Step). take k steps ++ x ∷ []) is
 
 module _ (n : NetworkLists) (v t : ℕ) (steps : List Step) where
-  pub walking_starts : t < 10 ^ 30 → IsWalking n v t steps 0 v t
+  pub walking_starts : t < time_bound → IsWalking n v t steps 0 v t
   walking_starts time = record { letters = []; before = (refl, refl, refl); in_time = omega arith }
 
   pub walking_more : KeepsRules n → All HasTime steps → (k node at : ℕ) (step : Step) → IsWalking n v t steps k node at → k < length steps

@@ -1,9 +1,10 @@
 -- Where and when a step ends.
-use Rattle.std.specs.Prelude.{ℕ, ◌<◌, ◌^◌, List, Option, Some, None, All}
+use Rattle.std.specs.Prelude.{ℕ, ◌<◌, List, Option, Some, None, All}
 use Rattle.mode_network.specs.declared.steps.Step.{Step}
 use Rattle.mode_network.specs.declared.steps.Step.TheVariants.{Wait, Road, Link, Stand, Ride}
 use Rattle.mode_network.specs.NetworkLists.{NetworkLists}
 use Rattle.mode_network.specs.Journeys.{Route, IsStep, AreSteps}
+use Rattle.search_laws.specs.Times.{time_bound}
 use Rattle.journey.specs.declared.step_ends.StepEnd.{StepEnd}
 
 -- where, when and with which letter the step ends that is taken from v at t; or there is no such step
@@ -13,7 +14,7 @@ IsStepEnd n v t step None = (w u : ℕ) (letter : Option ℕ) → IsStep n v t s
 
 -- a wait is not past all times that are counted
 abbrev pub HasTime : Step → Type 0
-HasTime (Wait until) = until < 10 ^ 30
+HasTime (Wait until) = until < time_bound
 HasTime (Road to) = Unit {0}
 HasTime (Link to) = Unit {0}
 HasTime Stand = Unit {0}
@@ -21,7 +22,7 @@ HasTime (Ride trip day board alight) = Unit {0}
 
 -- the times of a journey, its start and its waits, are below 10 ^ 30
 pub record HasTimes (j : Route) : Type 0 where
-  pub at : j.at < 10 ^ 30
+  pub at : j.at < time_bound
   pub waits : All HasTime j.steps
 
 -- the steps can be taken from v at t

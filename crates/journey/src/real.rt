@@ -1,6 +1,7 @@
 //! Which journeys are real, where they end, and their words.
 
-ghost use Rattle.std.specs.Prelude.{◌≡◌, ◌<◌, ◌^◌, ◌↔◌, All, ℕ, IfOk, IsTrue};
+ghost use Rattle.std.specs.Prelude.{◌≡◌, ◌<◌, ◌↔◌, All, ℕ, IfOk, IsTrue};
+ghost use Rattle.search_laws.specs.Times.{time_bound};
 ghost use Rattle.journey.specs.Ends.{AreTaken, HasTime, HasTimes};
 ghost use Rattle.journey.specs.Real.{FirstBad, IsReal, IsWalked, EndsAt, HasWord, IsSpelt, LeadsTo};
 
@@ -13,7 +14,7 @@ use std::alloc::{AllocError, Global};
 
 /// Where and when the steps that begin at `start` at the time `at` end; or the place of the first that is none.
 fn walk(network: &Network, start: u32, at: Time, steps: &[Step]) -> Result<(u32, Time), u64>
-    requires at { at < 10 ^ 30 }
+    requires at { at < time_bound }
     requires waits { All HasTime steps.now }
     ensures { IsWalked network.now start at steps.now result }
 {

@@ -1,8 +1,9 @@
 //! A journey told step by step.
 
-ghost use Rattle.std.specs.Prelude.{◌≡◌, OnOk, IfOk, ◌<◌, ◌^◌, ◌++◌, length, All};
+ghost use Rattle.std.specs.Prelude.{◌≡◌, OnOk, IfOk, ◌<◌, ◌++◌, length, All};
 ghost use Rattle.plain_texts.specs.Lines.{with_feed};
 ghost use Rattle.mode_network.specs.NetworkLists.{nodes_of};
+ghost use Rattle.search_laws.specs.Times.{time_bound};
 ghost use Rattle.journey.specs.Words.{goes_on, appended, with_letter};
 ghost use Rattle.journey.specs.Texts.{IsThere, step_text};
 ghost use Rattle.journey.specs.Ends.{HasTime, AreTaken};
@@ -79,7 +80,7 @@ pub(crate) fn tell(
     steps: &[Step],
 ) -> Result<Told, AllocError>
     requires node { start < length (nodes_of network.now) }
-    requires at { at < 10 ^ 30 }
+    requires at { at < time_bound }
     requires waits { All HasTime steps.now }
     requires taken { AreTaken network.now start at steps.now }
     ensures { IfOk result (IsTold network.now start at steps.now) }

@@ -4,6 +4,7 @@ use Rattle.std.specs.Prelude.{Option, IfSome}
 use Rattle.std.proofs.lemmas.Bool.{ltb-true, lt-ltb}
 use Rattle.std.proofs.lemmas.Nat.{le-div, div-add-mod'}
 use Rattle.std.proofs.Math.Nat.{div-mul-le_self, mul-le-mul_right, mod-lt}
+use Rattle.search_laws.specs.Letters.{IsLetter}
 use Rattle.search_laws.specs.GraphLaws.{GraphMeaning, IsLawfulGraph}
 use Rattle.search_laws.specs.LabelLaws.{LabelsMeaning, IsLawfulLabels}
 
@@ -72,11 +73,11 @@ timed_none every last ms s t le none = go (nat_lt last s) refl where
   go true e = ap (λ b. cond b None (Some ((t + (every - 1)) / every * every + ms))) (lt-ltb last t (omega (arith, ltb-true last s e)))
   go false e = (let h : None ≡ Some ((s + (every - 1)) / every * every + ms) = sym none ∙ ap (λ b. cond b None (Some ((s + (every - 1)) / every * every + ms))) e in cc)
 
-letter_small : (n : ℕ) → n < 4 → IfSome (letter_drawn n) (λ c. c < 14)
+letter_small : (n : ℕ) → n < 4 → IfSome (letter_drawn n) IsLetter
 letter_small n lt = go (n == 0) refl where
-  go : (b : Bool) → (n == 0) ≡ b → IfSome (cond (n == 0) None (Some n)) (λ c. c < 14)
-  go true e = subst (λ b. IfSome (cond b None (Some n)) (λ c. c < 14)) (sym e) tt
-  go false e = subst (λ b. IfSome (cond b None (Some n)) (λ c. c < 14)) (sym e) (omega arith)
+  go : (b : Bool) → (n == 0) ≡ b → IfSome (cond (n == 0) None (Some n)) IsLetter
+  go true e = subst (λ b. IfSome (cond b None (Some n)) IsLetter) (sym e) tt
+  go false e = subst (λ b. IfSome (cond b None (Some n)) IsLetter) (sym e) (omega arith)
 
 -- ---- the laws
 

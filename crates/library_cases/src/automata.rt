@@ -6,7 +6,7 @@ ghost use Rattle.mode_expression.specs.Form.{form_of, IsUsable};
 use crate::{out, parts};
 use automaton::{Collapsed, OneState, Positions};
 use mode_expression::{Expr, Letter, parse};
-use search_laws::Labels;
+use search_laws::{LETTERS, Labels};
 
 /// `accepts WORD EXPR`, the letters of the word parted by `,`: whether the positions accept the word, and whether the
 /// collapsed automaton does.
@@ -114,7 +114,7 @@ fn moved<L: Labels>(labels: &L, state: u32, letter: u8) -> u128
     let mut next = 0;
     for i in 0..labels.moves(state) {
         let step = labels.move_at(state, i);
-        if letter < 14 && step.letters >> letter & 1 == 1 {
+        if letter < LETTERS as u8 && step.letters >> letter & 1 == 1 {
             next |= bit(step.to);
         }
     }

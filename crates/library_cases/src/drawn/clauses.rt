@@ -1,6 +1,7 @@
 //! The clauses of a closed list, each tried in turn at each place, with a search of the whole list for each label.
 
 ghost use Rattle.std.specs.Prelude.{◌<◌, ◌≤◌};
+ghost use Rattle.search_laws.specs.Letters.{IsLetter};
 
 use super::town::Asked;
 use product_search::{Label, LabelVerdict};
@@ -130,7 +131,7 @@ fn arc_listed(asked: &Asked, list: &[Label], x: Label, i: u64, at: Time) -> bool
 /// Whether all product states are listed to which the moves of a state by a letter lead, at a node by a time.
 fn moves_listed(asked: &Asked, list: &[Label], state: u32, letter: u8, to: u32, at: Time) -> bool
     requires state { state < asked.now.rules.states }
-    requires letter { letter < 14 }
+    requires letter { IsLetter letter }
 {
     for j in 0..asked.rules.moves(state) {
         let step = asked.rules.move_at(state, j);

@@ -1,6 +1,7 @@
 //! All walks up to a horizon, by the definition: each moment, each node, each state, each wait, each arc.
 
 ghost use Rattle.std.specs.Prelude.{◌<◌, ◌≤◌, ◌^◌};
+ghost use Rattle.search_laws.specs.Letters.{IsLetter};
 
 use super::town::Asked;
 use product_search::Label;
@@ -83,7 +84,7 @@ fn leave(reached: &mut Reached, asked: &Asked, t: u32, v: u32, q: u32)
 /// Goes on by each move of a state by a letter, to a node at a time.
 fn read(reached: &mut Reached, asked: &Asked, at: Time, to: u32, q: u32, letter: u8)
     requires state { q < asked.now.rules.states }
-    requires letter { letter < 14 }
+    requires letter { IsLetter letter }
 {
     for j in 0..asked.rules.moves(q) {
         let step = asked.rules.move_at(q, j);

@@ -7,7 +7,7 @@ use super::town::Asked;
 use crate::out;
 use case_script::words;
 use product_search::{Found, Hop, Walk, search};
-use search_laws::{Graph, Labels, Time};
+use search_laws::{Graph, LETTERS, Labels, Time};
 use std::alloc::Global;
 
 /// `searches COUNT`: how many searches over so many drawn graphs, over each without a bound and with one, answer what the
@@ -149,7 +149,7 @@ fn is_hop(asked: &Asked, node: u32, state: u32, at: Time, hop: Hop) -> bool {
 /// Whether a state has a move by this letter to another one.
 fn has_move(asked: &Asked, state: u32, letter: u8, to: u32) -> bool {
     let rules = &asked.rules;
-    if state >= rules.states() || letter >= 14 {
+    if state >= rules.states() || letter >= LETTERS as u8 {
         return false;
     }
     for j in 0..rules.moves(state) {

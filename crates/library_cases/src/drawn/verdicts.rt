@@ -1,6 +1,7 @@
 //! The verdict on a list of labels, beside its clauses tried one by one.
 
-ghost use Rattle.std.specs.Prelude.{◌↔◌, ◌<◌, ◌^◌, All, IsTrue, IfSome};
+ghost use Rattle.std.specs.Prelude.{◌↔◌, ◌<◌, All, IsTrue, IfSome};
+ghost use Rattle.search_laws.specs.Times.{time_bound};
 
 use super::clauses::plain_verdict;
 use super::searches::found_by;
@@ -81,7 +82,7 @@ fn try_found(alloc: Global, asked: &Asked, found: &Found, verdicts: &mut Verdict
 }
 
 fn in_time(list: &[Label]) -> bool
-    ensures { IsTrue result ↔ All (λ x. x.at < 10 ^ 30) list.now }
+    ensures { IsTrue result ↔ All (λ x. x.at < time_bound) list.now }
 {
     list.iter()
         .all(|x| x.at < 1_000_000_000_000_000_000_000_000_000_000)
@@ -97,8 +98,8 @@ fn try_list(asked: &Asked, arrival: Option<Time>, list: &[Label], verdicts: &mut
 
 /// The verdict on a list.
 fn verdict(asked: &Asked, arrival: Option<Time>, list: &[Label]) -> LabelVerdict
-    requires times { All (λ x. x.at < 10 ^ 30) list.now }
-    requires arrival { IfSome arrival (λ a. a < 10 ^ 30) }
+    requires times { All (λ x. x.at < time_bound) list.now }
+    requires arrival { IfSome arrival (λ a. a < time_bound) }
 {
     check_labels(
         &asked.town,

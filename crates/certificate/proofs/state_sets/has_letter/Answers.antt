@@ -3,8 +3,8 @@ use Rattle.std.proofs.lemmas.Bool.Decides.{nat_tests}
 use Rattle.certificate.proofs.StateLemmas.{low_letter}
 use Rattle.certificate.proofs.state_sets.has_letter.Goals as goal
 
-pub returns-else-letter-lt14 : goal.returns-else-letter-lt14
-returns-else-letter-lt14 c = (
+pub returns-else-letter : goal.returns-else-letter
+returns-else-letter c = (
   λ low none. grind (arith, nat_tests),
   λ is. absurd (omega (arith, low_letter c.args.step.letters c.args.letter c.requires is)),
 )
