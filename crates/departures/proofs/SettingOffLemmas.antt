@@ -9,6 +9,7 @@ use Rattle.mode_network.specs.declared.steps.Step.TheVariants.{Wait, Road, Link,
 use Rattle.mode_network.specs.NetworkLists.{NetworkLists}
 use Rattle.mode_network.specs.Rules.{IsNetwork}
 use Rattle.mode_network.specs.Journeys.{IsStep}
+use Rattle.search_laws.specs.Times.{time_bound}
 use Rattle.journey.specs.Boarded.{DepartsAt, AreOnTime}
 use Rattle.journey.specs.Ends.{HasTime}
 use Rattle.journey.specs.Rides.{KeepsRules}
@@ -125,8 +126,8 @@ module _ (n : NetworkLists) where
   later_more network v t (Ride trip day board alight) steps v1 t1 c m k no_ride is behind e = absurd cc
 
   -- a step ends no earlier than one that waited as long before it, and that is within time
-  waits_within : (v t : ℕ) (step : Step) (w u : ℕ) (c : Option ℕ) (s : ℕ) → is_ride step ≡ false → HasTime step → IsStep n v t step w u c → s ≤ t → s < 10 ^ 30
-      → (s + waiting step t ≤ u) × (s + waiting step t < 10 ^ 30)
+  waits_within : (v t : ℕ) (step : Step) (w u : ℕ) (c : Option ℕ) (s : ℕ) → is_ride step ≡ false → HasTime step → IsStep n v t step w u c → s ≤ t → s < time_bound
+      → (s + waiting step t ≤ u) × (s + waiting step t < time_bound)
   waits_within v t (Wait until) w u c s no_ride time (late, same, now, none) le soon = (omega arith, omega arith)
   waits_within v t (Road to) w u c s no_ride time (ms, leads, same, now, letter) le soon = (omega arith, omega arith)
   waits_within v t (Link to) w u c s no_ride time (ms, leads, same, now, letter) le soon = (omega arith, omega arith)
@@ -135,12 +136,12 @@ module _ (n : NetworkLists) where
 
   -- after k steps, none a ride, the journey is at the node at the time, and has waited so long
   pub record IsWaiting (start at : ℕ) (steps : List Step) (k node time waited : ℕ) : Type 0 where
-    pub soon : at + waited < 10 ^ 30
+    pub soon : at + waited < time_bound
     pub before : at + waited ≤ time
-    pub in_time : time < 10 ^ 30 + k * 2 ^ 32
+    pub in_time : time < time_bound + k * 2 ^ 32
     pub leaves : (m : ℕ) → MayLeaveLater n node time (drop k steps) m → MayLeaveLater n start at steps (waited + m)
 
-  pub waiting_starts : (start at : ℕ) (steps : List Step) → at < 10 ^ 30 → IsWaiting start at steps 0 start at 0
+  pub waiting_starts : (start at : ℕ) (steps : List Step) → at < time_bound → IsWaiting start at steps 0 start at 0
   waiting_starts start at steps time = record {
     soon = omega arith;
     before = omega arith;

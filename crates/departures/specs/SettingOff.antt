@@ -1,9 +1,10 @@
 -- Journeys that set off as late as their first ride lets them.
-use Rattle.std.specs.Prelude.{◌≡◌, ℕ, ◌+◌, ◌-◌, ◌<◌, ◌^◌, ◌||◌, not, Bool, true, false, List, [], ◌∷◌, ◌++◌, if◌then◌else◌}
+use Rattle.std.specs.Prelude.{◌≡◌, ℕ, ◌+◌, ◌-◌, ◌<◌, ◌||◌, not, Bool, true, false, List, [], ◌∷◌, ◌++◌, if◌then◌else◌}
 use Rattle.mode_network.specs.declared.steps.Step.{Step}
 use Rattle.mode_network.specs.declared.steps.Step.TheVariants.{Wait, Road, Link, Stand, Ride}
 use Rattle.mode_network.specs.NetworkLists.{NetworkLists}
 use Rattle.mode_network.specs.Journeys.{Route}
+use Rattle.search_laws.specs.Times.{time_bound}
 use Rattle.journey.specs.Boarded.{AreOnTime}
 
 abbrev pub is_wait : Step → Bool
@@ -45,4 +46,4 @@ pub record IsSetOff (n : NetworkLists) (j k : Route) : Type 0 where
   pub later : ℕ
   pub at : k.at ≡ j.at + later
   pub leaves : MayLeaveLater n j.start j.at j.steps later
-  pub soon : k.at < 10 ^ 30
+  pub soon : k.at < time_bound

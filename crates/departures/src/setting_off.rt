@@ -1,6 +1,7 @@
 //! Journeys that set off as late as their first ride lets them.
 
-ghost use Rattle.std.specs.Prelude.{◌≡◌, ◌+◌, ◌<◌, ◌^◌, All, IfOk, OnOk};
+ghost use Rattle.std.specs.Prelude.{◌≡◌, ◌+◌, ◌<◌, All, IfOk, OnOk};
+ghost use Rattle.search_laws.specs.Times.{time_bound};
 ghost use Rattle.few_boardings.specs.Boardings.{is_ride};
 ghost use Rattle.journey.specs.Ends.{HasTime, HasTimes};
 ghost use Rattle.departures.specs.SettingOff.{is_wait, with_step, unwaited, waiting, MayLeaveLater, IsSetOff};
@@ -59,10 +60,10 @@ fn waiting(step: Step, t: Time) -> Time
 
 /// How long one waits before the first ride of steps that begin at `start` at the time `at`.
 fn waited(network: &Network, start: u32, at: Time, steps: &[Step]) -> Time
-    requires at { at < 10 ^ 30 }
+    requires at { at < time_bound }
     requires waits { All HasTime steps.now }
     ensures later { MayLeaveLater network.now start at steps.now result }
-    ensures soon { at + result < 10 ^ 30 }
+    ensures soon { at + result < time_bound }
 {
     network.known();
     network.days().facts();

@@ -2,6 +2,7 @@
 
 ghost use Rattle.std.specs.Prelude.{◌≡◌, ◌^◌, ◌<◌, ◌++◌, IfSome, OnOk};
 ghost use Rattle.service_days.specs.Clock.{clock_text_of};
+ghost use Rattle.search_laws.specs.Times.{time_bound};
 ghost use Rattle.journey.specs.Best.{Asked, IsBest, asked_by};
 ghost use Rattle.journey.specs.Blocks.{AddsText, IsPrintable};
 ghost use Rattle.journey.specs.Ends.{HasTimes};
@@ -79,7 +80,7 @@ fn push_answer(
 ) -> Result<(), AllocError>
     requires sound { IfSome hierarchy (λ h. IsSound network.now h.now) }
     requires read { IsRead network.now query.now }
-    requires times { IfSome kept.now (λ kept. (kept.0 < 10 ^ 30) × HasTimes kept.1) }
+    requires times { IfSome kept.now (λ kept. (kept.0 < time_bound) × HasTimes kept.1) }
     ensures { OnOk result (AddsText (IsAnswered network.now kept.now (asked_by query.now))
         text.old.items text.new.items) }
 {
@@ -122,7 +123,7 @@ fn push_arrival(
     text: &mut Vec<u8>,
 ) -> Result<(), AllocError>
     requires depart { depart < 2 ^ 64 }
-    requires times { IfSome kept.now (λ kept. (kept.0 < 10 ^ 30) × HasTimes kept.1) }
+    requires times { IfSome kept.now (λ kept. (kept.0 < time_bound) × HasTimes kept.1) }
     ensures { OnOk result (text.new.items ≡ text.old.items ++ arrival_words network.now depart arrival kept.now) }
 {
     match kept {

@@ -1,6 +1,7 @@
 -- What the checks of a late certificate say of it together.
 use Rattle.std.proofs.Common.{◌≡◌, ℕ, ◌<◌, ◌≤◌, ◌^◌, inr, List, Option, Some, None, sym, subst, arith}
 use Rattle.std.specs.Prelude.{Ok, IfSome}
+use Rattle.search_laws.specs.Times.{time_bound}
 use Rattle.product_search.specs.declared.label.Label.{Label}
 use Rattle.product_search.specs.declared.verdict.LabelVerdict.{LabelVerdict}
 use Rattle.product_search.specs.declared.verdict.LabelVerdict.TheVariants.{Closed, Open}
@@ -57,7 +58,7 @@ pub one_asked : (n : NetworkLists) (line : List ℕ) (a b : Asked) → Asks n li
 one_asked n line a b x y = let same : Ok a ≡ Ok b = reading_is_unique n line (Ok a) (Ok b) x y in cc
 
 -- the moment that the labels go to is not far off
-pub bound_small : (n : NetworkLists) (q : Asked) (result : Option Route) → deadline q < 2 ^ 57 → late_bound n q result < 10 ^ 30
+pub bound_small : (n : NetworkLists) (q : Asked) (result : Option Route) → deadline q < 2 ^ 57 → late_bound n q result < time_bound
 bound_small n q None small = omega arith
 bound_small n q (Some j) small = omega arith
 

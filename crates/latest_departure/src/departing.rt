@@ -1,6 +1,7 @@
 //! The latest departure.
 
-ghost use Rattle.std.specs.Prelude.{◌≡◌, ◌<◌, ◌≤◌, ◌^◌, Some, All, IfOk, IfSome, length};
+ghost use Rattle.std.specs.Prelude.{◌≡◌, ◌<◌, ◌≤◌, Some, All, IfOk, IfSome, length};
+ghost use Rattle.search_laws.specs.Times.{time_bound};
 ghost use Rattle.mode_expression.specs.Form.{form_of, IsUsable};
 ghost use Rattle.product_search.specs.Answer.{IsArrival};
 ghost use Rattle.product_search.specs.Limits.{IfEnded, IfStopped};
@@ -163,7 +164,7 @@ pub fn latest(alloc: Global, network: &Network, query: &Query) -> Result<Late, A
     requires usable { IsUsable (form_of query.now.expr) }
     ensures journey { IfOk result (λ late. IsLate network.now (asked_by query.now) late.journey) }
     ensures labels { IfOk result (λ late. AreLateLabels network.now (asked_by query.now) late.labels.items) }
-    ensures times { IfOk result (λ late. All (λ x. x.at < 10 ^ 30) late.labels.items) }
+    ensures times { IfOk result (λ late. All (λ x. x.at < time_bound) late.labels.items) }
 {
     let late = latest_within(alloc, network, query, None)?;
     Ok(late.into_answer())
@@ -180,7 +181,7 @@ pub fn latest_within(
     requires usable { IsUsable (form_of query.now.expr) }
     ensures journey { IfEnded result (λ late. IsLate network.now (asked_by query.now) late.journey) }
     ensures labels { IfEnded result (λ late. AreLateLabels network.now (asked_by query.now) late.labels.items) }
-    ensures times { IfEnded result (λ late. All (λ x. x.at < 10 ^ 30) late.labels.items) }
+    ensures times { IfEnded result (λ late. All (λ x. x.at < time_bound) late.labels.items) }
     ensures few { IfEnded result (λ late. IfSome limit (λ most. length late.labels.items ≤ most)) }
     ensures stopped { IfStopped result (λ most. (limit ≡ Some most) × LateSearchHasMore network.now (asked_by query.now) most) }
 {
