@@ -7,6 +7,7 @@ pub mod Limits
 pub mod MemoryAnswers
 pub mod MemoryFiles
 pub mod MemoryStates
+pub mod Modes
 pub mod PlaceOf
 pub mod Places
 pub mod ReadCauses
