@@ -1,12 +1,12 @@
 -- Laws of the nearest point.
 use Rattle.std.proofs.Common.{◌≡◌, ℕ, ℤ, ◌<◌, ◌≤◌, ◌≤ℤ◌, List, [], ◌∷◌, ◌++◌, Option, Some, None, Bool, true, false, ◌&&◌, ◌||◌, nat_lt, nat_eq, int_le, if◌then◌else◌, ◌⊎◌, inl, inr, ⊎_elim, refl, ap, ap₂, ◌∙◌, append_assoc, arith}
-use Rattle.std.specs.List.{All}
+use Rattle.std.specs.List.{All, filter}
 use Rattle.std.specs.List.Sorted.{IsPermutation}
 use Rattle.std.proofs.lemmas.Bool.{cases_lt, le-ltb, lt-ltb}
 use Rattle.std.proofs.lemmas.Bool.Decides.{nat_tests}
 use Rattle.std.proofs.lemmas.Int.{ints}
 use Rattle.std.proofs.lemmas.List.{append-nil}
-use Rattle.std.proofs.lemmas.List.Elements.{All-nil, All-cons, All-append, All-push, All-weaker, All-contains, Contains-append_left, Contains-push}
+use Rattle.std.proofs.lemmas.List.Elements.{All-filter, All-nil, All-cons, All-append, All-push, All-weaker, All-contains, Contains-append_left, Contains-push}
 use Rattle.std.proofs.lemmas.List.Sorted.{All-permutation, Contains-permutation, IsPermutation-append_comm, IsPermutation-append_right}
 use Rattle.plan_base.specs.declared.places.Place.{Place}
 use Rattle.geo_length.specs.Lengths.{length_between}
@@ -100,6 +100,9 @@ module _ (place : Place) (within : ℕ) where
         );
       }
 
+  pub passing_later : (passes : Point → Bool) (xs : List Point) (best : Option (ℤ × ℕ)) → All (ComesLater place within best) xs → TakesIn (filter passes xs) place within best best
+  passing_later passes xs best later = takes_later (filter passes xs) best (All-filter passes (ComesLater place within best) xs later)
+
   pub takes_one_later : (best : Option (ℤ × ℕ)) (point : Point) → ComesLater place within best point → TakesIn (point ∷ []) place within best best
   takes_one_later best point later = takes_later (point ∷ []) best (All-cons (ComesLater place within best) point [] later (All-nil (ComesLater place within best)))
 
@@ -153,3 +156,8 @@ module _ (place : Place) (within : ℕ) where
       by_test : (b : Bool) → later_test best point.0 (length_to place point) ≡ b → TakesIn (point ∷ []) place within (Some best) (if b then Some best else Some (point.0, length_to place point))
       by_test true e = takes_one_later (Some best) point (later_first best point.0 _ e)
       by_test false e = takes_sooner best point.0 point.1 (sooner_first best point.0 _ e).0 (sooner_first best point.0 _ e).1
+
+-- where all points pass, a filter leaves them as they are
+pub all_pass : (xs : List Point) → filter (λ point. true) xs ≡ xs
+all_pass [] = refl
+all_pass (x ∷ xs) = ap (λ ys. x ∷ ys) (all_pass xs)

@@ -6,6 +6,7 @@ ghost use Rattle.geo_length.specs.Nearest.{IsNearest};
 
 use crate::search::with_tree;
 use crate::tree::{Tree, tree_of};
+use crate::wanted::{EachPoint, PointFilter};
 use plan_base::Place;
 use std::alloc::{AllocError, Global};
 use std::marker::Model;
@@ -38,7 +39,7 @@ fn rank(point: &(i64, Place)) -> (i64, i64, i64) {
 }
 
 impl Grid {
-    ghost use Rattle.std.specs.Prelude.{◌≡◌, ℕ, ℤ, Option, IfOk};
+    ghost use Rattle.std.specs.Prelude.{◌≡◌, ℕ, ℤ, Option, IfOk, filter};
     ghost use Rattle.std.specs.List.Sorted.{IsPermutation};
     ghost use Rattle.plan_base.specs.declared.places.Place.{Place};
     ghost use Rattle.geo_length.specs.Nearest.{IsNearest};
@@ -71,6 +72,19 @@ impl Grid {
         ensures nearest { IsNearest self.now place within result }
         ensures only { (other : Option (ℤ × ℕ)) → IsNearest self.now place within other → other ≡ result }
     {
-        with_tree(&self.tree, &self.points, place, within, None)
+        self.nearest_of(&EachPoint, place, within)
+    }
+
+    /// The same among the points that pass a filter.
+    pub fn nearest_of<F: PointFilter>(
+        &self,
+        wanted: &F,
+        place: Place,
+        within: u64,
+    ) -> Option<(i64, u64)>
+        ensures nearest { IsNearest (filter (F.passes wanted.now) self.now) place within result }
+        ensures only { (other : Option (ℤ × ℕ)) → IsNearest (filter (F.passes wanted.now) self.now) place within other → other ≡ result }
+    {
+        with_tree(&self.tree, &self.points, wanted, place, within, None)
     }
 }

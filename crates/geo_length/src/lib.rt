@@ -10,6 +10,7 @@ mod grid;
 mod lengths;
 mod search;
 mod tree;
+mod wanted;
 mod widths;
 
 pub use degrees::read_degrees;
@@ -17,4 +18,4 @@ pub use durations::duration_ms;
 pub use grid::Grid;
 pub use lengths::length_mm;
 pub use plan_base::Place;
-pub use search::with_point;
+pub use wanted::PointFilter;

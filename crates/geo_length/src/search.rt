@@ -1,6 +1,6 @@
 //! The search for the nearest point of a tree.
 
-ghost use Rattle.std.specs.Prelude.{◌≡◌, ◌≤◌, ◌<◌, ◌∷◌, [], true};
+ghost use Rattle.std.specs.Prelude.{◌≡◌, ◌≤◌, ◌<◌, ◌∷◌, [], true, filter};
 ghost use Rattle.geo_length.specs.Lengths.{length_between};
 ghost use Rattle.geo_length.specs.Boxes.{IsWithin};
 ghost use Rattle.geo_length.specs.Nearest.{ComesLater, Point, TakesIn, limit_of, nearer_of};
@@ -10,6 +10,7 @@ use crate::boxes::Bounds;
 use crate::gaps::least_mm;
 use crate::lengths::{east_mm, length_mm, north_mm};
 use crate::tree::{Tree, bounds_of};
+use crate::wanted::PointFilter;
 use plan_base::Place;
 
 // The greatest length of a point that still matters.
@@ -56,33 +57,38 @@ fn nearer(
     }
 }
 
-/// The nearest of the points before, which is `best`, and of this point too, within a length: the least
-/// (length, id), with the length in millimetres.
-pub fn with_point(
+// The nearest of the points before, which is `best`, and of this point too where it passes.
+fn with_point<F: PointFilter>(
     point: &(i64, Place),
+    wanted: &F,
     place: Place,
     within: u64,
     best: Option<(i64, u64)>,
 ) -> Option<(i64, u64)>
-    ensures { TakesIn (point.now ∷ []) place within best result }
+    ensures { TakesIn (filter (F.passes wanted.now) (point.now ∷ [])) place within best result }
 {
     if is_past(place, point.1, limit(best, within)) {
         return best;
     }
-    nearer(best, within, point, length_mm(place, point.1))
+    if wanted.passes(point) {
+        nearer(best, within, point, length_mm(place, point.1))
+    } else {
+        best
+    }
 }
 
-fn with_points(
+fn with_points<F: PointFilter>(
     points: &[(i64, Place)],
+    wanted: &F,
     place: Place,
     within: u64,
     best: Option<(i64, u64)>,
 ) -> Option<(i64, u64)>
-    ensures { TakesIn points.now place within best result }
+    ensures { TakesIn (filter (F.passes wanted.now) points.now) place within best result }
 {
     let mut nearest = best;
     for point in points {
-        nearest = with_point(point, place, within, nearest);
+        nearest = with_point(point, wanted, place, within, nearest);
     }
     nearest
 }
@@ -98,31 +104,32 @@ fn is_passed_over(bounds: Bounds, place: Place, within: u64, best: Option<(i64, 
     }
 }
 
-/// The nearest of the points before and of these, within a length, by their tree. The nearer half of them is searched
-/// first, and boxes of points that come later are passed over.
-pub fn with_tree(
+/// The nearest of the points before and of those of these that pass, within a length, by their tree: the least
+/// (length, id). The nearer half of them is searched first, and boxes of points that come later are passed over.
+pub fn with_tree<F: PointFilter>(
     tree: &Tree,
     points: &[(i64, Place)],
+    wanted: &F,
     place: Place,
     within: u64,
     best: Option<(i64, u64)>,
 ) -> Option<(i64, u64)>
     requires { AreBounded tree.now points.now }
-    ensures { TakesIn points.now place within best result }
+    ensures { TakesIn (filter (F.passes wanted.now) points.now) place within best result }
 {
     if is_passed_over(bounds_of(tree), place, within, best) {
         return best;
     }
     match tree {
-        Tree::Leaf(_) => with_points(points, place, within, best),
+        Tree::Leaf(_) => with_points(points, wanted, place, within, best),
         Tree::Fork(_, left, right) => {
             let (front, back) = points.split_at(points.len() / 2);
             if least_mm(&bounds_of(left), place) <= least_mm(&bounds_of(right), place) {
-                let nearest = with_tree(left, front, place, within, best);
-                with_tree(right, back, place, within, nearest)
+                let nearest = with_tree(left, front, wanted, place, within, best);
+                with_tree(right, back, wanted, place, within, nearest)
             } else {
-                let nearest = with_tree(right, back, place, within, best);
-                with_tree(left, front, place, within, nearest)
+                let nearest = with_tree(right, back, wanted, place, within, best);
+                with_tree(left, front, wanted, place, within, nearest)
             }
         }
     }

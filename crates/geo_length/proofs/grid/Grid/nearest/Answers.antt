@@ -1,13 +1,9 @@
-use Rattle.std.proofs.Common.{[], ◌<◌}
-use Rattle.std.proofs.lemmas.List.Elements.{All-nil}
-use Rattle.geo_length.specs.Nearest.{Point, length_to}
-use Rattle.geo_length.proofs.NearestLaws.{IsNearest-only}
+use Rattle.geo_length.proofs.NearestLaws.{IsNearest-only, all_pass}
 use Rattle.geo_length.proofs.grid.Grid.nearest.Goals as goal
 
 pub returns-clause-nearest : goal.returns-clause-nearest
-returns-clause-nearest c =
-    rw (← c.self.view_is, ← c.deref.ensures.value) (c.with_tree.ensures.joined [] (All-nil (λ (point : Point). c.args.within < length_to c.args.place point)))
+returns-clause-nearest c = rw all_pass at c.nearest_of.ensures.nearest
 
 pub returns-clause-only : goal.returns-clause-only
 returns-clause-only c = λ other h.
-    IsNearest-only c.args.place c.args.within c.args.self.now other c.with_tree.result h (returns-clause-nearest c)
+    IsNearest-only c.args.place c.args.within c.args.self.now other c.nearest_of.result h (returns-clause-nearest c)
