@@ -52,7 +52,7 @@ module _ {X : Type 0} (cmp : X → X → Ordering) (total : IsTotalOrder cmp) (x
       by_place false above = let greater = point.1 k d (ltb-false _ _ above) h in cc
 
   -- of two places of the list one is not before the other, where both have x
-  not_before : (j k : ℕ) (d : X) → k < length xs → cmp (slice_index_or xs j d) x ≡ Equal → cmp (slice_index_or xs k d) x ≡ Equal → j < k → ⊥
+  pub not_before : (j k : ℕ) (d : X) → k < length xs → cmp (slice_index_or xs j d) x ≡ Equal → cmp (slice_index_or xs k d) x ≡ Equal → j < k → ⊥
   not_before j k d h ej ek lt = let less = below_equal _ _ (ascend j k d lt h) ek in cc
 
 -- equal ends
@@ -100,7 +100,7 @@ none_leads arcs ascend u v place ended ms (k, lt, is) =
     not_there arc_cmp arcs_total arcs ascend arc place (ended (answers_rise arc_cmp arcs_total arcs ascend arc)) k arc lt (rw is (equal_ends u v))
 
 -- what stands beside itself is equal
-self_equal : {X : Type 0} (cmp : X → X → Ordering) → IsTotalOrder cmp → (x : X) → cmp x x ≡ Equal
+pub self_equal : {X : Type 0} (cmp : X → X → Ordering) → IsTotalOrder cmp → (x : X) → cmp x x ≡ Equal
 self_equal cmp total x = by_order (cmp x x) (total.antisymm x x)
   where
     by_order : (o : Ordering) → o ≡ ordering_reverse o → o ≡ Equal

@@ -3,3 +3,4 @@ pub mod IndexLemmas
 pub mod FindLemmas
 pub mod CopyLemmas
 pub mod NearLemmas
+pub mod LayerLemmas

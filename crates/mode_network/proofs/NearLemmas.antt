@@ -1,7 +1,9 @@
 -- The nearest road node of a place has one id and one length.
 use Rattle.std.proofs.Common.{◌≡◌, ℕ, ℤ, pos, ◌≤◌, ◌<◌, ◌≤ℤ◌, ◌^◌, ◌-◌, List, [], ◌∷◌, ◌++◌, Option, Some, None, arith, ap, subst, sym, refl, ap₂, true, ◌&&◌, int_eq, ◌∙◌, ◌+◌, take, length, get_or}
-use Rattle.std.specs.Prelude.{Contains, All, Result, Ok, Err, IfOk}
+use Rattle.std.specs.Prelude.{Contains, All}
 use Rattle.std.proofs.lemmas.List.Elements.{All-contains, All-nil, All-push, All-weaker, Contains-append_left, Contains-push}
+use Rattle.std.specs.List.Sorted.{IsPermutation}
+use Rattle.std.proofs.lemmas.List.Sorted.{All-permutation, Contains-permutation}
 use Rattle.std.proofs.lemmas.List.{take_more, map-append}
 use Rattle.std.proofs.lemmas.Bool.Decides.{Decides-int_eq}
 use Rattle.std.proofs.lemmas.Int.{ints}
@@ -13,7 +15,7 @@ use Rattle.std.proofs.lemmas.Option.{same_Some}
 use Rattle.mode_network.proofs.RuleLemmas.{both}
 use Rattle.mode_network.specs.declared.nodes.Node.{Node}
 use Rattle.mode_network.specs.Copies.{point_of, road_points, IsRoadCopy, IsNearCopy, IsNearestRoad, AreExactly}
-use Rattle.mode_network.specs.Points.{HoldSame, IsGridOf}
+use Rattle.mode_network.specs.Points.{HoldSame}
 
 module _ (points : List Point) (place : Place) where
   no_longer : (a b : ℤ) (mm nn : ℕ) → IsClosest points place a mm → IsClosest points place b nn → nn ≤ mm
@@ -72,9 +74,12 @@ module _ (xs ys : List Point) (same : HoldSame xs ys) where
     },
   )
 
-  pub grid_is : {E : Type 0} (r : Result (List Point) E) → IfOk r (λ grid. (place : Place) (within : ℕ) (best : Option (ℤ × ℕ)) → IsNearest grid place within best → IsNearest xs place within best) → IfOk r (λ grid. IsGridOf grid ys)
-  grid_is (Ok grid) h = record { nearest = λ place within best near. same_nearest place within best (h place within best near) }
-  grid_is (Err e) h = tt
+-- a permutation holds the same
+pub permuted : (xs ys zs : List Point) → IsPermutation xs zs → HoldSame xs ys → HoldSame zs ys
+permuted xs ys zs moved same = record {
+  given = All-permutation (Contains ys) xs zs moved same.given;
+  all = All-weaker (Contains xs) (Contains zs) (λ x held. Contains-permutation xs zs x moved held) ys same.all;
+}
 
 pub no_points : HoldSame [] []
 no_points = record { given = All-nil (Contains []); all = All-nil (Contains []) }

@@ -1,17 +1,22 @@
 -- Which nodes an endpoint of a query names.
-use Rattle.std.specs.Prelude.{◌≡◌, ℕ, ℤ, ◌<◌, ◌≤◌, ◌↔◌, List, [], map, Option, Some, None, slice_get, option_map}
+use Rattle.std.specs.Prelude.{◌≡◌, ℕ, ℤ, ◌<◌, ◌≤◌, ◌↔◌, List, [], map, filter, Option, Some, None, slice_get, option_map}
+use Rattle.plan_base.specs.declared.modes.Mode.{Mode}
+use Rattle.plan_base.specs.Modes.{number_of_mode}
 use Rattle.plan_base.specs.declared.places.Place.{Place}
 use Rattle.geo_length.specs.Nearest.{Point, IsClosest}
 use Rattle.mode_network.specs.declared.nodes.Node.{Node}
 use Rattle.mode_network.specs.declared.nodes.NodeKey.TheVariants.{Road as RoadKey}
 use Rattle.mode_network.specs.declared.endpoints.Endpoint.{Endpoint}
-use Rattle.mode_network.specs.declared.endpoints.Endpoint.TheVariants.{Road, Stop, Near}
-use Rattle.mode_network.specs.NetworkLists.{NetworkLists, stop_node}
-use Rattle.mode_network.specs.Rules.{rank_of}
+use Rattle.mode_network.specs.declared.endpoints.Endpoint.TheVariants.{Road, Stop, Near, NearIn}
+use Rattle.mode_network.specs.NetworkLists.{NetworkLists, mode_of, stop_node}
+use Rattle.mode_network.specs.Rules.{is_same_mode, rank_of}
 
--- the node is the OSM node of this id, in the layer of some mode
+-- the node is the OSM node of this id, in the layer of this mode; and of some mode
+abbrev pub IsCopyIn : List Node → ℕ → ℤ → ℕ → Type 0
+IsCopyIn roads mode id v = option_map (λ (node : Node). node.key) (slice_get roads v) ≡ Some (RoadKey mode id)
+
 abbrev pub IsRoadCopy : List Node → ℤ → ℕ → Type 0
-IsRoadCopy roads id v = (mode : ℕ) × (option_map (λ (node : Node). node.key) (slice_get roads v) ≡ Some (RoadKey mode id))
+IsRoadCopy roads id v = (mode : ℕ) × IsCopyIn roads mode id v
 
 -- the node is the stop of this name
 abbrev pub IsStopCopy : NetworkLists → List ℕ → ℕ → Type 0
@@ -37,11 +42,30 @@ pub record IsNearCopy (roads : List Node) (place : Place) (v : ℕ) : Type 0 whe
   pub within : mm ≤ 2000000
   pub copy : IsRoadCopy roads id v
 
+-- the road nodes of a mode, and their points
+abbrev pub layer_nodes : List Node → Mode → List Node
+layer_nodes roads mode = filter (λ (node : Node). is_same_mode (mode_of node.key) (Some (number_of_mode mode))) roads
+
+abbrev pub layer_points : List Node → Mode → List Point
+layer_points roads mode = road_points (layer_nodes roads mode)
+
+-- the same among the road nodes of a mode alone: which is nearest, and the one node that it is
+abbrev pub IsNearestIn : List Node → Mode → Place → Option (ℤ × ℕ) → Type 0
+IsNearestIn roads mode place nearest = IsNearestRoad (layer_nodes roads mode) place nearest
+
+pub record IsNearCopyIn (roads : List Node) (mode : Mode) (place : Place) (v : ℕ) : Type 0 where
+  pub id : ℤ
+  pub mm : ℕ
+  pub nearest : IsNearestIn roads mode place (Some (id, mm))
+  pub within : mm ≤ 2000000
+  pub copy : IsCopyIn roads (number_of_mode mode) id v
+
 -- the node is a copy of the endpoint
 abbrev pub IsCopy : NetworkLists → Endpoint → ℕ → Type 0
 IsCopy n (Road id) v = IsRoadCopy n.roads id v
 IsCopy n (Stop name) v = IsStopCopy n name v
 IsCopy n (Near place) v = IsNearCopy n.roads place v
+IsCopy n (NearIn mode place) v = IsNearCopyIn n.roads mode place v
 
 -- the nodes from the first of these numbers to before the second are those with the property; or none has it
 abbrev pub AreExactly : (ℕ → Type 0) → Option (ℕ × ℕ) → Type 0

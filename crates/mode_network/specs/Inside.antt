@@ -5,7 +5,7 @@ use Rattle.mode_network.specs.Rules.{IsNetwork}
 use Rattle.mode_network.specs.Timetables.{IsTimetableOf}
 use Rattle.mode_network.specs.Indexes.{AreIndexes}
 use Rattle.mode_network.specs.Copies.{road_points}
-use Rattle.mode_network.specs.Points.{IsGridOf}
+use Rattle.mode_network.specs.Points.{HoldSame}
 
 abbrev pub lists_of : Inside → NetworkLists
 lists_of n = record {
@@ -23,4 +23,4 @@ pub record IsKept (n : Inside) : Type 0 where
   pub rules : IsNetwork (lists_of n)
   pub timetable : IsTimetableOf (lists_of n) n.timetable
   pub indexes : AreIndexes (lists_of n) n.rows.items n.linked.items
-  pub grid : IsGridOf n.grid (road_points n.roads.items)
+  pub grid : HoldSame n.grid (road_points n.roads.items)

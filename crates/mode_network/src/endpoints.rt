@@ -2,7 +2,7 @@
 
 ghost use Rattle.std.specs.Prelude.{◌≡◌, List, ℕ};
 
-use plan_base::Place;
+use plan_base::{Mode, Place};
 use std::marker::Model;
 
 /// Bytes. A contract sees them as a list.
@@ -48,4 +48,6 @@ pub enum Endpoint {
     Stop(Bytes),
     /// The OSM node of the road node that is nearest to this place, which has to lie within two kilometres.
     Near(Place),
+    /// The road node of this mode that is nearest to this place, which has to lie within two kilometres.
+    NearIn(Mode, Place),
 }

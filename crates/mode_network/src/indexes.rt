@@ -7,7 +7,7 @@ ghost use Rattle.mode_network.specs.Rules.{IsAscending, arc_cmp};
 ghost use Rattle.mode_network.specs.Copies.{road_points};
 ghost use Rattle.mode_network.specs.Indexes.{AreRows, AreEnds};
 ghost use Rattle.mode_network.specs.NetworkLists.{mode_of, mode_at};
-ghost use Rattle.mode_network.specs.Points.{IsGridOf};
+ghost use Rattle.mode_network.specs.Points.{HoldSame};
 
 use crate::nodes::{Arc, Node, NodeKey};
 use crate::points::road_grid;
@@ -48,7 +48,7 @@ impl Tables {
         requires in_range { All (λ link. (link.from < nodes) × (link.to < nodes)) links.now }
         ensures rows { IfOk result (λ tables. AreRows nodes roads.now arcs.now links.now tables.rows.items) }
         ensures ends { IfOk result (λ tables. AreEnds nodes links.now tables.linked.items) }
-        ensures grid { IfOk result (λ tables. IsGridOf tables.grid (road_points roads.now)) }
+        ensures grid { IfOk result (λ tables. HoldSame tables.grid (road_points roads.now)) }
     {
         Ok(Tables {
             rows: rows(alloc, nodes, roads, arcs, links)?,

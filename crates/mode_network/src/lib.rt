@@ -6,6 +6,7 @@ mod bases;
 pub mod endpoints;
 pub mod faults;
 mod indexes;
+mod layers;
 pub mod network;
 pub mod nodes;
 mod order;

@@ -7,20 +7,22 @@ ghost use Rattle.mode_network.specs.Journeys.{IsDuration};
 ghost use Rattle.plain_texts.specs.Names.{is_name};
 ghost use Rattle.mode_network.specs.Timetables.{IsTimetableOf};
 ghost use Rattle.timetable_arcs.specs.Table.{IsTable};
-ghost use Rattle.mode_network.specs.Copies.{IsNearestRoad, IsNearCopy, IsRoadCopy, IsStopCopy, AreExactly, AreCopies, IsPlaceOf};
+ghost use Rattle.plan_base.specs.Modes.{number_of_mode};
+ghost use Rattle.mode_network.specs.Copies.{IsNearestRoad, IsNearestIn, IsNearCopy, IsNearCopyIn, IsRoadCopy, IsCopyIn, IsStopCopy, AreExactly, AreCopies, IsPlaceOf};
 ghost use Rattle.mode_network.specs.Indexes.{range_from, IsRange, is_end_of};
 
 use crate::bases::timetable;
 use crate::endpoints::Endpoint;
 use crate::faults::NetFault;
 use crate::indexes::{NodeRow, Tables};
+use crate::layers::{Layer, node_in};
 use crate::nodes::{Arc, Node, NodeKey};
 use crate::parts::Parts;
 use crate::points::id_of;
 use crate::rules;
 use geo_length::Grid;
 use plain_texts::Name;
-use plan_base::{Caps, Place};
+use plan_base::{Caps, Mode, Place};
 use service_days::Days;
 use std::alloc::Global;
 use std::marker::Model;
@@ -237,7 +239,8 @@ impl Network {
 
     /// The copies of an endpoint: the first node number, and one past the last; None exactly where there is none.
     /// Those of an OSM id are the road nodes with this id, in the layers of all modes; that of a stop is the stop;
-    /// those of a place are those of the id of the nearest road node, where that is within two kilometres.
+    /// those of a place are those of the id of the nearest road node, where that is within two kilometres; that of a
+    /// place and a mode is the nearest road node of the mode, where that is within two kilometres.
     pub fn copies(&self, endpoint: &Endpoint) -> Option<(u32, u32)>
         ensures { AreCopies self.now endpoint.now result }
     {
@@ -245,6 +248,7 @@ impl Network {
             Endpoint::Road(id) => self.copies_of_id(*id),
             Endpoint::Stop(name) => self.copies_of_name(name.as_slice()),
             Endpoint::Near(place) => self.copies_near(*place),
+            Endpoint::NearIn(mode, place) => self.copies_near_in(*mode, *place),
         }
     }
 
@@ -256,6 +260,15 @@ impl Network {
         self.grid.nearest(place, u64::MAX)
     }
 
+    /// The same among the road nodes of a mode alone. None exactly where it has none.
+    pub fn nearest_in(&self, mode: Mode, place: Place) -> Option<(i64, u64)>
+        ensures { IsNearestIn self.now.roads mode place result }
+    {
+        let roads = &self.roads;
+        let layer = Layer { roads, mode };
+        self.grid.nearest_of(&layer, place, u64::MAX)
+    }
+
     fn copies_near(&self, place: Place) -> Option<(u32, u32)>
         ensures { AreExactly (IsNearCopy self.now.roads place) result }
     {
@@ -265,6 +278,24 @@ impl Network {
         } else {
             None
         }
+    }
+
+    fn copies_near_in(&self, mode: Mode, place: Place) -> Option<(u32, u32)>
+        ensures { AreExactly (IsNearCopyIn self.now.roads mode place) result }
+    {
+        let (id, mm) = self.nearest_in(mode, place)?;
+        if mm <= MOST_AWAY {
+            self.copy_in(mode, id)
+        } else {
+            None
+        }
+    }
+
+    fn copy_in(&self, mode: Mode, id: i64) -> Option<(u32, u32)>
+        ensures { AreExactly (IsCopyIn self.now.roads (number_of_mode mode) id) result }
+    {
+        let v = node_in(&self.roads, mode.number(), id)? as u32;
+        Some((v, v + 1))
     }
 
     fn copies_of_id(&self, id: i64) -> Option<(u32, u32)>

@@ -17,7 +17,7 @@ pub(crate) trait Ranked {
 }
 
 /// What nodes are ordered by: the id, and then the mode of a road node.
-fn rank(key: NodeKey) -> (i64, u32)
+pub(crate) fn rank(key: NodeKey) -> (i64, u32)
     ensures { result ≡ rank_of key }
 {
     match key {

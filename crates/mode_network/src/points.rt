@@ -2,7 +2,7 @@
 
 ghost use Rattle.std.specs.Prelude.{◌≡◌, Some, true, IfOk};
 ghost use Rattle.mode_network.specs.Copies.{point_of, road_points};
-ghost use Rattle.mode_network.specs.Points.{HoldSame, IsGridOf};
+ghost use Rattle.mode_network.specs.Points.{HoldSame};
 ghost use Rattle.mode_network.specs.Rules.{rank_of};
 
 use crate::nodes::{Node, NodeKey};
@@ -54,7 +54,7 @@ fn distinct_points(alloc: Global, roads: &[Node]) -> Result<Vec<(i64, Place)>, A
 
 /// The grid of the road nodes.
 pub(crate) fn road_grid(alloc: Global, roads: &[Node]) -> Result<Grid, AllocError>
-    ensures { IfOk result (λ grid. IsGridOf grid (road_points roads.now)) }
+    ensures { IfOk result (λ grid. HoldSame grid (road_points roads.now)) }
 {
     let points = distinct_points(alloc, roads)?;
     Grid::of(alloc, points)
