@@ -1,6 +1,6 @@
 -- A query line holds no line feed.
 use Rattle.std.proofs.Common.{◌≡◌, ℕ, ℤ, ◌+◌, ◌^◌, Bool, true, false, ◌&&◌, ◌==◌, Option, Some, None, Ok, List, [], ◌∷◌, length, get_or, take, drop, cond, refl, sym, ap, subst, arith}
-use Rattle.std.specs.Prelude.{position, option_map, nat_lt, nat_le, nat_eq, pos, neg_ℤ}
+use Rattle.std.specs.Prelude.{All, bytes_eq, codes, position, option_map, nat_lt, nat_le, nat_eq, pos, neg_ℤ}
 use Rattle.std.specs.Char.{is_ascii_digit}
 use Rattle.std.specs.List.{list_all}
 use Rattle.std.proofs.lemmas.Bool.{and_parts}
@@ -9,8 +9,12 @@ use Rattle.std.proofs.lemmas.List.{take-append-drop, drop_more}
 use Rattle.std.proofs.lemmas.List.Elements.{All-nil, All-cons, All-append, All-push, All-weaker}
 use Rattle.std.proofs.lemmas.List.Quantifiers.{position-Some}
 use Rattle.std.proofs.lemmas.List.Sums.{AllPass-from_list_all}
+use Rattle.std.proofs.lemmas.Slice.Eq.{bytes_eq-Decides}
 use Rattle.std.proofs.lemmas.Option.{none-some, same_Some, option_and_then_some, get_or_from_slice_get, slice_get_within}
+use Rattle.plan_base.specs.declared.modes.Mode.{Mode}
 use Rattle.plan_base.specs.declared.places.Place.{Place}
+use Rattle.plan_base.specs.LetterNames.{road_names}
+use Rattle.plan_base.specs.Modes.{mode_named}
 use Rattle.plain_texts.specs.Digits.{digit_of}
 use Rattle.plain_texts.specs.FixedDecimal.{fixed_step, fixed_at}
 use Rattle.plain_texts.specs.Lines.{is_feed, IsLine}
@@ -24,10 +28,10 @@ use Rattle.service_days.specs.Dates.{date_at}
 use Rattle.service_days.specs.DaysMeaning.{DaysMeaning}
 use Rattle.mode_expression.specs.Form.{Form}
 use Rattle.mode_network.specs.declared.endpoints.Endpoint.{Endpoint}
-use Rattle.mode_network.specs.declared.endpoints.Endpoint.TheVariants.{Road, Stop, Near}
+use Rattle.mode_network.specs.declared.endpoints.Endpoint.TheVariants.{Road, Stop, Near, NearIn}
 use Rattle.mode_network.specs.NetworkLists.{NetworkLists}
 use Rattle.mode_network.specs.Rules.{IsNetwork}
-use Rattle.journey.specs.Shapes.{Fields, Shape, at_byte, place_at, endpoint_of, fields_of, is_filled, shape_of_fields, shape_of, part_at, millis_at, time_at, departs_on}
+use Rattle.journey.specs.Shapes.{Fields, Shape, at_byte, place_at, near_in_at, endpoint_of, fields_of, is_filled, shape_of_fields, shape_of, part_at, millis_at, time_at, departs_on}
 use Rattle.journey.specs.Queries.{IsKnown, IsQuery}
 use Rattle.journey.proofs.ExpressionLines.{spelled_is_line}
 
@@ -126,6 +130,25 @@ place_line text place e =
     option_and_then_some _ (degrees_of 180 parts.1) place e (λ lon back _.
     at_byte_line 44 text parts refl cut (degrees_line 90 parts.0 lat front) (degrees_line 180 parts.1 lon back))))
 
+-- the name of a mode, and a place behind it
+road_lines : All IsLine road_names
+road_lines =
+    All-cons IsLine (codes "foot") (codes "bike" ∷ codes "car" ∷ []) (line_more 102 (111 ∷ 111 ∷ 116 ∷ []) refl (line_more 111 (111 ∷ 116 ∷ []) refl (line_more 111 (116 ∷ []) refl (line_more 116 [] refl line_nil))))
+    (All-cons IsLine (codes "bike") (codes "car" ∷ []) (line_more 98 (105 ∷ 107 ∷ 101 ∷ []) refl (line_more 105 (107 ∷ 101 ∷ []) refl (line_more 107 (101 ∷ []) refl (line_more 101 [] refl line_nil))))
+    (All-cons IsLine (codes "car") [] (line_more 99 (97 ∷ 114 ∷ []) refl (line_more 97 (114 ∷ []) refl (line_more 114 [] refl line_nil))) (All-nil IsLine)))
+
+mode_line : (name : List ℕ) (mode : Mode) → mode_named name ≡ Some mode → IsLine name
+mode_line name mode e = option_and_then_some _ (position (λ known. bytes_eq known name) road_names) mode e (λ k is _.
+    let at = position-Some (λ known. bytes_eq known name) road_names k [] is in
+    subst IsLine ((bytes_eq-Decides (get_or road_names k []) name).0 at.1) (road_lines k [] at.0))
+
+near_in_line : (field : List ℕ) (endpoint : Endpoint) → near_in_at field ≡ Some endpoint → IsLine field
+near_in_line field endpoint e =
+    option_and_then_some _ (at_byte 64 field) endpoint e (λ parts cut e.
+    option_and_then_some _ (mode_named parts.0) endpoint e (λ mode named e.
+    let place = mapped (NearIn mode) (place_at parts.1) endpoint e in
+    at_byte_line 64 field parts refl cut (mode_line parts.0 mode named) (place_line parts.1 place.0 place.1)))
+
 -- an endpoint, where the name of a stop is a name
 abbrev pub IsNamed : Endpoint → Type 0
 IsNamed endpoint = (name : List ℕ) → endpoint ≡ Stop name → is_name name ≡ true
@@ -135,7 +158,7 @@ endpoint_line [] endpoint e named = absurd (none-some endpoint e)
 endpoint_line (mark ∷ name) endpoint e named = by_mark (mark == 110) ((mark == 115) && nat_lt 0 (length name)) (mark == 64) refl refl refl e
   where
     by_mark : (road stop near : Bool) → (mark == 110) ≡ road → ((mark == 115) && nat_lt 0 (length name)) ≡ stop → (mark == 64) ≡ near
-        → cond road (option_map Road (id_at name)) (cond stop (Some (Stop name)) (cond near (option_map Near (place_at name)) None)) ≡ Some endpoint → IsLine (mark ∷ name)
+        → cond road (option_map Road (id_at name)) (cond stop (Some (Stop name)) (cond near (option_map Near (place_at name)) (near_in_at (mark ∷ name)))) ≡ Some endpoint → IsLine (mark ∷ name)
     by_mark true stop near is _ _ e =
         let id = mapped Road (id_at name) endpoint e in
         line_more mark name (other_byte mark 110 is refl) (id_line name id.0 id.1)
@@ -146,7 +169,7 @@ endpoint_line (mark ∷ name) endpoint e named = by_mark (mark == 110) ((mark ==
     by_mark false false true _ _ is e =
         let place = mapped Near (place_at name) endpoint e in
         line_more mark name (other_byte mark 64 is refl) (place_line name place.0 place.1)
-    by_mark false false false _ _ _ e = absurd (none-some endpoint e)
+    by_mark false false false _ _ _ e = near_in_line (mark ∷ name) endpoint e
 
 -- the departure
 date_line : (text : List ℕ) (date : ℕ) → date_at text ≡ Some date → IsLine text

@@ -1,6 +1,6 @@
 -- Why query lines are refused.
 use Rattle.std.proofs.Common.{◌≡◌, ℕ, ℤ, zero, suc, ◌<◌, ◌≤◌, ◌⊎◌, ◌∙◌, inl, inr, is_some, nat_lt, Bool, true, false, Option, Some, None, Result, Ok, Err, List, [], ◌∷◌, length, refl, ap, sym, subst, arith}
-use Rattle.std.specs.Prelude.{IsTrue, ◌↔◌, All, slice_index_or}
+use Rattle.std.specs.Prelude.{IsTrue, ◌↔◌, All, option_map, slice_index_or}
 use Rattle.std.specs.Option.{ok_or}
 use Rattle.std.proofs.Math.Nat.{le_refl}
 use Rattle.service_days.specs.Dates.{date_at}
@@ -10,10 +10,12 @@ use Rattle.mode_network.specs.declared.nodes.Node.{Node}
 use Rattle.mode_network.specs.declared.nodes.NodeKey.{NodeKey}
 use Rattle.mode_network.specs.declared.nodes.NodeKey.TheVariants.{Road as RoadKey, Stop as StopKey, Switch as SwitchKey}
 use Rattle.mode_network.specs.declared.endpoints.Endpoint.{Endpoint}
-use Rattle.mode_network.specs.declared.endpoints.Endpoint.TheVariants.{Road, Stop, Near}
+use Rattle.mode_network.specs.declared.endpoints.Endpoint.TheVariants.{Road, Stop, Near, NearIn}
 use Rattle.mode_network.specs.Rules.{IsNetwork, IsRoad, rank_of}
-use Rattle.mode_network.specs.Copies.{AreExactly, IsCopy, IsRoadCopy, IsNearestRoad, road_points}
+use Rattle.mode_network.specs.Copies.{AreExactly, IsCopy, IsRoadCopy, IsNearestIn, IsNearestRoad, road_points}
 use Rattle.geo_length.specs.Nearest.{Point}
+use Rattle.mode_network.proofs.LayerLemmas.{layer_node}
+use Rattle.plan_base.specs.declared.modes.Mode.{Mode}
 use Rattle.plan_base.specs.declared.places.Place.{Place}
 use Rattle.std.proofs.lemmas.Bool.{ltb-true, ltb-false}
 use Rattle.mode_expression.specs.declared.fault.ExprFault.{ExprFault}
@@ -84,13 +86,25 @@ near_known n network place id mm nearest near =
     let (k, lt, is) = nearest.given in
     (k, record { id = id; mm = mm; nearest = nearest; within = near; copy = point_copy n.roads network.parts.roads_are k id nearest.at lt is })
 
--- where it has none, its nearest road node is far
-pub far_away : (n : NetworkLists) → IsNetwork n → (place : Place) (id : ℤ) (mm : ℕ) → IsNearestRoad n.roads place (Some (id, mm)) → (IsKnown n (Near place) → ⊥) → IsFar n (Near place) mm
-far_away n network place id mm nearest unknown = (id, nearest, on_test (nat_lt 2000000 mm) refl)
+not_near : (mm : ℕ) → (mm ≤ 2000000 → ⊥) → 2000000 < mm
+not_near mm far = on_test (nat_lt 2000000 mm) refl
   where
     on_test : (b : Bool) → nat_lt 2000000 mm ≡ b → 2000000 < mm
     on_test true e = ltb-true 2000000 mm e
-    on_test false e = absurd (unknown (near_known n network place id mm nearest (ltb-false 2000000 mm e)))
+    on_test false e = absurd (far (ltb-false 2000000 mm e))
+
+-- where it has none, its nearest road node is far
+pub far_away : (n : NetworkLists) → IsNetwork n → (place : Place) (id : ℤ) (mm : ℕ) → IsNearestRoad n.roads place (Some (id, mm)) → (IsKnown n (Near place) → ⊥) → IsFar n (Near place) mm
+far_away n network place id mm nearest unknown = (id, nearest, not_near mm (λ near. unknown (near_known n network place id mm nearest near)))
+
+-- the same with the road nodes of a mode
+pub near_known_in : (n : NetworkLists) → IsNetwork n → (mode : Mode) (place : Place) (id : ℤ) (mm : ℕ) → IsNearestIn n.roads mode place (Some (id, mm)) → mm ≤ 2000000 → IsKnown n (NearIn mode place)
+near_known_in n network mode place id mm nearest near =
+    let (v, node, is, key, _) = layer_node n.roads mode network.parts.roads_are (id, nearest.at) nearest.given in
+    (v, record { id = id; mm = mm; nearest = nearest; within = near; copy = ap (option_map (λ (node : Node). node.key)) is ∙ ap Some key })
+
+pub far_away_in : (n : NetworkLists) → IsNetwork n → (mode : Mode) (place : Place) (id : ℤ) (mm : ℕ) → IsNearestIn n.roads mode place (Some (id, mm)) → (IsKnown n (NearIn mode place) → ⊥) → IsFar n (NearIn mode place) mm
+far_away_in n network mode place id mm nearest unknown = (id, nearest, not_near mm (λ near. unknown (near_known_in n network mode place id mm nearest near)))
 
 -- an id or a name that is not known
 pub unknown_id : (n : NetworkLists) (endpoint : Endpoint) (id : ℤ) → endpoint ≡ Road id → (IsKnown n endpoint → ⊥) → IsUnknown n endpoint

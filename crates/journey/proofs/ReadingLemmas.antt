@@ -10,9 +10,9 @@ use Rattle.mode_expression.proofs.UniqueLemmas.{same_outcome}
 use Rattle.geo_length.specs.Nearest.{Point, IsClosest, length_to}
 use Rattle.mode_network.specs.declared.nodes.Node.{Node}
 use Rattle.mode_network.specs.declared.endpoints.Endpoint.{Endpoint}
-use Rattle.mode_network.specs.declared.endpoints.Endpoint.TheVariants.{Road, Stop, Near}
+use Rattle.mode_network.specs.declared.endpoints.Endpoint.TheVariants.{Road, Stop, Near, NearIn}
 use Rattle.mode_network.specs.NetworkLists.{NetworkLists}
-use Rattle.mode_network.specs.Copies.{road_points}
+use Rattle.mode_network.specs.Copies.{layer_nodes, layer_points, road_points}
 use Rattle.plan_base.specs.declared.places.Place.{Place}
 use Rattle.journey.specs.declared.fault.QueryFault.{QueryFault}
 use Rattle.journey.specs.declared.fault.QueryFault.TheVariants.{Shape as NoShape, BadClock, OutOfRange, UnknownFrom, UnknownTo, TooLong, TooDeep, Syntax, TooLarge, OffNetwork, OutOfMemory}
@@ -46,6 +46,7 @@ known_not_unknown : (n : NetworkLists) (e : Endpoint) → IsKnown n e → IsUnkn
 known_not_unknown n (Road id) (v, copy) none = none v copy
 known_not_unknown n (Stop name) (v, copy) none = none v copy
 known_not_unknown n (Near place) (v, copy) none = some_roads n.roads place copy.id copy.mm copy.nearest none
+known_not_unknown n (NearIn mode place) (v, copy) none = some_roads (layer_nodes n.roads mode) place copy.id copy.mm copy.nearest none
 
 known_not_far : (n : NetworkLists) (e : Endpoint) (mm : ℕ) → IsKnown n e → IsFar n e mm → ⊥
 known_not_far n (Road id) mm known far = far
@@ -54,16 +55,22 @@ known_not_far n (Near place) mm (v, copy) (id, nearest, past) =
     let same = same_length (road_points n.roads) place copy.id id copy.mm mm copy.nearest nearest in
     let within = copy.within in
     omega arith
+known_not_far n (NearIn mode place) mm (v, copy) (id, nearest, past) =
+    let same = same_length (layer_points n.roads mode) place copy.id id copy.mm mm copy.nearest nearest in
+    let within = copy.within in
+    omega arith
 
 unknown_not_far : (n : NetworkLists) (e : Endpoint) (mm : ℕ) → IsUnknown n e → IsFar n e mm → ⊥
 unknown_not_far n (Road id) mm none far = far
 unknown_not_far n (Stop name) mm none far = far
 unknown_not_far n (Near place) mm none (id, nearest, past) = some_roads n.roads place id mm nearest none
+unknown_not_far n (NearIn mode place) mm none (id, nearest, past) = some_roads (layer_nodes n.roads mode) place id mm nearest none
 
 same_far : (n : NetworkLists) (e : Endpoint) (m k : ℕ) → IsFar n e m → IsFar n e k → m ≡ k
 same_far n (Road id) m k a b = absurd a
 same_far n (Stop name) m k a b = absurd a
 same_far n (Near place) m k (i, one, _) (j, other, _) = same_length (road_points n.roads) place i j m k one other
+same_far n (NearIn mode place) m k (i, one, _) (j, other, _) = same_length (layer_points n.roads mode) place i j m k one other
 
 same_lack : (n : NetworkLists) (e : Endpoint) (a b : Option Lack) → IsLack n e a → IsLack n e b → a ≡ b
 same_lack n e None None p q = refl

@@ -5,9 +5,9 @@ use Rattle.mode_expression.specs.declared.fault.ExprFault.TheVariants.{TooLong a
 use Rattle.mode_expression.specs.Form.{Form}
 use Rattle.mode_expression.specs.Reading.{IsExpression, IsFault}
 use Rattle.mode_network.specs.declared.endpoints.Endpoint.{Endpoint}
-use Rattle.mode_network.specs.declared.endpoints.Endpoint.TheVariants.{Road, Stop, Near}
+use Rattle.mode_network.specs.declared.endpoints.Endpoint.TheVariants.{Road, Stop, Near, NearIn}
 use Rattle.mode_network.specs.NetworkLists.{NetworkLists}
-use Rattle.mode_network.specs.Copies.{IsCopy, IsNearestRoad}
+use Rattle.mode_network.specs.Copies.{IsCopy, IsNearestIn, IsNearestRoad}
 use Rattle.journey.specs.declared.fault.QueryFault.{QueryFault}
 use Rattle.journey.specs.declared.fault.QueryFault.TheVariants.{Shape as NoShape, BadClock, OutOfRange, UnknownFrom, UnknownTo, TooLong, TooDeep, Syntax, TooLarge, OffNetwork, OutOfMemory}
 use Rattle.journey.specs.declared.endpoints.Lack.{Lack}
@@ -18,17 +18,20 @@ use Rattle.journey.specs.Shapes.{Shape, shape_of, departs_at}
 abbrev pub IsKnown : NetworkLists → Endpoint → Type 0
 IsKnown n endpoint = (v : ℕ) × IsCopy n endpoint v
 
--- no node has the id or the name; a place is unknown where there is no road node
+-- no node has the id or the name; a place is unknown where there is no road node, or none of its mode
 abbrev pub IsUnknown : NetworkLists → Endpoint → Type 0
 IsUnknown n (Road id) = (v : ℕ) → IsCopy n (Road id) v → ⊥
 IsUnknown n (Stop name) = (v : ℕ) → IsCopy n (Stop name) v → ⊥
 IsUnknown n (Near place) = IsNearestRoad n.roads place None
+IsUnknown n (NearIn mode place) = IsNearestIn n.roads mode place None
 
--- the endpoint is a place, and its nearest road node lies so many millimetres away, which is more than two kilometres
+-- the endpoint is a place, and its nearest road node, or that of its mode, lies so many millimetres away, which is
+-- more than two kilometres
 abbrev pub IsFar : NetworkLists → Endpoint → ℕ → Type 0
 IsFar n (Road id) mm = ⊥
 IsFar n (Stop name) mm = ⊥
 IsFar n (Near place) mm = (id : ℤ) × IsNearestRoad n.roads place (Some (id, mm)) × (2000000 < mm)
+IsFar n (NearIn mode place) mm = (id : ℤ) × IsNearestIn n.roads mode place (Some (id, mm)) × (2000000 < mm)
 
 -- what an endpoint lacks; or it lacks nothing, and is known
 abbrev pub IsLack : NetworkLists → Endpoint → Option Lack → Type 0

@@ -4,6 +4,7 @@ use Rattle.std.specs.Option.{ok_or}
 use Rattle.journey.specs.declared.fault.QueryFault.{QueryFault}
 use Rattle.journey.specs.declared.fault.QueryFault.TheVariants.{BadClock, OutOfRange}
 use Rattle.plan_base.specs.declared.places.Place.{Place}
+use Rattle.plan_base.specs.Modes.{mode_named}
 use Rattle.plan_base.specs.PlaceOf.{place_of}
 use Rattle.geo_length.specs.Degrees.{degrees_of}
 use Rattle.plain_texts.specs.Numbers.{id_at}
@@ -12,7 +13,7 @@ use Rattle.service_days.specs.DaysMeaning.{DaysMeaning}
 use Rattle.service_days.specs.Days.{base_of, day_with_date}
 use Rattle.service_days.specs.Dates.{date_at}
 use Rattle.mode_network.specs.declared.endpoints.Endpoint.{Endpoint}
-use Rattle.mode_network.specs.declared.endpoints.Endpoint.TheVariants.{Road, Stop, Near}
+use Rattle.mode_network.specs.declared.endpoints.Endpoint.TheVariants.{Road, Stop, Near, NearIn}
 
 -- what stands before the first such byte of a text, and what stands after it
 abbrev pub at_byte : ℕ → List ℕ → Option (List ℕ × List ℕ)
@@ -27,13 +28,20 @@ place_at text =
     option_and_then (λ parts. option_and_then (λ lat. option_and_then (λ lon. place_of lat lon)
     (degrees_of 180 parts.1)) (degrees_of 90 parts.0)) (at_byte 44 text)
 
--- `n` and the id of an OSM node, or `s` and the name of a stop, which is at least one byte, or `@` and a place
+-- the name of a mode, `@` and a place
+abbrev pub near_in_at : List ℕ → Option Endpoint
+near_in_at field =
+    option_and_then (λ parts. option_and_then (λ mode. option_map (NearIn mode) (place_at parts.1))
+    (mode_named parts.0)) (at_byte 64 field)
+
+-- `n` and the id of an OSM node, or `s` and the name of a stop, which is at least one byte, or `@` and a place, also
+-- behind the name of a mode
 abbrev pub endpoint_of : List ℕ → Option Endpoint
 endpoint_of [] = None
 endpoint_of (mark ∷ name) =
     if mark == 110 then option_map Road (id_at name)
     else (if (mark == 115) && nat_lt 0 (length name) then Some (Stop name)
-    else (if mark == 64 then option_map Near (place_at name) else None))
+    else (if mark == 64 then option_map Near (place_at name) else near_in_at (mark ∷ name)))
 
 -- the fields of a query line
 pub record Fields : Type 0 where

@@ -10,9 +10,9 @@ use mode_network::{Endpoint, Network};
 /// Why no node of a network is a copy of an endpoint.
 #[derive(Clone, Copy)]
 pub(crate) enum Lack {
-    /// No node has the id or the name, or there is no road node at all.
+    /// No node has the id or the name, or there is no road node at all, or none of the mode.
     Unknown,
-    /// The nearest road node lies so many millimetres away from the place.
+    /// The nearest road node, or that of the mode, lies so many millimetres away from the place.
     Far { mm: u64 },
 }
 
@@ -57,6 +57,10 @@ pub(crate) fn lack_of(network: &Network, endpoint: &Endpoint) -> Option<Lack>
         Endpoint::Road(_) => Some(Lack::Unknown),
         Endpoint::Stop(_) => Some(Lack::Unknown),
         Endpoint::Near(place) => match network.nearest_road(*place) {
+            Some((_, mm)) => Some(Lack::Far { mm }),
+            None => Some(Lack::Unknown),
+        },
+        Endpoint::NearIn(mode, place) => match network.nearest_in(*mode, *place) {
             Some((_, mm)) => Some(Lack::Far { mm }),
             None => Some(Lack::Unknown),
         },

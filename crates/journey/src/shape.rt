@@ -1,7 +1,7 @@
 //! The fields of a query line.
 
 ghost use Rattle.std.specs.Prelude.{◌≡◌, ◌==◌, option_map, position, IfOk, IfSome, ◌<◌, ◌^◌};
-ghost use Rattle.journey.specs.Shapes.{at_byte, at_space, place_at, endpoint_of, shape_of, part_at, millis_at, time_at, departure_on, fields_of};
+ghost use Rattle.journey.specs.Shapes.{at_byte, at_space, place_at, near_in_at, endpoint_of, shape_of, part_at, millis_at, time_at, departure_on, fields_of};
 ghost use Rattle.journey.specs.Shown.{shown};
 ghost use Rattle.journey.specs.Shapes.{departs_at};
 
@@ -9,7 +9,7 @@ use crate::fault::QueryFault;
 use geo_length::read_degrees;
 use mode_network::{Bytes, Endpoint};
 use plain_texts::{read_fixed, read_id};
-use plan_base::{Place, Time};
+use plan_base::{Mode, Place, Time};
 use service_days::{Days, read_date};
 use std::alloc::{AllocError, Global};
 
@@ -44,6 +44,16 @@ fn read_place(text: &[u8]) -> Option<Place>
     Place::new(read_degrees(lat, 90)?, read_degrees(lon, 180)?)
 }
 
+/// The nearest road node of a mode, where the mode's name, `@` and a place stand for it.
+fn near_in(field: &[u8]) -> Option<Endpoint>
+    ensures { result ≡ near_in_at field.now }
+{
+    let (mode, place) = at_byte(b'@', field)?;
+    let mode = Mode::from_name(mode)?;
+    let place = read_place(place)?;
+    Some(Endpoint::NearIn(mode, place))
+}
+
 /// The endpoint that a field names.
 fn endpoint(alloc: Global, field: &[u8]) -> Result<Option<Endpoint>, AllocError>
     ensures { IfOk result (λ endpoint. endpoint ≡ endpoint_of field.now) }
@@ -55,7 +65,7 @@ fn endpoint(alloc: Global, field: &[u8]) -> Result<Option<Endpoint>, AllocError>
             Ok(Some(Endpoint::Stop(Bytes::from(name))))
         }
         [b'@', place @ ..] => Ok(read_place(place).map(Endpoint::Near)),
-        _ => Ok(None),
+        _ => Ok(near_in(field)),
     }
 }
 
