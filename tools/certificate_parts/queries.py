@@ -8,6 +8,7 @@ from certificate_parts.expressions import BadExpression, Positions, read_express
 from certificate_parts.faults import Invalid
 from certificate_parts.lengths import Place, length
 from certificate_parts.network import LEAD_DAYS, Network
+from region_reader import MODES
 
 FAULTS = ("shape", "clock", "range", "from", "to", "long", "deep", "syntax", "large", "far")
 NEAR = 2_000_000  # millimetres from a place to the node that it stands for
@@ -30,9 +31,10 @@ class Stop:
 
 @dataclass(frozen=True)
 class Near:
-    """`@` and a place."""
+    """`@` and a place; and the number of the mode whose name stands before them, or None."""
 
     place: Place
+    mode: int | None
 
 
 @dataclass(frozen=True)
@@ -72,9 +74,10 @@ def _endpoint_of(word: str) -> Node | Stop | Near | None:
         return Node(int(rest))
     if mark == "s" and rest:
         return Stop(rest)
-    if mark == "@" and rest.count(",") == 1:
+    name, at, rest = word.partition("@")
+    if at and rest.count(",") == 1 and name in ("", *MODES):
         lat, lon = (_degrees(part, most) for part, most in zip(rest.split(","), (90, 180)))
-        return Near((lat, lon)) if lat is not None and lon is not None else None
+        return Near((lat, lon), MODES.index(name) if name else None) if lat is not None and lon is not None else None
     return None
 
 
@@ -108,11 +111,14 @@ def _date_of(text: str) -> datetime.date | None:
 def _copies(network: Network, endpoint: Node | Stop | Near, unknown: str) -> list[int]:
     """The nodes that an endpoint stands for, in the order of their numbers."""
     if isinstance(endpoint, Near):
-        if not network.places:
+        nodes = [node for node, mode in enumerate(network.modes) if endpoint.mode in (None, mode)]
+        if not nodes:
             raise refused(unknown)
-        mm, ident = min((length(endpoint.place, place), ident) for place, ident in zip(network.places, network.ids))
+        mm, ident, nearest = min((length(endpoint.place, network.places[node]), network.ids[node], node) for node in nodes)
         if mm > NEAR:
             raise refused("far")
+        if endpoint.mode is not None:
+            return [nearest]
         endpoint = Node(ident)
     if isinstance(endpoint, Stop):
         found = [len(network.modes) + place for place, name in enumerate(network.stops) if name == endpoint.name]

@@ -53,7 +53,8 @@ def draw_region(dice: random.Random) -> Drawn:
     trips = [_trip(dice, name, len(stops), count) for name in range(dice.randint(0, 8) if stops else 0)]
     trips += [_later(trip, dice.choice([60, 300, 600, DAY, DAY + 300])) for trip in trips for _ in range(dice.choice([0, 0, 1, 2]))]
     lines += itertools.chain.from_iterable(trips)
-    ends = [f"n{number}" for number in ids] * 6 + [f"s{name}" for name in stops] * 6 + ["@48.001,11.001", "@48.0,12", "n77"]
+    places = ["@48.001,11.001", "@48.0,12", *(f"{mode}@48.001,11.001" for mode in MODES)]
+    ends = [f"n{number}" for number in ids] * 6 + [f"s{name}" for name in stops] * 6 + places + ["n77"]
     first = int(days[:8])
     dates = [str(first + day) for day in range(count)] if first % 100 + count < 29 else [str(first)]
     departures = [int(call.split(" ")[3]) % DAY for trip in trips for call in trip[1:]]

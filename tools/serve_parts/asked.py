@@ -13,8 +13,8 @@ LONGEST = 16_384  # bytes of what stands behind `?`
 CONTROL = re.compile("[\\x00-\\x1f\\x7f]")
 QUERY = ("from", "to", "date", "time", "expr")
 WHAT = {
-    "from": "where the journey begins: n and an OSM id, s and a stop's name, or @LAT,LON",
-    "to": "where the journey ends: n and an OSM id, s and a stop's name, or @LAT,LON",
+    "from": "where the journey begins: n and an OSM id, s and a stop's name, or @LAT,LON, also behind foot, bike or car",
+    "to": "where the journey ends: n and an OSM id, s and a stop's name, or @LAT,LON, also behind foot, bike or car",
     "date": "a date of 8 digits, such as 20240701",
     "time": "HH:MM:SS or HH:MM:SS.mmm",
     "expr": "how to travel, such as foot? (transit foot?)*",
