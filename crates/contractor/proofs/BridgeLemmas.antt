@@ -2,6 +2,7 @@
 use Rattle.std.proofs.Common.{◌≡◌, ◌≢◌, ℕ, suc, ◌+◌, ◌-◌, ◌<◌, ◌≤◌, ◌^◌, ◌⊎◌, inl, inr, List, [], ◌∷◌, ◌++◌, ◌∙◌, length, map, get_or, Some, refl, sym, ap, subst, arith}
 use Rattle.std.specs.Prelude.{All, AllPairs, Contains, Vec, slice_get}
 use Rattle.std.specs.declared.alloc.Global.{Global}
+use Rattle.std.proofs.lemmas.Bool.{cases_order}
 use Rattle.std.proofs.lemmas.List.{length_push, map_push}
 use Rattle.std.proofs.lemmas.List.Elements.{All-contains, All-push, All-cons, Contains-get_or}
 use Rattle.std.proofs.lemmas.List.Quantifiers.{all_pairs_push}
@@ -15,12 +16,14 @@ use Rattle.hierarchy.proofs.HopLemmas.{hops_weaker}
 use Rattle.hierarchy.proofs.SoundLemmas.{fits}
 use Rattle.hierarchy.proofs.ContractionLemmas.{height_kept, height_next}
 use Rattle.witness.specs.declared.edge.Edge.{Edge}
+use Rattle.witness.specs.declared.workspace.Workspace.{Workspace}
 use Rattle.witness.specs.Rows.{row_at, HasEdge, AreRows, IsWalkWithin, NoWalkWithin}
+use Rattle.witness.specs.Searching.{IsSearch, NobodyBusy}
 use Rattle.contractor.specs.declared.way.Way.{Way}
 use Rattle.contractor.specs.declared.way.Walk.{Walk}
 use Rattle.contractor.specs.declared.layer.Layer.{Layer}
 use Rattle.contractor.specs.Partway.{IsGood, IsLive, IsWay, AreWays, IsPartway, IsPut, shortcut_of, HaveOtherEnds, HaveOtherWays, IsTrueWeight}
-use Rattle.contractor.specs.Layers.{IsLayer, IsListed, FitsRows, CanPut, lists_of, lists_with, witness_of, HaveOtherKeys, FitsWalk, IsForWay, AreWalks, IsState, IsBridging, IsInRows, AreFirst, AreSecond, AreWaysOf, into_at}
+use Rattle.contractor.specs.Layers.{IsLayer, IsListed, FitsRows, CanPut, lists_of, lists_with, witness_of, HaveOtherKeys, FitsWalk, IsForWay, AreWalks, IsState, IsBridging, IsEndOf, IsSearchFor, IsInRows, AreFirst, AreSecond, AreWaysOf, into_at}
 use Rattle.contractor.specs.declared.way.Side.{Side}
 use Rattle.contractor.proofs.WayLemmas.{are_ways}
 use Rattle.contractor.proofs.ListLemmas.{place_of, contains_place}
@@ -97,7 +100,7 @@ module _ (order : List ℕ) (x : ℕ) (ways : List Way) (k : ℕ) (walks : List 
     differs j d low same_below same_first same_last = elim (are.each j d low) [
       | inl contracted ↦ (let now : IsContracted order x = subst (IsContracted order) (same_below ∙ below) contracted in omega arith)
       | inr it ↦ (let f = it.1 in
-          let w : Way = record { sum = 0; from = 0; to = 0 } in
+          let w : Way = record { first = 0; from = 0; sum = 0; to = 0 } in
           other f.place k w f.before lt (f.first w ∙ same_first ∙ sym (first w)) (f.last w ∙ same_last ∙ sym (last w)))
     ]
 
@@ -152,15 +155,41 @@ walk_fits rows u v limit walk are inside differ first last w = record {
   two [] walk = absurd (differ (sym walk))
   two (hop ∷ hops) walk = omega arith
 
+-- the ends of a way have rows
+pub record FitsSearch (nodes : ℕ) (way : Way) : Type 0 where
+  pub from : way.from < nodes
+  pub to : way.to < nodes
+  pub positive : 0 < way.sum
+  pub light : way.sum < 2 ^ 57
+
+way_fits : (h : HierarchyLists) (x nodes : ℕ) (way : Way) → IsWay h x way → All (FitsRows nodes) h.entries → FitsSearch nodes way
+way_fits h x nodes way w fit =
+    let a = fit_of way.from x way.first w.is_first in
+    let b = fit_of x way.to w.second w.is_second in
+    let s = w.sum in
+    let p = a.light in
+    let q = b.light in
+    let r = a.positive in
+    record { from = a.from; to = b.to; positive = omega arith; light = omega arith }
+  where
+    fit_of : (u v w : ℕ) (has : HasEntry h.entries u v w) → FitsRows nodes (record { from = u; to = v; weight = w; via = has.0 })
+    fit_of u v w has = All-contains (FitsRows nodes) h.entries (record { from = u; to = v; weight = w; via = has.0 }) fit has.1
+
 -- ---- one way more
 
-module _ (n : NetworkLists) (h : HierarchyLists) (x : ℕ) (ways : List Way) (k : ℕ) (old : Layer) (network : IsNetwork n) (core : IsCore h.order x) (are : AreWays h x ways) (state : IsBridging n h x ways k old)
+module _ (n : NetworkLists) (x : ℕ) (ways : List Way) (k : ℕ) (old : Layer) (network : IsNetwork n) (state : IsBridging n x ways k old)
     (way : Way) (lt : k < length ways) (is : (d : Way) → get_or ways k d ≡ way) where
+  abbrev h : HierarchyLists
+  h = state.before
+
   abbrev here : IsWay h x way
-  here = subst (IsWay h x) (is way) (are.each k way lt)
+  here = subst (IsWay h x) (is way) (state.are.each k way lt)
+
+  pub inside : FitsSearch (length old.rows.items) way
+  inside = way_fits h x (length old.rows.items) way here state.fit
 
   from_is : way.from ≢ x
-  from_is same = (fits n h state.good.sound way.from x here.first here.is_first).differ same
+  from_is same = (fits n h state.good.sound way.from x way.first here.is_first).differ same
 
   to_is : way.to ≢ x
   to_is same = (fits n h state.good.sound x way.to here.second here.is_second).differ (sym same)
@@ -171,57 +200,63 @@ module _ (n : NetworkLists) (h : HierarchyLists) (x : ℕ) (ways : List Way) (k 
   pub left_to : IsCore (old.order.items ++ x ∷ []) way.to
   left_to = subst (λ o. IsCore (o ++ x ∷ []) way.to) (sym state.order) (core_more h.order x way.to to_is here.core_to)
 
-  pub lighter_more : (weight : ℕ) → HasEdge old.rows.items way.from way.to weight → weight ≤ way.sum → IsBridging n h x ways (k + 1) old
+  pub lighter_more : (weight : ℕ) → HasEdge old.rows.items way.from way.to weight → weight ≤ way.sum → IsBridging n x ways (k + 1) old
   lighter_more weight edge le = record {
+    before = h;
     good = state.good;
+    fit = state.fit;
+    core = state.core;
+    are = state.are;
     order = state.order;
-    partway = by_lighter n h x ways k (lists_with x old) network state.good.sound core are state.partway way lt is
+    partway = by_lighter n h x ways k (lists_with x old) network state.good.sound state.core state.are state.partway way lt is
         (weight, (edge_live (old.order.items ++ x ∷ []) old state.layer (lists_with x old) refl refl way.from way.to weight edge).entry, le);
     layer = state.layer;
-    walks = walks_stay old.order.items x ways k old.walks.items (subst (λ o. IsCore o x) (sym state.order) core) state.walks;
+    walks = walks_stay old.order.items x ways k old.walks.items (subst (λ o. IsCore o x) (sym state.order) state.core) state.walks;
   }
 
   module _ (none : NoWalkWithin old.rows.items way.from way.to way.sum) where
     no_live : (hops : List Hop) → AreHops (IsLive (lists_with x old)) way.from hops way.to → way.sum < total hops
     no_live = none_live (old.order.items ++ x ∷ []) old state.layer (lists_with x old) refl refl way.from way.to way.sum none
 
-    pub can_put : (entries : List Entry) → h.entries ≡ entries → (nodes : ℕ) → All (FitsRows nodes) entries → CanPut nodes way
-    can_put entries same nodes fit =
-        let a = fit_of way.from x here.first here.is_first in
-        let b = fit_of x way.to here.second here.is_second in
-        record {
-          differ = here.differ;
-          from = a.from;
-          to = b.to;
-          positive = (let s = here.sum in let p = a.positive in omega arith);
-          light = light n h x ways k (lists_with x old) network state.good.sound core are state.partway way lt is no_live;
-        }
-      where
-        fit_of : (u v w : ℕ) (has : HasEntry h.entries u v w) → FitsRows nodes (record { from = u; to = v; weight = w; via = has.0 })
-        fit_of u v w has = All-contains (FitsRows nodes) entries (record { from = u; to = v; weight = w; via = has.0 }) fit (subst (λ es. Contains es (record { from = u; to = v; weight = w; via = has.0 })) same has.1)
+    pub can_put : CanPut (length old.rows.items) way
+    can_put = record {
+      differ = here.differ;
+      from = inside.from;
+      to = inside.to;
+      positive = inside.positive;
+      light = light n h x ways k (lists_with x old) network state.good.sound state.core state.are state.partway way lt is no_live;
+    }
 
-    pub shortcut_more : (new : Layer) → new.order.items ≡ old.order.items → new.walks.items ≡ old.walks.items → IsPut old.entries.items new.entries.items (shortcut_of x way) → IsLayer (old.order.items ++ x ∷ []) new → IsBridging n h x ways (k + 1) new
-    shortcut_more new order walks put layer = record {
+    pub shortcut_more : (new : Layer) → length new.rows.items ≡ length old.rows.items → new.order.items ≡ old.order.items → new.walks.items ≡ old.walks.items → IsPut old.entries.items new.entries.items (shortcut_of x way) → IsLayer (old.order.items ++ x ∷ []) new → IsBridging n x ways (k + 1) new
+    shortcut_more new count order walks put layer = record {
+      before = h;
       good = state.good;
+      fit = subst (λ m. All (FitsRows m) h.entries) (sym count) state.fit;
+      core = state.core;
+      are = state.are;
       order = order ∙ state.order;
-      partway = by_shortcut n h x ways k (lists_with x old) network state.good.sound core are state.partway way lt is no_live (lists_with x new) (ap (λ o. o ++ x ∷ []) order) (ap (map witness_of) walks) put;
+      partway = by_shortcut n h x ways k (lists_with x old) network state.good.sound state.core state.are state.partway way lt is no_live (lists_with x new) (ap (λ o. o ++ x ∷ []) order) (ap (map witness_of) walks) put;
       layer = subst (λ o. IsLayer (o ++ x ∷ []) new) (sym order) layer;
       walks = subst (λ o. AreWalks o x ways (k + 1) new.walks.items) (sym order) (subst (λ ws. AreWalks old.order.items x ways (k + 1) ws) (sym walks)
-          (walks_stay old.order.items x ways k old.walks.items (subst (λ o. IsCore o x) (sym state.order) core) state.walks));
+          (walks_stay old.order.items x ways k old.walks.items (subst (λ o. IsCore o x) (sym state.order) state.core) state.walks));
     }
 
   pub witness_more : (new : Layer) (walk : Walk) → new ≡ record old { walks = new.walks } → new.walks.items ≡ old.walks.items ++ walk ∷ [] → walk.below ≡ x → walk.first ≡ way.from → walk.last ≡ way.to
-      → IsWalkWithin old.rows.items way.from way.to way.sum walk.nodes.items → way.from < length old.rows.items → IsBridging n h x ways (k + 1) new
-  witness_more new walk others walks below first last found inside = record {
+      → IsWalkWithin old.rows.items way.from way.to way.sum walk.nodes.items → IsBridging n x ways (k + 1) new
+  witness_more new walk others walks below first last found = record {
+    before = h;
     good = state.good;
+    fit = subst (λ m. All (FitsRows m) h.entries) (sym (ap (λ (l : Layer). length l.rows.items) others)) state.fit;
+    core = state.core;
+    are = state.are;
     order = order ∙ state.order;
-    partway = by_witness n h x ways k (lists_with x old) network state.good.sound core are state.partway way lt is found.hops
+    partway = by_witness n h x ways k (lists_with x old) network state.good.sound state.core state.are state.partway way lt is found.hops
         (walk_live (old.order.items ++ x ∷ []) old state.layer (lists_with x old) refl refl found.hops way.from way.to found.walk) found.within (lists_with x new) (ap (λ o. o ++ x ∷ []) order) entries
         (ap (map witness_of) walks ∙ map_push witness_of old.walks.items walk ∙ ap (λ w. map witness_of old.walks.items ++ w ∷ []) witness);
     layer = subst (λ o. IsLayer (o ++ x ∷ []) new) (sym order) (subst (IsLayer (old.order.items ++ x ∷ [])) (sym others) (same_layer state.layer));
     walks = subst (λ o. AreWalks o x ways (k + 1) new.walks.items) (sym order) (subst (λ ws. AreWalks old.order.items x ways (k + 1) ws) (sym walks)
-        (walks_more old.order.items x ways k old.walks.items (subst (λ o. IsCore o x) (sym state.order) core) state.walks are.apart lt walk below (λ d. ap (λ (w : Way). w.from) (is d) ∙ sym first) (λ d. ap (λ (w : Way). w.to) (is d) ∙ sym last)
-        (walk_fits old.rows.items way.from way.to way.sum walk (rows_are (old.order.items ++ x ∷ []) old state.layer) inside here.differ first last found)));
+        (walks_more old.order.items x ways k old.walks.items (subst (λ o. IsCore o x) (sym state.order) state.core) state.walks state.are.apart lt walk below (λ d. ap (λ (w : Way). w.from) (is d) ∙ sym first) (λ d. ap (λ (w : Way). w.to) (is d) ∙ sym last)
+        (walk_fits old.rows.items way.from way.to way.sum walk (rows_are (old.order.items ++ x ∷ []) old state.layer) inside.from here.differ first last found)));
   } where
     order : new.order.items ≡ old.order.items
     order = ap (λ (l : Layer). l.order.items) others
@@ -237,29 +272,50 @@ module _ (n : NetworkLists) (h : HierarchyLists) (x : ℕ) (ways : List Way) (k 
     same_layer : IsLayer (old.order.items ++ x ∷ []) old → IsLayer (old.order.items ++ x ∷ []) (record old { walks = new.walks })
     same_layer l = record { few = l.few; count = l.count; fit = l.fit; apart = l.apart; listed = l.listed; all = l.all; into_fit = l.into_fit }
 
+-- the search goes as far as the last way from its start, and so for each of them
+pub search_for : (n : NetworkLists) (x : ℕ) (ways : List Way) (k : ℕ) (old : Layer) → IsBridging n x ways k old → (place end j : ℕ) (d : Way) → IsEndOf ways place end → place ≤ j → j < end → (w : Workspace)
+    → IsSearch old.rows.items w.most NobodyBusy w → w.start ≡ (get_or ways place d).from → w.most ≡ (get_or ways (end - 1) d).sum → IsSearchFor old.rows.items (get_or ways j d) w
+search_for n x ways k old state place end j d is le lt w search start most = record {
+  search = search;
+  start = start ∙ sym (is.same j d le lt);
+  far = (let far = by_place (cases_order j (end - 1)) in omega arith);
+  light = (let last = way_fits state.before x (length old.rows.items) (get_or ways (end - 1) d) (state.are.each (end - 1) d last_in) state.fit in let light = last.light in omega arith);
+} where
+  last_in : end - 1 < length ways
+  last_in = (let a = is.after in let b = is.inside in omega arith)
+
+  by_place : (j ≡ end - 1) ⊎ (j < end - 1) ⊎ (end - 1 < j) → (get_or ways j d).sum ≤ (get_or ways (end - 1) d).sum
+  by_place (inl same) = subst (λ i. (get_or ways j d).sum ≤ (get_or ways i d).sum) same (omega arith)
+  by_place (inr (inl lower)) = (state.are.rising j (end - 1) d lower last_in).sum (is.same j d le lt ∙ sym (is.same (end - 1) d (omega arith) (let a = is.after in omega arith)))
+  by_place (inr (inr higher)) = absurd (omega arith)
+
 -- ---- the begin and the end
 
-pub bridging_begins : (n : NetworkLists) (h : HierarchyLists) (x : ℕ) (ways : List Way) (layer : Layer) → IsGood n h → h ≡ lists_of layer → IsLayer (layer.order.items ++ x ∷ []) layer → AreWalks layer.order.items 0 [] 0 layer.walks.items
-    → IsBridging n h x ways 0 layer
-bridging_begins n h x ways layer good same is walks = record {
+pub bridging_begins : (n : NetworkLists) (h : HierarchyLists) (x : ℕ) (ways : List Way) (layer : Layer) → IsGood n h → h ≡ lists_of layer → IsCore h.order x → AreWays h x ways → IsLayer (layer.order.items ++ x ∷ []) layer → AreWalks layer.order.items 0 [] 0 layer.walks.items
+    → IsBridging n x ways 0 layer
+bridging_begins n h x ways layer good same core are is walks = record {
+  before = h;
   good = good;
+  fit = subst (λ (g : HierarchyLists). All (FitsRows (length layer.rows.items)) g.entries) (sym same) is.fit;
+  core = core;
+  are = are;
   order = sym (ap (λ (l : HierarchyLists). l.order) same);
   partway = subst (λ (g : HierarchyLists). IsPartway n g x ways 0 (lists_with x layer)) (sym same) (partway_begins n (lists_of layer) x ways (subst (λ (g : HierarchyLists). All (IsTrueWeight n) g.entries) same good.true_weights));
   layer = is;
   walks = walks_begin layer.order.items x ways layer.walks.items walks;
 }
 
-pub contracted : (n : NetworkLists) (h : HierarchyLists) (x : ℕ) (ways : List Way) (layer new : Layer) → IsCore h.order x → IsFree n x → AreWays h x ways → IsBridging n h x ways (length ways) layer
+pub contracted : (n : NetworkLists) (x : ℕ) (ways : List Way) (layer new : Layer) → IsFree n x → IsBridging n x ways (length ways) layer
     → new.order.items ≡ layer.order.items ++ x ∷ [] → new.entries.items ≡ layer.entries.items → new.walks.items ≡ layer.walks.items → new.rows.items ≡ layer.rows.items → new.into.items ≡ layer.into.items → IsState n new
-contracted n h x ways layer new core free are state order entries walks rows into = record {
+contracted n x ways layer new free state order entries walks rows into = record {
   good = record {
-    sound = subst (IsSound n) (sym lists) (partway_ends n h x ways (length ways) (lists_with x layer) state.good.sound core free are (omega arith) state.partway);
+    sound = subst (IsSound n) (sym lists) (partway_ends n state.before x ways (length ways) (lists_with x layer) state.good.sound state.core free state.are (omega arith) state.partway);
     true_weights = subst (λ es. All (IsTrueWeight n) es) (sym entries) state.partway.true_weights;
     apart = subst (λ es. AllPairs HaveOtherEnds es) (sym entries) state.layer.apart;
   };
   layer = subst (λ o. IsLayer o new) (sym order) (moved state.layer);
   walks = subst (λ o. AreWalks o 0 [] 0 new.walks.items) (sym order) (subst (λ ws. AreWalks (layer.order.items ++ x ∷ []) 0 [] 0 ws) (sym walks)
-      (walks_end layer.order.items x ways (length ways) layer.walks.items (subst (λ o. IsCore o x) (sym state.order) core) state.walks));
+      (walks_end layer.order.items x ways (length ways) layer.walks.items (subst (λ o. IsCore o x) (sym state.order) state.core) state.walks));
 } where
   lists : lists_of new ≡ lists_with x layer
   lists = ap (λ o. made o new.entries.items (map witness_of new.walks.items)) order ∙ ap (λ es. made (layer.order.items ++ x ∷ []) es (map witness_of new.walks.items)) entries ∙ ap (λ ws. made (layer.order.items ++ x ∷ []) layer.entries.items (map witness_of ws)) walks where
@@ -298,20 +354,10 @@ module _ (n : NetworkLists) (old new : Layer) (x : ℕ) (state : IsState n old) 
       (subst (λ o. AreFirst o new.entries.items x first) (sym order) (subst (λ es. AreFirst old.order.items es x first) (sym entries) before))
       (subst (λ o. AreSecond o new.entries.items x second) (sym order) (subst (λ es. AreSecond old.order.items es x second) (sym entries) after)) are
 
-  pub bridging_now : (ways : List Way) → IsLayer (old.order.items ++ x ∷ []) new → IsBridging n (lists_of new) x ways 0 new
-  bridging_now ways layer = bridging_begins n (lists_of new) x ways new good refl (subst (λ o. IsLayer (o ++ x ∷ []) new) (sym order) layer)
+  pub bridging_now : (ways : List Way) → IsCore old.order.items x → AreWays (lists_of new) x ways → IsLayer (old.order.items ++ x ∷ []) new → IsBridging n x ways 0 new
+  bridging_now ways core are layer = bridging_begins n (lists_of new) x ways new good refl (subst (λ o. IsCore o x) (sym order) core) are (subst (λ o. IsLayer (o ++ x ∷ []) new) (sym order) layer)
       (subst (λ o. AreWalks o 0 [] 0 new.walks.items) (sym order) (subst (λ ws. AreWalks old.order.items 0 [] 0 ws) (sym walks) state.walks)) where
         good : IsGood n (lists_of new)
         good = subst (λ o. IsGood n (record { order = o; entries = new.entries.items; witnesses = map witness_of new.walks.items })) (sym order)
             (subst (λ es. IsGood n (record { order = old.order.items; entries = es; witnesses = map witness_of new.walks.items })) (sym entries)
             (subst (λ (ws : List Walk). IsGood n (record { order = old.order.items; entries = old.entries.items; witnesses = map witness_of ws })) (sym walks) state.good))
-
--- the ends of a way have rows
-pub way_inside : (h : HierarchyLists) (x nodes : ℕ) (entries : List Entry) (way : Way) → IsWay h x way → h.entries ≡ entries → All (FitsRows nodes) entries → (way.from < nodes) × (way.to < nodes) × (way.sum < 2 ^ 57)
-way_inside h x nodes entries way w same fit =
-    let a = fit_of way.from x w.first w.is_first in
-    let b = fit_of x way.to w.second w.is_second in
-    (a.from, b.to, (let s = w.sum in let p = a.light in let q = b.light in omega arith))
-  where
-    fit_of : (u v w : ℕ) (has : HasEntry h.entries u v w) → FitsRows nodes (record { from = u; to = v; weight = w; via = has.0 })
-    fit_of u v w has = All-contains (FitsRows nodes) entries (record { from = u; to = v; weight = w; via = has.0 }) fit (subst (λ es. Contains es (record { from = u; to = v; weight = w; via = has.0 })) same has.1)

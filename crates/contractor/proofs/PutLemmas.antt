@@ -8,7 +8,7 @@ use Rattle.std.proofs.lemmas.Option.{slice_get-get_or, slice_get_within, get_or_
 use Rattle.hierarchy.specs.declared.entry.Entry.{Entry}
 use Rattle.hierarchy.specs.Lists.{IsCore}
 use Rattle.witness.specs.declared.edge.Edge.{Edge}
-use Rattle.witness.specs.Rows.{row_at}
+use Rattle.witness.specs.Rows.{IsEdgePut, row_at}
 use Rattle.contractor.specs.declared.layer.Layer.{Layer}
 use Rattle.contractor.specs.Partway.{IsPut, HaveOtherEnds}
 use Rattle.contractor.specs.Layers.{IsLayer, IsListed, IsInRows, FitsRows, IsReplaced, IsAdded, IsEntered, IsEdgeListed, IsPlaceable, into_at, edge_of}
@@ -173,6 +173,40 @@ module _ (order : List ℕ) (old : Layer) (layer : IsLayer order old) (e : Entry
               (filter_keeps elsewhere row (edge_of k f) (subst (λ w. Contains (row_at old.rows.items w) (edge_of k f)) here there)
               (not_from_false (nat_eq f.to e.to) (ne_eqb f.to e.to (λ to. in_.others k f at differ here to))))))
         ]
+
+-- the rows have the edge now, and no other between its ends
+pub edge_put : (old new : List (Vec Edge Global)) (u v number weight : ℕ) → IsEdgeListed u (record { to = v; entry = number; weight = weight }) old new → IsEdgePut old new u v weight
+edge_put old new u v number weight listed = record {
+  count = listed.count;
+  there = (number, subst (λ ys. Contains ys edge) (sym listed.here) (Contains-push (filter elsewhere (row_at old u)) edge));
+  kept = λ a b w has. elim (cases_eq a u) [
+    | inr other ↦ inl (has.0, subst (λ ys. Contains ys (edge_to b has.0 w)) (sym (listed.others a other)) has.1)
+    | inl here ↦ elim (cases_eq b v) [
+      | inl same ↦ inr (here, same)
+      | inr differ ↦ inl (
+        has.0,
+        subst (λ z. Contains (row_at new z) (edge_to b has.0 w)) (sym here) (subst (λ ys. Contains ys (edge_to b has.0 w)) (sym listed.here)
+            (Contains-append_left (filter elsewhere (row_at old u)) (edge ∷ []) (edge_to b has.0 w)
+            (filter_keeps elsewhere (row_at old u) (edge_to b has.0 w) (subst (λ z. Contains (row_at old z) (edge_to b has.0 w)) here has.1) (not_from_false (nat_eq b v) (ne_eqb b v differ))))),
+      )
+    ]
+  ];
+  made = λ a b w has. elim (cases_eq a u) [
+    | inr other ↦ inl (has.0, subst (λ ys. Contains ys (edge_to b has.0 w)) (listed.others a other) has.1)
+    | inl here ↦ elim (Contains-push_cases (filter elsewhere (row_at old u)) edge (edge_to b has.0 w) (subst (λ ys. Contains ys (edge_to b has.0 w)) listed.here (subst (λ z. Contains (row_at new z) (edge_to b has.0 w)) here has.1))) [
+      | inl before ↦ inl (has.0, subst (λ z. Contains (row_at old z) (edge_to b has.0 w)) (sym here) (filter_was elsewhere (row_at old u) (edge_to b has.0 w) before).0)
+      | inr it ↦ inr (here, sym (ap (λ (y : Edge). y.to) it), sym (ap (λ (y : Edge). y.weight) it))
+    ]
+  ];
+} where
+  edge_to : ℕ → ℕ → ℕ → Edge
+  edge_to b number w = record { to = b; entry = number; weight = w }
+
+  edge : Edge
+  edge = edge_to v number weight
+
+  elsewhere : Edge → Bool
+  elsewhere y = not (nat_eq y.to v)
 
 pub placeable : (order : List ℕ) (layer : Layer) → IsLayer order layer → (e : Entry) → e.from < length layer.rows.items → e.to < length layer.rows.items → IsPlaceable layer e
 placeable order layer is e from to = record {

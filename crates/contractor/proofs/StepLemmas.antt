@@ -14,7 +14,7 @@ use Rattle.hierarchy.proofs.SoundLemmas.{fits}
 use Rattle.hierarchy.proofs.DistanceLemmas.{roads_of}
 use Rattle.hierarchy.proofs.ContractionLemmas.{contractions_keep_soundness}
 use Rattle.contractor.specs.declared.way.Way.{Way}
-use Rattle.contractor.specs.Partway.{IsTrueWeight, IsLive, IsWay, AreWays, IsPartway, IsPut, shortcut_of}
+use Rattle.contractor.specs.Partway.{IsTrueWeight, IsLive, IsWay, IsNoHeavier, AreWays, IsPartway, IsPut, shortcut_of}
 use Rattle.contractor.proofs.LiveLemmas.{HasLiveWalk, core_more, core_is_high, live_walk, bridge_kept}
 use Rattle.contractor.proofs.PastLemmas.{true_sum}
 use Rattle.contractor.proofs.SimpleLemmas.{road, least_is_light}
@@ -25,7 +25,7 @@ module _ (n : NetworkLists) (h : HierarchyLists) (x : ℕ) (ways : List Way) (k 
   is_way = subst (IsWay h x) (is way) (are.each k way lt)
 
   from_is : way.from ≢ x
-  from_is same = let w = is_way in (fits n h sound way.from x w.first w.is_first).differ same
+  from_is same = let w = is_way in (fits n h sound way.from x way.first w.is_first).differ same
 
   to_is : way.to ≢ x
   to_is same = let w = is_way in (fits n h sound x way.to w.second w.is_second).differ (sym same)
@@ -36,20 +36,24 @@ module _ (n : NetworkLists) (h : HierarchyLists) (x : ℕ) (ways : List Way) (k 
   left_to : IsCore h2.order way.to
   left_to = subst (λ o. IsCore o way.to) (sym part.order) (core_more h.order x way.to to_is is_way.core_to)
 
-  -- ways that weigh less are bridged
-  past : (u v a b : ℕ) → IsCore h.order u → IsCore h.order v → HasEntry h.entries u x a → HasEntry h.entries x v b → u ≢ v → a + b < way.sum → HasLiveWalk h2 u v (a + b)
-  past u v a b core_u core_v first second differ less =
-      let w : Way = record { sum = a + b; from = u; to = v } in
+  itself : (w : Way) → IsNoHeavier w w
+  itself w = record { first = omega arith; sum = λ same. omega arith }
+
+  not_later : (w : Way) → IsNoHeavier way w → (w.first < way.first) ⊎ ((w.from ≡ way.from) × (w.sum < way.sum)) → ⊥
+  not_later w rises (inl lighter) = let le = rises.first in omega arith
+  not_later w rises (inr it) = let le = rises.sum (sym it.0) in let lt = it.1 in omega arith
+
+  -- ways that stand before are bridged
+  past : (u v a b : ℕ) → IsCore h.order u → IsCore h.order v → HasEntry h.entries u x a → HasEntry h.entries x v b → u ≢ v → (a < way.first) ⊎ ((u ≡ way.from) × (a + b < way.sum)) → HasLiveWalk h2 u v (a + b)
+  past u v a b core_u core_v first second differ earlier =
+      let w : Way = record { first = a; from = u; sum = a + b; to = v } in
       let there = are.all u v a b core_u core_v first second differ in
       let i = there.0 in
       let before : i < k = elim (cases_order i k) [
-        | inl same ↦ (let now : get_or ways i w ≡ way = subst (λ j. get_or ways j w ≡ way) (sym same) (is w) in
-            let sum : a + b ≡ way.sum = ap (λ (y : Way). y.sum) (sym there.2 ∙ now) in absurd (omega arith))
+        | inl same ↦ absurd (not_later w (subst (λ (y : Way). IsNoHeavier y w) (sym there.2 ∙ ap (λ j. get_or ways j w) same ∙ is w) (itself w)) earlier)
         | inr other ↦ elim other [
           | inl lower ↦ lower
-          | inr higher ↦ (let rises = are.rising k i w higher there.1 in
-              let sum : (get_or ways i w).sum ≡ a + b = ap (λ (y : Way). y.sum) there.2 in
-              let mine : (get_or ways k w).sum ≡ way.sum = ap (λ (y : Way). y.sum) (is w) in absurd (omega arith))
+          | inr higher ↦ absurd (not_later w (subst (λ (y : Way). IsNoHeavier y w) (is w) (subst (λ (y : Way). IsNoHeavier (get_or ways k w) y) there.2 (are.rising k i w higher there.1))) earlier)
         ]
       ] in
       let u_is : u ≢ x = λ same. (fits n h sound u x a first).differ same in
@@ -77,13 +81,13 @@ module _ (n : NetworkLists) (h : HierarchyLists) (x : ℕ) (ways : List Way) (k 
 
   module _ (none : (hops : List Hop) → AreHops (IsLive h2) way.from hops way.to → way.sum < total hops) where
     pub least : (roads : List Hop) → AreHops (Leads n.arcs) way.from roads way.to → way.sum ≤ total roads
-    least = let w = is_way in true_sum n h x h2 sound part.order part.lighter way.sum past way.from way.to w.core_from w.core_to from_is to_is none
+    least = let w = is_way in true_sum n h x h2 sound part.order part.lighter way.from way.first way.sum w.is_first w.core_from from_is past way.to w.core_to to_is none
 
     pub light : way.sum < 2 ^ 56
     light =
         let w = is_way in
-        let walk : AreHops (HasEntry h.entries) way.from (record { to = x; weight = w.first } ∷ record { to = way.to; weight = w.second } ∷ []) way.to = (w.is_first, (w.is_second, refl)) in
-        let r = roads_of n h sound (record { to = x; weight = w.first } ∷ record { to = way.to; weight = w.second } ∷ []) way.from way.to walk in
+        let walk : AreHops (HasEntry h.entries) way.from (record { to = x; weight = way.first } ∷ record { to = way.to; weight = w.second } ∷ []) way.to = (w.is_first, (w.is_second, refl)) in
+        let r = roads_of n h sound (record { to = x; weight = way.first } ∷ record { to = way.to; weight = w.second } ∷ []) way.from way.to walk in
         least_is_light n network r.hops way.from way.to way.sum (starts_low r.hops r.walk) r.walk least
       where
         starts_low : (p : List Hop) → AreHops (Leads n.arcs) way.from p way.to → way.from < 2 ^ 24
@@ -91,7 +95,7 @@ module _ (n : NetworkLists) (h : HierarchyLists) (x : ℕ) (ways : List Way) (k 
         starts_low (hop ∷ p) (leads, walk) = (road n network way.from hop.to hop.weight leads).from
 
     shortcut : IsShortcut h x (shortcut_of x way)
-    shortcut = let w = is_way in record { via = refl; first = w.first; second = w.second; is_first = w.is_first; is_second = w.is_second; sum = w.sum; core_from = w.core_from; core_to = w.core_to; differ = w.differ; light = light }
+    shortcut = let w = is_way in record { via = refl; first = way.first; second = w.second; is_first = w.is_first; is_second = w.is_second; sum = w.sum; core_from = w.core_from; core_to = w.core_to; differ = w.differ; light = light }
 
     module _ (h3 : HierarchyLists) (order : h3.order ≡ h2.order) (witnesses : h3.witnesses ≡ h2.witnesses) (put : IsPut h2.entries h3.entries (shortcut_of x way)) where
       -- an entry of before is there still, or there is a lighter one
@@ -200,6 +204,6 @@ partway_ends n h x ways k h2 sound core free are all part = contractions_keep_so
   made = part.made;
   witnesses = part.witnesses;
   bridged = λ u v a b core_u core_v first second differ. (let there = are.all u v a b core_u core_v first second differ in
-      let w : Way = record { sum = a + b; from = u; to = v } in
+      let w : Way = record { first = a; from = u; sum = a + b; to = v } in
       subst (λ (y : Way). IsBridged h2 x y.from y.to y.sum) there.2 (part.bridged there.0 w (omega (arith, there.1))));
 })

@@ -102,20 +102,22 @@ ways_begin side ways = record { kept = All-contains_itself ways; each = λ way t
 
 -- ---- in order, each once
 
-abbrev way_of : ℕ → ℕ → ℕ → Way
-way_of sum from to = record { sum = sum; from = from; to = to }
+abbrev way_of : ℕ → ℕ → ℕ → ℕ → Way
+way_of first from sum to = record { first = first; from = from; sum = sum; to = to }
 
 pub way_total : IsTotalOrder way_cmp
-way_total = then_total (on_total (λ (w : Way). w.sum) nat_cmp_total) (then_total (on_total (λ (w : Way). w.from) nat_cmp_total) (on_total (λ (w : Way). w.to) nat_cmp_total))
+way_total = then_total (on_total (λ (w : Way). w.first) nat_cmp_total)
+    (then_total (on_total (λ (w : Way). w.from) nat_cmp_total) (then_total (on_total (λ (w : Way). w.sum) nat_cmp_total) (on_total (λ (w : Way). w.to) nat_cmp_total)))
 
 same_way : (a b : Way) → eq_by_cmp way_cmp a b ≡ true → a ≡ b
 same_way a b h =
+    let first : a.first ≡ b.first = grind (arith, nat_tests) in
     let sum : a.sum ≡ b.sum = grind (arith, nat_tests) in
     let from : a.from ≡ b.from = grind (arith, nat_tests) in
     let to : a.to ≡ b.to = grind (arith, nat_tests) in
-    ap (λ k. way_of k a.from a.to) sum ∙ ap (λ k. way_of b.sum k a.to) from ∙ ap (λ k. way_of b.sum b.from k) to
+    ap (λ k. way_of k a.from a.sum a.to) first ∙ ap (λ k. way_of b.first k a.sum a.to) from ∙ ap (λ k. way_of b.first b.from k a.to) sum ∙ ap (λ k. way_of b.first b.from b.sum k) to
 
-pub same_is : (a b : Way) → (nat_eq a.sum b.sum && (nat_eq a.from b.from && nat_eq a.to b.to)) ≡ eq_by_cmp way_cmp a b
+pub same_is : (a b : Way) → (nat_eq a.first b.first && (nat_eq a.from b.from && (nat_eq a.sum b.sum && nat_eq a.to b.to))) ≡ eq_by_cmp way_cmp a b
 same_is a b = grind (arith, nat_tests)
 
 pub in_order : (first : List Side) (second : List Edge) (ways sorted kept : List Way) → AreWaysSoFar first second ways → IsPermutation ways sorted → IsSorted way_cmp sorted
@@ -132,11 +134,14 @@ in_order first second ways sorted kept far moved ordered E ties is = record {
 
 -- ---- what AreWays asks for
 
-sum_rises : (p q : Way) → way_cmp p q ≡ Less → p.sum ≤ q.sum
-sum_rises p q h = grind (arith, nat_tests)
+first_rises : (p q : Way) → way_cmp p q ≡ Less → p.first ≤ q.first
+first_rises p q h = grind (arith, nat_tests)
 
-not_itself : (p q : Way) → way_cmp p q ≡ Less → p.sum ≡ q.sum → p.from ≡ q.from → p.to ≡ q.to → ⊥
-not_itself p q h sum from to = grind (arith, nat_tests)
+sum_rises : (p q : Way) → way_cmp p q ≡ Less → p.first ≡ q.first → p.from ≡ q.from → p.sum ≤ q.sum
+sum_rises p q h first from = grind (arith, nat_tests)
+
+not_itself : (p q : Way) → way_cmp p q ≡ Less → p.first ≡ q.first → p.from ≡ q.from → p.sum ≡ q.sum → p.to ≡ q.to → ⊥
+not_itself p q h first from sum to = grind (arith, nat_tests)
 
 -- entries with the same ends weigh the same
 pub weight_once : (entries : List Entry) (u v a b : ℕ) → AllPairs HaveOtherEnds entries → HasEntry entries u v a → HasEntry entries u v b → a ≡ b
@@ -159,17 +164,24 @@ pub are_ways : (h : HierarchyLists) (x : ℕ) (first : List Side) (second : List
 are_ways h x first second ways apart before after are = record {
   each = λ k d low. is_way (get_or ways k d) (Contains-get_or ways k d low);
   all = λ u v a b core_u core_v to_x from_x differ. (let there = after.all v b core_v from_x in are.all (side_of u a) (record { to = v; entry = there.0; weight = b }) (before.all u a core_u to_x) there.1 differ);
-  rising = λ i j d lt low. sum_rises (get_or ways i d) (get_or ways j d) (are.rising i j d lt low);
+  rising = λ i j d lt low. record {
+    first = first_rises (get_or ways i d) (get_or ways j d) (are.rising i j d lt low);
+    sum = λ from. (let p = get_or ways i d in let q = get_or ways j d in
+        sum_rises p q (are.rising i j d lt low) (one_first p q (is_way p (Contains-get_or ways i d (omega arith))) (is_way q (Contains-get_or ways j d low)) from) from);
+  };
   apart = λ i j d lt low from to. (let p = get_or ways i d in let q = get_or ways j d in
       let v = is_way p (Contains-get_or ways i d (omega arith)) in
       let w = is_way q (Contains-get_or ways j d low) in
-      let one : v.first ≡ w.first = weight_once h.entries q.from x v.first w.first apart (subst (λ u. HasEntry h.entries u x v.first) from v.is_first) w.is_first in
+      let one = one_first p q v w from in
       let two : v.second ≡ w.second = weight_once h.entries x q.to v.second w.second apart (subst (λ u. HasEntry h.entries x u v.second) to v.is_second) w.is_second in
-      not_itself p q (are.rising i j d lt low) (v.sum ∙ ap (λ k. k + v.second) one ∙ ap (λ k. w.first + k) two ∙ sym w.sum) from to);
+      not_itself p q (are.rising i j d lt low) one from (let a = v.sum in let b = w.sum in omega (arith, one, two)) to);
 } where
+  one_first : (p q : Way) → IsWay h x p → IsWay h x q → p.from ≡ q.from → p.first ≡ q.first
+  one_first p q v w from = weight_once h.entries q.from x p.first q.first apart (subst (λ u. HasEntry h.entries u x p.first) from v.is_first) w.is_first
+
   is_way : (way : Way) → Contains ways way → IsWay h x way
   is_way way there =
       let w = are.each way there in
       let a = before.each w.side w.is_side in
       let b = after.each w.edge w.is_edge in
-      subst (IsWay h x) (sym w.is) (record { first = w.side.weight; second = w.edge.weight; is_first = a.0; is_second = b.0; sum = refl; core_from = a.1; core_to = b.1; differ = w.differ })
+      subst (IsWay h x) (sym w.is) (record { second = w.edge.weight; is_first = a.0; is_second = b.0; sum = refl; core_from = a.1; core_to = b.1; differ = w.differ })

@@ -17,7 +17,9 @@ use Rattle.contractor.specs.declared.way.Way.{Way}
 use Rattle.contractor.specs.declared.way.Side.{Side}
 use Rattle.contractor.specs.declared.way.Walk.{Walk}
 use Rattle.contractor.specs.declared.layer.Layer.{Layer}
-use Rattle.contractor.specs.Partway.{IsGood, IsPartway, HaveOtherEnds, IsTrueWeight}
+use Rattle.witness.specs.declared.workspace.Workspace.{Workspace}
+use Rattle.witness.specs.Searching.{IsSearch, NobodyBusy}
+use Rattle.contractor.specs.Partway.{IsGood, AreWays, IsPartway, HaveOtherEnds, IsTrueWeight}
 
 -- ---- the hierarchy so far
 
@@ -182,7 +184,7 @@ pub record AreSecond (order : List ℕ) (entries : List Entry) (x : ℕ) (edges 
 -- ---- ways
 
 abbrev pub way_with : Side → Edge → Way
-way_with side edge = record { sum = side.weight + edge.weight; from = side.node; to = edge.to }
+way_with side edge = record { first = side.weight; from = side.node; sum = side.weight + edge.weight; to = edge.to }
 
 pub record IsWayOf (first : List Side) (second : List Edge) (way : Way) : Type 0 where
   pub side : Side
@@ -197,9 +199,9 @@ pub record AreWaysWith (side : Side) (second : List Edge) (old new : List Way) :
   pub each : (way : Way) → Contains new way → Contains old way ⊎ IsWayOf (side ∷ []) second way
   pub all : All (λ (edge : Edge). side.node ≢ edge.to → Contains new (way_with side edge)) second
 
--- lightest first
+-- by the weight of the entry to the node, then start by start, lightest first
 abbrev pub way_cmp : Way → Way → Ordering
-way_cmp p q = ordering_then (nat_cmp p.sum q.sum) (ordering_then (nat_cmp p.from q.from) (nat_cmp p.to q.to))
+way_cmp p q = ordering_then (nat_cmp p.first q.first) (ordering_then (nat_cmp p.from q.from) (ordering_then (nat_cmp p.sum q.sum) (nat_cmp p.to q.to)))
 
 pub record AreWaysOf (first : List Side) (second : List Edge) (ways : List Way) : Type 0 where
   pub each : (way : Way) → Contains ways way → IsWayOf first second way
@@ -238,13 +240,31 @@ pub record IsState (n : NetworkLists) (state : Layer) : Type 0 where
   pub layer : IsLayer state.order.items state
   pub walks : AreWalks state.order.items 0 [] 0 state.walks.items
 
--- what holds while ways by x are bridged; h is the hierarchy before
-pub record IsBridging (n : NetworkLists) (h : HierarchyLists) (x : ℕ) (ways : List Way) (k : ℕ) (state : Layer) : Type 0 where
-  pub good : IsGood n h
-  pub order : state.order.items ≡ h.order
-  pub partway : IsPartway n h x ways k (lists_with x state)
+-- what holds when the first k ways by x are bridged
+pub record IsBridging (n : NetworkLists) (x : ℕ) (ways : List Way) (k : ℕ) (state : Layer) : Type 0 where
+  -- the hierarchy before
+  pub before : HierarchyLists
+  pub good : IsGood n before
+  pub fit : All (FitsRows (length state.rows.items)) before.entries
+  pub core : IsCore before.order x
+  pub are : AreWays before x ways
+  pub order : state.order.items ≡ before.order
+  pub partway : IsPartway n before x ways k (lists_with x state)
   pub layer : IsLayer (state.order.items ++ x ∷ []) state
   pub walks : AreWalks state.order.items x ways k state.walks.items
+
+-- from the place up to the end all ways have one start
+pub record IsEndOf (ways : List Way) (place end : ℕ) : Type 0 where
+  pub after : place < end
+  pub inside : end ≤ length ways
+  pub same : (j : ℕ) (d : Way) → place ≤ j → j < end → (slice_index_or ways j d).from ≡ (slice_index_or ways place d).from
+
+-- the search began where the way does, and goes as far
+pub record IsSearchFor (rows : List (Vec Edge Global)) (way : Way) (w : Workspace) : Type 0 where
+  pub search : IsSearch rows w.most NobodyBusy w
+  pub start : w.start ≡ way.from
+  pub far : way.sum ≤ w.most
+  pub light : w.most < 2 ^ 57
 
 -- ---- which nodes are to be contracted
 

@@ -30,11 +30,10 @@ pub record IsLive (h : HierarchyLists) (u v weight : ℕ) : Type 0 where
 
 -- a way by x from one core node to another
 pub record IsWay (h : HierarchyLists) (x : ℕ) (way : Way) : Type 0 where
-  pub first : ℕ
   pub second : ℕ
-  pub is_first : HasEntry h.entries way.from x first
+  pub is_first : HasEntry h.entries way.from x way.first
   pub is_second : HasEntry h.entries x way.to second
-  pub sum : way.sum ≡ first + second
+  pub sum : way.sum ≡ way.first + second
   pub core_from : IsCore h.order way.from
   pub core_to : IsCore h.order way.to
   pub differ : way.from ≢ way.to
@@ -42,12 +41,17 @@ pub record IsWay (h : HierarchyLists) (x : ℕ) (way : Way) : Type 0 where
 abbrev pub HaveOtherWays : Way → Way → Type 0
 HaveOtherWays p q = p.from ≡ q.from → p.to ≡ q.to → ⊥
 
--- all ways by x, by rising sum, one for two ends
+-- the entry to the node is no heavier, and of ways from one start the way is not
+pub record IsNoHeavier (p q : Way) : Type 0 where
+  pub first : p.first ≤ q.first
+  pub sum : p.from ≡ q.from → p.sum ≤ q.sum
+
+-- all ways by x, in order, one for two ends
 pub record AreWays (h : HierarchyLists) (x : ℕ) (ways : List Way) : Type 0 where
   pub each : All (IsWay h x) ways
   pub all : (u v a b : ℕ) → IsCore h.order u → IsCore h.order v → HasEntry h.entries u x a → HasEntry h.entries x v b → u ≢ v
-      → Contains ways (record { sum = a + b; from = u; to = v })
-  pub rising : AllPairs (λ (p q : Way). p.sum ≤ q.sum) ways
+      → Contains ways (record { first = a; from = u; sum = a + b; to = v })
+  pub rising : AllPairs IsNoHeavier ways
   pub apart : AllPairs HaveOtherWays ways
 
 -- the hierarchy h2 has x at its order's end, and of the ways by x the first k are bridged

@@ -1,10 +1,10 @@
 //! One contraction.
 
-ghost use Rattle.std.specs.Prelude.{◌≡◌, ◌<◌, ◌+◌, [], ◌∷◌, ◌++◌, length, OnOk, IsTrue};
+ghost use Rattle.std.specs.Prelude.{◌≡◌, ◌<◌, ◌≤◌, ◌+◌, [], ◌∷◌, ◌++◌, length, OnOk, IfOk, IsTrue, slice_index_or};
 ghost use Rattle.hierarchy.specs.Lists.{IsCore};
 ghost use Rattle.hierarchy.specs.Soundness.{IsFree};
-ghost use Rattle.contractor.specs.Partway.{AreWays};
-ghost use Rattle.contractor.specs.Layers.{IsState, IsBridging, HasWithin, lists_of};
+ghost use Rattle.witness.specs.Searching.{IsSearch, IsSameRound, NobodyBusy};
+ghost use Rattle.contractor.specs.Layers.{IsState, IsBridging, IsEndOf, IsSearchFor, HasWithin};
 
 use crate::cutting::cut;
 use crate::layer::{Layer, note, put};
@@ -12,9 +12,9 @@ use crate::way::Way;
 use crate::ways::ways_by;
 use mode_network::Network;
 use std::alloc::{AllocError, Global};
-use witness::{Edge, Workspace, find};
+use witness::{Edge, Workspace, begin, walk_to};
 
-/// Contracts a node: all ways by it get a witness or a shortcut, lightest first.
+/// Contracts a node: all ways by it get a witness or a shortcut.
 pub(crate) fn contract_node(
     alloc: Global,
     network: &Network,
@@ -38,7 +38,7 @@ pub(crate) fn contract_node(
     Ok(())
 }
 
-/// Bridges each way by a node that was taken out.
+/// Bridges each way by a node that was taken out, start by start.
 fn bridge(
     alloc: Global,
     network: &Network,
@@ -47,21 +47,90 @@ fn bridge(
     x: u32,
     ways: &[Way],
 ) -> Result<(), AllocError>
-    requires ways { AreWays (lists_of layer.old) x ways.now }
-    requires core { IsCore layer.old.order.items x }
-    requires state { IsBridging network.now (lists_of layer.old) x ways.now 0 layer.old }
-    ensures state { OnOk result (IsBridging network.now (lists_of layer.old) x ways.now (length ways.now) layer.new) }
+    requires { IsBridging network.now x ways.now 0 layer.old }
+    ensures state { OnOk result (IsBridging network.now x ways.now (length ways.now) layer.new) }
+    ensures order { OnOk result (layer.new.order.items ≡ layer.old.order.items) }
+    ensures count { OnOk result (length layer.new.rows.items ≡ length layer.old.rows.items) }
+{
+    let mut place = 0;
+    'starts: while place < ways.len() {
+        place = bridge_from(alloc, network, workspace, layer, x, ways, place)?;
+    }
+    Ok(())
+}
+
+/// Bridges the ways of one start, from a place on, by one search. Answers the place behind them.
+fn bridge_from(
+    alloc: Global,
+    network: &Network,
+    workspace: &mut Workspace,
+    layer: &mut Layer,
+    x: u32,
+    ways: &[Way],
+    place: usize,
+) -> Result<usize, AllocError>
+    requires place { place < length ways.now }
+    requires state { IsBridging network.now x ways.now place layer.old }
+    ensures end { IfOk result (λ end. (place < end) × (end ≤ length ways.now)) }
+    ensures state { IfOk result (λ end. IsBridging network.now x ways.now end layer.new) }
+    ensures order { OnOk result (layer.new.order.items ≡ layer.old.order.items) }
+    ensures count { OnOk result (length layer.new.rows.items ≡ length layer.old.rows.items) }
+{
+    let end = end_of(ways, place);
+    begin(
+        alloc,
+        workspace,
+        &layer.rows,
+        ways[place].from,
+        ways[end - 1].sum,
+    )?;
+    'ways: for k in place..end {
+        bridge_way(alloc, network, workspace, layer, x, ways, k)?;
+    }
+    Ok(end)
+}
+
+/// The place behind those ways that have the start of the way at a place.
+fn end_of(ways: &[Way], place: usize) -> usize
+    requires { place < length ways.now }
+    ensures { IsEndOf ways.now place result }
+{
+    let mut end = place + 1;
+    'ways: while end < ways.len() && ways[end].from == ways[place].from {
+        end += 1;
+    }
+    end
+}
+
+/// Bridges a way, by the search from its start.
+fn bridge_way(
+    alloc: Global,
+    network: &Network,
+    workspace: &mut Workspace,
+    layer: &mut Layer,
+    x: u32,
+    ways: &[Way],
+    k: usize,
+) -> Result<(), AllocError>
+    requires place { k < length ways.now }
+    requires state { IsBridging network.now x ways.now k layer.old }
+    requires search { (d : Way) → IsSearchFor layer.old.rows.items (slice_index_or ways.now k d) workspace.old }
+    ensures state { OnOk result (IsBridging network.now x ways.now (k + 1) layer.new) }
+    ensures search { OnOk result (IsSearch layer.new.rows.items workspace.old.most NobodyBusy workspace.new) }
+    ensures same { OnOk result (IsSameRound workspace.old workspace.new) }
     ensures order { OnOk result (layer.new.order.items ≡ layer.old.order.items) }
     ensures count { OnOk result (length layer.new.rows.items ≡ length layer.old.rows.items) }
 {
     network.known();
-    'ways: for way in ways {
-        if is_within(&layer.rows[way.from as usize], way.to, way.sum) {
-            continue;
-        }
-        match find(alloc, workspace, &layer.rows, way.from, way.to, way.sum)? {
-            Some(nodes) => note(layer, x, *way, nodes)?,
-            None => put(layer, x, *way)?,
+    let way = ways[k];
+    if is_within(&layer.rows[way.from as usize], way.to, way.sum) {
+        return Ok(());
+    }
+    match walk_to(alloc, workspace, &layer.rows, way.to, way.sum)? {
+        Some(nodes) => note(layer, x, way, nodes)?,
+        None => {
+            put(layer, x, way)?;
+            workspace.offer(way.to, way.sum, way.from)?;
         }
     }
     Ok(())

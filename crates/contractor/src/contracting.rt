@@ -68,7 +68,7 @@ fn is_free(network: &Network, v: u32) -> bool
     network.mode(v).is_some() && !network.has_link(v)
 }
 
-/// Contracts so many of the marked nodes.
+/// Contracts so many of the marked nodes. Where there are none to contract, no node is tried.
 fn contract_nodes<P: Progress>(
     alloc: Global,
     network: &Network,
@@ -87,6 +87,9 @@ fn contract_nodes<P: Progress>(
     ensures order { OnOk result (length layer.new.order.items ≡ number) }
 {
     network.known();
+    if number == 0 {
+        return Ok(());
+    }
     let mut waiting = waiting;
     let mut workspace = Workspace::new(alloc);
     let mut queue = Queue::new(alloc, layer, &waiting)?;

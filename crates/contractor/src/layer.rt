@@ -2,6 +2,7 @@
 
 ghost use Rattle.std.specs.Prelude.{◌≡◌, ◌≢◌, ◌+◌, ◌<◌, ◌^◌, [], ◌∷◌, ◌++◌, not, ◌==◌, filter, length, All, OnOk, IfOk, MatchOption};
 ghost use Rattle.hierarchy.specs.Lists.{IsCore};
+ghost use Rattle.witness.specs.Rows.{IsEdgePut};
 ghost use Rattle.contractor.specs.Partway.{IsPut, shortcut_of};
 ghost use Rattle.contractor.specs.Layers.{IsLayer, CanPut, HasNumber, IsEntered, IsNodeAdded, IsEdgeListed, IsPlaceable, IsPlaced};
 
@@ -49,6 +50,7 @@ pub(crate) fn put(layer: &mut Layer, x: u32, way: Way) -> Result<(), AllocError>
     requires fits { CanPut (length layer.old.rows.items) way }
     ensures layer { OnOk result (IsLayer (layer.old.order.items ++ x ∷ []) layer.new) }
     ensures put { OnOk result (IsPut layer.old.entries.items layer.new.entries.items (shortcut_of x way)) }
+    ensures rows { OnOk result (IsEdgePut layer.old.rows.items layer.new.rows.items way.from way.to way.sum) }
     ensures order { OnOk result (layer.new.order.items ≡ layer.old.order.items) }
     ensures walks { OnOk result (layer.new.walks.items ≡ layer.old.walks.items) }
     ensures count { OnOk result (length layer.new.rows.items ≡ length layer.old.rows.items) }

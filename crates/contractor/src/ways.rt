@@ -1,4 +1,4 @@
-//! All ways by a node, lightest first.
+//! All ways by a node, in order.
 
 ghost use Rattle.std.specs.Prelude.{◌<◌, ◌^◌, All, OnOk, IfOk};
 ghost use Rattle.contractor.specs.Layers.{AreWaysOf, AreWaysWith};
@@ -35,8 +35,9 @@ fn push_ways(ways: &mut Vec<Way>, side: Side, second: &[Edge]) -> Result<(), All
     'second: for edge in second {
         if side.node != edge.to {
             ways.push(Way {
-                sum: side.weight + edge.weight,
+                first: side.weight,
                 from: side.node,
+                sum: side.weight + edge.weight,
                 to: edge.to,
             })?;
         }

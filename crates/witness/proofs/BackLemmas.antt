@@ -1,5 +1,5 @@
 -- The way back from a node that is reached.
-use Rattle.std.proofs.Common.{◌≡◌, ◌≢◌, ℕ, ◌+◌, ◌<◌, ◌≤◌, List, [], ◌∷◌, ◌++◌, ◌∙◌, get_or, Some, None, sym, ap, subst, arith}
+use Rattle.std.proofs.Common.{◌≡◌, ◌≢◌, ℕ, ◌+◌, ◌<◌, ◌≤◌, List, [], ◌∷◌, ◌++◌, ◌∙◌, get_or, Some, None, refl, sym, ap, subst, arith}
 use Rattle.std.specs.Prelude.{Option, reverse, slice_get, Vec}
 use Rattle.std.specs.declared.alloc.Global.{Global}
 use Rattle.std.proofs.lemmas.Option.{get_or_from_slice_get}
@@ -9,7 +9,7 @@ use Rattle.witness.specs.declared.place.Place.{Place}
 use Rattle.witness.specs.declared.workspace.Workspace.{Workspace}
 use Rattle.hierarchy.specs.Hops.{Hop, AreHops, total, nodes_of}
 use Rattle.witness.specs.Rows.{HasEdge, AreRows}
-use Rattle.witness.specs.Searching.{IsSearch, NobodyBusy, IsKnown, Knows, HasParent}
+use Rattle.witness.specs.Searching.{IsSearch, NobodyBusy, IsKnown, Knows, Reaches, HasParent}
 
 abbrev pub at_in : Option Place → ℕ
 at_in None = 0
@@ -30,8 +30,17 @@ pub record IsBack (rows : List (Vec Edge Global)) (limit : ℕ) (w : Workspace) 
 at_is : (w : Workspace) (v at parent : ℕ) → Knows w v at parent → at_of w v ≡ at
 at_is w v at parent known = ap at_in known
 
+pub back_begins : (rows : List (Vec Edge Global)) (limit : ℕ) (w : Workspace) (v : ℕ) (nodes : List ℕ) → Reaches w v limit → nodes ≡ v ∷ [] → IsBack rows limit w v v nodes
+back_begins rows limit w v nodes r is = record {
+  known = (r.at, r.parent, r.known);
+  hops = [];
+  walk = refl;
+  within = (let le = r.within in omega (arith, at_is w v r.at r.parent r.known));
+  are = ap reverse is;
+}
+
 -- one node further back
-module _ (rows : List (Vec Edge Global)) (limit : ℕ) (w : Workspace) (are : AreRows rows) (s : IsSearch rows limit NobodyBusy w) (end node : ℕ) (nodes : List ℕ) (back : IsBack rows limit w end node nodes) (other : node ≢ w.start)
+module _ (rows : List (Vec Edge Global)) (most limit : ℕ) (w : Workspace) (are : AreRows rows) (s : IsSearch rows most NobodyBusy w) (end node : ℕ) (nodes : List ℕ) (back : IsBack rows limit w end node nodes) (other : node ≢ w.start)
     (place : Place) (is : place ≡ get_or w.places.items node place) where
   parent_is : back.known.1 ≡ place.parent
   parent_is = ap (λ (x : Place). x.parent) (sym (get_or_from_slice_get w.places.items node (record { at = back.known.0; parent = back.known.1; round = w.round }) place back.known.2) ∙ sym is)

@@ -2,7 +2,7 @@
 use Rattle.std.proofs.Common.{◌≡◌, ◌≢◌, ℕ, zero, suc, ◌+◌, ◌*◌, ◌<◌, ◌≤◌, ◌⊎◌, inl, inr, List, [], ◌∷◌, ◌∙◌, length, take, get_or, refl, sym, ap, subst, arith}
 use Rattle.std.specs.Prelude.{All, Contains, Vec}
 use Rattle.std.specs.List.{sum_by}
-use Rattle.std.specs.BinaryHeap.{heap_items, heap_len}
+use Rattle.std.specs.BinaryHeap.{heap_items, heap_len, IsHeap}
 use Rattle.std.specs.declared.cmp.Reverse.{Reverse}
 use Rattle.std.specs.declared.alloc.Global.{Global}
 use Rattle.std.proofs.lemmas.Bool.{cases_lt}
@@ -12,9 +12,9 @@ use Rattle.std.proofs.lemmas.List.Sorted.{Contains-permutation}
 use Rattle.witness.specs.declared.edge.Edge.{Edge}
 use Rattle.witness.specs.declared.workspace.Workspace.{Workspace}
 use Rattle.hierarchy.specs.Hops.{Hop, AreHops, total}
-use Rattle.witness.specs.Rows.{HasEdge, NoWalkWithin, row_at}
+use Rattle.witness.specs.Rows.{HasEdge, IsEdgePut, NoWalkWithin, row_at}
 use Rattle.witness.specs.Places.{Known, IsReachedBy}
-use Rattle.witness.specs.Searching.{IsSearch, IsFresh, NobodyBusy, IsBusy, IsKnown, Knows, Reaches, Waits, waiting_of, Takes, Leaves, IsOffered, HasParent, IsClosed, AreLower, IsNext, IsSame, IsKnownAt, IsEdgeClosed, NobodyWaits, left_of, work}
+use Rattle.witness.specs.Searching.{IsSearch, IsFresh, NobodyBusy, IsBusy, Knows, Reaches, Waits, waiting_of, waiting_cmp, Takes, Leaves, IsOffered, HasParent, IsClosed, AreLower, IsNext, IsSame, IsKnownAt, IsEdgeClosed, NobodyWaitsWithin, left_of, work}
 use Rattle.witness.proofs.PlaceLemmas.{known_here, known_was, lower, less_left}
 
 pub contains_head : {X : Type 0} (x : X) (xs : List X) → Contains (x ∷ xs) x
@@ -66,6 +66,7 @@ module _ (rows : List (Vec Edge Global)) (limit : ℕ) (busy : ℕ → ℕ → T
         ]
         | inr here ↦ inl (subst (λ x. Waits new x d) (sym here.0) (subst (λ x. Waits new to x) (sym here.1) here_waits))
       ];
+      ordered = takes.ordered s.ordered;
     }
 
     takes_less : at ≤ limit → work limit new + 1 ≤ work limit old
@@ -95,6 +96,7 @@ module _ (rows : List (Vec Edge Global)) (limit : ℕ) (busy : ℕ → ℕ → T
           | inr closed ↦ inr (inr (λ z w edge le. leaves_lower z (d + w) (closed z w edge le)))
         ]
       ];
+      ordered = subst (λ w. IsHeap waiting_cmp (heap_items w)) (sym leaves.waiting) s.ordered;
     }
 
     leaves_less : work limit new ≤ work limit old
@@ -105,37 +107,37 @@ module _ (rows : List (Vec Edge Global)) (limit : ℕ) (busy : ℕ → ℕ → T
   module _ (offered : IsOffered old new to at parent) where
     pub offered_lower : AreLower old new
     offered_lower = elim offered.offered [
-      | inl takes ↦ takes_lower offered.round takes
-      | inr leaves ↦ leaves_lower offered.round leaves
+      | inl takes ↦ takes_lower offered.same.round takes
+      | inr leaves ↦ leaves_lower offered.same.round leaves
     ]
 
     pub offered_search : at ≤ limit → HasParent rows old to at parent → IsSearch rows limit busy old → IsSearch rows limit busy new
     offered_search le from s = elim offered.offered [
-      | inl takes ↦ takes_search offered.round takes offered.start le from s
-      | inr leaves ↦ leaves_search offered.round leaves offered.start s
+      | inl takes ↦ takes_search offered.same.round takes offered.same.start le from s
+      | inr leaves ↦ leaves_search offered.same.round leaves offered.same.start s
     ]
 
     pub offered_less : at ≤ limit → work limit new ≤ work limit old
     offered_less le = elim offered.offered [
-      | inl takes ↦ (let less = takes_less offered.round takes le in omega arith)
-      | inr leaves ↦ leaves_less offered.round leaves
+      | inl takes ↦ (let less = takes_less offered.same.round takes le in omega arith)
+      | inr leaves ↦ leaves_less offered.same.round leaves
     ]
 
     pub offered_here : Reaches new to at
     offered_here = elim offered.offered [
-      | inl takes ↦ subst (λ k. IsReachedBy new.places.items k to at) (sym offered.round)
+      | inl takes ↦ subst (λ k. IsReachedBy new.places.items k to at) (sym offered.same.round)
           (record { at = at; parent = parent; known = known_here old.places.items new.places.items old.round to at parent there takes.places; within = omega arith })
-      | inr leaves ↦ leaves_lower offered.round leaves to at leaves.lighter
+      | inr leaves ↦ leaves_lower offered.same.round leaves to at leaves.lighter
     ]
 
--- where all that is reached is closed, a walk within the limit is followed to its end
-module _ (rows : List (Vec Edge Global)) (limit : ℕ) (w : Workspace) (closed : (v at parent : ℕ) → Knows w v at parent → IsClosed rows limit w v at) where
-  pub follows : (hops : List Hop) (u v before : ℕ) → AreHops (HasEdge rows) u hops v → before + total hops ≤ limit → Reaches w u before → IsKnown w v
-  follows [] u v before walk le r = subst (IsKnown w) (sym walk) (r.at, r.parent, r.known)
-  follows (hop ∷ hops) u v before (edge, walk) le r =
-      let within = r.within in
-      let onward = closed u r.at r.parent r.known hop.to hop.weight edge (omega arith) in
-      let less = onward.within in
+-- where all that is reached within the limit is closed, a walk within it is followed to its end
+module _ (rows : List (Vec Edge Global)) (most limit : ℕ) (w : Workspace) (le : limit ≤ most) (closed : (v at parent : ℕ) → Knows w v at parent → at ≤ limit → IsClosed rows most w v at) where
+  pub follows : (hops : List Hop) (u v before : ℕ) → AreHops (HasEdge rows) u hops v → before + total hops ≤ limit → Reaches w u before → Reaches w v limit
+  follows [] u v before walk within r = subst (λ x. Reaches w x limit) (sym walk) (record { at = r.at; parent = r.parent; known = r.known; within = (let a = r.within in omega arith) })
+  follows (hop ∷ hops) u v before (edge, walk) within r =
+      let less = r.within in
+      let onward = closed u r.at r.parent r.known (omega arith) hop.to hop.weight edge (omega arith) in
+      let after = onward.within in
       follows hops hop.to v (before + hop.weight) walk (omega arith)
       (record { at = onward.at; parent = onward.parent; known = onward.known; within = omega arith })
 
@@ -143,21 +145,18 @@ module _ (rows : List (Vec Edge Global)) (limit : ℕ) (w : Workspace) (closed :
 
 module _ (old new : Workspace) (same : IsSame old new) where
   knew_it : (v d p : ℕ) → Knows new v d p → Knows old v d p
-  knew_it v d p now = subst (λ ps. Known ps old.round v d p) same.places (subst (λ r. Known new.places.items r v d p) same.round now)
+  knew_it v d p now = subst (λ ps. Known ps old.round v d p) same.places (subst (λ r. Known new.places.items r v d p) same.same.round now)
 
   same_lower : AreLower old new
-  same_lower v l r = subst (λ k. IsReachedBy new.places.items k v l) (sym same.round) (subst (λ ps. IsReachedBy ps old.round v l) (sym same.places) r)
-
-  pub same_known : (v : ℕ) → IsKnown new v → IsKnown old v
-  same_known v (at, p, known) = (at, p, knew_it v at p known)
+  same_lower v l r = subst (λ k. IsReachedBy new.places.items k v l) (sym same.same.round) (subst (λ ps. IsReachedBy ps old.round v l) (sym same.places) r)
 
   same_search : (rows : List (Vec Edge Global)) (limit : ℕ) (busy also : ℕ → ℕ → Type 0) → ((v d : ℕ) → Waits old v d → Waits new v d ⊎ also v d) → ((v d : ℕ) → busy v d → also v d)
-      → IsSearch rows limit busy old → IsSearch rows limit also new
-  same_search rows limit busy also waits more s = record {
+      → IsHeap waiting_cmp (heap_items new.waiting) → IsSearch rows limit busy old → IsSearch rows limit also new
+  same_search rows limit busy also waits more ordered s = record {
     count = ap length same.places ∙ s.count;
-    begun = subst (λ v. Reaches new v 0) (sym same.start) (same_lower old.start 0 s.begun);
+    begun = subst (λ v. Reaches new v 0) (sym same.same.start) (same_lower old.start 0 s.begun);
     within = λ v d p now. s.within v d p (knew_it v d p now);
-    parents = λ v d p now other. (let h = s.parents v d p (knew_it v d p now) (λ is. other (is ∙ sym same.start)) in
+    parents = λ v d p now other. (let h = s.parents v d p (knew_it v d p now) (λ is. other (is ∙ sym same.same.start)) in
         record { before = h.before; weight = h.weight; reached = same_lower p h.before h.reached; edge = h.edge; sum = h.sum });
     dealt = λ v d p now. elim (s.dealt v d p (knew_it v d p now)) [
       | inl was ↦ elim (waits v d was) [ inl still ↦ inl still | inr it ↦ inr (inl it) ]
@@ -166,10 +165,11 @@ module _ (old new : Workspace) (same : IsSame old new) where
         | inr closed ↦ inr (inr (λ z w edge le. same_lower z (d + w) (closed z w edge le)))
       ]
     ];
+    ordered = ordered;
   }
 
 pub next_search : (rows : List (Vec Edge Global)) (limit : ℕ) (old new : Workspace) (at node : ℕ) → IsNext old new at node → IsSearch rows limit NobodyBusy old → IsSearch rows limit (IsBusy node at) new
-next_search rows limit old new at node next s = same_search old new next.same rows limit NobodyBusy (IsBusy node at) waits (λ v d it. absurd it) s where
+next_search rows limit old new at node next s = same_search old new next.same rows limit NobodyBusy (IsBusy node at) waits (λ v d it. absurd it) (next.ordered s.ordered) s where
   waits : (v d : ℕ) → Waits old v d → Waits new v d ⊎ IsBusy node at v d
   waits v d was = elim (head_or_tail (waiting_of at node) (heap_items new.waiting) (waiting_of d v) (Contains-permutation (heap_items old.waiting) (waiting_of at node ∷ heap_items new.waiting) (waiting_of d v) next.waiting was)) [
     | inr still ↦ inl still
@@ -179,7 +179,7 @@ next_search rows limit old new at node next s = same_search old new next.same ro
 pub next_less : (limit : ℕ) (old new : Workspace) (at node : ℕ) → IsNext old new at node → work limit new + 1 ≡ work limit old
 next_less limit old new at node next =
     let less = next.one_less in
-    subst (λ r. heap_len new.waiting + 2 * sum_by (left_of r limit) new.places.items + 1 ≡ work limit old) (sym next.same.round)
+    subst (λ r. heap_len new.waiting + 2 * sum_by (left_of r limit) new.places.items + 1 ≡ work limit old) (sym next.same.same.round)
     (subst (λ ps. heap_len new.waiting + 2 * sum_by (left_of old.round limit) ps + 1 ≡ work limit old) (sym next.same.places) (omega arith))
 
 -- a pair of which nothing is known any more is passed over
@@ -196,6 +196,7 @@ passed_over rows limit w at node stale s = record {
       | inr closed ↦ inr (inr closed)
     ]
   ];
+  ordered = s.ordered;
 }
 
 -- once its ways are closed, nobody is busy
@@ -212,6 +213,7 @@ closed_now rows limit w at node closed s = record {
       | inr closed ↦ inr (inr closed)
     ]
   ];
+  ordered = s.ordered;
 }
 
 -- the ways so far are closed, and one more
@@ -231,45 +233,89 @@ all_closed rows limit w at node edges i is le all to weight (entry, listed) with
 -- ---- the begin
 
 -- the start is offered to a search that knows nothing
-pub begins : (rows : List (Vec Edge Global)) (limit u : ℕ) (old new : Workspace) → u < length rows → IsFresh old (length rows) u → IsOffered old new u 0 u → IsSearch rows limit NobodyBusy new
+pub begins : (rows : List (Vec Edge Global)) (limit u : ℕ) (old new : Workspace) → u < length rows → IsFresh old (length rows) u limit → IsOffered old new u 0 u → IsSearch rows limit NobodyBusy new
 begins rows limit u old new there fresh offered = elim offered.offered [
   | inr leaves ↦ (let r = leaves.lighter in absurd (fresh.unknown u r.at r.parent r.known))
   | inl takes ↦ (let inside : u < length old.places.items = omega (arith, fresh.count) in record {
     count = ap length takes.places ∙ length-set old.places.items u (record { at = 0; parent = u; round = old.round }) ∙ fresh.count;
-    begun = subst (λ v. Reaches new v 0) (sym (offered.start ∙ fresh.start)) (offered_here rows limit NobodyBusy old new u 0 u inside offered);
-    within = λ v d p now. elim (knows_was rows limit NobodyBusy old new u 0 u inside offered.round takes v d p now) [
+    begun = subst (λ v. Reaches new v 0) (sym (offered.same.start ∙ fresh.start)) (offered_here rows limit NobodyBusy old new u 0 u inside offered);
+    within = λ v d p now. elim (knows_was rows limit NobodyBusy old new u 0 u inside offered.same.round takes v d p now) [
       | inl was ↦ absurd (fresh.unknown v d p was.1)
       | inr here ↦ (let zero = here.1 in omega arith)
     ];
-    parents = λ v d p now other. elim (knows_was rows limit NobodyBusy old new u 0 u inside offered.round takes v d p now) [
+    parents = λ v d p now other. elim (knows_was rows limit NobodyBusy old new u 0 u inside offered.same.round takes v d p now) [
       | inl was ↦ absurd (fresh.unknown v d p was.1)
-      | inr here ↦ absurd (other (here.0 ∙ sym (offered.start ∙ fresh.start)))
+      | inr here ↦ absurd (other (here.0 ∙ sym (offered.same.start ∙ fresh.start)))
     ];
-    dealt = λ v d p now. elim (knows_was rows limit NobodyBusy old new u 0 u inside offered.round takes v d p now) [
+    dealt = λ v d p now. elim (knows_was rows limit NobodyBusy old new u 0 u inside offered.same.round takes v d p now) [
       | inl was ↦ absurd (fresh.unknown v d p was.1)
-      | inr here ↦ inl (subst (λ x. Waits new x d) (sym here.0) (subst (λ x. Waits new u x) (sym here.1) (here_waits rows limit NobodyBusy old new u 0 u inside offered.round takes)))
+      | inr here ↦ inl (subst (λ x. Waits new x d) (sym here.0) (subst (λ x. Waits new u x) (sym here.1) (here_waits rows limit NobodyBusy old new u 0 u inside offered.same.round takes)))
     ];
+    ordered = takes.ordered fresh.ordered;
   })
 ]
 
-pub begins_unknown : (rows : List (Vec Edge Global)) (u v : ℕ) (old new : Workspace) → u ≢ v → u < length rows → IsFresh old (length rows) u → IsOffered old new u 0 u → IsKnown new v → ⊥
-begins_unknown rows u v old new differ there fresh offered (at, p, known) = elim offered.offered [
-  | inr leaves ↦ (let r = leaves.lighter in absurd (fresh.unknown u r.at r.parent r.known))
-  | inl takes ↦ elim (knows_was rows 0 NobodyBusy old new u 0 u (omega (arith, fresh.count)) offered.round takes v at p known) [
-    | inl was ↦ fresh.unknown v at p was.1
-    | inr here ↦ differ (sym here.0)
-  ]
-]
+-- ---- a way that was put in
+
+-- where no walk to v was within its weight, the search is one over the new rows
+pub put_search : (rows more : List (Vec Edge Global)) (most v weight : ℕ) (old new : Workspace) → v < length rows → weight ≤ most → (Reaches old v weight → ⊥) → IsEdgePut rows more old.start v weight → IsOffered old new v weight old.start
+    → IsSearch rows most NobodyBusy old → IsSearch more most NobodyBusy new
+put_search rows more most v weight old new there le heavier put offered s = elim offered.offered [
+  | inr leaves ↦ absurd (heavier leaves.lighter)
+  | inl takes ↦ taken takes
+] where
+  inside : v < length old.places.items
+  inside = omega (arith, s.count)
+
+  taken : Takes old new v weight old.start → IsSearch more most NobodyBusy new
+  taken takes = record {
+    count = ap length takes.places ∙ length-set old.places.items v (record { at = weight; parent = old.start; round = old.round }) ∙ s.count ∙ sym put.count;
+    begun = begun;
+    within = λ z d p now. elim (was z d p now) [
+      | inl known ↦ s.within z d p known.1
+      | inr here ↦ (let same = here.1 in omega arith)
+    ];
+    parents = λ z d p now other. elim (was z d p now) [
+      | inl known ↦ (let h = s.parents z d p known.1 (λ is. other (is ∙ sym offered.same.start)) in
+          record { before = h.before; weight = h.weight; reached = lower p h.before h.reached; edge = elim (put.kept p z h.weight h.edge) [ inl still ↦ still | inr gone ↦ absurd (known.0 gone.1) ]; sum = h.sum })
+      | inr here ↦ subst (λ x. HasParent more new x d p) (sym here.0) (subst (λ x. HasParent more new v x p) (sym here.1) (subst (λ x. HasParent more new v weight x) (sym here.2)
+          (record { before = 0; weight = weight; reached = lower old.start 0 s.begun; edge = put.there; sum = omega arith })))
+    ];
+    dealt = λ z d p now. elim (was z d p now) [
+      | inl known ↦ elim (s.dealt z d p known.1) [
+        | inl waits ↦ inl (still_waits rows most NobodyBusy old new v weight old.start inside offered.same.round takes z d waits)
+        | inr other ↦ elim other [ inl it ↦ absurd it | inr closed ↦ inr (inr (still_closed z d closed)) ]
+      ]
+      | inr here ↦ inl (subst (λ x. Waits new x d) (sym here.0) (subst (λ x. Waits new v x) (sym here.1) (here_waits rows most NobodyBusy old new v weight old.start inside offered.same.round takes)))
+    ];
+    ordered = takes.ordered s.ordered;
+  } where
+    lower : AreLower old new
+    lower = takes_lower rows most NobodyBusy old new v weight old.start inside offered.same.round takes
+
+    was : (z d p : ℕ) → Knows new z d p → ((z ≢ v) × Knows old z d p) ⊎ ((z ≡ v) × (d ≡ weight) × (p ≡ old.start))
+    was = knows_was rows most NobodyBusy old new v weight old.start inside offered.same.round takes
+
+    begun : Reaches new new.start 0
+    begun = subst (λ x. Reaches new x 0) (sym offered.same.start) (lower old.start 0 s.begun)
+
+    still_closed : (z d : ℕ) → IsClosed rows most old z d → IsClosed more most new z d
+    still_closed z d closed to w edge le = elim (put.made z to w edge) [
+      | inl before ↦ lower to (d + w) (closed to w before le)
+      | inr it ↦ (let r = offered_here rows most NobodyBusy old new v weight old.start inside offered in
+          let same = it.2 in
+          subst (λ x. Reaches new x (d + w)) (sym it.1) (record { at = r.at; parent = r.parent; known = r.known; within = (let a = r.within in omega arith) }))
+    ]
 
 -- ---- the end
 
-pub none_found : (rows : List (Vec Edge Global)) (limit u v : ℕ) (w : Workspace) → IsSearch rows limit NobodyBusy w → NobodyWaits w → w.start ≡ u → (IsKnown w v → ⊥) → NoWalkWithin rows u v limit
-none_found rows limit u v w s nobody start unknown hops walk = elim (cases_lt limit (total hops)) [
+pub none_found : (rows : List (Vec Edge Global)) (most limit v : ℕ) (w : Workspace) → limit ≤ most → IsSearch rows most NobodyBusy w → NobodyWaitsWithin w limit → (Reaches w v limit → ⊥) → NoWalkWithin rows w.start v limit
+none_found rows most limit v w le s nobody unreached hops walk = elim (cases_lt limit (total hops)) [
   | inl more ↦ more
-  | inr within ↦ absurd (unknown (follows rows limit w closed hops u v 0 walk (omega arith) (subst (λ x. Reaches w x 0) start s.begun)))
+  | inr within ↦ absurd (unreached (follows rows most limit w le closed hops w.start v 0 walk (omega arith) s.begun))
 ] where
-  closed : (v at parent : ℕ) → Knows w v at parent → IsClosed rows limit w v at
-  closed x at parent known = elim (s.dealt x at parent known) [
-    | inl waits ↦ absurd (nobody x at waits)
+  closed : (x at parent : ℕ) → Knows w x at parent → at ≤ limit → IsClosed rows most w x at
+  closed x at parent known near = elim (s.dealt x at parent known) [
+    | inl waits ↦ absurd (let far = nobody x at waits in omega arith)
     | inr other ↦ elim other [ inl it ↦ absurd it | inr all ↦ all ]
   ]

@@ -1,7 +1,9 @@
 -- A search from one node: what is known of others, and who waits.
-use Rattle.std.specs.Prelude.{◌≡◌, ◌≢◌, ℕ, ◌+◌, ◌*◌, ◌≤◌, ◌⊎◌, ◌==◌, List, [], ◌∷◌, length, Contains, IsPermutation, Vec, slice_set, if◌then◌else◌}
+use Rattle.std.specs.Prelude.{◌≡◌, ◌≢◌, ℕ, ◌+◌, ◌*◌, ◌<◌, ◌≤◌, ◌⊎◌, ◌==◌, List, [], ◌∷◌, length, Contains, IsPermutation, Vec, slice_set, if◌then◌else◌}
 use Rattle.std.specs.List.{sum_by}
-use Rattle.std.specs.BinaryHeap.{heap_items, heap_len}
+use Rattle.std.specs.BinaryHeap.{heap_items, heap_len, IsHeap, KeepsHeap}
+use Rattle.std.specs.Ordering.{ordering_then, nat_cmp}
+use Rattle.std.specs.declared.cmp.Ordering.{Ordering}
 use Rattle.std.specs.declared.cmp.Reverse.{Reverse}
 use Rattle.std.specs.declared.alloc.Global.{Global}
 use Rattle.witness.specs.declared.edge.Edge.{Edge}
@@ -12,6 +14,10 @@ use Rattle.witness.specs.Rows.{HasEdge}
 
 abbrev pub waiting_of : ℕ → ℕ → Reverse (ℕ × ℕ)
 waiting_of at v = record { 0 = (at, v) }
+
+-- of two pairs that wait the lighter is the greater, so a heap gives the lightest first
+abbrev pub waiting_cmp : Reverse (ℕ × ℕ) → Reverse (ℕ × ℕ) → Ordering
+waiting_cmp x y = ordering_then (nat_cmp y.0.0 x.0.0) (nat_cmp y.0.1 x.0.1)
 
 abbrev pub Knows : Workspace → ℕ → ℕ → ℕ → Type 0
 Knows w v at parent = Known w.places.items w.round v at parent
@@ -29,17 +35,26 @@ abbrev pub Waits : Workspace → ℕ → ℕ → Type 0
 Waits w v at = Contains (heap_items w.waiting) (waiting_of at v)
 
 -- nothing is known yet
-pub record IsFresh (w : Workspace) (nodes first : ℕ) : Type 0 where
+pub record IsFresh (w : Workspace) (nodes first most : ℕ) : Type 0 where
   pub count : length w.places.items ≡ nodes
   pub start : w.start ≡ first
+  pub most_is : w.most ≡ most
   pub unknown : (v at parent : ℕ) → Knows w v at parent → ⊥
   pub nobody : heap_items w.waiting ≡ []
+  pub ordered : IsHeap waiting_cmp (heap_items w.waiting)
+
+-- the search is the same
+pub record IsSameRound (old new : Workspace) : Type 0 where
+  pub round : new.round ≡ old.round
+  pub start : new.start ≡ old.start
+  pub most : new.most ≡ old.most
 
 -- no walk to the node was known, or all were heavier; this one is known now, and waits
 pub record Takes (old new : Workspace) (to at parent : ℕ) : Type 0 where
   pub heavier : Reaches old to at → ⊥
   pub places : new.places.items ≡ slice_set old.places.items to (record { at = at; parent = parent; round = old.round })
   pub waiting : IsPermutation (waiting_of at to ∷ heap_items old.waiting) (heap_items new.waiting)
+  pub ordered : KeepsHeap waiting_cmp (heap_items old.waiting) (heap_items new.waiting)
   pub one_more : heap_len new.waiting ≡ heap_len old.waiting + 1
 
 -- a walk to the node is no heavier, and nothing has changed
@@ -49,8 +64,7 @@ pub record Leaves (old new : Workspace) (to at : ℕ) : Type 0 where
   pub waiting : new.waiting ≡ old.waiting
 
 pub record IsOffered (old new : Workspace) (to at parent : ℕ) : Type 0 where
-  pub round : new.round ≡ old.round
-  pub start : new.start ≡ old.start
+  pub same : IsSameRound old new
   pub offered : Takes old new to at parent ⊎ Leaves old new to at
 
 -- v is reached by way of p
@@ -61,17 +75,18 @@ pub record HasParent (rows : List (Vec Edge Global)) (w : Workspace) (v at p : �
   pub edge : HasEdge rows p v weight
   pub sum : before + weight ≡ at
 
--- what the ways out of v lead to within the limit is reached
+-- what the ways out of v lead to within the search is reached
 abbrev pub IsClosed : List (Vec Edge Global) → ℕ → Workspace → ℕ → ℕ → Type 0
-IsClosed rows limit w v at = (to weight : ℕ) → HasEdge rows v to weight → at + weight ≤ limit → Reaches w to (at + weight)
+IsClosed rows most w v at = (to weight : ℕ) → HasEdge rows v to weight → at + weight ≤ most → Reaches w to (at + weight)
 
 -- each node that is reached waits, is dealt with now, or is closed
-pub record IsSearch (rows : List (Vec Edge Global)) (limit : ℕ) (busy : ℕ → ℕ → Type 0) (w : Workspace) : Type 0 where
+pub record IsSearch (rows : List (Vec Edge Global)) (most : ℕ) (busy : ℕ → ℕ → Type 0) (w : Workspace) : Type 0 where
   pub count : length w.places.items ≡ length rows
   pub begun : Reaches w w.start 0
-  pub within : (v at parent : ℕ) → Knows w v at parent → at ≤ limit
+  pub within : (v at parent : ℕ) → Knows w v at parent → at ≤ most
   pub parents : (v at parent : ℕ) → Knows w v at parent → v ≢ w.start → HasParent rows w v at parent
-  pub dealt : (v at parent : ℕ) → Knows w v at parent → Waits w v at ⊎ busy v at ⊎ IsClosed rows limit w v at
+  pub dealt : (v at parent : ℕ) → Knows w v at parent → Waits w v at ⊎ busy v at ⊎ IsClosed rows most w v at
+  pub ordered : IsHeap waiting_cmp (heap_items w.waiting)
 
 abbrev pub IsBusy : ℕ → ℕ → ℕ → ℕ → Type 0
 IsBusy node time v at = (v ≡ node) × (at ≡ time)
@@ -79,32 +94,33 @@ IsBusy node time v at = (v ≡ node) × (at ≡ time)
 abbrev pub NobodyBusy : ℕ → ℕ → Type 0
 NobodyBusy v at = ⊥
 
--- what a place counts for: the weight that is known, or one more than the limit
+-- what a place counts for: the weight that is known, or one more than the most
 abbrev pub left_of : ℕ → ℕ → Place → ℕ
-left_of round limit place = if place.round == round then place.at else (limit + 1)
+left_of round most place = if place.round == round then place.at else (most + 1)
 
 -- falls with each turn: a walk that is taken takes one off the sum, and waits
 abbrev pub work : ℕ → Workspace → ℕ
-work limit w = heap_len w.waiting + 2 * sum_by (left_of w.round limit) w.places.items
+work most w = heap_len w.waiting + 2 * sum_by (left_of w.round most) w.places.items
 
 -- what was reached is reached still
 abbrev pub AreLower : Workspace → Workspace → Type 0
 AreLower old new = (v limit : ℕ) → Reaches old v limit → Reaches new v limit
 
 abbrev pub IsEdgeClosed : ℕ → Workspace → ℕ → Edge → Type 0
-IsEdgeClosed limit w at edge = at + edge.weight ≤ limit → Reaches w edge.to (at + edge.weight)
+IsEdgeClosed most w at edge = at + edge.weight ≤ most → Reaches w edge.to (at + edge.weight)
 
-abbrev pub NobodyWaits : Workspace → Type 0
-NobodyWaits w = (v at : ℕ) → Waits w v at → ⊥
+-- who waits is further away
+abbrev pub NobodyWaitsWithin : Workspace → ℕ → Type 0
+NobodyWaitsWithin w limit = (v at : ℕ) → Waits w v at → limit < at
 
 -- what is known is the same
 pub record IsSame (old new : Workspace) : Type 0 where
-  pub round : new.round ≡ old.round
-  pub start : new.start ≡ old.start
+  pub same : IsSameRound old new
   pub places : new.places.items ≡ old.places.items
 
 -- a pair was taken from those that wait
 pub record IsNext (old new : Workspace) (at v : ℕ) : Type 0 where
   pub same : IsSame old new
   pub waiting : IsPermutation (heap_items old.waiting) (waiting_of at v ∷ heap_items new.waiting)
+  pub ordered : KeepsHeap waiting_cmp (heap_items old.waiting) (heap_items new.waiting)
   pub one_less : heap_len new.waiting + 1 ≡ heap_len old.waiting

@@ -8,5 +8,5 @@ pub mod search;
 pub mod workspace;
 
 pub use edge::Edge;
-pub use search::find;
+pub use search::{begin, find, walk_to};
 pub use workspace::Workspace;

@@ -2,7 +2,7 @@
 
 ghost use Rattle.std.specs.Prelude.{◌<◌, ◌≤◌, ◌^◌, length, IfOk};
 ghost use Rattle.witness.specs.Rows.{AreRows, IsWalkWithin};
-ghost use Rattle.witness.specs.Searching.{IsSearch, IsKnown, NobodyBusy};
+ghost use Rattle.witness.specs.Searching.{IsSearch, Reaches, NobodyBusy};
 
 use crate::edge::Edge;
 use crate::workspace::Workspace;
@@ -17,8 +17,8 @@ pub(crate) fn retrace(
     limit: u64,
 ) -> Result<Vec<u32>, AllocError>
     requires rows { AreRows rows.now }
-    requires known { IsKnown workspace.now v }
-    requires search { IsSearch rows.now limit NobodyBusy workspace.now }
+    requires reached { Reaches workspace.now v limit }
+    requires search { IsSearch rows.now workspace.now.most NobodyBusy workspace.now }
     ensures { IfOk result (λ nodes. IsWalkWithin rows.now workspace.now.start v limit nodes.items) }
 {
     let mut nodes = Vec::new(alloc);

@@ -1,6 +1,7 @@
 //! What searches keep for the next one.
 
-ghost use Rattle.std.specs.Prelude.{◌≡◌, ◌<◌, ◌↔◌, OnOk, IfSome, IfNone, IsTrue, length};
+ghost use Rattle.std.specs.Prelude.{◌≡◌, ◌<◌, ◌≤◌, ◌↔◌, OnOk, IfSome, IfNone, IsTrue, length};
+ghost use Rattle.std.specs.BinaryHeap.{IsHeap, heap_items};
 ghost use Rattle.witness.specs.Places.{ArePast};
 
 use crate::place::Place;
@@ -18,11 +19,13 @@ pub struct Workspace {
     pub(crate) round: u32,
     /// The node that this round began at.
     pub(crate) start: u32,
+    /// What a walk of this round weighs at most.
+    pub(crate) most: u64,
     ghost past: { ArePast round places.items },
 }
 
 impl Workspace {
-    ghost use Rattle.witness.specs.Searching.{IsFresh, IsOffered, IsNext, IsSame, NobodyWaits, IsKnown, IsKnownAt};
+    ghost use Rattle.witness.specs.Searching.{IsFresh, IsOffered, IsNext, IsSame, NobodyWaitsWithin, Reaches, IsKnownAt, waiting_cmp};
 
     /// Tables without room; the first search makes it.
     pub fn new(alloc: Global) -> Workspace {
@@ -31,17 +34,19 @@ impl Workspace {
             waiting: BinaryHeap::new(alloc),
             round: 0,
             start: 0,
+            most: 0,
         }
     }
 
     /// Begins a round over so many nodes.
-    pub(crate) fn begin(
+    pub(crate) fn clear(
         &mut self,
         alloc: Global,
         nodes: usize,
         start: u32,
+        most: u64,
     ) -> Result<(), AllocError>
-        ensures { OnOk result (IsFresh self.new nodes start) }
+        ensures { OnOk result (IsFresh self.new nodes start most) }
     {
         if self.round == 0xffff_ffff || self.places.len() != nodes {
             let unknown = Place {
@@ -54,16 +59,18 @@ impl Workspace {
                 waiting: BinaryHeap::new(alloc),
                 round: 0,
                 start,
+                most,
             };
         }
         self.round += 1;
         self.start = start;
+        self.most = most;
         self.waiting.clear();
         Ok(())
     }
 
     /// Takes a walk to a node that weighs so much, if it is the first or lighter than the one that is known.
-    pub(crate) fn offer(&mut self, to: u32, at: u64, parent: u32) -> Result<(), AllocError>
+    pub fn offer(&mut self, to: u32, at: u64, parent: u32) -> Result<(), AllocError>
         requires { to < length self.old.places.items }
         ensures { OnOk result (IsOffered self.old self.new to at parent) }
     {
@@ -76,22 +83,33 @@ impl Workspace {
         Ok(())
     }
 
-    /// Takes a pair from the queue.
-    pub(crate) fn next(&mut self) -> Option<(u64, u32)>
+    /// Takes the least pair from the queue, if its weight is within the limit.
+    pub(crate) fn next(&mut self, limit: u64) -> Option<(u64, u32)>
+        requires { IsHeap waiting_cmp (heap_items self.old.waiting) }
         ensures next { IfSome result (λ x. IsNext self.old self.new x.0 x.1) }
-        ensures none { IfNone result (NobodyWaits self.old) }
-        ensures same { IfNone result (IsSame self.old self.new) }
+        ensures within { IfSome result (λ x. x.0 ≤ limit) }
+        ensures none { IfNone result (NobodyWaitsWithin self.old limit) }
+        ensures same { IfNone result (self.new ≡ self.old) }
     {
+        match self.waiting.peek() {
+            Some(Reverse((at, _))) => {
+                if *at > limit {
+                    return None;
+                }
+            }
+            None => return None,
+        }
         let Reverse(next) = self.waiting.pop()?;
         Some(next)
     }
 
-    /// Whether a node is reached in this round.
-    pub(crate) fn is_known(&self, v: u32) -> bool
+    /// Whether a walk to a node is known that weighs no more than the limit.
+    pub(crate) fn is_within(&self, v: u32, limit: u64) -> bool
         requires { v < length self.now.places.items }
-        ensures { IsTrue result ↔ IsKnown self.now v }
+        ensures { IsTrue result ↔ Reaches self.now v limit }
     {
-        self.places[v as usize].round == self.round
+        let place = self.places[v as usize];
+        place.round == self.round && place.at <= limit
     }
 
     /// Whether this is the least weight so far of a walk to a node.

@@ -1,10 +1,14 @@
-use Rattle.std.proofs.Common.{◌≡◌, length}
-use Rattle.contractor.specs.Layers.{IsBridging, lists_of}
+use Rattle.std.proofs.Common.{◌≡◌, ◌-◌, ◌≤◌, length}
+use Rattle.contractor.specs.Layers.{IsBridging}
 use Rattle.contractor.proofs.bridging.bridge.Given as goal
 
-abbrev pub invariant-ways : goal.invariant-ways
-invariant-ways l = record {
-  state : IsBridging l.network (lists_of l.fn.layer) l.x l.ways l.way-index l.layer;
+abbrev pub invariant-starts : goal.invariant-starts
+invariant-starts l = record {
+  state : IsBridging l.network l.x l.ways l.place l.layer;
+  inside : l.place ≤ length l.ways;
   order : (l.layer).order.items ≡ (l.fn.layer).order.items;
   count : length (l.layer).rows.items ≡ length (l.fn.layer).rows.items;
 }
+
+abbrev pub decreases-starts : goal.decreases-starts
+decreases-starts l = length l.ways - l.place

@@ -17,20 +17,20 @@ parent c = record { before = c.args.at; weight = c.args.edge.weight; reached = c
 
 pub returns-in_ok-offer-clause-search : goal.returns-in_ok-offer-clause-search
 returns-in_ok-offer-clause-search c =
-    offered_search c.args.rows.now c.args.limit (IsBusy c.args.node c.args.at) c.args.workspace.now c.offer.new.self c.args.edge.to (c.args.at + c.args.edge.weight) c.args.node (inside c)
-    c.in_ok-offer.ensures c.if-sum-limit.true (parent c) c.requires.search
+    offered_search c.args.rows.now c.args.workspace.now.most (IsBusy c.args.node c.args.at) c.args.workspace.now c.offer.new.self c.args.edge.to (c.args.at + c.args.edge.weight) c.args.node (inside c)
+    c.in_ok-offer.ensures c.if-sum-workspace.true (parent c) c.requires.search
 
 pub returns-in_ok-offer-clause-work : goal.returns-in_ok-offer-clause-work
 returns-in_ok-offer-clause-work c =
-    offered_less c.args.rows.now c.args.limit (IsBusy c.args.node c.args.at) c.args.workspace.now c.offer.new.self c.args.edge.to (c.args.at + c.args.edge.weight) c.args.node (inside c)
-    c.in_ok-offer.ensures c.if-sum-limit.true
+    offered_less c.args.rows.now c.args.workspace.now.most (IsBusy c.args.node c.args.at) c.args.workspace.now c.offer.new.self c.args.edge.to (c.args.at + c.args.edge.weight) c.args.node (inside c)
+    c.in_ok-offer.ensures c.if-sum-workspace.true
 
 pub returns-in_ok-offer-clause-lower : goal.returns-in_ok-offer-clause-lower
 returns-in_ok-offer-clause-lower c =
-    offered_lower c.args.rows.now c.args.limit (IsBusy c.args.node c.args.at) c.args.workspace.now c.offer.new.self c.args.edge.to (c.args.at + c.args.edge.weight) c.args.node (inside c)
+    offered_lower c.args.rows.now c.args.workspace.now.most (IsBusy c.args.node c.args.at) c.args.workspace.now c.offer.new.self c.args.edge.to (c.args.at + c.args.edge.weight) c.args.node (inside c)
     c.in_ok-offer.ensures
 
 pub returns-in_ok-offer-clause-closed : goal.returns-in_ok-offer-clause-closed
 returns-in_ok-offer-clause-closed c = λ le.
-    offered_here c.args.rows.now c.args.limit (IsBusy c.args.node c.args.at) c.args.workspace.now c.offer.new.self c.args.edge.to (c.args.at + c.args.edge.weight) c.args.node (inside c)
+    offered_here c.args.rows.now c.args.workspace.now.most (IsBusy c.args.node c.args.at) c.args.workspace.now c.offer.new.self c.args.edge.to (c.args.at + c.args.edge.weight) c.args.node (inside c)
     c.in_ok-offer.ensures

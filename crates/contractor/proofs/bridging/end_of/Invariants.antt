@@ -1,0 +1,9 @@
+use Rattle.std.proofs.Common.{length, ◌-◌}
+use Rattle.contractor.specs.Layers.{IsEndOf}
+use Rattle.contractor.proofs.bridging.end_of.Given as goal
+
+abbrev pub invariant-ways : goal.invariant-ways
+invariant-ways l = IsEndOf l.ways l.place l.end
+
+abbrev pub decreases-ways : goal.decreases-ways
+decreases-ways l = length l.ways - l.end
