@@ -274,7 +274,7 @@ module _ (n : NetworkLists) (x : ℕ) (ways : List Way) (k : ℕ) (old : Layer) 
 
 -- the search goes as far as the last way from its start, and so for each of them
 pub search_for : (n : NetworkLists) (x : ℕ) (ways : List Way) (k : ℕ) (old : Layer) → IsBridging n x ways k old → (place end j : ℕ) (d : Way) → IsEndOf ways place end → place ≤ j → j < end → (w : Workspace)
-    → IsSearch old.rows.items w.most NobodyBusy w → w.start ≡ (get_or ways place d).from → w.most ≡ (get_or ways (end - 1) d).sum → IsSearchFor old.rows.items (get_or ways j d) w
+    → IsSearch old.rows.items w.most NobodyBusy w → w.start ≡ (get_or ways place d).from → w.most ≡ (get_or ways (end - 1) d).sum → IsSearchFor old (get_or ways j d) w
 search_for n x ways k old state place end j d is le lt w search start most = record {
   search = search;
   start = start ∙ sym (is.same j d le lt);

@@ -260,8 +260,8 @@ pub record IsEndOf (ways : List Way) (place end : ℕ) : Type 0 where
   pub same : (j : ℕ) (d : Way) → place ≤ j → j < end → (slice_index_or ways j d).from ≡ (slice_index_or ways place d).from
 
 -- the search began where the way does, and goes as far
-pub record IsSearchFor (rows : List (Vec Edge Global)) (way : Way) (w : Workspace) : Type 0 where
-  pub search : IsSearch rows w.most NobodyBusy w
+pub record IsSearchFor (layer : Layer) (way : Way) (w : Workspace) : Type 0 where
+  pub search : IsSearch layer.rows.items w.most NobodyBusy w
   pub start : w.start ≡ way.from
   pub far : way.sum ≤ w.most
   pub light : w.most < 2 ^ 57

@@ -114,7 +114,7 @@ fn bridge_way(
 ) -> Result<(), AllocError>
     requires place { k < length ways.now }
     requires state { IsBridging network.now x ways.now k layer.old }
-    requires search { (d : Way) → IsSearchFor layer.old.rows.items (slice_index_or ways.now k d) workspace.old }
+    requires search { (d : Way) → IsSearchFor layer.old (slice_index_or ways.now k d) workspace.old }
     ensures state { OnOk result (IsBridging network.now x ways.now (k + 1) layer.new) }
     ensures search { OnOk result (IsSearch layer.new.rows.items workspace.old.most NobodyBusy workspace.new) }
     ensures same { OnOk result (IsSameRound workspace.old workspace.new) }

@@ -1,7 +1,7 @@
 //! Ways past a node.
 
-/// A way from one neighbour of a node to another by the node, of an entry to it and one from it. Those of one start stand
-/// together; those starts come first whose entry is lighter, and of one start the ways that weigh less.
+/// A way from one neighbour of a node to another by the node, of an entry to it and one from it. Those of one start
+/// stand together; those starts come first whose entry is lighter, and of one start the ways that weigh less.
 #[derive(Clone, Copy, Debug, PartialEq, Eq, PartialOrd, Ord)]
 pub struct Way {
     /// What the entry to the node weighs.

@@ -1,5 +1,5 @@
 -- What is left of a layer: for each node the ways out of it.
-use Rattle.std.specs.Prelude.{◌≡◌, ℕ, ◌<◌, ◌≤◌, ◌^◌, ◌⊎◌, List, [], Option, None, Some, length, slice_get, Contains, Vec}
+use Rattle.std.specs.Prelude.{◌≡◌, ℕ, ◌<◌, ◌≤◌, ◌^◌, ◌⊎◌, List, [], Option, None, Some, IfSome, length, slice_get, Contains, Vec}
 use Rattle.std.specs.declared.alloc.Global.{Global}
 use Rattle.witness.specs.declared.edge.Edge.{Edge}
 use Rattle.hierarchy.specs.Hops.{Hop, AreHops, total, nodes_of}
@@ -32,6 +32,10 @@ pub record IsWalkWithin (rows : List (Vec Edge Global)) (u v limit : ℕ) (nodes
   pub walk : AreHops (HasEdge rows) u hops v
   pub within : total hops ≤ limit
   pub are : nodes ≡ nodes_of u hops
+
+-- what was found, if anything, is such a walk
+abbrev pub IsFoundWithin : List (Vec Edge Global) → ℕ → ℕ → ℕ → Option (Vec ℕ Global) → Type 0
+IsFoundWithin rows u v limit found = IfSome found (λ nodes. IsWalkWithin rows u v limit nodes.items)
 
 -- each walk from u to v weighs more
 abbrev pub NoWalkWithin : List (Vec Edge Global) → ℕ → ℕ → ℕ → Type 0

@@ -102,6 +102,9 @@ left_of round most place = if place.round == round then place.at else (most + 1)
 abbrev pub work : ℕ → Workspace → ℕ
 work most w = heap_len w.waiting + 2 * sum_by (left_of w.round most) w.places.items
 
+abbrev pub IsNoMoreWork : Workspace → Workspace → Type 0
+IsNoMoreWork old new = work old.most new ≤ work old.most old
+
 -- what was reached is reached still
 abbrev pub AreLower : Workspace → Workspace → Type 0
 AreLower old new = (v limit : ℕ) → Reaches old v limit → Reaches new v limit

@@ -1,8 +1,9 @@
 //! The search for a walk.
 
-ghost use Rattle.std.specs.Prelude.{◌≡◌, ◌<◌, ◌≤◌, ◌^◌, length, Contains, IfOk, IfSome, IfNone, OnOk};
-ghost use Rattle.witness.specs.Rows.{AreRows, IsWalkWithin, NoWalkWithin, row_at};
-ghost use Rattle.witness.specs.Searching.{IsSearch, IsSameRound, IsBusy, NobodyBusy, Reaches, work, IsEdgeClosed, AreLower};
+ghost use Rattle.std.specs.Prelude.{◌≡◌, ◌<◌, ◌≤◌, ◌^◌, length, Contains, IfOk, IfNone, OnOk};
+ghost use Rattle.witness.specs.Rows.{AreRows, IsFoundWithin, NoWalkWithin, row_at};
+ghost use Rattle.witness.specs.Searching.{IsSearch, IsSameRound, IsBusy, NobodyBusy, Reaches};
+ghost use Rattle.witness.specs.Searching.{IsNoMoreWork, IsEdgeClosed, AreLower};
 
 use crate::edge::Edge;
 use crate::retrace::retrace;
@@ -23,15 +24,15 @@ pub fn find(
     requires start { u < length rows.now }
     requires end { v < length rows.now }
     requires limit { limit < 2 ^ 57 }
-    ensures found { IfOk result (λ walk. IfSome walk (λ nodes. IsWalkWithin rows.now u v limit nodes.items)) }
+    ensures found { IfOk result (λ walk. IsFoundWithin rows.now u v limit walk) }
     ensures none { IfOk result (λ walk. IfNone walk (NoWalkWithin rows.now u v limit)) }
 {
     begin(alloc, workspace, rows, u, limit)?;
     walk_to(alloc, workspace, rows, v, limit)
 }
 
-/// Begins a search from `u` for walks that weigh at most `most`. The tables of `workspace` are used again: a search takes
-/// time for what it reaches, whatever the number of the nodes. Fails where memory runs out.
+/// Begins a search from `u` for walks that weigh at most `most`. The tables of `workspace` are used again: a search
+/// takes time for what it reaches, whatever the number of the nodes. Fails where memory runs out.
 pub fn begin(
     alloc: Global,
     workspace: &mut Workspace,
@@ -49,13 +50,13 @@ pub fn begin(
     Ok(())
 }
 
-/// A walk from where the search began to `v` that weighs at most `limit`, by its nodes, both ends among them; None exactly
-/// where there is none.
+/// A walk from where the search began to `v` that weighs at most `limit`, by its nodes, both ends among them; None
+/// exactly where there is none.
 ///
-/// Dijkstra's method, up to the first walk within the limit: the next call goes on from there. So many ends of one start
-/// take one search, where those that are near are asked for first. A way out of the start that is put into the rows
-/// between two calls, because there was no walk within its weight, is told by `Workspace::offer`. Fails where memory runs
-/// out.
+/// Dijkstra's method, up to the first walk within the limit: the next call goes on from there. So many ends of one
+/// start take one search, where those that are near are asked for first. A way out of the start that is put into the
+/// rows between two calls, because there was no walk within its weight, is told by `Workspace::offer`. Fails where
+/// memory runs out.
 pub fn walk_to(
     alloc: Global,
     workspace: &mut Workspace,
@@ -68,7 +69,7 @@ pub fn walk_to(
     requires limit { limit ≤ workspace.old.most }
     requires most { workspace.old.most < 2 ^ 57 }
     requires search { IsSearch rows.now workspace.old.most NobodyBusy workspace.old }
-    ensures found { IfOk result (λ walk. IfSome walk (λ nodes. IsWalkWithin rows.now workspace.old.start v limit nodes.items)) }
+    ensures found { IfOk result (λ walk. IsFoundWithin rows.now workspace.old.start v limit walk) }
     ensures none { IfOk result (λ walk. IfNone walk (NoWalkWithin rows.now workspace.old.start v limit)) }
     ensures unreached { IfOk result (λ walk. IfNone walk (Reaches workspace.new v limit → ⊥)) }
     ensures search { OnOk result (IsSearch rows.now workspace.old.most NobodyBusy workspace.new) }
@@ -102,7 +103,7 @@ fn relax(
     requires search { IsSearch rows.now workspace.old.most (IsBusy node at) workspace.old }
     ensures search { OnOk result (IsSearch rows.now workspace.old.most NobodyBusy workspace.new) }
     ensures same { OnOk result (IsSameRound workspace.old workspace.new) }
-    ensures work { OnOk result (work workspace.old.most workspace.new ≤ work workspace.old.most workspace.old) }
+    ensures work { OnOk result (IsNoMoreWork workspace.old workspace.new) }
 {
     'edges: for edge in &rows[node as usize] {
         relax_edge(workspace, rows, node, at, *edge)?;
@@ -126,7 +127,7 @@ fn relax_edge(
     requires search { IsSearch rows.now workspace.old.most (IsBusy node at) workspace.old }
     ensures search { OnOk result (IsSearch rows.now workspace.old.most (IsBusy node at) workspace.new) }
     ensures same { OnOk result (IsSameRound workspace.old workspace.new) }
-    ensures work { OnOk result (work workspace.old.most workspace.new ≤ work workspace.old.most workspace.old) }
+    ensures work { OnOk result (IsNoMoreWork workspace.old workspace.new) }
     ensures lower { OnOk result (AreLower workspace.old workspace.new) }
     ensures closed { OnOk result (IsEdgeClosed workspace.old.most workspace.new at edge) }
 {

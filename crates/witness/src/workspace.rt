@@ -25,7 +25,8 @@ pub struct Workspace {
 }
 
 impl Workspace {
-    ghost use Rattle.witness.specs.Searching.{IsFresh, IsOffered, IsNext, IsSame, NobodyWaitsWithin, Reaches, IsKnownAt, waiting_cmp};
+    ghost use Rattle.witness.specs.Searching.{IsFresh, IsOffered, IsNext, NobodyWaitsWithin};
+    ghost use Rattle.witness.specs.Searching.{Reaches, IsKnownAt, waiting_cmp};
 
     /// Tables without room; the first search makes it.
     pub fn new(alloc: Global) -> Workspace {
