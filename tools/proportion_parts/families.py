@@ -104,7 +104,7 @@ def town(_: int) -> str:
 
 
 CUTTING = "each arm that is contracted is left out of the row of the hub, which is as long as the arms that are left"
-CONTRACTING = "shortcuts between the neighbours of what is contracted; keep some nodes (docs/MANY_QUERIES.md)"
+CONTRACTING = "what is left grows dense, and searches there make each key anew; keep some nodes (docs/MANY_QUERIES.md)"
 BY_PLACES = "the product has a state for each place of the expression at each node"
 
 FAMILIES = [
