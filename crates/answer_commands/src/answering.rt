@@ -15,8 +15,7 @@ use journey::large_block;
 use mode_network::Network;
 use plain_texts::push_decimal;
 use plan_base::{Caps, Shelf, Sink};
-use planning::block_within;
-use product_search::Workspace;
+use planning::{Room, block_within};
 use run_steps::{FileRole, Limits, LineBlocks, Outcome, Ports, write_in_turn, write_text};
 use std::alloc::{AllocError, Global};
 
@@ -40,17 +39,23 @@ impl LineBlocks for BestBlocks<'_> {
 
     ghost counts = { λ blocks. IsAnswerCount blocks.network.now (option_map (λ h. h.now) blocks.hierarchy) blocks.limits };
 
+    type Room = Room;
+
+    fn room(&self, alloc: Global) -> Room {
+        Room::new(alloc)
+    }
+
     fn block_of(
         &self,
         alloc: Global,
-        workspace: &mut Workspace,
+        room: &mut Room,
         line: &[u8],
     ) -> Result<(Vec<u8>, u64), AllocError> {
         let Limits { places, labels } = self.limits;
         if let Some(block) = large_block(alloc, self.network, places, line)? {
             return Ok((block, 0));
         }
-        block_within(alloc, workspace, self.network, self.hierarchy, line, labels)
+        block_within(alloc, room, self.network, self.hierarchy, line, labels)
     }
 }
 

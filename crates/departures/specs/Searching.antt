@@ -34,7 +34,7 @@ network_of s = s.plain.network.now
 
 -- what the automaton of a search answers
 abbrev pub labels_of : RideSearch → LabelsMeaning
-labels_of s = counted (collapsed (position_meaning s.labels.inner.inner)) s.labels.side s.labels.limit
+labels_of s = counted (collapsed (position_meaning s.machine.labels.inner.inner)) s.machine.labels.side s.machine.labels.limit
 
 -- a search for what its query asks
 pub record IsRideSearch (s : RideSearch) : Type 0 where

@@ -14,7 +14,7 @@ use few_boardings::{Counted, Side};
 use journey::{Query, copies};
 use mode_network::Network;
 use plain_graph::Plain;
-use product_search::{Best, Walk, Workspace, search_best_with};
+use product_search::{Best, Machine, Walk, Workspace, search_best_with};
 use search_laws::Time;
 use std::alloc::{AllocError, Global};
 use unpack::from_plain;
@@ -25,7 +25,7 @@ use unpack::from_plain;
 pub struct RideSearch<'a> {
     pub query: &'a Query,
     pub plain: Plain<'a>,
-    pub labels: Counted<Collapsed<Positions>>,
+    pub machine: Machine<Counted<Collapsed<Positions>>>,
     /// Whether the expression has a letter of transit; else no journey with a ride does what it says.
     pub reads_transit: bool,
     pub origins: Vec<u32>,
@@ -78,10 +78,11 @@ impl<'a> RideSearch<'a> {
         let collapsed = Collapsed::new(Positions::of(alloc, &query.expr)?);
         let reads_transit = reads_transit(&collapsed);
         let labels = Counted::new(collapsed, Side::AtLeast, 1);
+        let machine = Machine::new(alloc, labels)?;
         Ok(RideSearch {
             query,
             plain,
-            labels,
+            machine,
             reads_transit,
             origins,
             destinations,
@@ -108,7 +109,7 @@ impl<'a> RideSearch<'a> {
             alloc,
             workspace,
             &self.plain,
-            &self.labels,
+            &self.machine,
             &self.origins,
             &self.destinations,
             at,
@@ -147,7 +148,7 @@ impl<'a> RideSearch<'a> {
             alloc,
             workspace,
             least,
-            &self.labels,
+            &self.machine,
             &self.origins,
             &self.destinations,
             self.query.depart,

@@ -15,7 +15,7 @@ use journey::{Query, copies};
 use mode_network::{Journey, Network, Step};
 use plain_graph::Plain;
 use plan_base::Time;
-use product_search::{Best, Walk, Workspace, search_best_with};
+use product_search::{Best, Machine, Walk, Workspace, search_best_with};
 use std::alloc::{AllocError, Global};
 use unpack::from_plain;
 
@@ -89,11 +89,12 @@ pub fn least_below(
     let targets = copies(alloc, network, &query.to)?;
     let collapsed = Collapsed::new(Positions::of(alloc, &query.expr)?);
     let labels = Counted::new(collapsed, Side::AtMost, limit - 1);
+    let machine = Machine::new(alloc, labels)?;
     let best = search_best_with(
         alloc,
         workspace,
         &plain,
-        &labels,
+        &machine,
         &starts,
         &targets,
         query.depart,

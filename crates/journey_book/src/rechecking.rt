@@ -8,7 +8,7 @@ use certificate::{CertVerdict, Certificate, verify};
 use hierarchy::Hierarchy;
 use mode_network::Network;
 use plain_texts::push_decimal;
-use product_search::Workspace;
+use planning::Room;
 use std::alloc::{AllocError, Global};
 
 /// Says of a certificate whether it is valid in a network, over a hierarchy, if there is one: `valid`, or `invalid CLAUSE AT`.
@@ -30,7 +30,7 @@ impl Report for Recheck<'_> {
     fn push_words(
         &self,
         alloc: Global,
-        _workspace: &mut Workspace,
+        _room: &mut Room,
         certificate: &Certificate,
         text: &mut Vec<u8>,
     ) -> Result<(), AllocError> {

@@ -10,7 +10,7 @@ ghost use Rattle.journey_book.specs.Reports.{HasReported, IsReport, IsSaid, IsSa
 use crate::keeper::{KeepFault, Keeper};
 use certificate::{CertFault, Certificate, read};
 use plain_texts::{push_decimal, push_line_feed};
-use product_search::Workspace;
+use planning::Room;
 use std::alloc::{AllocError, Global};
 
 /// What says something of a certificate.
@@ -23,11 +23,11 @@ pub trait Report {
     /// Which words are right, and which of them are well.
     ghost rule: { Self → ReportRule };
 
-    /// Appends words that are right for a certificate. Searches may use the workspace.
+    /// Appends words that are right for a certificate. Searches may use the room.
     fn push_words(
         &self,
         alloc: Global,
-        workspace: &mut Workspace,
+        room: &mut Room,
         certificate: &Certificate,
         text: &mut Vec<u8>,
     ) -> Result<(), AllocError>
@@ -84,13 +84,13 @@ fn report_all<R: Report, K: Keeper>(
     ensures same { Stays (K.meaning keeper.old) (K.meaning keeper.new) }
     ensures cause { IfErr result (IsKeepFault (K.meaning keeper.old) (K.meaning keeper.new)) }
 {
-    let mut workspace = Workspace::new(alloc);
+    let mut room = Room::new(alloc);
     let mut text = Vec::new(alloc);
     let mut well = true;
     for name in names {
         let key = name.as_str();
         let held = keeper.get(key)?;
-        let words = said_on(alloc, report, &mut workspace, &held)?;
+        let words = said_on(alloc, report, &mut room, &held)?;
         let said = words.as_slice();
         push_line(key, said, &mut text)?;
         well = both(well, report.is_well(said));
@@ -119,7 +119,7 @@ fn push_line(name: &str, words: &[u8], text: &mut Vec<u8>) -> Result<(), AllocEr
 fn said_on<R: Report>(
     alloc: Global,
     report: &R,
-    workspace: &mut Workspace,
+    room: &mut Room,
     held: &Option<Vec<u8>>,
 ) -> Result<Vec<u8>, AllocError>
     requires { R.may report.now }
@@ -127,7 +127,7 @@ fn said_on<R: Report>(
         (option_map (λ body. body.items) held.now) words.items) }
 {
     let mut words = Vec::new(alloc);
-    push_held(alloc, report, workspace, held, &mut words)?;
+    push_held(alloc, report, room, held, &mut words)?;
     Ok(words)
 }
 
@@ -135,7 +135,7 @@ fn said_on<R: Report>(
 fn push_held<R: Report>(
     alloc: Global,
     report: &R,
-    workspace: &mut Workspace,
+    room: &mut Room,
     held: &Option<Vec<u8>>,
     text: &mut Vec<u8>,
 ) -> Result<(), AllocError>
@@ -145,7 +145,7 @@ fn push_held<R: Report>(
         text.old.items text.new.items) }
 {
     match held {
-        Some(bytes) => push_said(alloc, report, workspace, bytes, text),
+        Some(bytes) => push_said(alloc, report, room, bytes, text),
         None => text.extend_from_slice(b"absent"),
     }
 }
@@ -154,7 +154,7 @@ fn push_held<R: Report>(
 fn push_said<R: Report>(
     alloc: Global,
     report: &R,
-    workspace: &mut Workspace,
+    room: &mut Room,
     bytes: &[u8],
     text: &mut Vec<u8>,
 ) -> Result<(), AllocError>
@@ -163,7 +163,7 @@ fn push_said<R: Report>(
         text.old.items text.new.items) }
 {
     match read(alloc, bytes) {
-        Ok(certificate) => report.push_words(alloc, workspace, &certificate, text),
+        Ok(certificate) => report.push_words(alloc, room, &certificate, text),
         Err(CertFault::BadLine { line }) => {
             text.extend_from_slice(b"bad ")?;
             push_decimal(text, u128::from(line))

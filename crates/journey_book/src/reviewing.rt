@@ -16,8 +16,7 @@ use hierarchy::Hierarchy;
 use journey::{Query, QueryFault, ends, push_refusal, read_query};
 use mode_network::{Journey, Network};
 use plan_base::Time;
-use planning::{BestPlan, find_best};
-use product_search::Workspace;
+use planning::{BestPlan, Room, find_best};
 use std::alloc::{AllocError, Global};
 
 /// Answers the query of a certificate anew in a network, over a hierarchy, if there is one, and says whether its journey
@@ -41,7 +40,7 @@ impl Report for Review<'_> {
     fn push_words(
         &self,
         alloc: Global,
-        workspace: &mut Workspace,
+        room: &mut Room,
         certificate: &Certificate,
         text: &mut Vec<u8>,
     ) -> Result<(), AllocError> {
@@ -49,7 +48,7 @@ impl Report for Review<'_> {
             Ok(query) => {
                 let kept = &certificate.result;
                 let (network, hierarchy) = (self.network, self.hierarchy);
-                push_answer(alloc, workspace, network, hierarchy, &query, kept, text)
+                push_answer(alloc, room, network, hierarchy, &query, kept, text)
             }
             Err(QueryFault::OutOfMemory) => Err(AllocError),
             Err(fault) => push_refusal(text, fault),
@@ -71,7 +70,7 @@ fn is_no_later(words: &[u8]) -> bool
 /// What is said of a kept result whose query asks this.
 fn push_answer(
     alloc: Global,
-    workspace: &mut Workspace,
+    room: &mut Room,
     network: &Network,
     hierarchy: Option<&Hierarchy>,
     query: &Query,
@@ -84,7 +83,7 @@ fn push_answer(
     ensures { OnOk result (AddsText (IsAnswered network.now kept.now (asked_by query.now))
         text.old.items text.new.items) }
 {
-    let BestPlan { journey, .. } = find_best(alloc, workspace, network, hierarchy, query)?;
+    let BestPlan { journey, .. } = find_best(alloc, room, network, hierarchy, query)?;
     match journey {
         Some(journey) => {
             let arrival = arrival_of(network, &journey);

@@ -103,7 +103,7 @@ fn verify_claim(
     let ends: &[u32] = &search.targets;
     let verdict = check_labels(
         &search.mirror,
-        &search.automaton,
+        &search.machine.labels,
         &search.starts,
         ends,
         0,

@@ -30,6 +30,12 @@ impl LineBlocks for FewBlocks<'_> {
 
     ghost counts = { λ _. CountsNothing };
 
+    type Room = Workspace;
+
+    fn room(&self, alloc: Global) -> Workspace {
+        Workspace::new(alloc)
+    }
+
     fn block_of(
         &self,
         alloc: Global,
@@ -57,6 +63,12 @@ impl LineBlocks for LateBlocks<'_> {
     ghost is_block = { λ blocks. IsLatest blocks.backwards.now.network blocks.limits };
 
     ghost counts = { λ _. CountsNothing };
+
+    type Room = Workspace;
+
+    fn room(&self, alloc: Global) -> Workspace {
+        Workspace::new(alloc)
+    }
 
     fn block_of(
         &self,
@@ -90,6 +102,12 @@ impl LineBlocks for ProfileBlocks<'_> {
         (IsProfileBlock blocks.least.now.plain.network.now blocks.window) };
 
     ghost counts = { λ _. CountsNothing };
+
+    type Room = Workspace;
+
+    fn room(&self, alloc: Global) -> Workspace {
+        Workspace::new(alloc)
+    }
 
     fn block_of(
         &self,

@@ -45,7 +45,7 @@ fn best_at(
 ) -> Result<Option<Journey>, AllocError>
     requires usable { IsUsable (form_of query.now.expr) }
     requires search { IsSearchFor backwards.now (asked_by query.now) search.now }
-    requires moment { IsArrival (mirrored backwards.now query.now.depart) (collapsed (reversed_meaning search.now.automaton.inner))
+    requires moment { IsArrival (mirrored backwards.now query.now.depart) (collapsed (reversed_meaning search.now.machine.labels.inner))
         search.now.starts.items search.now.targets.items 0 (Some (span backwards.now.network (asked_by query.now))) moment }
     ensures { IfOk result (IsLate backwards.now.network (asked_by query.now)) }
 {
@@ -71,7 +71,7 @@ fn least_moment(
     limit: Option<u64>,
 ) -> Result<Limited<Option<Time>>, AllocError>
     requires { IsSearchFor backwards.now (asked_by query.now) search.now }
-    ensures moment { IfEnded result (IsArrival (mirrored backwards.now query.now.depart) (collapsed (reversed_meaning search.now.automaton.inner))
+    ensures moment { IfEnded result (IsArrival (mirrored backwards.now query.now.depart) (collapsed (reversed_meaning search.now.machine.labels.inner))
         search.now.starts.items search.now.targets.items 0 (Some (span backwards.now.network (asked_by query.now)))) }
     ensures few { IfEnded result (λ _. IfSome limit (LateSearchHasAtMost backwards.now.network (asked_by query.now))) }
     ensures stopped { IfStopped result (λ most. (limit ≡ Some most) × LateSearchHasMore backwards.now.network (asked_by query.now) most) }
@@ -82,7 +82,7 @@ fn least_moment(
             alloc,
             workspace,
             &search.mirror,
-            &search.automaton,
+            &search.machine,
             &search.starts,
             &search.targets,
             0,
@@ -95,7 +95,7 @@ fn least_moment(
         alloc,
         workspace,
         &search.mirror,
-        &search.automaton,
+        &search.machine,
         &search.starts,
         &search.targets,
         0,
@@ -192,7 +192,7 @@ pub fn latest_within(
     let found = search_within(
         alloc,
         &search.mirror,
-        &search.automaton,
+        &search.machine,
         &search.starts,
         &search.targets,
         0,

@@ -12,7 +12,7 @@ use automaton::{Collapsed, Positions};
 use journey::Query;
 use mode_network::{Journey, Network};
 use plain_graph::Plain;
-use product_search::{Best, Walk, Workspace, search_best_with};
+use product_search::{Best, Machine, Walk, Workspace, search_best_with};
 use search_laws::Time;
 use std::alloc::{AllocError, Global};
 use unpack::from_plain;
@@ -53,11 +53,12 @@ pub(crate) fn first_from(
     network.known();
     let plain = Plain::new(network);
     let labels = Collapsed::new(Positions::of(alloc, &query.expr)?);
+    let machine = Machine::new(alloc, labels)?;
     let best = search_best_with(
         alloc,
         workspace,
         &plain,
-        &labels,
+        &machine,
         &search.targets,
         &search.starts,
         at,

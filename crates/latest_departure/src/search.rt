@@ -10,6 +10,7 @@ use crate::mirror::Mirror;
 use crate::reversed::Reversed;
 use automaton::{Collapsed, Positions};
 use journey::{Query, copies};
+use product_search::Machine;
 use search_laws::Time;
 use std::alloc::{AllocError, Global};
 
@@ -18,7 +19,7 @@ use std::alloc::{AllocError, Global};
 #[derive(Drop)]
 pub struct LateSearch<'a> {
     pub mirror: Mirror<'a>,
-    pub automaton: Collapsed<Reversed>,
+    pub machine: Machine<Collapsed<Reversed>>,
     /// The copies of the destination, at which the search starts.
     pub starts: Vec<u32>,
     /// The copies of the origin.
@@ -49,9 +50,10 @@ impl<'a> LateSearch<'a> {
         let targets = copies(alloc, network, &query.from)?;
         let positions = Positions::of(alloc, &query.expr)?;
         let automaton = Collapsed::new(Reversed::of(alloc, &positions)?);
+        let machine = Machine::new(alloc, automaton)?;
         Ok(LateSearch {
             mirror,
-            automaton,
+            machine,
             starts,
             targets,
             span,

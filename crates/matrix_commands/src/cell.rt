@@ -12,8 +12,7 @@ use journey::{QueryFault, large_places, push_refusal, read_query};
 use mode_network::Network;
 use plain_texts::{push_decimal, push_line_feed};
 use plan_base::Time;
-use planning::best_arrival;
-use product_search::Workspace;
+use planning::{Room, best_arrival};
 use std::alloc::{AllocError, Global};
 
 /// What a table says of an origin and a destination.
@@ -28,10 +27,10 @@ pub enum Cell {
 }
 
 /// The right cell for a query line whose expression may have so many places, by a search of its own. The search uses the
-/// workspace.
+/// room.
 pub(crate) fn cell_of(
     alloc: Global,
-    workspace: &mut Workspace,
+    room: &mut Room,
     network: &Network,
     hierarchy: Option<&Hierarchy>,
     most: Option<u32>,
@@ -48,7 +47,7 @@ pub(crate) fn cell_of(
         Err(QueryFault::OutOfMemory) => return Err(AllocError),
         Err(fault) => return Ok(Cell::Refused(fault)),
     };
-    let arrival = best_arrival(alloc, workspace, network, hierarchy, &query)?;
+    let arrival = best_arrival(alloc, room, network, hierarchy, &query)?;
     Ok(timed(query.depart, arrival))
 }
 

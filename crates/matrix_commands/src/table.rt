@@ -7,8 +7,7 @@ use crate::asking::{Asking, read_end};
 use crate::cell::{Cell, cell_of, push_row, timed};
 use journey::Query;
 use plan_base::Time;
-use planning::Destinations;
-use product_search::Workspace;
+use planning::{Destinations, Room};
 use run_steps::LineBlocks;
 use std::alloc::{AllocError, Global};
 
@@ -39,13 +38,19 @@ impl LineBlocks for Table<'_> {
 
     ghost counts = { λ _ _ count. count ≡ 0 };
 
+    type Room = Room;
+
+    fn room(&self, alloc: Global) -> Room {
+        Room::new(alloc)
+    }
+
     fn block_of(
         &self,
         alloc: Global,
-        workspace: &mut Workspace,
+        room: &mut Room,
         line: &[u8],
     ) -> Result<(Vec<u8>, u64), AllocError> {
-        let rows = self.rows_of(alloc, workspace, line)?;
+        let rows = self.rows_of(alloc, room, line)?;
         Ok((rows, 0))
     }
 
@@ -56,19 +61,14 @@ impl LineBlocks for Table<'_> {
 
 impl Table<'_> {
     /// The rows of an origin, one for each destination, in order.
-    fn rows_of(
-        &self,
-        alloc: Global,
-        workspace: &mut Workspace,
-        from: &[u8],
-    ) -> Result<Vec<u8>, AllocError>
+    fn rows_of(&self, alloc: Global, room: &mut Room, from: &[u8]) -> Result<Vec<u8>, AllocError>
         requires { IsTable self.now }
         ensures { IfOk result (λ rows. AreRowsIn self.now from.now rows.items) }
     {
-        let origin = self.origin(alloc, workspace, from)?;
+        let origin = self.origin(alloc, room, from)?;
         let mut rows = Vec::new(alloc);
         for k in 0..self.lines.len() {
-            let cell = self.cell(alloc, workspace, &origin, k)?;
+            let cell = self.cell(alloc, room, &origin, k)?;
             push_row(&mut rows, from, self.lines[k], cell)?;
         }
         Ok(rows)
@@ -78,7 +78,7 @@ impl Table<'_> {
     fn origin<'b>(
         &self,
         alloc: Global,
-        workspace: &mut Workspace,
+        room: &mut Room,
         line: &'b [u8],
     ) -> Result<Origin<'b>, AllocError>
         requires { IsTable self.now }
@@ -87,7 +87,7 @@ impl Table<'_> {
     {
         let query = read_end(alloc, self.destinations.network, self.asking, line)?;
         let times = match &query {
-            Some(query) => self.destinations.arrivals(alloc, workspace, query)?,
+            Some(query) => self.destinations.arrivals(alloc, room, query)?,
             None => Vec::new(alloc),
         };
         Ok(Origin { line, query, times })
@@ -98,7 +98,7 @@ impl Table<'_> {
     fn cell(
         &self,
         alloc: Global,
-        workspace: &mut Workspace,
+        room: &mut Room,
         origin: &Origin<'_>,
         k: usize,
     ) -> Result<Cell, AllocError>
@@ -109,7 +109,7 @@ impl Table<'_> {
     {
         match (&origin.query, &self.destinations.queries[k]) {
             (Some(query), Some(_)) => Ok(timed(query.depart, origin.times[k])),
-            _ => self.cell_apart(alloc, workspace, origin.line, self.lines[k]),
+            _ => self.cell_apart(alloc, room, origin.line, self.lines[k]),
         }
     }
 
@@ -117,7 +117,7 @@ impl Table<'_> {
     fn cell_apart(
         &self,
         alloc: Global,
-        workspace: &mut Workspace,
+        room: &mut Room,
         from: &[u8],
         to: &[u8],
     ) -> Result<Cell, AllocError>
@@ -128,7 +128,7 @@ impl Table<'_> {
         let ends = self.destinations;
         cell_of(
             alloc,
-            workspace,
+            room,
             ends.network,
             ends.hierarchy,
             self.asking.places,

@@ -3,3 +3,4 @@ pub mod PlanLemmas
 mod LimitLemmas
 pub mod ArrivalLemmas
 pub mod DestinationLemmas
+pub mod RoomLemmas

@@ -1,4 +1,5 @@
 pub mod Plans
+pub mod Rooms
 pub mod Searched
 pub mod Settled
 pub mod Limits

@@ -9,17 +9,18 @@ ghost use Rattle.planning.specs.Settled.{IsSettledBy};
 ghost use Rattle.product_search.specs.Limits.{IfEnded, IfStopped};
 
 use crate::plans::{BestPlan, find_best_within};
+use crate::room::Room;
 use hierarchy::Hierarchy;
 use journey::{BlockBody, QueryFault, block, read_query, stopped_block};
 use mode_network::Network;
-use product_search::{Limited, Workspace};
+use product_search::Limited;
 use std::alloc::{AllocError, Global};
 
 /// What the block of a query line says, and how many labels the search had, if it was over a hierarchy; unless it was
 /// stopped, as it has more than the limit.
 fn body(
     alloc: Global,
-    workspace: &mut Workspace,
+    room: &mut Room,
     network: &Network,
     hierarchy: Option<&Hierarchy>,
     line: &[u8],
@@ -40,7 +41,7 @@ fn body(
         Err(fault) => return Ok(Limited::Ended((BlockBody::Refused(fault), 0))),
     };
     let BestPlan { journey, settled } = match find_best_within(
-        alloc, workspace, network, hierarchy, &query, limit,
+        alloc, room, network, hierarchy, &query, limit,
     )? {
         Limited::Ended(best) => best,
         Limited::Stopped(most) => return Ok(Limited::Stopped(most)),
@@ -52,10 +53,10 @@ fn body(
 }
 
 /// The right block of a query line, and how many labels the search for it had, if it was over a hierarchy, which is sound
-/// for the network. The search uses the workspace.
+/// for the network. The search uses the room.
 pub fn block_of(
     alloc: Global,
-    workspace: &mut Workspace,
+    room: &mut Room,
     network: &Network,
     hierarchy: Option<&Hierarchy>,
     line: &[u8],
@@ -64,14 +65,14 @@ pub fn block_of(
     ensures block { IfOk result (λ it. IsBlock network.now line.now it.0.items) }
     ensures settled { IfOk result (λ it. IsSettledBy network.now (option_map (λ h. h.now) hierarchy.entry) line.now it.1) }
 {
-    block_within(alloc, workspace, network, hierarchy, line, None)
+    block_within(alloc, room, network, hierarchy, line, None)
 }
 
 /// The same as [`block_of`], but where the search has more labels than the limit, if there is one, it is stopped, and the
 /// block says so. A search that is stopped counts no labels.
 pub fn block_within(
     alloc: Global,
-    workspace: &mut Workspace,
+    room: &mut Room,
     network: &Network,
     hierarchy: Option<&Hierarchy>,
     line: &[u8],
@@ -81,7 +82,7 @@ pub fn block_within(
     ensures block { IfOk result (λ it. IsBlockWithin network.now (option_map (λ h. h.now) hierarchy.entry) limit line.now it.0.items) }
     ensures settled { IfOk result (λ it. IsSettledWithin network.now (option_map (λ h. h.now) hierarchy.entry) limit line.now it.1) }
 {
-    match body(alloc, workspace, network, hierarchy, line, limit)? {
+    match body(alloc, room, network, hierarchy, line, limit)? {
         Limited::Ended((body, settled)) => {
             let block = block(alloc, network, line, &body)?;
             Ok((block, settled))

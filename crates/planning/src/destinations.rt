@@ -8,13 +8,13 @@ ghost use Rattle.planning.specs.Plans.{IsRead};
 ghost use Rattle.planning.specs.Destinations.{AddsDestination, AreCopiesTo, AreDestinations, AreListed};
 ghost use Rattle.planning.specs.Destinations.{earlier, earliest, earliest_in};
 
-use automaton::{Collapsed, Positions};
+use crate::room::Room;
 use hierarchy::Hierarchy;
 use journey::{Query, copies};
 use mode_network::Network;
 use phase_graph::{GraphInUse, ends_in, starts_in};
 use plan_base::Time;
-use product_search::{TargetTable, Workspace, search_arrivals};
+use product_search::{TargetTable, search_arrivals};
 use std::alloc::{AllocError, Global};
 
 /// Where the numbers of a destination's copies stand among those of all destinations: from a place to before another.
@@ -75,11 +75,11 @@ impl<'a> Destinations<'a> {
     }
 
     /// When a best journey arrives that answers a query, but with each of these destinations in the place of its own:
-    /// None where no journey answers, and where there is no destination. It is one search, which uses the workspace.
+    /// None where no journey answers, and where there is no destination. It is one search, which uses the room.
     pub fn arrivals(
         &self,
         alloc: Global,
-        workspace: &mut Workspace,
+        room: &mut Room,
         query: &Query,
     ) -> Result<Vec<Option<Time>>, AllocError>
         requires ready { AreDestinations self.now }
@@ -87,19 +87,20 @@ impl<'a> Destinations<'a> {
         ensures { IfOk result (λ times. AreArrivalsTo self.now.network.now query.now self.now.queries.now times.items) }
     {
         self.network.known();
-        let automaton = Collapsed::new(Positions::of(alloc, &query.expr)?);
+        let expressed = room.take(alloc, query)?;
         let origins = copies(alloc, self.network, &query.from)?;
         let starts = starts_in(alloc, self.hierarchy, &origins)?;
         let (graph, table) = (&self.graph, &self.table);
         let times = search_arrivals(
             alloc,
-            workspace,
+            &mut room.workspace,
             graph,
-            &automaton,
+            &expressed.machine,
             &starts,
             table,
             query.depart,
         )?;
+        room.put(expressed);
         let list = earliest_of_each(alloc, &self.parts, &times)?;
         Ok(list)
     }

@@ -12,15 +12,15 @@ ghost use Rattle.planning.specs.Settled.{HasLabelCount, IsLabelCount, told_count
 ghost use Rattle.planning.specs.Limits.{SearchHasAtMost, SearchHasMore};
 ghost use Rattle.product_search.specs.Limits.{IfEnded, IfStopped};
 
-use automaton::{Collapsed, Positions};
+use crate::room::{Expressed, Room};
 use hierarchy::Hierarchy;
 use journey::{Query, copies};
 use mode_network::{Journey, Network};
 use phase_graph::{GraphInUse, ends_in, starts_in};
 use plan_base::Time;
 use product_search::{
-    Best, Found, FoundWithCount, Label, Limited, Walk, Workspace, search_best_with,
-    search_counted_within, search_within,
+    Best, Found, FoundWithCount, Label, Limited, Walk, search_best_with, search_counted_within,
+    search_within,
 };
 use std::alloc::{AllocError, Global};
 use unpack::from_graph;
@@ -39,20 +39,20 @@ pub struct BestPlan {
     pub settled: u64,
 }
 
-/// What a search for a query goes over: the graph in use, from the starts to the ends, and the automaton of the expression.
+/// What a search for a query goes over: the graph in use, from the starts to the ends, and an automaton for the expression.
 #[derive(Drop)]
 struct Searched<'a> {
     graph: GraphInUse<'a>,
-    automaton: Collapsed<Positions>,
+    expressed: Expressed,
     starts: Vec<u32>,
     ends: Vec<u32>,
 }
 
 /// A best journey for a query, or none exactly where no journey answers it. Over a hierarchy, which is sound for the
-/// network, it also counts the labels of the search; without one it counts none. The search uses the workspace.
+/// network, it also counts the labels of the search; without one it counts none. The search uses the room.
 pub fn find_best(
     alloc: Global,
-    workspace: &mut Workspace,
+    room: &mut Room,
     network: &Network,
     hierarchy: Option<&Hierarchy>,
     query: &Query,
@@ -62,7 +62,7 @@ pub fn find_best(
     ensures journey { IfOk result (λ best. IsPlan network.now (asked_by query.now) best.journey) }
     ensures settled { IfOk result (λ best. IsLabelCount network.now (option_map (λ h. h.now) hierarchy.entry) (asked_by query.now) best.settled) }
 {
-    let found = find_best_within(alloc, workspace, network, hierarchy, query, None)?;
+    let found = find_best_within(alloc, room, network, hierarchy, query, None)?;
     Ok(found.into_answer())
 }
 
@@ -71,7 +71,7 @@ pub fn find_best(
 #[tactic(auto, using(crate::proofs::LimitLemmas::told, crate::proofs::LimitLemmas::at_most))]
 pub fn find_best_within(
     alloc: Global,
-    workspace: &mut Workspace,
+    room: &mut Room,
     network: &Network,
     hierarchy: Option<&Hierarchy>,
     query: &Query,
@@ -86,13 +86,13 @@ pub fn find_best_within(
         × SearchHasMore network.now (option_map (λ h. h.now) hierarchy.entry) (asked_by query.now) most) }
 {
     if hierarchy.is_none() && limit.is_none() {
-        let journey = find_plain(alloc, workspace, network, query)?;
+        let journey = find_plain(alloc, room, network, query)?;
         return Ok(Limited::Ended(BestPlan {
             journey,
             settled: 0,
         }));
     }
-    match find_counted(alloc, workspace, network, hierarchy, query, limit)? {
+    match find_counted(alloc, room, network, hierarchy, query, limit)? {
         Limited::Ended(BestPlan { journey, settled }) => Ok(Limited::Ended(BestPlan {
             journey,
             settled: told_count(hierarchy, settled),
@@ -112,10 +112,10 @@ fn told_count(hierarchy: Option<&Hierarchy>, labels: u64) -> u64
 }
 
 /// When a best journey for a query arrives, or none exactly where no journey answers it. The hierarchy is sound for the
-/// network. The search uses the workspace.
+/// network. The search uses the room.
 pub fn best_arrival(
     alloc: Global,
-    workspace: &mut Workspace,
+    room: &mut Room,
     network: &Network,
     hierarchy: Option<&Hierarchy>,
     query: &Query,
@@ -125,25 +125,26 @@ pub fn best_arrival(
     ensures { IfOk result (IsBestArrival network.now (asked_by query.now)) }
 {
     network.known();
-    let searched = prepared(alloc, network, hierarchy, query)?;
+    let searched = prepared(alloc, room, network, hierarchy, query)?;
     let found = search_best_with(
         alloc,
-        workspace,
+        &mut room.workspace,
         &searched.graph,
-        &searched.automaton,
+        &searched.expressed.machine,
         &searched.starts,
         &searched.ends,
         query.depart,
         None,
     )?;
+    room.put(searched.expressed);
     let Best { arrival, walk: _ } = found;
     Ok(arrival)
 }
 
-/// A best journey for a query over the network's graph. The search uses the workspace.
+/// A best journey for a query over the network's graph. The search uses the room.
 fn find_plain(
     alloc: Global,
-    workspace: &mut Workspace,
+    room: &mut Room,
     network: &Network,
     query: &Query,
 ) -> Result<Option<Journey>, AllocError>
@@ -151,12 +152,12 @@ fn find_plain(
     ensures { IfOk result (IsPlan network.now (asked_by query.now)) }
 {
     network.known();
-    let searched = prepared(alloc, network, None, query)?;
+    let searched = prepared(alloc, room, network, None, query)?;
     let found = search_best_with(
         alloc,
-        workspace,
+        &mut room.workspace,
         &searched.graph,
-        &searched.automaton,
+        &searched.expressed.machine,
         &searched.starts,
         &searched.ends,
         query.depart,
@@ -164,14 +165,15 @@ fn find_plain(
     )?;
     let Best { arrival: _, walk } = found;
     let route = unpacked(alloc, &searched.graph, &walk)?;
+    room.put(searched.expressed);
     Ok(route)
 }
 
 /// A best journey for a query over the graph in use, and how many labels the search had. It is stopped where there are
-/// more than the limit, if there is one. The search uses the workspace.
+/// more than the limit, if there is one. The search uses the room.
 fn find_counted(
     alloc: Global,
-    workspace: &mut Workspace,
+    room: &mut Room,
     network: &Network,
     hierarchy: Option<&Hierarchy>,
     query: &Query,
@@ -186,12 +188,12 @@ fn find_counted(
         × SearchHasMore network.now (option_map (λ h. h.now) hierarchy.entry) (asked_by query.now) most) }
 {
     network.known();
-    let searched = prepared(alloc, network, hierarchy, query)?;
+    let searched = prepared(alloc, room, network, hierarchy, query)?;
     let found = search_counted_within(
         alloc,
-        workspace,
+        &mut room.workspace,
         &searched.graph,
-        &searched.automaton,
+        &searched.expressed.machine,
         &searched.starts,
         &searched.ends,
         query.depart,
@@ -204,9 +206,13 @@ fn find_counted(
         walk,
     } = match found {
         Limited::Ended(found) => found,
-        Limited::Stopped(most) => return Ok(Limited::Stopped(most)),
+        Limited::Stopped(most) => {
+            room.put(searched.expressed);
+            return Ok(Limited::Stopped(most));
+        }
     };
     let journey = unpacked(alloc, &searched.graph, &walk)?;
+    room.put(searched.expressed);
     Ok(Limited::Ended(BestPlan {
         journey,
         settled: labels,
@@ -251,11 +257,12 @@ pub fn find_plan_within(
         × SearchHasMore network.now (option_map (λ h. h.now) hierarchy.entry) (asked_by query.now) most) }
 {
     network.known();
-    let searched = prepared(alloc, network, hierarchy, query)?;
+    let mut room = Room::new(alloc);
+    let searched = prepared(alloc, &mut room, network, hierarchy, query)?;
     let found = search_within(
         alloc,
         &searched.graph,
-        &searched.automaton,
+        &searched.expressed.machine,
         &searched.starts,
         &searched.ends,
         query.depart,
@@ -278,6 +285,7 @@ pub fn find_plan_within(
 /// What a search for a query goes over.
 fn prepared<'a>(
     alloc: Global,
+    room: &mut Room,
     network: &'a Network,
     hierarchy: Option<&'a Hierarchy>,
     query: &Query,
@@ -285,12 +293,12 @@ fn prepared<'a>(
     requires sound { IfSome hierarchy (λ h. IsSound network.now h.now) }
     requires read { IsRead network.now query.now }
     ensures is { IfOk result (λ s. IsSearched network.now (option_map (λ h. h.now) hierarchy.entry) query.now
-        (meaning_in_use s.graph) (position_meaning s.automaton.inner) s.starts.items s.ends.items) }
+        (meaning_in_use s.graph) (position_meaning s.expressed.machine.labels.inner) s.starts.items s.ends.items) }
     ensures network { IfOk result (λ s. network_in s.graph ≡ network.now) }
     ensures hierarchy { IfOk result (λ s. hierarchy_in s.graph ≡ option_map (λ h. h.now) hierarchy.entry) }
 {
     network.known();
-    let automaton = Collapsed::new(Positions::of(alloc, &query.expr)?);
+    let expressed = room.take(alloc, query)?;
     let origins = copies(alloc, network, &query.from)?;
     let targets = copies(alloc, network, &query.to)?;
     let graph = GraphInUse::new(alloc, network, hierarchy, &targets)?;
@@ -298,7 +306,7 @@ fn prepared<'a>(
     let ends = ends_in(alloc, hierarchy, &targets)?;
     Ok(Searched {
         graph,
-        automaton,
+        expressed,
         starts,
         ends,
     })

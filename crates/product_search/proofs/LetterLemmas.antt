@@ -1,17 +1,21 @@
 -- Letters as bits.
-use Rattle.std.proofs.Common.{◌≡◌, ℕ, ◌+◌, ◌<◌, ◌∙◌, sym, subst, inl, inr, arith}
+use Rattle.std.proofs.Common.{◌≡◌, ℕ, ◌+◌, ◌-◌, ◌^◌, ◌<◌, ◌≤◌, ◌/◌, ◌∙◌, sym, subst, inl, inr, arith}
 use Rattle.std.specs.Prelude.{IsBitSet}
 use Rattle.std.specs.Int.{bit_at}
 use Rattle.std.specs.Int.Bits.{bit_or}
+use lib.Count.{count_leading_zeros}
+use Rattle.std.proofs.Math.Pow.{pow_mono}
+use Rattle.std.proofs.Math.Nat.{div-eq_of_lt}
 use Rattle.std.proofs.lemmas.Bool.{cases_lt}
-use Rattle.std.proofs.lemmas.Nat.{bit_set_by_shift}
+use Rattle.std.proofs.lemmas.Nat.{bit_set_by_shift, leading_length}
 use Rattle.std.proofs.lemmas.Nat.Bits.{bit_at_or, shr_and_one}
 use Rattle.search_laws.specs.LabelLaws.{LabelsMeaning}
+use Rattle.product_search.specs.MoveTables.{HasLettersBelow, HasLeavingBelow}
 
-bit_from_set : (n k : ℕ) → IsBitSet n k → bit_at n k ≡ 1
+pub bit_from_set : (n k : ℕ) → IsBitSet n k → bit_at n k ≡ 1
 bit_from_set n k set = sym (shr_and_one n k) ∙ (bit_set_by_shift n k).1 set
 
-set_from_bit : (n k : ℕ) → bit_at n k ≡ 1 → IsBitSet n k
+pub set_from_bit : (n k : ℕ) → bit_at n k ≡ 1 → IsBitSet n k
 set_from_bit n k e = (bit_set_by_shift n k).0 (shr_and_one n k ∙ e)
 
 or_first : (a b k : ℕ) → IsBitSet a k → IsBitSet (bit_or a b) k
@@ -20,10 +24,6 @@ or_first a b k set = set_from_bit (bit_or a b) k (omega (arith, bit_at_or a b k,
 or_second : (a b k : ℕ) → IsBitSet b k → IsBitSet (bit_or a b) k
 or_second a b k set = set_from_bit (bit_or a b) k (omega (arith, bit_at_or a b k, bit_from_set b k set))
 
--- the letters of the first n moves of q are among these
-abbrev pub HasLettersBelow : LabelsMeaning → ℕ → ℕ → ℕ → Type 0
-HasLettersBelow l q n letters = (j c : ℕ) → j < n → IsBitSet (l.move_at q j).letters c → IsBitSet letters c
-
 -- one move more
 pub letters_more : (l : LabelsMeaning) (q n letters : ℕ) → HasLettersBelow l q n letters → HasLettersBelow l q (n + 1) (bit_or letters (l.move_at q n).letters)
 letters_more l q n letters has j c lt set = elim (cases_lt j n) [
@@ -31,19 +31,36 @@ letters_more l q n letters has j c lt set = elim (cases_lt j n) [
   | inr ge ↦ (let e : j ≡ n = omega arith in or_second letters (l.move_at q n).letters c (subst (λ k. IsBitSet (l.move_at q k).letters c) e set))
 ]
 
--- the letters of those of the first n moves of q that lead to another state are among these
-abbrev pub HasLeavingBelow : LabelsMeaning → ℕ → ℕ → ℕ → Type 0
-HasLeavingBelow l q n letters = (j c : ℕ) → j < n → IsBitSet (l.move_at q j).letters c → ((l.move_at q j).to ≡ q → ⊥) → IsBitSet letters c
-
--- one move more that leads to another state, and one that does not
-pub leaving_more : (l : LabelsMeaning) (q n letters : ℕ) → HasLeavingBelow l q n letters → HasLeavingBelow l q (n + 1) (bit_or letters (l.move_at q n).letters)
-leaving_more l q n letters has j c lt set leaves = elim (cases_lt j n) [
-  | inl below ↦ or_first letters (l.move_at q n).letters c (has j c below set leaves)
-  | inr ge ↦ (let e : j ≡ n = omega arith in or_second letters (l.move_at q n).letters c (subst (λ k. IsBitSet (l.move_at q k).letters c) e set))
+-- one move more, of which the letters are taken if it leads to another state
+pub leaving_more : (l : LabelsMeaning) (q n letters more : ℕ) → HasLeavingBelow l q n letters → (((l.move_at q n).to ≡ q → ⊥) → more ≡ (l.move_at q n).letters)
+    → HasLeavingBelow l q (n + 1) (bit_or letters more)
+leaving_more l q n letters more has taken j c lt set leaves = elim (cases_lt j n) [
+  | inl below ↦ or_first letters more c (has j c below set leaves)
+  | inr ge ↦ (let e : j ≡ n = omega arith in
+      let same : more ≡ (l.move_at q n).letters = taken (λ stays. leaves (subst (λ k. (l.move_at q k).to ≡ q) (sym e) stays)) in
+      or_second letters more c (subst (λ x. IsBitSet x c) (sym same) (subst (λ k. IsBitSet (l.move_at q k).letters c) e set)))
 ]
 
-pub leaving_same : (l : LabelsMeaning) (q n letters : ℕ) → HasLeavingBelow l q n letters → (l.move_at q n).to ≡ q → HasLeavingBelow l q (n + 1) letters
-leaving_same l q n letters has stays j c lt set leaves = elim (cases_lt j n) [
-  | inl below ↦ has j c below set leaves
-  | inr ge ↦ (let e : j ≡ n = omega arith in absurd (leaves (subst (λ k. (l.move_at q k).to ≡ q) (sym e) stays)))
+-- no letter from m on is in a set below 2 ^ m
+pub letter_below : (letters m c : ℕ) → letters < 2 ^ m → IsBitSet letters c → c < m
+letter_below letters m c small set = elim (cases_lt c m) [
+  | inl below ↦ below
+  | inr ge ↦ (let one = bit_from_set letters c set in
+      let none : letters / 2 ^ c ≡ 0 = div-eq_of_lt {n = letters} {m = 2 ^ c} (omega (arith, pow_mono {i = m} {j = c} ge)) in
+      absurd (omega (arith, one, none)))
 ]
+
+-- where a set of the fourteen letters ends
+pub few_letters : (letters : ℕ) → letters < 2 ^ 14 → 32 - count_leading_zeros 32 letters ≤ 14
+few_letters letters small =
+    let it = leading_length 32 letters (omega arith) in
+    elim (cases_lt it.0 15) [
+      | inl below ↦ omega (arith, it.1)
+      | inr ge ↦ absurd (omega (arith, pow_mono {i = 15} {j = it.0} ge, it.3))
+    ]
+
+pub letters_below : (letters c : ℕ) → letters < 2 ^ 14 → IsBitSet letters c → c < 32 - count_leading_zeros 32 letters
+letters_below letters c small set =
+    let it = leading_length 32 letters (omega arith) in
+    let below = letter_below letters it.0 c it.2 set in
+    omega (arith, it.1)

@@ -7,7 +7,7 @@ ghost use Rattle.product_search.specs.Waiting.{IsQueueRight};
 
 use crate::explore::explore;
 use crate::frontier::Frontier;
-use crate::moves::MoveTable;
+use crate::machine::Machine;
 use crate::start::offer_starts;
 use crate::targets::{Noted, TargetTable};
 use crate::workspace::Workspace;
@@ -22,18 +22,18 @@ pub fn search_arrivals<G: Graph, L: Labels>(
     alloc: Global,
     workspace: &mut Workspace,
     graph: &G,
-    labels: &L,
+    machine: &Machine<L>,
     starts: &[u32],
     targets: &TargetTable,
     dep: Time,
 ) -> Result<Vec<Option<Time>>, AllocError>
     requires starts { All (λ v. v < (G.meaning graph.now).nodes) starts.now }
     requires dep { dep < 2 ^ 64 }
-    ensures { IfOk result (λ times. AreArrivals (G.meaning graph.now) (L.automaton labels.now) starts.now
+    ensures { IfOk result (λ times. AreArrivals (G.meaning graph.now) (L.automaton machine.now.labels) starts.now
         targets.now.nodes.items dep times.items) }
 {
     let kept = workspace.take(alloc);
-    let arrived = settle_targets(alloc, kept, graph, labels, starts, targets, dep)?;
+    let arrived = settle_targets(alloc, kept, graph, machine, starts, targets, dep)?;
     let Arrived { frontier, noted } = arrived;
     workspace.put(frontier);
     let list = listed(alloc, targets, &noted)?;
@@ -52,7 +52,7 @@ fn settle_targets<G: Graph, L: Labels>(
     alloc: Global,
     workspace: Workspace,
     graph: &G,
-    labels: &L,
+    machine: &Machine<L>,
     starts: &[u32],
     targets: &TargetTable,
     dep: Time,
@@ -60,17 +60,16 @@ fn settle_targets<G: Graph, L: Labels>(
     requires starts { All (λ v. v < (G.meaning graph.now).nodes) starts.now }
     requires dep { dep < 2 ^ 64 }
     ensures right { IfOk result (λ a. IsQueueRight a.frontier) }
-    ensures times { IfOk result (λ a. AreAllTimes (G.meaning graph.now) (L.automaton labels.now) starts.now dep
+    ensures times { IfOk result (λ a. AreAllTimes (G.meaning graph.now) (L.automaton machine.now.labels) starts.now dep
         targets.now.places.items a.noted.times.items) }
 {
     let mut noted = Noted::none(alloc, targets)?;
-    let mut frontier = Frontier::new(alloc, workspace, labels.states());
-    offer_starts(&mut frontier, labels, starts, dep)?;
-    let moves = MoveTable::new(alloc, labels)?;
+    let mut frontier = Frontier::new(alloc, workspace, machine.labels.states());
+    offer_starts(&mut frontier, &machine.labels, starts, dep)?;
     let mut given = GivenRuns::new(alloc);
     let mut ways = Vec::new(alloc);
     while let Some(settled) = frontier.settle_least() {
-        if noted.note_end(labels, targets, settled) {
+        if noted.note_end(&machine.labels, targets, settled) {
             return Ok(Arrived { frontier, noted });
         }
         explore(
@@ -78,8 +77,7 @@ fn settle_targets<G: Graph, L: Labels>(
             &mut given,
             &mut ways,
             graph,
-            labels,
-            &moves,
+            machine,
             None,
             settled,
         )?;

@@ -6,10 +6,9 @@ ghost use Rattle.search_laws.specs.LabelLaws.{AllAfter, Follows};
 ghost use Rattle.product_search.specs.Reach.{IsWithin};
 ghost use Rattle.product_search.specs.Waiting.{IsQueueRight};
 ghost use Rattle.product_search.specs.Exploring.{IsReachedBy, IsSettledBy, Offers, LeadsTo, IsByWay, IsByWays, WayIsReached, IsSuccessor, ArcIsReached, LegIsReached, AreGivenReached, IsGiven, way_by};
-ghost use Rattle.product_search.specs.MoveTables.{IsTableOf};
 
 use crate::frontier::{Frontier, Reached, Settled};
-use crate::moves::MoveTable;
+use crate::machine::Machine;
 use search_laws::{GivenRuns, Graph, GraphArc, Labels, Steady, Time, Way};
 use std::alloc::AllocError;
 
@@ -23,34 +22,32 @@ pub(crate) fn explore<G: Graph, L: Labels>(
     given: &mut GivenRuns,
     ways: &mut Vec<Way>,
     graph: &G,
-    labels: &L,
-    moves: &MoveTable,
+    machine: &Machine<L>,
     bound: Option<Time>,
     from: Settled,
 ) -> Result<(), AllocError>
-    requires table { IsTableOf (L.automaton labels.now) moves.now }
     requires node { from.node < (G.meaning graph.now).nodes }
-    requires state { from.state < (L.automaton labels.now).states }
+    requires state { from.state < (L.automaton machine.now.labels).states }
     requires time { from.at < 2 ^ 127 }
     requires right { IsQueueRight frontier.old }
     requires settled { IsSettledBy frontier.old from.at }
     requires here { IsReachedBy frontier.old from.node from.state from.at }
-    requires given { AreGivenReached (G.rides graph.now) (L.automaton labels.now) bound frontier.old given.old }
+    requires given { AreGivenReached (G.rides graph.now) (L.automaton machine.now.labels) bound frontier.old given.old }
     ensures right { OnOk result (IsQueueRight frontier.new) }
     ensures offers { OnOk result (Offers frontier.old frontier.new
-        (IsSuccessor (G.meaning graph.now) (L.automaton labels.now) bound from)) }
+        (IsSuccessor (G.meaning graph.now) (L.automaton machine.now.labels) bound from)) }
     ensures reached { OnOk result ((i : ℕ) → i < (G.meaning graph.now).arcs from.node
-        → ArcIsReached (G.meaning graph.now) (L.automaton labels.now) bound frontier.new from.node from.state from.at i) }
-    ensures given { OnOk result (AreGivenReached (G.rides graph.now) (L.automaton labels.now) bound frontier.new given.new) }
+        → ArcIsReached (G.meaning graph.now) (L.automaton machine.now.labels) bound frontier.new from.node from.state from.at i) }
+    ensures given { OnOk result (AreGivenReached (G.rides graph.now) (L.automaton machine.now.labels) bound frontier.new given.new) }
 {
     let steady = graph.steady(from.node);
-    explore_steady(frontier, graph, labels, moves, bound, from, steady)?;
+    explore_steady(frontier, graph, machine, bound, from, steady)?;
     ways.clear();
     let state = from.state;
-    let letters = moves.letters_of(state);
-    let leaving = moves.leaving(state);
+    let letters = machine.letters_of(state);
+    let leaving = machine.leaving(state);
     graph.fresh_ways(from.node, from.at, letters, leaving, state, given, ways)?;
-    explore_ways(frontier, labels, moves, bound, from, ways)?;
+    explore_ways(frontier, machine, bound, from, ways)?;
     Ok(())
 }
 
@@ -59,15 +56,13 @@ pub(crate) fn explore<G: Graph, L: Labels>(
 fn explore_steady<G: Graph, L: Labels>(
     frontier: &mut Frontier,
     graph: &G,
-    labels: &L,
-    moves: &MoveTable,
+    machine: &Machine<L>,
     bound: Option<Time>,
     from: Settled,
     steady: Steady,
 ) -> Result<(), AllocError>
-    requires table { IsTableOf (L.automaton labels.now) moves.now }
     requires node { from.node < (G.meaning graph.now).nodes }
-    requires state { from.state < (L.automaton labels.now).states }
+    requires state { from.state < (L.automaton machine.now.labels).states }
     requires time { from.at < 2 ^ 127 }
     requires steady { steady ≡ G.steady_of graph.now from.node }
     requires within { steady.count ≤ (G.meaning graph.now).arcs from.node }
@@ -76,20 +71,36 @@ fn explore_steady<G: Graph, L: Labels>(
     requires settled { IsSettledBy frontier.old from.at }
     ensures right { OnOk result (IsQueueRight frontier.new) }
     ensures offers { OnOk result (Offers frontier.old frontier.new
-        (IsSuccessor (G.meaning graph.now) (L.automaton labels.now) bound from)) }
+        (IsSuccessor (G.meaning graph.now) (L.automaton machine.now.labels) bound from)) }
     ensures reached { OnOk result ((i : ℕ) → i < steady.count
-        → ArcIsReached (G.meaning graph.now) (L.automaton labels.now) bound frontier.new from.node from.state from.at i) }
+        → ArcIsReached (G.meaning graph.now) (L.automaton machine.now.labels) bound frontier.new from.node from.state from.at i) }
 {
     if steady.count == 0 {
         return Ok(());
     }
     match steady.letter {
         None => {
-            offer_legs(frontier, graph, labels, bound, from, from.state, steady)?;
+            offer_legs(
+                frontier,
+                graph,
+                &machine.labels,
+                bound,
+                from,
+                from.state,
+                steady,
+            )?;
         }
         Some(letter) => {
-            let targets = moves.targets_of(from.state, letter);
-            offer_to_states(frontier, graph, labels, bound, from, targets, steady)?;
+            let targets = machine.targets_of(from.state, letter);
+            offer_to_states(
+                frontier,
+                graph,
+                &machine.labels,
+                bound,
+                from,
+                targets,
+                steady,
+            )?;
         }
     }
     Ok(())
@@ -193,24 +204,22 @@ fn offer_leg<G: Graph, L: Labels>(
 /// Offers what each of some arcs leads to within the bound.
 fn explore_ways<L: Labels>(
     frontier: &mut Frontier,
-    labels: &L,
-    moves: &MoveTable,
+    machine: &Machine<L>,
     bound: Option<Time>,
     from: Settled,
     ways: &[Way],
 ) -> Result<(), AllocError>
-    requires table { IsTableOf (L.automaton labels.now) moves.now }
-    requires state { from.state < (L.automaton labels.now).states }
+    requires state { from.state < (L.automaton machine.now.labels).states }
     requires letters { All (λ way. IfSome way.arc.letter IsLetter) ways.now }
     requires times { All (λ way. from.at ≤ way.at) ways.now }
     requires right { IsQueueRight frontier.old }
     requires settled { IsSettledBy frontier.old from.at }
     ensures right { OnOk result (IsQueueRight frontier.new) }
-    ensures offers { OnOk result (Offers frontier.old frontier.new (IsByWays (L.automaton labels.now) bound from ways.now)) }
-    ensures reached { OnOk result (All (WayIsReached (L.automaton labels.now) bound frontier.new from.state) ways.now) }
+    ensures offers { OnOk result (Offers frontier.old frontier.new (IsByWays (L.automaton machine.now.labels) bound from ways.now)) }
+    ensures reached { OnOk result (All (WayIsReached (L.automaton machine.now.labels) bound frontier.new from.state) ways.now) }
 {
     for way in ways {
-        explore_way(frontier, labels, moves, bound, from, *way)?;
+        explore_way(frontier, machine, bound, from, *way)?;
     }
     Ok(())
 }
@@ -219,25 +228,23 @@ fn explore_ways<L: Labels>(
 #[inline(always)]
 fn explore_way<L: Labels>(
     frontier: &mut Frontier,
-    labels: &L,
-    moves: &MoveTable,
+    machine: &Machine<L>,
     bound: Option<Time>,
     from: Settled,
     way: Way,
 ) -> Result<(), AllocError>
-    requires table { IsTableOf (L.automaton labels.now) moves.now }
-    requires state { from.state < (L.automaton labels.now).states }
+    requires state { from.state < (L.automaton machine.now.labels).states }
     requires letter { IfSome way.arc.letter IsLetter }
     requires time { from.at ≤ way.at }
     requires right { IsQueueRight frontier.old }
     requires settled { IsSettledBy frontier.old from.at }
     ensures right { OnOk result (IsQueueRight frontier.new) }
-    ensures offers { OnOk result (Offers frontier.old frontier.new (IsByWay (L.automaton labels.now) bound from way)) }
-    ensures reached { OnOk result (WayIsReached (L.automaton labels.now) bound frontier.new from.state way) }
+    ensures offers { OnOk result (Offers frontier.old frontier.new (IsByWay (L.automaton machine.now.labels) bound from way)) }
+    ensures reached { OnOk result (WayIsReached (L.automaton machine.now.labels) bound frontier.new from.state way) }
 {
     if is_within(bound, way.at) {
         let reached = way_by(from, way.place, way.at);
-        offer_states(frontier, labels, moves, way.arc, from.state, reached)?;
+        offer_states(frontier, machine, way.arc, from.state, reached)?;
     }
     Ok(())
 }
@@ -269,22 +276,20 @@ pub(crate) fn is_within(bound: Option<Time>, at: Time) -> bool
 #[inline(always)]
 fn offer_states<L: Labels>(
     frontier: &mut Frontier,
-    labels: &L,
-    moves: &MoveTable,
+    machine: &Machine<L>,
     arc: GraphArc,
     state: u32,
     way: Reached,
 ) -> Result<(), AllocError>
-    requires table { IsTableOf (L.automaton labels.now) moves.now }
-    requires state { state < (L.automaton labels.now).states }
+    requires state { state < (L.automaton machine.now.labels).states }
     requires letter { IfSome arc.letter IsLetter }
     requires waits { way.settled ≡ false }
     requires right { IsQueueRight frontier.old }
     requires settled { IsSettledBy frontier.old way.at }
     ensures right { OnOk result (IsQueueRight frontier.new) }
     ensures offers { OnOk result (Offers frontier.old frontier.new
-        (LeadsTo (L.automaton labels.now) arc.to state arc.letter way)) }
-    ensures reached { OnOk result (AllAfter (L.automaton labels.now) state arc.letter
+        (LeadsTo (L.automaton machine.now.labels) arc.to state arc.letter way)) }
+    ensures reached { OnOk result (AllAfter (L.automaton machine.now.labels) state arc.letter
         (λ r. IsReachedBy frontier.new arc.to r way.at)) }
 {
     match arc.letter {
@@ -292,7 +297,7 @@ fn offer_states<L: Labels>(
             frontier.offer(arc.to, state, way)?;
         }
         Some(letter) => {
-            offer_moves(frontier, labels, moves, arc.to, state, letter, way)?;
+            offer_moves(frontier, machine, arc.to, state, letter, way)?;
         }
     }
     Ok(())
@@ -302,26 +307,24 @@ fn offer_states<L: Labels>(
 #[inline(always)]
 fn offer_moves<L: Labels>(
     frontier: &mut Frontier,
-    labels: &L,
-    moves: &MoveTable,
+    machine: &Machine<L>,
     to: u32,
     state: u32,
     letter: u8,
     way: Reached,
 ) -> Result<(), AllocError>
-    requires table { IsTableOf (L.automaton labels.now) moves.now }
-    requires state { state < (L.automaton labels.now).states }
+    requires state { state < (L.automaton machine.now.labels).states }
     requires letter { IsLetter letter }
     requires waits { way.settled ≡ false }
     requires right { IsQueueRight frontier.old }
     requires settled { IsSettledBy frontier.old way.at }
     ensures right { OnOk result (IsQueueRight frontier.new) }
     ensures offers { OnOk result (Offers frontier.old frontier.new
-        (LeadsTo (L.automaton labels.now) to state (Some letter) way)) }
-    ensures reached { OnOk result (AllAfter (L.automaton labels.now) state (Some letter)
+        (LeadsTo (L.automaton machine.now.labels) to state (Some letter) way)) }
+    ensures reached { OnOk result (AllAfter (L.automaton machine.now.labels) state (Some letter)
         (λ r. IsReachedBy frontier.new to r way.at)) }
 {
-    let targets = moves.targets_of(state, letter);
+    let targets = machine.targets_of(state, letter);
     for next in targets {
         offer_next(frontier, to, *next, way)?;
     }

@@ -14,6 +14,7 @@ mod label;
 mod limit;
 mod listing;
 mod lookup;
+mod machine;
 mod moves;
 mod order_check;
 mod queue;
@@ -31,6 +32,7 @@ pub use arrivals::search_arrivals;
 pub use checking::check_labels;
 pub use label::{Best, Found, FoundWithCount, Hop, Label, Walk};
 pub use limit::{Limited, stops_are_due};
+pub use machine::Machine;
 pub use searching::{
     search, search_best_with, search_counted_with, search_counted_within, search_within,
 };

@@ -1,10 +1,11 @@
-//! The moves of an automaton as a search looks them up.
+//! The moves of the states of an automaton, by their letters.
 
-ghost use Rattle.std.specs.Prelude.{◌≡◌, [], ◌+◌, ◌*◌, ◌<◌, length, IfOk, slice_index, slice_index_or};
-ghost use Rattle.search_laws.specs.Letters.{IsLetter};
-ghost use Rattle.product_search.specs.MoveTables.{IsTableOf, AreTargets, HasLetters, AreTargetLists, AreLetterSets, HasLeaving, AreLeavingSets};
+ghost use Rattle.std.specs.Prelude.{◌≡◌, [], ◌+◌, ◌<◌, ◌≤◌, ◌++◌, ◌∷◌, ℕ, length, IfOk, OnOk, IsBitSet};
+ghost use Rattle.search_laws.specs.Letters.{IsLetterSet};
+ghost use Rattle.search_laws.specs.LabelLaws.{LabelsMeaning};
+ghost use Rattle.product_search.specs.MoveTables.{AreMoves, AreMovesBelow, AreTargetsWith, HasLetters, IsTableOf};
 
-use search_laws::{LETTERS, Labels};
+use search_laws::{LETTERS, Labels, Move};
 use std::alloc::{AllocError, Global};
 use std::marker::Model;
 
@@ -23,69 +24,124 @@ impl Model for Targets {
 }
 
 impl Targets {
-    fn as_slice(&self) -> &[u32]
+    fn none(alloc: Global) -> Targets
+        ensures { result ≡ [] }
+    {
+        Targets {
+            states: Vec::new(alloc),
+        }
+    }
+
+    fn push(&mut self, state: u32) -> Result<(), AllocError>
+        ensures { OnOk result (self.new ≡ self.old ++ state ∷ []) }
+    {
+        self.states.push(state)?;
+        Ok(())
+    }
+
+    pub fn as_slice(&self) -> &[u32]
         ensures { result.now ≡ self.now }
     {
         &self.states
     }
 }
 
-/// The moves that leave each state, by their letters.
+/// The moves that leave a state, by their letters.
 #[derive(Drop)]
-pub(crate) struct MoveTable {
-    /// For each state the letters of its moves, as bits.
-    pub letters: Vec<u32>,
-    /// For each state the letters of its moves that lead to another one, as bits.
-    pub leaving: Vec<u32>,
-    /// For each state and then each letter, where its moves lead to.
+pub(crate) struct StateMoves {
+    /// The letters of its moves, as bits.
+    pub letters: u32,
+    /// The letters of its moves that lead to another state, as bits.
+    pub leaving: u32,
+    /// For each letter, where its moves lead to.
     pub targets: Vec<Targets>,
 }
 
-impl MoveTable {
-    pub fn new<L: Labels>(alloc: Global, labels: &L) -> Result<MoveTable, AllocError>
-        ensures { IfOk result (IsTableOf (L.automaton labels.now)) }
+impl StateMoves {
+    /// None yet, with room for each letter.
+    fn none(alloc: Global) -> Result<StateMoves, AllocError>
+        ensures { IfOk result (λ none. (l : LabelsMeaning) (q : ℕ) → AreMovesBelow l q 0 none) }
     {
-        Ok(MoveTable {
-            letters: letter_sets(alloc, labels)?,
-            leaving: leaving_sets(alloc, labels)?,
-            targets: target_lists(alloc, labels)?,
+        let mut targets = Vec::with_capacity(alloc, LETTERS as usize)?;
+        for letter in 0..LETTERS {
+            targets.push(Targets::none(alloc))?;
+        }
+        Ok(StateMoves {
+            letters: 0,
+            leaving: 0,
+            targets,
         })
     }
 
-    /// The letters of the moves that leave a state, as bits.
-    pub fn letters_of(&self, state: u32) -> u32
-        requires { state < length self.now.letters.items }
-        ensures { result ≡ slice_index self.now.letters.items state }
+    /// Adds the move at a place of a state to those before it.
+    fn add<L: Labels>(&mut self, labels: &L, state: u32, place: u32) -> Result<(), AllocError>
+        requires state { state < (L.automaton labels.now).states }
+        requires place { place < (L.automaton labels.now).moves state }
+        requires before { AreMovesBelow (L.automaton labels.now) state place self.old }
+        ensures { OnOk result (AreMovesBelow (L.automaton labels.now) state (place + 1) self.new) }
     {
-        self.letters[state as usize]
-    }
-
-    /// The letters of the moves that lead from a state to another one, as bits.
-    pub fn leaving(&self, state: u32) -> u32
-        requires { state < length self.now.leaving.items }
-        ensures { result ≡ slice_index self.now.leaving.items state }
-    {
-        self.leaving[state as usize]
-    }
-
-    /// The states that the moves by a letter lead to from a state.
-    pub fn targets_of(&self, state: u32, letter: u8) -> &[u32]
-        requires { 14 * state + letter < length self.now.targets.items }
-        ensures { result.now ≡ slice_index_or self.now.targets.items (14 * state + letter) [] }
-    {
-        self.targets[LETTERS as usize * state as usize + letter as usize].as_slice()
+        let step = labels.move_at(state, place);
+        self.letters |= step.letters;
+        self.leaving |= letters_leaving(step, state);
+        add_target(&mut self.targets, step)?;
+        Ok(())
     }
 }
 
-/// The letters of the moves of each state.
-fn letter_sets<L: Labels>(alloc: Global, labels: &L) -> Result<Vec<u32>, AllocError>
-    ensures { IfOk result (λ sets. AreLetterSets (L.automaton labels.now) sets.items) }
+/// The letters of a move, if it leads from the state to another one.
+fn letters_leaving(step: Move, state: u32) -> u32
+    ensures { (step.to ≡ state → ⊥) → result ≡ step.letters }
 {
-    let mut sets = Vec::new(alloc);
-    for state in 0..labels.states() {
-        sets.push(letters_after(labels, state))?;
+    if step.to == state { 0 } else { step.letters }
+}
+
+/// Adds where a move leads to to the list of each of its letters.
+fn add_target(targets: &mut Vec<Targets>, step: Move) -> Result<(), AllocError>
+    requires letters { IsLetterSet step.letters }
+    requires one_each { length targets.old.items ≡ 14 }
+    ensures { OnOk result (AreTargetsWith step 14 targets.old.items targets.new.items) }
+{
+    for letter in 0..letters_end(step.letters) {
+        if step.has_letter(letter as u8) {
+            targets[letter as usize].push(step.to)?;
+        }
     }
-    Ok(sets)
+    Ok(())
+}
+
+/// The letter behind the last one of a set.
+fn letters_end(letters: u32) -> u32
+    requires { IsLetterSet letters }
+    ensures few { result ≤ 14 }
+    ensures end { (c : ℕ) → IsBitSet letters c → c < result }
+{
+    u32::BITS - letters.leading_zeros()
+}
+
+/// The moves that leave a state.
+fn moves_of<L: Labels>(alloc: Global, labels: &L, state: u32) -> Result<StateMoves, AllocError>
+    requires { state < (L.automaton labels.now).states }
+    ensures { IfOk result (AreMoves (L.automaton labels.now) state) }
+{
+    let mut moves = StateMoves::none(alloc)?;
+    for place in 0..labels.moves(state) {
+        moves.add(labels, state, place)?;
+    }
+    Ok(moves)
+}
+
+/// The moves that leave each state.
+pub(crate) fn move_table<L: Labels>(
+    alloc: Global,
+    labels: &L,
+) -> Result<Vec<StateMoves>, AllocError>
+    ensures { IfOk result (λ table. IsTableOf (L.automaton labels.now) table.items) }
+{
+    let mut table = Vec::with_capacity(alloc, labels.states() as usize)?;
+    for state in 0..labels.states() {
+        table.push(moves_of(alloc, labels, state)?)?;
+    }
+    Ok(table)
 }
 
 /// The letters by which moves leave a state, as bits.
@@ -98,62 +154,4 @@ pub(crate) fn letters_after<L: Labels>(labels: &L, state: u32) -> u32
         letters |= labels.move_at(state, j).letters;
     }
     letters
-}
-
-/// The letters of the moves that lead from each state to another one.
-fn leaving_sets<L: Labels>(alloc: Global, labels: &L) -> Result<Vec<u32>, AllocError>
-    ensures { IfOk result (λ sets. AreLeavingSets (L.automaton labels.now) sets.items) }
-{
-    let mut sets = Vec::new(alloc);
-    for state in 0..labels.states() {
-        sets.push(letters_leaving(labels, state))?;
-    }
-    Ok(sets)
-}
-
-/// The letters of the moves that lead from a state to another one, as bits.
-fn letters_leaving<L: Labels>(labels: &L, state: u32) -> u32
-    requires { state < (L.automaton labels.now).states }
-    ensures { HasLeaving (L.automaton labels.now) state result }
-{
-    let mut letters = 0;
-    for j in 0..labels.moves(state) {
-        let step = labels.move_at(state, j);
-        if step.to != state {
-            letters |= step.letters;
-        }
-    }
-    letters
-}
-
-/// For each state and then each letter, the states that moves lead to.
-fn target_lists<L: Labels>(alloc: Global, labels: &L) -> Result<Vec<Targets>, AllocError>
-    ensures { IfOk result (λ lists. AreTargetLists (L.automaton labels.now) lists.items) }
-{
-    let mut lists = Vec::new(alloc);
-    for k in 0..LETTERS * labels.states() {
-        lists.push(targets_by(alloc, labels, k / LETTERS, (k % LETTERS) as u8)?)?;
-    }
-    Ok(lists)
-}
-
-/// The states that moves by a letter lead to from a state.
-fn targets_by<L: Labels>(
-    alloc: Global,
-    labels: &L,
-    state: u32,
-    letter: u8,
-) -> Result<Targets, AllocError>
-    requires state { state < (L.automaton labels.now).states }
-    requires letter { IsLetter letter }
-    ensures { IfOk result (AreTargets (L.automaton labels.now) state letter) }
-{
-    let mut states = Vec::new(alloc);
-    for j in 0..labels.moves(state) {
-        let step = labels.move_at(state, j);
-        if step.has_letter(letter) {
-            states.push(step.to)?;
-        }
-    }
-    Ok(Targets { states })
 }

@@ -12,6 +12,7 @@ use crate::frontier::Frontier;
 use crate::label::{Best, Found, FoundWithCount};
 use crate::limit::{Limited, passed};
 use crate::listing::{count_labels, list_labels};
+use crate::machine::Machine;
 use crate::retrace::walk_to;
 use crate::settling::{Explored, arrival_of, settle_all};
 use crate::workspace::Workspace;
@@ -31,7 +32,7 @@ use std::alloc::{AllocError, Global};
 pub fn search<G: Graph, L: Labels>(
     alloc: Global,
     graph: &G,
-    labels: &L,
+    machine: &Machine<L>,
     starts: &[u32],
     targets: &[u32],
     dep: Time,
@@ -41,17 +42,17 @@ pub fn search<G: Graph, L: Labels>(
     requires targets { All (λ v. v < (G.meaning graph.now).nodes) targets.now }
     requires dep { dep < 2 ^ 64 }
     requires bound { IsWithin bound dep }
-    ensures arrival { IfOk result (λ f. IsArrival (G.meaning graph.now) (L.automaton labels.now) starts.now targets.now dep
+    ensures arrival { IfOk result (λ f. IsArrival (G.meaning graph.now) (L.automaton machine.now.labels) starts.now targets.now dep
         bound f.arrival) }
-    ensures walk { IfOk result (λ f. IsWalkFor (G.meaning graph.now) (L.automaton labels.now) starts.now targets.now dep
+    ensures walk { IfOk result (λ f. IsWalkFor (G.meaning graph.now) (L.automaton machine.now.labels) starts.now targets.now dep
         f.arrival f.walk) }
-    ensures labels { IfOk result (λ f. AreLeastLabels (G.meaning graph.now) (L.automaton labels.now) starts.now dep
+    ensures labels { IfOk result (λ f. AreLeastLabels (G.meaning graph.now) (L.automaton machine.now.labels) starts.now dep
         bound f.arrival f.labels.items) }
-    ensures closed { bound ≡ None → IfOk result (λ f. IsClosed (G.meaning graph.now) (L.automaton labels.now) starts.now targets.now dep
+    ensures closed { bound ≡ None → IfOk result (λ f. IsClosed (G.meaning graph.now) (L.automaton machine.now.labels) starts.now targets.now dep
         f.arrival f.labels.items) }
     ensures times { IfOk result (IsInTime dep) }
 {
-    let found = search_within(alloc, graph, labels, starts, targets, dep, bound, None)?;
+    let found = search_within(alloc, graph, machine, starts, targets, dep, bound, None)?;
     Ok(found.into_answer())
 }
 
@@ -60,7 +61,7 @@ pub fn search<G: Graph, L: Labels>(
 pub fn search_within<G: Graph, L: Labels>(
     alloc: Global,
     graph: &G,
-    labels: &L,
+    machine: &Machine<L>,
     starts: &[u32],
     targets: &[u32],
     dep: Time,
@@ -71,22 +72,22 @@ pub fn search_within<G: Graph, L: Labels>(
     requires targets { All (λ v. v < (G.meaning graph.now).nodes) targets.now }
     requires dep { dep < 2 ^ 64 }
     requires bound { IsWithin bound dep }
-    ensures arrival { IfEnded result (λ f. IsArrival (G.meaning graph.now) (L.automaton labels.now) starts.now targets.now dep
+    ensures arrival { IfEnded result (λ f. IsArrival (G.meaning graph.now) (L.automaton machine.now.labels) starts.now targets.now dep
         bound f.arrival) }
-    ensures walk { IfEnded result (λ f. IsWalkFor (G.meaning graph.now) (L.automaton labels.now) starts.now targets.now dep
+    ensures walk { IfEnded result (λ f. IsWalkFor (G.meaning graph.now) (L.automaton machine.now.labels) starts.now targets.now dep
         f.arrival f.walk) }
-    ensures labels { IfEnded result (λ f. AreLeastLabels (G.meaning graph.now) (L.automaton labels.now) starts.now dep
+    ensures labels { IfEnded result (λ f. AreLeastLabels (G.meaning graph.now) (L.automaton machine.now.labels) starts.now dep
         bound f.arrival f.labels.items) }
-    ensures closed { bound ≡ None → IfEnded result (λ f. IsClosed (G.meaning graph.now) (L.automaton labels.now) starts.now
+    ensures closed { bound ≡ None → IfEnded result (λ f. IsClosed (G.meaning graph.now) (L.automaton machine.now.labels) starts.now
         targets.now dep f.arrival f.labels.items) }
     ensures times { IfEnded result (IsInTime dep) }
     ensures few { IfEnded result (λ f. IfSome limit (λ most. length f.labels.items ≤ most)) }
     ensures stopped { IfStopped result (λ most. (limit ≡ Some most) × HasMoreLabels (G.meaning graph.now)
-        (L.automaton labels.now) starts.now targets.now dep bound most) }
+        (L.automaton machine.now.labels) starts.now targets.now dep bound most) }
 {
     let workspace = Workspace::new(alloc);
     let settled = settle(
-        alloc, workspace, graph, labels, starts, targets, dep, bound, limit,
+        alloc, workspace, graph, machine, starts, targets, dep, bound, limit,
     )?;
     let Settlement { frontier, best } = settled;
     let best = match best {
@@ -110,7 +111,7 @@ pub fn search_counted_with<G: Graph, L: Labels>(
     alloc: Global,
     workspace: &mut Workspace,
     graph: &G,
-    labels: &L,
+    machine: &Machine<L>,
     starts: &[u32],
     targets: &[u32],
     dep: Time,
@@ -119,16 +120,16 @@ pub fn search_counted_with<G: Graph, L: Labels>(
     requires starts { All (λ v. v < (G.meaning graph.now).nodes) starts.now }
     requires dep { dep < 2 ^ 64 }
     requires bound { IsWithin bound dep }
-    ensures arrival { IfOk result (λ f. IsArrival (G.meaning graph.now) (L.automaton labels.now) starts.now targets.now dep
+    ensures arrival { IfOk result (λ f. IsArrival (G.meaning graph.now) (L.automaton machine.now.labels) starts.now targets.now dep
         bound f.arrival) }
-    ensures walk { IfOk result (λ f. IsWalkFor (G.meaning graph.now) (L.automaton labels.now) starts.now targets.now dep
+    ensures walk { IfOk result (λ f. IsWalkFor (G.meaning graph.now) (L.automaton machine.now.labels) starts.now targets.now dep
         f.arrival f.walk) }
-    ensures labels { IfOk result (λ f. HasLeastLabels (G.meaning graph.now) (L.automaton labels.now) starts.now dep
+    ensures labels { IfOk result (λ f. HasLeastLabels (G.meaning graph.now) (L.automaton machine.now.labels) starts.now dep
         bound f.arrival f.labels) }
     ensures time { IfOk result (λ f. IfSome f.arrival (λ t. t ≤ last_time dep)) }
 {
     let found = search_counted_within(
-        alloc, workspace, graph, labels, starts, targets, dep, bound, None,
+        alloc, workspace, graph, machine, starts, targets, dep, bound, None,
     )?;
     Ok(found.into_answer())
 }
@@ -138,7 +139,7 @@ pub fn search_counted_within<G: Graph, L: Labels>(
     alloc: Global,
     workspace: &mut Workspace,
     graph: &G,
-    labels: &L,
+    machine: &Machine<L>,
     starts: &[u32],
     targets: &[u32],
     dep: Time,
@@ -148,20 +149,20 @@ pub fn search_counted_within<G: Graph, L: Labels>(
     requires starts { All (λ v. v < (G.meaning graph.now).nodes) starts.now }
     requires dep { dep < 2 ^ 64 }
     requires bound { IsWithin bound dep }
-    ensures arrival { IfEnded result (λ f. IsArrival (G.meaning graph.now) (L.automaton labels.now) starts.now targets.now dep
+    ensures arrival { IfEnded result (λ f. IsArrival (G.meaning graph.now) (L.automaton machine.now.labels) starts.now targets.now dep
         bound f.arrival) }
-    ensures walk { IfEnded result (λ f. IsWalkFor (G.meaning graph.now) (L.automaton labels.now) starts.now targets.now dep
+    ensures walk { IfEnded result (λ f. IsWalkFor (G.meaning graph.now) (L.automaton machine.now.labels) starts.now targets.now dep
         f.arrival f.walk) }
-    ensures labels { IfEnded result (λ f. HasLeastLabels (G.meaning graph.now) (L.automaton labels.now) starts.now dep
+    ensures labels { IfEnded result (λ f. HasLeastLabels (G.meaning graph.now) (L.automaton machine.now.labels) starts.now dep
         bound f.arrival f.labels) }
     ensures time { IfEnded result (λ f. IfSome f.arrival (λ t. t ≤ last_time dep)) }
     ensures few { IfEnded result (λ f. IfSome limit (λ most. f.labels ≤ most)) }
     ensures stopped { IfStopped result (λ most. (limit ≡ Some most) × HasMoreLabels (G.meaning graph.now)
-        (L.automaton labels.now) starts.now targets.now dep bound most) }
+        (L.automaton machine.now.labels) starts.now targets.now dep bound most) }
 {
     let kept = workspace.take(alloc);
     let settled = settle(
-        alloc, kept, graph, labels, starts, targets, dep, bound, limit,
+        alloc, kept, graph, machine, starts, targets, dep, bound, limit,
     )?;
     let Settlement { frontier, best } = settled;
     let best = match best {
@@ -188,7 +189,7 @@ pub fn search_best_with<G: Graph, L: Labels>(
     alloc: Global,
     workspace: &mut Workspace,
     graph: &G,
-    labels: &L,
+    machine: &Machine<L>,
     starts: &[u32],
     targets: &[u32],
     dep: Time,
@@ -197,15 +198,15 @@ pub fn search_best_with<G: Graph, L: Labels>(
     requires starts { All (λ v. v < (G.meaning graph.now).nodes) starts.now }
     requires dep { dep < 2 ^ 64 }
     requires bound { IsWithin bound dep }
-    ensures arrival { IfOk result (λ f. IsArrival (G.meaning graph.now) (L.automaton labels.now) starts.now targets.now dep
+    ensures arrival { IfOk result (λ f. IsArrival (G.meaning graph.now) (L.automaton machine.now.labels) starts.now targets.now dep
         bound f.arrival) }
-    ensures walk { IfOk result (λ f. IsWalkFor (G.meaning graph.now) (L.automaton labels.now) starts.now targets.now dep
+    ensures walk { IfOk result (λ f. IsWalkFor (G.meaning graph.now) (L.automaton machine.now.labels) starts.now targets.now dep
         f.arrival f.walk) }
     ensures time { IfOk result (λ f. IfSome f.arrival (λ t. t ≤ last_time dep)) }
 {
     let kept = workspace.take(alloc);
     let settled = settle(
-        alloc, kept, graph, labels, starts, targets, dep, bound, None,
+        alloc, kept, graph, machine, starts, targets, dep, bound, None,
     )?;
     let Settlement { frontier, best } = settled;
     workspace.put(frontier);
@@ -224,7 +225,7 @@ fn settle<G: Graph, L: Labels>(
     alloc: Global,
     workspace: Workspace,
     graph: &G,
-    labels: &L,
+    machine: &Machine<L>,
     starts: &[u32],
     targets: &[u32],
     dep: Time,
@@ -234,11 +235,11 @@ fn settle<G: Graph, L: Labels>(
     requires starts { All (λ v. v < (G.meaning graph.now).nodes) starts.now }
     requires dep { dep < 2 ^ 64 }
     requires bound { IsWithin bound dep }
-    ensures { IfOk result (λ s. IsSettlementWithin (G.meaning graph.now) (L.automaton labels.now) starts.now targets.now dep
+    ensures { IfOk result (λ s. IsSettlementWithin (G.meaning graph.now) (L.automaton machine.now.labels) starts.now targets.now dep
         bound limit s.frontier s.best) }
 {
     let explored = settle_all(
-        alloc, workspace, graph, labels, starts, targets, dep, bound, limit,
+        alloc, workspace, graph, machine, starts, targets, dep, bound, limit,
     )?;
     let Explored { frontier, end } = explored;
     match end {

@@ -9,7 +9,7 @@ ghost use Rattle.product_search.specs.Searching.{IsExploredWithin, arrival_of};
 use crate::explore::explore;
 use crate::frontier::{Frontier, Settled};
 use crate::limit::{Limited, Pace, passed_before};
-use crate::moves::MoveTable;
+use crate::machine::Machine;
 use crate::start::offer_starts;
 use crate::workspace::Workspace;
 use search_laws::{GivenRuns, Graph, Labels, Time};
@@ -29,7 +29,7 @@ pub(crate) fn settle_all<G: Graph, L: Labels>(
     alloc: Global,
     workspace: Workspace,
     graph: &G,
-    labels: &L,
+    machine: &Machine<L>,
     starts: &[u32],
     targets: &[u32],
     dep: Time,
@@ -39,18 +39,17 @@ pub(crate) fn settle_all<G: Graph, L: Labels>(
     requires starts { All (λ v. v < (G.meaning graph.now).nodes) starts.now }
     requires dep { dep < 2 ^ 64 }
     requires bound { IsWithin bound dep }
-    ensures { IfOk result (λ e. IsExploredWithin (G.meaning graph.now) (L.automaton labels.now) starts.now targets.now dep bound
+    ensures { IfOk result (λ e. IsExploredWithin (G.meaning graph.now) (L.automaton machine.now.labels) starts.now targets.now dep bound
         limit e.frontier e.end) }
 {
     let ends = set_of(alloc, targets)?;
-    let mut frontier = Frontier::new(alloc, workspace, labels.states());
-    offer_starts(&mut frontier, labels, starts, dep)?;
-    let moves = MoveTable::new(alloc, labels)?;
+    let mut frontier = Frontier::new(alloc, workspace, machine.labels.states());
+    offer_starts(&mut frontier, &machine.labels, starts, dep)?;
     let mut given = GivenRuns::new(alloc);
     let mut ways = Vec::new(alloc);
     let mut pace = Pace::new(dep);
     while let Some(settled) = frontier.settle_least() {
-        if is_end(labels, &ends, settled) {
+        if is_end(&machine.labels, &ends, settled) {
             return Ok(Explored {
                 frontier,
                 end: Limited::Ended(Some(settled)),
@@ -68,8 +67,7 @@ pub(crate) fn settle_all<G: Graph, L: Labels>(
             &mut given,
             &mut ways,
             graph,
-            labels,
-            &moves,
+            machine,
             bound,
             settled,
         )?;

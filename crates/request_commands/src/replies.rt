@@ -13,8 +13,7 @@ use journey::{framed, large_block};
 use late_commands::certified_late_within;
 use latest_departure::{Backwards, late_block_within};
 use mode_network::Network;
-use planning::block_within;
-use product_search::Workspace;
+use planning::{Room, block_within};
 use run_steps::{Limits, LineBlocks};
 use std::alloc::{AllocError, Global};
 
@@ -42,13 +41,19 @@ impl LineBlocks for Replies<'_> {
 
     ghost counts = { λ _. CountsNothing };
 
+    type Room = Room;
+
+    fn room(&self, alloc: Global) -> Room {
+        Room::new(alloc)
+    }
+
     fn block_of(
         &self,
         alloc: Global,
-        workspace: &mut Workspace,
+        room: &mut Room,
         line: &[u8],
     ) -> Result<(Vec<u8>, u64), AllocError> {
-        let reply = self.reply_to(alloc, workspace, line)?;
+        let reply = self.reply_to(alloc, room, line)?;
         Ok((reply, 0))
     }
 
@@ -59,12 +64,7 @@ impl LineBlocks for Replies<'_> {
 
 impl Replies<'_> {
     /// The reply to a line.
-    fn reply_to(
-        &self,
-        alloc: Global,
-        workspace: &mut Workspace,
-        line: &[u8],
-    ) -> Result<Vec<u8>, AllocError>
+    fn reply_to(&self, alloc: Global, room: &mut Room, line: &[u8]) -> Result<Vec<u8>, AllocError>
         requires sound { IfSome self.now.hierarchy (λ h. IsSound self.now.network.now h.now) }
         requires same { self.now.backwards.now.network ≡ self.now.network.now }
         requires least { self.now.least.now.plain.network.now ≡ self.now.network.now }
@@ -72,7 +72,7 @@ impl Replies<'_> {
             (option_map (λ h. h.now) self.now.hierarchy) self.now.limits line.now reply.items) }
     {
         match asked_by(line) {
-            Some((command, query)) => self.reply_of(alloc, workspace, command, query),
+            Some((command, query)) => self.reply_of(alloc, room, command, query),
             None => framed(alloc, line, b"refused command\n"),
         }
     }
@@ -81,7 +81,7 @@ impl Replies<'_> {
     fn reply_of(
         &self,
         alloc: Global,
-        workspace: &mut Workspace,
+        room: &mut Room,
         command: LineCommand,
         query: &[u8],
     ) -> Result<Vec<u8>, AllocError>
@@ -94,14 +94,14 @@ impl Replies<'_> {
         if let Some(refusal) = large_block(alloc, self.network, self.limits.places, query)? {
             return Ok(refusal);
         }
-        self.reply_within(alloc, workspace, command, query)
+        self.reply_within(alloc, room, command, query)
     }
 
     /// What it writes where the search may have so many labels as the limits say.
     fn reply_within(
         &self,
         alloc: Global,
-        workspace: &mut Workspace,
+        room: &mut Room,
         command: LineCommand,
         query: &[u8],
     ) -> Result<Vec<u8>, AllocError>
@@ -115,15 +115,15 @@ impl Replies<'_> {
         let labels = self.limits.labels;
         match command {
             LineCommand::Answer => {
-                let (block, _) = block_within(alloc, workspace, network, hierarchy, query, labels)?;
+                let (block, _) = block_within(alloc, room, network, hierarchy, query, labels)?;
                 Ok(block)
             }
-            LineCommand::Few => few_block(alloc, workspace, network, query),
+            LineCommand::Few => few_block(alloc, &mut room.workspace, network, query),
             LineCommand::Latest => {
-                late_block_within(alloc, workspace, self.backwards, query, labels)
+                late_block_within(alloc, &mut room.workspace, self.backwards, query, labels)
             }
             LineCommand::Profile { window } => {
-                profile_block(alloc, workspace, self.least, query, window)
+                profile_block(alloc, &mut room.workspace, self.least, query, window)
             }
             LineCommand::Certify => certified_within(alloc, network, hierarchy, labels, query),
             LineCommand::CertifyLatest => certified_late_within(alloc, network, labels, query),

@@ -2,11 +2,13 @@
 
 ghost use Rattle.std.specs.Prelude.{ℕ, List, IfOk};
 
-use product_search::Workspace;
 use std::alloc::{AllocError, Global};
 
 /// What makes the block of a query line.
 pub trait LineBlocks {
+    /// What is kept from line to line.
+    type Room: Drop;
+
     /// When it may be asked for blocks.
     ghost may: { Self → Type 0 } = { λ _. Unit {0} };
 
@@ -16,11 +18,14 @@ pub trait LineBlocks {
     /// What is counted for a line.
     ghost counts: { Self → List ℕ → ℕ → Type 0 };
 
-    /// A right block of a line, and what is counted for it. Searches may use the workspace.
+    /// What there is to keep before the first line.
+    fn room(&self, alloc: Global) -> Self::Room;
+
+    /// A right block of a line, and what is counted for it. It may use what was kept, and keep other things.
     fn block_of(
         &self,
         alloc: Global,
-        workspace: &mut Workspace,
+        room: &mut Self::Room,
         line: &[u8],
     ) -> Result<(Vec<u8>, u64), AllocError>
         requires { may self.now }

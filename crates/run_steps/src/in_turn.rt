@@ -19,7 +19,6 @@ use crate::ports::Ports;
 use crate::tally::Tally;
 use plain_texts::next_line;
 use plan_base::{ReadFault, Shelf, ShelfError, Sink, write_all};
-use product_search::Workspace;
 use std::alloc::Global;
 
 /// How many bytes of a file are asked for at a time.
@@ -61,7 +60,7 @@ pub fn write_in_turn<B: LineBlocks, F: Shelf, O: Sink, E: Sink>(
         file,
         path,
     };
-    let mut kept = Kept::new(alloc);
+    let mut kept = Kept::new(blocks.room(alloc));
     let rest = turn.answer_pieces(&mut kept, ports)?;
     if !rest.is_empty() {
         turn.answer_line(&mut kept, &rest, &mut ports.out)?;
@@ -98,18 +97,18 @@ struct Turn<'a, B> {
 
 /// What is kept from line to line.
 #[derive(Drop)]
-struct Kept {
-    workspace: Workspace,
+struct Kept<R> {
+    room: R,
     tally: Tally,
     sum: u128,
 }
 
-impl Kept {
-    fn new(alloc: Global) -> Kept
+impl<R> Kept<R> {
+    fn new(room: R) -> Kept<R>
         ensures { result.sum ≡ 0 }
     {
         Kept {
-            workspace: Workspace::new(alloc),
+            room,
             tally: Tally::new(),
             sum: 0,
         }
@@ -121,7 +120,7 @@ impl<B: LineBlocks> Turn<'_, B> {
     /// last of them at the end of the file.
     fn answer_pieces<F: Shelf, O: Sink, E: Sink>(
         &self,
-        kept: &mut Kept,
+        kept: &mut Kept<B::Room>,
         ports: &mut Ports<F, O, E>,
     ) -> Result<Vec<u8>, Outcome>
         ghost first: { Scene ⊤ }
@@ -196,7 +195,7 @@ impl<B: LineBlocks> Turn<'_, B> {
     /// was kept.
     fn answer_piece<O: Sink>(
         &self,
-        kept: &mut Kept,
+        kept: &mut Kept<B::Room>,
         rest: &mut Vec<u8>,
         piece: &[u8],
         out: &mut O,
@@ -226,7 +225,7 @@ impl<B: LineBlocks> Turn<'_, B> {
     /// Answers the line that begins with what was kept, and ends with these bytes.
     fn answer_end<O: Sink>(
         &self,
-        kept: &mut Kept,
+        kept: &mut Kept<B::Room>,
         rest: &mut Vec<u8>,
         end: &[u8],
         out: &mut O,
@@ -256,7 +255,12 @@ impl<B: LineBlocks> Turn<'_, B> {
     }
 
     /// Answers a line that has been read whole: if it is a query line, a right block of it is written.
-    fn answer_line<O: Sink>(&self, kept: &mut Kept, line: &[u8], out: &mut O) -> Result<(), Outcome>
+    fn answer_line<O: Sink>(
+        &self,
+        kept: &mut Kept<B::Room>,
+        line: &[u8],
+        out: &mut O,
+    ) -> Result<(), Outcome>
         requires may { B.may self.now.blocks.now }
         requires room { kept.old.sum + 2 ^ 64 ≤ 2 ^ 128 }
         ensures later { (O.meaning out.old).faults ≤ (O.meaning out.new).faults }
@@ -280,7 +284,7 @@ impl<B: LineBlocks> Turn<'_, B> {
     /// Writes a right block of a query line, and answers what is counted for it.
     fn write_block<O: Sink>(
         &self,
-        kept: &mut Kept,
+        kept: &mut Kept<B::Room>,
         query: &[u8],
         out: &mut O,
     ) -> Result<u64, Outcome>
@@ -293,7 +297,7 @@ impl<B: LineBlocks> Turn<'_, B> {
         ensures err { IfErr result (IsBlockOutcome (O.meaning out.old) (O.meaning out.new)
             (B.is_block self.now.blocks.now query.now)) }
     {
-        let Ok((block, count)) = self.blocks.block_of(self.alloc, &mut kept.workspace, query) else {
+        let Ok((block, count)) = self.blocks.block_of(self.alloc, &mut kept.room, query) else {
             return Err(Outcome::OutOfMemory);
         };
         match write_all(out, &block) {
@@ -305,7 +309,7 @@ impl<B: LineBlocks> Turn<'_, B> {
     }
 
     /// Tells people which line is too long, where that is how a run ends.
-    fn tell_long<E: Sink>(&self, kept: &Kept, outcome: Outcome, notes: &mut E) {
+    fn tell_long<E: Sink>(&self, kept: &Kept<B::Room>, outcome: Outcome, notes: &mut E) {
         if let Outcome::TooLong { .. } = outcome {
             let (path, line) = (self.path, kept.tally.lines().saturating_add(1));
             tell(

@@ -17,7 +17,7 @@ pub unpacked-requires : goal.unpacked-requires
 unpacked-requires c =
     let n = c.args.network.now in
     let inner = position_meaning c.new-collapsed.result.inner in
-    let walk = rw (c.new-plain.ensures.network, c.deref.ensures.value, c.deref-2.ensures.value, c.new-labels.ensures.same, c.new-labels.ensures.side, c.new-labels.ensures.limit) at c.in_ok-best.ensures.walk in
+    let walk = rw (c.new-plain.ensures.network, c.deref.ensures.value, c.deref-2.ensures.value, c.in_ok-machine.ensures, c.new-labels.ensures.same, c.new-labels.ensures.side, c.new-labels.ensures.limit) at c.in_ok-best.ensures.walk in
     rw c.new-plain.ensures.network (walk_is_plain n c.new-plain.result.timetable.now (asked_by c.args.query.now) (counted (collapsed inner) AtMost (c.args.limit - 1))
     c.in_ok-starts.starts.items c.in_ok-targets.targets.items c.in_ok-starts.ensures.are c.in_ok-targets.ensures.are _ _ walk)
 
@@ -32,8 +32,8 @@ returns c =
     let denotes = subst (λ (p : Positions). (word : List ℕ) → Accepts (position_meaning p) word ↔ Denotes q.expr word) same c.in_ok-of.ensures.accepts in
     let collapses = subst (λ (p : Positions). AcceptsCollapsed (position_meaning p)) same c.new-collapsed.ensures.accepts in
     let few = counting_of (form_of q.expr) inner AtMost most denotes collapses c.new-labels.ensures.accepts in
-    let walk = rw (c.new-plain.ensures.network, c.deref.ensures.value, c.deref-2.ensures.value, c.new-labels.ensures.same, c.new-labels.ensures.side, c.new-labels.ensures.limit) at c.in_ok-best.ensures.walk in
-    let arrival = rw (c.new-plain.ensures.network, c.deref.ensures.value, c.deref-2.ensures.value, c.new-labels.ensures.same, c.new-labels.ensures.side, c.new-labels.ensures.limit) at c.in_ok-best.ensures.arrival in
+    let walk = rw (c.new-plain.ensures.network, c.deref.ensures.value, c.deref-2.ensures.value, c.in_ok-machine.ensures, c.new-labels.ensures.same, c.new-labels.ensures.side, c.new-labels.ensures.limit) at c.in_ok-best.ensures.walk in
+    let arrival = rw (c.new-plain.ensures.network, c.deref.ensures.value, c.deref-2.ensures.value, c.in_ok-machine.ensures, c.new-labels.ensures.same, c.new-labels.ensures.side, c.new-labels.ensures.limit) at c.in_ok-best.ensures.arrival in
     let found = rw c.new-plain.ensures.network at c.in_ok-found.ensures in
     let limit : most + 1 ≡ c.args.limit = let some = c.if-limit-eq0.false in omega arith in
     let small : most ≤ 8 = let few = c.requires.limit in omega arith in

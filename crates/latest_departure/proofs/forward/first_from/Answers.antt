@@ -19,7 +19,7 @@ unpacked-requires c =
     let n = c.args.network.now in
     let q = leaving (asked_by c.args.query.now) c.args.at in
     let s = c.args.search.now in
-    let walk = rw (c.new-plain.ensures.network, c.deref.ensures.value, c.deref-2.ensures.value) at c.in_ok-best.ensures.walk in
+    let walk = rw (c.new-plain.ensures.network, c.deref.ensures.value, c.deref-2.ensures.value, c.in_ok-machine.ensures) at c.in_ok-best.ensures.walk in
     rw c.new-plain.ensures.network (walk_is_plain n c.new-plain.result.timetable.now q (collapsed (position_meaning c.new-labels.result.inner)) s.targets.items s.starts.items
     c.requires.ends.origin c.requires.ends.destination _ _ walk)
 
@@ -33,8 +33,8 @@ returns c =
     let denotes = subst (λ (p : Positions). (word : List ℕ) → Accepts (position_meaning p) word ↔ Denotes c.args.query.now.expr word) same c.in_ok-of.ensures.accepts in
     let collapses = subst (λ (p : Positions). AcceptsCollapsed (position_meaning p)) same c.new-labels.ensures.accepts in
     let reads = reader_of q.form inner denotes collapses in
-    let walk = rw (c.new-plain.ensures.network, c.deref.ensures.value, c.deref-2.ensures.value) at c.in_ok-best.ensures.walk in
-    let arrival = rw (c.new-plain.ensures.network, c.deref.ensures.value, c.deref-2.ensures.value) at c.in_ok-best.ensures.arrival in
+    let walk = rw (c.new-plain.ensures.network, c.deref.ensures.value, c.deref-2.ensures.value, c.in_ok-machine.ensures) at c.in_ok-best.ensures.walk in
+    let arrival = rw (c.new-plain.ensures.network, c.deref.ensures.value, c.deref-2.ensures.value, c.in_ok-machine.ensures) at c.in_ok-best.ensures.arrival in
     let found = rw c.new-plain.ensures.network at c.in_ok-journey.ensures in
     found_first n c.known.ensures c.new-plain.result.timetable.now q (collapsed inner) s.targets.items s.starts.items reads c.new-plain.ensures.journeys
     c.requires.ends.origin c.requires.ends.destination _ _ _ arrival walk c.requires.soon found

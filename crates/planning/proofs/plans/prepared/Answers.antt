@@ -1,16 +1,14 @@
 use Rattle.std.proofs.Common.{◌∙◌, ◌<◌, List, ℕ, sym, ap, subst, Bor}
 use Rattle.std.specs.Prelude.{option_map, All}
-use Rattle.automaton.specs.declared.positions.Positions.{Positions}
-use Rattle.automaton.specs.Meanings.{position_meaning}
-use Rattle.automaton.specs.Written.{written}
-use Rattle.automaton.specs.States.{IsPositionAutomaton}
 use Rattle.hierarchy.specs.declared.hierarchy.Hierarchy.{Hierarchy}
 use Rattle.phase_graph.specs.InUse.{IsInUse, starts_in, ends_in}
 use Rattle.phase_graph.specs.InUseGraph.{meaning_in_use}
-use Rattle.mode_expression.specs.Form.{form_of}
-use Rattle.certificate.proofs.VerifyLemmas.{automaton_denotes}
 use Rattle.planning.proofs.PlanLemmas.{starts_low, ends_low}
+use Rattle.planning.proofs.RoomLemmas.{query_spells}
 use Rattle.planning.proofs.plans.prepared.Goals as goal
+
+pub take-requires-clause-spelled : goal.take-requires-clause-spelled
+take-requires-clause-spelled c = query_spells c.args.network.now _ _ _ _ _ c.requires.read.asks
 
 pub returns-clause-is : goal.returns-clause-is
 returns-clause-is c =
@@ -34,7 +32,7 @@ returns-clause-is c =
       ends_are = ends;
       starts_low = subst (All (λ v. v < g.nodes)) (sym starts) (starts_low n h targets g in_use origins c.in_ok-origins.ensures.nodes);
       ends_low = subst (All (λ v. v < g.nodes)) (sym ends) (ends_low n h targets g in_use c.in_ok-targets.ensures.nodes);
-      positions = subst (λ (p : Positions). IsPositionAutomaton (written (form_of q.expr)) (position_meaning p)) (sym c.new-automaton.ensures.same) c.in_ok-of.ensures.states;
-      denotes = automaton_denotes q.expr c.new-automaton.result.inner _ c.new-automaton.ensures.same c.new-automaton.ensures.accepts c.in_ok-of.ensures.accepts;
-      lawful = c.new-automaton.result.inner.lawful;
+      positions = c.in_ok-expressed.ensures.positions;
+      denotes = c.in_ok-expressed.ensures.denotes;
+      lawful = c.in_ok-expressed.expressed.machine.labels.inner.lawful;
     }

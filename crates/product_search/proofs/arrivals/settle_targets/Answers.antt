@@ -10,7 +10,7 @@ use Rattle.product_search.proofs.arrivals.settle_targets.Goals as goal
 pub loop-settled-init : goal.loop-settled-init
 loop-settled-init g c =
     let graph = g.G.Graph.meaning c.args.graph.now in
-    let labels = g.L.Labels.automaton c.args.labels.now in
+    let labels = g.L.Labels.automaton c.args.machine.now.labels in
     let f = c.offer_starts.new.frontier in
     let begins = λ (targets : List ℕ). searching_begins graph labels c.args.starts.now targets c.args.dep None
     c.new-frontier.result f c.new-frontier.ensures.empty c.requires.starts tt
@@ -32,18 +32,18 @@ note_end-requires-clause-state g c =
 pub returns-then-note_end-clause-times : goal.returns-then-note_end-clause-times
 returns-then-note_end-clause-times g c =
     let graph = g.G.Graph.meaning c.args.graph.now in
-    let labels = g.L.Labels.automaton c.args.labels.now in
+    let labels = g.L.Labels.automaton c.args.machine.now.labels in
     let places = c.args.targets.now.places.items in
     let times = c.note_end.new.self.times.items in
     all_reached graph labels c.args.starts.now c.args.dep c.args.targets.now.nodes.items places times c.note_end.new.self.passed c.args.targets.now.placed
-    (right_now graph (g.met.G.Graph.lawful c.args.graph.now) labels (g.met.L.Labels.lawful c.args.labels.now) c.args.starts.now c.args.dep places
+    (right_now graph (g.met.G.Graph.lawful c.args.graph.now) labels (g.met.L.Labels.lawful c.args.machine.now.labels) c.args.starts.now c.args.dep places
     c.loop-settled.frontier c.settle_least.new.self c.loop-settled.noted.times.items times c.in-Some.settled c.loop-settled.invariant.noted c.in-Some.ensures.least
     c.in-Some.ensures.right c.note_end.ensures.noted)
     c.note_end.ensures.passed (c.note_end.ensures.all c.if-note_end.true)
 
 pub explore-requires-clause-settled : goal.explore-requires-clause-settled
 explore-requires-clause-settled g c =
-    settled_by (g.G.Graph.meaning c.args.graph.now) (g.L.Labels.automaton c.args.labels.now) c.args.starts.now [] c.args.dep None
+    settled_by (g.G.Graph.meaning c.args.graph.now) (g.L.Labels.automaton c.args.machine.now.labels) c.args.starts.now [] c.args.dep None
     c.loop-settled.frontier c.settle_least.new.self c.in-Some.settled c.loop-settled.invariant.searching c.in-Some.ensures.least
 
 pub explore-requires-clause-here : goal.explore-requires-clause-here
@@ -54,14 +54,14 @@ explore-requires-clause-here g c =
 
 pub explore-requires-clause-given : goal.explore-requires-clause-given
 explore-requires-clause-given g c =
-    given_stays (g.L.Labels.automaton c.args.labels.now) None (g.G.Graph.rides c.args.graph.now) c.loop-settled.frontier c.settle_least.new.self c.loop-settled.given
+    given_stays (g.L.Labels.automaton c.args.machine.now.labels) None (g.G.Graph.rides c.args.graph.now) c.loop-settled.frontier c.settle_least.new.self c.loop-settled.given
     (reached_stays c.loop-settled.frontier c.settle_least.new.self c.in-Some.settled c.in-Some.ensures.least) c.loop-settled.invariant.given
 
 pub loop-settled-smaller : goal.loop-settled-smaller
 loop-settled-smaller g c =
     omega (
       arith,
-      one_less (g.G.Graph.meaning c.args.graph.now) (g.met.G.Graph.lawful c.args.graph.now) (g.L.Labels.automaton c.args.labels.now) (g.met.L.Labels.lawful c.args.labels.now)
+      one_less (g.G.Graph.meaning c.args.graph.now) (g.met.G.Graph.lawful c.args.graph.now) (g.L.Labels.automaton c.args.machine.now.labels) (g.met.L.Labels.lawful c.args.machine.now.labels)
           c.args.starts.now [] c.args.dep None c.loop-settled.frontier c.settle_least.new.self c.explore.new.frontier c.in-Some.settled
           c.loop-settled.invariant.searching c.in-Some.ensures.least c.in_ok-explore.ensures.offers,
     )
@@ -69,9 +69,9 @@ loop-settled-smaller g c =
 pub loop-settled-preserved : goal.loop-settled-preserved
 loop-settled-preserved g c =
     let graph = g.G.Graph.meaning c.args.graph.now in
-    let labels = g.L.Labels.automaton c.args.labels.now in
+    let labels = g.L.Labels.automaton c.args.machine.now.labels in
     let lawful = g.met.G.Graph.lawful c.args.graph.now in
-    let labels_lawful = g.met.L.Labels.lawful c.args.labels.now in
+    let labels_lawful = g.met.L.Labels.lawful c.args.machine.now.labels in
     let done = c.in_ok-explore.ensures in
     record {
       searching = searching_on graph lawful labels labels_lawful c.args.starts.now [] c.args.dep None
@@ -88,6 +88,6 @@ loop-settled-preserved g c =
 
 pub returns-clause-times : goal.returns-clause-times
 returns-clause-times g c =
-    all_noted (g.G.Graph.meaning c.args.graph.now) (g.met.G.Graph.lawful c.args.graph.now) (g.L.Labels.automaton c.args.labels.now) (g.met.L.Labels.lawful c.args.labels.now)
+    all_noted (g.G.Graph.meaning c.args.graph.now) (g.met.G.Graph.lawful c.args.graph.now) (g.L.Labels.automaton c.args.machine.now.labels) (g.met.L.Labels.lawful c.args.machine.now.labels)
     c.args.starts.now c.args.dep c.args.targets.now.places.items c.loop-settled.frontier c.settle_least.new.self c.loop-settled.noted.times.items
     c.loop-settled.invariant.noted c.in_default.ensures.right c.in_default.ensures.none c.in_default.ensures.same c.in_default.ensures.numbers

@@ -6,12 +6,12 @@ use Rattle.product_search.proofs.arrivals.settle_targets.Given as goal
 
 abbrev pub invariant-loop-settled : goal.invariant-loop-settled
 invariant-loop-settled g l = record {
-  searching : IsSearching (g.G.Graph.meaning l.graph) (g.L.Labels.automaton l.labels) l.starts [] l.dep None l.frontier;
-  given : AreGivenReached (g.G.Graph.rides l.graph) (g.L.Labels.automaton l.labels) None l.frontier l.given;
+  searching : IsSearching (g.G.Graph.meaning l.graph) (g.L.Labels.automaton l.machine.labels) l.starts [] l.dep None l.frontier;
+  given : AreGivenReached (g.G.Graph.rides l.graph) (g.L.Labels.automaton l.machine.labels) None l.frontier l.given;
   one_each : length l.noted.times.items ≡ length l.targets.nodes.items;
   passed : AreReached l.targets.nodes.items l.targets.places.items l.noted.times.items l.noted.passed;
-  noted : AreNoted (g.G.Graph.meaning l.graph) (g.L.Labels.automaton l.labels) l.starts l.dep l.targets.places.items l.frontier l.noted.times.items;
+  noted : AreNoted (g.G.Graph.meaning l.graph) (g.L.Labels.automaton l.machine.labels) l.starts l.dep l.targets.places.items l.frontier l.noted.times.items;
 }
 
 abbrev pub decreases-loop-settled : goal.decreases-loop-settled
-decreases-loop-settled g l = unsettled (g.G.Graph.meaning l.graph) (g.L.Labels.automaton l.labels) l.frontier
+decreases-loop-settled g l = unsettled (g.G.Graph.meaning l.graph) (g.L.Labels.automaton l.machine.labels) l.frontier

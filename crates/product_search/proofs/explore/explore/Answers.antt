@@ -1,6 +1,5 @@
-use Rattle.std.proofs.Common.{ap, sym, subst, arith}
+use Rattle.std.proofs.Common.{ap, arith}
 use Rattle.search_laws.specs.declared.graph.Steady.{Steady}
-use Rattle.product_search.specs.MoveTables.{HasLetters, HasLeaving}
 use Rattle.product_search.specs.Exploring.{IsByWays, IsSuccessor}
 use Rattle.product_search.proofs.OfferLemmas.{arc_keeps, reached_keeps, offers_more, offers_weaker}
 use Rattle.product_search.proofs.GivenLemmas.{read_alone, read_among, given_keeps, given_more}
@@ -9,18 +8,18 @@ use Rattle.product_search.proofs.explore.explore.Goals as goal
 
 pub explore_ways-requires-clause-letters : goal.explore_ways-requires-clause-letters
 explore_ways-requires-clause-letters g c =
-    ways_letters (g.G.Graph.meaning c.args.graph.now) (g.L.Labels.automaton c.args.labels.now) c.args.bound c.args.from _ _ (omega (arith, ap (λ (x : Steady). x.count) c.steady-steady.ensures.is)) _
+    ways_letters (g.G.Graph.meaning c.args.graph.now) (g.L.Labels.automaton c.args.machine.now.labels) c.args.bound c.args.from _ _ (omega (arith, ap (λ (x : Steady). x.count) c.steady-steady.ensures.is)) _
     (read_among (read_alone c.in_ok-fresh_ways.ensures c.clear.ensures.items c.deref.ensures.value)) (g.met.G.Graph.lawful c.args.graph.now) c.requires.node
 
 pub explore_ways-requires-clause-times : goal.explore_ways-requires-clause-times
 explore_ways-requires-clause-times g c =
-    ways_times (g.G.Graph.meaning c.args.graph.now) (g.L.Labels.automaton c.args.labels.now) c.args.bound c.args.from _ _ (omega (arith, ap (λ (x : Steady). x.count) c.steady-steady.ensures.is)) _
+    ways_times (g.G.Graph.meaning c.args.graph.now) (g.L.Labels.automaton c.args.machine.now.labels) c.args.bound c.args.from _ _ (omega (arith, ap (λ (x : Steady). x.count) c.steady-steady.ensures.is)) _
     (read_among (read_alone c.in_ok-fresh_ways.ensures c.clear.ensures.items c.deref.ensures.value)) (g.met.G.Graph.lawful c.args.graph.now) c.requires.node
 
 pub returns-clause-offers : goal.returns-clause-offers
 returns-clause-offers g c =
     let graph = g.G.Graph.meaning c.args.graph.now in
-    let labels = g.L.Labels.automaton c.args.labels.now in
+    let labels = g.L.Labels.automaton c.args.machine.now.labels in
     let s = c.args.from in
     let successor = IsSuccessor graph labels c.args.bound s in
     offers_more c.args.frontier.now c.explore_steady.new.frontier c.explore_ways.new.frontier successor c.in_ok-explore_steady.ensures.offers
@@ -31,13 +30,13 @@ returns-clause-offers g c =
 pub returns-clause-reached : goal.returns-clause-reached
 returns-clause-reached g c =
     let graph = g.G.Graph.meaning c.args.graph.now in
-    let labels = g.L.Labels.automaton c.args.labels.now in
+    let labels = g.L.Labels.automaton c.args.machine.now.labels in
     let s = c.args.from in
     let successor = IsSuccessor graph labels c.args.bound s in
     let read = read_alone c.in_ok-fresh_ways.ensures c.clear.ensures.items c.deref.ensures.value in
     arcs_reached graph labels c.args.bound s _ c.explore_ways.new.frontier
-    (subst (HasLetters labels s.state) (sym c.letters_of-letters.ensures) (c.requires.table.letters.are s.state c.requires.state))
-    _ _ (subst (HasLeaving labels s.state) (sym c.leaving-leaving.ensures) (c.requires.table.leaving.are s.state c.requires.state))
+    c.letters_of-letters.ensures
+    _ _ c.leaving-leaving.ensures
     (reached_keeps c.args.frontier.now c.explore_ways.new.frontier successor (returns-clause-offers g c) s.node s.state s.at c.requires.here)
     read.moving read.parts _ _ _ read.fresh.rest
     (given_keeps labels c.args.bound (g.G.Graph.rides c.args.graph.now) c.args.frontier.now c.explore_ways.new.frontier c.args.given.now
@@ -48,7 +47,7 @@ returns-clause-reached g c =
 
 pub returns-clause-given : goal.returns-clause-given
 returns-clause-given g c =
-    let labels = g.L.Labels.automaton c.args.labels.now in
+    let labels = g.L.Labels.automaton c.args.machine.now.labels in
     let s = c.args.from in
     given_more labels c.args.bound _ c.explore_ways.new.frontier (read_alone c.in_ok-fresh_ways.ensures c.clear.ensures.items c.deref.ensures.value).fresh c.in_ok-explore_ways.ensures.reached
     (given_keeps labels c.args.bound (g.G.Graph.rides c.args.graph.now) c.args.frontier.now c.explore_ways.new.frontier c.args.given.now

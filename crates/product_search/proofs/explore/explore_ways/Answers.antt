@@ -12,7 +12,7 @@ blank = record { place = 0; arc = record { to = 0; letter = None }; at = 0 }
 pub loop-way-preserved : goal.loop-way-preserved
 unfolding blank
 loop-way-preserved g c =
-    let l = g.L.Labels.automaton c.args.labels.now in
+    let l = g.L.Labels.automaton c.args.machine.now.labels in
     let old = c.loop-way.frontier in
     let new = c.explore_way.new.frontier in
     let ways = c.args.ways.now in

@@ -9,6 +9,6 @@ abbrev pub invariant-loop-way : goal.invariant-loop-way
 invariant-loop-way g l = record {
   right : IsQueueRight l.frontier;
   settled : IsSettledBy l.frontier l.from.at;
-  offers : Offers l.initial.frontier l.frontier (IsByWays (g.L.Labels.automaton l.labels) l.bound l.from l.ways);
-  reached : (k : ℕ) (d : Way) → k < l.way-index → WayIsReached (g.L.Labels.automaton l.labels) l.bound l.frontier l.from.state (slice_index_or l.ways k d);
+  offers : Offers l.initial.frontier l.frontier (IsByWays (g.L.Labels.automaton l.machine.labels) l.bound l.from l.ways);
+  reached : (k : ℕ) (d : Way) → k < l.way-index → WayIsReached (g.L.Labels.automaton l.machine.labels) l.bound l.frontier l.from.state (slice_index_or l.ways k d);
 }

@@ -2,17 +2,15 @@ use Rattle.std.proofs.Common.{◌≡◌, ◌<◌, length, ◌∙◌, sym, subst,
 use Rattle.std.proofs.lemmas.Bool.{cases_lt}
 use Rattle.std.proofs.lemmas.List.{get_or_default}
 use Rattle.product_search.specs.Exploring.{IsGiven, IsReachedBy}
-use Rattle.product_search.specs.MoveTables.{AreTargets}
-use Rattle.product_search.proofs.MoveLemmas.{next_offered, targets_found}
+use Rattle.product_search.proofs.MoveLemmas.{next_offered}
 use Rattle.product_search.proofs.OfferLemmas.{reached_keeps, settled_keeps}
 use Rattle.product_search.proofs.explore.offer_moves.Goals as goal
 
 pub loop-next-preserved : goal.loop-next-preserved
 loop-next-preserved g c =
-    let l = g.L.Labels.automaton c.args.labels.now in
+    let l = g.L.Labels.automaton c.args.machine.now.labels in
     let targets = c.targets_of-targets.result.now in
-    let are : AreTargets l c.args.state c.args.letter targets =
-    subst (AreTargets l c.args.state c.args.letter) (sym c.targets_of-targets.ensures) (targets_found l c.args.state c.args.letter c.args.moves.now c.requires.table c.requires.state c.requires.letter) in
+    let are = c.targets_of-targets.ensures in
     let k = c.loop-next.next-index in
     let next = get_or targets k 0 in
     let inside : k < length targets = omega arith in
@@ -32,10 +30,9 @@ loop-next-preserved g c =
 
 pub returns-clause-reached : goal.returns-clause-reached
 returns-clause-reached g c = λ j lt by.
-    let l = g.L.Labels.automaton c.args.labels.now in
+    let l = g.L.Labels.automaton c.args.machine.now.labels in
     let targets = c.targets_of-targets.result.now in
-    let are : AreTargets l c.args.state c.args.letter targets =
-    subst (AreTargets l c.args.state c.args.letter) (sym c.targets_of-targets.ensures) (targets_found l c.args.state c.args.letter c.args.moves.now c.requires.table c.requires.state c.requires.letter) in
+    let are = c.targets_of-targets.ensures in
     let at = are.each j lt by in
     let inside = at.1 in
     let same : get_or targets at.0 0 ≡ (l.move_at c.args.state j).to = get_or_default targets at.0 0 (l.move_at c.args.state j).to at.1 ∙ at.2 in

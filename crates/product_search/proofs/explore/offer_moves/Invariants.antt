@@ -8,6 +8,6 @@ abbrev pub invariant-loop-next : goal.invariant-loop-next
 invariant-loop-next g l = record {
   right : IsQueueRight l.frontier;
   settled : IsSettledBy l.frontier l.way.at;
-  offers : Offers l.initial.frontier l.frontier (LeadsTo (g.L.Labels.automaton l.labels) l.to l.state (Some l.letter) l.way);
+  offers : Offers l.initial.frontier l.frontier (LeadsTo (g.L.Labels.automaton l.machine.labels) l.to l.state (Some l.letter) l.way);
   reached : (k : ℕ) → k < l.next-index → IsReachedBy l.frontier l.to (slice_index l.targets k) l.way.at;
 }

@@ -13,7 +13,7 @@ returns-clause-labels g c =
     let is = rw c.in-Ended.is at c.in_ok-settled.ensures in
     let found = filter_map (label_of_row c.in-Ended.best.arrival) (rows f) in (
       sorted found,
-      least_labels (g.G.Graph.meaning c.args.graph.now) (g.L.Labels.automaton c.args.labels.now) c.args.starts.now c.args.targets.now c.args.dep c.args.bound c.in-Ended.best.arrival
+      least_labels (g.G.Graph.meaning c.args.graph.now) (g.L.Labels.automaton c.args.machine.now.labels) c.args.starts.now c.args.targets.now c.args.dep c.args.bound c.in-Ended.best.arrival
           f is.searched (sorted found) (sorted_in_order found) (sorted_moves found),
       c.count_labels-labels.ensures ∙ sym (length_permutation found (sorted found) (sorted_moves found)),
     )
@@ -21,7 +21,7 @@ returns-clause-labels g c =
 pub returns-in-Some-clause-stopped : goal.returns-in-Some-clause-stopped
 returns-in-Some-clause-stopped g c =
     let graph = g.G.Graph.meaning c.args.graph.now in
-    let labels = g.L.Labels.automaton c.args.labels.now in
+    let labels = g.L.Labels.automaton c.args.machine.now.labels in
     let f = c.in_ok-settled.settled.frontier in
     let is = rw c.in-Ended.is at c.in_ok-settled.ensures in
     let found = filter_map (label_of_row c.in-Ended.best.arrival) (rows f) in

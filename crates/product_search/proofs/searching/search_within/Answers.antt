@@ -8,13 +8,13 @@ pub returns-clause-labels : goal.returns-clause-labels
 returns-clause-labels g c =
     let f = c.in_ok-settled.settled.frontier in
     let is = rw c.in-Ended.is at c.in_ok-settled.ensures in
-    least_labels (g.G.Graph.meaning c.args.graph.now) (g.L.Labels.automaton c.args.labels.now) c.args.starts.now c.args.targets.now c.args.dep c.args.bound c.in-Ended.best.arrival
+    least_labels (g.G.Graph.meaning c.args.graph.now) (g.L.Labels.automaton c.args.machine.now.labels) c.args.starts.now c.args.targets.now c.args.dep c.args.bound c.in-Ended.best.arrival
     f is.searched c.in_ok-labels.labels.items c.in_ok-labels.ensures.sorted c.in_ok-labels.ensures.labels
 
 pub returns-in-Some-clause-stopped : goal.returns-in-Some-clause-stopped
 returns-in-Some-clause-stopped g c =
     let graph = g.G.Graph.meaning c.args.graph.now in
-    let labels = g.L.Labels.automaton c.args.labels.now in
+    let labels = g.L.Labels.automaton c.args.machine.now.labels in
     let is = rw c.in-Ended.is at c.in_ok-settled.ensures in
     let least = least_labels graph labels c.args.starts.now c.args.targets.now c.args.dep c.args.bound c.in-Ended.best.arrival
     c.in_ok-settled.settled.frontier is.searched c.in_ok-labels.labels.items c.in_ok-labels.ensures.sorted c.in_ok-labels.ensures.labels in
@@ -28,10 +28,10 @@ pub returns-clause-closed : goal.returns-clause-closed
 returns-clause-closed g c unbounded =
     let f = c.in_ok-settled.settled.frontier in
     let is = rw c.in-Ended.is at c.in_ok-settled.ensures in
-    labels_closed (g.G.Graph.meaning c.args.graph.now) (g.met.G.Graph.lawful c.args.graph.now) (g.L.Labels.automaton c.args.labels.now) (g.met.L.Labels.lawful c.args.labels.now)
+    labels_closed (g.G.Graph.meaning c.args.graph.now) (g.met.G.Graph.lawful c.args.graph.now) (g.L.Labels.automaton c.args.machine.now.labels) (g.met.L.Labels.lawful c.args.machine.now.labels)
     c.args.starts.now c.args.targets.now c.requires.starts c.args.dep c.args.bound c.in-Ended.best.arrival unbounded c.in_ok-labels.labels.items
     is.arrival (returns-clause-labels g c)
-    (reached_listed (g.G.Graph.meaning c.args.graph.now) (g.L.Labels.automaton c.args.labels.now) c.args.starts.now c.args.targets.now c.args.dep c.args.bound c.in-Ended.best.arrival
+    (reached_listed (g.G.Graph.meaning c.args.graph.now) (g.L.Labels.automaton c.args.machine.now.labels) c.args.starts.now c.args.targets.now c.args.dep c.args.bound c.in-Ended.best.arrival
     f is.searched c.in_ok-labels.labels.items c.in_ok-labels.ensures.sorted c.in_ok-labels.ensures.labels)
 
 pub returns-clause-times : goal.returns-clause-times
@@ -39,7 +39,7 @@ returns-clause-times g c =
     let is = rw c.in-Ended.is at c.in_ok-settled.ensures in
     record {
       arrival = is.arrival_soon;
-      labels = labels_in_time (g.G.Graph.meaning c.args.graph.now) (g.L.Labels.automaton c.args.labels.now) c.args.starts.now c.args.targets.now c.args.dep c.args.bound c.in-Ended.best.arrival
+      labels = labels_in_time (g.G.Graph.meaning c.args.graph.now) (g.L.Labels.automaton c.args.machine.now.labels) c.args.starts.now c.args.targets.now c.args.dep c.args.bound c.in-Ended.best.arrival
           c.in_ok-settled.settled.frontier is.searched c.in_ok-labels.labels.items c.in_ok-labels.ensures.sorted c.in_ok-labels.ensures.labels;
       walk = is.walk_soon;
     }

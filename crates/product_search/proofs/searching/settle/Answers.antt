@@ -4,18 +4,18 @@ use Rattle.product_search.proofs.searching.settle.Goals as goal
 
 pub walk_to-requires-clause-parents : goal.walk_to-requires-clause-parents
 walk_to-requires-clause-parents g c =
-    parents_of (g.G.Graph.meaning c.args.graph.now) (g.L.Labels.automaton c.args.labels.now) c.args.starts.now c.args.targets.now c.args.dep c.args.bound
+    parents_of (g.G.Graph.meaning c.args.graph.now) (g.L.Labels.automaton c.args.machine.now.labels) c.args.starts.now c.args.targets.now c.args.dep c.args.bound
     c.in_ok-explored.explored.frontier c.in-Ended.end (rw c.in-Ended.is at c.in_ok-explored.ensures)
 
 pub walk_to-requires-clause-link : goal.walk_to-requires-clause-link
 walk_to-requires-clause-link g c =
-    link_of (g.G.Graph.meaning c.args.graph.now) (g.L.Labels.automaton c.args.labels.now) c.args.starts.now c.args.targets.now c.args.dep c.args.bound
+    link_of (g.G.Graph.meaning c.args.graph.now) (g.L.Labels.automaton c.args.machine.now.labels) c.args.starts.now c.args.targets.now c.args.dep c.args.bound
     c.in_ok-explored.explored.frontier c.in-Ended.end (rw c.in-Ended.is at c.in_ok-explored.ensures)
 
 pub returns-in_ok-walk-in-Ended : goal.returns-in_ok-walk-in-Ended
 returns-in_ok-walk-in-Ended g c =
     let graph = g.G.Graph.meaning c.args.graph.now in
-    let labels = g.L.Labels.automaton c.args.labels.now in
+    let labels = g.L.Labels.automaton c.args.machine.now.labels in
     let f = c.in_ok-explored.explored.frontier in
     let end = c.in-Ended.end in
     let is = rw c.in-Ended.is at c.in_ok-explored.ensures in

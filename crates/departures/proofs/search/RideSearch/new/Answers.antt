@@ -20,9 +20,9 @@ returns-clause-search c =
     let collapses = subst (λ (p : Positions). AcceptsCollapsed (position_meaning p)) same c.new-collapsed.ensures.accepts in
     let reads = counting_of (form_of q.expr) inner AtLeast 1 denotes collapses c.new-labels.ensures.accepts in
     record {
-      reads = rw (c.new-labels.ensures.same, c.new-labels.ensures.side, c.new-labels.ensures.limit) reads;
+      reads = rw (c.in_ok-machine.ensures, c.new-labels.ensures.same, c.new-labels.ensures.side, c.new-labels.ensures.limit) reads;
       none = λ off word accepts. accepts_none (collapsed inner) (collapsed_lawful inner c.new-collapsed.result.inner.lawful c.new-collapsed.result.fits)
-          (c.reads_transit-reads_transit.ensures off) c.new-labels.ensures.accepts word (rw (c.new-labels.ensures.same, c.new-labels.ensures.side, c.new-labels.ensures.limit) at accepts);
+          (c.reads_transit-reads_transit.ensures off) c.new-labels.ensures.accepts word (rw (c.in_ok-machine.ensures, c.new-labels.ensures.same, c.new-labels.ensures.side, c.new-labels.ensures.limit) at accepts);
       journeys = rw c.new-plain.ensures.network c.new-plain.ensures.journeys;
       origin = rw c.new-plain.ensures.network c.in_ok-origins.ensures.are;
       destination = rw c.new-plain.ensures.network c.in_ok-destinations.ensures.are;

@@ -47,7 +47,7 @@ returns c =
     let base : c.from.result ≡ first_moment n = c.from.ensures ∙ c.base.ensures ∙ ap (λ (d : DaysMeaning). base_of d 7) is_days in
     let positions = position_meaning c.in_ok-positions.positions in
     let same = sym c.new-automaton.ensures.same in
-    record {
+    rw c.in_ok-machine.ensures (record {
       backwards = c.of-mirror.ensures.backwards;
       by = c.of-mirror.ensures.deadline;
       small = omega arith;
@@ -68,4 +68,4 @@ returns c =
         start_nodes = rw c.network-network.ensures at c.in_ok-starts.ensures.nodes;
         target_nodes = rw c.network-network.ensures at c.in_ok-targets.ensures.nodes;
       };
-    }
+    })

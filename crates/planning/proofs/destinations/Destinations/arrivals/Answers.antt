@@ -5,11 +5,14 @@ use Rattle.automaton.specs.Meanings.{position_meaning}
 use Rattle.phase_graph.specs.InUse.{starts_in}
 use Rattle.phase_graph.specs.InUseGraph.{meaning_in_use}
 use Rattle.product_search.specs.Arrivals.{AreArrivals}
-use Rattle.certificate.proofs.VerifyLemmas.{automaton_denotes}
 use Rattle.planning.specs.Destinations.{hierarchy_of}
 use Rattle.planning.proofs.PlanLemmas.{starts_low}
+use Rattle.planning.proofs.RoomLemmas.{query_spells}
 use Rattle.planning.proofs.DestinationLemmas.{all_arrivals, parts_fit}
 use Rattle.planning.proofs.destinations.Destinations.arrivals.Goals as goal
+
+pub take-requires-clause-spelled : goal.take-requires-clause-spelled
+take-requires-clause-spelled c = query_spells c.args.self.now.network.now _ _ _ _ _ c.requires.read.asks
 
 pub search_arrivals-requires-clause-starts : goal.search_arrivals-requires-clause-starts
 search_arrivals-requires-clause-starts c =
@@ -28,8 +31,8 @@ returns c =
     let d = c.args.self.now in
     let q = c.args.query.now in
     let h = hierarchy_of d in
-    let l = collapsed (position_meaning c.new-automaton.result.inner) in
-    let denotes = automaton_denotes q.expr c.new-automaton.result.inner _ c.new-automaton.ensures.same c.new-automaton.ensures.accepts c.in_ok-of.ensures.accepts in
+    let l = collapsed (position_meaning c.in_ok-expressed.expressed.machine.labels.inner) in
+    let denotes = c.in_ok-expressed.ensures.denotes in
     let starts = c.deref-2.ensures.value ∙ (c.in_ok-starts.ensures ∙ ap (starts_in h) c.deref.ensures.value) in
     let are = subst (λ (ss : List ℕ). AreArrivals (meaning_in_use d.graph) l ss d.table.nodes.items q.depart c.in_ok-times.times.items) starts c.in_ok-times.ensures in
     let list = rw (c.deref-3.ensures.value, c.deref-4.ensures.value) at c.in_ok-list.ensures in
