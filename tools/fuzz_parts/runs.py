@@ -1,5 +1,6 @@
 """A run of a program within limits, and what must hold of it."""
 
+import contextlib
 import dataclasses
 import os
 import pathlib
@@ -37,16 +38,10 @@ class Run:
 
 def run(words: list[str], folder: pathlib.Path, limits: Limits) -> Run:
     """Runs a program in a folder. Its standard error is not kept: nothing is promised of it."""
-    def limit() -> None:
-        if limits.address:
-            resource.setrlimit(resource.RLIMIT_AS, (limits.address, limits.address))
-        resource.setrlimit(resource.RLIMIT_CPU, (int(limits.seconds) + 1, int(limits.seconds) + 2))
-        resource.setrlimit(resource.RLIMIT_CORE, (0, 0))
-
     with open(folder / "out", "wb+") as out:
         began = time.monotonic()
-        process = subprocess.Popen(words, cwd=folder, stdin=subprocess.DEVNULL, stdout=out, stderr=subprocess.DEVNULL,
-                                   preexec_fn=limit)
+        process = subprocess.Popen(words, cwd=folder, stdin=subprocess.DEVNULL, stdout=out, stderr=subprocess.DEVNULL)
+        _limit(process.pid, limits)
         stop = threading.Timer(limits.seconds, process.kill)
         stop.start()
         _, status, used = os.wait4(process.pid, 0)
@@ -56,6 +51,15 @@ def run(words: list[str], folder: pathlib.Path, limits: Limits) -> Run:
         out.seek(0)
         ended = None if process.returncode in (-signal.SIGXCPU, -signal.SIGKILL) else process.returncode
         return Run(ended, out.read(), seconds, used.ru_maxrss << 10)
+
+
+def _limit(pid: int, limits: Limits) -> None:
+    """Limits a process that has just begun: not before it begins, which would need a whole copy of this one first."""
+    with contextlib.suppress(ProcessLookupError):
+        if limits.address:
+            resource.prlimit(pid, resource.RLIMIT_AS, (limits.address, limits.address))
+        resource.prlimit(pid, resource.RLIMIT_CPU, (int(limits.seconds) + 1, int(limits.seconds) + 2))
+        resource.prlimit(pid, resource.RLIMIT_CORE, (0, 0))
 
 
 def floor() -> int:
