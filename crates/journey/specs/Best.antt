@@ -11,6 +11,7 @@ use Rattle.journey.specs.declared.answer.BlockBody.TheVariants.{Journey, Nothing
 use Rattle.journey.specs.declared.fault.QueryFault.{QueryFault}
 use Rattle.journey.specs.declared.query.Query.{Query}
 use Rattle.journey.specs.Queries.{IsQuery, IsRefused}
+use Rattle.journey.specs.Boarded.{BoardsOnTime}
 use Rattle.journey.specs.Blocks.{IsFramed, IsBlockText}
 use Rattle.journey.specs.Texts.{refusal_text, block_text}
 
@@ -79,4 +80,17 @@ IsRightBody n line (Refused fault) = IsRefused n line fault
 pub record IsBlock (n : NetworkLists) (line block : List ℕ) : Type 0 where
   pub body : BlockBody
   pub right : IsRightBody n line body
+  pub tells : IsBlockText n line body block
+
+-- each ride of a journey that is told is boarded when it departs
+abbrev pub IsBoardedBody : NetworkLists → BlockBody → Type 0
+IsBoardedBody n (Journey j) = BoardsOnTime n j
+IsBoardedBody n Nothing = Unit {0}
+IsBoardedBody n (Refused fault) = Unit {0}
+
+-- the block that `answer` prints for a query line: a right one, whose rides are boarded when they depart
+pub record IsToldBlock (n : NetworkLists) (line block : List ℕ) : Type 0 where
+  pub body : BlockBody
+  pub right : IsRightBody n line body
+  pub boarded : IsBoardedBody n body
   pub tells : IsBlockText n line body block

@@ -150,7 +150,8 @@ module _ (n : NetworkLists) (network : IsNetwork n) (h : Option HierarchyLists) 
       let answers = walk_answers a w j is takes in
       let printable = walk_printable w j a answers soon is.leaves takes in
       let best = best_of (Some (a, j)) answers least in
-      record { plan = (best.0, printable); holds = answers; fits = (omega arith, printable.times); same = refl }
+      let boarded = record { end = _; arrival = _; letters = _; are = takes.unpacked.boarded } in
+      record { plan = (best.0, printable, boarded); holds = answers; fits = (omega arith, printable.times); same = refl }
 
   -- what a search found
   pub found_for : (arrival : Option ℕ) (walk : Option Walk) (j : Option Route) → IsArrival g (collapsed l) starts ends q.depart None arrival
@@ -185,6 +186,6 @@ plan_proves n network h q asks found labels plan cert = record { asked = asked_b
   where
     best_of : (found : Option (ℕ × Route)) → IsPlan n (asked_by q) (route_of found) → ResultHolds n (asked_by q) found → IsBestResult n (asked_by q) found
     best_of None none holds = none
-    best_of (Some claimed) (best, printable) holds =
+    best_of (Some claimed) (best, printable, boarded) holds =
         let a = best.answers in
         (best, (journey_once n network (asked_by q) claimed.0 claimed.1 a.end best.arrival a.word holds.end claimed.0 holds.word a.real holds.real).1)

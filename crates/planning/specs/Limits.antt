@@ -13,7 +13,7 @@ use Rattle.mode_network.specs.NetworkLists.{NetworkLists}
 use Rattle.journey.specs.declared.fault.QueryFault.{QueryFault}
 use Rattle.journey.specs.Queries.{IsRefused}
 use Rattle.journey.specs.CopyLists.{AreTheCopies}
-use Rattle.journey.specs.Best.{Asked, Asks, IsBlock}
+use Rattle.journey.specs.Best.{Asked, Asks, IsToldBlock}
 use Rattle.journey.specs.Large.{stopped_block}
 use Rattle.planning.specs.Plans.{AreTheLabels}
 use Rattle.planning.specs.Settled.{IsSettledBy}
@@ -50,7 +50,7 @@ IsWithinLabels n h (Some limit) line IsStopped Is = (IsStoppedLine n h limit lin
 
 -- the right block of a query line
 abbrev pub IsBlockWithin : NetworkLists → Option HierarchyLists → Option ℕ → List ℕ → List ℕ → Type 0
-IsBlockWithin n h limit line block = IsWithinLabels n h limit line (λ most. block ≡ stopped_block line most) (IsBlock n line block)
+IsBlockWithin n h limit line block = IsWithinLabels n h limit line (λ most. block ≡ stopped_block line most) (IsToldBlock n line block)
 
 -- how many labels the search for a line has; one that is stopped counts none
 abbrev pub IsSettledWithin : NetworkLists → Option HierarchyLists → Option ℕ → List ℕ → ℕ → Type 0

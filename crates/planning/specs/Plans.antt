@@ -18,6 +18,7 @@ use Rattle.journey.specs.Queries.{IsQuery}
 use Rattle.journey.specs.CopyLists.{AreTheCopies}
 use Rattle.journey.specs.Best.{Asked, IsBest, HasNone, asked_by}
 use Rattle.journey.specs.Blocks.{IsPrintable}
+use Rattle.journey.specs.Boarded.{BoardsOnTime}
 use Rattle.certificate.specs.Lines.{HasLabelTime}
 use Rattle.certificate.specs.Texts.{FitsResult}
 use Rattle.certificate.specs.Valid.{IsValid}
@@ -29,9 +30,9 @@ pub record IsRead (n : NetworkLists) (q : Query) : Type 0 where
   pub usable : IsUsable (form_of q.expr)
   pub soon : q.depart < 2 ^ 64
 
--- a best journey, or None where no journey answers
+-- a best journey, whose rides are boarded when they depart, or None where no journey answers
 abbrev pub IsPlan : NetworkLists → Asked → Option Route → Type 0
-IsPlan n q (Some j) = IsBest n q j × IsPrintable n j
+IsPlan n q (Some j) = IsBest n q j × IsPrintable n j × BoardsOnTime n j
 IsPlan n q None = HasNone n q
 
 -- a journey that was found with its arrival, if one was

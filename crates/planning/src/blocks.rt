@@ -2,7 +2,7 @@
 
 ghost use Rattle.std.specs.Prelude.{◌≡◌, IfOk, IfSome, Some, option_map};
 ghost use Rattle.hierarchy.specs.Soundness.{IsSound};
-ghost use Rattle.journey.specs.Best.{IsBlock, IsRightBody};
+ghost use Rattle.journey.specs.Best.{IsBoardedBody, IsRightBody, IsToldBlock};
 ghost use Rattle.journey.specs.Blocks.{IsBlockText, IsPrintableBody};
 ghost use Rattle.planning.specs.Limits.{IsBlockWithin, IsLineWithin, IsSettledWithin, IsStoppedLine};
 ghost use Rattle.planning.specs.Settled.{IsSettledBy};
@@ -28,6 +28,7 @@ fn body(
 ) -> Result<Limited<(BlockBody, u64)>, AllocError>
     requires sound { IfSome hierarchy (λ h. IsSound network.now h.now) }
     ensures right { IfEnded result (λ it. IsRightBody network.now line.now it.0) }
+    ensures boarded { IfEnded result (λ it. IsBoardedBody network.now it.0) }
     ensures printable { IfEnded result (λ it. IsPrintableBody network.now it.0) }
     ensures settled { IfEnded result (λ it. IsSettledBy network.now (option_map (λ h. h.now) hierarchy.entry) line.now it.1) }
     ensures few { IfEnded result (λ it. IfSome limit (λ most. IsLineWithin network.now
@@ -62,7 +63,7 @@ pub fn block_of(
     line: &[u8],
 ) -> Result<(Vec<u8>, u64), AllocError>
     requires { IfSome hierarchy (λ h. IsSound network.now h.now) }
-    ensures block { IfOk result (λ it. IsBlock network.now line.now it.0.items) }
+    ensures block { IfOk result (λ it. IsToldBlock network.now line.now it.0.items) }
     ensures settled { IfOk result (λ it. IsSettledBy network.now (option_map (λ h. h.now) hierarchy.entry) line.now it.1) }
 {
     block_within(alloc, room, network, hierarchy, line, None)

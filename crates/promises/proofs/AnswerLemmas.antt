@@ -10,7 +10,7 @@ use Rattle.hierarchy_commands.specs.Commands.{OnHierarchyIfNamed}
 use Rattle.mode_network.specs.NetworkLists.{NetworkLists}
 use Rattle.journey.specs.declared.answer.BlockBody.{BlockBody}
 use Rattle.journey.specs.declared.answer.BlockBody.TheVariants.{Journey, Nothing, Refused}
-use Rattle.journey.specs.Best.{IsRightBody}
+use Rattle.journey.specs.Best.{IsBoardedBody, IsRightBody}
 use Rattle.journey.specs.Blocks.{IsBlockText}
 use Rattle.journey.specs.Texts.{block_text}
 use Rattle.run_steps.specs.declared.limits.Limits.{Limits}
@@ -50,17 +50,17 @@ done_as_asked caps words r asks old new is = elim (runs_are_as_asked caps words 
 abbrev unlimited : Limits
 unlimited = record { places = None; labels = None }
 
-right_body : (n : NetworkLists) (line block : List ℕ) (body : BlockBody) → IsRightBody n line body → IsBlockText n line body block → TellsRight n line block
-right_body n line block (Journey j) (asked, asks, best) tells =
-    inl (record { asked = asked; asks = asks; journey = j; best = best; body = tells.text; told = tells.is_body; block_is = tells.block_is })
-right_body n line block Nothing (asked, asks, none) tells =
+right_body : (n : NetworkLists) (line block : List ℕ) (body : BlockBody) → IsRightBody n line body → IsBoardedBody n body → IsBlockText n line body block → TellsRight n line block
+right_body n line block (Journey j) (asked, asks, best) boarded tells =
+    inl (record { asked = asked; asks = asks; journey = j; best = best; boarded = boarded; body = tells.text; told = tells.is_body; block_is = tells.block_is })
+right_body n line block Nothing (asked, asks, none) boarded tells =
     inr (inl (record { asked = asked; asks = asks; none = none; block_is = subst (λ t. block ≡ block_text line t) tells.is_body tells.block_is }))
-right_body n line block (Refused fault) refused tells =
+right_body n line block (Refused fault) refused boarded tells =
     inr (inr (record { fault = fault; refused = refused; block_is = subst (λ t. block ≡ block_text line t) tells.is_body tells.block_is }))
 
 right_block : (n : NetworkLists) (line block : List ℕ) → IsAnswer n None unlimited line block → TellsRight n line block
 right_block n line block (inl (count, large, is)) = absurd large
-right_block n line block (inr (small, is)) = right_body n line block is.body is.right is.tells
+right_block n line block (inr (small, is)) = right_body n line block is.body is.right is.boarded is.tells
 
 each_right : (n : NetworkLists) (lines : List (List ℕ)) (out : List ℕ) → AreBlocks (IsAnswer n None unlimited) lines out
     → (blocks : List (List ℕ)) × EachTellsRight n lines blocks × (out ≡ concat blocks)

@@ -12,6 +12,7 @@ use Rattle.region_file.specs.Regions.{region_of}
 use Rattle.journey.specs.declared.fault.QueryFault.{QueryFault}
 use Rattle.journey.specs.Queries.{IsRefused}
 use Rattle.journey.specs.Best.{Asked, Asks, IsBest, HasNone}
+use Rattle.journey.specs.Boarded.{BoardsOnTime}
 use Rattle.journey.specs.Texts.{IsJourneyText, block_text, refusal_text}
 use Rattle.run_steps.specs.Complete.{Files}
 use Rattle.run_steps.specs.QueryLines.{query_lines}
@@ -29,12 +30,14 @@ pub record AreWords (words : List (List ℕ)) (region queries : List ℕ) : Type
 
 -- ---- one block
 
--- the line asks something, and a best journey is told: no journey that answers arrives earlier
+-- the line asks something, and a best journey is told: no journey that answers arrives earlier; each of its rides is
+-- boarded when it departs
 pub record TellsBest (n : NetworkLists) (line block : List ℕ) : Type 0 where
   pub asked : Asked
   pub asks : Asks n line asked
   pub journey : Route
   pub best : IsBest n asked journey
+  pub boarded : BoardsOnTime n journey
   pub body : List ℕ
   pub told : IsJourneyText n journey body
   pub block_is : block ≡ block_text line body

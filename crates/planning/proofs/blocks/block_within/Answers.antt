@@ -9,8 +9,9 @@ returns-in_ok-block-in-Ended-clause-block c =
     let h = option_map (λ (x : Bor Hierarchy). x.now) c.args.hierarchy in
     let few = rw c.in-Ended.is at c.in_ok-body.ensures.few in
     let right = rw c.in-Ended.is at c.in_ok-body.ensures.right in
+    let boarded = rw c.in-Ended.is at c.in_ok-body.ensures.boarded in
     within_labels c.args.network.now h c.args.limit c.args.line.now _ _ few
-    (record { body = c.in-Ended.body; right = right; tells = c.in_ok-block-in-Ended.ensures })
+    (record { body = c.in-Ended.body; right = right; boarded = boarded; tells = c.in_ok-block-in-Ended.ensures })
 
 pub returns-in_ok-block-in-Ended-clause-settled : goal.returns-in_ok-block-in-Ended-clause-settled
 returns-in_ok-block-in-Ended-clause-settled c =

@@ -20,6 +20,7 @@ returns-in-Err c =
     let refused : IsRefused n c.args.line.now c.in-Err.fault = search rules in
     record {
       right = refused;
+      boarded = tt;
       printable = search rules;
       settled = inl (c.in-Err.fault, refused, refl);
       few = refused_within n h c.args.limit c.args.line.now c.in-Err.fault refused;
