@@ -11,7 +11,7 @@ use crate::notes::Notes;
 use journey_book::words::read_words;
 use journey_book::{BookOutcome, Keeper, MemoryKeeper, run_book};
 use plan_base::{FolderShelf, StreamSink};
-use run_steps::Outcome;
+use run_steps::{Outcome, tell_no_text};
 use std::collections::BTreeMap;
 use std::env;
 use std::io::{self, ErrorKind};
@@ -23,7 +23,11 @@ fn main(rt: HostRuntime) -> ExitCode {
         Err(error) if error.kind() == ErrorKind::OutOfMemory => {
             BookOutcome::Common(Outcome::OutOfMemory)
         }
-        Err(_) => BookOutcome::Common(Outcome::Usage),
+        Err(_) => {
+            let mut notes = Notes::new(StreamSink::new(rt.stderr()));
+            tell_no_text(rt.alloc(), &mut notes);
+            BookOutcome::Common(Outcome::Usage)
+        }
     };
     ExitCode::from(outcome.status())
 }

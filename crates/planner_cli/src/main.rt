@@ -3,6 +3,7 @@
 
 use plan_base::{FolderShelf, StreamSink};
 use planner_core::{Outcome, Ports, run};
+use run_steps::tell_no_text;
 use std::env;
 use std::io::{self, ErrorKind};
 use std::process::ExitCode;
@@ -19,7 +20,10 @@ fn main(rt: HostRuntime) -> ExitCode {
             run(&mut ports, words.as_slice())
         }
         Err(error) if error.kind() == ErrorKind::OutOfMemory => Outcome::OutOfMemory,
-        Err(_) => Outcome::Usage,
+        Err(_) => {
+            tell_no_text(rt.alloc(), &mut StreamSink::new(rt.stderr()));
+            Outcome::Usage
+        }
     };
     ExitCode::from(outcome.status())
 }
