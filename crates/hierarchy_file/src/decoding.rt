@@ -63,7 +63,8 @@ fn read(alloc: Global, bytes: &[u8]) -> Result<Hierarchy, HFileFault>
     Ok(lists.into_hierarchy(alloc)?)
 }
 
-/// The lists of the hierarchy that the bytes spell, or the first fault of the bytes, as [`decode`] finds them.
+/// The lists of the hierarchy that the bytes spell, or the first fault of the bytes, as [`decode`] finds them. They take
+/// no more room than the records need that are there.
 pub fn decode_lists(alloc: Global, bytes: &[u8]) -> Result<Lists, HFileFault>
     ensures found { IfOk result (λ lists. HasSpelling lists × (bytes.now ≡ hierarchy_text lists)) }
     ensures exact { GivesHierarchy result (hierarchy_of bytes.now) }
@@ -77,8 +78,9 @@ pub fn decode_lists(alloc: Global, bytes: &[u8]) -> Result<Lists, HFileFault>
 /// entry and each witness is a record; a witness has the count of its nodes before them. All numbers are big-endian:
 /// counts and weights have eight bytes, and nodes four, where 2^32 - 1 stands for no middle node. Each hierarchy has
 /// exactly one spelling, and other bytes are refused: first where the head is not there, then at the first record that
-/// is cut short or breaks a rule of [`Hierarchy::new`], and at last where bytes follow the records. No more room is
-/// taken than the records need that are there.
+/// is cut short or breaks a rule of [`Hierarchy::new`], and at last where bytes follow the records. The lists take no
+/// more room than the records need that are there; the tables of a hierarchy go with the greatest number of a node, so
+/// whoever does not trust the bytes reads the lists alone first, by [`decode_lists`].
 pub fn decode(alloc: Global, bytes: &[u8]) -> Result<Hierarchy, HFileFault>
     // What is read keeps the rules of a hierarchy, and is spelled so.
     ensures found { IfOk result (λ h. HasSpelling h × (bytes.now ≡ hierarchy_text h)) }
