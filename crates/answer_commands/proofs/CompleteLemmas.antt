@@ -1,14 +1,14 @@
 -- A run whose files are there and without fault ends with its work done: each other outcome has a cause that is not there.
-use Rattle.std.proofs.Common.{◌≡◌, ℕ, List, Option, None, Some, Err, sym, subst}
+use Rattle.std.proofs.Common.{◌≡◌, ℕ, List, Option, None, Some, sym, subst}
 use Rattle.mode_network.specs.NetworkLists.{NetworkLists}
 use Rattle.mode_network.specs.Rules.{IsNetwork}
 use Rattle.journey.specs.declared.verdict.CertFault.TheVariants.{BadLine}
 use Rattle.journey.specs.declared.verdict.CertVerdict.TheVariants as verdict
 use Rattle.certificate.specs.Certificates.{Claim}
 use Rattle.certificate.specs.Texts.{IsCertText}
-use Rattle.certificate.specs.Reading.{cert_of}
+use Rattle.certificate.specs.Reading.{HasCause}
 use Rattle.certificate.specs.Verdicts.{IsCertVerdict}
-use Rattle.certificate.proofs.ReadLaws.{again}
+use Rattle.certificate.proofs.ReadLaws.{again, bad_line_is}
 use Rattle.certificate.proofs.UniqueLemmas.{verdict_is_unique}
 use Rattle.run_steps.proofs.CertificateComplete.{verified_completes}
 use Rattle.hierarchy.specs.Lists.{HierarchyLists}
@@ -23,8 +23,8 @@ use Rattle.answer_commands.specs.Outputs.{best_certificates}
 use Rattle.answer_commands.specs.Complete.{SpellsValid, AnswerCompletes, CertifyCompletes, VerifyCompletes}
 
 -- bytes that spell a valid certificate have no line that may not stand, and no clause that fails
-spells : (n : NetworkLists) (h : Option HierarchyLists) (bytes : List ℕ) → SpellsValid n h bytes → (line : ℕ) → cert_of bytes ≡ Err (BadLine line) → ⊥
-spells n h bytes (claim, text, valid) line bad = let good = again bytes claim text in cc
+spells : (n : NetworkLists) (h : Option HierarchyLists) (bytes : List ℕ) → SpellsValid n h bytes → (line : ℕ) → HasCause bytes (BadLine line) → ⊥
+spells n h bytes (claim, text, valid) line bad = let good = again bytes claim text in let named = bad_line_is bytes line bad in cc
 
 same_claim : (bytes : List ℕ) (a b : Claim) → IsCertText bytes a → IsCertText bytes b → a ≡ b
 same_claim bytes a b p q = let x = again bytes a p in let y = again bytes b q in cc

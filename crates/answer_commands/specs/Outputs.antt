@@ -1,5 +1,5 @@
 -- What `certify` and `verify` write.
-use Rattle.std.specs.Prelude.{◌≡◌, ℕ, ◌⊎◌, List, Option, Some, None, Err}
+use Rattle.std.specs.Prelude.{◌≡◌, ℕ, ◌⊎◌, List, Option, Some, None}
 use Rattle.mode_network.specs.NetworkLists.{NetworkLists}
 use Rattle.mode_network.specs.Journeys.{Route}
 use Rattle.journey.specs.declared.answer.BlockBody.{BlockBody}
@@ -11,7 +11,7 @@ use Rattle.journey.specs.Best.{IsBlock, IsRefusedBlock}
 use Rattle.journey.specs.Large.{IsBlockUnder, stopped_block}
 use Rattle.certificate.specs.Certificates.{Claim}
 use Rattle.certificate.specs.Texts.{IsCertText}
-use Rattle.certificate.specs.Reading.{cert_of}
+use Rattle.certificate.specs.Reading.{HasCause}
 use Rattle.certificate.specs.Valid.{IsValid, Proves}
 use Rattle.certificate.specs.Verdicts.{IsCertVerdict}
 use Rattle.run_steps.specs.declared.limits.Limits.{Limits}
@@ -54,7 +54,7 @@ pub record IsShown (n : NetworkLists) (h : Option HierarchyLists) (bytes block :
 -- certificates of earliest arrival, whose labels are over the graph in use
 abbrev pub best_certificates : NetworkLists → Option HierarchyLists → CertificateKind
 best_certificates n h = record {
-  IsBadLine = λ bytes line. cert_of bytes ≡ Err (BadLine line);
+  IsBadLine = λ bytes line. HasCause bytes (BadLine line);
   Fails = λ bytes clause at. (claim : Claim) × IsCertText bytes claim × IsCertVerdict n h claim (verdict.Invalid clause at);
   Shows = IsShown n h;
 }

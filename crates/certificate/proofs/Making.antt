@@ -5,7 +5,7 @@ use Rattle.std.specs.List.{AllByRecursion}
 use Rattle.plain_texts.specs.Lines.{IsLine, pieces, lines_text}
 use Rattle.plain_texts.specs.Course.{Course, whole, bad, trailing, lines_from, run_on, IsWhole}
 use Rattle.plain_texts.proofs.Pieces.{pieces_lines}
-use Rattle.plain_texts.proofs.Course.{ReadsLines, has_pieces, course_takes, course_bad, course_trailing, course_again}
+use Rattle.plain_texts.proofs.Course.{ReadsLines, has_pieces, course_takes, course_bad, course_bad_is, course_trailing, course_trailing_is, course_again}
 use Rattle.journey.specs.declared.verdict.CertFault.{CertFault}
 use Rattle.journey.specs.declared.verdict.CertFault.TheVariants.{BadLine, OutOfMemory}
 use Rattle.certificate.specs.Making.{made_by, Gives, IsCause}
@@ -54,3 +54,8 @@ module _ {L P M : Type 0} (spell : L → List ℕ) (Fits : L → Type 0) (after 
   gives_cause bytes (Ok m) e = tt
   gives_cause bytes (Err (BadLine k)) e = cause bytes k e
   gives_cause bytes (Err OutOfMemory) e = tt
+
+  -- and it is named: the cause is that of one line alone
+  pub cause_is : (bytes : List ℕ) (k : ℕ) → IsCause spell Fits after is_last first bytes (BadLine k) → read_as bytes ≡ Err (BadLine k)
+  cause_is bytes k (inl h) = ap (made_by put nothing) (course_bad_is spell Fits after is_last line_at reads (pieces bytes) first 1 k h)
+  cause_is bytes k (inr h) = ap (made_by put nothing) (course_trailing_is spell Fits after is_last line_at reads (pieces bytes) first 1 k going h)

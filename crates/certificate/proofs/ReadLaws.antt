@@ -12,6 +12,7 @@ use Rattle.mode_network.specs.declared.steps.Step.TheVariants.{Wait, Road, Link,
 use Rattle.mode_network.specs.Journeys.{Route}
 use Rattle.journey.specs.Ends.{HasTime}
 use Rattle.journey.specs.declared.verdict.CertFault.{CertFault}
+use Rattle.journey.specs.declared.verdict.CertFault.TheVariants.{BadLine}
 use Rattle.product_search.specs.declared.label.Label.{Label}
 use Rattle.certificate.specs.declared.lines.Line.{Line}
 use Rattle.certificate.specs.declared.lines.Line.TheVariants as line
@@ -22,7 +23,7 @@ use Rattle.certificate.specs.Sections.{due_behind, is_last, line_at}
 use Rattle.certificate.specs.Texts.{FitsCertificate, FitsResult, IsCertText, cert_lines, cert_text, label_lines, result_lines}
 use Rattle.certificate.specs.Reading.{HasCause, cert_of, nothing, put}
 use Rattle.certificate.proofs.FitLemmas.{both_parts, of_both}
-use Rattle.certificate.proofs.Making.{made_of, read_again, gives_cause as gives_cause_by}
+use Rattle.certificate.proofs.Making.{made_of, read_again, cause_is, gives_cause as gives_cause_by}
 use Rattle.certificate.specs.Making.{made_by, Gives}
 use Rattle.certificate.proofs.KindLaws.{IsInWords, words_are_words}
 use Rattle.certificate.proofs.SectionLaws.{reads_lines}
@@ -124,3 +125,8 @@ gives_only bytes r e c h = subst (λ x. Gives r x) (again bytes c h) e
 pub gives_cause : (bytes : List ℕ) (r : Result Claim CertFault) → Gives r (cert_of bytes) → IfErr r (HasCause bytes)
 unfolding cert_of
 gives_cause = gives_cause_by spelled FitsLine due_behind is_last line_at reads_lines due.Head refl put nothing
+
+-- a line that is the first which may not stand is named
+pub bad_line_is : (bytes : List ℕ) (line : ℕ) → HasCause bytes (BadLine line) → cert_of bytes ≡ Err (BadLine line)
+unfolding cert_of
+bad_line_is = cause_is spelled FitsLine due_behind is_last line_at reads_lines due.Head refl put nothing

@@ -1,33 +1,33 @@
 -- A run whose files are there and without fault ends with its work done: each other outcome has a cause that is not there.
-use Rattle.std.proofs.Common.{ℕ, inl, inr, List, Option, Some, None, Ok, subst}
-use Rattle.std.specs.Prelude.{Result, IfSome}
+use Rattle.std.proofs.Common.{ℕ, ◌⊎◌, inl, inr, List, Option, Some, None, subst}
+use Rattle.std.specs.Prelude.{IfSome}
 use Rattle.mode_network.specs.NetworkLists.{NetworkLists}
 use Rattle.hierarchy.specs.Lists.{HierarchyLists}
 use Rattle.hierarchy.specs.Rules.{IsHierarchy}
 use Rattle.hierarchy.specs.Soundness.{IsSound}
 use Rattle.hierarchy.specs.declared.verdict.Verdict.TheVariants.{Broken}
 use Rattle.hierarchy_check.proofs.VerdictLemmas.{sound_verdict}
-use Rattle.hierarchy_file.specs.declared.fault.HFileFault.{HFileFault}
-use Rattle.hierarchy_file.specs.Reading.{hierarchy_of}
+use Rattle.hierarchy_file.proofs.CauseLaws.{no_hierarchy, spell_one}
 use Rattle.run_steps.specs.declared.outcome.FileRole.TheVariants.{Hierarchy}
 use Rattle.run_steps.specs.Sayings.{Saying}
 use Rattle.run_steps.specs.Complete.{Files, IsDoneOrMemory, Completes}
 use Rattle.run_steps.proofs.CompleteSteps.{file_completes, network_completes, writes_completes}
-use Rattle.hierarchy_commands.specs.Commands.{OnSound, OnHierarchyIfNamed}
+use Rattle.hierarchy_commands.specs.Commands.{IsUnsound, OnSound, OnHierarchyIfNamed}
 use Rattle.hierarchy_commands.specs.Complete.{SpellsSound, IsSoundIfNamed, CheckCompletes, ContractCompletes}
 
 module _ (files : Files) where
   -- a hierarchy that is sound is read and checked
   sound_completes : (n : NetworkLists) (P : HierarchyLists → Type 0) (rest : HierarchyLists → Saying) → ((h : HierarchyLists) → IsHierarchy h × IsSound n h → Completes files (P h) (rest h))
-      → (bytes : List ℕ) → Completes files (SpellsSound n P bytes) (OnSound n (hierarchy_of bytes) rest)
-  sound_completes n P rest more bytes (h, spells, sound, p) old new outcome tells quiet said =
-      on (subst (λ (r : Result HierarchyLists HFileFault). OnSound n r rest old new outcome) spells said)
+      → (bytes : List ℕ) → Completes files (SpellsSound n P bytes) (OnSound n rest bytes)
+  sound_completes n P rest more bytes (h, spells, sound, p) old new outcome tells quiet (inl (fault, none, ends)) = absurd (no_hierarchy bytes h fault spells none)
+  sound_completes n P rest more bytes (h, spells, sound, p) old new outcome tells quiet (inr (k, other, says)) =
+      on (subst (λ (x : HierarchyLists). IsUnsound n x old new outcome ⊎ (IsSound n x × rest x old new outcome)) (spell_one bytes k h other spells) says)
     where
-      on : OnSound n (Ok h) rest old new outcome → IsDoneOrMemory outcome
+      on : IsUnsound n h old new outcome ⊎ (IsSound n h × rest h old new outcome) → IsDoneOrMemory outcome
       on (inl (clause, at, by, broken, ends)) =
           let verdict = sound_verdict n h (Broken clause at by) broken sound in
           absurd (cc)
-      on (inr (rules, is, rests)) = more h (rules, is) p old new outcome tells quiet rests
+      on (inr (is, rests)) = more h (spells.0.rules, is) p old new outcome tells quiet rests
 
   pub named_completes : (n : NetworkLists) (named : Option (List ℕ)) (P : Option HierarchyLists → Type 0) (rest : Option HierarchyLists → Saying)
       → ((h : Option HierarchyLists) → IfSome h (λ k. IsHierarchy k × IsSound n k) → Completes files (P h) (rest h)) → Completes files (IsSoundIfNamed files n named P) (OnHierarchyIfNamed n named rest)

@@ -1,13 +1,11 @@
 -- What the steps of a run answer, put together to what the run says.
-use Rattle.std.proofs.Common.{ℕ, inl, inr, List, Option, Some, None, refl, sym, subst}
-use Rattle.std.specs.Prelude.{Result, IfSome}
+use Rattle.std.proofs.Common.{ℕ, inl, inr, List, Option, Some, None, refl, subst}
+use Rattle.std.specs.Prelude.{IfSome}
 use Rattle.plan_base.specs.Shelves.{ShelfMeaning}
 use Rattle.plan_base.specs.Sinks.{SinkMeaning, Stays}
 use Rattle.mode_network.specs.NetworkLists.{NetworkLists}
 use Rattle.hierarchy.specs.Lists.{HierarchyLists}
 use Rattle.hierarchy.specs.Soundness.{IsSound}
-use Rattle.hierarchy_file.specs.declared.fault.HFileFault.{HFileFault}
-use Rattle.hierarchy_file.specs.Reading.{hierarchy_of}
 use Rattle.run_steps.specs.declared.outcome.Outcome.{Outcome}
 use Rattle.run_steps.specs.declared.outcome.Outcome.TheVariants.{Done, Usage, Missing, ReadFault, TooLong, WriteFault, BadRegion, BadFeed, Invalid, BadCertificate, BadHierarchy, Unsound, OutOfMemory}
 use Rattle.run_steps.specs.Scene.{scene}
@@ -20,14 +18,13 @@ module _ (old mid new : ShelfMeaning) (before after : SinkMeaning) (name : List 
   unsound : (rest : HierarchyLists → Saying) (outcome : Outcome) → HasUnsound old mid n name outcome → Stays before after → OnHierarchy n name rest (scene old before) (scene mid after) outcome
   unsound rest outcome has same = by_outcome outcome has.unsound
     where
-      spelled : (o : Outcome) → OnSound n (hierarchy_of has.bytes) rest (scene mid before) (scene mid after) o → OnHierarchy n name rest (scene old before) (scene mid after) o
+      spelled : (o : Outcome) → OnSound n rest has.bytes (scene mid before) (scene mid after) o → OnHierarchy n name rest (scene old before) (scene mid after) o
       spelled o says = inr (record { bytes = has.bytes; file = has.file; mid = mid; later = has.later; says = says })
 
       by_outcome : (o : Outcome) → AreUnsound n has.bytes o → OnHierarchy n name rest (scene old before) (scene mid after) o
-      by_outcome (BadHierarchy fault) first =
-          spelled (BadHierarchy fault) (subst (λ (r : Result HierarchyLists HFileFault). OnSound n r rest (scene mid before) (scene mid after) (BadHierarchy fault)) (sym first) (refl, same))
+      by_outcome (BadHierarchy fault) none = spelled (BadHierarchy fault) (inl (fault, none, (refl, same)))
       by_outcome (Unsound clause at by) (h, spells, broken) =
-          spelled (Unsound clause at by) (subst (λ (r : Result HierarchyLists HFileFault). OnSound n r rest (scene mid before) (scene mid after) (Unsound clause at by)) (sym spells) (inl (clause, at, by, broken, (refl, same))))
+          spelled (Unsound clause at by) (inr (h, spells, inl (clause, at, by, broken, (refl, same))))
       by_outcome OutOfMemory none = inl (none, same)
       by_outcome Done none = absurd none
       by_outcome Usage none = absurd none
@@ -54,7 +51,7 @@ module _ (old mid new : ShelfMeaning) (before after : SinkMeaning) (name : List 
     file = has.file;
     mid = mid;
     later = has.later;
-    says = subst (λ (r : Result HierarchyLists HFileFault). OnSound n r rest (scene mid before) (scene new after) outcome) (sym has.sound.0) (inr (has.sound.1, has.sound.2, says));
+    says = inr (h, has.sound.0, inr (has.sound.1, says));
   })
 
 -- ---- a hierarchy that may be named
@@ -76,4 +73,4 @@ module _ (old mid new : ShelfMeaning) (before after : SinkMeaning) (n : NetworkL
 pub found_sound : (old new : ShelfMeaning) (n : NetworkLists) (named : Option (List ℕ)) (h : Option HierarchyLists) → IsFoundSound old new n named h → IfSome h (λ k. IsSound n k)
 found_sound old new n named None found = tt
 found_sound old new n None (Some h) none = absurd none
-found_sound old new n (Some name) (Some h) has = has.sound.2
+found_sound old new n (Some name) (Some h) has = has.sound.1

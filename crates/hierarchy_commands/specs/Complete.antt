@@ -1,16 +1,16 @@
 -- What can be done: the files that a command names are there and without fault.
-use Rattle.std.specs.Prelude.{◌≡◌, ℕ, List, Option, Some, None, Ok}
+use Rattle.std.specs.Prelude.{ℕ, List, Option, Some, None}
 use Rattle.plan_base.specs.declared.limits.Caps.{Caps}
 use Rattle.mode_network.specs.NetworkLists.{NetworkLists}
 use Rattle.hierarchy.specs.Lists.{HierarchyLists}
 use Rattle.hierarchy.specs.Soundness.{IsSound}
-use Rattle.hierarchy_file.specs.Reading.{hierarchy_of}
+use Rattle.hierarchy_file.specs.Causes.{SpellHierarchy}
 use Rattle.run_steps.specs.Complete.{Files, IsHeld, SpellsNetwork, Completes}
 use Rattle.hierarchy_commands.specs.Commands.{SaysCheck, SaysContract}
 
 -- the bytes spell a hierarchy that is sound for the network and has P
 abbrev pub SpellsSound : NetworkLists → (HierarchyLists → Type 0) → List ℕ → Type 0
-SpellsSound n P bytes = (h : HierarchyLists) × (hierarchy_of bytes ≡ Ok h) × IsSound n h × P h
+SpellsSound n P bytes = (h : HierarchyLists) × SpellHierarchy bytes h × IsSound n h × P h
 
 -- a hierarchy that is sound and has P is there, where its file is named
 abbrev pub IsSoundIfNamed : Files → NetworkLists → Option (List ℕ) → (Option HierarchyLists → Type 0) → Type 0

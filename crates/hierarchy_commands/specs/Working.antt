@@ -1,12 +1,11 @@
 -- What reading a hierarchy answers: what its file and its bytes spell.
-use Rattle.std.specs.Prelude.{◌≡◌, ℕ, ◌⊎◌, List, Option, Some, None, Err, Ok}
+use Rattle.std.specs.Prelude.{◌≡◌, ℕ, ◌⊎◌, List, Option, Some, None}
 use Rattle.plan_base.specs.Shelves.{ShelfMeaning, IsLater, HasRead}
 use Rattle.mode_network.specs.NetworkLists.{NetworkLists}
 use Rattle.hierarchy.specs.Lists.{HierarchyLists}
-use Rattle.hierarchy.specs.Rules.{IsHierarchy}
 use Rattle.hierarchy.specs.Soundness.{IsSound}
 use Rattle.hierarchy.specs.FirstBroken.{IsFirstBroken}
-use Rattle.hierarchy_file.specs.Reading.{hierarchy_of}
+use Rattle.hierarchy_file.specs.Causes.{IsNoHierarchy, SpellHierarchy}
 use Rattle.run_steps.specs.declared.outcome.FileRole.TheVariants.{Hierarchy}
 use Rattle.run_steps.specs.declared.outcome.Outcome.{Outcome}
 use Rattle.run_steps.specs.declared.outcome.Outcome.TheVariants.{BadHierarchy, Unsound, OutOfMemory}
@@ -14,7 +13,7 @@ use Rattle.run_steps.specs.Sayings.{IsUnread, most_bytes}
 
 -- the bytes spell a hierarchy that is sound for the network
 abbrev pub AreSound : NetworkLists → List ℕ → HierarchyLists → Type 0
-AreSound n bytes h = (hierarchy_of bytes ≡ Ok h) × IsHierarchy h × IsSound n h
+AreSound n bytes h = SpellHierarchy bytes h × IsSound n h
 
 -- a hierarchy with these lists is sound
 abbrev pub IsSoundOf : NetworkLists → HierarchyLists → HierarchyLists → Type 0
@@ -28,8 +27,8 @@ IsUnsoundOf n lists _ = ⊥
 
 -- why the bytes spell none
 abbrev pub AreUnsound : NetworkLists → List ℕ → Outcome → Type 0
-AreUnsound n bytes (BadHierarchy fault) = hierarchy_of bytes ≡ Err fault
-AreUnsound n bytes (Unsound clause at by) = (h : HierarchyLists) × (hierarchy_of bytes ≡ Ok h) × IsFirstBroken n h clause at by
+AreUnsound n bytes (BadHierarchy fault) = IsNoHierarchy bytes fault
+AreUnsound n bytes (Unsound clause at by) = (h : HierarchyLists) × SpellHierarchy bytes h × IsFirstBroken n h clause at by
 AreUnsound n bytes OutOfMemory = Unit {0}
 AreUnsound n bytes _ = ⊥
 

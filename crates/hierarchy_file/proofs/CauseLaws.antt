@@ -1,5 +1,5 @@
 -- Each refusal has its cause.
-use Rattle.std.proofs.Common.{◌≡◌, ℕ, ◌-◌, Bool, true, false, cond, eqb, List, ◌++◌, length, inl, inr, Some, None, Result, Ok, Err, refl, sym, ap, subst, ◌∙◌, append_assoc, arith}
+use Rattle.std.proofs.Common.{◌≡◌, ℕ, ◌-◌, Bool, true, false, cond, eqb, List, ◌++◌, length, inl, inr, Some, None, Result, Ok, Err, refl, sym, ap, subst, ◌∙◌, append_assoc, arith, ◌⊎◌}
 use Rattle.std.specs.Prelude.{Option, IfErr}
 use Rattle.std.proofs.lemmas.Bool.{eqb-false}
 use Rattle.hierarchy.specs.declared.entry.Entry.{Entry}
@@ -10,11 +10,11 @@ use Rattle.hierarchy_file.specs.declared.fault.HFileFault.{HFileFault}
 use Rattle.hierarchy_file.specs.declared.fault.HFileFault.TheVariants.{BadHead, BadRecord, Trailing, OutOfMemory}
 use Rattle.hierarchy_file.specs.Spelling.{magic, counts_text, counts_of, node_text, entry_text, witness_text, records_text, hierarchy_text, FitsRow, FitsWalk, key_of_entry, key_of_witness}
 use Rattle.hierarchy_file.specs.Reading.{next_node, entry_at, witness_at, many, head_at, with_witnesses, with_entries, with_order, records_of, ended, of_head, hierarchy_of, GivesHierarchy}
-use Rattle.hierarchy_file.specs.Causes.{AreRows, StopsAt, AnyNext, itself, NextPair, NextThree, RecordsStop, HasHead, HasCause}
+use Rattle.hierarchy_file.specs.Causes.{AreRows, StopsAt, AnyNext, itself, NextPair, NextThree, RecordsStop, HasHead, HasCause, IsNoHierarchy, SpellHierarchy, SpellNone}
 use Rattle.hierarchy_file.proofs.FieldLaws.{IsBytes}
 use Rattle.hierarchy_file.proofs.ManyLaws.{many_takes, many_stops}
 use Rattle.hierarchy_file.proofs.RecordLaws.{next_node_takes, next_node_again, entry_takes, entry_again, witness_takes, witness_again}
-use Rattle.hierarchy_file.proofs.WholeLaws.{head_takes, head_again, records_take, spelling_from}
+use Rattle.hierarchy_file.proofs.WholeLaws.{head_takes, head_again, hierarchy_again, records_take, spelling_from}
 
 abbrev Read : Type 0
 Read = HierarchyLists × List ℕ
@@ -107,3 +107,28 @@ gives_cause bytes (Err OutOfMemory) fits given = tt
 gives_cause bytes (Err BadHead) fits given = has_cause bytes BadHead fits given
 gives_cause bytes (Err (BadRecord at)) fits given = has_cause bytes (BadRecord at) fits given
 gives_cause bytes (Err (Trailing at)) fits given = has_cause bytes (Trailing at) fits given
+
+-- ---- no two hierarchies are spelled by the same bytes, and none is where they are refused
+
+pub spell_one : (bytes : List ℕ) (h k : HierarchyLists) → SpellHierarchy bytes h → SpellHierarchy bytes k → h ≡ k
+spell_one bytes h k (has, one) (other, two) =
+    let first = ap hierarchy_of one ∙ hierarchy_again h has in
+    let second = ap hierarchy_of two ∙ hierarchy_again k other in
+    cc
+
+pub no_hierarchy : (bytes : List ℕ) (h : HierarchyLists) (fault : HFileFault) → SpellHierarchy bytes h → IsNoHierarchy bytes fault → ⊥
+no_hierarchy bytes h BadHead is none = none.0 h is
+no_hierarchy bytes h (BadRecord at) is none = none.0 h is
+no_hierarchy bytes h (Trailing at) is none = none.0 h is
+no_hierarchy bytes h OutOfMemory is none = none
+
+spell_none : (bytes : List ℕ) (fault : HFileFault) → hierarchy_of bytes ≡ Err fault → SpellNone bytes
+spell_none bytes fault e h (has, is) = let again = ap hierarchy_of is ∙ hierarchy_again h has in absurd (cc)
+
+pub gives_none : (bytes : List ℕ) (r : Result HierarchyLists HFileFault) → IsBytes bytes → GivesHierarchy r (hierarchy_of bytes)
+    → IfErr r (λ fault. (fault ≡ OutOfMemory) ⊎ IsNoHierarchy bytes fault)
+gives_none bytes (Ok h) fits given = tt
+gives_none bytes (Err OutOfMemory) fits given = inl refl
+gives_none bytes (Err BadHead) fits given = inr (spell_none bytes BadHead given, has_cause bytes BadHead fits given)
+gives_none bytes (Err (BadRecord at)) fits given = inr (spell_none bytes (BadRecord at) given, has_cause bytes (BadRecord at) fits given)
+gives_none bytes (Err (Trailing at)) fits given = inr (spell_none bytes (Trailing at) given, has_cause bytes (Trailing at) fits given)

@@ -87,3 +87,17 @@ HasCause bytes BadHead = (c : Counts) (rest : List ℕ) → HasHead bytes c rest
 HasCause bytes (BadRecord at) = BadRecordAt bytes at
 HasCause bytes (Trailing at) = TrailingAt bytes at
 HasCause bytes OutOfMemory = Unit {0}
+
+-- the bytes are the one spelling of this hierarchy
+abbrev pub SpellHierarchy : List ℕ → HierarchyLists → Type 0
+SpellHierarchy bytes h = HasSpelling h × (bytes ≡ hierarchy_text h)
+
+abbrev pub SpellNone : List ℕ → Type 0
+SpellNone bytes = (h : HierarchyLists) → SpellHierarchy bytes h → ⊥
+
+-- the bytes spell no hierarchy, and this is why; want of memory never is
+abbrev pub IsNoHierarchy : List ℕ → HFileFault → Type 0
+IsNoHierarchy bytes OutOfMemory = ⊥
+IsNoHierarchy bytes BadHead = SpellNone bytes × HasCause bytes BadHead
+IsNoHierarchy bytes (BadRecord at) = SpellNone bytes × HasCause bytes (BadRecord at)
+IsNoHierarchy bytes (Trailing at) = SpellNone bytes × HasCause bytes (Trailing at)

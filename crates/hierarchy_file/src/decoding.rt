@@ -1,9 +1,9 @@
 //! From bytes to a hierarchy.
 
-ghost use Rattle.std.specs.Prelude.{◌≡◌, Ok, IfOk, IfErr};
+ghost use Rattle.std.specs.Prelude.{◌≡◌, ◌⊎◌, Ok, IfOk, IfErr};
 ghost use Rattle.hierarchy.specs.Lists.{HierarchyLists};
-ghost use Rattle.hierarchy_file.specs.Causes.{HasCause};
-ghost use Rattle.hierarchy_file.specs.Spelling.{hierarchy_text, HasSpelling};
+ghost use Rattle.hierarchy_file.specs.declared.fault.HFileFault.TheVariants.{OutOfMemory};
+ghost use Rattle.hierarchy_file.specs.Causes.{HasCause, IsNoHierarchy, SpellHierarchy};
 ghost use Rattle.hierarchy_file.specs.Reading.{Gives, GivesHierarchy, records_of, hierarchy_of};
 
 use crate::fault::{HFileFault, Halt};
@@ -66,7 +66,8 @@ fn read(alloc: Global, bytes: &[u8]) -> Result<Hierarchy, HFileFault>
 /// The lists of the hierarchy that the bytes spell, or the first fault of the bytes, as [`decode`] finds them. They take
 /// no more room than the records need that are there.
 pub fn decode_lists(alloc: Global, bytes: &[u8]) -> Result<Lists, HFileFault>
-    ensures found { IfOk result (λ lists. HasSpelling lists × (bytes.now ≡ hierarchy_text lists)) }
+    ensures found { IfOk result (SpellHierarchy bytes.now) }
+    ensures none { IfErr result (λ fault. (fault ≡ OutOfMemory) ⊎ IsNoHierarchy bytes.now fault) }
     ensures exact { GivesHierarchy result (hierarchy_of bytes.now) }
 {
     lists_of(alloc, bytes)
@@ -83,9 +84,9 @@ pub fn decode_lists(alloc: Global, bytes: &[u8]) -> Result<Lists, HFileFault>
 /// whoever does not trust the bytes reads the lists alone first, by [`decode_lists`].
 pub fn decode(alloc: Global, bytes: &[u8]) -> Result<Hierarchy, HFileFault>
     // What is read keeps the rules of a hierarchy, and is spelled so.
-    ensures found { IfOk result (λ h. HasSpelling h × (bytes.now ≡ hierarchy_text h)) }
+    ensures found { IfOk result (SpellHierarchy bytes.now) }
     // The hierarchy that is spelled so is read, unless memory runs out.
-    ensures only { (h : HierarchyLists) → HasSpelling h → bytes.now ≡ hierarchy_text h → GivesHierarchy result (Ok h) }
+    ensures only { (h : HierarchyLists) → SpellHierarchy bytes.now h → GivesHierarchy result (Ok h) }
     // Each refusal has its cause.
     ensures cause { IfErr result (HasCause bytes.now) }
     // Which one comes first.

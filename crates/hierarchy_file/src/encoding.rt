@@ -1,9 +1,9 @@
 //! From a hierarchy to bytes.
 
-ghost use Rattle.std.specs.Prelude.{◌≡◌, ◌++◌, ◌<◌, ◌^◌, Ok, All, IfOk, OnOk, length};
+ghost use Rattle.std.specs.Prelude.{◌≡◌, ◌++◌, ◌<◌, ◌^◌, All, IfOk, OnOk, length};
 ghost use Rattle.std.specs.List.{flat_map};
-ghost use Rattle.hierarchy_file.specs.Spelling.{node_text, entry_text, witness_text, middle_number, hierarchy_text};
-ghost use Rattle.hierarchy_file.specs.Reading.{hierarchy_of};
+ghost use Rattle.hierarchy_file.specs.Spelling.{node_text, entry_text, witness_text, middle_number};
+ghost use Rattle.hierarchy_file.specs.Causes.{SpellHierarchy};
 
 use crate::head::{Counts, push_head};
 use crate::numbers::{push_u32, push_u64};
@@ -83,8 +83,7 @@ fn room_for(h: &Hierarchy) -> usize {
 
 /// The one spelling of a hierarchy, which [`decode`](crate::decode) reads again.
 pub fn encode(alloc: Global, h: &Hierarchy) -> Result<Vec<u8>, AllocError>
-    ensures text { IfOk result (λ bytes. bytes.items ≡ hierarchy_text h.now) }
-    ensures again { IfOk result (λ bytes. hierarchy_of bytes.items ≡ Ok h.now) }
+    ensures { IfOk result (λ bytes. SpellHierarchy bytes.items h.now) }
 {
     h.known();
     let mut out = Vec::with_capacity(alloc, room_for(h))?;

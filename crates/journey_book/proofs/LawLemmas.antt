@@ -19,13 +19,15 @@ use Rattle.plain_graph.proofs.Same.{journeys_are_walks}
 use Rattle.hierarchy.specs.Lists.{HierarchyLists}
 use Rattle.phase_graph.specs.InUse.{IsInUse, IsPlain, IsSoundIfGiven}
 use Rattle.search_laws.specs.GraphLaws.{GraphMeaning}
+use Rattle.journey.specs.declared.verdict.CertFault.TheVariants.{BadLine}
 use Rattle.journey.specs.Best.{Asked}
 use Rattle.journey.specs.Texts.{refusal_text}
 use Rattle.journey.proofs.ReadingLemmas.{reading_is_unique}
 use Rattle.certificate.specs.Certificates.{Claim}
 use Rattle.certificate.specs.Texts.{IsCertText}
+use Rattle.certificate.specs.Reading.{HasCause}
 use Rattle.certificate.specs.Valid.{IsBestResult}
-use Rattle.certificate.proofs.ReadLaws.{again}
+use Rattle.certificate.proofs.ReadLaws.{again, bad_line_is}
 use Rattle.certificate.proofs.UniqueLemmas.{verdict_is_unique}
 use Rattle.certificate.proofs.VerifyLemmas.{valid_proves}
 use Rattle.journey_book.specs.Books.{Book, AreNamesOf}
@@ -56,6 +58,9 @@ IsExact AreRight = (claim : Claim) → IsFixed (AreRight claim)
 pub same_claim : (bytes : List ℕ) (a b : Claim) → IsCertText bytes a → IsCertText bytes b → a ≡ b
 same_claim bytes a b p q = let x = again bytes a p in let y = again bytes b q in cc
 
+not_bad : (bytes : List ℕ) (c : Claim) (line : ℕ) → IsCertText bytes c → HasCause bytes (BadLine line) → ⊥
+not_bad bytes c line text bad = let good = again bytes c text in let named = bad_line_is bytes line bad in cc
+
 told : (keeper : KeeperMeaning) (book : Book) → keeper.book ≡ Some book → (P : Book → Type 0) → Tells keeper P → P book
 told keeper book is P tells = subst (λ (b : Option Book). IfSome b P) is tells
 
@@ -63,10 +68,12 @@ module _ (AreRight : ClaimRule) (exact : IsExact AreRight) where
   said_once : (held : Option (List ℕ)) → IsFixed (IsSaidOn AreRight held)
   said_once None one other e f = e ∙ sym f
   said_once (Some bytes) one other (inl (line, bad, e)) (inl (line2, bad2, f)) =
+      let named = bad_line_is bytes line bad in
+      let named2 = bad_line_is bytes line2 bad2 in
       let same : line ≡ line2 = cc in
       e ∙ ap (λ at. codes "bad " ++ decimal at) same ∙ sym f
-  said_once (Some bytes) one other (inl (line, bad, e)) (inr (claim, spells, right)) = let good = again bytes claim spells in absurd (cc)
-  said_once (Some bytes) one other (inr (claim, spells, right)) (inl (line, bad, e)) = let good = again bytes claim spells in absurd (cc)
+  said_once (Some bytes) one other (inl (line, bad, e)) (inr (claim, spells, right)) = absurd (not_bad bytes claim line spells bad)
+  said_once (Some bytes) one other (inr (claim, spells, right)) (inl (line, bad, e)) = absurd (not_bad bytes claim line spells bad)
   said_once (Some bytes) one other (inr (claim, spells, right)) (inr (claim2, spells2, right2)) =
       exact claim2 one other (subst (λ (c : Claim). AreRight c one) (same_claim bytes claim claim2 spells spells2) right) right2
 

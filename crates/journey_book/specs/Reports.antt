@@ -1,5 +1,5 @@
 -- What is written of a book: its names, and what a region makes of what it keeps.
-use Rattle.std.specs.Prelude.{◌≡◌, ℕ, ◌⊎◌, ◌&&◌, Bool, not, List, [], ◌∷◌, ◌++◌, codes, decimal, Option, None, Some, Err, if◌then◌else◌}
+use Rattle.std.specs.Prelude.{◌≡◌, ℕ, ◌⊎◌, ◌&&◌, Bool, not, List, [], ◌∷◌, ◌++◌, codes, decimal, Option, None, Some, if◌then◌else◌}
 use Rattle.std.specs.List.{list_all}
 use Rattle.std.specs.Str.{bytes_eq}
 use Rattle.plain_texts.specs.Lines.{lines_text, with_feed}
@@ -10,7 +10,7 @@ use Rattle.journey.specs.declared.verdict.CertVerdict.{CertVerdict}
 use Rattle.journey.specs.declared.verdict.CertVerdict.TheVariants.{Valid, Invalid}
 use Rattle.certificate.specs.Certificates.{Claim}
 use Rattle.certificate.specs.Texts.{IsCertText}
-use Rattle.certificate.specs.Reading.{cert_of}
+use Rattle.certificate.specs.Reading.{HasCause}
 use Rattle.certificate.specs.Verdicts.{IsCertVerdict}
 use Rattle.run_steps.specs.declared.outcome.Outcome.TheVariants.{Done}
 use Rattle.journey_book.specs.Books.{AreNamesOf}
@@ -32,7 +32,7 @@ ClaimRule = Claim → List ℕ → Type 0
 -- what is said of bytes: they spell no certificate, and this is the first bad line; or words that are right for theirs
 abbrev pub IsSaid : ClaimRule → List ℕ → List ℕ → Type 0
 IsSaid AreRight bytes words =
-    ((line : ℕ) × (cert_of bytes ≡ Err (BadLine line)) × (words ≡ codes "bad " ++ decimal line))
+    ((line : ℕ) × HasCause bytes (BadLine line) × (words ≡ codes "bad " ++ decimal line))
     ⊎ ((claim : Claim) × IsCertText bytes claim × AreRight claim words)
 
 -- what is said of what is kept under a name; that nothing is, if the keeper answers so

@@ -8,12 +8,13 @@ use Rattle.plain_texts.proofs.Pieces.{text_of_lines}
 use Rattle.plain_texts.proofs.Spaced.{spaced_is_line, word_by_test, decimal_is_word}
 use Rattle.mode_network.specs.Journeys.{Route}
 use Rattle.journey.specs.declared.verdict.CertFault.{CertFault}
+use Rattle.journey.specs.declared.verdict.CertFault.TheVariants.{BadLine}
 use Rattle.certificate.specs.declared.lines.Line.{Line as UsualLine}
 use Rattle.certificate.specs.declared.lines.Line.TheVariants as usual
 use Rattle.certificate.specs.Lines as usual_lines
 use Rattle.certificate.specs.Texts.{label_lines}
 use Rattle.certificate.proofs.FitLemmas.{both_parts, of_both}
-use Rattle.certificate.proofs.Making.{made_of, read_again, gives_cause as gives_cause_by}
+use Rattle.certificate.proofs.Making.{made_of, read_again, cause_is, gives_cause as gives_cause_by}
 use Rattle.certificate.specs.Making.{made_by, Gives}
 use Rattle.certificate.proofs.KindLaws.{IsInWords}
 use Rattle.certificate.proofs.ReadLaws.{pieces_are_lines, query_is_line, query_line, steps_have_times, labels_have_times, mapped_in_words, each_is_line as usual_are_lines}
@@ -106,3 +107,8 @@ gives_only bytes r e c h = subst (λ x. Gives r x) (again bytes c h) e
 pub gives_cause : (bytes : List ℕ) (r : Result LateClaim CertFault) → Gives r (late_of bytes) → IfErr r (HasCause bytes)
 unfolding late_of
 gives_cause = gives_cause_by spelled FitsLine due_behind is_last line_at reads_lines due.Head refl put nothing
+
+-- a line that is the first which may not stand is named
+pub bad_line_is : (bytes : List ℕ) (line : ℕ) → HasCause bytes (BadLine line) → late_of bytes ≡ Err (BadLine line)
+unfolding late_of
+bad_line_is = cause_is spelled FitsLine due_behind is_last line_at reads_lines due.Head refl put nothing

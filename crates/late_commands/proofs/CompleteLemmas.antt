@@ -1,14 +1,14 @@
 -- A run whose files are there and without fault ends with its work done: each other outcome has a cause that is not there.
-use Rattle.std.proofs.Common.{◌≡◌, ℕ, List, Err, subst}
+use Rattle.std.proofs.Common.{◌≡◌, ℕ, List, subst}
 use Rattle.mode_network.specs.NetworkLists.{NetworkLists}
 use Rattle.mode_network.specs.Rules.{IsNetwork}
 use Rattle.journey.specs.declared.verdict.CertFault.TheVariants.{BadLine}
 use Rattle.journey.specs.declared.verdict.CertVerdict.TheVariants as verdict
 use Rattle.latest_departure.specs.ValidLate.{LateClaim}
 use Rattle.late_certificate.specs.Texts.{IsLateText}
-use Rattle.late_certificate.specs.Reading.{late_of}
+use Rattle.late_certificate.specs.Reading.{HasCause}
 use Rattle.late_certificate.specs.Verdicts.{IsLateVerdict}
-use Rattle.late_certificate.proofs.ReadLaws.{again}
+use Rattle.late_certificate.proofs.ReadLaws.{again, bad_line_is}
 use Rattle.late_certificate.proofs.UniqueLemmas.{late_verdict_is_unique}
 use Rattle.run_steps.proofs.CertificateComplete.{verified_completes}
 use Rattle.run_steps.proofs.TurnComplete.{answers_completes}
@@ -17,8 +17,8 @@ use Rattle.late_commands.specs.Outputs.{late_certificates}
 use Rattle.late_commands.specs.Complete.{SpellsValidLate, FewCompletes, LatestCompletes, ProfileCompletes, CertifyLatestCompletes, VerifyLatestCompletes}
 
 -- bytes that spell a valid late certificate have no line that may not stand, and no clause that fails
-spells : (n : NetworkLists) (bytes : List ℕ) → SpellsValidLate n bytes → (line : ℕ) → late_of bytes ≡ Err (BadLine line) → ⊥
-spells n bytes (claim, text, valid) line bad = let good = again bytes claim text in cc
+spells : (n : NetworkLists) (bytes : List ℕ) → SpellsValidLate n bytes → (line : ℕ) → HasCause bytes (BadLine line) → ⊥
+spells n bytes (claim, text, valid) line bad = let good = again bytes claim text in let named = bad_line_is bytes line bad in cc
 
 same_claim : (bytes : List ℕ) (a b : LateClaim) → IsLateText bytes a → IsLateText bytes b → a ≡ b
 same_claim bytes a b p q = let x = again bytes a p in let y = again bytes b q in cc

@@ -1,5 +1,5 @@
 -- What `certify-latest` and `verify-latest` write.
-use Rattle.std.specs.Prelude.{◌≡◌, ℕ, ◌⊎◌, List, Option, Err}
+use Rattle.std.specs.Prelude.{◌≡◌, ℕ, ◌⊎◌, List, Option}
 use Rattle.mode_network.specs.NetworkLists.{NetworkLists}
 use Rattle.journey.specs.declared.verdict.CertFault.TheVariants.{BadLine}
 use Rattle.journey.specs.declared.verdict.CertVerdict.TheVariants as verdict
@@ -9,7 +9,7 @@ use Rattle.latest_departure.specs.Blocks.{IsAnswerBlock, IsShownBlock}
 use Rattle.latest_departure.specs.Limits.{IsWithinLateLabels}
 use Rattle.latest_departure.specs.ValidLate.{LateClaim, IsValidLate}
 use Rattle.late_certificate.specs.Texts.{IsLateText}
-use Rattle.late_certificate.specs.Reading.{late_of}
+use Rattle.late_certificate.specs.Reading.{HasCause}
 use Rattle.late_certificate.specs.Verdicts.{IsLateVerdict}
 use Rattle.late_certificate.specs.Certified.{IsLateCertificateOf}
 use Rattle.run_steps.specs.declared.limits.Limits.{Limits}
@@ -41,7 +41,7 @@ pub record IsLateShown (n : NetworkLists) (bytes block : List ℕ) : Type 0 wher
 -- certificates of the latest departure
 abbrev pub late_certificates : NetworkLists → CertificateKind
 late_certificates n = record {
-  IsBadLine = λ bytes line. late_of bytes ≡ Err (BadLine line);
+  IsBadLine = λ bytes line. HasCause bytes (BadLine line);
   Fails = λ bytes clause at. (claim : LateClaim) × IsLateText bytes claim × IsLateVerdict n claim (verdict.Invalid clause at);
   Shows = IsLateShown n;
 }

@@ -204,3 +204,101 @@ module _ {L P : Type 0} (spell : L → List ℕ) (Fits : L → Type 0) (after : 
               ap (go_on is_last at (map spell (next ∷ ls) ++ [] ∷ []) (λ r. lines_from line_at is_last r (at + 1) (map spell (next ∷ ls) ++ [] ∷ []))) (reads.again p l q fits.0 is)
               ∙ ap (λ t. cond t (ended at l (map spell (next ∷ ls) ++ [] ∷ [])) (onto l (lines_from line_at is_last q (at + 1) (map spell (next ∷ ls) ++ [] ∷ [])))) go
               ∙ ap (onto l) (others q go runs)
+
+  -- ---- the number of a fault is that of one line alone
+
+  -- one line that may stand before a course
+  line_on : (p : P) (l : L) (q : P) (at : ℕ) (tail : List (List ℕ)) (c : Course L) → (tail ≡ [] → ⊥) → Fits l → after p l ≡ Some q → is_last q ≡ false → lines_from line_at is_last q (at + 1) tail ≡ c
+      → lines_from line_at is_last p at (spell l ∷ tail) ≡ onto l c
+  line_on p l q at [] c some fits is go e = absurd (some refl)
+  line_on p l q at (x ∷ tail) c some fits is go e =
+      ap (go_on is_last at (x ∷ tail) (λ r. lines_from line_at is_last r (at + 1) (x ∷ tail))) (reads.again p l q fits is)
+      ∙ ap (λ t. cond t (ended at l (x ∷ tail)) (onto l (lines_from line_at is_last q (at + 1) (x ∷ tail)))) go
+      ∙ ap (onto l) e
+
+  tail_some : (ls : List L) (rest : List (List ℕ)) → (rest ≡ [] → ⊥) → map spell ls ++ rest ≡ [] → ⊥
+  tail_some [] rest some e = some e
+  tail_some (l ∷ ls) rest some e = cc
+
+  -- behind a last place no line stands
+  no_stop : (ls : List L) (q place : P) → is_last q ≡ true → run_on after (Some q) ls ≡ Some place → is_last place ≡ false → ⊥
+  no_stop [] q place stop runs going = false≢true (sym going ∙ ap is_last (sym (same_Some q place runs)) ∙ stop)
+  no_stop (l ∷ ls) q place stop runs going = none-some place (sym (ap (λ o. run_on after o ls) (reads.stops q l stop) ∙ run_none ls) ∙ runs)
+
+  cannot_some : (p : P) (rest : List (List ℕ)) → CannotStand spell Fits after p rest → rest ≡ [] → ⊥
+  cannot_some p [] none e = none
+  cannot_some p (x ∷ rest) cannot e = cc
+
+  bad_first : (p : P) (at : ℕ) (rest : List (List ℕ)) → CannotStand spell Fits after p rest → lines_from line_at is_last p at rest ≡ bad at
+  bad_first p at [] none = absurd none
+  bad_first p at (piece ∷ []) cannot = refl
+  bad_first p at (piece ∷ next ∷ more) cannot = by_line (line_at p piece) refl
+    where
+      by_line : (o : Option (L × P)) → line_at p piece ≡ o → go_on is_last at (next ∷ more) (λ q. lines_from line_at is_last q (at + 1) (next ∷ more)) o ≡ bad at
+      by_line None read = refl
+      by_line (Some x) read =
+          let taken = reads.takes p piece x.0 x.1 read in
+          absurd (none-some x.1 (sym (cannot x.0 taken.1 taken.0) ∙ taken.2))
+
+  bad_behind : (ls : List L) (p place : P) (at : ℕ) (rest : List (List ℕ)) → run_on after (Some p) ls ≡ Some place → is_last place ≡ false → AllByRecursion Fits ls → CannotStand spell Fits after place rest
+      → lines_from line_at is_last p at (map spell ls ++ rest) ≡ bad (at + length ls)
+  bad_behind [] p place at rest runs going fits cannot =
+      bad_first p at rest (subst (λ q. CannotStand spell Fits after q rest) (sym (same_Some p place runs)) cannot) ∙ ap bad (omega arith)
+  bad_behind (l ∷ ls) p place at rest runs going fits cannot = at_next (after p l) refl runs (λ q runs. bad_behind ls q place (at + 1) rest runs going fits.1 cannot)
+    where
+      at_next : (o : Option P) → after p l ≡ o → run_on after o ls ≡ Some place
+          → ((q : P) → run_on after (Some q) ls ≡ Some place → lines_from line_at is_last q (at + 1) (map spell ls ++ rest) ≡ bad (at + 1 + length ls))
+          → lines_from line_at is_last p at (spell l ∷ (map spell ls ++ rest)) ≡ bad (at + length (l ∷ ls))
+      at_next None is runs others = absurd (none-some place (sym (run_none ls) ∙ runs))
+      at_next (Some q) is runs others = by_place (is_last q) refl
+        where
+          by_place : (t : Bool) → is_last q ≡ t → lines_from line_at is_last p at (spell l ∷ (map spell ls ++ rest)) ≡ bad (at + length (l ∷ ls))
+          by_place true stop = absurd (no_stop ls q place stop runs going)
+          by_place false go =
+              line_on p l q at (map spell ls ++ rest) (bad (at + 1 + length ls)) (tail_some ls rest (cannot_some place rest cannot)) fits.0 is go (others q runs)
+              ∙ ap bad (omega arith)
+
+  follow_some : (rest : List (List ℕ)) → BytesFollow rest → rest ≡ [] → ⊥
+  follow_some [] none e = none
+  follow_some (x ∷ rest) follows e = cc
+
+  trailing_first : (p : P) (l : L) (q : P) (at : ℕ) (rest : List (List ℕ)) → Fits l → after p l ≡ Some q → is_last q ≡ true → BytesFollow rest
+      → lines_from line_at is_last p at (spell l ∷ rest) ≡ trailing (at + 1)
+  trailing_first p l q at [] fits is stop none = absurd none
+  trailing_first p l q at (x ∷ rest) fits is stop follows =
+      ap (go_on is_last at (x ∷ rest) (λ r. lines_from line_at is_last r (at + 1) (x ∷ rest))) (reads.again p l q fits is)
+      ∙ ap (λ t. cond t (ended at l (x ∷ rest)) (onto l (lines_from line_at is_last q (at + 1) (x ∷ rest)))) stop
+      ∙ by_end (ended_cases at l (x ∷ rest))
+    where
+      by_end : ((ended at l (x ∷ rest) ≡ whole (l ∷ [])) × (x ∷ rest ≡ [] ∷ [])) ⊎ ((ended at l (x ∷ rest) ≡ trailing (at + 1)) × (x ∷ rest ≡ [] ∷ [] → ⊥)) → ended at l (x ∷ rest) ≡ trailing (at + 1)
+      by_end (inl h) = absurd (subst BytesFollow h.1 follows)
+      by_end (inr h) = h.0
+
+  trailing_behind : (ls : List L) (p place : P) (at : ℕ) (rest : List (List ℕ)) → is_last p ≡ false → run_on after (Some p) ls ≡ Some place → is_last place ≡ true → AllByRecursion Fits ls → BytesFollow rest
+      → lines_from line_at is_last p at (map spell ls ++ rest) ≡ trailing (at + length ls)
+  trailing_behind [] p place at rest going runs last fits follows = absurd (false≢true (sym going ∙ ap is_last (same_Some p place runs) ∙ last))
+  trailing_behind (l ∷ ls) p place at rest going runs last fits follows = at_next (after p l) refl runs (λ q go runs. trailing_behind ls q place (at + 1) rest go runs last fits.1 follows)
+    where
+      at_next : (o : Option P) → after p l ≡ o → run_on after o ls ≡ Some place
+          → ((q : P) → is_last q ≡ false → run_on after (Some q) ls ≡ Some place → lines_from line_at is_last q (at + 1) (map spell ls ++ rest) ≡ trailing (at + 1 + length ls))
+          → lines_from line_at is_last p at (spell l ∷ (map spell ls ++ rest)) ≡ trailing (at + length (l ∷ ls))
+      at_next None is runs others = absurd (none-some place (sym (run_none ls) ∙ runs))
+      at_next (Some q) is runs others = by_place (is_last q) refl
+        where
+          at_last : (ks : List L) → is_last q ≡ true → run_on after (Some q) ks ≡ Some place → lines_from line_at is_last p at (spell l ∷ (map spell ks ++ rest)) ≡ trailing (at + length (l ∷ ks))
+          at_last [] stop runs = trailing_first p l q at rest fits.0 is stop follows ∙ ap trailing (omega arith)
+          at_last (k ∷ ks) stop runs = absurd (none-some place (sym (ap (λ o. run_on after o ks) (reads.stops q k stop) ∙ run_none ks) ∙ runs))
+
+          by_place : (t : Bool) → is_last q ≡ t → lines_from line_at is_last p at (spell l ∷ (map spell ls ++ rest)) ≡ trailing (at + length (l ∷ ls))
+          by_place true stop = at_last ls stop runs
+          by_place false go =
+              line_on p l q at (map spell ls ++ rest) (trailing (at + 1 + length ls)) (tail_some ls rest (follow_some rest follows)) fits.0 is go (others q go runs)
+              ∙ ap trailing (omega arith)
+
+  pub course_bad_is : (ps : List (List ℕ)) (p : P) (at k : ℕ) → IsFirstBad spell Fits after is_last p at ps k → lines_from line_at is_last p at ps ≡ bad k
+  course_bad_is ps p at k h =
+      ap (lines_from line_at is_last p at) h.are ∙ bad_behind h.lines p h.place at h.rest h.runs h.not_last h.fits h.no_line ∙ ap bad (sym h.number)
+
+  pub course_trailing_is : (ps : List (List ℕ)) (p : P) (at k : ℕ) → is_last p ≡ false → IsTrailing spell Fits after is_last p at ps k → lines_from line_at is_last p at ps ≡ trailing k
+  course_trailing_is ps p at k going h =
+      ap (lines_from line_at is_last p at) h.are ∙ trailing_behind h.lines p h.place at h.rest going h.runs h.last h.fits h.more ∙ ap trailing (sym h.number)

@@ -1,7 +1,7 @@
 -- What one command writes another one accepts: it is what the other one asks of its file.
-use Rattle.std.proofs.Common.{◌≡◌, ℕ, ◌⊎◌, inl, inr, List, Option, Some, None, Ok, subst}
+use Rattle.std.proofs.Common.{◌≡◌, ℕ, ◌⊎◌, inl, inr, List, Option, Some, None, subst}
 use Rattle.hierarchy.specs.Lists.{HierarchyLists}
-use Rattle.hierarchy_file.specs.Reading.{hierarchy_of}
+use Rattle.hierarchy_file.specs.Causes.{SpellHierarchy}
 use Rattle.mode_network.specs.NetworkLists.{NetworkLists}
 use Rattle.run_steps.specs.declared.limits.Limits.{Limits}
 use Rattle.run_steps.specs.Sayings.{WritesText}
@@ -27,7 +27,7 @@ what_contract_writes_check_accepts caps files later region name out keep run kep
     let wrote = read.says in
     let h = wrote.is.hierarchy in
     let same = same_output run.old.out run.new.out run.before wrote.out out run.stood wrote.appended run.stands in
-    let spells = subst (λ (o : List ℕ). hierarchy_of o ≡ Ok h) same wrote.is.spells in
+    let spells = subst (λ (o : List ℕ). SpellHierarchy o h) same wrote.is.spells in
     check_completes caps later region name
     (region_again files later caps region _ run.old run.new read kept.region_stays _
     (record { bytes = out; held = kept.held; within = kept.within; fine = (h, spells, wrote.is.contracted.sound, tt) }))

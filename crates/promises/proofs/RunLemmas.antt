@@ -1,6 +1,6 @@
 -- What a run has read and written that did all of its work.
-use Rattle.std.proofs.Common.{◌≡◌, ℕ, ◌≤◌, ◌∙◌, inl, inr, List, ◌++◌, length, Option, Some, None, Ok, Err, refl, sym, subst}
-use Rattle.std.specs.Prelude.{⊤, Result, IfSome}
+use Rattle.std.proofs.Common.{◌≡◌, ℕ, ◌≤◌, ◌∙◌, inl, inr, List, ◌++◌, length, Option, Some, None, refl, sym, subst}
+use Rattle.std.specs.Prelude.{⊤, IfSome}
 use Rattle.std.proofs.lemmas.List.{append_cancel_left}
 use Rattle.std.proofs.lemmas.Option.{same_Some}
 use Rattle.plan_base.specs.Shelves.{ShelfMeaning, Told}
@@ -8,11 +8,8 @@ use Rattle.plan_base.specs.Sinks.{SinkMeaning, Appended}
 use Rattle.plan_base.specs.declared.limits.Caps.{Caps}
 use Rattle.mode_network.specs.NetworkLists.{NetworkLists}
 use Rattle.mode_network.specs.Rules.{IsNetwork}
-use Rattle.region_file.specs.declared.fault.RegionFault.{RegionFault}
-use Rattle.region_file.specs.Regions.{region_of}
+use Rattle.region_file.specs.Regions.{IsDecoded}
 use Rattle.hierarchy.specs.Lists.{HierarchyLists}
-use Rattle.hierarchy_file.specs.declared.fault.HFileFault.{HFileFault}
-use Rattle.hierarchy_file.specs.Reading.{hierarchy_of}
 use Rattle.run_steps.specs.declared.outcome.FileRole.{FileRole}
 use Rattle.run_steps.specs.declared.outcome.FileRole.TheVariants.{Region, Hierarchy}
 use Rattle.run_steps.specs.declared.outcome.Outcome.TheVariants.{Done}
@@ -62,7 +59,7 @@ module _ (files : Files) where
     pub held : files name ≡ Some bytes
     pub within : length bytes ≤ most_bytes
     pub network : NetworkLists
-    pub spells : region_of caps bytes ≡ Ok network
+    pub spells : IsDecoded caps bytes network
     pub rules : IsNetwork network
     pub mid : ShelfMeaning
     pub tells : mid.files ≡ Some files
@@ -70,13 +67,14 @@ module _ (files : Files) where
 
   pub region_done : (caps : Caps) (name : List ℕ) (rest : NetworkLists → Saying) (old new : Scene ⊤) → old.shelf.files ≡ Some files
       → OnRegion caps name rest old new Done → DidReadRegion caps name rest old new
-  region_done caps name rest old new tells said = spelled (region_of caps read.bytes) refl read.says
+  region_done caps name rest old new tells said = spelled read.says
     where
-      read : DidRead name (λ bytes. OnNetwork (region_of caps bytes) rest) old new
-      read = file_done Region name (λ bytes. OnNetwork (region_of caps bytes) rest) old new tells said
+      read : DidRead name (OnNetwork caps rest) old new
+      read = file_done Region name (OnNetwork caps rest) old new tells said
 
-      spelled : (r : Result NetworkLists RegionFault) → region_of caps read.bytes ≡ r → OnNetwork r rest (with_shelf old read.mid) new Done → DidReadRegion caps name rest old new
-      spelled (Ok n) is (rules, says) = record {
+      spelled : OnNetwork caps rest read.bytes (with_shelf old read.mid) new Done → DidReadRegion caps name rest old new
+      spelled (inl (fault, none, (ends, same))) = absurd (cc)
+      spelled (inr (n, is, rules, says)) = record {
         bytes = read.bytes;
         held = read.held;
         within = read.within;
@@ -87,7 +85,6 @@ module _ (files : Files) where
         tells = read.tells;
         says = says;
       }
-      spelled (Err fault) is (ends, same) = absurd (cc)
 
   -- the region is there later too, and spells a network that has P
   pub region_again : (later : Files) (caps : Caps) (name : List ℕ) (rest : NetworkLists → Saying) (old new : Scene ⊤) (read : DidReadRegion caps name rest old new)
@@ -105,18 +102,17 @@ module _ (files : Files) where
   pub named_done : (later : Files) (n : NetworkLists) (named : Option (List ℕ)) (rest : Option HierarchyLists → Saying) (P : Option HierarchyLists → Type 0) (old new : Scene ⊤)
       → old.shelf.files ≡ Some files → StaysIfNamed files later named → OnHierarchyIfNamed n named rest old new Done → DidReadSound later n named rest P old new
   named_done later n None rest P old new tells stays says = record { hierarchy = None; mid = old.shelf; says = says; again = λ p. p }
-  named_done later n (Some name) rest P old new tells stays said = spelled (hierarchy_of read.bytes) refl read.says
+  named_done later n (Some name) rest P old new tells stays said = spelled read.says
     where
-      read : DidRead name (λ bytes. OnSound n (hierarchy_of bytes) (λ h. rest (Some h))) old new
-      read = file_done Hierarchy name (λ bytes. OnSound n (hierarchy_of bytes) (λ h. rest (Some h))) old new tells said
+      read : DidRead name (OnSound n (λ h. rest (Some h))) old new
+      read = file_done Hierarchy name (OnSound n (λ h. rest (Some h))) old new tells said
 
-      spelled : (r : Result HierarchyLists HFileFault) → hierarchy_of read.bytes ≡ r → OnSound n r (λ h. rest (Some h)) (with_shelf old read.mid) new Done
-          → DidReadSound later n (Some name) rest P old new
-      spelled (Ok h) is (inl (clause, at, by, broken, (ends, same))) = absurd (cc)
-      spelled (Ok h) is (inr (rules, sound, says)) = record {
+      spelled : OnSound n (λ h. rest (Some h)) read.bytes (with_shelf old read.mid) new Done → DidReadSound later n (Some name) rest P old new
+      spelled (inl (fault, none, (ends, same))) = absurd (cc)
+      spelled (inr (h, is, inl (clause, at, by, broken, (ends, same)))) = absurd (cc)
+      spelled (inr (h, is, inr (sound, says))) = record {
         hierarchy = Some h;
         mid = read.mid;
         says = says;
         again = λ p. record { bytes = read.bytes; held = stays ∙ read.held; within = read.within; fine = (h, is, sound, p) };
       }
-      spelled (Err fault) is (ends, same) = absurd (cc)

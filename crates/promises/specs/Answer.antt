@@ -1,6 +1,6 @@
 -- What `modeplan answer REGION QUERIES` prints: for each query line, in order, a block that tells what is
 -- right.
-use Rattle.std.specs.Prelude.{◌≡◌, ℕ, ◌⊎◌, List, [], ◌∷◌, codes, Some, Ok}
+use Rattle.std.specs.Prelude.{◌≡◌, ℕ, ◌⊎◌, List, [], ◌∷◌, codes, Some}
 use Rattle.std.specs.List.{concat}
 use Rattle.plain_texts.specs.Lines.{with_feed}
 use Rattle.plan_base.specs.declared.limits.Caps.{Caps}
@@ -8,7 +8,7 @@ use Rattle.command_line.specs.PlainWords.{IsPlainWord}
 use Rattle.mode_network.specs.NetworkLists.{NetworkLists}
 use Rattle.mode_network.specs.Journeys.{Route}
 use Rattle.mode_network.specs.Rules.{IsNetwork}
-use Rattle.region_file.specs.Regions.{region_of}
+use Rattle.region_file.specs.Regions.{IsDecoded}
 use Rattle.journey.specs.declared.fault.QueryFault.{QueryFault}
 use Rattle.journey.specs.Queries.{IsRefused}
 use Rattle.journey.specs.Best.{Asked, Asks, IsBest, HasNone}
@@ -73,7 +73,7 @@ pub record IsPrinted (caps : Caps) (files : Files) (region queries out : List �
   pub network : NetworkLists
   pub region_bytes : List ℕ
   pub region_file : files region ≡ Some region_bytes
-  pub spells : region_of caps region_bytes ≡ Ok network
+  pub spells : IsDecoded caps region_bytes network
   pub rules : IsNetwork network
   pub queries_bytes : List ℕ
   pub queries_file : files queries ≡ Some queries_bytes

@@ -170,3 +170,15 @@ HasCause caps bytes (BadRecord at) = IsBadLine bytes at ⊎ IsBadRecord bytes at
 HasCause caps bytes (Trailing at) = IsTrailingLine bytes at ⊎ FollowRecords bytes at
 HasCause caps bytes (Network fault) = (n : NetworkLists) × IsRegion n × AreSpelling bytes n × (first_fault caps n ≡ Some fault)
 HasCause caps bytes OutOfMemory = Unit {0}
+
+-- no network within the limits is spelled by the bytes
+abbrev pub SpellNone : Caps → List ℕ → Type 0
+SpellNone caps bytes = (n : NetworkLists) → IsDecoded caps bytes n → ⊥
+
+-- the bytes are no region, and this is why; want of memory never is
+abbrev pub IsNoRegion : Caps → List ℕ → RegionFault → Type 0
+IsNoRegion caps bytes OutOfMemory = ⊥
+IsNoRegion caps bytes BadHead = SpellNone caps bytes × HasCause caps bytes BadHead
+IsNoRegion caps bytes (BadRecord at) = SpellNone caps bytes × HasCause caps bytes (BadRecord at)
+IsNoRegion caps bytes (Network fault) = SpellNone caps bytes × HasCause caps bytes (Network fault)
+IsNoRegion caps bytes (Trailing at) = SpellNone caps bytes × HasCause caps bytes (Trailing at)

@@ -1,14 +1,15 @@
 //! From bytes to a network.
 
-ghost use Rattle.std.specs.Prelude.{◌≡◌, option_map, IfOk, IfErr};
+ghost use Rattle.std.specs.Prelude.{◌≡◌, ◌⊎◌, option_map, IfOk, IfErr};
 ghost use Rattle.std.specs.Result.{result_map_both};
 ghost use Rattle.plain_texts.specs.Course.{lines_from};
 ghost use Rattle.plain_texts.specs.Lines.{pieces};
 ghost use Rattle.mode_network.specs.NetworkLists.{NetworkLists};
 ghost use Rattle.mode_network.specs.Rules.{AreParts, first_fault};
 ghost use Rattle.region_file.specs.Sections.{behind_days, is_end, line_at, start};
-ghost use Rattle.region_file.specs.Regions.{Gives, HasCause, IsDecoded, behind_head, lists_by, lists_in_text, or_fault, put_all, region_of};
+ghost use Rattle.region_file.specs.Regions.{Gives, HasCause, IsDecoded, IsNoRegion, behind_head, lists_by, lists_in_text, or_fault, put_all, region_of};
 ghost use Rattle.region_file.specs.Records.{lists_in};
+ghost use Rattle.region_file.specs.declared.fault.RegionFault.TheVariants.{OutOfMemory};
 ghost use Rattle.region_file.specs.declared.lines.Line.TheVariants as line;
 
 use crate::fault::{Halt, RegionFault};
@@ -204,6 +205,8 @@ pub fn decode(alloc: Global, bytes: &[u8], caps: &Caps) -> Result<Network, Regio
     ensures only { (n : NetworkLists) → IsDecoded caps.now bytes.now n → Gives result (Ok n) }
     // Each refusal has its cause.
     ensures cause { IfErr result (HasCause caps.now bytes.now) }
+    // And where there is one, no network within the limits is spelled so.
+    ensures none { IfErr result (λ fault. (fault ≡ OutOfMemory) ⊎ IsNoRegion caps.now bytes.now fault) }
     // Which one comes first.
     ensures exact { Gives result (region_of caps.now bytes.now) }
 {

@@ -1,12 +1,12 @@
 //! From a network to bytes.
 
-ghost use Rattle.std.specs.Prelude.{◌≡◌, ◌++◌, ◌<◌, ◌^◌, None, Ok, All, IfOk, OnOk, length};
+ghost use Rattle.std.specs.Prelude.{◌≡◌, ◌++◌, ◌<◌, ◌^◌, None, All, IfOk, OnOk, length};
 ghost use Rattle.std.specs.List.{flat_map};
 ghost use Rattle.plan_base.specs.declared.limits.Caps.{Caps};
 ghost use Rattle.mode_network.specs.NetworkLists.{nodes_of};
 ghost use Rattle.mode_network.specs.Rules.{first_fault};
 ghost use Rattle.region_file.specs.Bytes.{arc_bytes, call_bytes, counts_of, region_bytes};
-ghost use Rattle.region_file.specs.Regions.{region_of, spelling};
+ghost use Rattle.region_file.specs.Regions.{IsDecoded, spelling};
 ghost use Rattle.region_file.specs.Texts.{IsListed, node_record, trip_records};
 
 use crate::counts::Counts;
@@ -128,7 +128,8 @@ fn push_trips(out: &mut Vec<u8>, trips: &[Trip]) -> Result<(), AllocError>
 /// The one spelling of a network as records.
 fn records_of(alloc: Global, network: &Network) -> Result<Vec<u8>, AllocError>
     ensures spelled { IfOk result (λ bytes. bytes.items ≡ region_bytes network.now) }
-    ensures again { IfOk result (λ bytes. (caps : Caps) → first_fault caps network.now ≡ None → region_of caps bytes.items ≡ Ok network.now) }
+    ensures again { IfOk result (λ bytes. (caps : Caps) → first_fault caps network.now ≡ None
+        → IsDecoded caps bytes.items network.now) }
 {
     network.known();
     let days = network.days();
@@ -148,7 +149,8 @@ pub fn encode(alloc: Global, network: &Network, format: Format) -> Result<Vec<u8
     // The bytes are the one spelling of the network in this format.
     ensures spelled { IfOk result (λ bytes. bytes.items ≡ spelling format network.now) }
     // They are read as this network again, where it is within the limits.
-    ensures again { IfOk result (λ bytes. (caps : Caps) → first_fault caps network.now ≡ None → region_of caps bytes.items ≡ Ok network.now) }
+    ensures again { IfOk result (λ bytes. (caps : Caps) → first_fault caps network.now ≡ None
+        → IsDecoded caps bytes.items network.now) }
 {
     match format {
         Format::Text => text_of(alloc, network),

@@ -1,12 +1,12 @@
 //! From a network to the text of a region.
 
-ghost use Rattle.std.specs.Prelude.{◌≡◌, ◌++◌, None, Ok, IfOk, OnOk};
+ghost use Rattle.std.specs.Prelude.{◌≡◌, ◌++◌, None, IfOk, OnOk};
 ghost use Rattle.std.specs.List.{flat_map};
 ghost use Rattle.plan_base.specs.declared.limits.Caps.{Caps};
 ghost use Rattle.mode_network.specs.NetworkLists.{nodes_of};
 ghost use Rattle.mode_network.specs.Rules.{first_fault};
 ghost use Rattle.region_file.specs.Lines.{region_text};
-ghost use Rattle.region_file.specs.Regions.{region_of};
+ghost use Rattle.region_file.specs.Regions.{IsDecoded};
 ghost use Rattle.region_file.specs.Texts.{IsListed, call_text, line_text, node_text, trip_text};
 ghost use Rattle.region_file.specs.declared.lines.Line.TheVariants as line;
 
@@ -92,7 +92,8 @@ fn push_trips(out: &mut Vec<u8>, trips: &[Trip]) -> Result<(), AllocError>
 /// The one spelling of a network.
 pub fn text_of(alloc: Global, network: &Network) -> Result<Vec<u8>, AllocError>
     ensures spelled { IfOk result (λ bytes. bytes.items ≡ region_text network.now) }
-    ensures again { IfOk result (λ bytes. (caps : Caps) → first_fault caps network.now ≡ None → region_of caps bytes.items ≡ Ok network.now) }
+    ensures again { IfOk result (λ bytes. (caps : Caps) → first_fault caps network.now ≡ None
+        → IsDecoded caps bytes.items network.now) }
 {
     network.known();
     network.days().facts();

@@ -7,7 +7,8 @@ use Rattle.plan_base.specs.declared.limits.Caps.{Caps}
 use Rattle.mode_network.specs.NetworkLists.{NetworkLists}
 use Rattle.mode_network.specs.Rules.{IsNetwork}
 use Rattle.region_file.specs.declared.fault.RegionFault.{RegionFault}
-use Rattle.region_file.specs.Regions.{region_of}
+use Rattle.region_file.specs.Regions.{IsDecoded}
+use Rattle.region_file.proofs.Decoded.{no_region, spell_one}
 use Rattle.run_steps.specs.declared.outcome.FileRole.{FileRole}
 use Rattle.run_steps.specs.declared.outcome.Outcome.{Outcome}
 use Rattle.run_steps.specs.declared.outcome.Outcome.TheVariants.{Done, Usage, Missing, ReadFault, TooLong, WriteFault, BadRegion, BadFeed, Invalid, BadCertificate, BadHierarchy, Unsound, OutOfMemory}
@@ -58,10 +59,10 @@ module _ (files : Files) where
       more on.bytes (subst P bytes held.fine) (with_shelf old on.mid) new outcome (on.later.files ∙ tells) (quiet_later old new on.mid on.later quiet) on.says
 
   pub network_completes : (caps : Caps) (P : NetworkLists → Type 0) (rest : NetworkLists → Saying) → ((n : NetworkLists) → IsNetwork n → Completes files (P n) (rest n))
-      → (bytes : List ℕ) → Completes files (SpellsNetwork caps P bytes) (OnNetwork (region_of caps bytes) rest)
-  network_completes caps P rest more bytes (n, spells, p) old new outcome tells quiet said =
-      let on = subst (λ (r : Result NetworkLists RegionFault). OnNetwork r rest old new outcome) spells said in
-      more n on.0 p old new outcome tells quiet on.1
+      → (bytes : List ℕ) → Completes files (SpellsNetwork caps P bytes) (OnNetwork caps rest bytes)
+  network_completes caps P rest more bytes (n, spells, p) old new outcome tells quiet (inl (fault, none, ends)) = absurd (no_region caps bytes n fault spells none)
+  network_completes caps P rest more bytes (n, spells, p) old new outcome tells quiet (inr (m, decoded, rules, says)) =
+      more m rules (subst P (spell_one caps bytes n m spells decoded) p) old new outcome tells quiet says
 
   pub writes_completes : (IsOut IsFront : List ℕ → Type 0) → Completes files (Unit {0}) (Writes IsOut IsFront)
   writes_completes IsOut IsFront p old new Done tells quiet is = tt

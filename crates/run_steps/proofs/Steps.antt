@@ -9,7 +9,6 @@ use Rattle.mode_network.specs.NetworkLists.{NetworkLists}
 use Rattle.mode_network.specs.Rules.{first_fault}
 use Rattle.mode_network.specs.declared.faults.NetFault.{NetFault}
 use Rattle.region_file.specs.declared.fault.RegionFault.{RegionFault}
-use Rattle.region_file.specs.Regions.{behind_head, lists_by, network_of, or_fault, region_of}
 use Rattle.run_steps.specs.declared.outcome.Outcome.{Outcome}
 use Rattle.run_steps.specs.declared.outcome.Outcome.TheVariants.{Done, Usage, Missing, ReadFault, TooLong, WriteFault, BadRegion, BadFeed, Invalid, BadCertificate, BadHierarchy, Unsound, OutOfMemory}
 use Rattle.run_steps.specs.declared.outcome.FileRole.{FileRole}
@@ -109,7 +108,7 @@ module _ (old mid new : ShelfMeaning) (before after : SinkMeaning) (name : List 
     file = bad.file;
     mid = old;
     later = not_earlier old;
-    says = subst (λ (r : Result NetworkLists RegionFault). OnNetwork r rest (scene old before) (scene new after) (BadRegion fault)) (sym bad.first) (refl, same);
+    says = inl (fault, bad.why, (refl, same));
   })
   region_fails caps rest (BadFeed fault) unread same = inl (unread, same)
   region_fails caps rest Done unread same = inl (unread, same)
@@ -132,18 +131,5 @@ module _ (old mid new : ShelfMeaning) (before after : SinkMeaning) (name : List 
     file = has.file;
     mid = mid;
     later = later;
-    says = subst (λ (r : Result NetworkLists RegionFault). OnNetwork r rest (scene mid before) (scene new after) outcome) (sym has.spells) (has.rules, says);
+    says = inr (n, has.spells, has.rules, says);
   })
-
--- a network that a region spells is within the limits
-spelled_within : (caps : Caps) (n m : NetworkLists) (fault : Option NetFault) → first_fault caps m ≡ fault → or_fault m fault ≡ Ok n → first_fault caps n ≡ None
-spelled_within caps n m None none e = let same : m ≡ n = cc in subst (λ (x : NetworkLists). first_fault caps x ≡ None) same none
-spelled_within caps n m (Some fault) some e = absurd (cc)
-
-network_within : (caps : Caps) (n : NetworkLists) (lists : Result NetworkLists RegionFault) → network_of caps lists ≡ Ok n → first_fault caps n ≡ None
-network_within caps n (Ok m) e = spelled_within caps n m (first_fault caps m) refl e
-network_within caps n (Err fault) e = absurd (cc)
-
-pub region_within : (caps : Caps) (bytes : List ℕ) (n : NetworkLists) → region_of caps bytes ≡ Ok n → first_fault caps n ≡ None
-unfolding region_of
-region_within caps bytes n e = network_within caps n (lists_by bytes (behind_head bytes)) e

@@ -1,10 +1,10 @@
 -- When a run does all of its work: its files are there and without fault, and nothing failed.
-use Rattle.std.specs.Prelude.{◌≡◌, ℕ, ◌<◌, ◌≤◌, ⊤, List, length, All, Option, Some, Ok}
+use Rattle.std.specs.Prelude.{◌≡◌, ℕ, ◌<◌, ◌≤◌, ⊤, List, length, All, Option, Some}
 use Rattle.plain_texts.specs.Lines.{lines_of}
 use Rattle.plan_base.specs.Counts.{Rose}
 use Rattle.plan_base.specs.declared.limits.Caps.{Caps}
 use Rattle.mode_network.specs.NetworkLists.{NetworkLists}
-use Rattle.region_file.specs.Regions.{region_of}
+use Rattle.region_file.specs.Regions.{IsDecoded}
 use Rattle.run_steps.specs.declared.outcome.Outcome.{Outcome}
 use Rattle.run_steps.specs.declared.outcome.Outcome.TheVariants.{Done, OutOfMemory}
 use Rattle.run_steps.specs.Scene.{Scene}
@@ -31,7 +31,7 @@ pub record AreLinesHeld (files : Files) (name : List ℕ) : Type 0 where
 
 -- the bytes spell a network within the limits that has P
 abbrev pub SpellsNetwork : Caps → (NetworkLists → Type 0) → List ℕ → Type 0
-SpellsNetwork caps P bytes = (n : NetworkLists) × (region_of caps bytes ≡ Ok n) × P n
+SpellsNetwork caps P bytes = (n : NetworkLists) × IsDecoded caps bytes n × P n
 
 abbrev pub IsDoneOrMemory : Outcome → Type 0
 IsDoneOrMemory Done = Unit {0}

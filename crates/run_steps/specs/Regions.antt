@@ -1,19 +1,23 @@
 -- What a run says that reads a region.
-use Rattle.std.specs.Prelude.{List, ℕ, Result, Ok, Err}
+use Rattle.std.specs.Prelude.{ℕ, ◌⊎◌, List}
 use Rattle.plan_base.specs.declared.limits.Caps.{Caps}
 use Rattle.mode_network.specs.NetworkLists.{NetworkLists}
 use Rattle.mode_network.specs.Rules.{IsNetwork}
 use Rattle.region_file.specs.declared.fault.RegionFault.{RegionFault}
-use Rattle.region_file.specs.Regions.{region_of}
+use Rattle.region_file.specs.Regions.{IsDecoded, IsNoRegion}
 use Rattle.run_steps.specs.declared.outcome.FileRole.TheVariants.{Region}
 use Rattle.run_steps.specs.declared.outcome.Outcome.TheVariants.{BadRegion}
 use Rattle.run_steps.specs.Sayings.{Saying, Ends, OnFile}
 
--- what a region's bytes spell: a network, which keeps the rules of networks, or their first fault
-abbrev pub OnNetwork : Result NetworkLists RegionFault → (NetworkLists → Saying) → Saying
-OnNetwork (Ok n) rest old new outcome = IsNetwork n × rest n old new outcome
-OnNetwork (Err fault) rest old new outcome = Ends (BadRegion fault) old new outcome
+-- the bytes spell no network within the limits, and why is told
+abbrev pub IsBadRegion : Caps → List ℕ → Saying
+IsBadRegion caps bytes old new outcome = (fault : RegionFault) × IsNoRegion caps bytes fault × Ends (BadRegion fault) old new outcome
+
+-- what a region's bytes spell: a network within the limits, which keeps the rules of networks; or none
+abbrev pub OnNetwork : Caps → (NetworkLists → Saying) → List ℕ → Saying
+OnNetwork caps rest bytes old new outcome =
+    IsBadRegion caps bytes old new outcome ⊎ ((n : NetworkLists) × IsDecoded caps bytes n × IsNetwork n × rest n old new outcome)
 
 -- a region is read
 abbrev pub OnRegion : Caps → List ℕ → (NetworkLists → Saying) → Saying
-OnRegion caps name rest = OnFile Region name (λ bytes. OnNetwork (region_of caps bytes) rest)
+OnRegion caps name rest = OnFile Region name (OnNetwork caps rest)

@@ -1,5 +1,5 @@
 -- What the steps of a run answer: what was read, why it was not, and why a text was not written.
-use Rattle.std.specs.Prelude.{◌≡◌, ℕ, List, Option, None, Some, Err, Ok}
+use Rattle.std.specs.Prelude.{ℕ, List, Option, None, Some}
 use Rattle.plan_base.specs.Counts.{Rose}
 use Rattle.plan_base.specs.Shelves.{ShelfMeaning, HasRead}
 use Rattle.plan_base.specs.Sinks.{SinkMeaning, AppendedPart}
@@ -9,7 +9,7 @@ use Rattle.plan_base.specs.declared.reading.ReadFault.TheVariants as cause
 use Rattle.mode_network.specs.NetworkLists.{NetworkLists}
 use Rattle.mode_network.specs.Rules.{IsNetwork}
 use Rattle.region_file.specs.declared.fault.RegionFault.{RegionFault}
-use Rattle.region_file.specs.Regions.{region_of}
+use Rattle.region_file.specs.Regions.{IsDecoded, IsNoRegion}
 use Rattle.run_steps.specs.declared.outcome.FileRole.{FileRole}
 use Rattle.run_steps.specs.declared.outcome.FileRole.TheVariants.{Region}
 use Rattle.run_steps.specs.declared.outcome.Outcome.{Outcome}
@@ -32,14 +32,14 @@ IsFound old new name None = IsAbsent old new name
 pub record HasRegion (caps : Caps) (shelf : ShelfMeaning) (name : List ℕ) (n : NetworkLists) : Type 0 where
   pub bytes : List ℕ
   pub file : HasRead shelf name most_bytes bytes
-  pub spells : region_of caps bytes ≡ Ok n
+  pub spells : IsDecoded caps bytes n
   pub rules : IsNetwork n
 
--- the region file was read, and this is its first fault
+-- the region file was read, and spells none, for this reason
 pub record HasBadRegion (caps : Caps) (shelf : ShelfMeaning) (name : List ℕ) (fault : RegionFault) : Type 0 where
   pub bytes : List ℕ
   pub file : HasRead shelf name most_bytes bytes
-  pub first : region_of caps bytes ≡ Err fault
+  pub why : IsNoRegion caps bytes fault
 
 -- why no region was read
 abbrev pub IsRegionOutcome : Caps → ShelfMeaning → ShelfMeaning → List ℕ → Outcome → Type 0

@@ -1,4 +1,4 @@
-use Rattle.run_steps.proofs.Steps.{on_region, region_within}
+use Rattle.run_steps.proofs.Steps.{on_region}
 use Rattle.compile_commands.proofs.compiling.migrate.Goals as goal
 
 pub returns : goal.returns
@@ -8,4 +8,4 @@ returns g c =
     let has = c.in_ok-network.ensures.ok in
     on_region (g.F.Shelf.meaning c.args.ports.now.shelf) new new (g.O.Sink.meaning c.args.ports.now.out) (g.O.Sink.meaning c.write_network.new.out) c.args.region.now
     c.args.caps.now _ n has c.in_ok-network.ensures.later _
-    (c.write_network.ensures c.args.caps.now new new (region_within c.args.caps.now has.bytes n has.spells))
+    (c.write_network.ensures c.args.caps.now new new has.spells.faultless)

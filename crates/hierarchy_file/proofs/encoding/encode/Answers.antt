@@ -1,19 +1,14 @@
-use Rattle.std.proofs.Common.{◌∙◌, ap, length, refl, rules, ◌<◌, ◌^◌}
+use Rattle.std.proofs.Common.{length, refl, rules, ◌<◌, ◌^◌}
 use Rattle.hierarchy_file.specs.Spelling.{HasSpelling}
-use Rattle.hierarchy_file.specs.Reading.{hierarchy_of}
-use Rattle.hierarchy_file.proofs.WholeLaws.{written, hierarchy_again}
+use Rattle.hierarchy_file.proofs.WholeLaws.{written}
 use Rattle.hierarchy_file.proofs.encoding.encode.Goals as goal
 
-pub returns-clause-text : goal.returns-clause-text
-returns-clause-text c =
-    written c.args.h.now c.in_ok-out.out.items c.push_head.new.out.items c.push_nodes.new.out.items c.push_entries.new.out.items c.push_witnesses.new.out.items
+pub returns : goal.returns
+returns c =
+    let text = written c.args.h.now c.in_ok-out.out.items c.push_head.new.out.items c.push_nodes.new.out.items c.push_entries.new.out.items c.push_witnesses.new.out.items
     _ c.order-2.result.now c.entries-2.result.now c.witnesses-2.result.now c.order-2.ensures c.entries-2.ensures c.witnesses-2.ensures
     (rw (c.order.ensures, c.entries.ensures, c.witnesses.ensures) refl) c.in_ok-out.ensures.items
-    c.in_ok-push_head.ensures c.in_ok-push_nodes.ensures c.in_ok-push_entries.ensures.text c.in_ok-push_witnesses.ensures.text
-
-pub returns-clause-again : goal.returns-clause-again
-returns-clause-again c =
-    let text = returns-clause-text c in
+    c.in_ok-push_head.ensures c.in_ok-push_nodes.ensures c.in_ok-push_entries.ensures.text c.in_ok-push_witnesses.ensures.text in
     let order : length c.order.result.now < 2 ^ 64 = search rules in
     let entries : length c.entries.result.now < 2 ^ 64 = search rules in
     let witnesses : length c.witnesses.result.now < 2 ^ 64 = search rules in
@@ -25,4 +20,4 @@ returns-clause-again c =
       weights_fit = rw (← c.entries-2.ensures) c.in_ok-push_entries.ensures.fit;
       nodes_short = rw (← c.witnesses-2.ensures) c.in_ok-push_witnesses.ensures.fit;
     } in
-    ap hierarchy_of text ∙ hierarchy_again c.args.h.now has
+    (has, text)

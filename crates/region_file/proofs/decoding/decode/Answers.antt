@@ -1,5 +1,5 @@
 use Rattle.std.proofs.Common.{arith}
-use Rattle.region_file.proofs.Decoded.{gives_found, gives_only, gives_cause}
+use Rattle.region_file.proofs.Decoded.{gives_found, gives_only, gives_cause, gives_none}
 use Rattle.region_file.proofs.decoding.decode.Goals as goal
 
 pub returns-clause-found : goal.returns-clause-found
@@ -10,3 +10,6 @@ returns-clause-only c = gives_only c.args.caps.now c.args.bytes.now c.read_regio
 
 pub returns-clause-cause : goal.returns-clause-cause
 returns-clause-cause c = gives_cause c.args.caps.now c.args.bytes.now (λ i. omega (arith, c.type_inv.bytes i)) c.read_region.result c.read_region.ensures
+
+pub returns-clause-none : goal.returns-clause-none
+returns-clause-none c = gives_none c.args.caps.now c.args.bytes.now (λ i. omega (arith, c.type_inv.bytes i)) c.read_region.result c.read_region.ensures

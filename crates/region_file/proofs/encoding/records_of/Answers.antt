@@ -6,7 +6,6 @@ use Rattle.service_days.specs.Zones.{AreKept}
 use Rattle.mode_network.specs.NetworkLists.{nodes_of}
 use Rattle.region_file.specs.Bytes.{arc_bytes, counts_of, head_bytes}
 use Rattle.region_file.specs.Texts.{node_record, trip_records}
-use Rattle.region_file.proofs.Decoded.{region_again}
 use Rattle.region_file.proofs.Encoded.{records_written}
 use Rattle.region_file.proofs.Fits.{counts_fit, few_calls, is_region}
 use Rattle.region_file.proofs.encoding.records_of.Goals as goal
@@ -33,4 +32,4 @@ returns-clause-again c =
     let n = c.args.network.now in
     let kept : AreKept c.days-days.result.now = record { are = c.facts.ensures.days; made = c.facts.ensures.made } in
     let region = is_region n c.known.ensures (subst AreKept c.days-days.ensures kept) in
-    λ caps faultless. region_again caps c.push_trips.new.out.items n (record { region = region; spelled = inr (record { counts = counts_fit n c.known.ensures; spelled = returns-clause-spelled c }); faultless = faultless })
+    λ caps faultless. record { region = region; spelled = inr (record { counts = counts_fit n c.known.ensures; spelled = returns-clause-spelled c }); faultless = faultless }

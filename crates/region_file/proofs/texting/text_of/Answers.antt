@@ -5,7 +5,6 @@ use Rattle.mode_network.specs.NetworkLists.{nodes_of}
 use Rattle.region_file.specs.declared.lines.Line.TheVariants as line
 use Rattle.region_file.specs.Lines.{head_line}
 use Rattle.region_file.specs.Texts.{line_text, node_text, trip_text}
-use Rattle.region_file.proofs.Decoded.{region_again}
 use Rattle.region_file.proofs.Encoded.{written}
 use Rattle.region_file.proofs.Fits.{is_region}
 use Rattle.region_file.proofs.texting.text_of.Goals as goal
@@ -27,4 +26,4 @@ returns-clause-again c =
     let n = c.args.network.now in
     let kept : AreKept c.days.result.now = record { are = c.facts.ensures.days; made = c.facts.ensures.made } in
     let region = is_region n c.known.ensures (subst AreKept c.days.ensures kept) in
-    λ caps faultless. region_again caps c.extend_from_slice-2.new.self.items n (record { region = region; spelled = inl (returns-clause-spelled c); faultless = faultless })
+    λ caps faultless. record { region = region; spelled = inl (returns-clause-spelled c); faultless = faultless }
