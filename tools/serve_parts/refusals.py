@@ -4,7 +4,7 @@ from .bounds import MOST_PLACES
 
 REASONS = {
     "shape": (None, "a query is FROM TO DATE TIME EXPRESSION with one space between them, where FROM and TO are n and an id, "
-                    "s and a stop's name, or @LAT,LON"),
+                    "s and a stop's name, or @LAT,LON, also behind foot, bike or car"),
     "clock": ("time", "DATE is a date of 8 digits, such as 20240304, and TIME is HH:MM:SS or HH:MM:SS.mmm"),
     "range": ("date", "DATE is none of the region's days"),
     "from": ("from", "the region has no such FROM"),

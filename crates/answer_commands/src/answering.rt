@@ -35,9 +35,11 @@ impl LineBlocks for BestBlocks<'_> {
 
     ghost may = { λ blocks. IfSome blocks.hierarchy (λ h. IsSound blocks.network.now h.now) };
 
-    ghost is_block = { λ blocks. IsAnswer blocks.network.now (option_map (λ h. h.now) blocks.hierarchy) blocks.limits };
+    ghost is_block = { λ blocks. IsAnswer blocks.network.now (option_map (λ h. h.now) blocks.hierarchy)
+        blocks.limits };
 
-    ghost counts = { λ blocks. IsAnswerCount blocks.network.now (option_map (λ h. h.now) blocks.hierarchy) blocks.limits };
+    ghost counts = { λ blocks. IsAnswerCount blocks.network.now (option_map (λ h. h.now) blocks.hierarchy)
+        blocks.limits };
 
     type Room = Room;
 

@@ -81,8 +81,8 @@ fn certified(
     line: &[u8],
 ) -> Result<Vec<u8>, AllocError>
     requires { IfSome hierarchy (λ h. IsSound network.now h.now) }
-    ensures { IfOk result (λ text. IsCertified network.now (option_map (λ h. h.now) hierarchy.entry) limits line.now
-        text.items) }
+    ensures { IfOk result (λ text. IsCertified network.now (option_map (λ h. h.now) hierarchy.entry) limits
+        line.now text.items) }
 {
     if let Some(block) = large_block(alloc, network, limits.places, line)? {
         return Ok(block);
@@ -100,8 +100,8 @@ pub fn certified_within(
     line: &[u8],
 ) -> Result<Vec<u8>, AllocError>
     requires { IfSome hierarchy (λ h. IsSound network.now h.now) }
-    ensures { IfOk result (λ text. IsCertifiedWithin network.now (option_map (λ h. h.now) hierarchy.entry) limit line.now
-        text.items) }
+    ensures { IfOk result (λ text. IsCertifiedWithin network.now (option_map (λ h. h.now) hierarchy.entry)
+        limit line.now text.items) }
 {
     match read_query(alloc, network, line) {
         Ok(query) => certificate_text(alloc, network, hierarchy, limit, query),
@@ -116,7 +116,8 @@ fn refused(
     line: &[u8],
     fault: QueryFault,
 ) -> Result<Vec<u8>, AllocError>
-    ensures { IfOk result (λ text. (fault ≢ OutOfMemory) × IsBlockText network.now line.now (Refused fault) text.items) }
+    ensures { IfOk result (λ text. (fault ≢ OutOfMemory) × IsBlockText network.now line.now (Refused fault)
+        text.items) }
 {
     match fault {
         QueryFault::OutOfMemory => Err(AllocError),
@@ -135,8 +136,8 @@ fn certificate_text(
     requires sound { IfSome hierarchy (λ h. IsSound network.now h.now) }
     requires read { IsRead network.now query }
     requires line { IsLine query.line }
-    ensures { IfOk result (λ text. IsCertifiedWithin network.now (option_map (λ h. h.now) hierarchy.entry) limit query.line
-        text.items) }
+    ensures { IfOk result (λ text. IsCertifiedWithin network.now (option_map (λ h. h.now) hierarchy.entry)
+        limit query.line text.items) }
 {
     network.known();
     let found = find_plan_within(alloc, network, hierarchy, &query, limit)?;

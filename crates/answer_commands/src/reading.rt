@@ -21,9 +21,11 @@ pub fn read_both<F: Shelf, E: Sink>(
     notes: &mut E,
     caps: &Caps,
 ) -> Result<(Network, Option<Hierarchy>), Outcome>
-    ensures ok { IfOk result (λ both. HasBoth caps.now (F.meaning shelf.old) (F.meaning shelf.new) region.now (option_map (λ it. it.now) hierarchy.entry) both.0 both.1) }
+    ensures ok { IfOk result (λ both. HasBoth caps.now (F.meaning shelf.old) (F.meaning shelf.new) region.now
+        (option_map (λ it. it.now) hierarchy.entry) both.0 both.1) }
     ensures sound { IfOk result (λ both. IfSome both.1 (λ h. IsSound both.0 h)) }
-    ensures err { IfErr result (IsBothOutcome caps.now (F.meaning shelf.old) (F.meaning shelf.new) region.now (option_map (λ it. it.now) hierarchy.entry)) }
+    ensures err { IfErr result (IsBothOutcome caps.now (F.meaning shelf.old) (F.meaning shelf.new) region.now
+        (option_map (λ it. it.now) hierarchy.entry)) }
 {
     let network = read_region(alloc, shelf, region, caps, notes)?;
     let hierarchy = read_if_named(alloc, shelf, hierarchy, &network, notes)?;

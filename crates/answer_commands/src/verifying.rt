@@ -98,7 +98,8 @@ fn claimed_block(
     certificate: Certificate,
 ) -> Result<Vec<u8>, AllocError>
     requires { IsPrintableBody network.now (body_of certificate.result) }
-    ensures { IfOk result (λ block. IsBlockText network.now certificate.line (body_of certificate.result) block.items) }
+    ensures { IfOk result (λ block. IsBlockText network.now certificate.line (body_of certificate.result)
+        block.items) }
 {
     let Certificate {
         line,

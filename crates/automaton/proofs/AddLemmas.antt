@@ -2,14 +2,14 @@
 use Rattle.std.proofs.Common.{◌≡◌, ℕ, ◌+◌, ◌-◌, Bool, true, false, ◌&&◌, ◌||◌, ◌==◌, List, [], ◌∷◌, ◌++◌, reverse, refl, sym, ap, ◌∙◌, subst, append_assoc, append-nil, arith}
 use Rattle.std.proofs.lemmas.List.{reverse-append}
 use Rattle.automaton.specs.Written.{Written, nothing, nowhere, letter, sequence, choice, optional, plus, size, nullable, first}
-use Rattle.automaton.specs.Rows.{Row, entry, rows}
+use Rattle.automaton.specs.Rows.{PositionRow, entry, position_rows}
 use Rattle.automaton.specs.Builds.{Built, grown, Adds}
 
-grown-twice : (dry : Bool) (list more again : List Row) → grown dry (grown dry list more) again ≡ grown dry list (more ++ again)
+grown-twice : (dry : Bool) (list more again : List PositionRow) → grown dry (grown dry list more) again ≡ grown dry list (more ++ again)
 grown-twice true list more again = refl
 grown-twice false list more again = append_assoc list more again
 
-grown-none : (dry : Bool) (list : List Row) → list ≡ grown dry list []
+grown-none : (dry : Bool) (list : List PositionRow) → list ≡ grown dry list []
 grown-none true list = refl
 grown-none false list = sym (append-nil list)
 
@@ -78,12 +78,12 @@ module _ (a b : Written) (old mid new : Built) (K E F : ℕ → Bool) where
         numbered = let n = in_b.numbered in let m = in_a.numbered in omega arith;
         same_mode = in_a.same_mode ∙ in_b.same_mode;
         entered = in_a.entered ∙ ap (λ S. entry a new.at S) then_b ∙ sequence_entry a b new.at K;
-        rows_added = in_a.rows_added ∙ ap (λ d. grown d mid.rows (reverse (rows a new.at E))) in_b.same_mode
-            ∙ ap (λ l. grown old.dry l (reverse (rows a new.at E))) in_b.rows_added
-            ∙ grown-twice old.dry old.rows (reverse (rows b mid.at K)) (reverse (rows a new.at E))
-            ∙ ap (λ o. grown old.dry old.rows (reverse (rows b o K) ++ reverse (rows a new.at E))) place
-            ∙ ap (λ S. grown old.dry old.rows (reverse (rows b (new.at + size a) K) ++ reverse (rows a new.at S))) then_b
-            ∙ ap (λ l. grown old.dry old.rows l) (sym (reverse-append (rows a new.at (entry b (new.at + size a) K)) (rows b (new.at + size a) K)));
+        rows_added = in_a.rows_added ∙ ap (λ d. grown d mid.rows (reverse (position_rows a new.at E))) in_b.same_mode
+            ∙ ap (λ l. grown old.dry l (reverse (position_rows a new.at E))) in_b.rows_added
+            ∙ grown-twice old.dry old.rows (reverse (position_rows b mid.at K)) (reverse (position_rows a new.at E))
+            ∙ ap (λ o. grown old.dry old.rows (reverse (position_rows b o K) ++ reverse (position_rows a new.at E))) place
+            ∙ ap (λ S. grown old.dry old.rows (reverse (position_rows b (new.at + size a) K) ++ reverse (position_rows a new.at S))) then_b
+            ∙ ap (λ l. grown old.dry old.rows l) (sym (reverse-append (position_rows a new.at (entry b (new.at + size a) K)) (position_rows b (new.at + size a) K)));
       }
 
   pub adds_choice : Adds old mid b K E → Adds mid new a K F → Adds old new (choice a b) K (λ q. F q || E q)
@@ -96,11 +96,11 @@ module _ (a b : Written) (old mid new : Built) (K E F : ℕ → Bool) where
         numbered = let n = in_b.numbered in let m = in_a.numbered in omega arith;
         same_mode = in_a.same_mode ∙ in_b.same_mode;
         entered = ap (λ S. λ q. S q || E q) in_a.entered ∙ ap (λ S. λ q. entry a new.at K q || S q) then_b ∙ choice_entry a b new.at K;
-        rows_added = in_a.rows_added ∙ ap (λ d. grown d mid.rows (reverse (rows a new.at K))) in_b.same_mode
-            ∙ ap (λ l. grown old.dry l (reverse (rows a new.at K))) in_b.rows_added
-            ∙ grown-twice old.dry old.rows (reverse (rows b mid.at K)) (reverse (rows a new.at K))
-            ∙ ap (λ o. grown old.dry old.rows (reverse (rows b o K) ++ reverse (rows a new.at K))) place
-            ∙ ap (λ l. grown old.dry old.rows l) (sym (reverse-append (rows a new.at K) (rows b (new.at + size a) K)));
+        rows_added = in_a.rows_added ∙ ap (λ d. grown d mid.rows (reverse (position_rows a new.at K))) in_b.same_mode
+            ∙ ap (λ l. grown old.dry l (reverse (position_rows a new.at K))) in_b.rows_added
+            ∙ grown-twice old.dry old.rows (reverse (position_rows b mid.at K)) (reverse (position_rows a new.at K))
+            ∙ ap (λ o. grown old.dry old.rows (reverse (position_rows b o K) ++ reverse (position_rows a new.at K))) place
+            ∙ ap (λ l. grown old.dry old.rows l) (sym (reverse-append (position_rows a new.at K) (position_rows b (new.at + size a) K)));
       }
 
 module _ (a : Written) (old new : Built) (K E : ℕ → Bool) where
@@ -122,8 +122,8 @@ module _ (a : Written) (old new : Built) (K E : ℕ → Bool) where
         numbered = in_a.numbered;
         same_mode = in_a.same_mode;
         entered = in_a.entered;
-        rows_added = in_a.rows_added ∙ ap (λ d. grown d old.rows (reverse (rows a new.at K))) dry
-            ∙ sym (ap (λ d. grown d old.rows (reverse (rows a new.at (λ q. first a new.at q || K q)))) dry);
+        rows_added = in_a.rows_added ∙ ap (λ d. grown d old.rows (reverse (position_rows a new.at K))) dry
+            ∙ sym (ap (λ d. grown d old.rows (reverse (position_rows a new.at (λ q. first a new.at q || K q)))) dry);
       }
 
 -- else a dry pass finds what may be read first, and may come again
@@ -141,9 +141,9 @@ adds_plus a old tried new K F E wet add_dry add_a room =
       numbered = in_a.numbered;
       same_mode = in_a.same_mode ∙ sym wet;
       entered = in_a.entered ∙ ap (λ S. entry a new.at S) around ∙ plus_entry a new.at K;
-      rows_added = in_a.rows_added ∙ ap (λ l. l ++ reverse (rows a new.at (λ q. F q || K q))) dry.rows_added
-          ∙ ap (λ S. old.rows ++ reverse (rows a new.at S)) around
-          ∙ sym (ap (λ d. grown d old.rows (reverse (rows a new.at (λ q. first a new.at q || K q)))) wet);
+      rows_added = in_a.rows_added ∙ ap (λ l. l ++ reverse (position_rows a new.at (λ q. F q || K q))) dry.rows_added
+          ∙ ap (λ S. old.rows ++ reverse (position_rows a new.at S)) around
+          ∙ sym (ap (λ d. grown d old.rows (reverse (position_rows a new.at (λ q. first a new.at q || K q)))) wet);
     }
 
 letter_entry : (bits o : ℕ) (K : ℕ → Bool) → (λ q. q == o + 1) ≡ entry (letter bits) o K

@@ -4,9 +4,9 @@ use Rattle.std.proofs.lemmas.List.{reverse-reverse}
 use Rattle.search_laws.specs.LabelLaws.{Accepts, IsLawfulLabels}
 use Rattle.mode_expression.specs.Form.{Form, IsUsable, IsWordOf, places}
 use Rattle.automaton.specs.Written.{written, size}
-use Rattle.automaton.specs.Rows.{entry, rows}
-use Rattle.automaton.specs.Builds.{Built, IsAdded, Adds, grown}
-use Rattle.automaton.specs.States.{StateView, labels_of, states_for, IsPositionAutomaton}
+use Rattle.automaton.specs.Rows.{entry, position_rows}
+use Rattle.automaton.specs.Builds.{Built, ArePositionsAdded, Adds, grown}
+use Rattle.automaton.specs.States.{StateView, meaning_of_states, states_for, IsPositionAutomaton}
 use Rattle.automaton.proofs.RowLemmas.{length-rows}
 use Rattle.automaton.proofs.WrittenLemmas.{denoted_of_written, written_of_denoted, size_written, letters_below}
 use Rattle.automaton.proofs.PositionLemmas.{end, automaton_of, is_position_automaton, accepts_written, state_total, moves_few, is_lawful}
@@ -16,7 +16,7 @@ module _ (f : Form) (usable : IsUsable f) (old new : Built) (first : ℕ → Boo
   numbers : old.at ≡ size (written f)
   numbers = let small = usable.small in omega (arith, ap (λ b. b.at) fresh, size_written f usable.formed)
 
-  added : IsAdded old new (written f) end first
+  added : ArePositionsAdded old new (written f) end first
   added = adds (omega (arith, numbers))
 
   at_start : new.at ≡ 0
@@ -25,11 +25,11 @@ module _ (f : Form) (usable : IsUsable f) (old new : Built) (first : ℕ → Boo
   pub first_is : first ≡ entry (written f) 0 end
   first_is = added.entered ∙ ap (λ o. entry (written f) o end) at_start
 
-  pub rows_are : reverse new.rows ≡ rows (written f) 0 end
+  pub rows_are : reverse new.rows ≡ position_rows (written f) 0 end
   rows_are =
-      ap reverse (added.rows_added ∙ ap (λ d. grown d old.rows (reverse (rows (written f) new.at end))) (ap (λ b. b.dry) fresh)
-      ∙ ap (λ l. l ++ reverse (rows (written f) new.at end)) (ap (λ b. b.rows) fresh)) ∙ reverse-reverse (rows (written f) new.at end)
-      ∙ ap (λ o. rows (written f) o end) at_start
+      ap reverse (added.rows_added ∙ ap (λ d. grown d old.rows (reverse (position_rows (written f) new.at end))) (ap (λ b. b.dry) fresh)
+      ∙ ap (λ l. l ++ reverse (position_rows (written f) new.at end)) (ap (λ b. b.rows) fresh)) ∙ reverse-reverse (position_rows (written f) new.at end)
+      ∙ ap (λ o. position_rows (written f) o end) at_start
 
   few_positions : size (written f) ≤ 200
   few_positions = let small = usable.small in omega (arith, size_written f usable.formed)
@@ -39,24 +39,24 @@ module _ (f : Form) (usable : IsUsable f) (old new : Built) (first : ℕ → Boo
 
   -- the states that were made of these rows
   module _ (views : List StateView) (made : views ≡ states_for (reverse new.rows) first) where
-    labels_are : automaton_of (written f) ≡ labels_of views
-    labels_are = ap labels_of (sym (made ∙ ap (λ r. states_for r first) rows_are ∙ ap (λ S. states_for (rows (written f) 0 end) S) first_is))
+    labels_are : automaton_of (written f) ≡ meaning_of_states views
+    labels_are = ap meaning_of_states (sym (made ∙ ap (λ r. states_for r first) rows_are ∙ ap (λ S. states_for (position_rows (written f) 0 end) S) first_is))
 
-    pub of_lawful : IsLawfulLabels (labels_of views)
+    pub of_lawful : IsLawfulLabels (meaning_of_states views)
     of_lawful = subst IsLawfulLabels labels_are (is_lawful (written f) few_positions (letters_below f usable.formed))
 
-    pub of_states : IsPositionAutomaton (written f) (labels_of views)
+    pub of_states : IsPositionAutomaton (written f) (meaning_of_states views)
     of_states = subst (IsPositionAutomaton (written f)) labels_are (is_position_automaton (written f))
 
-    pub of_accepts : (word : List ℕ) → Accepts (labels_of views) word ↔ IsWordOf f word
+    pub of_accepts : (word : List ℕ) → Accepts (meaning_of_states views) word ↔ IsWordOf f word
     of_accepts word =
         let accepts = accepts_written (written f) word in (
           λ holds. denoted_of_written f usable.formed word (accepts.0 (subst (λ l. Accepts l word) (sym labels_are) holds)),
           λ is. subst (λ l. Accepts l word) labels_are (accepts.1 (written_of_denoted f usable.formed word is)),
         )
 
-    pub of_few_states : (labels_of views).states ≤ 201
+    pub of_few_states : (meaning_of_states views).states ≤ 201
     of_few_states = omega (arith, ap (λ l. l.states) labels_are, state_total (written f), few_positions)
 
-    pub of_few_moves : (q : ℕ) → (labels_of views).moves q ≤ 200
+    pub of_few_moves : (q : ℕ) → (meaning_of_states views).moves q ≤ 200
     of_few_moves q = omega (arith, ap (λ l. l.moves q) labels_are, moves_few (written f) q, few_positions)

@@ -9,17 +9,17 @@ use Rattle.search_laws.specs.Letters.{IsLetterSet}
 use Rattle.search_laws.specs.declared.labels.Move.{Move}
 use Rattle.search_laws.specs.LabelLaws.{LabelsMeaning, HasMove, Reads, Accepts, IsLawfulLabels}
 use Rattle.automaton.specs.Written.{Written, nothing, nowhere, letter, sequence, choice, optional, plus, size, nullable, first, last, follow, IsWritten}
-use Rattle.automaton.specs.Rows.{Row, entry, rows, row_at, no_row}
-use Rattle.automaton.specs.States.{no_move, no_view, view_at, labels_of, moves_upto, state_for, states_for, next_position, may_end, letters_at, IsPositionAutomaton}
+use Rattle.automaton.specs.Rows.{PositionRow, entry, position_rows, position_row, no_row}
+use Rattle.automaton.specs.States.{no_move, no_view, view_at, meaning_of_states, moves_upto, state_for, states_for, next_position, may_end, letters_at, IsPositionAutomaton}
 use Rattle.automaton.proofs.LanguageLemmas.{or_out, and_out, first_above, From, Agrees, read_is_written}
 use Rattle.automaton.proofs.RowLemmas.{length-rows, letters-rows, agrees_of_rows, next_is}
 
 no_bits : (c : ℕ) → IsBitSet 0 c → ⊥
 no_bits c set = set (and_pow 0 c ∙ ap (λ b. b * 2 ^ c) (bit_at-zero c) ∙ omega arith)
 
-module _ (R : List Row) where
+module _ (R : List PositionRow) where
   abbrev move_to : ℕ → Move
-  move_to p = record { letters = (row_at R p).letters; to = p }
+  move_to p = record { letters = (position_row R p).letters; to = p }
 
   module _ (S : ℕ → Bool) where
     upto_in : (k : ℕ) → S (suc k) ≡ true → moves_upto R S (suc k) ≡ moves_upto R S k ++ move_to (suc k) ∷ []
@@ -95,23 +95,23 @@ module _ (R : List Row) where
             )
 
 -- the automaton of rows R, before which S may be read
-module _ (R : List Row) (S : ℕ → Bool) where
+module _ (R : List PositionRow) (S : ℕ → Bool) where
   abbrev n : ℕ
   n = length R
 
   abbrev Next : ℕ → ℕ → Bool
-  Next p = (row_at R p).next
+  Next p = (position_row R p).next
 
   abbrev Bits : ℕ → ℕ
-  Bits p = (row_at R p).letters
+  Bits p = (position_row R p).letters
 
   abbrev Auto : LabelsMeaning
-  Auto = labels_of (states_for R S)
+  Auto = meaning_of_states (states_for R S)
 
   -- what may be read in a state
   abbrev set_of : ℕ → ℕ → Bool
   set_of zero = S
-  set_of (suc k) = (row_at R (suc k)).next
+  set_of (suc k) = (position_row R (suc k)).next
 
   pub state_count : Auto.states ≡ n + 1
   state_count = ap suc (length-map R (λ row. state_for R row.next)) ∙ omega arith
@@ -250,24 +250,24 @@ not_end p above = grind (arith, nat_tests)
 
 -- the automaton of an expression that is written out
 module _ (e : Written) where
-  abbrev R_of : List Row
-  R_of = rows e 0 end
+  abbrev R_of : List PositionRow
+  R_of = position_rows e 0 end
 
   abbrev S_of : ℕ → Bool
   S_of = entry e 0 end
 
   abbrev pub automaton_of : LabelsMeaning
-  automaton_of = labels_of (states_for R_of S_of)
+  automaton_of = meaning_of_states (states_for R_of S_of)
 
-  agrees : Agrees (λ p. (row_at R_of p).next) (λ p. (row_at R_of p).letters) e 0 end
+  agrees : Agrees (λ p. (position_row R_of p).next) (λ p. (position_row R_of p).letters) e 0 end
   agrees = agrees_of_rows e 0 end [] [] R_of (sym (append-nil R_of)) refl
 
-  letters_same : (p : ℕ) → (row_at R_of p).letters ≡ letters_at e p
+  letters_same : (p : ℕ) → (position_row R_of p).letters ≡ letters_at e p
   letters_same p =
       sym (get_or-map_default (λ row. row.letters) R_of (p - 1) no_row) ∙ ap (λ l. get_or l (p - 1) 0) (letters-rows e 0 end)
 
-  row_next : (k p : ℕ) → suc k ≤ size e → (row_at R_of (suc k)).next p ≡ (follow e 0 (suc k) p || (last e 0 (suc k) && end p))
-  row_next k p le = next_is (λ p. (row_at R_of p).next) (λ p. (row_at R_of p).letters) e 0 end agrees (suc k) p (omega arith) (omega arith)
+  row_next : (k p : ℕ) → suc k ≤ size e → (position_row R_of (suc k)).next p ≡ (follow e 0 (suc k) p || (last e 0 (suc k) && end p))
+  row_next k p le = next_is (λ p. (position_row R_of p).next) (λ p. (position_row R_of p).letters) e 0 end agrees (suc k) p (omega arith) (omega arith)
 
   next_same : (q p : ℕ) → q ≤ size e → 0 < p → set_of R_of S_of q p ≡ next_position e q p
   next_same zero p le above = ap (λ b. first e 0 p || (nullable e && b)) (not_end p above) ∙ and_false_right (first e 0 p) (nullable e)
@@ -315,7 +315,7 @@ module _ (e : Written) where
   pub accepts_written : (word : List ℕ) → Accepts automaton_of word ↔ IsWritten e word
   accepts_written word =
       let from = accepts_from R_of S_of word in
-      let read = read_is_written (λ p. (row_at R_of p).next) (λ p. (row_at R_of p).letters) e agrees word in
+      let read = read_is_written (λ p. (position_row R_of p).next) (λ p. (position_row R_of p).letters) e agrees word in
       (λ accepts. read.0 (from.0 accepts), λ is. from.1 (read.1 is))
 
   pub state_total : automaton_of.states ≡ size e + 1

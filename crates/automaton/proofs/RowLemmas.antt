@@ -4,59 +4,59 @@ use Rattle.std.proofs.lemmas.Bool.Decides.{nat_tests}
 use Rattle.std.proofs.lemmas.List.{map-append}
 use Rattle.std.proofs.Math.Seq.{get_or-append_seam}
 use Rattle.automaton.specs.Written.{Written, nothing, nowhere, letter, sequence, choice, optional, plus, size, nullable, first, last, follow, letters_written}
-use Rattle.automaton.specs.Rows.{Row, entry, rows, row_at, no_row}
+use Rattle.automaton.specs.Rows.{PositionRow, entry, position_rows, position_row, no_row}
 use Rattle.automaton.proofs.LanguageLemmas.{Agrees}
 
-pub length-rows : (e : Written) (o : ℕ) (K : ℕ → Bool) → length (rows e o K) ≡ size e
+pub length-rows : (e : Written) (o : ℕ) (K : ℕ → Bool) → length (position_rows e o K) ≡ size e
 length-rows nothing o K = refl
 length-rows nowhere o K = refl
 length-rows (letter bits) o K = refl
 length-rows (sequence a b) o K =
-    omega (arith, length-append (rows a o (entry b (o + size a) K)) (rows b (o + size a) K), length-rows a o (entry b (o + size a) K), length-rows b (o + size a) K)
-length-rows (choice a b) o K = omega (arith, length-append (rows a o K) (rows b (o + size a) K), length-rows a o K, length-rows b (o + size a) K)
+    omega (arith, length-append (position_rows a o (entry b (o + size a) K)) (position_rows b (o + size a) K), length-rows a o (entry b (o + size a) K), length-rows b (o + size a) K)
+length-rows (choice a b) o K = omega (arith, length-append (position_rows a o K) (position_rows b (o + size a) K), length-rows a o K, length-rows b (o + size a) K)
 length-rows (optional a) o K = length-rows a o K
 length-rows (plus a) o K = length-rows a o (λ q. first a o q || K q)
 
-pub letters-rows : (e : Written) (o : ℕ) (K : ℕ → Bool) → map (λ row. row.letters) (rows e o K) ≡ letters_written e
+pub letters-rows : (e : Written) (o : ℕ) (K : ℕ → Bool) → map (λ row. row.letters) (position_rows e o K) ≡ letters_written e
 letters-rows nothing o K = refl
 letters-rows nowhere o K = refl
 letters-rows (letter bits) o K = refl
 letters-rows (sequence a b) o K =
-    map-append (λ row. row.letters) (rows a o (entry b (o + size a) K)) (rows b (o + size a) K)
-    ∙ ap (λ xs. xs ++ map (λ row. row.letters) (rows b (o + size a) K)) (letters-rows a o (entry b (o + size a) K))
+    map-append (λ row. row.letters) (position_rows a o (entry b (o + size a) K)) (position_rows b (o + size a) K)
+    ∙ ap (λ xs. xs ++ map (λ row. row.letters) (position_rows b (o + size a) K)) (letters-rows a o (entry b (o + size a) K))
     ∙ ap (λ xs. letters_written a ++ xs) (letters-rows b (o + size a) K)
 letters-rows (choice a b) o K =
-    map-append (λ row. row.letters) (rows a o K) (rows b (o + size a) K)
-    ∙ ap (λ xs. xs ++ map (λ row. row.letters) (rows b (o + size a) K)) (letters-rows a o K)
+    map-append (λ row. row.letters) (position_rows a o K) (position_rows b (o + size a) K)
+    ∙ ap (λ xs. xs ++ map (λ row. row.letters) (position_rows b (o + size a) K)) (letters-rows a o K)
     ∙ ap (λ xs. letters_written a ++ xs) (letters-rows b (o + size a) K)
 letters-rows (optional a) o K = letters-rows a o K
 letters-rows (plus a) o K = letters-rows a o (λ q. first a o q || K q)
 
 -- the row of the position after those of a front
-row_after : (before after : List Row) (row : Row) (o : ℕ) → length before ≡ o → row_at (before ++ row ∷ after) (o + 1) ≡ row
+row_after : (before after : List PositionRow) (row : PositionRow) (o : ℕ) → length before ≡ o → position_row (before ++ row ∷ after) (o + 1) ≡ row
 row_after before after row o is =
     let e : o + 1 - 1 ≡ length before = omega arith in
     ap (λ k. get_or (before ++ row ∷ after) k no_row) e ∙ get_or-append_seam before row after no_row
 
 -- where the rows of a part stand in the list, its positions go on as the part says
-pub agrees_of_rows : (e : Written) (o : ℕ) (K : ℕ → Bool) (before after list : List Row) → list ≡ before ++ (rows e o K ++ after) → length before ≡ o
-    → Agrees (λ p. (row_at list p).next) (λ p. (row_at list p).letters) e o K
+pub agrees_of_rows : (e : Written) (o : ℕ) (K : ℕ → Bool) (before after list : List PositionRow) → list ≡ before ++ (position_rows e o K ++ after) → length before ≡ o
+    → Agrees (λ p. (position_row list p).next) (λ p. (position_row list p).letters) e o K
 agrees_of_rows nothing o K before after list is len = tt
 agrees_of_rows nowhere o K before after list is len = tt
 agrees_of_rows (letter bits) o K before after list is len =
-    let here = ap (λ l. row_at l (o + 1)) is ∙ row_after before after (record { letters = bits; next = K }) o len in
+    let here = ap (λ l. position_row l (o + 1)) is ∙ row_after before after (record { letters = bits; next = K }) o len in
     (ap (λ row. row.next) here, ap (λ row. row.letters) here)
 agrees_of_rows (sequence a b) o K before after list is len =
     let K_a = entry b (o + size a) K in
-    let all = is ∙ ap (λ l. before ++ l) (append_assoc (rows a o K_a) (rows b (o + size a) K) after) in
-    let skip = all ∙ sym (append_assoc before (rows a o K_a) (rows b (o + size a) K ++ after)) in
-    let far : length (before ++ rows a o K_a) ≡ o + size a = omega (arith, length-append before (rows a o K_a), length-rows a o K_a) in
-    (agrees_of_rows a o K_a before (rows b (o + size a) K ++ after) list all len, agrees_of_rows b (o + size a) K (before ++ rows a o K_a) after list skip far)
+    let all = is ∙ ap (λ l. before ++ l) (append_assoc (position_rows a o K_a) (position_rows b (o + size a) K) after) in
+    let skip = all ∙ sym (append_assoc before (position_rows a o K_a) (position_rows b (o + size a) K ++ after)) in
+    let far : length (before ++ position_rows a o K_a) ≡ o + size a = omega (arith, length-append before (position_rows a o K_a), length-rows a o K_a) in
+    (agrees_of_rows a o K_a before (position_rows b (o + size a) K ++ after) list all len, agrees_of_rows b (o + size a) K (before ++ position_rows a o K_a) after list skip far)
 agrees_of_rows (choice a b) o K before after list is len =
-    let all = is ∙ ap (λ l. before ++ l) (append_assoc (rows a o K) (rows b (o + size a) K) after) in
-    let skip = all ∙ sym (append_assoc before (rows a o K) (rows b (o + size a) K ++ after)) in
-    let far : length (before ++ rows a o K) ≡ o + size a = omega (arith, length-append before (rows a o K), length-rows a o K) in
-    (agrees_of_rows a o K before (rows b (o + size a) K ++ after) list all len, agrees_of_rows b (o + size a) K (before ++ rows a o K) after list skip far)
+    let all = is ∙ ap (λ l. before ++ l) (append_assoc (position_rows a o K) (position_rows b (o + size a) K) after) in
+    let skip = all ∙ sym (append_assoc before (position_rows a o K) (position_rows b (o + size a) K ++ after)) in
+    let far : length (before ++ position_rows a o K) ≡ o + size a = omega (arith, length-append before (position_rows a o K), length-rows a o K) in
+    (agrees_of_rows a o K before (position_rows b (o + size a) K ++ after) list all len, agrees_of_rows b (o + size a) K (before ++ position_rows a o K) after list skip far)
 agrees_of_rows (optional a) o K before after list is len = agrees_of_rows a o K before after list is len
 agrees_of_rows (plus a) o K before after list is len = agrees_of_rows a o (λ q. first a o q || K q) before after list is len
 

@@ -4,35 +4,35 @@ use Rattle.automaton.specs.declared.builder.Draft.{Draft}
 use Rattle.automaton.specs.declared.builder.Builder.{Builder}
 use Rattle.automaton.specs.declared.position_set.PositionSet.{PositionSet}
 use Rattle.automaton.specs.Written.{Written, size}
-use Rattle.automaton.specs.Rows.{Row, entry, rows}
+use Rattle.automaton.specs.Rows.{PositionRow, entry, position_rows}
 use Rattle.automaton.specs.Sets.{has}
 
-abbrev pub row_of : Draft → Row
-row_of draft = record { letters = draft.letters; next = has draft.next }
+abbrev pub draft_row : Draft → PositionRow
+draft_row draft = record { letters = draft.letters; next = has draft.next }
 
 -- the positions that are left to number, whether rows are left out, and the rows from the last position back
 pub record Built : Type 0 where
   pub at : ℕ
   pub dry : Bool
-  pub rows : List Row
+  pub rows : List PositionRow
 
 abbrev pub built_of : Builder → Built
-built_of builder = record { at = builder.at; dry = builder.dry; rows = map row_of builder.drafts.items }
+built_of builder = record { at = builder.at; dry = builder.dry; rows = map draft_row builder.drafts.items }
 
-abbrev pub grown : Bool → List Row → List Row → List Row
+abbrev pub grown : Bool → List PositionRow → List PositionRow → List PositionRow
 grown true list more = list
 grown false list more = list ++ more
 
 -- the positions of e were added, where K may be read after it; E may be read where it begins
-pub record IsAdded (old new : Built) (e : Written) (K E : ℕ → Bool) : Type 0 where
+pub record ArePositionsAdded (old new : Built) (e : Written) (K E : ℕ → Bool) : Type 0 where
   pub numbered : new.at + size e ≡ old.at
   pub same_mode : new.dry ≡ old.dry
   pub entered : E ≡ entry e new.at K
-  pub rows_added : new.rows ≡ grown old.dry old.rows (reverse (rows e new.at K))
+  pub rows_added : new.rows ≡ grown old.dry old.rows (reverse (position_rows e new.at K))
 
 -- the same, where there are enough numbers
 abbrev pub Adds : Built → Built → Written → (ℕ → Bool) → (ℕ → Bool) → Type 0
-Adds old new e K E = size e ≤ old.at → IsAdded old new e K E
+Adds old new e K E = size e ≤ old.at → ArePositionsAdded old new e K E
 
 -- the same of a builder, before and after
 abbrev pub AddsTo : Builder → Builder → Written → PositionSet → PositionSet → Type 0

@@ -95,20 +95,20 @@ by_kind zero_kind own_kind kind move =
     else record { letters = bit_and move.letters (2 ^ (kind - 1)); to = 4 * move.to + kind })
 
 -- a letter of a kind is one of the inner move, and not the one that was read last
-pub record IsGiven (own kind : ℕ) (move : Move) (c : ℕ) : Type 0 where
+pub record IsCollapsedLetter (own kind : ℕ) (move : Move) (c : ℕ) : Type 0 where
   pub inner : IsBitSet move.letters c
   pub kind_is : kind ≡ code c
   pub other : code c ≡ own → kind ≡ 0
 
-road_given : (own kind : ℕ) (move : Move) (c : ℕ) → kind < 4 → IsBitSet move.letters c → c ≡ kind - 1 → kind ≢ 0 → kind ≢ own → IsGiven own kind move c
+road_given : (own kind : ℕ) (move : Move) (c : ℕ) → kind < 4 → IsBitSet move.letters c → c ≡ kind - 1 → kind ≢ 0 → kind ≢ own → IsCollapsedLetter own kind move c
 road_given own kind move c small inner place some apart =
     let is : kind ≡ code c = omega (arith, code_road c (omega arith)) in
     record { inner = inner; kind_is = is; other = λ same. absurd (apart (is ∙ same)) }
 
-pub given_out : (own kind : ℕ) (move : Move) (c : ℕ) → kind < 4 → IsBitSet (move_by own kind move).letters c → IsGiven own kind move c
+pub given_out : (own kind : ℕ) (move : Move) (c : ℕ) → kind < 4 → IsBitSet (move_by own kind move).letters c → IsCollapsedLetter own kind move c
 given_out own kind move c small set = by_test (kind == 0) (kind == own) refl refl set
   where
-    by_test : (a b : Bool) → (kind == 0) ≡ a → (kind == own) ≡ b → IsBitSet (by_kind a b kind move).letters c → IsGiven own kind move c
+    by_test : (a b : Bool) → (kind == 0) ≡ a → (kind == own) ≡ b → IsBitSet (by_kind a b kind move).letters c → IsCollapsedLetter own kind move c
     by_test true b is other set =
         let both = and_set move.letters transit_letters c set in
         let zero_kind : kind ≡ 0 = grind (arith, nat_tests) in

@@ -2,7 +2,7 @@
 use Rattle.std.specs.Prelude.{map}
 use Rattle.search_laws.specs.LabelLaws.{LabelsMeaning}
 use Rattle.automaton.specs.declared.positions.Positions.{Positions}
-use Rattle.automaton.specs.States.{labels_of, view_of}
+use Rattle.automaton.specs.States.{meaning_of_states, view_of}
 
 abbrev pub position_meaning : Positions → LabelsMeaning
-position_meaning positions = labels_of (map view_of positions.states.items)
+position_meaning positions = meaning_of_states (map view_of positions.states.items)

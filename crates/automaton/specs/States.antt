@@ -4,7 +4,7 @@ use Rattle.search_laws.specs.declared.labels.Move.{Move}
 use Rattle.search_laws.specs.LabelLaws.{LabelsMeaning, HasMove}
 use Rattle.automaton.specs.declared.state.State.{State}
 use Rattle.automaton.specs.Written.{Written, size, nullable, first, last, follow, letters_written}
-use Rattle.automaton.specs.Rows.{Row, row_at}
+use Rattle.automaton.specs.Rows.{PositionRow, position_row}
 
 -- a state as contracts see it
 pub record StateView : Type 0 where
@@ -24,8 +24,8 @@ abbrev pub view_at : List StateView → ℕ → StateView
 view_at views q = slice_index_or views q no_view
 
 -- what an automaton with these states answers, where state 0 is the start
-abbrev pub labels_of : List StateView → LabelsMeaning
-labels_of views = record {
+abbrev pub meaning_of_states : List StateView → LabelsMeaning
+meaning_of_states views = record {
   states = length views;
   is_start = λ q. q == 0;
   moves = λ q. length (view_at views q).moves;
@@ -34,17 +34,17 @@ labels_of views = record {
 }
 
 -- the moves to the positions 1 to n that are in S
-abbrev pub moves_upto : List Row → (ℕ → Bool) → ℕ → List Move
+abbrev pub moves_upto : List PositionRow → (ℕ → Bool) → ℕ → List Move
 moves_upto rows S zero = []
 moves_upto rows S (suc n) =
-    moves_upto rows S n ++ (if S (suc n) then record { letters = (row_at rows (suc n)).letters; to = suc n } ∷ [] else [])
+    moves_upto rows S n ++ (if S (suc n) then record { letters = (position_row rows (suc n)).letters; to = suc n } ∷ [] else [])
 
 -- the state after which S may be read
-abbrev pub state_for : List Row → (ℕ → Bool) → StateView
+abbrev pub state_for : List PositionRow → (ℕ → Bool) → StateView
 state_for rows S = record { moves = moves_upto rows S (length rows); accepts = S 0 }
 
 -- the states 0, 1, ..: the start, and one for each position
-abbrev pub states_for : List Row → (ℕ → Bool) → List StateView
+abbrev pub states_for : List PositionRow → (ℕ → Bool) → List StateView
 states_for rows S = state_for rows S ∷ map (λ row. state_for rows row.next) rows
 
 -- the position p may be read next in the state q

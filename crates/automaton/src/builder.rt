@@ -25,7 +25,7 @@ pub struct Builder {
 }
 
 impl Builder {
-    ghost use Rattle.automaton.specs.Builds.{AddsTo, built_of, row_of, grown};
+    ghost use Rattle.automaton.specs.Builds.{AddsTo, built_of, draft_row, grown};
 
     pub fn new(alloc: Global, positions: u8) -> Builder
         ensures { built_of result ≡ record { at = positions; dry = false; rows = [] } }
@@ -42,7 +42,7 @@ impl Builder {
         ensures { OnOk result (built_of self.new ≡ record {
           at = self.old.at - 1;
           dry = self.old.dry;
-          rows = grown self.old.dry (map row_of self.old.drafts.items) (row_of draft ∷ []);
+          rows = grown self.old.dry (map draft_row self.old.drafts.items) (draft_row draft ∷ []);
         }) }
     {
         self.at = self.at.saturating_sub(1);
@@ -114,7 +114,8 @@ impl Builder {
         count: u32,
         after: PositionSet,
     ) -> Result<PositionSet, AllocError>
-        ensures { IfOk result (AddsTo self.old self.new (copies_in_turn count (written (form_of part.now))) after) }
+        ensures { IfOk result (AddsTo self.old self.new (copies_in_turn count
+            (written (form_of part.now))) after) }
     {
         let mut next = after;
         for _ in 0..count {
@@ -147,7 +148,8 @@ impl Builder {
         most: Option<u32>,
         after: PositionSet,
     ) -> Result<PositionSet, AllocError>
-        ensures { IfOk result (AddsTo self.old self.new (repeat (written (form_of part.now)) least most) after) }
+        ensures { IfOk result (AddsTo self.old self.new (repeat (written (form_of part.now)) least
+            most) after) }
     {
         match most {
             None => {
@@ -180,7 +182,7 @@ impl Builder {
 
     /// The positions in order.
     pub fn into_drafts(self) -> Vec<Draft>
-        ensures { map row_of result.items ≡ reverse (built_of self).rows }
+        ensures { map draft_row result.items ≡ reverse (built_of self).rows }
     {
         let Builder {
             at: _,

@@ -54,7 +54,8 @@ impl<L: Labels> Collapsed<L> {
 impl<L: Labels> Labels for Collapsed<L> {
     ghost automaton = { λ labels. collapsed (L.automaton labels.inner) };
 
-    ghost lawful = { λ labels. collapsed_lawful (L.automaton labels.inner) (L.lawful labels.inner) labels.fits };
+    ghost lawful = { λ labels. collapsed_lawful (L.automaton labels.inner) (L.lawful labels.inner)
+        labels.fits };
 
     fn states(&self) -> u32 {
         4 * self.inner.states()

@@ -1,7 +1,7 @@
 ghost use Rattle.std.specs.Prelude.{◌≡◌, ℕ, ◌≤◌, ◌↔◌, List, map, IfOk};
 ghost use Rattle.mode_expression.specs.Form.{form_of, IsUsable, Denotes};
 ghost use Rattle.search_laws.specs.LabelLaws.{IsLawfulLabels, Accepts};
-ghost use Rattle.automaton.specs.States.{labels_of, view_of, IsPositionAutomaton};
+ghost use Rattle.automaton.specs.States.{meaning_of_states, view_of, IsPositionAutomaton};
 ghost use Rattle.automaton.specs.Written.{written};
 
 use crate::builder::Builder;
@@ -18,7 +18,7 @@ use std::alloc::{AllocError, Global};
 #[derive(Drop)]
 pub struct Positions {
     states: Vec<State>,
-    ghost lawful: { IsLawfulLabels (labels_of (map view_of states.items)) },
+    ghost lawful: { IsLawfulLabels (meaning_of_states (map view_of states.items)) },
 }
 
 impl Positions {

@@ -1,5 +1,5 @@
 ghost use Rattle.std.specs.Prelude.{◌≡◌, ◌≤◌, map, length, IfOk};
-ghost use Rattle.automaton.specs.Builds.{row_of};
+ghost use Rattle.automaton.specs.Builds.{draft_row};
 ghost use Rattle.automaton.specs.Sets.{has};
 ghost use Rattle.automaton.specs.States.{moves_upto, state_for, states_for, view_of};
 
@@ -19,7 +19,7 @@ pub struct State {
 fn make_moves(alloc: Global, drafts: &[Draft], next: PositionSet) -> Result<Vec<Move>, AllocError>
     requires { length drafts.now ≤ 200 }
     ensures { IfOk result (λ moves.
-        moves.items ≡ moves_upto (map row_of drafts.now) (has next) (length drafts.now)) }
+        moves.items ≡ moves_upto (map draft_row drafts.now) (has next) (length drafts.now)) }
 {
     let mut moves = Vec::new(alloc);
     for (index, draft) in drafts.iter().enumerate() {
@@ -36,7 +36,7 @@ fn make_moves(alloc: Global, drafts: &[Draft], next: PositionSet) -> Result<Vec<
 
 fn make_state(alloc: Global, drafts: &[Draft], next: PositionSet) -> Result<State, AllocError>
     requires { length drafts.now ≤ 200 }
-    ensures { IfOk result (λ state. view_of state ≡ state_for (map row_of drafts.now) (has next)) }
+    ensures { IfOk result (λ state. view_of state ≡ state_for (map draft_row drafts.now) (has next)) }
 {
     let moves = make_moves(alloc, drafts, next)?;
     Ok(State {
@@ -53,7 +53,7 @@ pub fn make_states(
 ) -> Result<Vec<State>, AllocError>
     requires { length drafts.now ≤ 200 }
     ensures { IfOk result (λ states.
-        map view_of states.items ≡ states_for (map row_of drafts.now) (has first)) }
+        map view_of states.items ≡ states_for (map draft_row drafts.now) (has first)) }
 {
     let mut states = Vec::new(alloc);
     states.push(make_state(alloc, drafts, first)?)?;

@@ -9,11 +9,11 @@ use Rattle.search_laws.specs.LabelLaws.{LabelsMeaning, HasMove, Reads}
 use Rattle.search_laws.proofs.WalkLemmas.{reads_more}
 use Rattle.automaton.specs.CollapsedLaws.{set_bit}
 use Rattle.certificate.specs.declared.state_sets.StateSets.{StateSets}
-use Rattle.certificate.specs.StateSets.{IsIn, HasMoveFrom, IsReadTo, AreAfter}
+use Rattle.certificate.specs.StateSets.{IsInSet, HasMoveFrom, IsStateAfter, AreAfter}
 
 -- ---- sets
 
-pub in_range : (s : List Bool) (q : ℕ) → IsIn s q → q < length s
+pub in_range : (s : List Bool) (q : ℕ) → IsInSet s q → q < length s
 in_range s q is = elim (cases_lt q (length s)) [
   | inl lt ↦ lt
   | inr ge ↦ (let none : get_or s q false ≡ false = get_or_past s q false ge in cc)
@@ -35,7 +35,7 @@ module _ (l : LabelsMeaning) where
       let (m, before, last) = reads_last word c p r reads in
       (m, (p, move, before), last)
 
-  read_more : (letters : List ℕ) (c p r : ℕ) → IsReadTo l letters p → HasMove l p c r → IsReadTo l (letters ++ c ∷ []) r
+  read_more : (letters : List ℕ) (c p r : ℕ) → IsStateAfter l letters p → HasMove l p c r → IsStateAfter l (letters ++ c ∷ []) r
   read_more letters c p r read move = record {
     first = read.first;
     is_state = read.is_state;
@@ -45,14 +45,14 @@ module _ (l : LabelsMeaning) where
 
   -- one letter more
   pub after_more : (letters : List ℕ) (c : ℕ) (old new : StateSets) → AreAfter l letters old → length new.reached.items ≡ l.states → length new.next.items ≡ l.states
-      → ((r : ℕ) → IsIn new.reached.items r ↔ HasMoveFrom l l.states old.reached.items c r) → AreAfter l (letters ++ c ∷ []) new
+      → ((r : ℕ) → IsInSet new.reached.items r ↔ HasMoveFrom l l.states old.reached.items c r) → AreAfter l (letters ++ c ∷ []) new
   after_more letters c old new after size room followed = record { size = size; room = room; are = λ r. (there r, back r) } where
-    there : (r : ℕ) → IsIn new.reached.items r → IsReadTo l (letters ++ c ∷ []) r
+    there : (r : ℕ) → IsInSet new.reached.items r → IsStateAfter l (letters ++ c ∷ []) r
     there r is =
         let (q, below, held, move) = (followed r).0 is in
         read_more letters c q r ((after.are q).0 held) move
 
-    back : (r : ℕ) → IsReadTo l (letters ++ c ∷ []) r → IsIn new.reached.items r
+    back : (r : ℕ) → IsStateAfter l (letters ++ c ∷ []) r → IsInSet new.reached.items r
     back r read =
         let (p, before, move) = reads_last letters c read.first r read.reads in
         let held = (after.are p).1 (record { first = read.first; is_state = read.is_state; is_start = read.is_start; reads = before }) in

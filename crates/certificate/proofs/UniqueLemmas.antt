@@ -17,7 +17,7 @@ use Rattle.automaton.specs.States.{IsPositionAutomaton}
 use Rattle.automaton.specs.Collapsed.{collapsed}
 use Rattle.automaton.proofs.SameLemmas.{AnswerAlike, positions_alike, collapsed_alike}
 use Rattle.hierarchy.specs.Lists.{HierarchyLists}
-use Rattle.phase_graph.specs.InUse.{IsInUse, IsSoundIfGiven, starts_in, ends_in, Covers, AreAlike}
+use Rattle.phase_graph.specs.InUse.{IsInUse, IsSoundIfGiven, starts_in, ends_in, Covers, CoverEachOther}
 use Rattle.phase_graph.proofs.InUseLemmas.{graphs_in_use_are_alike}
 use Rattle.mode_network.specs.NetworkLists.{NetworkLists}
 use Rattle.mode_network.specs.Rules.{IsNetwork}
@@ -40,7 +40,7 @@ use Rattle.journey.proofs.WalkLemmas.{bad_not_taken}
 use Rattle.certificate.specs.Certificates.{Claim}
 use Rattle.certificate.specs.Valid.{Setting, ResultHolds, claimed_arrival}
 use Rattle.certificate.specs.declared.claimed.Goal.{Goal}
-use Rattle.certificate.specs.Claimed.{IsTimely, FailsFirst, JourneyFails, IsAsClaimed}
+use Rattle.certificate.specs.Claimed.{IsTimely, FailsFirstOfThree, JourneyFails, IsAsClaimed}
 use Rattle.certificate.specs.Verdicts.{goal_of, IsResultVerdict, IsCertVerdict, VerdictIsUnique, as_verdict}
 use Rattle.certificate.proofs.VerdictLemmas.{answers_as_claimed}
 
@@ -153,7 +153,7 @@ pairs_same l m alike states (v ∷ starts) =
     let here : start_states l l.states ≡ start_states m m.states = ap (start_states l) states ∙ states_same l m alike m.states in
     ap (λ qs. pairs_at v qs ++ start_pairs l starts) here ∙ ap (λ ps. pairs_at v (start_states m m.states) ++ ps) (pairs_same l m alike states starts)
 
-module _ (g h : GraphMeaning) (same : AreAlike g h) (l m : LabelsMeaning) (alike : AnswerAlike l m) (starts targets : List ℕ) (dep : ℕ) (arrival : Option ℕ) (list : List Label) where
+module _ (g h : GraphMeaning) (same : CoverEachOther g h) (l m : LabelsMeaning) (alike : AnswerAlike l m) (starts targets : List ℕ) (dep : ℕ) (arrival : Option ℕ) (list : List Label) where
   forth_moves : (q c r : ℕ) → q < l.states → HasMove m q c r → HasMove l q c r
   forth_moves q c r lt = (alike.moves q c r lt).1
 
@@ -230,7 +230,7 @@ first_bad_once n network v t steps a b one other = elim (cases_lt a b) [
 ]
 
 -- of three facts one is the first that fails
-pub fails_first_once : (P Q R P2 Q2 R2 : Type 0) → (P → P2) → (P2 → P) → (Q → Q2) → (Q2 → Q) → (R → R2) → (R2 → R) → (a b : ℕ) → FailsFirst P Q R a → FailsFirst P2 Q2 R2 b → a ≡ b
+pub fails_first_once : (P Q R P2 Q2 R2 : Type 0) → (P → P2) → (P2 → P) → (Q → Q2) → (Q2 → Q) → (R → R2) → (R2 → R) → (a b : ℕ) → FailsFirstOfThree P Q R a → FailsFirstOfThree P2 Q2 R2 b → a ≡ b
 fails_first_once P Q R P2 Q2 R2 p p2 q q2 r r2 a b (inl (e, none)) (inl (f, _)) = e ∙ sym f
 fails_first_once P Q R P2 Q2 R2 p p2 q q2 r r2 a b (inl (e, none)) (inr (inl (f, first, _))) = absurd (none (p2 first))
 fails_first_once P Q R P2 Q2 R2 p p2 q q2 r r2 a b (inl (e, none)) (inr (inr (f, first, _, _))) = absurd (none (p2 first))
@@ -259,7 +259,7 @@ module _ (n : NetworkLists) (network : IsNetwork n) (q : Asked) (goal : Goal) (j
       same : (a.end ≡ fails.end) × (a.time ≡ fails.time) × (a.word ≡ fails.word)
       same = journey_once n network q a.time j a.end a.time a.word fails.end fails.time fails.word a.real fails.real
 
-      by_end : FailsFirst (IsCopy n q.to fails.end) (IsTimely goal.arrival fails.time) (IsWordOf q.form fails.word) at → ⊥
+      by_end : FailsFirstOfThree (IsCopy n q.to fails.end) (IsTimely goal.arrival fails.time) (IsWordOf q.form fails.word) at → ⊥
       by_end (inl (e, none)) = none (subst (IsCopy n q.to) same.0 a.ends_at_copy)
       by_end (inr (inl (e, first, none))) = none (subst (IsTimely goal.arrival) same.1 a.timely)
       by_end (inr (inr (e, first, second, none))) = none (subst (IsWordOf q.form) same.2 a.denoted)

@@ -13,13 +13,13 @@ use Rattle.journey.specs.CopyLists.{AreTheCopies}
 use Rattle.certificate.specs.declared.walked.Walked.{Walked}
 use Rattle.certificate.specs.declared.claimed.Goal.{Goal}
 use Rattle.journey.specs.Best.{Asked, Answers, asked_by}
-use Rattle.certificate.specs.Claimed.{IsTimely, StartsWell, FailsFirst, IsFirstFailing, IsAsClaimed, IsClaimVerdict}
+use Rattle.certificate.specs.Claimed.{IsTimely, StartsWell, FailsFirstOfThree, IsFirstFailing, IsAsClaimed, IsClaimVerdict}
 use Rattle.certificate.specs.Verdicts.{AreDenoted, goal_of}
 use Rattle.certificate.specs.StateSets.{AreAfter}
-use Rattle.certificate.specs.Walked.{IsTracedTo}
+use Rattle.certificate.specs.Walked.{IsWalkedTo}
 
 -- the first of three facts fails where the first of three others does that hold exactly as they do
-pub fails_same : (P Q R P2 R2 : Type 0) → P ↔ P2 → R ↔ R2 → (at : ℕ) → FailsFirst P Q R at → FailsFirst P2 Q R2 at
+pub fails_same : (P Q R P2 R2 : Type 0) → P ↔ P2 → R ↔ R2 → (at : ℕ) → FailsFirstOfThree P Q R at → FailsFirstOfThree P2 Q R2 at
 fails_same P Q R P2 R2 p r at (inl (is, none)) = inl (is, λ h. none (p.1 h))
 fails_same P Q R P2 R2 p r at (inr (inl (is, first, none))) = inr (inl (is, p.0 first, none))
 fails_same P Q R P2 R2 p r at (inr (inr (is, first, second, none))) = inr (inr (is, p.0 first, second, λ h. none (r.1 h)))
@@ -34,7 +34,7 @@ module _ (n : NetworkLists) (q : Query) (l : LabelsMeaning) (origins destination
   EndIs walked place =
       (letters : List ℕ) → AreAfter l letters walked.states → IsFirstFailing (Contains destinations walked.node) (IsTimely goal.arrival walked.at) (Accepts l letters) place
 
-  pub end_fails : Contains origins j.start × (goal.earliest ≤ j.at) → (walked : Walked) → IsTracedTo n l j.start j.at j.steps walked → (at : ℕ) → EndIs walked (Some at)
+  pub end_fails : Contains origins j.start × (goal.earliest ≤ j.at) → (walked : Walked) → IsWalkedTo n l j.start j.at j.steps walked → (at : ℕ) → EndIs walked (Some at)
       → IsClaimVerdict n (asked_by q) goal j (Invalid 5 at)
   end_fails start walked is at fails = inr (inr (record {
     clause_is = refl;
@@ -47,7 +47,7 @@ module _ (n : NetworkLists) (q : Query) (l : LabelsMeaning) (origins destination
         (IsWordOf (form_of q.expr) (collapse is.letters)) (to.are walked.node) (denotes is.letters) at (fails is.letters is.states);
   }))
 
-  pub as_claimed : Contains origins j.start × (goal.earliest ≤ j.at) → (walked : Walked) → IsTracedTo n l j.start j.at j.steps walked → EndIs walked None
+  pub as_claimed : Contains origins j.start × (goal.earliest ≤ j.at) → (walked : Walked) → IsWalkedTo n l j.start j.at j.steps walked → EndIs walked None
       → IsClaimVerdict n (asked_by q) goal j Valid
   as_claimed start walked is ends =
       let (at_target, timely, accepts) = ends is.letters is.states in

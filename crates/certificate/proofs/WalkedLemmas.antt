@@ -16,7 +16,7 @@ use Rattle.journey.specs.Real.{IsFirstBad}
 use Rattle.journey.proofs.StepLemmas.{steps_more, step_in_time, on_time}
 use Rattle.certificate.specs.declared.walked.Walked.{Walked}
 use Rattle.certificate.specs.StateSets.{AreAfter}
-use Rattle.certificate.specs.Walked.{IsTracedTo}
+use Rattle.certificate.specs.Walked.{IsWalkedTo}
 
 -- after k steps from v at t this is where and when the journey is, and these are the states after its letters
 pub record IsWalking (n : NetworkLists) (l : LabelsMeaning) (v t : ℕ) (steps : List Step) (k : ℕ) (walked : Walked) : Type 0 where
@@ -57,7 +57,7 @@ module _ (n : NetworkLists) (l : LabelsMeaning) (v t : ℕ) (steps : List Step) 
     bad = bad;
   }
 
-  pub walked_all : (k : ℕ) (walked : Walked) → k ≡ length steps → IsWalking n l v t steps k walked → IsTracedTo n l v t steps walked
+  pub walked_all : (k : ℕ) (walked : Walked) → k ≡ length steps → IsWalking n l v t steps k walked → IsWalkedTo n l v t steps walked
   walked_all k walked whole walking = record {
     letters = walking.letters;
     are = subst (λ (x : List Step). AreSteps n v t x walked.node walked.at walking.letters) (ap (λ i. take i steps) whole ∙ take-length steps) walking.before;

@@ -34,12 +34,12 @@ pub record StepFails (n : NetworkLists) (q : Asked) (goal : Goal) (j : Route) (c
   pub bad : IsFirstBad n j.start j.at j.steps at
 
 -- the first of three facts that fails has this place, from 0
-abbrev pub FailsFirst : Type 0 → Type 0 → Type 0 → ℕ → Type 0
-FailsFirst P Q R at = ((at ≡ 0) × (P → ⊥)) ⊎ ((at ≡ 1) × P × (Q → ⊥)) ⊎ ((at ≡ 2) × P × Q × (R → ⊥))
+abbrev pub FailsFirstOfThree : Type 0 → Type 0 → Type 0 → ℕ → Type 0
+FailsFirstOfThree P Q R at = ((at ≡ 0) × (P → ⊥)) ⊎ ((at ≡ 1) × P × (Q → ⊥)) ⊎ ((at ≡ 2) × P × Q × (R → ⊥))
 
 -- the place of the first of three facts that fails; or all hold
 abbrev pub IsFirstFailing : Type 0 → Type 0 → Type 0 → Option ℕ → Type 0
-IsFirstFailing P Q R (Some at) = FailsFirst P Q R at
+IsFirstFailing P Q R (Some at) = FailsFirstOfThree P Q R at
 IsFirstFailing P Q R None = P × Q × R
 
 -- the journey is real, but ends at no copy of the destination, or arrives otherwise than is claimed, or has a word that is not denoted
@@ -50,7 +50,7 @@ pub record EndFails (n : NetworkLists) (q : Asked) (goal : Goal) (j : Route) (cl
   pub time : ℕ
   pub word : List ℕ
   pub real : IsJourney n j end time word
-  pub bad : FailsFirst (IsCopy n q.to end) (IsTimely goal.arrival time) (IsWordOf q.form word) at
+  pub bad : FailsFirstOfThree (IsCopy n q.to end) (IsTimely goal.arrival time) (IsWordOf q.form word) at
 
 abbrev pub JourneyFails : NetworkLists → Asked → Goal → Route → ℕ → ℕ → Type 0
 JourneyFails n q goal j clause at = StartFails n q goal j clause at ⊎ StepFails n q goal j clause at ⊎ EndFails n q goal j clause at

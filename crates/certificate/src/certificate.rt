@@ -24,5 +24,11 @@ impl Model for Certificate {
 
     ghost Value = { Claim };
 
-    ghost view = { λ c. record { line = c.line; phases = c.phases; result = c.result; labels = c.labels.items } };
+    ghost view = { λ c. record {
+      line = c.line;
+      phases = c.phases;
+      result = c.result;
+      labels =
+          c.labels.items;
+    } };
 }

@@ -91,7 +91,8 @@ fn first_bad_end<L: Labels>(
 ) -> Option<u64>
     requires { (letters : List ℕ) × AreAfter (L.automaton labels.now) letters walked.now.states }
     ensures { (letters : List ℕ) → AreAfter (L.automaton labels.now) letters walked.now.states
-        → IsFirstFailing (Contains destinations.now walked.now.node) (IsTimely arrival walked.now.at) (Accepts (L.automaton labels.now) letters) result }
+        → IsFirstFailing (Contains destinations.now walked.now.node) (IsTimely arrival walked.now.at)
+        (Accepts (L.automaton labels.now) letters) result }
 {
     if !contains(destinations, walked.node) {
         Some(0)

@@ -44,7 +44,8 @@ fn push_ride(
     alight: u32,
 ) -> Result<(), AllocError>
     ensures fits { FitsRide trip day board alight }
-    ensures line { OnOk result (out.new.items ≡ out.old.items ++ with_feed (spelled (line.Step (Ride trip day board alight)))) }
+    ensures line { OnOk result (out.new.items ≡ out.old.items ++ with_feed
+        (spelled (line.Step (Ride trip day board alight)))) }
 {
     out.extend_from_slice(b"ride")?;
     push_field(out, u128::from(trip))?;
@@ -79,7 +80,8 @@ fn push_step(out: &mut Vec<u8>, step: Step) -> Result<(), AllocError>
 pub fn push_steps(out: &mut Vec<u8>, steps: &[Step]) -> Result<(), AllocError>
     requires { All HasTime steps.now }
     ensures fit { OnOk result (All FitsStep steps.now) }
-    ensures lines { OnOk result (out.new.items ≡ out.old.items ++ flat_map (λ step. with_feed (spelled (line.Step step))) steps.now) }
+    ensures lines { OnOk result (out.new.items ≡ out.old.items ++ flat_map
+        (λ step. with_feed (spelled (line.Step step))) steps.now) }
 {
     for step in steps {
         push_step(out, *step)?;
@@ -104,7 +106,8 @@ fn push_label(out: &mut Vec<u8>, label: Label) -> Result<(), AllocError>
 fn push_labels(out: &mut Vec<u8>, labels: &[Label]) -> Result<(), AllocError>
     requires { All HasLabelTime labels.now }
     ensures fit { OnOk result (All FitsLabel labels.now) }
-    ensures lines { OnOk result (out.new.items ≡ out.old.items ++ flat_map (λ label. with_feed (spelled (line.Label label))) labels.now) }
+    ensures lines { OnOk result (out.new.items ≡ out.old.items ++ flat_map
+        (λ label. with_feed (spelled (line.Label label))) labels.now) }
 {
     for label in labels {
         push_label(out, *label)?;
@@ -137,7 +140,8 @@ pub fn push_start(out: &mut Vec<u8>, node: u32, at: Time) -> Result<(), AllocErr
 fn push_result(out: &mut Vec<u8>, answer: &Option<(Time, Journey)>) -> Result<(), AllocError>
     requires { FitsResult answer.now }
     ensures fit { OnOk result (AllByRecursion FitsLine (result_lines answer.now)) }
-    ensures lines { OnOk result (out.new.items ≡ out.old.items ++ lines_text (map spelled (result_lines answer.now))) }
+    ensures lines { OnOk result (out.new.items ≡ out.old.items ++ lines_text
+        (map spelled (result_lines answer.now))) }
 {
     match answer {
         Some((at, journey)) => {
@@ -163,7 +167,8 @@ fn push_count(out: &mut Vec<u8>, count: u64) -> Result<(), AllocError>
 pub fn push_rest(out: &mut Vec<u8>, labels: &[Label]) -> Result<(), AllocError>
     requires { All HasLabelTime labels.now }
     ensures fit { OnOk result (AllByRecursion FitsLine (label_lines labels.now)) }
-    ensures lines { OnOk result (out.new.items ≡ out.old.items ++ lines_text (map spelled (label_lines labels.now))) }
+    ensures lines { OnOk result (out.new.items ≡ out.old.items ++ lines_text
+        (map spelled (label_lines labels.now))) }
 {
     push_count(out, labels.len() as u64)?;
     push_labels(out, labels)?;
@@ -195,7 +200,8 @@ fn push_graph(out: &mut Vec<u8>, phases: bool) -> Result<(), AllocError>
 
 /// The lines before the result: the head, the query line and the graph.
 fn push_front(out: &mut Vec<u8>, query: &[u8], phases: bool) -> Result<(), AllocError>
-    ensures { OnOk result (out.new.items ≡ out.old.items ++ lines_text (map spelled (front_lines query.now phases))) }
+    ensures { OnOk result (out.new.items ≡ out.old.items ++ lines_text
+        (map spelled (front_lines query.now phases))) }
 {
     out.extend_from_slice(b"modeplan certificate 1\n")?;
     push_query(out, query)?;

@@ -3,7 +3,7 @@
 ghost use Rattle.std.specs.Prelude.{◌≡◌, ℕ, ◌<◌, ◌↔◌, ◌++◌, ◌∷◌, [], List, length, IfOk, IsTrue, IsBitSet};
 ghost use Rattle.search_laws.specs.Letters.{IsLetterSet};
 ghost use Rattle.search_laws.specs.LabelLaws.{HasMove, Accepts};
-ghost use Rattle.certificate.specs.StateSets.{IsIn, AreAdded, HasMoveFrom, AreAfter};
+ghost use Rattle.certificate.specs.StateSets.{IsInSet, AreAdded, HasMoveFrom, AreAfter};
 
 use search_laws::{LETTERS, Labels, Move};
 use std::alloc::{AllocError, Global};
@@ -30,7 +30,8 @@ impl StateSets {
     /// Reads one letter more.
     pub fn read<L: Labels>(&mut self, labels: &L, letter: u8)
         requires { (letters : List ℕ) × AreAfter (L.automaton labels.now) letters self.old }
-        ensures { (letters : List ℕ) → AreAfter (L.automaton labels.now) letters self.old → AreAfter (L.automaton labels.now) (letters ++ letter ∷ []) self.new }
+        ensures { (letters : List ℕ) → AreAfter (L.automaton labels.now) letters self.old
+            → AreAfter (L.automaton labels.now) (letters ++ letter ∷ []) self.new }
     {
         follow(labels, &self.reached, letter, &mut self.next);
         swap(&mut self.reached, &mut self.next);
@@ -39,7 +40,8 @@ impl StateSets {
     /// Whether the automaton accepts the letters so far.
     pub fn accepts<L: Labels>(&self, labels: &L) -> bool
         requires { (letters : List ℕ) × AreAfter (L.automaton labels.now) letters self.now }
-        ensures { (letters : List ℕ) → AreAfter (L.automaton labels.now) letters self.now → IsTrue result ↔ Accepts (L.automaton labels.now) letters }
+        ensures { (letters : List ℕ) → AreAfter (L.automaton labels.now) letters self.now
+            → IsTrue result ↔ Accepts (L.automaton labels.now) letters }
     {
         for state in 0..labels.states() {
             if self.reached[state as usize] && labels.accepts(state) {
@@ -53,7 +55,8 @@ impl StateSets {
 /// Whether each state is a start state.
 fn start_states<L: Labels>(alloc: Global, labels: &L) -> Result<Vec<bool>, AllocError>
     ensures size { IfOk result (λ set. length set.items ≡ (L.automaton labels.now).states) }
-    ensures are { IfOk result (λ set. (q : ℕ) → IsIn set.items q ↔ ((q < (L.automaton labels.now).states) × IsTrue ((L.automaton labels.now).is_start q))) }
+    ensures are { IfOk result (λ set. (q : ℕ) → IsInSet set.items q ↔
+        ((q < (L.automaton labels.now).states) × IsTrue ((L.automaton labels.now).is_start q))) }
 {
     let mut set = Vec::new(alloc);
     for state in 0..labels.states() {
@@ -75,7 +78,8 @@ fn no_states<L: Labels>(alloc: Global, labels: &L) -> Result<Vec<bool>, AllocErr
 fn follow<L: Labels>(labels: &L, reached: &[bool], letter: u8, set: &mut [bool])
     requires reached { length reached.now ≡ (L.automaton labels.now).states }
     requires set { length set.old ≡ (L.automaton labels.now).states }
-    ensures { (r : ℕ) → IsIn set.new r ↔ HasMoveFrom (L.automaton labels.now) (L.automaton labels.now).states reached.now letter r }
+    ensures { (r : ℕ) → IsInSet set.new r ↔ HasMoveFrom (L.automaton labels.now)
+        (L.automaton labels.now).states reached.now letter r }
 {
     clear(set);
     mark_states(labels, reached, letter, set);
@@ -83,7 +87,7 @@ fn follow<L: Labels>(labels: &L, reached: &[bool], letter: u8, set: &mut [bool])
 
 /// Takes all states out of a set.
 fn clear(set: &mut [bool])
-    ensures { (q : ℕ) → IsIn set.new q → ⊥ }
+    ensures { (q : ℕ) → IsInSet set.new q → ⊥ }
 {
     set.fill(false);
 }
@@ -92,7 +96,8 @@ fn clear(set: &mut [bool])
 fn mark_states<L: Labels>(labels: &L, reached: &[bool], letter: u8, set: &mut [bool])
     requires reached { length reached.now ≡ (L.automaton labels.now).states }
     requires set { length set.old ≡ (L.automaton labels.now).states }
-    ensures { AreAdded set.old set.new (λ r. HasMoveFrom (L.automaton labels.now) (L.automaton labels.now).states reached.now letter r) }
+    ensures { AreAdded set.old set.new (λ r. HasMoveFrom (L.automaton labels.now)
+        (L.automaton labels.now).states reached.now letter r) }
 {
     for state in 0..labels.states() {
         if reached[state as usize] {

@@ -50,7 +50,8 @@ pub fn verify(
 ) -> Result<CertVerdict, AllocError>
     requires sound { IfSome hierarchy (λ h. IsSound network.now h.now) }
     requires times { HaveTimes certificate.now }
-    ensures verdict { IfOk result (λ verdict. IsCertVerdict network.now (option_map (λ h. h.now) hierarchy.entry) certificate.now verdict) }
+    ensures verdict { IfOk result (λ verdict. IsCertVerdict network.now
+        (option_map (λ h. h.now) hierarchy.entry) certificate.now verdict) }
     ensures proves { IfOk result (λ verdict. verdict ≡ Valid → Proves network.now certificate.now) }
 {
     match read_query(alloc, network, certificate.line.as_slice()) {
@@ -101,11 +102,14 @@ fn verify_claim(
     requires sound { IfSome hierarchy (λ h. IsSound network.now h.now) }
     requires asks { Asks network.now query.now.line (asked_by query.now) }
     requires usable { IsUsable (form_of query.now.expr) }
-    requires times { HaveTimes (claim_on query.now (option_map (λ h. h.now) hierarchy) claimed.now labels.now) }
-    ensures verdict { IfOk result (λ verdict. IsCertVerdict network.now (option_map (λ h. h.now) hierarchy.entry)
-        (claim_on query.now (option_map (λ h. h.now) hierarchy.entry) claimed.now labels.now) verdict) }
+    requires times { HaveTimes (claim_on query.now (option_map (λ h. h.now) hierarchy) claimed.now
+        labels.now) }
+    ensures verdict { IfOk result (λ verdict. IsCertVerdict network.now
+        (option_map (λ h. h.now) hierarchy.entry) (claim_on query.now
+        (option_map (λ h. h.now) hierarchy.entry) claimed.now labels.now) verdict) }
     ensures proves { IfOk result (λ verdict. verdict ≡ Valid
-        → Proves network.now (claim_on query.now (option_map (λ h. h.now) hierarchy.entry) claimed.now labels.now)) }
+        → Proves network.now (claim_on query.now (option_map (λ h. h.now) hierarchy.entry) claimed.now
+        labels.now)) }
 {
     network.known();
     let automaton = Collapsed::new(Positions::of(alloc, &query.expr)?);

@@ -5,7 +5,7 @@ ghost use Rattle.search_laws.specs.Times.{time_bound};
 ghost use Rattle.journey.specs.Ends.{HasTime, HasTimes};
 ghost use Rattle.journey.specs.Rides.{KeepsRules};
 ghost use Rattle.certificate.specs.StateSets.{AreAfter};
-ghost use Rattle.certificate.specs.Walked.{IsTraced};
+ghost use Rattle.certificate.specs.Walked.{IsWalkedThrough};
 
 use crate::state_sets::StateSets;
 use journey::{StepEnd, step_end};
@@ -57,7 +57,8 @@ pub fn walk<L: Labels>(
 ) -> Result<Walked, u64>
     requires times { HasTimes journey.now }
     requires states { AreAfter (L.automaton labels.now) [] states }
-    ensures { IsTraced network.now (L.automaton labels.now) journey.now.start journey.now.at journey.now.steps result }
+    ensures { IsWalkedThrough network.now (L.automaton labels.now) journey.now.start journey.now.at
+        journey.now.steps result }
 {
     walk_steps(
         network,
@@ -81,7 +82,7 @@ fn walk_steps<L: Labels>(
     requires at { at < time_bound }
     requires waits { All HasTime steps.now }
     requires states { AreAfter (L.automaton labels.now) [] states }
-    ensures { IsTraced network.now (L.automaton labels.now) start at steps.now result }
+    ensures { IsWalkedThrough network.now (L.automaton labels.now) start at steps.now result }
 {
     keeps_rules(network);
     let mut walked = Walked {

@@ -7,7 +7,7 @@ use Rattle.clap.specs.Simple.{Shape, built, entered, label_of, names_of, rows_at
 use Rattle.clap.specs.Kinds.{Kinds, or_else}
 use Rattle.clap.specs.Faults.{check_fault, defaults_fault, entered_fault, fault_of, level_fault, settle_fault, turn_fault, walk_fault}
 use Rattle.clap.proofs.OnLiterals.{clap_on_literals}
-use Rattle.command_line.specs.Description.{limits, modeplan, one, two, four, six}
+use Rattle.command_line.specs.Description.{limits, modeplan, single_word, two, four, six}
 use Rattle.command_line.proofs.PlainLemmas.{leaf}
 use Rattle.command_line.proofs.WordSteps.{Reads, no_more_faults, stops}
 
@@ -81,11 +81,11 @@ pub is_compile : IsBelow (codes "compile") (leaf (codes "compile") four (codes "
 unfolding clap_on_literals
 is_compile = record { met = refl; quiet = refl; is = refl }
 
-pub is_migrate : IsBelow (codes "migrate") (leaf (codes "migrate") one (codes "format" ∷ []))
+pub is_migrate : IsBelow (codes "migrate") (leaf (codes "migrate") single_word (codes "format" ∷ []))
 unfolding clap_on_literals
 is_migrate = record { met = refl; quiet = refl; is = refl }
 
-pub is_contract : IsBelow (codes "contract") (leaf (codes "contract") one (codes "keep" ∷ []))
+pub is_contract : IsBelow (codes "contract") (leaf (codes "contract") single_word (codes "keep" ∷ []))
 unfolding clap_on_literals
 is_contract = record { met = refl; quiet = refl; is = refl }
 
@@ -93,7 +93,7 @@ pub is_check : IsBelow (codes "check") (leaf (codes "check") two [])
 unfolding clap_on_literals
 is_check = record { met = refl; quiet = refl; is = refl }
 
-pub is_sample : IsBelow (codes "sample") (leaf (codes "sample") one [])
+pub is_sample : IsBelow (codes "sample") (leaf (codes "sample") single_word [])
 unfolding clap_on_literals
 is_sample = record { met = refl; quiet = refl; is = refl }
 

@@ -6,7 +6,7 @@ use Rattle.clap.specs.Faults.{turn_fault}
 use Rattle.clap.specs.declared.parser.matches.ValueSource.TheVariants.{CommandLine}
 use Rattle.clap.specs.declared.builder.value_parser.Reading.TheVariants.{AsWritten}
 use Rattle.clap.proofs.OnLiterals.{clap_on_literals}
-use Rattle.command_line.specs.Description.{command_of, limits, modeplan, one, two, four, six}
+use Rattle.command_line.specs.Description.{command_of, limits, modeplan, single_word, two, four, six}
 use Rattle.command_line.specs.PlainWords.{ArePlainWords, IsPlainWord, option_values, option_words}
 use Rattle.command_line.proofs.WordSteps.{Reads, Walks, between, end_fault, ends, name_more, reads, value_more, waits_for, word_more}
 
@@ -25,11 +25,11 @@ holding rows id values = record { rows = rows; pending = Some (id, values); skip
 -- ---- the words that must be given
 
 one_word : (name : Text) (options : List Text) (a : Text) (rest : List Text) (end : Walk) → IsPlainWord a
-    → Walks (leaf name one options) (between (holding [] (codes "first") (a ∷ [])) 2) rest end
-    → Walks (leaf name one options) (between nothing_held 1) (a ∷ rest) end
+    → Walks (leaf name single_word options) (between (holding [] (codes "first") (a ∷ [])) 2) rest end
+    → Walks (leaf name single_word options) (between nothing_held 1) (a ∷ rest) end
 unfolding clap_on_literals
 one_word name options a rest end plain walks =
-    word_more (leaf name one options) nothing_held (holding [] (codes "first") (a ∷ [])) 1 2 end a rest plain refl refl walks
+    word_more (leaf name single_word options) nothing_held (holding [] (codes "first") (a ∷ [])) 1 2 end a rest plain refl refl walks
 
 -- the first two of a command's words
 abbrev two_of : Text → Text → Held
@@ -152,7 +152,7 @@ reads_options s position before rows given options gives plain takes =
 -- ---- commands on one thing
 
 abbrev pub TakesAfterOne : List Text → Type 0
-TakesAfterOne options = (name a : Text) → TakesOptions (leaf name one options) 2 (holding [] (codes "first") (a ∷ [])) (found (codes "first") a ∷ []) options
+TakesAfterOne options = (name a : Text) → TakesOptions (leaf name single_word options) 2 (holding [] (codes "first") (a ∷ [])) (found (codes "first") a ∷ []) options
 
 pub after_one : TakesAfterOne []
 unfolding clap_on_literals
@@ -168,9 +168,9 @@ keep_after_one name a = ((refl, refl), λ v. ((refl, refl, refl), (refl, refl)))
 
 pub reads_one : (name a : Text) (options : List (Text × Option Text)) → TakesAfterOne (ids options)
     → ArePlainWords (a ∷ option_values (dashed options))
-    → Reads (leaf name one (ids options)) (a ∷ option_words (dashed options)) (found (codes "first") a ∷ found_options options)
+    → Reads (leaf name single_word (ids options)) (a ∷ option_words (dashed options)) (found (codes "first") a ∷ found_options options)
 reads_one name a options takes (plain, more) =
-    reads_options (leaf name one (ids options)) 2 (holding [] (codes "first") (a ∷ [])) (found (codes "first") a ∷ []) (a ∷ []) options
+    reads_options (leaf name single_word (ids options)) 2 (holding [] (codes "first") (a ∷ [])) (found (codes "first") a ∷ []) (a ∷ []) options
     (λ rest end. one_word name (ids options) a rest end plain) more (takes name a)
 
 -- ---- commands on two things

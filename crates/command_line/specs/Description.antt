@@ -18,8 +18,8 @@ abbrev pub command_of : Text → List Text → List Text → Shape
 command_of name words options = record (new_app name).top { rules = map word words ++ map option options }
 
 -- one word; two; four; six
-abbrev pub one : List Text
-one = codes "first" ∷ []
+abbrev pub single_word : List Text
+single_word = codes "first" ∷ []
 
 abbrev pub two : List Text
 two = codes "first" ∷ codes "second" ∷ []
@@ -38,10 +38,10 @@ limits = codes "labels" ∷ codes "places" ∷ []
 abbrev pub region_commands : List Shape
 region_commands =
     command_of (codes "compile") four (codes "format" ∷ codes "zone" ∷ [])
-    ∷ command_of (codes "migrate") one (codes "format" ∷ [])
-    ∷ command_of (codes "contract") one (codes "keep" ∷ [])
+    ∷ command_of (codes "migrate") single_word (codes "format" ∷ [])
+    ∷ command_of (codes "contract") single_word (codes "keep" ∷ [])
     ∷ command_of (codes "check") two []
-    ∷ command_of (codes "sample") one []
+    ∷ command_of (codes "sample") single_word []
     ∷ []
 
 -- the commands that ask for journeys that arrive earliest
@@ -74,5 +74,5 @@ abbrev pub modeplan : App
 modeplan = fold with_subcommand (new_app (codes "modeplan")) (region_commands ++ earliest_commands ++ latest_commands ++ many_commands)
 
 -- what `clap` is told of is this command, which has no command below it
-abbrev pub IsTold : Command → Shape → Type 0
-IsTold c s = (app_of c ≡ record { top = s; subs = [] }) × ((fields_of c).has_globals ≡ false)
+abbrev pub IsToldToClap : Command → Shape → Type 0
+IsToldToClap c s = (app_of c ≡ record { top = s; subs = [] }) × ((fields_of c).has_globals ≡ false)

@@ -3,12 +3,12 @@ use Rattle.std.specs.Prelude.{◌≡◌, ⊤, Bool, true, not, nat_eq, List, [],
 use Rattle.clap.specs.Walk.{Text}
 
 -- the word begins with no "-", or is "-" alone
-abbrev pub is_plain : Text → Bool
-is_plain (first ∷ second ∷ more) = not (nat_eq first 45)
-is_plain _ = true
+abbrev pub is_plain_word : Text → Bool
+is_plain_word (first ∷ second ∷ more) = not (nat_eq first 45)
+is_plain_word _ = true
 
 abbrev pub IsPlainWord : Text → Type 0
-IsPlainWord word = is_plain word ≡ true
+IsPlainWord word = is_plain_word word ≡ true
 
 abbrev pub ArePlainWords : List Text → Type 0
 ArePlainWords [] = ⊤

@@ -3,7 +3,7 @@
 ghost use Rattle.std.specs.Prelude.{◌≡◌, ◌++◌, ◌∷◌, [], IfOk, codes, false, fold, map};
 ghost use Rattle.clap.specs.Words.{Shape, Text, app_of, new_app, rule_of, with_subcommand};
 ghost use Rattle.clap.specs.declared.builder.command.Command.TheViews.{out-Command as fields_of};
-ghost use Rattle.command_line.specs.Description.{IsTold, command_of, earliest_commands, four, latest_commands, limits, many_commands, modeplan, one, option, region_commands, six, two, word};
+ghost use Rattle.command_line.specs.Description.{IsToldToClap, command_of, earliest_commands, four, latest_commands, limits, many_commands, modeplan, option, region_commands, single_word, six, two, word};
 
 use clap::{Arg, ArgAction, Command};
 use std::alloc::{AllocError, Global};
@@ -96,7 +96,7 @@ which version this is, and docs/COMMANDS.md all of it: what is written, and each
 
 /// A command with no words yet. `example` is said at the end of its help.
 fn named<'a>(alloc: Global, name: &'a str, about: &'a str, example: &'a str) -> Command<'a>
-    ensures { IsTold result (new_app name.entry.now).top }
+    ensures { IsToldToClap result (new_app name.entry.now).top }
 {
     Command::new(alloc, name).about(about).after_help(example)
 }
@@ -133,7 +133,8 @@ fn with_word<'a>(
     name: &'a str,
     help: &'a str,
 ) -> Result<Command<'a>, AllocError>
-    ensures { (s : Shape) → IsTold command.entry s → IfOk result (λ c. IsTold c (record s { rules = s.rules ++ word id.entry.now ∷ [] })) }
+    ensures { (s : Shape) → IsToldToClap command.entry s → IfOk result
+        (λ c. IsToldToClap c (record s { rules = s.rules ++ word id.entry.now ∷ [] })) }
 {
     command.arg(word(alloc, id, name, help))
 }
@@ -146,7 +147,8 @@ fn with_option<'a>(
     value: &'a str,
     help: &'a str,
 ) -> Result<Command<'a>, AllocError>
-    ensures { (s : Shape) → IsTold command.entry s → IfOk result (λ c. IsTold c (record s { rules = s.rules ++ option name.entry.now ∷ [] })) }
+    ensures { (s : Shape) → IsToldToClap command.entry s → IfOk result
+        (λ c. IsToldToClap c (record s { rules = s.rules ++ option name.entry.now ∷ [] })) }
 {
     command.arg(option(alloc, name, value, help))
 }
@@ -160,7 +162,7 @@ fn over_one<'a>(
     first: &'a str,
     help: &'a str,
 ) -> Result<Command<'a>, AllocError>
-    ensures { IfOk result (λ c. IsTold c (command_of name.entry.now one [])) }
+    ensures { IfOk result (λ c. IsToldToClap c (command_of name.entry.now single_word [])) }
 {
     with_word(
         alloc,
@@ -173,7 +175,8 @@ fn over_one<'a>(
 
 /// The command with the option `--hierarchy`.
 fn with_hierarchy<'a>(alloc: Global, command: Command<'a>) -> Result<Command<'a>, AllocError>
-    ensures { (s : Shape) → IsTold command.entry s → IfOk result (λ c. IsTold c (record s { rules = s.rules ++ option (codes "hierarchy") ∷ [] })) }
+    ensures { (s : Shape) → IsToldToClap command.entry s → IfOk result
+        (λ c. IsToldToClap c (record s { rules = s.rules ++ option (codes "hierarchy") ∷ [] })) }
 {
     let help =
         "A hierarchy of the region's roads, as `contract` writes it; it is checked before it is used [default: none]";
@@ -182,14 +185,16 @@ fn with_hierarchy<'a>(alloc: Global, command: Command<'a>) -> Result<Command<'a>
 
 /// The command with the option `--places`.
 fn with_places<'a>(alloc: Global, command: Command<'a>) -> Result<Command<'a>, AllocError>
-    ensures { (s : Shape) → IsTold command.entry s → IfOk result (λ c. IsTold c (record s { rules = s.rules ++ option (codes "places") ∷ [] })) }
+    ensures { (s : Shape) → IsToldToClap command.entry s → IfOk result
+        (λ c. IsToldToClap c (record s { rules = s.rules ++ option (codes "places") ∷ [] })) }
 {
     with_option(alloc, command, PLACES, "N", PLACE_COUNT)
 }
 
 /// The command with the options that limit a search, and what is asked of it.
 fn with_limits<'a>(alloc: Global, command: Command<'a>) -> Result<Command<'a>, AllocError>
-    ensures { (s : Shape) → IsTold command.entry s → IfOk result (λ c. IsTold c (record s { rules = s.rules ++ map option limits })) }
+    ensures { (s : Shape) → IsToldToClap command.entry s → IfOk result
+        (λ c. IsToldToClap c (record s { rules = s.rules ++ map option limits })) }
 {
     let command = with_option(alloc, command, LABELS, "N", LABEL_COUNT)?;
     with_places(alloc, command)
@@ -204,7 +209,7 @@ fn over_two<'a>(
     second: &'a str,
     help: &'a str,
 ) -> Result<Command<'a>, AllocError>
-    ensures { IfOk result (λ c. IsTold c (command_of name.entry.now two [])) }
+    ensures { IfOk result (λ c. IsToldToClap c (command_of name.entry.now two [])) }
 {
     let command = over_one(alloc, name, about, example, "REGION", REGION)?;
     with_word(alloc, command, SECOND, second, help)
@@ -212,7 +217,8 @@ fn over_two<'a>(
 
 /// The command that compiles a region.
 fn compile<'a>(alloc: Global) -> Result<Command<'a>, AllocError>
-    ensures { IfOk result (λ c. IsTold c (command_of (codes "compile") four (codes "format" ∷ codes "zone" ∷ []))) }
+    ensures { IfOk result (λ c. IsToldToClap c (command_of (codes "compile") four
+        (codes "format" ∷ codes "zone" ∷ []))) }
 {
     let about = "Make the region of a map and a timetable feed, over some days";
     let example =
@@ -240,7 +246,8 @@ fn compile<'a>(alloc: Global) -> Result<Command<'a>, AllocError>
 
 /// The command that writes a region in another format.
 fn migrate<'a>(alloc: Global) -> Result<Command<'a>, AllocError>
-    ensures { IfOk result (λ c. IsTold c (command_of (codes "migrate") one (codes "format" ∷ []))) }
+    ensures { IfOk result (λ c. IsToldToClap c (command_of (codes "migrate") single_word
+        (codes "format" ∷ []))) }
 {
     let about = "Write a region anew, in another format";
     let example = "Example: modeplan migrate town --format 1 > town.txt";
@@ -250,7 +257,8 @@ fn migrate<'a>(alloc: Global) -> Result<Command<'a>, AllocError>
 
 /// The command that makes a hierarchy.
 fn contract<'a>(alloc: Global) -> Result<Command<'a>, AllocError>
-    ensures { IfOk result (λ c. IsTold c (command_of (codes "contract") one (codes "keep" ∷ []))) }
+    ensures { IfOk result (λ c. IsToldToClap c (command_of (codes "contract") single_word
+        (codes "keep" ∷ []))) }
 {
     let about = "Make a hierarchy of a region's roads, with which answers come quicker";
     let example = "Example: modeplan contract town --keep 2000 > town.h";
@@ -260,7 +268,7 @@ fn contract<'a>(alloc: Global) -> Result<Command<'a>, AllocError>
 
 /// The command that checks a hierarchy.
 fn check<'a>(alloc: Global) -> Result<Command<'a>, AllocError>
-    ensures { IfOk result (λ c. IsTold c (command_of (codes "check") two [])) }
+    ensures { IfOk result (λ c. IsToldToClap c (command_of (codes "check") two [])) }
 {
     let about = "Check that a hierarchy is sound for a region";
     over_two(
@@ -275,7 +283,7 @@ fn check<'a>(alloc: Global) -> Result<Command<'a>, AllocError>
 
 /// The command that makes a sample city.
 fn sample<'a>(alloc: Global) -> Result<Command<'a>, AllocError>
-    ensures { IfOk result (λ c. IsTold c (command_of (codes "sample") one [])) }
+    ensures { IfOk result (λ c. IsToldToClap c (command_of (codes "sample") single_word [])) }
 {
     let about = "Make a sample city, answer fifty queries in it, and print a summary";
     over_one(
@@ -290,7 +298,8 @@ fn sample<'a>(alloc: Global) -> Result<Command<'a>, AllocError>
 
 /// The command that answers query lines.
 fn answer<'a>(alloc: Global) -> Result<Command<'a>, AllocError>
-    ensures { IfOk result (λ c. IsTold c (command_of (codes "answer") two (codes "hierarchy" ∷ limits))) }
+    ensures { IfOk result (λ c. IsToldToClap c (command_of (codes "answer") two
+        (codes "hierarchy" ∷ limits))) }
 {
     let about = "Find a best journey for each query line of a file";
     let example = "Example: modeplan answer town queries --hierarchy town.h > journeys";
@@ -301,7 +310,8 @@ fn answer<'a>(alloc: Global) -> Result<Command<'a>, AllocError>
 
 /// The command that writes a certificate.
 fn certify<'a>(alloc: Global) -> Result<Command<'a>, AllocError>
-    ensures { IfOk result (λ c. IsTold c (command_of (codes "certify") two (codes "hierarchy" ∷ limits))) }
+    ensures { IfOk result (λ c. IsToldToClap c (command_of (codes "certify") two
+        (codes "hierarchy" ∷ limits))) }
 {
     let about = "Print a certificate of a best journey for a query line";
     let example =
@@ -313,7 +323,7 @@ fn certify<'a>(alloc: Global) -> Result<Command<'a>, AllocError>
 
 /// The command that checks a certificate.
 fn verify<'a>(alloc: Global) -> Result<Command<'a>, AllocError>
-    ensures { IfOk result (λ c. IsTold c (command_of (codes "verify") two (codes "hierarchy" ∷ []))) }
+    ensures { IfOk result (λ c. IsToldToClap c (command_of (codes "verify") two (codes "hierarchy" ∷ []))) }
 {
     let about = "Check a certificate, and print the journey that it proves best";
     with_hierarchy(
@@ -331,7 +341,7 @@ fn verify<'a>(alloc: Global) -> Result<Command<'a>, AllocError>
 
 /// The command that finds the earliest arrival by the number of rides.
 fn few<'a>(alloc: Global) -> Result<Command<'a>, AllocError>
-    ensures { IfOk result (λ c. IsTold c (command_of (codes "few") two (codes "places" ∷ []))) }
+    ensures { IfOk result (λ c. IsToldToClap c (command_of (codes "few") two (codes "places" ∷ []))) }
 {
     let about =
         "Find, for each query line, the journeys that more rides, up to 8, make arrive earlier";
@@ -342,7 +352,7 @@ fn few<'a>(alloc: Global) -> Result<Command<'a>, AllocError>
 
 /// The command that finds the latest departures of query lines.
 fn latest<'a>(alloc: Global) -> Result<Command<'a>, AllocError>
-    ensures { IfOk result (λ c. IsTold c (command_of (codes "latest") two limits)) }
+    ensures { IfOk result (λ c. IsToldToClap c (command_of (codes "latest") two limits)) }
 {
     let about =
         "Find the latest departure for each query line, whose date and time are the latest arrival";
@@ -353,7 +363,7 @@ fn latest<'a>(alloc: Global) -> Result<Command<'a>, AllocError>
 
 /// The command that writes a certificate of a latest departure.
 fn certify_latest<'a>(alloc: Global) -> Result<Command<'a>, AllocError>
-    ensures { IfOk result (λ c. IsTold c (command_of (codes "certify-latest") two limits)) }
+    ensures { IfOk result (λ c. IsToldToClap c (command_of (codes "certify-latest") two limits)) }
 {
     let about = "Print a certificate of the latest departure for a query line";
     let example =
@@ -364,7 +374,7 @@ fn certify_latest<'a>(alloc: Global) -> Result<Command<'a>, AllocError>
 
 /// The command that checks a certificate of a latest departure.
 fn verify_latest<'a>(alloc: Global) -> Result<Command<'a>, AllocError>
-    ensures { IfOk result (λ c. IsTold c (command_of (codes "verify-latest") two [])) }
+    ensures { IfOk result (λ c. IsToldToClap c (command_of (codes "verify-latest") two [])) }
 {
     let about = "Check a certificate of a latest departure, and print its journey";
     over_two(
@@ -379,7 +389,8 @@ fn verify_latest<'a>(alloc: Global) -> Result<Command<'a>, AllocError>
 
 /// The command that answers lines which begin with a command's name.
 fn requests<'a>(alloc: Global) -> Result<Command<'a>, AllocError>
-    ensures { IfOk result (λ c. IsTold c (command_of (codes "requests") two (codes "hierarchy" ∷ limits))) }
+    ensures { IfOk result (λ c. IsToldToClap c (command_of (codes "requests") two
+        (codes "hierarchy" ∷ limits))) }
 {
     let about =
         "Answer each line of a file or a pipe as it comes, by the command that the line begins with";
@@ -392,7 +403,8 @@ fn requests<'a>(alloc: Global) -> Result<Command<'a>, AllocError>
 
 /// The command that lists the departures of windows.
 fn profile<'a>(alloc: Global) -> Result<Command<'a>, AllocError>
-    ensures { IfOk result (λ c. IsTold c (command_of (codes "profile") two (codes "window" ∷ codes "places" ∷ []))) }
+    ensures { IfOk result (λ c. IsToldToClap c (command_of (codes "profile") two
+        (codes "window" ∷ codes "places" ∷ []))) }
 {
     let about =
         "List, for each query line, the journeys worth taking of a window, which its date and time open";
@@ -404,7 +416,8 @@ fn profile<'a>(alloc: Global) -> Result<Command<'a>, AllocError>
 
 /// The command that writes a table of travel times.
 fn matrix<'a>(alloc: Global) -> Result<Command<'a>, AllocError>
-    ensures { IfOk result (λ c. IsTold c (command_of (codes "matrix") six (codes "hierarchy" ∷ codes "places" ∷ []))) }
+    ensures { IfOk result (λ c. IsToldToClap c (command_of (codes "matrix") six
+        (codes "hierarchy" ∷ codes "places" ∷ []))) }
 {
     let about =
         "Write a table of the milliseconds that it takes from each endpoint of a file to each one of another";
@@ -424,7 +437,8 @@ fn with_command<'a>(
     program: Command<'a>,
     command: Result<Command<'a>, AllocError>,
 ) -> Result<Command<'a>, AllocError>
-    ensures { (s : Shape) → IfOk command.entry (λ c. IsTold c s) → IfOk result (λ p. app_of p ≡ with_subcommand (app_of program.entry) s) }
+    ensures { (s : Shape) → IfOk command.entry (λ c. IsToldToClap c s)
+        → IfOk result (λ p. app_of p ≡ with_subcommand (app_of program.entry) s) }
 {
     program.subcommand(command?)
 }

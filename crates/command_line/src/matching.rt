@@ -11,7 +11,8 @@ use std::alloc::Global;
 /// What is found in the words, of which the first is the program's name; an error where they are not those of a command.
 pub fn match_words<'a>(alloc: Global, words: &'a [String]) -> Result<ArgMatches<'a>, Error>
     ensures taken { IfOk result (λ _. fault_of modeplan (map string_bytes words.now) ≡ []) }
-    ensures found { IfOk result (λ m. subcommand_rows_of m ≡ subcommand_of modeplan (map string_bytes words.now)) }
+    ensures found { IfOk result (λ m. subcommand_rows_of m ≡ subcommand_of modeplan
+        (map string_bytes words.now)) }
     ensures refused { IfErr result (HasKind (fault_of modeplan (map string_bytes words.now))) }
 {
     let program = modeplan(alloc)?;

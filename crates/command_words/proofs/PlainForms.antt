@@ -7,7 +7,7 @@ use Rattle.region_file.specs.declared.format.Format.{Format}
 use Rattle.region_file.specs.declared.format.Format.TheVariants.{Binary}
 use Rattle.command_line.proofs.NameLemmas.{IsFoundAt, found_at, is_compile, is_migrate, is_contract, is_check, is_sample, is_answer, is_certify, is_verify, is_few, is_latest, is_certify_latest, is_verify_latest, is_profile, is_matrix, is_requests}
 use Rattle.command_line.proofs.PlainLemmas.{found, found_options, rows_of_two, rows_of_six, reads_one, reads_two, reads_four, reads_six, after_one, format_after_one, keep_after_one, after_two, hierarchy_after_two, places_after_two, limits_after_two, window_after_two, all_after_two}
-use Rattle.command_words.specs.Requests.{AsksFor, IsPlainForm, Request, compile, migrate, contract, answer, certify, verify, check, sample, latest, certify_latest, verify_latest, few, profile, matrix, requests, days_and_format, format_or, keep_or_none, limit_or_none, limits_at, limits_of, most_places, request_at, size_of, window_or_two_hours}
+use Rattle.command_words.specs.Requests.{AsksFor, IsPlainForm, Request, compile, migrate, contract, answer, certify, verify, check, sample, latest, certify_latest, verify_latest, few, profile, matrix, requests, days_and_format, format_or, keep_or_none, limit_or_none, limits_at, limits_of, most_places, request_at, size_of_word, window_or_two_hours}
 
 asks_for : (words : List Text) (program name : Text) (given : List Text) (rows : List Row) (r : Request) → words ≡ program ∷ name ∷ given
     → IsFoundAt (program ∷ name ∷ given) name rows → request_at name rows ≡ Some r → AsksFor words r
@@ -79,7 +79,7 @@ keeps : (a : Text) (said : Option Text) (keep : ℕ) → keep_or_none said ≡ S
 keeps a None keep is = ap (option_map (λ k. contract a k)) is
 keeps a (Some v) keep is = ap (option_map (λ k. contract a k)) is
 
-samples : (word : Text) (size : ℕ) → size_of word ≡ Some size → request_at (codes "sample") (found (codes "first") word ∷ []) ≡ Some (sample size)
+samples : (word : Text) (size : ℕ) → size_of_word word ≡ Some size → request_at (codes "sample") (found (codes "first") word ∷ []) ≡ Some (sample size)
 samples word size is = ap (option_map (λ n. sample n)) is
 
 compiles : (a b d e : Text) (named rule : Option Text) (days : DaysMeaning) (format : Format) → days_and_format d e (named, rule) ≡ Some (days, format)

@@ -56,16 +56,16 @@ request_of (command.Requests region lines hierarchy labels places) =
     requests region.now lines.now (option_map (λ h. h.now) hierarchy) labels places
 
 -- a number is 1 to 8 digits
-abbrev pub number_of : List ℕ → Option ℕ
-number_of word = if nat_le 1 (length word) && nat_le (length word) 8 then fixed_at word else None
+abbrev pub small_number_of_word : List ℕ → Option ℕ
+small_number_of_word word = if nat_le 1 (length word) && nat_le (length word) 8 then fixed_at word else None
 
 -- a date is 8 digits
-abbrev pub date_of : List ℕ → Option ℕ
-date_of word = if nat_eq (length word) 8 then fixed_at word else None
+abbrev pub date_of_word : List ℕ → Option ℕ
+date_of_word word = if nat_eq (length word) 8 then fixed_at word else None
 
 -- the days that a date, a number and a zone rule, where there is one, give, if they give days
 abbrev pub days_of : List ℕ → List ℕ → Option (List ℕ) → Option DaysMeaning
-days_of date count rule = option_and_then (λ first. option_and_then (λ days. result_ok (days_made first days rule)) (number_of count)) (date_of date)
+days_of date count rule = option_and_then (λ first. option_and_then (λ days. result_ok (days_made first days rule)) (small_number_of_word count)) (date_of_word date)
 
 -- a format is named by its number
 abbrev pub format_of : List ℕ → Option Format
@@ -83,7 +83,7 @@ days_and_format date count said =
 
 -- how many nodes are to be kept: a number up to 16,777,216
 abbrev pub keep_of : List ℕ → Option ℕ
-keep_of word = option_and_then (λ keep. if nat_le keep 16777216 then Some keep else None) (number_of word)
+keep_of word = option_and_then (λ keep. if nat_le keep 16777216 then Some keep else None) (small_number_of_word word)
 
 -- and none where no option says it
 abbrev pub keep_or_none : Option (List ℕ) → Option ℕ
@@ -91,8 +91,8 @@ keep_or_none None = Some 0
 keep_or_none (Some word) = keep_of word
 
 -- the size of a sample city: a number from 1 to 300
-abbrev pub size_of : List ℕ → Option ℕ
-size_of word = option_and_then (λ size. if nat_le 1 size && nat_le size 300 then Some size else None) (number_of word)
+abbrev pub size_of_word : List ℕ → Option ℕ
+size_of_word word = option_and_then (λ size. if nat_le 1 size && nat_le size 300 then Some size else None) (small_number_of_word word)
 
 -- HH:MM:SS, in seconds
 abbrev pub seconds_of : List ℕ → Option ℕ
@@ -120,13 +120,13 @@ abbrev pub most_places : ℕ
 most_places = 200
 
 -- a limit is a decimal number from 1 to so many
-abbrev pub limit_of : ℕ → List ℕ → Option ℕ
-limit_of most word = option_and_then (λ n. if nat_le 1 n then Some n else None) (number_at (most + 1) word)
+abbrev pub limit_of_word : ℕ → List ℕ → Option ℕ
+limit_of_word most word = option_and_then (λ n. if nat_le 1 n then Some n else None) (number_at (most + 1) word)
 
 -- and none where no option says it
 abbrev pub limit_or_none : ℕ → Option (List ℕ) → Option (Option ℕ)
 limit_or_none most None = Some None
-limit_or_none most (Some word) = option_map (λ n. Some n) (limit_of most word)
+limit_or_none most (Some word) = option_map (λ n. Some n) (limit_of_word most word)
 
 -- the limits of labels and of places
 abbrev pub limits_of : Option (List ℕ) → Option (List ℕ) → Option (Option ℕ × Option ℕ)
@@ -166,7 +166,7 @@ abbrev pub check_at : List Row → Option Request
 check_at rows = option_map (λ two. check two.0 two.1) (two_at rows)
 
 abbrev pub sample_at : List Row → Option Request
-sample_at rows = option_and_then (λ word. option_map (λ size. sample size) (size_of word)) (first_of (codes "first") rows)
+sample_at rows = option_and_then (λ word. option_map (λ size. sample size) (size_of_word word)) (first_of (codes "first") rows)
 
 abbrev pub answer_at : List Row → Option Request
 answer_at rows =
@@ -269,7 +269,7 @@ IsPlainForm words (certify region query hierarchy labels places) =
     × (limits_of l p ≡ Some (labels, places))
 IsPlainForm words (verify region certificate hierarchy) = IsInForm words (codes "verify") (region ∷ certificate ∷ []) ((codes "--hierarchy", hierarchy) ∷ [])
 IsPlainForm words (check region hierarchy) = IsInForm words (codes "check") (region ∷ hierarchy ∷ []) []
-IsPlainForm words (sample size) = (word : List ℕ) × IsInForm words (codes "sample") (word ∷ []) [] × (size_of word ≡ Some size)
+IsPlainForm words (sample size) = (word : List ℕ) × IsInForm words (codes "sample") (word ∷ []) [] × (size_of_word word ≡ Some size)
 IsPlainForm words (latest region queries labels places) =
     (l p : Option (List ℕ)) × IsInForm words (codes "latest") (region ∷ queries ∷ []) (limits_said l p) × (limits_of l p ≡ Some (labels, places))
 IsPlainForm words (certify_latest region query labels places) =

@@ -26,7 +26,8 @@ pub fn named<'a>(
     name: &str,
     given: &ArgMatches<'a>,
 ) -> Result<Command<'a>, WordsFault>
-    ensures ok { IfOk result (λ command. request_at name.now (rows_of (found_of given.now)) ≡ Some (request_of command)) }
+    ensures ok { IfOk result (λ command. request_at name.now (rows_of (found_of given.now)) ≡ Some
+        (request_of command)) }
     ensures refused { result ≡ Err Refused → request_at name.now (rows_of (found_of given.now)) ≡ None }
 {
     match name {
@@ -91,7 +92,8 @@ fn read_limits(given: &ArgMatches<'_>) -> Option<Limits>
 
 /// A map and a feed, to be compiled.
 fn compile<'a>(alloc: Global, given: &ArgMatches<'a>) -> Result<Command<'a>, WordsFault>
-    ensures ok { IfOk result (λ command. compile_at (rows_of (found_of given.now)) ≡ Some (request_of command)) }
+    ensures ok { IfOk result (λ command. compile_at (rows_of (found_of given.now)) ≡ Some
+        (request_of command)) }
     ensures refused { result ≡ Err Refused → compile_at (rows_of (found_of given.now)) ≡ None }
 {
     let Some((map, feed)) = two(given) else {
@@ -273,7 +275,8 @@ struct Asking<'a> {
 
 /// When the journeys of a table depart, and how they travel.
 fn read_asking<'a>(given: &ArgMatches<'a>) -> Option<Asking<'a>>
-    ensures { option_map (λ it. (it.date.now, it.time.now, it.expr.now)) result ≡ asking_at (rows_of (found_of given.now)) }
+    ensures { option_map (λ it. (it.date.now, it.time.now, it.expr.now)) result ≡ asking_at
+        (rows_of (found_of given.now)) }
 {
     Some(Asking {
         date: said(given, FOURTH)?,

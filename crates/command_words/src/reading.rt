@@ -19,8 +19,10 @@ use std::alloc::Global;
 pub fn read_words<'a>(alloc: Global, words: &'a [String]) -> Result<Command<'a>, WordsFault>
     ensures ok { IfOk result (λ command. AsksFor (map string_bytes words.now) (request_of command)) }
     ensures refused { result ≡ Err Refused → AreRefused (map string_bytes words.now) }
-    ensures only { (r : Request) → AsksFor (map string_bytes words.now) r → IfOk result (λ command. request_of command ≡ r) × IfErr result (λ fault. fault ≡ OutOfMemory) }
-    ensures plain { (r : Request) → IsPlainForm (map string_bytes words.now) r → AsksFor (map string_bytes words.now) r }
+    ensures only { (r : Request) → AsksFor (map string_bytes words.now) r
+        → IfOk result (λ command. request_of command ≡ r) × IfErr result (λ fault. fault ≡ OutOfMemory) }
+    ensures plain { (r : Request) → IsPlainForm (map string_bytes words.now) r
+        → AsksFor (map string_bytes words.now) r }
 {
     let matches = matched(alloc, words)?;
     match found(&matches) {
@@ -32,7 +34,8 @@ pub fn read_words<'a>(alloc: Global, words: &'a [String]) -> Result<Command<'a>,
 /// What `clap` finds in the words; refused only where it does not take them.
 fn matched<'a>(alloc: Global, words: &'a [String]) -> Result<ArgMatches<'a>, WordsFault>
     ensures taken { IfOk result (λ _. fault_of modeplan (map string_bytes words.now) ≡ []) }
-    ensures found { IfOk result (λ m. subcommand_rows_of m ≡ subcommand_of modeplan (map string_bytes words.now)) }
+    ensures found { IfOk result (λ m. subcommand_rows_of m ≡ subcommand_of modeplan
+        (map string_bytes words.now)) }
     ensures refused { result ≡ Err Refused → fault_of modeplan (map string_bytes words.now) ≡ [] → ⊥ }
 {
     match match_words(alloc, words) {
@@ -44,7 +47,8 @@ fn matched<'a>(alloc: Global, words: &'a [String]) -> Result<ArgMatches<'a>, Wor
 
 /// The command's name, and what was found for its words and options.
 fn found<'m, 'a>(matches: &'m ArgMatches<'a>) -> Option<(&'a str, &'m ArgMatches<'a>)>
-    ensures { option_map (λ it. (it.0.now, rows_of (found_of it.1.now))) result ≡ subcommand_rows_of matches.now }
+    ensures { option_map (λ it. (it.0.now, rows_of (found_of it.1.now))) result ≡ subcommand_rows_of
+        matches.now }
 {
     matches.subcommand()
 }

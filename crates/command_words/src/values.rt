@@ -2,7 +2,7 @@
 
 ghost use Rattle.std.specs.Prelude.{◌≡◌, ◌<◌, ◌≤◌, ◌^◌, Err, IfOk, IfSome, None, Some, option_map};
 ghost use Rattle.service_days.specs.ReadClock.{below_sixty};
-ghost use Rattle.command_words.specs.Requests.{date_of, days_of, format_of, format_or, keep_of, keep_or_none, limit_of, limit_or_none, most_labels, most_places, number_of, seconds_of, size_of, window_of, window_or_two_hours};
+ghost use Rattle.command_words.specs.Requests.{date_of_word, days_of, format_of, format_or, keep_of, keep_or_none, limit_of_word, limit_or_none, most_labels, most_places, seconds_of, size_of_word, small_number_of_word, window_of, window_or_two_hours};
 ghost use Rattle.command_words.specs.declared.fault.WordsFault.TheVariants.{Refused};
 
 use crate::fault::WordsFault;
@@ -45,8 +45,10 @@ pub fn days_of(
     count: &[u8],
     rule: Option<&str>,
 ) -> Result<Days, WordsFault>
-    ensures ok { IfOk result (λ days. days_of date.now count.now (option_map (λ r. r.now) rule.entry) ≡ Some days) }
-    ensures refused { result ≡ Err Refused → days_of date.now count.now (option_map (λ r. r.now) rule.entry) ≡ None }
+    ensures ok { IfOk result (λ days. days_of date.now count.now (option_map (λ r. r.now) rule.entry)
+        ≡ Some days) }
+    ensures refused { result ≡ Err Refused → days_of date.now count.now
+        (option_map (λ r. r.now) rule.entry) ≡ None }
 {
     let (Some(first), Some(count)) = (read_eight(date), read_number(count)) else {
         return Err(WordsFault::Refused);
@@ -82,7 +84,7 @@ pub fn read_keep(word: &[u8]) -> Option<u32>
 
 /// The size of a sample city, as a word says; None exactly where it is no number from 1 to 300.
 pub fn read_size(word: &[u8]) -> Option<u32>
-    ensures { result ≡ size_of word.now }
+    ensures { result ≡ size_of_word word.now }
 {
     let size = read_number(word)?;
     if (1..=300).contains(&size) {
@@ -104,7 +106,7 @@ pub fn labels_or_none(word: Option<&str>) -> Option<Option<u64>>
 
 /// The limit of labels that a word says; None exactly where it is no number from 1 to 1,000,000,000,000.
 pub fn read_labels(word: &[u8]) -> Option<u64>
-    ensures { result ≡ limit_of most_labels word.now }
+    ensures { result ≡ limit_of_word most_labels word.now }
 {
     read_limit(word, MOST_LABELS)
 }
@@ -121,7 +123,7 @@ pub fn places_or_none(word: Option<&str>) -> Option<Option<u32>>
 
 /// The limit of places that a word says; None exactly where it is no number from 1 to 200.
 pub fn read_places(word: &[u8]) -> Option<u32>
-    ensures { result ≡ limit_of most_places word.now }
+    ensures { result ≡ limit_of_word most_places word.now }
 {
     let places = read_limit(word, MOST_PLACES)?;
     Some(places as u32)
@@ -130,7 +132,7 @@ pub fn read_places(word: &[u8]) -> Option<u32>
 /// The limit that a word says, a decimal number from 1 to `most`.
 fn read_limit(word: &[u8], most: u64) -> Option<u64>
     requires { most < 10 ^ 18 }
-    ensures limit { result ≡ limit_of most word.now }
+    ensures limit { result ≡ limit_of_word most word.now }
     ensures most { IfSome result (λ n. n ≤ most) }
 {
     let limit = read_short_number(word, most + 1)?;
@@ -184,7 +186,7 @@ fn below_sixty(n: u32) -> Option<u32>
 
 /// A number of 1 to 8 digits.
 pub fn read_number(word: &[u8]) -> Option<u32>
-    ensures { result ≡ number_of word.now }
+    ensures { result ≡ small_number_of_word word.now }
 {
     if word.is_empty() || word.len() > 8 {
         return None;
@@ -194,7 +196,7 @@ pub fn read_number(word: &[u8]) -> Option<u32>
 
 /// The number that a date of 8 digits is.
 pub fn read_eight(word: &[u8]) -> Option<u32>
-    ensures { result ≡ date_of word.now }
+    ensures { result ≡ date_of_word word.now }
 {
     if word.len() != 8 {
         return None;

@@ -21,7 +21,7 @@ use Rattle.run_steps.specs.Sayings.{Saying, IsUnread, IsUnreadable, most_bytes}
 use Rattle.run_steps.specs.Complete.{Files, IsHeld, IsDoneOrMemory, Completes}
 use Rattle.run_steps.proofs.CompleteSteps.{file_completes, quiet_later, told_held, unread}
 use Rattle.compile_commands.specs.Maps.{BeginsSo, OnObjects, OnMap}
-use Rattle.compile_commands.specs.Feeds.{AreTables, IsTable, IsTableUnread, OnLists, OnFeed, files_of, in_order, may_be_absent, path_of}
+use Rattle.compile_commands.specs.Feeds.{AreTables, IsFileOfFeed, IsTableUnread, OnLists, OnFeed, feed_files_of, in_order, may_be_absent, path_of}
 use Rattle.compile_commands.specs.Builds.{OnBuild}
 use Rattle.compile_commands.specs.Complete.{AreTablesHeld, GivesRegion, IsFeedHeld, IsTableHeld, SpellsObjects}
 
@@ -109,7 +109,7 @@ module _ (files : Files) where
 
   -- what is read is what is held
   same_text : (old : ShelfMeaning) (folder : List ℕ) (table : FeedFile) (text other : Option (List ℕ)) → old.files ≡ Some files
-      → IsTableHeld files folder table text → IsTable old folder table other → other ≡ text
+      → IsTableHeld files folder table text → IsFileOfFeed old folder table other → other ≡ text
   same_text old folder table (Some bytes) (Some other) tells held read =
       let is = told_held old files (path_of folder table) bytes tells held.0 (λ h. h ≡ Some other) read.file in
       sym is
@@ -141,7 +141,7 @@ module _ (files : Files) where
       table_unread old.shelf new.shelf folder cut.table one.0 one.1 tells quiet.shelf outcome cut.unread
   feed_completes caps folder P rest more held old new outcome tells quiet (inr on) =
       let texts : on.texts ≡ held.texts = same_texts old.shelf folder in_order held.texts on.texts tells held.held on.read in
-      let spells : feed_of caps (files_of on.texts) ≡ Ok held.feed = ap (λ (t : List (Option (List ℕ))). feed_of caps (files_of t)) texts ∙ held.spells in
+      let spells : feed_of caps (feed_files_of on.texts) ≡ Ok held.feed = ap (λ (t : List (Option (List ℕ))). feed_of caps (feed_files_of t)) texts ∙ held.spells in
       more held.feed held.fine (with_shelf old on.mid) new outcome (on.later.files ∙ tells) (quiet_later old new on.mid on.later quiet)
       (subst (λ (r : Result FeedLists FeedFault). OnLists r rest (with_shelf old on.mid) new outcome) spells on.says)
 

@@ -20,18 +20,18 @@ use Rattle.std.proofs.Math.Seq.{drop-cons}
 use Rattle.std.proofs.lemmas.List.{take-append-drop, take_more}
 use Rattle.compile_commands.specs.Working.{IsFeedOutcome, IsListsOutcome}
 use Rattle.run_steps.proofs.Steps.{told_before, unread_before, unreadable_before}
-use Rattle.compile_commands.specs.Feeds.{AreTables, IsFeedUnread, IsTable, IsTableUnread, in_order, lent, may_be_absent, path_of}
+use Rattle.compile_commands.specs.Feeds.{AreTables, IsFeedUnread, IsFileOfFeed, IsTableUnread, in_order, lent, may_be_absent, path_of}
 
 -- a table more
 pub tables_more : (shelf : ShelfMeaning) (folder : List ℕ) (tables : List FeedFile) (texts : List (Option (List ℕ))) (table : FeedFile) (text : Option (List ℕ))
-    → AreTables shelf folder tables texts → IsTable shelf folder table text → AreTables shelf folder (tables ++ table ∷ []) (texts ++ text ∷ [])
+    → AreTables shelf folder tables texts → IsFileOfFeed shelf folder table text → AreTables shelf folder (tables ++ table ∷ []) (texts ++ text ∷ [])
 tables_more shelf folder [] [] table text are is = (is, tt)
 tables_more shelf folder [] (other ∷ texts) table text are is = absurd are
 tables_more shelf folder (first ∷ tables) [] table text are is = absurd are
 tables_more shelf folder (first ∷ tables) (other ∷ texts) table text are is = (are.0, tables_more shelf folder tables texts table text are.1 is)
 
 -- what a later state says of a file, an earlier one does
-pub table_before : (old mid : ShelfMeaning) → IsLater old mid → (folder : List ℕ) (table : FeedFile) (text : Option (List ℕ)) → IsTable mid folder table text → IsTable old folder table text
+pub table_before : (old mid : ShelfMeaning) → IsLater old mid → (folder : List ℕ) (table : FeedFile) (text : Option (List ℕ)) → IsFileOfFeed mid folder table text → IsFileOfFeed old folder table text
 table_before old mid later folder table None is = (is.0, told_before old mid later (path_of folder table) (λ held. held ≡ None) is.1)
 table_before old mid later folder table (Some bytes) is = record { file = told_before old mid later (path_of folder table) (λ held. held ≡ Some bytes) is.file; within = is.within }
 
@@ -77,7 +77,7 @@ module _ (old mid new : ShelfMeaning) (later : IsLater old mid) (folder : List �
   memory_at = unread_at OutOfMemory (memory_out mid new folder (get_or tables place d) (may_be_absent (get_or tables place d)))
 
   -- it was read
-  pub tables_at : (text : Option (List ℕ)) → IsTable mid folder (get_or tables place d) text → AreTables old folder (take (place + 1) tables) (texts ++ text ∷ [])
+  pub tables_at : (text : Option (List ℕ)) → IsFileOfFeed mid folder (get_or tables place d) text → AreTables old folder (take (place + 1) tables) (texts ++ text ∷ [])
   tables_at text is =
       subst (λ (ts : List FeedFile). AreTables old folder ts (texts ++ text ∷ [])) (sym (take_more tables place d within))
       (tables_more old folder (take place tables) texts (get_or tables place d) text read (table_before old mid later folder (get_or tables place d) text is))

@@ -14,7 +14,7 @@ use Rattle.run_steps.specs.declared.outcome.SourceFault.TheVariants as source
 use Rattle.run_steps.specs.Sayings.{IsUnread, most_bytes}
 use Rattle.run_steps.proofs.Steps.{unread_before}
 use Rattle.compile_commands.specs.Maps.{BeginsSo}
-use Rattle.compile_commands.specs.Working.{HasFed, IsEndOutcome, IsMapOutcome, IsPieceOutcome}
+use Rattle.compile_commands.specs.Working.{HasFed, IsEndOutcome, IsMapOutcome, IsPieceRefusal}
 
 -- nothing is a front of any file
 front_nothing : (held : Option (List ℕ)) → IsFrontOf [] held
@@ -86,7 +86,7 @@ module _ (caps : Caps) (first now : ShelfMeaning) (later : IsLater first now) (n
   too_long new lt = (refl, told_long name (fed.bytes ++ take n into) most_bytes (let same = more_long in omega (arith, lt, same)) first.files more_begins)
 
   -- the piece shows a fault
-  pub piece_fails : (new : ShelfMeaning) (outcome : Outcome) → IsPieceOutcome caps (fed.bytes ++ take n into) outcome → IsMapOutcome caps first new name outcome
+  pub piece_fails : (new : ShelfMeaning) (outcome : Outcome) → IsPieceRefusal caps (fed.bytes ++ take n into) outcome → IsMapOutcome caps first new name outcome
   piece_fails new (BadFeed (source.Opl fault)) ended = inl (record { bytes = fed.bytes ++ take n into; front = more_begins; first = ended })
   piece_fails new (BadFeed (source.Feed fault)) none = none
   piece_fails new (BadFeed (source.Build fault)) none = none

@@ -11,7 +11,7 @@ use Rattle.region_build.specs.Answers.{HasFault}
 use Rattle.region_build.specs.declared.faults.BuildFault.{BuildFault}
 use Rattle.run_steps.specs.Complete.{Files}
 use Rattle.run_steps.specs.Sayings.{most_bytes}
-use Rattle.compile_commands.specs.Feeds.{files_of, in_order, may_be_absent, path_of}
+use Rattle.compile_commands.specs.Feeds.{feed_files_of, in_order, may_be_absent, path_of}
 
 -- the bytes spell a map's objects that have P
 abbrev pub SpellsObjects : Caps → (ObjectLists → Type 0) → List ℕ → Type 0
@@ -33,7 +33,7 @@ pub record IsFeedHeld (caps : Caps) (files : Files) (folder : List ℕ) (P : Fee
   pub texts : List (Option (List ℕ))
   pub held : AreTablesHeld files folder in_order texts
   pub feed : FeedLists
-  pub spells : feed_of caps (files_of texts) ≡ Ok feed
+  pub spells : feed_of caps (feed_files_of texts) ≡ Ok feed
   pub fine : P feed
 
 -- a map and a feed give a region over these days

@@ -38,16 +38,16 @@ abbrev pub path_of : List ℕ → FeedFile → List ℕ
 path_of folder table = folder ++ codes "/" ++ file_name table
 
 -- what a file of the feed holds, where it was read; or none, where it is absent and may be
-abbrev pub IsTable : ShelfMeaning → List ℕ → FeedFile → Option (List ℕ) → Type 0
-IsTable shelf folder table (Some bytes) = HasRead shelf (path_of folder table) most_bytes bytes
-IsTable shelf folder table None = (may_be_absent table ≡ true) × Told shelf (path_of folder table) (λ held. held ≡ None)
+abbrev pub IsFileOfFeed : ShelfMeaning → List ℕ → FeedFile → Option (List ℕ) → Type 0
+IsFileOfFeed shelf folder table (Some bytes) = HasRead shelf (path_of folder table) most_bytes bytes
+IsFileOfFeed shelf folder table None = (may_be_absent table ≡ true) × Told shelf (path_of folder table) (λ held. held ≡ None)
 
 -- what each of these files holds
 abbrev pub AreTables : ShelfMeaning → List ℕ → List FeedFile → List (Option (List ℕ)) → Type 0
 AreTables shelf folder [] [] = Unit {0}
 AreTables shelf folder [] (text ∷ texts) = ⊥
 AreTables shelf folder (table ∷ tables) [] = ⊥
-AreTables shelf folder (table ∷ tables) (text ∷ texts) = IsTable shelf folder table text × AreTables shelf folder tables texts
+AreTables shelf folder (table ∷ tables) (text ∷ texts) = IsFileOfFeed shelf folder table text × AreTables shelf folder tables texts
 
 -- why a file of the feed was not read whole: one that may be absent is not missed
 abbrev pub IsTableUnread : ShelfMeaning → ShelfMeaning → List ℕ → FeedFile → Bool → Outcome → Type 0
@@ -65,27 +65,27 @@ pub record IsFeedUnread (old new : ShelfMeaning) (folder : List ℕ) (order : Li
   pub unread : IsTableUnread old new folder table (may_be_absent table) outcome
 
 -- where a file of the feed stands in the order
-abbrev pub place_of : FeedFile → ℕ
-place_of file.Agency = 0
-place_of file.Stops = 1
-place_of file.Routes = 2
-place_of file.Calendar = 3
-place_of file.CalendarDates = 4
-place_of file.Trips = 5
-place_of file.Frequencies = 6
-place_of file.StopTimes = 7
+abbrev pub order_of_file : FeedFile → ℕ
+order_of_file file.Agency = 0
+order_of_file file.Stops = 1
+order_of_file file.Routes = 2
+order_of_file file.Calendar = 3
+order_of_file file.CalendarDates = 4
+order_of_file file.Trips = 5
+order_of_file file.Frequencies = 6
+order_of_file file.StopTimes = 7
 
 -- what one of the files holds, where these are what they hold in order
 abbrev pub text_of : List (Option (List ℕ)) → FeedFile → Option (List ℕ)
-text_of texts table = unwrap_or (slice_get texts (place_of table)) None
+text_of texts table = unwrap_or (slice_get texts (order_of_file table)) None
 
 -- bytes as they are lent, wherever they are
 abbrev pub lent : Option (List ℕ) → Option (Bor (List ℕ))
 lent text = option_map (λ bytes. record { ref_ptr = (0, 0); now = bytes }) text
 
 -- the files of a feed that hold this in order
-abbrev pub files_of : List (Option (List ℕ)) → FeedFiles
-files_of texts = record {
+abbrev pub feed_files_of : List (Option (List ℕ)) → FeedFiles
+feed_files_of texts = record {
   agency = lent (text_of texts file.Agency);
   stops = lent (text_of texts file.Stops);
   routes = lent (text_of texts file.Routes);
@@ -113,4 +113,4 @@ pub record HasTables (folder : List ℕ) (rest : List (Option (List ℕ)) → Sa
 abbrev pub OnFeed : Caps → List ℕ → (FeedLists → Saying) → Saying
 OnFeed caps folder rest old new outcome =
     (IsFeedUnread old.shelf new.shelf folder in_order outcome × Stays old.out new.out)
-    ⊎ HasTables folder (λ texts. OnLists (feed_of caps (files_of texts)) rest) old new outcome
+    ⊎ HasTables folder (λ texts. OnLists (feed_of caps (feed_files_of texts)) rest) old new outcome

@@ -19,7 +19,7 @@ use Rattle.run_steps.specs.declared.outcome.Outcome.TheVariants.{BadFeed, OutOfM
 use Rattle.run_steps.specs.declared.outcome.SourceFault.TheVariants as source
 use Rattle.run_steps.specs.Sayings.{IsUnread, most_bytes}
 use Rattle.compile_commands.specs.Maps.{ShowsFault}
-use Rattle.compile_commands.specs.Feeds.{AreTables, IsFeedUnread, files_of, in_order}
+use Rattle.compile_commands.specs.Feeds.{AreTables, IsFeedUnread, feed_files_of, in_order}
 
 -- ---- maps
 
@@ -31,10 +31,10 @@ pub record HasFed (caps : Caps) (shelf : ShelfMeaning) (name : List ℕ) (reader
   pub taken : HasTaken reader caps bytes
 
 -- why a piece that ends these bytes was not taken
-abbrev pub IsPieceOutcome : Caps → List ℕ → Outcome → Type 0
-IsPieceOutcome caps bytes (BadFeed (source.Opl fault)) = IsEndedFault caps bytes fault
-IsPieceOutcome caps bytes OutOfMemory = Unit {0}
-IsPieceOutcome caps bytes _ = ⊥
+abbrev pub IsPieceRefusal : Caps → List ℕ → Outcome → Type 0
+IsPieceRefusal caps bytes (BadFeed (source.Opl fault)) = IsEndedFault caps bytes fault
+IsPieceRefusal caps bytes OutOfMemory = Unit {0}
+IsPieceRefusal caps bytes _ = ⊥
 
 -- why the bytes of a map give no objects
 abbrev pub IsEndOutcome : Caps → List ℕ → Outcome → Type 0
@@ -65,13 +65,13 @@ IsMapOutcome caps old new name outcome = IsUnread old new name role.Opl outcome
 pub record HasFeed (caps : Caps) (shelf : ShelfMeaning) (folder : List ℕ) (feed : FeedLists) : Type 0 where
   pub texts : List (Option (List ℕ))
   pub read : AreTables shelf folder in_order texts
-  pub spells : feed_of caps (files_of texts) ≡ Ok feed
+  pub spells : feed_of caps (feed_files_of texts) ≡ Ok feed
 
 -- they were, and this is their first fault
 pub record HasBadFeed (caps : Caps) (shelf : ShelfMeaning) (folder : List ℕ) (fault : FeedFault) : Type 0 where
   pub texts : List (Option (List ℕ))
   pub read : AreTables shelf folder in_order texts
-  pub first : feed_of caps (files_of texts) ≡ Err fault
+  pub first : feed_of caps (feed_files_of texts) ≡ Err fault
 
 -- why no feed was read
 abbrev pub IsFeedOutcome : Caps → ShelfMeaning → ShelfMeaning → List ℕ → Outcome → Type 0
@@ -80,7 +80,7 @@ IsFeedOutcome caps old new folder outcome = IsFeedUnread old new folder in_order
 
 -- why what files hold is no feed
 abbrev pub IsListsOutcome : Caps → List (Option (List ℕ)) → Outcome → Type 0
-IsListsOutcome caps texts (BadFeed (source.Feed fault)) = feed_of caps (files_of texts) ≡ Err fault
+IsListsOutcome caps texts (BadFeed (source.Feed fault)) = feed_of caps (feed_files_of texts) ≡ Err fault
 IsListsOutcome caps texts OutOfMemory = Unit {0}
 IsListsOutcome caps texts _ = ⊥
 

@@ -61,7 +61,8 @@ fn write_compiled<O: Sink, E: Sink>(
     notes: &mut E,
 ) -> Result<(), Outcome>
     ensures { (caps : c.Caps) (old new : ShelfMeaning) → first_fault caps region.now.network ≡ None
-        → WritesText (IsRegionFile caps format region.now.network) (scene old (O.meaning out.old)) (scene new (O.meaning out.new)) (end_of result) }
+        → WritesText (IsRegionFile caps format region.now.network) (scene old (O.meaning out.old))
+        (scene new (O.meaning out.new)) (end_of result) }
 {
     let Ok(text) = encode(alloc, &region.network, format) else {
         return Err(Outcome::OutOfMemory);
@@ -94,7 +95,8 @@ fn write_network<O: Sink>(
     out: &mut O,
 ) -> Result<(), Outcome>
     ensures { (caps : c.Caps) (old new : ShelfMeaning) → first_fault caps network.now ≡ None
-        → WritesText (IsRegionFile caps format network.now) (scene old (O.meaning out.old)) (scene new (O.meaning out.new)) (end_of result) }
+        → WritesText (IsRegionFile caps format network.now) (scene old (O.meaning out.old))
+        (scene new (O.meaning out.new)) (end_of result) }
 {
     let Ok(bytes) = encode(alloc, network, format) else {
         return Err(Outcome::OutOfMemory);

@@ -6,7 +6,7 @@ ghost use Rattle.plan_base.specs.declared.limits.Caps as c;
 ghost use Rattle.gtfs_tables.specs.Feeds.{feed_of};
 ghost use Rattle.gtfs_tables.specs.Files.{file_name};
 ghost use Rattle.gtfs_tables.specs.Sound.{IsFeed};
-ghost use Rattle.compile_commands.specs.Feeds.{AreTables, IsFeedUnread, IsTable, IsTableUnread, files_of, may_be_absent, path_of, place_of, text_of};
+ghost use Rattle.compile_commands.specs.Feeds.{AreTables, IsFeedUnread, IsFileOfFeed, IsTableUnread, feed_files_of, may_be_absent, order_of_file, path_of, text_of};
 ghost use Rattle.compile_commands.specs.Working.{HasFeed, IsFeedOutcome, IsListsOutcome};
 
 use fault_notes::bad_feed;
@@ -38,7 +38,8 @@ pub fn read_feed_in<F: Shelf, E: Sink>(
     ensures later { IsLater (F.meaning shelf.old) (F.meaning shelf.new) }
     ensures ok { IfOk result (HasFeed caps.now (F.meaning shelf.old) folder.now) }
     ensures sound { IfOk result IsFeed }
-    ensures err { IfErr result (IsFeedOutcome caps.now (F.meaning shelf.old) (F.meaning shelf.new) folder.now) }
+    ensures err { IfErr result (IsFeedOutcome caps.now (F.meaning shelf.old) (F.meaning shelf.new)
+        folder.now) }
 {
     let texts = read_tables(alloc, shelf, folder, &IN_ORDER, notes)?;
     lists(alloc, &texts, folder, caps, notes)
@@ -53,8 +54,10 @@ fn read_tables<F: Shelf, E: Sink>(
     notes: &mut E,
 ) -> Result<Vec<Option<Vec<u8>>>, Outcome>
     ensures later { IsLater (F.meaning shelf.old) (F.meaning shelf.new) }
-    ensures ok { IfOk result (λ texts. AreTables (F.meaning shelf.old) folder.now tables.now (map (option_map (λ bytes. bytes.items)) texts.items)) }
-    ensures err { IfErr result (IsFeedUnread (F.meaning shelf.old) (F.meaning shelf.new) folder.now tables.now) }
+    ensures ok { IfOk result (λ texts. AreTables (F.meaning shelf.old) folder.now tables.now
+        (map (option_map (λ bytes. bytes.items)) texts.items)) }
+    ensures err { IfErr result (IsFeedUnread (F.meaning shelf.old) (F.meaning shelf.new) folder.now
+        tables.now) }
 {
     let mut texts = Vec::new(alloc);
     for table in tables {
@@ -95,8 +98,10 @@ fn read_table<F: Shelf, E: Sink>(
     notes: &mut E,
 ) -> Result<Option<Vec<u8>>, Outcome>
     ensures later { IsLater (F.meaning shelf.old) (F.meaning shelf.new) }
-    ensures ok { IfOk result (λ text. IsTable (F.meaning shelf.old) folder.now table (option_map (λ bytes. bytes.items) text)) }
-    ensures err { IfErr result (IsTableUnread (F.meaning shelf.old) (F.meaning shelf.new) folder.now table (may_be_absent table)) }
+    ensures ok { IfOk result (λ text. IsFileOfFeed (F.meaning shelf.old) folder.now table
+        (option_map (λ bytes. bytes.items) text)) }
+    ensures err { IfErr result (IsTableUnread (F.meaning shelf.old) (F.meaning shelf.new) folder.now table
+        (may_be_absent table)) }
 {
     let Ok(path) = path_of(alloc, folder, table) else {
         return Err(Outcome::OutOfMemory);
@@ -142,7 +147,8 @@ fn lists<E: Sink>(
     caps: &Caps,
     notes: &mut E,
 ) -> Result<Feed, Outcome>
-    ensures ok { IfOk result (λ feed. feed_of caps.now (files_of (map (option_map (λ bytes. bytes.items)) texts.now)) ≡ Ok feed) }
+    ensures ok { IfOk result (λ feed. feed_of caps.now (feed_files_of
+        (map (option_map (λ bytes. bytes.items)) texts.now)) ≡ Ok feed) }
     ensures sound { IfOk result IsFeed }
     ensures err { IfErr result (IsListsOutcome caps.now (map (option_map (λ bytes. bytes.items)) texts.now)) }
 {
@@ -161,7 +167,8 @@ fn lists<E: Sink>(
 
 /// The files that hold these texts in order.
 fn files_of(texts: &[Option<Vec<u8>>]) -> FeedFiles<'_>
-    ensures { (caps : c.Caps) → feed_of caps result ≡ feed_of caps (files_of (map (option_map (λ bytes. bytes.items)) texts.now)) }
+    ensures { (caps : c.Caps) → feed_of caps result ≡ feed_of caps
+        (feed_files_of (map (option_map (λ bytes. bytes.items)) texts.now)) }
 {
     FeedFiles {
         agency: text_of(texts, FeedFile::Agency),
@@ -177,7 +184,8 @@ fn files_of(texts: &[Option<Vec<u8>>]) -> FeedFiles<'_>
 
 /// What a file of the feed holds, where these are what they hold in order.
 fn text_of(texts: &[Option<Vec<u8>>], table: FeedFile) -> Option<&[u8]>
-    ensures { option_map (λ bytes. bytes.now) result ≡ text_of (map (option_map (λ bytes. bytes.items)) texts.now) table }
+    ensures { option_map (λ bytes. bytes.now) result ≡ text_of
+        (map (option_map (λ bytes. bytes.items)) texts.now) table }
 {
     match texts.get(place_of(table)) {
         Some(Some(bytes)) => Some(bytes.as_slice()),
@@ -187,7 +195,7 @@ fn text_of(texts: &[Option<Vec<u8>>], table: FeedFile) -> Option<&[u8]>
 
 /// Where a file of the feed stands in the order.
 fn place_of(table: FeedFile) -> usize
-    ensures { result ≡ place_of table }
+    ensures { result ≡ order_of_file table }
 {
     match table {
         FeedFile::Agency => 0,

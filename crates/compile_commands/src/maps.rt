@@ -8,7 +8,7 @@ ghost use Rattle.opl_reader.specs.Objects.{objects_of};
 ghost use Rattle.opl_reader.specs.Readings.{HasTaken};
 ghost use Rattle.run_steps.specs.Sayings.{IsUnread};
 ghost use Rattle.run_steps.specs.declared.outcome.FileRole.TheVariants as role;
-ghost use Rattle.compile_commands.specs.Working.{HasMap, IsEndOutcome, IsMapOutcome, IsPieceOutcome};
+ghost use Rattle.compile_commands.specs.Working.{HasMap, IsEndOutcome, IsMapOutcome, IsPieceRefusal};
 
 use fault_notes::bad_map;
 use memchr::memchr_iter;
@@ -126,8 +126,10 @@ fn take_piece<E: Sink>(
     ended: u64,
     notes: &mut E,
 ) -> Result<(), Outcome>
-    ensures taken { (caps : c.Caps) (bytes : List ℕ) → HasTaken opl.old caps bytes → OnOk result (HasTaken opl.new caps (bytes ++ piece.now)) }
-    ensures err { (caps : c.Caps) (bytes : List ℕ) → HasTaken opl.old caps bytes → IfErr result (IsPieceOutcome caps (bytes ++ piece.now)) }
+    ensures taken { (caps : c.Caps) (bytes : List ℕ) → HasTaken opl.old caps bytes
+        → OnOk result (HasTaken opl.new caps (bytes ++ piece.now)) }
+    ensures err { (caps : c.Caps) (bytes : List ℕ) → HasTaken opl.old caps bytes
+        → IfErr result (IsPieceRefusal caps (bytes ++ piece.now)) }
 {
     match opl.feed(piece) {
         Ok(()) => Ok(()),
@@ -144,9 +146,11 @@ fn take_piece<E: Sink>(
 
 /// The objects of the map that was taken.
 fn finished<E: Sink>(alloc: Global, opl: Opl, name: &str, notes: &mut E) -> Result<Objects, Outcome>
-    ensures objects { (caps : c.Caps) (bytes : List ℕ) → HasTaken opl caps bytes → IfOk result (λ objects. objects_of caps bytes ≡ Ok objects) }
+    ensures objects { (caps : c.Caps) (bytes : List ℕ) → HasTaken opl caps bytes
+        → IfOk result (λ objects. objects_of caps bytes ≡ Ok objects) }
     ensures sound { (caps : c.Caps) (bytes : List ℕ) → HasTaken opl caps bytes → IfOk result AreObjects }
-    ensures err { (caps : c.Caps) (bytes : List ℕ) → HasTaken opl caps bytes → IfErr result (IsEndOutcome caps bytes) }
+    ensures err { (caps : c.Caps) (bytes : List ℕ) → HasTaken opl caps bytes
+        → IfErr result (IsEndOutcome caps bytes) }
 {
     match opl.finish() {
         Ok(objects) => Ok(objects),

@@ -19,7 +19,7 @@ use Rattle.witness.specs.declared.edge.Edge.{Edge}
 use Rattle.witness.specs.Rows.{row_at, items_of}
 use Rattle.contractor.specs.declared.layer.Layer.{Layer}
 use Rattle.contractor.specs.Partway.{IsPut, HaveOtherEnds}
-use Rattle.contractor.specs.Layers.{IsLayer, IsState, AreArcs, AreEmptyRows, AreEmptyLists, IsPlaced, FitsRows, AreWalks, into_at, nodes_in, lists_of}
+use Rattle.contractor.specs.Layers.{IsLayer, IsState, AreArcs, AreEmptyRows, AreEmptyLists, IsEntryPlaced, FitsRows, AreWalks, into_at, nodes_in, lists_of}
 use Rattle.contractor.proofs.ListLemmas.{none_in, contains_place}
 use Rattle.contractor.proofs.PutLemmas.{put_is, put_layer}
 use Rattle.contractor.proofs.SimpleLemmas.{road}
@@ -93,7 +93,7 @@ module _ (n : NetworkLists) (network : IsNetwork n) (k : ℕ) (arc : Arc) (lt : 
       let hold = nodes_hold_roads n network in
       (omega (arith, are.count), omega (arith, are.count))
 
-  pub arcs_more : IsPlaced old new (entry_of arc) → AreArcs n (k + 1) new
+  pub arcs_more : IsEntryPlaced old new (entry_of arc) → AreArcs n (k + 1) new
   arcs_more p = record {
     order = p.order ∙ are.order;
     walks = p.walks ∙ are.walks;

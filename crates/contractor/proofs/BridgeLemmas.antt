@@ -9,7 +9,7 @@ use Rattle.std.proofs.lemmas.List.Quantifiers.{all_pairs_push}
 use Rattle.mode_network.specs.NetworkLists.{NetworkLists}
 use Rattle.mode_network.specs.Rules.{IsNetwork}
 use Rattle.hierarchy.specs.declared.entry.Entry.{Entry}
-use Rattle.hierarchy.specs.Hops.{Hop, AreHops, total, nodes_of}
+use Rattle.hierarchy.specs.Hops.{Hop, AreHops, total, nodes_along}
 use Rattle.hierarchy.specs.Lists.{HierarchyLists, WitnessLists, IsCore, IsContracted, first_of, last_of}
 use Rattle.hierarchy.specs.Soundness.{HasEntry, IsSound, IsFree}
 use Rattle.hierarchy.proofs.HopLemmas.{hops_weaker}
@@ -17,13 +17,13 @@ use Rattle.hierarchy.proofs.SoundLemmas.{fits}
 use Rattle.hierarchy.proofs.ContractionLemmas.{height_kept, height_next}
 use Rattle.witness.specs.declared.edge.Edge.{Edge}
 use Rattle.witness.specs.declared.workspace.Workspace.{Workspace}
-use Rattle.witness.specs.Rows.{row_at, HasEdge, AreRows, IsWalkWithin, NoWalkWithin}
+use Rattle.witness.specs.Rows.{row_at, HasEdge, AreEdgeRows, IsWalkWithin, NoWalkWithin}
 use Rattle.witness.specs.Searching.{IsSearch, NobodyBusy}
 use Rattle.contractor.specs.declared.way.Way.{Way}
 use Rattle.contractor.specs.declared.way.Walk.{Walk}
 use Rattle.contractor.specs.declared.layer.Layer.{Layer}
-use Rattle.contractor.specs.Partway.{IsGood, IsLive, IsWay, AreWays, IsPartway, IsPut, shortcut_of, HaveOtherEnds, HaveOtherWays, IsTrueWeight}
-use Rattle.contractor.specs.Layers.{IsLayer, IsListed, FitsRows, CanPut, lists_of, lists_with, witness_of, HaveOtherKeys, FitsWalk, IsForWay, AreWalks, IsState, IsBridging, IsEndOf, IsSearchFor, IsInRows, AreFirst, AreSecond, AreWaysOf, into_at}
+use Rattle.contractor.specs.Partway.{IsGood, IsLive, IsWayPast, AreWays, IsPartway, IsPut, shortcut_of, HaveOtherEnds, HaveOtherWays, IsTrueWeight}
+use Rattle.contractor.specs.Layers.{IsLayer, StandsForEntry, FitsRows, CanPut, lists_of, lists_with, witness_of, HaveOtherKeys, IsWitnessWalk, IsForWay, AreWalks, IsState, IsBridging, IsEndOf, IsSearchFor, IsInRows, AreFirst, AreSecond, AreWaysOf, into_at}
 use Rattle.contractor.specs.declared.way.Side.{Side}
 use Rattle.contractor.proofs.WayLemmas.{are_ways}
 use Rattle.contractor.proofs.ListLemmas.{place_of, contains_place}
@@ -36,7 +36,7 @@ module _ (order : List ℕ) (layer : Layer) (is : IsLayer order layer) where
   fits_entry : (e : Entry) → Contains layer.entries.items e → FitsRows (length layer.rows.items) e
   fits_entry e there = All-contains (FitsRows (length layer.rows.items)) layer.entries.items e is.fit there
 
-  pub rows_are : AreRows layer.rows.items
+  pub rows_are : AreEdgeRows layer.rows.items
   rows_are = record {
     few = is.few;
     edges = λ u edge there. (let l = is.listed u edge there in
@@ -88,11 +88,11 @@ module _ (order : List ℕ) (x : ℕ) (ways : List Way) (k : ℕ) (walks : List 
   pub walks_stay : AreWalks order x ways (k + 1) walks
   walks_stay = record { apart = are.apart; fit = are.fit; each = λ j d low. later (get_or walks j d) (are.each j d low) }
 
-  pub walks_more : AllPairs HaveOtherWays ways → k < length ways → (walk : Walk) → walk.below ≡ x → ((d : Way) → (get_or ways k d).from ≡ walk.first) → ((d : Way) → (get_or ways k d).to ≡ walk.last) → FitsWalk walk
+  pub walks_more : AllPairs HaveOtherWays ways → k < length ways → (walk : Walk) → walk.below ≡ x → ((d : Way) → (get_or ways k d).from ≡ walk.first) → ((d : Way) → (get_or ways k d).to ≡ walk.last) → IsWitnessWalk walk
       → AreWalks order x ways (k + 1) (walks ++ walk ∷ [])
   walks_more other lt walk below first last fits = record {
     apart = all_pairs_push HaveOtherKeys walks walk are.apart (λ j d low. differs j d low);
-    fit = All-push FitsWalk walks walk are.fit fits;
+    fit = All-push IsWitnessWalk walks walk are.fit fits;
     each = All-push (λ (w : Walk). IsContracted order w.below ⊎ ((w.below ≡ x) × IsForWay ways (k + 1) w)) walks walk walks_stay.each
         (inr (below, record { place = k; before = omega arith; first = first; last = last }));
   } where
@@ -127,11 +127,11 @@ walks_begin order x ways walks are = record {
 }
 
 -- the nodes of a walk between different nodes
-walk_nodes : (rows : List (Vec Edge Global)) → AreRows rows → (hops : List Hop) (u v : ℕ) → AreHops (HasEdge rows) u hops v → u < 2 ^ 24 → All (λ w. w < 2 ^ 24) (nodes_of u hops)
+walk_nodes : (rows : List (Vec Edge Global)) → AreEdgeRows rows → (hops : List Hop) (u v : ℕ) → AreHops (HasEdge rows) u hops v → u < 2 ^ 24 → All (λ w. w < 2 ^ 24) (nodes_along u hops)
 walk_nodes rows are [] u v walk low = λ j d lt. one j d lt where
   one : (j d : ℕ) → j < 1 → get_or (u ∷ []) j d < 2 ^ 24
   one j d lt = let first : j ≡ 0 = omega arith in subst (λ i. get_or (u ∷ []) i d < 2 ^ 24) (sym first) low
-walk_nodes rows are (hop ∷ hops) u v (edge, walk) low = All-cons (λ w. w < 2 ^ 24) u (nodes_of hop.to hops) low
+walk_nodes rows are (hop ∷ hops) u v (edge, walk) low = All-cons (λ w. w < 2 ^ 24) u (nodes_along hop.to hops) low
     (walk_nodes rows are hops hop.to v walk (let e = are.edges u (record { to = hop.to; entry = edge.0; weight = hop.weight }) edge.1 in let few = are.few in let to = e.to in omega arith))
 
 last_more : (u w : ℕ) (ns : List ℕ) → last_of (u ∷ w ∷ ns) ≡ last_of (w ∷ ns)
@@ -140,18 +140,18 @@ last_more u w ns =
     let b : length (w ∷ ns) - 1 ≡ length ns = omega arith in
     ap (λ k. get_or (u ∷ w ∷ ns) k 0) a ∙ ap (λ k. get_or (w ∷ ns) k 0) (sym b)
 
-last_is : (rows : List (Vec Edge Global)) (hops : List Hop) (u v : ℕ) → AreHops (HasEdge rows) u hops v → last_of (nodes_of u hops) ≡ v
+last_is : (rows : List (Vec Edge Global)) (hops : List Hop) (u v : ℕ) → AreHops (HasEdge rows) u hops v → last_of (nodes_along u hops) ≡ v
 last_is rows [] u v walk = sym walk
 last_is rows (hop ∷ hops) u v (edge, walk) = last_more u hop.to (map (λ (h : Hop). h.to) hops) ∙ last_is rows hops hop.to v walk
 
-pub walk_fits : (rows : List (Vec Edge Global)) (u v limit : ℕ) (walk : Walk) → AreRows rows → u < length rows → u ≢ v → walk.first ≡ u → walk.last ≡ v → IsWalkWithin rows u v limit walk.nodes.items → FitsWalk walk
+pub walk_fits : (rows : List (Vec Edge Global)) (u v limit : ℕ) (walk : Walk) → AreEdgeRows rows → u < length rows → u ≢ v → walk.first ≡ u → walk.last ≡ v → IsWalkWithin rows u v limit walk.nodes.items → IsWitnessWalk walk
 walk_fits rows u v limit walk are inside differ first last w = record {
   nodes = subst (λ ns. All (λ y. y < 2 ^ 24) ns) (sym w.are) (walk_nodes rows are w.hops u v w.walk (let few = are.few in omega arith));
   is_walk = subst (λ ns. 2 ≤ length ns) (sym w.are) (two w.hops w.walk);
   first = first ∙ sym (ap first_of w.are);
   last = last ∙ sym (ap last_of w.are ∙ last_is rows w.hops u v w.walk);
 } where
-  two : (hops : List Hop) → AreHops (HasEdge rows) u hops v → 2 ≤ length (nodes_of u hops)
+  two : (hops : List Hop) → AreHops (HasEdge rows) u hops v → 2 ≤ length (nodes_along u hops)
   two [] walk = absurd (differ (sym walk))
   two (hop ∷ hops) walk = omega arith
 
@@ -162,7 +162,7 @@ pub record FitsSearch (nodes : ℕ) (way : Way) : Type 0 where
   pub positive : 0 < way.sum
   pub light : way.sum < 2 ^ 57
 
-way_fits : (h : HierarchyLists) (x nodes : ℕ) (way : Way) → IsWay h x way → All (FitsRows nodes) h.entries → FitsSearch nodes way
+way_fits : (h : HierarchyLists) (x nodes : ℕ) (way : Way) → IsWayPast h x way → All (FitsRows nodes) h.entries → FitsSearch nodes way
 way_fits h x nodes way w fit =
     let a = fit_of way.from x way.first w.is_first in
     let b = fit_of x way.to w.second w.is_second in
@@ -182,8 +182,8 @@ module _ (n : NetworkLists) (x : ℕ) (ways : List Way) (k : ℕ) (old : Layer) 
   abbrev h : HierarchyLists
   h = state.before
 
-  abbrev here : IsWay h x way
-  here = subst (IsWay h x) (is way) (state.are.each k way lt)
+  abbrev here : IsWayPast h x way
+  here = subst (IsWayPast h x) (is way) (state.are.each k way lt)
 
   pub inside : FitsSearch (length old.rows.items) way
   inside = way_fits h x (length old.rows.items) way here state.fit
@@ -264,7 +264,7 @@ module _ (n : NetworkLists) (x : ℕ) (ways : List Way) (k : ℕ) (old : Layer) 
     entries : new.entries.items ≡ old.entries.items
     entries = ap (λ (l : Layer). l.entries.items) others
 
-    witness : witness_of walk ≡ record { below = x; nodes = nodes_of way.from found.hops }
+    witness : witness_of walk ≡ record { below = x; nodes = nodes_along way.from found.hops }
     witness = ap (λ b. listed_walk b walk.nodes.items) below ∙ ap (λ ns. listed_walk x ns) found.are where
       listed_walk : ℕ → List ℕ → WitnessLists
       listed_walk b ns = record { below = b; nodes = ns }
@@ -328,7 +328,7 @@ contracted n x ways layer new free state order entries walks rows into = record 
     count = ap length into ∙ l.count ∙ sym (ap length rows);
     fit = subst (λ (rs : List (Vec Edge Global)). All (FitsRows (length rs)) new.entries.items) (sym rows) (subst (λ es. All (FitsRows (length layer.rows.items)) es) (sym entries) l.fit);
     apart = subst (λ es. AllPairs HaveOtherEnds es) (sym entries) l.apart;
-    listed = λ u e there. subst (λ es. IsListed (layer.order.items ++ x ∷ []) es u e) (sym entries) (l.listed u e (subst (λ (rs : List (Vec Edge Global)). Contains (row_at rs u) e) rows there));
+    listed = λ u e there. subst (λ es. StandsForEntry (layer.order.items ++ x ∷ []) es u e) (sym entries) (l.listed u e (subst (λ (rs : List (Vec Edge Global)). Contains (row_at rs u) e) rows there));
     all = λ number e at from to. subst (λ (rs : List (Vec Edge Global)). IsInRows rs new.into.items number e) (sym rows) (subst (λ (is : List (Vec ℕ Global)). IsInRows layer.rows.items is number e) (sym into)
         (l.all number e (subst (λ es. slice_get es number ≡ Some e) entries at) from to));
     into_fit = λ v u there. subst (λ (rs : List (Vec Edge Global)). u < length rs) (sym rows) (l.into_fit v u (subst (λ (is : List (Vec ℕ Global)). Contains (into_at is v) u) into there));

@@ -12,19 +12,19 @@ use Rattle.std.proofs.lemmas.List.Elements.{All-contains, All-map, Contains-get_
 use Rattle.std.proofs.lemmas.List.Sorted.{sorted_far, ranks_by, All-permutation, Contains-permutation, IsPermutation-sym, IsPermutation-map}
 use Rattle.std.proofs.lemmas.Map.Keys.{IsDistinct-from_apart, IsDistinct-IsPermutation, apart_from_distinct}
 use Rattle.mode_network.specs.NetworkLists.{NetworkLists, mode_at}
-use Rattle.mode_network.specs.Rules.{IsNetwork}
+use Rattle.mode_network.specs.Rules.{IsAscending, IsNetwork}
 use Rattle.mode_network.proofs.RuleLemmas.{mode_is_road, nodes_hold_roads}
 use Rattle.hierarchy.specs.declared.entry.Entry.{Entry}
-use Rattle.hierarchy.specs.Hops.{AreHigh, total, nodes_of}
+use Rattle.hierarchy.specs.Hops.{AreHigh, total, nodes_along}
 use Rattle.hierarchy.specs.Lists.{HierarchyLists, WitnessLists, height_in, IsContracted, first_of, last_of}
-use Rattle.hierarchy.specs.Rules.{IsHierarchy, IsNode, FitsWitness, IsAscending, entry_cmp, witness_cmp}
+use Rattle.hierarchy.specs.Rules.{IsHierarchy, IsNode, FitsWitness, entry_cmp, witness_cmp}
 use Rattle.hierarchy.specs.Soundness.{HasEntry, IsBridged, FitsLayer, IsMade, IsMadeBy, NodeIsBridged, PairsAreBridged, PairIsBridged, HoldsBelow, MayStandAt, IsSound}
 use Rattle.hierarchy.proofs.HopLemmas.{hops_weaker}
 use Rattle.hierarchy.proofs.SoundLemmas.{contracted_free}
 use Rattle.contractor.specs.declared.way.Walk.{Walk}
 use Rattle.contractor.specs.declared.layer.Layer.{Layer}
 use Rattle.contractor.specs.Partway.{HaveOtherEnds, IsTrueWeight}
-use Rattle.contractor.specs.Layers.{IsState, lists_of, witness_of, HaveOtherKeys, FitsWalk, IsForWay, walk_cmp, AreInOrder, IsFinished}
+use Rattle.contractor.specs.Layers.{IsState, lists_of, witness_of, HaveOtherKeys, IsWitnessWalk, IsForWay, walk_cmp, AreInOrder, IsFinished}
 
 -- ---- soundness is of the elements, not of their order
 
@@ -54,7 +54,7 @@ module _ (n : NetworkLists) (h h2 : HierarchyLists) (order : h2.order ≡ h.orde
     walk = hops_weaker (HasEntry h.entries) (HasEntry h2.entries) has_now w.hops u v w.walk;
     above = subst (λ o. AreHigh (height_in o) (height_in o x) w.hops) (sym order) w.above;
     within = w.within;
-    listed = Contains-permutation h.witnesses h2.witnesses (record { below = x; nodes = nodes_of u w.hops }) witnesses w.listed;
+    listed = Contains-permutation h.witnesses h2.witnesses (record { below = x; nodes = nodes_along u w.hops }) witnesses w.listed;
   })
 
   pub sound_moved : IsSound n h → IsSound n h2
@@ -161,8 +161,8 @@ module _ (n : NetworkLists) (layer : Layer) (network : IsNetwork n) (state : IsS
   via_low e None is = tt
   via_low e (Some m) is = (entry_low e.from m is.first is.is_first).1
 
-  walk_fits : All FitsWalk walks
-  walk_fits = All-permutation FitsWalk layer.walks.items walks walks_in_order.moved state.walks.fit
+  walk_fits : All IsWitnessWalk walks
+  walk_fits = All-permutation IsWitnessWalk layer.walks.items walks walks_in_order.moved state.walks.fit
 
   below_low : (w : Walk) → Contains walks w → IsNode w.below
   below_low w there =
@@ -190,7 +190,7 @@ module _ (n : NetworkLists) (layer : Layer) (network : IsNetwork n) (state : IsS
       subst (λ x. witness_cmp x (get_or (map witness_of walks) j d) ≡ Less) (sym at_i) (subst (λ x. witness_cmp (witness_of a) x ≡ Less) (sym at_j)
       (by_ends a b (walk_fits i e (omega arith)) (walk_fits j e short) (walks_ascend i j e lt short)))
     where
-      by_ends : (a b : Walk) → FitsWalk a → FitsWalk b → walk_cmp a b ≡ Less → witness_cmp (witness_of a) (witness_of b) ≡ Less
+      by_ends : (a b : Walk) → IsWitnessWalk a → IsWitnessWalk b → walk_cmp a b ≡ Less → witness_cmp (witness_of a) (witness_of b) ≡ Less
       by_ends a b f g less = subst (λ k. ordering_then (ordering_then (nat_cmp a.below b.below) (nat_cmp k (first_of b.nodes.items))) (nat_cmp (last_of a.nodes.items) (last_of b.nodes.items)) ≡ Less) f.first
           (subst (λ k. ordering_then (ordering_then (nat_cmp a.below b.below) (nat_cmp a.first k)) (nat_cmp (last_of a.nodes.items) (last_of b.nodes.items)) ≡ Less) g.first
           (subst (λ k. ordering_then (ordering_then (nat_cmp a.below b.below) (nat_cmp a.first b.first)) (nat_cmp k (last_of b.nodes.items)) ≡ Less) f.last

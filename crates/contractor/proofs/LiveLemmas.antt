@@ -4,7 +4,7 @@ use Rattle.std.specs.Prelude.{All, Contains}
 use Rattle.std.proofs.lemmas.Bool.{cases_lt}
 use Rattle.std.proofs.lemmas.List.{length_push}
 use Rattle.std.proofs.lemmas.List.Elements.{All-contains}
-use Rattle.hierarchy.specs.Hops.{Hop, AreHops, AreHigh, total, nodes_of}
+use Rattle.hierarchy.specs.Hops.{Hop, AreHops, AreHigh, total, nodes_along}
 use Rattle.hierarchy.specs.Lists.{HierarchyLists, height_in, IsCore, IsContracted}
 use Rattle.hierarchy.specs.Soundness.{HasEntry, HasLighter, IsBridged}
 use Rattle.hierarchy.proofs.HeightLemmas.{height_most}
@@ -66,7 +66,7 @@ record Lighter (h : HierarchyLists) (k u v : ℕ) (p : List Hop) (order : List �
   hops : List Hop
   walk : AreHops (HasEntry h.entries) u hops v
   above : AreHigh (height_in order) k hops
-  same : nodes_of u hops ≡ nodes_of u p
+  same : nodes_along u hops ≡ nodes_along u p
   within : total hops ≤ total p
 
 module _ (h h2 : HierarchyLists) (order : h2.order ≡ h.order) (lighter : (u v w : ℕ) → HasEntry h.entries u v w → HasLighter h2.entries u v w) (witnesses : All (Contains h2.witnesses) h.witnesses) where
@@ -87,7 +87,7 @@ module _ (h h2 : HierarchyLists) (order : h2.order ≡ h.order) (lighter : (u v 
   bridge_kept x u v limit (inl (w, has, le)) = let l = lighter u v w has in inl (l.0, l.1, (let less = l.2 in omega arith))
   bridge_kept x u v limit (inr w) =
       let r = lightened (height_in h.order x) w.hops u v w.walk w.above in
-      let listed = All-contains (Contains h2.witnesses) h.witnesses (record { below = x; nodes = nodes_of u w.hops }) witnesses w.listed in
+      let listed = All-contains (Contains h2.witnesses) h.witnesses (record { below = x; nodes = nodes_along u w.hops }) witnesses w.listed in
       inr (record {
         hops = r.hops;
         walk = r.walk;

@@ -11,7 +11,7 @@ use Rattle.witness.specs.declared.edge.Edge.{Edge}
 use Rattle.witness.specs.Rows.{IsEdgePut, row_at}
 use Rattle.contractor.specs.declared.layer.Layer.{Layer}
 use Rattle.contractor.specs.Partway.{IsPut, HaveOtherEnds}
-use Rattle.contractor.specs.Layers.{IsLayer, IsListed, IsInRows, FitsRows, IsReplaced, IsAdded, IsEntered, IsEdgeListed, IsPlaceable, into_at, edge_of}
+use Rattle.contractor.specs.Layers.{IsLayer, StandsForEntry, IsInRows, FitsRows, IsReplaced, IsAdded, IsEntered, IsEdgeListed, IsPlaceable, into_at, edge_of}
 use Rattle.contractor.proofs.ListLemmas.{filter_keeps, filter_was, place_of, contains_place, slice_get-set_same, slice_get-set_other, slice_get_push_left, slice_get_push_last, slice_get_push_cases, slice_get_set_cases}
 
 -- whether it took another's place or was added: what stands where
@@ -53,7 +53,7 @@ module _ (order : List ℕ) (old : Layer) (layer : IsLayer order old) (e : Entry
     edge : Edge
     edge = record { to = e.to; entry = number; weight = r.there.0 }
 
-    l : IsListed order old.entries.items e.from edge
+    l : StandsForEntry order old.entries.items e.from edge
     l = layer.listed e.from edge r.there.1
 
     inside : number < length old.entries.items
@@ -133,15 +133,15 @@ module _ (order : List ℕ) (old : Layer) (layer : IsLayer order old) (e : Entry
         ]
       ]
 
-      moved : (u : ℕ) (y : Edge) (l : IsListed order old.entries.items u y) → y.entry ≢ number → IsListed order new.entries.items u y
+      moved : (u : ℕ) (y : Edge) (l : StandsForEntry order old.entries.items u y) → y.entry ≢ number → StandsForEntry order new.entries.items u y
       moved u y l other = record { entry = l.entry; at = in_.still y.entry l.entry l.at other; from = l.from; is = l.is; core_from = l.core_from; core_to = l.core_to }
 
-      in_row : (y : Edge) → Contains (row_at new.rows.items e.from) y → IsListed order new.entries.items e.from y
+      in_row : (y : Edge) → Contains (row_at new.rows.items e.from) y → StandsForEntry order new.entries.items e.from y
       in_row y there = elim (Contains-push_cases (filter elsewhere row) (edge_of number e) y (subst (λ ys. Contains ys y) listed.here there)) [
         | inl before ↦ (let kept = filter_was elsewhere row y before in
             let l = layer.listed e.from y kept.0 in
             moved e.from y l (λ now. eqb-false y.to e.to (not-true (nat_eq y.to e.to) kept.1) (ap (λ (z : Edge). z.to) l.is ∙ (in_.same y.entry l.entry l.at now).1)))
-        | inr here ↦ subst (IsListed order new.entries.items e.from) here (record { entry = e; at = in_.here; from = refl; is = refl; core_from = core_from; core_to = core_to })
+        | inr here ↦ subst (StandsForEntry order new.entries.items e.from) here (record { entry = e; at = in_.here; from = refl; is = refl; core_from = core_from; core_to = core_to })
       ]
 
       pub put_layer : IsLayer order new
@@ -151,7 +151,7 @@ module _ (order : List ℕ) (old : Layer) (layer : IsLayer order old) (e : Entry
         fit = λ k d low. subst (λ m. FitsRows m (get_or new.entries.items k d)) (sym listed.count) (each k (get_or new.entries.items k d) (slice_get-get_or new.entries.items k d low));
         apart = λ i j d lt low. pair i j (get_or new.entries.items i d) (get_or new.entries.items j d) lt (slice_get-get_or new.entries.items i d (omega arith)) (slice_get-get_or new.entries.items j d low);
         listed = λ u y there. elim (cases_eq u e.from) [
-          | inl here ↦ subst (λ w. IsListed order new.entries.items w y) (sym here) (in_row y (subst (λ w. Contains (row_at new.rows.items w) y) here there))
+          | inl here ↦ subst (λ w. StandsForEntry order new.entries.items w y) (sym here) (in_row y (subst (λ w. Contains (row_at new.rows.items w) y) here there))
           | inr other ↦ (let l = layer.listed u y (subst (λ ys. Contains ys y) (listed.others u other) there) in
               moved u y l (λ now. other (sym l.from ∙ (in_.same y.entry l.entry l.at now).0)))
         ];

@@ -15,7 +15,7 @@ use Rattle.hierarchy.specs.Hops.{Hop, AreHops, total}
 use Rattle.hierarchy.specs.Hops as hops
 
 abbrev stops : ℕ → List Hop → List ℕ
-stops u p = hops.nodes_of u p
+stops u p = hops.nodes_along u p
 
 apart_from_none : (u : ℕ) (ns : List ℕ) → list_any (nat_eq u) ns ≡ false → AllByRecursion (λ y. nat_eq u y ≡ false) ns
 apart_from_none u [] none = tt

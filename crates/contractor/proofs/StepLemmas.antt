@@ -6,7 +6,7 @@ use Rattle.std.proofs.lemmas.List.Elements.{All-contains, Contains-get_or, Conta
 use Rattle.mode_network.specs.NetworkLists.{NetworkLists}
 use Rattle.mode_network.specs.Journeys.{Leads}
 use Rattle.mode_network.specs.Rules.{IsNetwork}
-use Rattle.hierarchy.specs.Hops.{Hop, AreHops, AreHigh, total, nodes_of}
+use Rattle.hierarchy.specs.Hops.{Hop, AreHops, AreHigh, total, nodes_along}
 use Rattle.hierarchy.specs.Lists.{HierarchyLists, height_in, IsCore, IsContracted}
 use Rattle.hierarchy.specs.Soundness.{HasEntry, HasLighter, IsBridged, IsSound, IsFree}
 use Rattle.hierarchy.specs.Contraction.{IsShortcut}
@@ -14,15 +14,15 @@ use Rattle.hierarchy.proofs.SoundLemmas.{fits}
 use Rattle.hierarchy.proofs.DistanceLemmas.{roads_of}
 use Rattle.hierarchy.proofs.ContractionLemmas.{contractions_keep_soundness}
 use Rattle.contractor.specs.declared.way.Way.{Way}
-use Rattle.contractor.specs.Partway.{IsTrueWeight, IsLive, IsWay, IsNoHeavier, AreWays, IsPartway, IsPut, shortcut_of}
+use Rattle.contractor.specs.Partway.{IsTrueWeight, IsLive, IsWayPast, IsNoHeavier, AreWays, IsPartway, IsPut, shortcut_of}
 use Rattle.contractor.proofs.LiveLemmas.{HasLiveWalk, core_more, core_is_high, live_walk, bridge_kept}
 use Rattle.contractor.proofs.PastLemmas.{true_sum}
 use Rattle.contractor.proofs.SimpleLemmas.{road, least_is_light}
 
 module _ (n : NetworkLists) (h : HierarchyLists) (x : ℕ) (ways : List Way) (k : ℕ) (h2 : HierarchyLists) (network : IsNetwork n) (sound : IsSound n h) (core : IsCore h.order x) (are : AreWays h x ways)
     (part : IsPartway n h x ways k h2) (way : Way) (lt : k < length ways) (is : (d : Way) → get_or ways k d ≡ way) where
-  is_way : IsWay h x way
-  is_way = subst (IsWay h x) (is way) (are.each k way lt)
+  is_way : IsWayPast h x way
+  is_way = subst (IsWayPast h x) (is way) (are.each k way lt)
 
   from_is : way.from ≢ x
   from_is same = let w = is_way in (fits n h sound way.from x way.first w.is_first).differ same
@@ -139,7 +139,7 @@ module _ (n : NetworkLists) (h : HierarchyLists) (x : ℕ) (ways : List Way) (k 
       }
 
   module _ (hops : List Hop) (walk : AreHops (IsLive h2) way.from hops way.to) (within : total hops ≤ way.sum) (h3 : HierarchyLists) (order : h3.order ≡ h2.order) (entries : h3.entries ≡ h2.entries)
-      (witnesses : h3.witnesses ≡ h2.witnesses ++ record { below = x; nodes = nodes_of way.from hops } ∷ []) where
+      (witnesses : h3.witnesses ≡ h2.witnesses ++ record { below = x; nodes = nodes_along way.from hops } ∷ []) where
     same_lighter : (u v w : ℕ) → HasEntry h2.entries u v w → HasLighter h3.entries u v w
     same_lighter u v w has = (w, subst (λ es. HasEntry es u v w) (sym entries) has, omega arith)
 
@@ -174,7 +174,7 @@ module _ (n : NetworkLists) (h : HierarchyLists) (x : ℕ) (ways : List Way) (k 
               walk = entries_of hops way.from way.to walk;
               above = high_of hops way.from way.to walk;
               within = within;
-              listed = subst (λ ws. Contains ws (record { below = x; nodes = nodes_of way.from hops })) (sym witnesses) (Contains-push h2.witnesses _);
+              listed = subst (λ ws. Contains ws (record { below = x; nodes = nodes_along way.from hops })) (sym witnesses) (Contains-push h2.witnesses _);
             })))
       ];
     }

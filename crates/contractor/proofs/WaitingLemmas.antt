@@ -13,7 +13,7 @@ use Rattle.hierarchy.specs.Hops.{Hop, AreHops, total}
 use Rattle.hierarchy.specs.Lists.{HierarchyLists, IsCore}
 use Rattle.hierarchy.specs.Soundness.{IsFree}
 use Rattle.hierarchy.proofs.RoadLemmas.{roads_under}
-use Rattle.contractor.specs.Contracted.{is_free, free_below, free_count, IsContracted, IsTrueDistance}
+use Rattle.contractor.specs.Contracted.{is_free, free_below, free_count, IsContractedTo, IsTrueDistance}
 use Rattle.contractor.specs.Layers.{AreWaiting, IsFinished}
 use Rattle.contractor.proofs.ListLemmas.{slice_get-set_same, slice_get-set_other, slice_get_push_cases}
 use Rattle.contractor.proofs.LiveLemmas.{core_more}
@@ -60,7 +60,7 @@ node_more n v count next waiting new free is frees pushed more len each marked s
 
 -- ---- the end
 
-pub is_contracted : (n : NetworkLists) (keep free number : ℕ) (order : List ℕ) (h : HierarchyLists) → free ≡ free_count n → number ≡ free - keep → length order ≡ number → IsFinished n order h → IsContracted n keep h
+pub is_contracted : (n : NetworkLists) (keep free number : ℕ) (order : List ℕ) (h : HierarchyLists) → free ≡ free_count n → number ≡ free - keep → length order ≡ number → IsFinished n order h → IsContractedTo n keep h
 is_contracted n keep free number order h is less done f = record {
   sound = f.sound;
   core = ap length f.order_is ∙ done ∙ less ∙ ap (λ k. k - keep) is;

@@ -16,7 +16,7 @@ use Rattle.std.proofs.lemmas.Map.Keys.{Less-from_sorted}
 use Rattle.hierarchy.specs.declared.entry.Entry.{Entry}
 use Rattle.hierarchy.specs.Lists.{HierarchyLists}
 use Rattle.hierarchy.specs.Soundness.{HasEntry}
-use Rattle.contractor.specs.Partway.{IsWay, AreWays, HaveOtherEnds}
+use Rattle.contractor.specs.Partway.{IsWayPast, AreWays, HaveOtherEnds}
 use Rattle.std.proofs.lemmas.List.Elements.{All-contains, All-more, All-weaker, Contains-append_left, Contains-push, Contains-push_cases, Contains-get_or, All-contains_itself}
 use Rattle.std.proofs.lemmas.List.{take_more, get_or_default}
 use Rattle.witness.specs.declared.edge.Edge.{Edge}
@@ -176,12 +176,12 @@ are_ways h x first second ways apart before after are = record {
       let two : v.second ≡ w.second = weight_once h.entries x q.to v.second w.second apart (subst (λ u. HasEntry h.entries x u v.second) to v.is_second) w.is_second in
       not_itself p q (are.rising i j d lt low) one from (let a = v.sum in let b = w.sum in omega (arith, one, two)) to);
 } where
-  one_first : (p q : Way) → IsWay h x p → IsWay h x q → p.from ≡ q.from → p.first ≡ q.first
+  one_first : (p q : Way) → IsWayPast h x p → IsWayPast h x q → p.from ≡ q.from → p.first ≡ q.first
   one_first p q v w from = weight_once h.entries q.from x p.first q.first apart (subst (λ u. HasEntry h.entries u x p.first) from v.is_first) w.is_first
 
-  is_way : (way : Way) → Contains ways way → IsWay h x way
+  is_way : (way : Way) → Contains ways way → IsWayPast h x way
   is_way way there =
       let w = are.each way there in
       let a = before.each w.side w.is_side in
       let b = after.each w.edge w.is_edge in
-      subst (IsWay h x) (sym w.is) (record { second = w.edge.weight; is_first = a.0; is_second = b.0; sum = refl; core_from = a.1; core_to = b.1; differ = w.differ })
+      subst (IsWayPast h x) (sym w.is) (record { second = w.edge.weight; is_first = a.0; is_second = b.0; sum = refl; core_from = a.1; core_to = b.1; differ = w.differ })

@@ -32,7 +32,7 @@ IsTrueDistance n e = e.via ≢ None → IsDistance n e.from e.to e.weight
 
 -- A sound hierarchy lists distinct free nodes, so its core is all nodes that are not free, and of the free ones as many as
 -- were to be kept, or all where there are fewer. Each shortcut weighs what the roads between its ends take at least.
-pub record IsContracted (n : NetworkLists) (keep : ℕ) (h : HierarchyLists) : Type 0 where
+pub record IsContractedTo (n : NetworkLists) (keep : ℕ) (h : HierarchyLists) : Type 0 where
   pub sound : IsSound n h
   pub core : length h.order ≡ free_count n - keep
   pub distances : All (IsTrueDistance n) h.entries

@@ -47,7 +47,7 @@ abbrev pub into_at : List (Vec ℕ Global) → ℕ → List ℕ
 into_at into v = nodes_in (slice_get into v)
 
 -- what a row lists is the entry of that number, and both its ends are left
-pub record IsListed (order : List ℕ) (entries : List Entry) (u : ℕ) (edge : Edge) : Type 0 where
+pub record StandsForEntry (order : List ℕ) (entries : List Entry) (u : ℕ) (edge : Edge) : Type 0 where
   pub entry : Entry
   pub at : slice_get entries edge.entry ≡ Some entry
   pub from : entry.from ≡ u
@@ -72,7 +72,7 @@ pub record IsLayer (order : List ℕ) (layer : Layer) : Type 0 where
   pub count : length layer.into.items ≡ length layer.rows.items
   pub fit : All (FitsRows (length layer.rows.items)) layer.entries.items
   pub apart : AllPairs HaveOtherEnds layer.entries.items
-  pub listed : (u : ℕ) (edge : Edge) → Contains (row_at layer.rows.items u) edge → IsListed order layer.entries.items u edge
+  pub listed : (u : ℕ) (edge : Edge) → Contains (row_at layer.rows.items u) edge → StandsForEntry order layer.entries.items u edge
   pub all : (number : ℕ) (e : Entry) → slice_get layer.entries.items number ≡ Some e → IsCore order e.from → IsCore order e.to → IsInRows layer.rows.items layer.into.items number e
   pub into_fit : (v u : ℕ) → Contains (into_at layer.into.items v) u → u < length layer.rows.items
 
@@ -124,7 +124,7 @@ pub record IsPlaceable (layer : Layer) (e : Entry) : Type 0 where
   pub numbers : All (λ (edge : Edge). edge.entry < length layer.entries.items) (row_at layer.rows.items e.from)
 
 -- an entry was entered and listed
-pub record IsPlaced (old new : Layer) (e : Entry) : Type 0 where
+pub record IsEntryPlaced (old new : Layer) (e : Entry) : Type 0 where
   pub number : ℕ
   pub entered : IsEntered (row_at old.rows.items e.from) e number old.entries.items new.entries.items old.into.items new.into.items
   pub listed : IsEdgeListed e.from (edge_of number e) old.rows.items new.rows.items
@@ -213,7 +213,7 @@ pub record AreWaysOf (first : List Side) (second : List Edge) (ways : List Way) 
 abbrev pub HaveOtherKeys : Walk → Walk → Type 0
 HaveOtherKeys a b = a.below ≡ b.below → a.first ≡ b.first → a.last ≡ b.last → ⊥
 
-pub record FitsWalk (walk : Walk) : Type 0 where
+pub record IsWitnessWalk (walk : Walk) : Type 0 where
   pub nodes : All (λ v. v < 2 ^ 24) walk.nodes.items
   pub is_walk : 2 ≤ length walk.nodes.items
   pub first : walk.first ≡ first_of walk.nodes.items
@@ -229,7 +229,7 @@ pub record IsForWay (ways : List Way) (k : ℕ) (walk : Walk) : Type 0 where
 -- each is for a contracted node, or for one of the first k ways by x
 pub record AreWalks (order : List ℕ) (x : ℕ) (ways : List Way) (k : ℕ) (walks : List Walk) : Type 0 where
   pub apart : AllPairs HaveOtherKeys walks
-  pub fit : All FitsWalk walks
+  pub fit : All IsWitnessWalk walks
   pub each : All (λ (walk : Walk). IsContracted order walk.below ⊎ ((walk.below ≡ x) × IsForWay ways k walk)) walks
 
 -- ---- the whole

@@ -29,7 +29,7 @@ pub record IsLive (h : HierarchyLists) (u v weight : ℕ) : Type 0 where
   pub core_to : IsCore h.order v
 
 -- a way by x from one core node to another
-pub record IsWay (h : HierarchyLists) (x : ℕ) (way : Way) : Type 0 where
+pub record IsWayPast (h : HierarchyLists) (x : ℕ) (way : Way) : Type 0 where
   pub second : ℕ
   pub is_first : HasEntry h.entries way.from x way.first
   pub is_second : HasEntry h.entries x way.to second
@@ -48,7 +48,7 @@ pub record IsNoHeavier (p q : Way) : Type 0 where
 
 -- all ways by x, in order, one for two ends
 pub record AreWays (h : HierarchyLists) (x : ℕ) (ways : List Way) : Type 0 where
-  pub each : All (IsWay h x) ways
+  pub each : All (IsWayPast h x) ways
   pub all : (u v a b : ℕ) → IsCore h.order u → IsCore h.order v → HasEntry h.entries u x a → HasEntry h.entries x v b → u ≢ v
       → Contains ways (record { first = a; from = u; sum = a + b; to = v })
   pub rising : AllPairs IsNoHeavier ways

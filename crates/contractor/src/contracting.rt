@@ -3,7 +3,7 @@
 ghost use Rattle.std.specs.Prelude.{◌≡◌, ◌+◌, ◌-◌, ◌<◌, ◌≤◌, ◌^◌, [], length, IfOk, OnOk, IsTrue};
 ghost use Rattle.mode_network.specs.NetworkLists.{nodes_of};
 ghost use Rattle.hierarchy.specs.Soundness.{IsFree};
-ghost use Rattle.contractor.specs.Contracted.{IsContracted, free_count, is_free};
+ghost use Rattle.contractor.specs.Contracted.{IsContractedTo, free_count, is_free};
 ghost use Rattle.contractor.specs.Layers.{IsState, AreWaiting};
 
 use crate::beginning::begin;
@@ -34,7 +34,7 @@ pub fn contract<P: Progress>(
     keep: u32,
     progress: &mut P,
 ) -> Result<Hierarchy, AllocError>
-    ensures { IfOk result (IsContracted network.now keep) }
+    ensures { IfOk result (IsContractedTo network.now keep) }
 {
     network.known();
     let mut layer = begin(alloc, network)?;
@@ -47,7 +47,8 @@ pub fn contract<P: Progress>(
 
 /// Marks the nodes that are free, and counts them.
 fn free_nodes(alloc: Global, network: &Network) -> Result<(Vec<bool>, u64), AllocError>
-    ensures { IfOk result (λ nodes. AreWaiting network.now [] nodes.1 nodes.0.items × (nodes.1 ≡ free_count network.now)) }
+    ensures { IfOk result (λ nodes. AreWaiting network.now [] nodes.1 nodes.0.items
+        × (nodes.1 ≡ free_count network.now)) }
 {
     let mut waiting = Vec::with_capacity(alloc, network.nodes() as usize)?;
     let mut count = 0;

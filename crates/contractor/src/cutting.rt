@@ -23,8 +23,10 @@ pub(crate) fn cut(alloc: Global, layer: &mut Layer, x: u32) -> Result<Sides, All
     requires core { IsCore layer.old.order.items x }
     requires node { x < length layer.old.rows.items }
     ensures layer { OnOk result (IsLayer (layer.old.order.items ++ x ∷ []) layer.new) }
-    ensures first { IfOk result (λ sides. AreFirst layer.old.order.items layer.old.entries.items x sides.first.items) }
-    ensures second { IfOk result (λ sides. AreSecond layer.old.order.items layer.old.entries.items x sides.second.items) }
+    ensures first { IfOk result (λ sides. AreFirst layer.old.order.items layer.old.entries.items x
+        sides.first.items) }
+    ensures second { IfOk result (λ sides. AreSecond layer.old.order.items layer.old.entries.items x
+        sides.second.items) }
     ensures order { OnOk result (layer.new.order.items ≡ layer.old.order.items) }
     ensures entries { OnOk result (layer.new.entries.items ≡ layer.old.entries.items) }
     ensures walks { OnOk result (layer.new.walks.items ≡ layer.old.walks.items) }

@@ -4,7 +4,7 @@ ghost use Rattle.std.specs.Prelude.{◌≡◌, ◌≢◌, ◌+◌, ◌<◌, ◌^
 ghost use Rattle.hierarchy.specs.Lists.{IsCore};
 ghost use Rattle.witness.specs.Rows.{IsEdgePut};
 ghost use Rattle.contractor.specs.Partway.{IsPut, shortcut_of};
-ghost use Rattle.contractor.specs.Layers.{IsLayer, CanPut, HasNumber, IsEntered, IsNodeAdded, IsEdgeListed, IsPlaceable, IsPlaced};
+ghost use Rattle.contractor.specs.Layers.{IsLayer, CanPut, HasNumber, IsEntered, IsNodeAdded, IsEdgeListed, IsPlaceable, IsEntryPlaced};
 
 use crate::way::{Walk, Way};
 use hierarchy::Entry;
@@ -31,7 +31,8 @@ pub(crate) fn note(
     nodes: Vec<u32>,
 ) -> Result<(), AllocError>
     ensures others { OnOk result (layer.new ≡ record layer.old { walks = layer.new.walks }) }
-    ensures walk { OnOk result (layer.new.walks.items ≡ layer.old.walks.items ++ record { below = below; first = way.from; last = way.to; nodes = nodes } ∷ []) }
+    ensures walk { OnOk result (layer.new.walks.items ≡ layer.old.walks.items ++ record
+        { below = below; first = way.from; last = way.to; nodes = nodes } ∷ []) }
 {
     layer.walks.push(Walk {
         below,
@@ -68,7 +69,7 @@ pub(crate) fn put(layer: &mut Layer, x: u32, way: Way) -> Result<(), AllocError>
 /// Puts in an entry, in the place of the one with its ends, if the rows have one.
 pub(crate) fn place(layer: &mut Layer, entry: Entry) -> Result<(), AllocError>
     requires { IsPlaceable layer.old entry }
-    ensures { OnOk result (IsPlaced layer.old layer.new entry) }
+    ensures { OnOk result (IsEntryPlaced layer.old layer.new entry) }
 {
     let number = enter(
         &mut layer.entries,
@@ -94,7 +95,8 @@ fn enter(
 ) -> Result<u32, AllocError>
     requires row { All (λ edge. edge.entry < length entries.old.items) row.now }
     requires to { entry.to < length into.old.items }
-    ensures { IfOk result (λ number. IsEntered row.now entry number entries.old.items entries.new.items into.old.items into.new.items) }
+    ensures { IfOk result (λ number. IsEntered row.now entry number entries.old.items entries.new.items
+        into.old.items into.new.items) }
 {
     match number_between(row, entry.to) {
         Some(number) => {
@@ -132,7 +134,8 @@ fn list(rows: &mut Vec<Vec<Edge>>, from: u32, edge: Edge) -> Result<(), AllocErr
 
 /// The number of the entry of a row that leads to a node.
 fn number_between(row: &[Edge], to: u32) -> Option<u32>
-    ensures { MatchOption result (All (λ edge. edge.to ≢ to) row.now) (λ number. HasNumber row.now to number) }
+    ensures { MatchOption result (All (λ edge. edge.to ≢ to) row.now)
+        (λ number. HasNumber row.now to number) }
 {
     for edge in row {
         if edge.to == to {

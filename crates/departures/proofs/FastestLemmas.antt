@@ -15,10 +15,10 @@ use Rattle.timetable_arcs.specs.Runs.{IsFirstFrom}
 use Rattle.departures.specs.declared.fastest.FastestCall.{FastestCall}
 use Rattle.departures.specs.declared.fastest.Stretch.{Stretch}
 use Rattle.departures.specs.Fastest.{fastest_call, ride_ms, least_ms, IsNoFaster}
-use Rattle.departures.specs.Stretches.{AreShortened, AreWithin, calls_from}
+use Rattle.departures.specs.Stretches.{AreShortened, FitBetweenCalls, calls_from}
 use Rattle.departures.proofs.StretchLemmas.{next_is}
 
-module _ (t : TableLists) (table : IsTable t) (p : ℕ) (run : Instance) (is_in : IsIn t p run) (stretches : List Stretch) (within : AreWithin (trip_at t run.trip).calls stretches) where
+module _ (t : TableLists) (table : IsTable t) (p : ℕ) (run : Instance) (is_in : IsIn t p run) (stretches : List Stretch) (within : FitBetweenCalls (trip_at t run.trip).calls stretches) where
   abbrev fast : ℕ → FastestCall
   fast k = fastest_call (calls_from 0 stretches) k
 
@@ -70,9 +70,9 @@ module _ (t : TableLists) (table : IsTable t) (p : ℕ) (run : Instance) (is_in 
 
 -- the stretches are no longer than those of the runs that depart before a time
 abbrev pub AreShort : TableLists → ℕ → ℕ → List Stretch → Type 0
-AreShort t p time stretches = (run : Instance) → IsIn t p run → departs t run 0 < time → AreWithin (trip_at t run.trip).calls stretches
+AreShort t p time stretches = (run : Instance) → IsIn t p run → departs t run 0 < time → FitBetweenCalls (trip_at t run.trip).calls stretches
 
-shorter_within : (calls : List Call) (old new : List Stretch) → AreShortened old new → AreWithin calls old → AreWithin calls new
+shorter_within : (calls : List Call) (old new : List Stretch) → AreShortened old new → FitBetweenCalls calls old → FitBetweenCalls calls new
 shorter_within calls old new shortened within k lt =
     let (ride, pass) = within k lt in
     let (less_ride, less_pass) = shortened k in
@@ -100,19 +100,19 @@ module _ (t : TableLists) (table : IsTable t) (p : ℕ) where
           sym a_is ∙ ap (λ k. get_or (runs_of t p) k a) at ∙ get_or_default (runs_of t p) j a b b_in ∙ b_is
 
   pub shorter : (time : ℕ) (old new : List Stretch) (run : Instance) → AreShort t p time old → IsFirstFrom t p 0 time run → AreShortened old new
-      → AreWithin (trip_at t run.trip).calls new → AreShort t p (departs t run 0 + 1) new
+      → FitBetweenCalls (trip_at t run.trip).calls new → AreShort t p (departs t run 0 + 1) new
   shorter time old new run short first shortened own other is_in early = on_order (cases_lt (departs t other 0) time)
     where
-      on_order : (departs t other 0 < time) ⊎ (time ≤ departs t other 0) → AreWithin (trip_at t other.trip).calls new
+      on_order : (departs t other 0 < time) ⊎ (time ≤ departs t other 0) → FitBetweenCalls (trip_at t other.trip).calls new
       on_order (inl before) = shorter_within (trip_at t other.trip).calls old new shortened (short other is_in before)
       on_order (inr later) =
           let le = first.first other is_in later in
           let same = same_run run other first.is_in is_in (omega arith) in
-          subst (λ (r : Instance). AreWithin (trip_at t r.trip).calls new) same own
+          subst (λ (r : Instance). FitBetweenCalls (trip_at t r.trip).calls new) same own
 
 -- ---- pattern by pattern
 
-module _ (t : TableLists) (table : IsTable t) (p : ℕ) (stretches : List Stretch) (within : (run : Instance) → IsIn t p run → AreWithin (trip_at t run.trip).calls stretches) where
+module _ (t : TableLists) (table : IsTable t) (p : ℕ) (stretches : List Stretch) (within : (run : Instance) → IsIn t p run → FitBetweenCalls (trip_at t run.trip).calls stretches) where
   -- a fastest run of one pattern more
   pub none_faster_more : (runs : List (List FastestCall)) → length runs ≡ p → ((run : Instance) (ride : Ride) → ride.pattern < p → IsNoFaster t runs run ride)
       → (run : Instance) (ride : Ride) → ride.pattern < p + 1 → IsNoFaster t (runs ++ calls_from 0 stretches ∷ []) run ride

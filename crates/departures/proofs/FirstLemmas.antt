@@ -23,7 +23,7 @@ use Rattle.journey.specs.CopyLists.{AreTheCopies}
 use Rattle.journey.specs.Ends.{HasTime}
 use Rattle.journey.proofs.CopyLemmas.{copy_in_range}
 use Rattle.journey.proofs.StepLemmas.{steps_once}
-use Rattle.unpack.specs.Unpacking.{IsSoon, end_of, arrival_of, letters_of}
+use Rattle.unpack.specs.Unpacking.{IsSoon, node_after, arrival_after, letters_of}
 use Rattle.unpack.proofs.TakenLemmas as taken
 use Rattle.latest_departure.specs.Forward.{leaving}
 use Rattle.few_boardings.specs.Counted.{transits}
@@ -33,7 +33,7 @@ use Rattle.departures.specs.declared.row.Pair.{Pair}
 use Rattle.departures.specs.declared.row.Row.{Row}
 use Rattle.departures.specs.Departures.{SetsOff, IsPair, IsRidden}
 use Rattle.departures.specs.SettingOff.{IsSetOff}
-use Rattle.departures.specs.Searching.{ReadsRides, IsRowFor, IsUnpacked, IsFirst, IsFirstFrom}
+use Rattle.departures.specs.Searching.{ReadsRides, IsRowFor, IsRowUnpacked, IsFirstRow, IsFirstRowFrom}
 use Rattle.departures.proofs.ReaderLemmas.{pair_rises}
 use Rattle.departures.proofs.SettingOffLemmas.{sets_off, same_rides, have_times, has_time}
 
@@ -123,7 +123,7 @@ module _ (n : NetworkLists) (network : IsNetwork n) (table : TableLists) (q : As
       (reads answers.real.letters).1 (word, count)
 
   -- where no word is accepted, there is none
-  pub none_accepted : ((word : List ℕ) → Accepts l word → ⊥) → IsFirstFrom n q t None
+  pub none_accepted : ((word : List ℕ) → Accepts l word → ⊥) → IsFirstRowFrom n q t None
   none_accepted none p (k, is) at = none is.answers.real.letters (accepts q.depart k p.arrive is.answers is.rides)
 
   -- each pair that departs from then on is an accepted walk
@@ -133,7 +133,7 @@ module _ (n : NetworkLists) (network : IsNetwork n) (table : TableLists) (q : As
       taken.arrives n table (leaving q t) l origins destinations from to journeys k p.arrive answers (accepts t k p.arrive answers is.rides)
 
   first_found : (a : ℕ) (w : Walk) (row : Row) → IsLeast (plain_meaning n table) l origins destinations t a → IsWalkTo (plain_meaning n table) l origins destinations t a w
-      → t < 2 ^ 64 → a ≤ last_time t → IsRowFor n table a w row → IsFirst n q t row
+      → t < 2 ^ 64 → a ≤ last_time t → IsRowFor n table a w row → IsFirstRow n q t row
   first_found a w row least is soon within found =
       let j = found.journey in
       let k = row.journey in
@@ -143,7 +143,7 @@ module _ (n : NetworkLists) (network : IsNetwork n) (table : TableLists) (q : As
       let leaves = taken.leaves n table (leaving q t) l origins destinations from to a w j is takes in
       let own = asked_from n q t q.depart j a (taken.walk_answers n table (leaving q t) l origins destinations from to a w j is takes both.0) (omega arith) in
       let boards = taken.walk_boards n table (leaving q t) l origins destinations from to a w j is takes in
-      let count = letters_count n network j.start j.at j.steps (end_of w.node w.hops.items) (arrival_of w.at w.hops.items) letters takes.real in
+      let count = letters_count n network j.start j.at j.steps (node_after w.node w.hops.items) (arrival_after w.at w.hops.items) letters takes.real in
       let ridden : IsRidden n q row.pair k = record {
         answers = subst (Answers n q k) (sym found.arrives) (off_answers n network q j k a own boards found.set_off);
         departs = found.departs;
@@ -164,8 +164,8 @@ module _ (n : NetworkLists) (network : IsNetwork n) (table : TableLists) (q : As
 
   -- what was found, unpacked
   pub first_row : (arrival : Option ℕ) (walk : Option Walk) (row : Option Row) → IsArrival (plain_meaning n table) l origins destinations t None arrival
-      → IsWalkFor (plain_meaning n table) l origins destinations t arrival walk → t < 2 ^ 64 → IfSome arrival (λ a. a ≤ last_time t) → IsUnpacked n table arrival walk row → IsFirstFrom n q t row
-  first_row None walk row none is soon within unpacked = subst (IsFirstFrom n q t) (sym unpacked) (λ p pair at. none p.arrive tt (arrives p pair at))
+      → IsWalkFor (plain_meaning n table) l origins destinations t arrival walk → t < 2 ^ 64 → IfSome arrival (λ a. a ≤ last_time t) → IsRowUnpacked n table arrival walk row → IsFirstRowFrom n q t row
+  first_row None walk row none is soon within unpacked = subst (IsFirstRowFrom n q t) (sym unpacked) (λ p pair at. none p.arrive tt (arrives p pair at))
   first_row (Some a) None row least is soon within unpacked = absurd is
   first_row (Some a) (Some w) None least is soon within unpacked = absurd unpacked
   first_row (Some a) (Some w) (Some row) least is soon within unpacked = first_found a w row least.0 is soon within unpacked

@@ -11,8 +11,8 @@ use Rattle.journey.specs.Best.{Asked}
 use Rattle.departures.specs.declared.row.Pair.{Pair}
 use Rattle.departures.specs.declared.row.Row.{Row}
 use Rattle.departures.specs.Departures.{IsPair, IsShorter, IsListed, AreDepartures, IsRow, pair_of, AreRows}
-use Rattle.departures.specs.Searching.{IsPrintableRow, IsFirst, IsFirstFrom}
-use Rattle.departures.specs.Listing.{next_moment, is_shorter, is_later, kept}
+use Rattle.departures.specs.Searching.{IsPrintableRow, IsFirstRow, IsFirstRowFrom}
+use Rattle.departures.specs.Listing.{next_moment, is_shorter, is_later_row, with_departure}
 use Rattle.departures.proofs.OrderLemmas.{le_or_above, same_pair, not_before}
 use Rattle.departures.proofs.ListLemmas.{here}
 
@@ -22,7 +22,7 @@ pub record IsListing (n : NetworkLists) (q : Asked) (without : Option ℕ) (wind
   pub within : span ≤ window
   pub are : AreRows n q without span rows
   pub printable : All (IsPrintableRow n) rows
-  pub found : IsFirstFrom n q (q.depart + span) best
+  pub found : IsFirstRowFrom n q (q.depart + span) best
 
 -- how much of the window is left
 abbrev pub left_of : ℕ → Option Row → ℕ
@@ -88,7 +88,7 @@ module _ (n : NetworkLists) (q : Asked) (without : Option ℕ) where
 
   -- ---- what a search found
 
-  module _ (t : ℕ) (row : Row) (first : IsFirst n q t row) where
+  module _ (t : ℕ) (row : Row) (first : IsFirstRow n q t row) where
     own : IsPair n q row.pair
     own = (row.journey, first.is_row.ridden)
 
@@ -107,14 +107,14 @@ module _ (n : NetworkLists) (q : Asked) (without : Option ℕ) where
         on_order (inl no_later) = is.undominated.alone row.pair own no_later as_early
         on_order (inr later) = absurd (too_long without is.shorter early later)
 
-    module _ (next : Option Row) (found : IsFirstFrom n q (next_moment without row.pair) next) where
-      later_than : (o : Option Row) → IsFirstFrom n q (next_moment without row.pair) o → is_later o row.pair.arrive ≡ true → (p : Pair) → IsPair n q p → next_moment without row.pair ≤ p.depart
+    module _ (next : Option Row) (found : IsFirstRowFrom n q (next_moment without row.pair) next) where
+      later_than : (o : Option Row) → IsFirstRowFrom n q (next_moment without row.pair) o → is_later_row o row.pair.arrive ≡ true → (p : Pair) → IsPair n q p → next_moment without row.pair ≤ p.depart
           → row.pair.arrive < p.arrive
       later_than None none later p is late = absurd (none p is late)
       later_than (Some o) some later p is late = let less = ltb-true row.pair.arrive o.pair.arrive later in let le = some.least p is late in omega arith
 
       -- it is listed where it takes less time than without a ride, and the next one arrives later
-      worth : (window : ℕ) → row.pair.depart < q.depart + window → is_shorter without row.pair ≡ true → is_later next row.pair.arrive ≡ true → IsListed n q without window row.pair
+      worth : (window : ℕ) → row.pair.depart < q.depart + window → is_shorter without row.pair ≡ true → is_later_row next row.pair.arrive ≡ true → IsListed n q without window row.pair
       worth window within shorter later = record {
         undominated = record { pair = own; alone = λ o is as_late as_early. alone o is as_late as_early (le_or_above (next_moment without row.pair) o.depart) };
         within = within;
@@ -131,10 +131,10 @@ module _ (n : NetworkLists) (q : Asked) (without : Option ℕ) where
               same_pair o row.pair (omega arith) (omega arith)
 
       -- and nowhere else
-      not_worth : (window : ℕ) → IsListed n q without window row.pair → (is_shorter without row.pair && is_later next row.pair.arrive) ≡ false → ⊥
+      not_worth : (window : ℕ) → IsListed n q without window row.pair → (is_shorter without row.pair && is_later_row next row.pair.arrive) ≡ false → ⊥
       not_worth window is test = on_tests (is_shorter without row.pair) refl test
         where
-          passed : (o : Option Row) → IsFirstFrom n q (next_moment without row.pair) o → is_later o row.pair.arrive ≡ false → ⊥
+          passed : (o : Option Row) → IsFirstRowFrom n q (next_moment without row.pair) o → is_later_row o row.pair.arrive ≡ false → ⊥
           passed None none early = absurd cc
           passed (Some o) some early =
               let le = ltb-false row.pair.arrive o.pair.arrive early in
@@ -143,13 +143,13 @@ module _ (n : NetworkLists) (q : Asked) (without : Option ℕ) where
               let same = ap (λ (p : Pair). p.depart) (is.undominated.alone o.pair (o.journey, some.is_row.ridden) (omega arith) le) in
               absurd (omega arith)
 
-          on_tests : (b : Bool) → is_shorter without row.pair ≡ b → (b && is_later next row.pair.arrive) ≡ false → ⊥
+          on_tests : (b : Bool) → is_shorter without row.pair ≡ b → (b && is_later_row next row.pair.arrive) ≡ false → ⊥
           on_tests true shorter early = passed next found early
           on_tests false longer early = takes_no_less without row.pair first.rises longer is.shorter
 
   -- ---- the list
 
-  pub starts : (window : ℕ) (best : Option Row) → IsFirstFrom n q q.depart best → IsListing n q without window [] best
+  pub starts : (window : ℕ) (best : Option Row) → IsFirstRowFrom n q q.depart best → IsListing n q without window [] best
   starts window best found = record {
     span = 0;
     within = omega arith;
@@ -162,7 +162,7 @@ module _ (n : NetworkLists) (q : Asked) (without : Option ℕ) where
       right = All-nil (IsRow n q);
     };
     printable = All-nil (IsPrintableRow n);
-    found = (let same : q.depart ≡ q.depart + 0 = omega arith in subst (λ t. IsFirstFrom n q t best) same found);
+    found = (let same : q.depart ≡ q.depart + 0 = omega arith in subst (λ t. IsFirstRowFrom n q t best) same found);
   }
 
   pub ends : (window : ℕ) (rows : List Row) → IsListing n q without window rows None → AreRows n q without window rows
@@ -171,7 +171,7 @@ module _ (n : NetworkLists) (q : Asked) (without : Option ℕ) where
   pub closes : (window : ℕ) (rows : List Row) (row : Row) → IsListing n q without window rows (Some row) → q.depart + window < next_moment without row.pair → AreRows n q without window rows
   closes window rows row so_far past = widened so_far.span window rows so_far.are so_far.within none
     where
-      first : IsFirst n q (q.depart + so_far.span) row
+      first : IsFirstRow n q (q.depart + so_far.span) row
       first = so_far.found
 
       none : (p : Pair) → IsListed n q without window p → q.depart + so_far.span ≤ p.depart → ⊥
@@ -185,10 +185,10 @@ module _ (n : NetworkLists) (q : Asked) (without : Option ℕ) where
           not_past (Some c) shorter after within = absurd (omega arith)
 
   pub goes_on : (window : ℕ) (rows : List Row) (row : Row) → IsListing n q without window rows (Some row) → next_moment without row.pair ≤ q.depart + window
-      → (next : Option Row) → IsFirstFrom n q (next_moment without row.pair) next → IsListing n q without window (kept without next row rows) next
-  goes_on window rows row so_far in_window next found = on_test (is_shorter without row.pair && is_later next row.pair.arrive) refl
+      → (next : Option Row) → IsFirstRowFrom n q (next_moment without row.pair) next → IsListing n q without window (with_departure without next row rows) next
+  goes_on window rows row so_far in_window next found = on_test (is_shorter without row.pair && is_later_row next row.pair.arrive) refl
     where
-      first : IsFirst n q (q.depart + so_far.span) row
+      first : IsFirstRow n q (q.depart + so_far.span) row
       first = so_far.found
 
       rises : q.depart + (next_moment without row.pair - q.depart) ≡ next_moment without row.pair
@@ -211,12 +211,12 @@ module _ (n : NetworkLists) (q : Asked) (without : Option ℕ) where
             within = omega arith;
             are = are;
             printable = printable;
-            found = subst (λ t. IsFirstFrom n q t next) (sym rises) found;
+            found = subst (λ t. IsFirstRowFrom n q t next) (sym rises) found;
           }
 
-      on_test : (b : Bool) → (is_shorter without row.pair && is_later next row.pair.arrive) ≡ b → IsListing n q without window (cond b (rows ++ row ∷ []) rows) next
+      on_test : (b : Bool) → (is_shorter without row.pair && is_later_row next row.pair.arrive) ≡ b → IsListing n q without window (cond b (rows ++ row ∷ []) rows) next
       on_test true e =
-          let tests = both (is_shorter without row.pair) (is_later next row.pair.arrive) e in
+          let tests = both (is_shorter without row.pair) (is_later_row next row.pair.arrive) e in
           let at = rises in
           let after = after_departure without row.pair in
           let listed = worth (q.depart + so_far.span) row first next found (next_moment without row.pair - q.depart) (omega arith) tests.0 tests.1 in
@@ -231,7 +231,7 @@ module _ (n : NetworkLists) (q : Asked) (without : Option ℕ) where
           so_far.printable
 
   -- less of the window is left
-  pub left_less : (closes : ℕ) (row : Row) → next_moment without row.pair ≤ closes → (next : Option Row) → IsFirstFrom n q (next_moment without row.pair) next
+  pub left_less : (closes : ℕ) (row : Row) → next_moment without row.pair ≤ closes → (next : Option Row) → IsFirstRowFrom n q (next_moment without row.pair) next
       → left_of closes next < left_of closes (Some row)
   left_less closes row in_window None none = let after = after_departure without row.pair in omega arith
   left_less closes row in_window (Some o) some = let after = after_departure without row.pair in let late = some.late in omega arith

@@ -18,7 +18,7 @@ use Rattle.unpack.specs.Unpacking.{IsSoon}
 use Rattle.few_boardings.specs.Boardings.{is_ride}
 use Rattle.few_boardings.proofs.RideLemmas.{rides_more}
 use Rattle.departures.specs.Departures.{SetsOff}
-use Rattle.departures.specs.SettingOff.{with_step, unwaited, waiting, MayLeaveLater}
+use Rattle.departures.specs.SettingOff.{with_step_unless_wait, unwaited, waiting, MayLeaveLater}
 
 -- ---- what the steps are
 
@@ -66,7 +66,7 @@ rest_of false steps = unwaited steps
 
 -- what is kept and what is left stay the same
 pub kept_more : (ridden : Bool) (step : Step) (steps kept : List Step)
-    → with_step ridden step kept ++ rest_of (ridden || is_ride step) steps ≡ kept ++ rest_of ridden (step ∷ steps)
+    → with_step_unless_wait ridden step kept ++ rest_of (ridden || is_ride step) steps ≡ kept ++ rest_of ridden (step ∷ steps)
 kept_more true step steps kept = append_assoc kept (step ∷ []) steps
 kept_more false (Wait until) steps kept = refl
 kept_more false (Road to) steps kept = append_assoc kept (Road to ∷ []) (unwaited steps)

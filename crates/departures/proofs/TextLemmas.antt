@@ -6,32 +6,32 @@ use Rattle.plain_texts.specs.Lines.{with_feed}
 use Rattle.mode_network.specs.NetworkLists.{NetworkLists}
 use Rattle.journey.specs.Best.{Asked, Asks}
 use Rattle.journey.specs.Blocks.{AddsText, IsFramed}
-use Rattle.latest_departure.specs.Blocks.{IsLateText}
+use Rattle.latest_departure.specs.Blocks.{IsLateJourneyText}
 use Rattle.departures.specs.declared.row.Row.{Row}
 use Rattle.departures.specs.Departures.{IsWithout, AreRows}
-use Rattle.departures.specs.Blocks.{AreTold, without_line, IsProfileText, IsProfileBlock}
+use Rattle.departures.specs.Blocks.{AreRowsTold, without_line, IsProfileText, IsProfileBlock}
 
 module _ (n : NetworkLists) where
   -- one row more
-  told_more : (rows : List Row) (row : Row) (text more : List ℕ) → AreTold n rows text → AreTold n (row ∷ []) more → AreTold n (rows ++ row ∷ []) (text ++ more)
-  told_more [] row text more none told = subst (λ (t : List ℕ). AreTold n (row ∷ []) (t ++ more)) (sym none) told
+  told_more : (rows : List Row) (row : Row) (text more : List ℕ) → AreRowsTold n rows text → AreRowsTold n (row ∷ []) more → AreRowsTold n (rows ++ row ∷ []) (text ++ more)
+  told_more [] row text more none told = subst (λ (t : List ℕ). AreRowsTold n (row ∷ []) (t ++ more)) (sym none) told
   told_more (first ∷ rows) row text more (own, rest, is, others, e) told =
       (own, rest ++ more, is, told_more rows row rest more others told, ap (λ (t : List ℕ). t ++ more) e ∙ append_assoc own rest more)
 
-  pub nothing_told : (old : List ℕ) → AddsText (AreTold n []) old old
+  pub nothing_told : (old : List ℕ) → AddsText (AreRowsTold n []) old old
   nothing_told old = record { text = []; is = refl; added = sym (append-nil old) }
 
   pub pushed : (rows : List Row) (i : ℕ) (row : Row) (start old new : List ℕ) → i < length rows → row ≡ get_or rows i row
-      → AddsText (AreTold n (take i rows)) start old → AddsText (AreTold n (row ∷ [])) old new → AddsText (AreTold n (take (i + 1) rows)) start new
+      → AddsText (AreRowsTold n (take i rows)) start old → AddsText (AreRowsTold n (row ∷ [])) old new → AddsText (AreRowsTold n (take (i + 1) rows)) start new
   pushed rows i row start old new within is before after = record {
     text = before.text ++ after.text;
-    is = subst (λ (rs : List Row). AreTold n rs (before.text ++ after.text)) (sym (take_more rows i row within ∙ ap (λ (r : Row). take i rows ++ r ∷ []) (sym is)))
+    is = subst (λ (rs : List Row). AreRowsTold n rs (before.text ++ after.text)) (sym (take_more rows i row within ∙ ap (λ (r : Row). take i rows ++ r ∷ []) (sym is)))
         (told_more (take i rows) row before.text after.text before.is after.is);
     added = after.added ∙ ap (λ (t : List ℕ). t ++ after.text) before.added ∙ append_assoc start before.text after.text;
   }
 
   -- one row
-  pub row_told : (row : Row) (old new : List ℕ) → AddsText (IsLateText n row.journey) old new → AddsText (AreTold n (row ∷ [])) old new
+  pub row_told : (row : Row) (old new : List ℕ) → AddsText (IsLateJourneyText n row.journey) old new → AddsText (AreRowsTold n (row ∷ [])) old new
   row_told row old new late = record {
     text = late.text ++ [];
     is = (late.text, [], late.is, refl, refl);
@@ -39,18 +39,18 @@ module _ (n : NetworkLists) where
   }
 
   -- the rows behind the line `without`, those of a block without it, and where there are none
-  pub after_line : (c : ℕ) (rows : List Row) (old now new : List ℕ) → now ≡ old ++ without_line c → AddsText (AreTold n rows) now new → AddsText (IsProfileText n (Some c) rows) old new
+  pub after_line : (c : ℕ) (rows : List Row) (old now new : List ℕ) → now ≡ old ++ without_line c → AddsText (AreRowsTold n rows) now new → AddsText (IsProfileText n (Some c) rows) old new
   after_line c rows old now new line told = record {
     text = without_line c ++ told.text;
     is = record { text = told.text; is = told.is; added = refl };
     added = told.added ∙ ap (λ (t : List ℕ). t ++ told.text) line ∙ append_assoc old (without_line c) told.text;
   }
 
-  pub rows_alone : (rows : List Row) (old new : List ℕ) → 0 < length rows → AddsText (AreTold n rows) old new → AddsText (IsProfileText n None rows) old new
+  pub rows_alone : (rows : List Row) (old new : List ℕ) → 0 < length rows → AddsText (AreRowsTold n rows) old new → AddsText (IsProfileText n None rows) old new
   rows_alone [] old new some told = absurd (omega arith)
   rows_alone (row ∷ rows) old new some told = record { text = told.text; is = told.is; added = told.added }
 
-  pub none_at_all : (rows : List Row) (old now new : List ℕ) → length rows ≡ 0 → now ≡ old ++ with_feed (codes "no journey") → AddsText (AreTold n rows) now new
+  pub none_at_all : (rows : List Row) (old now new : List ℕ) → length rows ≡ 0 → now ≡ old ++ with_feed (codes "no journey") → AddsText (AreRowsTold n rows) now new
       → AddsText (IsProfileText n None rows) old new
   none_at_all [] old now new none line told = record {
     text = with_feed (codes "no journey");

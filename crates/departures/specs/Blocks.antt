@@ -5,14 +5,14 @@ use Rattle.plain_texts.specs.Lines.{with_feed}
 use Rattle.mode_network.specs.NetworkLists.{NetworkLists}
 use Rattle.journey.specs.Best.{Asked, IsRightBlock}
 use Rattle.journey.specs.Blocks.{AddsText}
-use Rattle.latest_departure.specs.Blocks.{IsLateText}
+use Rattle.latest_departure.specs.Blocks.{IsLateJourneyText}
 use Rattle.departures.specs.declared.row.Row.{Row}
 use Rattle.departures.specs.Departures.{IsWithout, AreRows}
 
 -- of each row the line `depart`, and what any block prints of its journey
-abbrev pub AreTold : NetworkLists → List Row → List ℕ → Type 0
-AreTold n [] text = text ≡ []
-AreTold n (row ∷ rows) text = (own : List ℕ) × (rest : List ℕ) × IsLateText n row.journey own × AreTold n rows rest × (text ≡ own ++ rest)
+abbrev pub AreRowsTold : NetworkLists → List Row → List ℕ → Type 0
+AreRowsTold n [] text = text ≡ []
+AreRowsTold n (row ∷ rows) text = (own : List ℕ) × (rest : List ℕ) × IsLateJourneyText n row.journey own × AreRowsTold n rows rest × (text ≡ own ++ rest)
 
 -- the line `without`: how many milliseconds it takes without a ride
 abbrev pub without_line : ℕ → List ℕ
@@ -21,8 +21,8 @@ without_line c = with_feed (codes "without " ++ decimal c)
 -- the body of a block: the line `without` where one can do without a ride, and the rows; the line `no journey` where there is neither
 abbrev pub IsProfileText : NetworkLists → Option ℕ → List Row → List ℕ → Type 0
 IsProfileText n None [] text = text ≡ with_feed (codes "no journey")
-IsProfileText n None (row ∷ rows) text = AreTold n (row ∷ rows) text
-IsProfileText n (Some c) rows text = AddsText (AreTold n rows) (without_line c) text
+IsProfileText n None (row ∷ rows) text = AreRowsTold n (row ∷ rows) text
+IsProfileText n (Some c) rows text = AddsText (AreRowsTold n rows) (without_line c) text
 
 -- the departures of the window that are worth listing, for what is asked; the window is in milliseconds
 pub record AreDeparturesTold (n : NetworkLists) (window : ℕ) (q : Asked) (text : List ℕ) : Type 0 where

@@ -14,10 +14,10 @@ is_shorter None p = true
 is_shorter (Some c) p = nat_lt (p.arrive - p.depart) c
 
 -- the row arrives later than t, or there is none
-abbrev pub is_later : Option Row → ℕ → Bool
-is_later None t = true
-is_later (Some row) t = nat_lt t row.pair.arrive
+abbrev pub is_later_row : Option Row → ℕ → Bool
+is_later_row None t = true
+is_later_row (Some row) t = nat_lt t row.pair.arrive
 
 -- the rows with one more, if it takes less time than without a ride, and the next one arrives later
-abbrev pub kept : Option ℕ → Option Row → Row → List Row → List Row
-kept without next row rows = if is_shorter without row.pair && is_later next row.pair.arrive then rows ++ row ∷ [] else rows
+abbrev pub with_departure : Option ℕ → Option Row → Row → List Row → List Row
+with_departure without next row rows = if is_shorter without row.pair && is_later_row next row.pair.arrive then rows ++ row ∷ [] else rows

@@ -29,21 +29,21 @@ ReadsRides form l = (word : List ℕ) → Accepts l word ↔ (IsWordOf form (col
 abbrev pub asked_of : RideSearch → Asked
 asked_of s = asked_by s.query.now
 
-abbrev pub network_of : RideSearch → NetworkLists
-network_of s = s.plain.network.now
+abbrev pub searched_network : RideSearch → NetworkLists
+searched_network s = s.plain.network.now
 
 -- what the automaton of a search answers
-abbrev pub labels_of : RideSearch → LabelsMeaning
-labels_of s = counted (collapsed (position_meaning s.machine.labels.inner.inner)) s.machine.labels.side s.machine.labels.limit
+abbrev pub search_labels : RideSearch → LabelsMeaning
+search_labels s = counted (collapsed (position_meaning s.machine.labels.inner.inner)) s.machine.labels.side s.machine.labels.limit
 
 -- a search for what its query asks
 pub record IsRideSearch (s : RideSearch) : Type 0 where
-  pub reads : ReadsRides (asked_of s).form (labels_of s)
-  pub none : s.reads_transit ≡ false → (word : List ℕ) → Accepts (labels_of s) word → ⊥
-  pub journeys : JourneysAreWalks (network_of s) s.plain.timetable.now
-  pub origin : AreTheCopies (network_of s) (asked_of s).from s.origins.items
-  pub destination : AreTheCopies (network_of s) (asked_of s).to s.destinations.items
-  pub start_nodes : All (λ v. v < length (nodes_of (network_of s))) s.origins.items
+  pub reads : ReadsRides (asked_of s).form (search_labels s)
+  pub none : s.reads_transit ≡ false → (word : List ℕ) → Accepts (search_labels s) word → ⊥
+  pub journeys : JourneysAreWalks (searched_network s) s.plain.timetable.now
+  pub origin : AreTheCopies (searched_network s) (asked_of s).from s.origins.items
+  pub destination : AreTheCopies (searched_network s) (asked_of s).to s.destinations.items
+  pub start_nodes : All (λ v. v < length (nodes_of (searched_network s))) s.origins.items
 
 -- the row has this arrival and the journey of the walk, which sets off as late as it may
 pub record IsRowFor (n : NetworkLists) (table : TableLists) (arrival : ℕ) (walk : Walk) (row : Row) : Type 0 where
@@ -54,18 +54,18 @@ pub record IsRowFor (n : NetworkLists) (table : TableLists) (arrival : ℕ) (wal
   pub arrives : row.pair.arrive ≡ arrival
 
 -- the row of a walk with its arrival, if both are there
-abbrev pub IsUnpacked : NetworkLists → TableLists → Option ℕ → Option Walk → Option Row → Type 0
-IsUnpacked n table (Some arrival) (Some walk) (Some row) = IsRowFor n table arrival walk row
-IsUnpacked n table (Some arrival) (Some walk) None = ⊥
-IsUnpacked n table (Some arrival) None row = row ≡ None
-IsUnpacked n table None walk row = row ≡ None
+abbrev pub IsRowUnpacked : NetworkLists → TableLists → Option ℕ → Option Walk → Option Row → Type 0
+IsRowUnpacked n table (Some arrival) (Some walk) (Some row) = IsRowFor n table arrival walk row
+IsRowUnpacked n table (Some arrival) (Some walk) None = ⊥
+IsRowUnpacked n table (Some arrival) None row = row ≡ None
+IsRowUnpacked n table None walk row = row ≡ None
 
 -- the journey of a row can be printed
 abbrev pub IsPrintableRow : NetworkLists → Row → Type 0
 IsPrintableRow n row = IsPrintable n row.journey
 
 -- the row departs at t or later, and arrives as early as any pair that does
-pub record IsFirst (n : NetworkLists) (q : Asked) (t : ℕ) (row : Row) : Type 0 where
+pub record IsFirstRow (n : NetworkLists) (q : Asked) (t : ℕ) (row : Row) : Type 0 where
   pub is_row : IsRow n q row
   pub late : t ≤ row.pair.depart
   pub least : (p : Pair) → IsPair n q p → t ≤ p.depart → row.pair.arrive ≤ p.arrive
@@ -74,9 +74,9 @@ pub record IsFirst (n : NetworkLists) (q : Asked) (t : ℕ) (row : Row) : Type 0
   pub printable : IsPrintableRow n row
 
 -- there is such a row; or no pair departs at t or later
-abbrev pub IsFirstFrom : NetworkLists → Asked → ℕ → Option Row → Type 0
-IsFirstFrom n q t None = (p : Pair) → IsPair n q p → t ≤ p.depart → ⊥
-IsFirstFrom n q t (Some row) = IsFirst n q t row
+abbrev pub IsFirstRowFrom : NetworkLists → Asked → ℕ → Option Row → Type 0
+IsFirstRowFrom n q t None = (p : Pair) → IsPair n q p → t ≤ p.depart → ⊥
+IsFirstRowFrom n q t (Some row) = IsFirstRow n q t row
 
 -- each journey with a ride takes so long or longer, whenever it leaves
 abbrev pub NoneTakesLess : NetworkLists → Asked → ℕ → Type 0

@@ -15,8 +15,8 @@ is_wait Stand = false
 is_wait (Ride trip day board alight) = false
 
 -- the steps with one more, unless that is a wait before the first ride
-abbrev pub with_step : Bool → Step → List Step → List Step
-with_step ridden step steps = if ridden || not (is_wait step) then steps ++ step ∷ [] else steps
+abbrev pub with_step_unless_wait : Bool → Step → List Step → List Step
+with_step_unless_wait ridden step steps = if ridden || not (is_wait step) then steps ++ step ∷ [] else steps
 
 -- the steps without the waits that stand before their first ride
 abbrev pub unwaited : List Step → List Step

@@ -19,13 +19,13 @@ abbrev pub AreShortened : List Stretch → List Stretch → Type 0
 AreShortened old new = (k : ℕ) → ((stretch_at new k).ride ≤ (stretch_at old k).ride) × ((stretch_at new k).pass ≤ (stretch_at old k).pass)
 
 -- the stretch at a place is no longer than between the calls there
-abbrev pub IsWithin : List Call → List Stretch → ℕ → Type 0
-IsWithin calls stretches k =
+abbrev pub FitsBetweenCalls : List Call → List Stretch → ℕ → Type 0
+FitsBetweenCalls calls stretches k =
     ((stretch_at stretches k).ride ≤ (slice_index_or calls (k + 1) no_call).arr - (slice_index_or calls k no_call).dep)
     × ((stretch_at stretches k).pass ≤ (slice_index_or calls (k + 1) no_call).arr - (slice_index_or calls k no_call).arr)
 
-abbrev pub AreWithin : List Call → List Stretch → Type 0
-AreWithin calls stretches = (k : ℕ) → k + 1 < length calls → IsWithin calls stretches k
+abbrev pub FitBetweenCalls : List Call → List Stretch → Type 0
+FitBetweenCalls calls stretches = (k : ℕ) → k + 1 < length calls → FitsBetweenCalls calls stretches k
 
 -- the calls of a run that arrives at the first of them then, and takes so long from each to the next
 abbrev pub calls_from : ℕ → List Stretch → List FastestCall

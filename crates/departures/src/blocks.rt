@@ -6,8 +6,8 @@ ghost use Rattle.mode_expression.specs.Form.{form_of, IsUsable};
 ghost use Rattle.service_days.specs.Clock.{clock_text_of};
 ghost use Rattle.journey.specs.Blocks.{AddsText, IsFramed, IsPrintable};
 ghost use Rattle.journey.specs.Queries.{IsQuery};
-ghost use Rattle.latest_departure.specs.Blocks.{IsLateText};
-ghost use Rattle.departures.specs.Blocks.{AreTold, without_line, IsProfileText, IsProfileBlock};
+ghost use Rattle.latest_departure.specs.Blocks.{IsLateJourneyText};
+ghost use Rattle.departures.specs.Blocks.{AreRowsTold, without_line, IsProfileText, IsProfileBlock};
 ghost use Rattle.departures.specs.Searching.{IsPrintableRow};
 
 use crate::least::LeastTimes;
@@ -48,7 +48,7 @@ fn push_timed(
     journey: &Journey,
 ) -> Result<(), AllocError>
     requires { IsPrintable network.now journey.now }
-    ensures { OnOk result (AddsText (IsLateText network.now journey.now) out.old.items out.new.items) }
+    ensures { OnOk result (AddsText (IsLateJourneyText network.now journey.now) out.old.items out.new.items) }
 {
     push_departure(out, network, journey.at)?;
     push_journey(alloc, out, network, journey)?;
@@ -63,7 +63,7 @@ fn push_row(
     row: &Row,
 ) -> Result<(), AllocError>
     requires { IsPrintableRow network.now row.now }
-    ensures { OnOk result (AddsText (AreTold network.now (row.now ∷ [])) out.old.items out.new.items) }
+    ensures { OnOk result (AddsText (AreRowsTold network.now (row.now ∷ [])) out.old.items out.new.items) }
 {
     push_timed(alloc, out, network, &row.journey)?;
     Ok(())
@@ -77,7 +77,7 @@ fn push_rows(
     rows: &[Row],
 ) -> Result<(), AllocError>
     requires { All (IsPrintableRow network.now) rows.now }
-    ensures { OnOk result (AddsText (AreTold network.now rows.now) out.old.items out.new.items) }
+    ensures { OnOk result (AddsText (AreRowsTold network.now rows.now) out.old.items out.new.items) }
 {
     for row in rows {
         push_row(alloc, out, network, row)?;
@@ -113,7 +113,8 @@ fn push_body(
     rows: &[Row],
 ) -> Result<(), AllocError>
     requires { All (IsPrintableRow network.now) rows.now }
-    ensures { OnOk result (AddsText (IsProfileText network.now without rows.now) out.old.items out.new.items) }
+    ensures { OnOk result (AddsText (IsProfileText network.now without rows.now) out.old.items
+        out.new.items) }
 {
     match without {
         Some(c) => {
@@ -134,7 +135,8 @@ fn rows_block(
     rows: &[Row],
 ) -> Result<Vec<u8>, AllocError>
     requires { All (IsPrintableRow network.now) rows.now }
-    ensures { IfOk result (λ block. IsFramed (IsProfileText network.now without rows.now) line.now block.items) }
+    ensures { IfOk result (λ block. IsFramed (IsProfileText network.now without rows.now) line.now
+        block.items) }
 {
     let mut text = Vec::new(alloc);
     push_body(alloc, &mut text, network, without, rows)?;
@@ -151,7 +153,8 @@ fn query_block(
     query: &Query,
     window: u32,
 ) -> Result<Vec<u8>, AllocError>
-    requires asks { IsQuery least.now.plain.network.now line.now query.now.from query.now.to query.now.depart (form_of query.now.expr) }
+    requires asks { IsQuery least.now.plain.network.now line.now query.now.from query.now.to query.now.depart
+        (form_of query.now.expr) }
     requires line { query.now.line ≡ line.now }
     requires usable { IsUsable (form_of query.now.expr) }
     ensures { IfOk result (λ block. IsProfileBlock least.now.plain.network.now window line.now block.items) }

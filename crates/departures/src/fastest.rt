@@ -4,7 +4,7 @@ ghost use Rattle.std.specs.Prelude.{◌≡◌, ◌<◌, ◌-◌, ◌*◌, ◌^�
 ghost use Rattle.timetable_arcs.specs.declared.trips.Instance.{Instance};
 ghost use Rattle.timetable_arcs.specs.Patterns.{IsIn, trip_at};
 ghost use Rattle.departures.specs.Fastest.{NoneIsFaster, fastest_call};
-ghost use Rattle.departures.specs.Stretches.{stretch_at, shortened, AreShortened, AreWithin, calls_from};
+ghost use Rattle.departures.specs.Stretches.{stretch_at, shortened, AreShortened, FitBetweenCalls, calls_from};
 
 use std::alloc::{AllocError, Global};
 use std::marker::Model;
@@ -53,7 +53,7 @@ fn shortened(stretch: Stretch, from: Call, to: Call) -> Stretch
 /// Makes stretches no longer than those of a run with these calls.
 fn shorten(stretches: &mut [Stretch], calls: &[Call])
     ensures shorter { AreShortened stretches.old stretches.new }
-    ensures within { AreWithin calls.now stretches.new }
+    ensures within { FitBetweenCalls calls.now stretches.new }
 {
     for k in 0..stretches.len() {
         if k + 1 < calls.len() {
@@ -70,7 +70,7 @@ fn stretches_of(
 ) -> Result<Vec<Stretch>, AllocError>
     requires { pattern < length timetable.now.patterns }
     ensures { IfOk result (λ stretches. (run : Instance) → IsIn timetable.now pattern run
-        → AreWithin (trip_at timetable.now run.trip).calls stretches.items) }
+        → FitBetweenCalls (trip_at timetable.now run.trip).calls stretches.items) }
 {
     timetable.known();
     let longest = Stretch {

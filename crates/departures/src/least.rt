@@ -73,7 +73,8 @@ impl<'a> LeastTimes<'a> {
     /// Where a ride leads, and its letter.
     fn ride_arc(&self, ride: Ride) -> GraphArc
         requires { IsRideOf self.now.plain.timetable.now ride }
-        ensures { result ≡ graph_arc self.now.plain.network.now self.now.plain.timetable.now 0 (plain_arcs.Ride ride) }
+        ensures { result ≡ graph_arc self.now.plain.network.now self.now.plain.timetable.now 0
+            (plain_arcs.Ride ride) }
     {
         let timetable = self.plain.timetable();
         let stop = timetable.pattern_calls(ride.pattern)[ride.alight as usize].stop;
@@ -89,8 +90,10 @@ impl<'a> LeastTimes<'a> {
         requires ride { IsKnownRide self.now.plain.timetable.now arc }
         requires time { t < 2 ^ 127 }
         ensures place { result.place ≡ place }
-        ensures arc { result.arc ≡ (least_meaning self.now.plain.network.now self.now.plain.timetable.now self.now.runs.items).arc_at v place }
-        ensures arrives { Some result.at ≡ (least_meaning self.now.plain.network.now self.now.plain.timetable.now self.now.runs.items).arrive v place t }
+        ensures arc { result.arc ≡ (least_meaning self.now.plain.network.now self.now.plain.timetable.now
+            self.now.runs.items).arc_at v place }
+        ensures arrives { Some result.at ≡ (least_meaning self.now.plain.network.now
+            self.now.plain.timetable.now self.now.runs.items).arrive v place t }
     {
         let mode = self.plain.network().mode(v);
         let (to, letter, at) = match arc {
@@ -119,15 +122,19 @@ impl<'a> LeastTimes<'a> {
         letters: u32,
         ways: &mut Vec<Way>,
     ) -> Result<(), AllocError>
-        requires node { v < (least_meaning self.now.plain.network.now self.now.plain.timetable.now self.now.runs.items).nodes }
+        requires node { v < (least_meaning self.now.plain.network.now self.now.plain.timetable.now
+            self.now.runs.items).nodes }
         requires some { first < past }
-        requires within { past ≤ (least_meaning self.now.plain.network.now self.now.plain.timetable.now self.now.runs.items).arcs v }
+        requires within { past ≤ (least_meaning self.now.plain.network.now self.now.plain.timetable.now
+            self.now.runs.items).arcs v }
         requires time { t < 2 ^ 127 }
-        requires alike { (k : ℕ) → first ≤ k → k < past
-            → ((least_meaning self.now.plain.network.now self.now.plain.timetable.now self.now.runs.items).arc_at v k).letter
-            ≡ ((least_meaning self.now.plain.network.now self.now.plain.timetable.now self.now.runs.items).arc_at v first).letter }
-        ensures { OnOk result (ways.new.items ≡ ways.old.items
-            ++ ways_from (least_meaning self.now.plain.network.now self.now.plain.timetable.now self.now.runs.items) v t letters first (past - first)) }
+        requires alike { (k : ℕ) → first ≤ k → k < past → ((least_meaning self.now.plain.network.now
+            self.now.plain.timetable.now self.now.runs.items).arc_at v k).letter
+            ≡ ((least_meaning self.now.plain.network.now self.now.plain.timetable.now
+            self.now.runs.items).arc_at v first).letter }
+        ensures { OnOk result (ways.new.items ≡ ways.old.items ++ ways_from
+            (least_meaning self.now.plain.network.now self.now.plain.timetable.now self.now.runs.items) v t
+            letters first (past - first)) }
     {
         if is_open(letters, self.plain.arc_at(v, first).letter) {
             let mut place = first;
@@ -148,9 +155,11 @@ impl<'a> LeastTimes<'a> {
         t: Time,
         ways: &mut Vec<Way>,
     ) -> Result<u64, AllocError>
-        requires node { v < (least_meaning self.now.plain.network.now self.now.plain.timetable.now self.now.runs.items).nodes }
+        requires node { v < (least_meaning self.now.plain.network.now self.now.plain.timetable.now
+            self.now.runs.items).nodes }
         requires some { place < past }
-        requires within { past ≤ (least_meaning self.now.plain.network.now self.now.plain.timetable.now self.now.runs.items).arcs v }
+        requires within { past ≤ (least_meaning self.now.plain.network.now self.now.plain.timetable.now
+            self.now.runs.items).arcs v }
         requires time { t < 2 ^ 127 }
         ensures later { IfOk result (λ next. place < next) }
         ensures within { IfOk result (λ next. next ≤ past) }

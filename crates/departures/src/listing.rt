@@ -5,8 +5,8 @@ ghost use Rattle.journey.specs.Best.{asked_by};
 ghost use Rattle.journey.specs.Queries.{IsQuery};
 ghost use Rattle.mode_expression.specs.Form.{form_of, IsUsable};
 ghost use Rattle.departures.specs.Departures.{IsWithout, AreRows};
-ghost use Rattle.departures.specs.Listing.{next_moment, is_shorter, is_later, kept};
-ghost use Rattle.departures.specs.Searching.{network_of, asked_of, IsRideSearch, IsPrintableRow};
+ghost use Rattle.departures.specs.Listing.{next_moment, is_shorter, is_later_row, with_departure};
+ghost use Rattle.departures.specs.Searching.{searched_network, asked_of, IsRideSearch, IsPrintableRow};
 
 use crate::least::LeastTimes;
 use crate::row::{Pair, Row};
@@ -25,7 +25,8 @@ pub(crate) fn without_ride(
     network: &Network,
     query: &Query,
 ) -> Result<Option<Time>, AllocError>
-    requires asks { IsQuery network.now query.now.line query.now.from query.now.to query.now.depart (form_of query.now.expr) }
+    requires asks { IsQuery network.now query.now.line query.now.from query.now.to query.now.depart
+        (form_of query.now.expr) }
     requires usable { IsUsable (form_of query.now.expr) }
     requires soon { query.now.depart < 2 ^ 64 }
     ensures { IfOk result (IsWithout network.now (asked_by query.now)) }
@@ -62,7 +63,7 @@ fn is_shorter(without: Option<Time>, pair: Pair) -> bool
 
 /// Whether a row arrives later than `t`, or there is none.
 fn is_later(next: &Option<Row>, t: Time) -> bool
-    ensures { result ≡ is_later next.now t }
+    ensures { result ≡ is_later_row next.now t }
 {
     match next {
         Some(row) => t < row.pair.arrive,
@@ -78,7 +79,7 @@ fn keep(
     without: Option<Time>,
 ) -> Result<(), AllocError>
     requires { row.pair.depart ≤ row.pair.arrive }
-    ensures { OnOk result (rows.new.items ≡ kept without next.now row rows.old.items) }
+    ensures { OnOk result (rows.new.items ≡ with_departure without next.now row rows.old.items) }
 {
     if is_shorter(without, row.pair) && is_later(next, row.pair.arrive) {
         rows.push(row)?;
@@ -99,8 +100,9 @@ fn departures(
 ) -> Result<Vec<Row>, AllocError>
     requires search { IsRideSearch search.now }
     requires soon { search.now.query.now.depart < 2 ^ 63 }
-    ensures rows { IfOk result (λ rows. AreRows (network_of search.now) (asked_of search.now) without window rows.items) }
-    ensures printable { IfOk result (λ rows. All (IsPrintableRow (network_of search.now)) rows.items) }
+    ensures rows { IfOk result (λ rows. AreRows (searched_network search.now) (asked_of search.now) without
+        window rows.items) }
+    ensures printable { IfOk result (λ rows. All (IsPrintableRow (searched_network search.now)) rows.items) }
 {
     let opens = search.query.depart;
     let closes = opens + Time::from(window);
@@ -128,10 +130,11 @@ pub(crate) fn departures_worth(
     window: u32,
 ) -> Result<Vec<Row>, AllocError>
     requires search { IsRideSearch search.now }
-    requires same { least.now.plain.network.now ≡ network_of search.now }
+    requires same { least.now.plain.network.now ≡ searched_network search.now }
     requires soon { search.now.query.now.depart < 2 ^ 63 }
-    ensures rows { IfOk result (λ rows. AreRows (network_of search.now) (asked_of search.now) without window rows.items) }
-    ensures printable { IfOk result (λ rows. All (IsPrintableRow (network_of search.now)) rows.items) }
+    ensures rows { IfOk result (λ rows. AreRows (searched_network search.now) (asked_of search.now) without
+        window rows.items) }
+    ensures printable { IfOk result (λ rows. All (IsPrintableRow (searched_network search.now)) rows.items) }
 {
     if let Some(c) = without {
         if !search.may_take_less(alloc, workspace, least, c)? {

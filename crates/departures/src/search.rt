@@ -3,7 +3,7 @@
 ghost use Rattle.std.specs.Prelude.{◌≡◌, ◌<◌, ◌≤◌, ◌^◌, IfOk, IfSome};
 ghost use Rattle.mode_expression.specs.Form.{form_of, IsUsable};
 ghost use Rattle.unpack.specs.Taken.{IsPlainWalk};
-ghost use Rattle.departures.specs.Searching.{IsUnpacked};
+ghost use Rattle.departures.specs.Searching.{IsRowUnpacked};
 
 use crate::least::LeastTimes;
 use crate::row::{Pair, Row};
@@ -41,7 +41,7 @@ fn unpacked(
 ) -> Result<Option<Row>, AllocError>
     requires walk { IsPlainWalk plain.now.network.now plain.now.timetable.now walk.now }
     requires soon { IfSome walk.now (λ w. w.at < 2 ^ 64) }
-    ensures { IfOk result (IsUnpacked plain.now.network.now plain.now.timetable.now arrival walk.now) }
+    ensures { IfOk result (IsRowUnpacked plain.now.network.now plain.now.timetable.now arrival walk.now) }
 {
     match (arrival, walk) {
         (Some(arrive), Some(walk)) => {
@@ -59,7 +59,7 @@ fn unpacked(
 
 impl<'a> RideSearch<'a> {
     ghost use Rattle.std.specs.Prelude.{false};
-    ghost use Rattle.departures.specs.Searching.{network_of, asked_of, IsRideSearch, IsFirstFrom, NoneTakesLess};
+    ghost use Rattle.departures.specs.Searching.{searched_network, asked_of, IsRideSearch, IsFirstRowFrom, NoneTakesLess};
 
     /// The search for what a query asks.
     pub fn new(
@@ -100,7 +100,7 @@ impl<'a> RideSearch<'a> {
         requires search { IsRideSearch self.now }
         requires late { self.now.query.now.depart ≤ at }
         requires soon { at < 2 ^ 64 }
-        ensures { IfOk result (IsFirstFrom (network_of self.now) (asked_of self.now) at) }
+        ensures { IfOk result (IsFirstRowFrom (searched_network self.now) (asked_of self.now) at) }
     {
         if !self.reads_transit {
             return Ok(None);
@@ -130,9 +130,10 @@ impl<'a> RideSearch<'a> {
         c: Time,
     ) -> Result<bool, AllocError>
         requires search { IsRideSearch self.now }
-        requires same { least.now.plain.network.now ≡ network_of self.now }
+        requires same { least.now.plain.network.now ≡ searched_network self.now }
         requires soon { self.now.query.now.depart < 2 ^ 64 }
-        ensures { IfOk result (λ may. may ≡ false → NoneTakesLess (network_of self.now) (asked_of self.now) c) }
+        ensures { IfOk result (λ may. may ≡ false → NoneTakesLess (searched_network self.now)
+            (asked_of self.now) c) }
     {
         least.known();
         if !self.reads_transit {

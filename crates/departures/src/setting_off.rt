@@ -4,7 +4,7 @@ ghost use Rattle.std.specs.Prelude.{◌≡◌, ◌+◌, ◌<◌, All, IfOk, OnOk
 ghost use Rattle.search_laws.specs.Times.{time_bound};
 ghost use Rattle.few_boardings.specs.Boardings.{is_ride};
 ghost use Rattle.journey.specs.Ends.{HasTime, HasTimes};
-ghost use Rattle.departures.specs.SettingOff.{is_wait, with_step, unwaited, waiting, MayLeaveLater, IsSetOff};
+ghost use Rattle.departures.specs.SettingOff.{is_wait, with_step_unless_wait, unwaited, waiting, MayLeaveLater, IsSetOff};
 
 use journey::step_end;
 use mode_network::{Journey, Network, Step};
@@ -27,7 +27,7 @@ fn is_wait(step: &Step) -> bool
 
 /// Appends a step, unless it is a wait and no ride stands before it.
 fn push_unless_waiting(kept: &mut Vec<Step>, step: Step, ridden: bool) -> Result<(), AllocError>
-    ensures { OnOk result (kept.new.items ≡ with_step ridden step kept.old.items) }
+    ensures { OnOk result (kept.new.items ≡ with_step_unless_wait ridden step kept.old.items) }
 {
     if ridden || !is_wait(&step) {
         kept.push(step)?;

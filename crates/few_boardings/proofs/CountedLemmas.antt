@@ -6,14 +6,14 @@ use Rattle.search_laws.specs.LabelLaws.{LabelsMeaning, IsLawfulLabels, HasMove, 
 use Rattle.automaton.proofs.LanguageLemmas.{and_in, and_out}
 use Rattle.few_boardings.specs.declared.counted.Side.{Side}
 use Rattle.few_boardings.specs.declared.counted.Side.TheVariants.{AtMost, AtLeast}
-use Rattle.few_boardings.specs.Counted.{is_transit, transits, state_at, reads_on, may_end, counted, IsOnSide, AcceptsCounted}
+use Rattle.few_boardings.specs.Counted.{is_transit, transits, state_at, reads_on, may_end_with, counted, IsOnSide, AcceptsCounted}
 use Rattle.few_boardings.specs.CountedLaws.{added, inner_of, count_of, count_small, state_below, inner_below, count_after, after_small, KeepsWithin, inner_after, count_there, step_out, step_in, to_below}
 
 pub transits_more : (c : ℕ) (word : List ℕ) → transits (c ∷ word) ≡ added c + transits word
 transits_more c word = sum_by-cons (λ (d : ℕ). cond (is_transit d) 1 0) c word
 
 -- a count of all letters is on the side where a word may end with the count of those that were counted
-side_out : (side : Side) (limit count : ℕ) → KeepsWithin (reads_on side) limit count → IsTrue (may_end side limit (count_after limit 0 count)) → IsOnSide side limit count
+side_out : (side : Side) (limit count : ℕ) → KeepsWithin (reads_on side) limit count → IsTrue (may_end_with side limit (count_after limit 0 count)) → IsOnSide side limit count
 side_out AtMost limit count keeps ends = keeps refl
 side_out AtLeast limit count keeps ends = let at : count_after limit 0 count ≡ limit = grind (arith, nat_tests) in omega arith
 
@@ -21,7 +21,7 @@ keeps_in : (side : Side) (limit count : ℕ) → IsOnSide side limit count → K
 keeps_in AtMost limit count is = λ closed. is
 keeps_in AtLeast limit count is = λ closed. absurd cc
 
-ends_in : (side : Side) (limit count : ℕ) → IsOnSide side limit count → IsTrue (may_end side limit (count_after limit 0 count))
+ends_in : (side : Side) (limit count : ℕ) → IsOnSide side limit count → IsTrue (may_end_with side limit (count_after limit 0 count))
 ends_in AtMost limit count is = refl
 ends_in AtLeast limit count is = let at : count_after limit 0 count ≡ limit = omega arith in grind (arith, nat_tests)
 
@@ -73,13 +73,13 @@ module _ (l : LabelsMeaning) (lawful : IsLawfulLabels l) (side : Side) (limit : 
       out : Accepts (counted l side limit) word → Accepts l word × IsOnSide side limit (transits word)
       out (s, r, lt, start, reads, acc) =
           let starts = and_out (s % (limit + 1) == 0) (l.is_start (s / (limit + 1))) start in
-          let ends = and_out (may_end side limit (r % (limit + 1))) (l.accepts (r / (limit + 1))) acc in
+          let ends = and_out (may_end_with side limit (r % (limit + 1))) (l.accepts (r / (limit + 1))) acc in
           let none : s % (limit + 1) ≡ 0 = let h = starts.0 in grind (arith, nat_tests) in
           let all = reads_out word s r lt reads in
           let count : r % (limit + 1) ≡ count_after limit 0 (transits word) = all.count ∙ ap (λ k. count_after limit k (transits word)) none in
           let keeps = subst (λ k. KeepsWithin (reads_on side) limit (k + transits word)) none all.keeps in (
             (s / (limit + 1), r / (limit + 1), inner_below limit l.states s lt, starts.1, all.inner, ends.1),
-            side_out side limit (transits word) (subst (KeepsWithin (reads_on side) limit) (omega arith) keeps) (subst (λ k. IsTrue (may_end side limit k)) count ends.0),
+            side_out side limit (transits word) (subst (KeepsWithin (reads_on side) limit) (omega arith) keeps) (subst (λ k. IsTrue (may_end_with side limit k)) count ends.0),
           )
 
       into : Accepts l word × IsOnSide side limit (transits word) → Accepts (counted l side limit) word
@@ -96,6 +96,6 @@ module _ (l : LabelsMeaning) (lawful : IsLawfulLabels l) (side : Side) (limit : 
             state_below limit l.states q 0 lt (omega arith),
             and_in (state_at limit q 0 % (limit + 1) == 0) (l.is_start (state_at limit q 0 / (limit + 1))) none (subst (λ x. IsTrue (l.is_start x)) (sym inner) start),
             reads_in word q r 0 lt (omega arith) (subst (KeepsWithin (reads_on side) limit) (omega arith) (keeps_in side limit (transits word) is)) reads,
-            and_in (may_end side limit (last % (limit + 1))) (l.accepts (last / (limit + 1)))
-                (subst (λ k. IsTrue (may_end side limit k)) (sym end_count) (ends_in side limit (transits word) is)) (subst (λ x. IsTrue (l.accepts x)) (sym end) acc),
+            and_in (may_end_with side limit (last % (limit + 1))) (l.accepts (last / (limit + 1)))
+                (subst (λ k. IsTrue (may_end_with side limit k)) (sym end_count) (ends_in side limit (transits word) is)) (subst (λ x. IsTrue (l.accepts x)) (sym end) acc),
           )

@@ -16,13 +16,13 @@ use Rattle.mode_network.specs.Rules.{IsNetwork}
 use Rattle.mode_network.specs.Journeys.{Route}
 use Rattle.journey.specs.Best.{Asked, Answers}
 use Rattle.journey.specs.CopyLists.{AreTheCopies}
-use Rattle.unpack.specs.Unpacking.{end_of, arrival_of, letters_of}
+use Rattle.unpack.specs.Unpacking.{node_after, arrival_after, letters_of}
 use Rattle.unpack.proofs.TakenLemmas as taken
 use Rattle.few_boardings.specs.declared.counted.Side.{Side}
 use Rattle.few_boardings.specs.declared.counted.Side.TheVariants.{AtMost}
 use Rattle.few_boardings.specs.Counted.{counted, transits, IsOnSide, AcceptsCounted}
 use Rattle.few_boardings.specs.Boardings.{rides}
-use Rattle.few_boardings.specs.Rounds.{IsLeastBelow, IsUnpacked, IsCountedFor}
+use Rattle.few_boardings.specs.Rounds.{IsLeastBelow, IsFoundUnpacked, IsCountedFor}
 use Rattle.few_boardings.specs.declared.boardings.Found.{Found}
 use Rattle.few_boardings.proofs.RideLemmas.{letters_count}
 
@@ -57,7 +57,7 @@ module _ (n : NetworkLists) (network : IsNetwork n) (table : TableLists) (q : As
       let letters = letters_of n table w.node w.hops.items in
       let both = (few letters).0 (taken.accepted n table q l starts targets from to a w j is takes) in
       let answered = taken.walk_answers n table q l starts targets from to a w j is takes both.0 in
-      let count = letters_count n network j.start j.at j.steps (end_of w.node w.hops.items) (arrival_of w.at w.hops.items) letters takes.real in
+      let count = letters_count n network j.start j.at j.steps (node_after w.node w.hops.items) (arrival_after w.at w.hops.items) letters takes.real in
       let fits : rides j ≤ most = let most_letters = both.1 in omega (arith, count, most_letters) in
       let boards = counted.boards in
       record {
@@ -71,7 +71,7 @@ module _ (n : NetworkLists) (network : IsNetwork n) (table : TableLists) (q : As
 
   -- what a search found, unpacked
   pub found_below : most ≤ 8 → (arrival : Option ℕ) (walk : Option Walk) (found : Option Found) → IsArrival (plain_meaning n table) l starts targets q.depart None arrival
-      → IsWalkFor (plain_meaning n table) l starts targets q.depart arrival walk → q.depart < 2 ^ 64 → IsUnpacked n table arrival walk found → IsLeastBelow n q (most + 1) found
+      → IsWalkFor (plain_meaning n table) l starts targets q.depart arrival walk → q.depart < 2 ^ 64 → IsFoundUnpacked n table arrival walk found → IsLeastBelow n q (most + 1) found
   found_below small None walk found none is soon unpacked = subst (IsLeastBelow n q (most + 1)) (sym unpacked) (none_below none)
   found_below small (Some a) None found least is soon unpacked = absurd is
   found_below small (Some a) (Some w) None least is soon unpacked = absurd unpacked

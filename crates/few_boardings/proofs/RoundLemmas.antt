@@ -9,8 +9,8 @@ use Rattle.mode_network.specs.Journeys.{Route}
 use Rattle.journey.specs.Best.{Asked, Answers}
 use Rattle.few_boardings.specs.declared.boardings.FewRow.{FewRow}
 use Rattle.few_boardings.specs.declared.boardings.Found.{Found}
-use Rattle.few_boardings.specs.Boardings.{rides, IsListed, IsRow, AreRows, HasNoneByFew, IsPrintableRow}
-use Rattle.few_boardings.specs.Rounds.{IsLeastFound, IsLeastBelow, is_later, kept, IsCovered, IsOpen, IsListing}
+use Rattle.few_boardings.specs.Boardings.{rides, IsListedArrival, IsFewRow, AreFewRows, HasNoneByFew, IsPrintableFewRow}
+use Rattle.few_boardings.specs.Rounds.{IsLeastFound, IsLeastBelow, is_later, with_fewer_rides, HasRowAsGood, IsOpen, AreRowsSoFar}
 
 -- a number is at most another, or above it
 le_or_above : (a b : ℕ) → (a ≤ b) ⊎ (b < a)
@@ -36,11 +36,11 @@ module _ (n : NetworkLists) (q : Asked) where
       on_rides (inl few) = inl (few, least.least k u below answers)
       on_rides (inr more) = inr more
 
-  pub starts : (best : Option Found) → IsLeastBelow n q 9 best → IsListing n q [] best
+  pub starts : (best : Option Found) → IsLeastBelow n q 9 best → AreRowsSoFar n q [] best
   starts best least = record {
     rising = λ i j d less within. absurd (omega arith);
-    right = All-nil (IsRow n q);
-    printable = All-nil (IsPrintableRow n);
+    right = All-nil (IsFewRow n q);
+    printable = All-nil (IsPrintableFewRow n);
     below = nothing best;
     limit = 9;
     few = omega arith;
@@ -54,7 +54,7 @@ module _ (n : NetworkLists) (q : Asked) where
 
   -- a row that is later with fewer rides is listed
   row_of : (f : Found) (limit : ℕ) → limit ≤ 9 → IsLeastFound n q limit f → (fewer : Option Found) → IsLeastBelow n q f.row.boardings fewer
-      → is_later fewer f.arrival ≡ true → IsRow n q f.row
+      → is_later fewer f.arrival ≡ true → IsFewRow n q f.row
   row_of f limit few least fewer below later = record {
     arrival = f.arrival;
     listed = record {
@@ -86,7 +86,7 @@ module _ (n : NetworkLists) (q : Asked) where
       let early = ltb-false f.arrival g.arrival test in let less = some.below in inl (omega arith, omega arith)
 
   below_all : (f : Found) (rows : List FewRow) → All (λ (row : FewRow). f.row.boardings < row.boardings) rows → (fewer : Option Found) → IsLeastBelow n q f.row.boardings fewer
-      → (t : ℕ) → IfSome fewer (λ found. All (λ (row : FewRow). found.row.boardings < row.boardings) (kept fewer t f.row rows))
+      → (t : ℕ) → IfSome fewer (λ found. All (λ (row : FewRow). found.row.boardings < row.boardings) (with_fewer_rides fewer t f.row rows))
   below_all f rows below None none t = tt
   below_all f rows below (Some g) some t = on_test (is_later (Some g) t)
     where
@@ -100,8 +100,8 @@ module _ (n : NetworkLists) (q : Asked) where
       on_test true = All-cons (λ (row : FewRow). g.row.boardings < row.boardings) f.row rows less others
       on_test false = others
 
-  pub goes_on : (f : Found) (rows : List FewRow) → IsListing n q rows (Some f) → (fewer : Option Found) → IsLeastBelow n q f.row.boardings fewer
-      → IsListing n q (kept fewer f.arrival f.row rows) fewer
+  pub goes_on : (f : Found) (rows : List FewRow) → AreRowsSoFar n q rows (Some f) → (fewer : Option Found) → IsLeastBelow n q f.row.boardings fewer
+      → AreRowsSoFar n q (with_fewer_rides fewer f.arrival f.row rows) fewer
   goes_on f rows so_far fewer below = on_test (is_later fewer f.arrival) refl
     where
       least : IsLeastFound n q so_far.limit f
@@ -110,11 +110,11 @@ module _ (n : NetworkLists) (q : Asked) where
       few : f.row.boardings ≤ 9
       few = let b = least.below in let l = so_far.few in omega arith
 
-      after : (k : Route) (u : ℕ) → IsOpen (Some f) k u → Answers n q k u → (IsCovered n q (f.row ∷ rows) k u) ⊎ ((f.row.boardings ≤ rides k) × (f.arrival ≤ u)) ⊎ IsOpen fewer k u
+      after : (k : Route) (u : ℕ) → IsOpen (Some f) k u → Answers n q k u → (HasRowAsGood n q (f.row ∷ rows) k u) ⊎ ((f.row.boardings ≤ rides k) × (f.arrival ≤ u)) ⊎ IsOpen fewer k u
       after k u (inl both) answers = inr (inl both)
       after k u (inr more) answers = inr (inr (open_below f.row.boardings fewer below k u more answers))
 
-      still : (rest : List FewRow) → ((row : FewRow) → Contains rows row → Contains rest row) → (k : Route) (u : ℕ) → IsCovered n q rows k u → IsCovered n q rest k u
+      still : (rest : List FewRow) → ((row : FewRow) → Contains rows row → Contains rest row) → (k : Route) (u : ℕ) → HasRowAsGood n q rows k u → HasRowAsGood n q rest k u
       still rest there k u covered = record {
         row = covered.row;
         listed = there covered.row covered.listed;
@@ -124,7 +124,7 @@ module _ (n : NetworkLists) (q : Asked) where
         soon = covered.soon;
       }
 
-      by_row : (k : Route) (u : ℕ) → f.row.boardings ≤ rides k → f.arrival ≤ u → IsCovered n q (f.row ∷ rows) k u
+      by_row : (k : Route) (u : ℕ) → f.row.boardings ≤ rides k → f.arrival ≤ u → HasRowAsGood n q (f.row ∷ rows) k u
       by_row k u boards soon = record {
         row = f.row;
         listed = first_of_all f.row rows;
@@ -134,68 +134,68 @@ module _ (n : NetworkLists) (q : Asked) where
         soon = soon;
       }
 
-      covers_kept : (k : Route) (u : ℕ) → Answers n q k u → IsCovered n q rows k u ⊎ IsOpen (Some f) k u → IsCovered n q (f.row ∷ rows) k u ⊎ IsOpen fewer k u
+      covers_kept : (k : Route) (u : ℕ) → Answers n q k u → HasRowAsGood n q rows k u ⊎ IsOpen (Some f) k u → HasRowAsGood n q (f.row ∷ rows) k u ⊎ IsOpen fewer k u
       covers_kept k u answers (inl covered) = inl (still (f.row ∷ rows) (λ (row : FewRow) there. after_first f.row row rows there) k u covered)
       covers_kept k u answers (inr (inl (boards, soon))) = inl (by_row k u boards soon)
       covers_kept k u answers (inr (inr more)) = inr (open_below f.row.boardings fewer below k u more answers)
 
-      covers_passed : is_later fewer f.arrival ≡ false → (k : Route) (u : ℕ) → Answers n q k u → IsCovered n q rows k u ⊎ IsOpen (Some f) k u → IsCovered n q rows k u ⊎ IsOpen fewer k u
+      covers_passed : is_later fewer f.arrival ≡ false → (k : Route) (u : ℕ) → Answers n q k u → HasRowAsGood n q rows k u ⊎ IsOpen (Some f) k u → HasRowAsGood n q rows k u ⊎ IsOpen fewer k u
       covers_passed test k u answers (inl covered) = inl covered
       covers_passed test k u answers (inr (inl (boards, soon))) = inr (as_early f so_far.limit least fewer below test k u boards soon)
       covers_passed test k u answers (inr (inr more)) = inr (open_below f.row.boardings fewer below k u more answers)
 
-      on_test : (b : Bool) → is_later fewer f.arrival ≡ b → IsListing n q (kept fewer f.arrival f.row rows) fewer
+      on_test : (b : Bool) → is_later fewer f.arrival ≡ b → AreRowsSoFar n q (with_fewer_rides fewer f.arrival f.row rows) fewer
       on_test true e =
-          let same : kept fewer f.arrival f.row rows ≡ f.row ∷ rows = ap (λ (t : Bool). cond t (f.row ∷ rows) rows) e in
+          let same : with_fewer_rides fewer f.arrival f.row rows ≡ f.row ∷ rows = ap (λ (t : Bool). cond t (f.row ∷ rows) rows) e in
           record {
             rising = subst (AllPairs (λ (first second : FewRow). first.boardings < second.boardings)) (sym same)
                 (AllPairs-cons (λ (first second : FewRow). first.boardings < second.boardings) f.row rows so_far.below so_far.rising);
-            right = subst (All (IsRow n q)) (sym same) (All-cons (IsRow n q) f.row rows (row_of f so_far.limit so_far.few least fewer below e) so_far.right);
-            printable = subst (All (IsPrintableRow n)) (sym same) (All-cons (IsPrintableRow n) f.row rows least.printable so_far.printable);
+            right = subst (All (IsFewRow n q)) (sym same) (All-cons (IsFewRow n q) f.row rows (row_of f so_far.limit so_far.few least fewer below e) so_far.right);
+            printable = subst (All (IsPrintableFewRow n)) (sym same) (All-cons (IsPrintableFewRow n) f.row rows least.printable so_far.printable);
             below = below_all f rows so_far.below fewer below f.arrival;
             limit = f.row.boardings;
             few = few;
             found = below;
-            covers = λ k u most answers. subst (λ (rs : List FewRow). IsCovered n q rs k u ⊎ IsOpen fewer k u) (sym same) (covers_kept k u answers (so_far.covers k u most answers));
+            covers = λ k u most answers. subst (λ (rs : List FewRow). HasRowAsGood n q rs k u ⊎ IsOpen fewer k u) (sym same) (covers_kept k u answers (so_far.covers k u most answers));
           }
       on_test false e =
-          let same : kept fewer f.arrival f.row rows ≡ rows = ap (λ (t : Bool). cond t (f.row ∷ rows) rows) e in
+          let same : with_fewer_rides fewer f.arrival f.row rows ≡ rows = ap (λ (t : Bool). cond t (f.row ∷ rows) rows) e in
           record {
             rising = subst (AllPairs (λ (first second : FewRow). first.boardings < second.boardings)) (sym same) so_far.rising;
-            right = subst (All (IsRow n q)) (sym same) so_far.right;
-            printable = subst (All (IsPrintableRow n)) (sym same) so_far.printable;
+            right = subst (All (IsFewRow n q)) (sym same) so_far.right;
+            printable = subst (All (IsPrintableFewRow n)) (sym same) so_far.printable;
             below = below_all f rows so_far.below fewer below f.arrival;
             limit = f.row.boardings;
             few = few;
             found = below;
-            covers = λ k u most answers. subst (λ (rs : List FewRow). IsCovered n q rs k u ⊎ IsOpen fewer k u) (sym same) (covers_passed e k u answers (so_far.covers k u most answers));
+            covers = λ k u most answers. subst (λ (rs : List FewRow). HasRowAsGood n q rs k u ⊎ IsOpen fewer k u) (sym same) (covers_passed e k u answers (so_far.covers k u most answers));
           }
 
-  covered_at_end : (rows : List FewRow) (k : Route) (u : ℕ) → IsCovered n q rows k u ⊎ IsOpen None k u → IsCovered n q rows k u
+  covered_at_end : (rows : List FewRow) (k : Route) (u : ℕ) → HasRowAsGood n q rows k u ⊎ IsOpen None k u → HasRowAsGood n q rows k u
   covered_at_end rows k u (inl covered) = covered
   covered_at_end rows k u (inr none) = absurd none
 
   -- where nothing is open any more, the rows are the boardings list
-  pub are_rows : (rows : List FewRow) → IsListing n q rows None → AreRows n q rows
+  pub are_rows : (rows : List FewRow) → AreRowsSoFar n q rows None → AreFewRows n q rows
   are_rows rows so_far = record { rising = so_far.rising; right = so_far.right; whole = whole }
     where
-      whole : (boardings t : ℕ) → IsListed n q boardings t → (row : FewRow) × Contains rows row × (row.boardings ≡ boardings)
+      whole : (boardings t : ℕ) → IsListedArrival n q boardings t → (row : FewRow) × Contains rows row × (row.boardings ≡ boardings)
       whole boardings t listed =
           let least = listed.least in
           let few = listed.few in
           let within = least.within in
           let covered = covered_at_end rows least.journey t (so_far.covers least.journey t (omega arith) least.answers) in
-          let row = All-contains (IsRow n q) rows covered.row so_far.right covered.listed in
+          let row = All-contains (IsFewRow n q) rows covered.row so_far.right covered.listed in
           (covered.row, covered.listed, same covered row (le_or_above boardings covered.row.boardings) (omega (arith, covered.few)))
         where
-          same : (covered : IsCovered n q rows listed.least.journey t) → IsRow n q covered.row → (boardings ≤ covered.row.boardings) ⊎ (covered.row.boardings < boardings)
+          same : (covered : HasRowAsGood n q rows listed.least.journey t) → IsFewRow n q covered.row → (boardings ≤ covered.row.boardings) ⊎ (covered.row.boardings < boardings)
               → covered.row.boardings ≤ boardings → covered.row.boardings ≡ boardings
           same covered row (inl le) ge = omega arith
           same covered row (inr less) ge =
               let later = listed.later covered.row.journey covered.arrival (let b = row.boards in omega arith) covered.answers in
               let soon = covered.soon in absurd (omega arith)
 
-  pub none_or_some : (rows : List FewRow) → IsListing n q rows None → (rows ≡ []) ↔ HasNoneByFew n q
+  pub none_or_some : (rows : List FewRow) → AreRowsSoFar n q rows None → (rows ≡ []) ↔ HasNoneByFew n q
   none_or_some rows so_far = (out, back rows so_far.right)
     where
       out : rows ≡ [] → HasNoneByFew n q
@@ -204,7 +204,7 @@ module _ (n : NetworkLists) (q : Asked) where
           let (place, within, is) = covered.listed in
           let empty = ap length none in absurd (omega arith)
 
-      back : (rs : List FewRow) → All (IsRow n q) rs → HasNoneByFew n q → rs ≡ []
+      back : (rs : List FewRow) → All (IsFewRow n q) rs → HasNoneByFew n q → rs ≡ []
       back [] right none = refl
       back (row ∷ rs) right none =
           let is = right 0 row (omega arith) in
@@ -212,7 +212,7 @@ module _ (n : NetworkLists) (q : Asked) where
           absurd (none row.journey is.arrival (omega arith) is.answers)
 
   -- the same, where the parts are given by what they are equal to
-  pub goes_on_by : (best fewer : Option Found) (f : Found) (rows new : List FewRow) → IsListing n q rows best → best ≡ Some f → IsLeastBelow n q f.row.boardings fewer
-      → new ≡ kept fewer f.arrival f.row rows → IsListing n q new fewer
+  pub goes_on_by : (best fewer : Option Found) (f : Found) (rows new : List FewRow) → AreRowsSoFar n q rows best → best ≡ Some f → IsLeastBelow n q f.row.boardings fewer
+      → new ≡ with_fewer_rides fewer f.arrival f.row rows → AreRowsSoFar n q new fewer
   goes_on_by best fewer f rows new so_far is below e =
-      subst (λ (rs : List FewRow). IsListing n q rs fewer) (sym e) (goes_on f rows (subst (λ (b : Option Found). IsListing n q rows b) is so_far) fewer below)
+      subst (λ (rs : List FewRow). AreRowsSoFar n q rs fewer) (sym e) (goes_on f rows (subst (λ (b : Option Found). AreRowsSoFar n q rows b) is so_far) fewer below)

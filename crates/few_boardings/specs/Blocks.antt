@@ -6,24 +6,24 @@ use Rattle.mode_network.specs.NetworkLists.{NetworkLists}
 use Rattle.journey.specs.Best.{Asked, IsRightBlock}
 use Rattle.journey.specs.Texts.{IsJourneyText}
 use Rattle.few_boardings.specs.declared.boardings.FewRow.{FewRow}
-use Rattle.few_boardings.specs.Boardings.{AreRows}
+use Rattle.few_boardings.specs.Boardings.{AreFewRows}
 
 -- of each row the line `boardings` with its number, and what is printed of its journey
-abbrev pub AreTold : NetworkLists → List FewRow → List ℕ → Type 0
-AreTold n [] text = text ≡ []
-AreTold n (row ∷ rows) text =
-    (own : List ℕ) × (rest : List ℕ) × IsJourneyText n row.journey own × AreTold n rows rest
+abbrev pub AreBoardingsTold : NetworkLists → List FewRow → List ℕ → Type 0
+AreBoardingsTold n [] text = text ≡ []
+AreBoardingsTold n (row ∷ rows) text =
+    (own : List ℕ) × (rest : List ℕ) × IsJourneyText n row.journey own × AreBoardingsTold n rows rest
     × (text ≡ with_feed (codes "boardings " ++ decimal row.boardings) ++ own ++ rest)
 
 -- the body of a block: the rows, or the line `no journey` where there is none
 abbrev pub IsFewText : NetworkLists → List FewRow → List ℕ → Type 0
 IsFewText n [] text = text ≡ with_feed (codes "no journey")
-IsFewText n (row ∷ rows) text = AreTold n (row ∷ rows) text
+IsFewText n (row ∷ rows) text = AreBoardingsTold n (row ∷ rows) text
 
 -- the boardings list of what is asked
 pub record IsRowsText (n : NetworkLists) (q : Asked) (text : List ℕ) : Type 0 where
   pub rows : List FewRow
-  pub are : AreRows n q rows
+  pub are : AreFewRows n q rows
   pub told : IsFewText n rows text
 
 -- the right block of a query line: that of its refusal, or of its boardings list

@@ -29,29 +29,29 @@ pub record IsLeastBy (n : NetworkLists) (q : Asked) (most t : ℕ) : Type 0 wher
   pub least : (k : Route) (u : ℕ) → rides k ≤ most → Answers n q k u → t ≤ u
 
 -- With this many rides, from 0 to 8, one arrives at t at the earliest; and with fewer later, if at all.
-pub record IsListed (n : NetworkLists) (q : Asked) (boardings t : ℕ) : Type 0 where
+pub record IsListedArrival (n : NetworkLists) (q : Asked) (boardings t : ℕ) : Type 0 where
   pub few : boardings ≤ 8
   pub least : IsLeastBy n q boardings t
   pub later : (k : Route) (u : ℕ) → rides k < boardings → Answers n q k u → t < u
 
 -- the journey of a row answers with as many rides as the row says, each boarded when it departs, and arrives when the list says
-pub record IsRow (n : NetworkLists) (q : Asked) (row : FewRow) : Type 0 where
+pub record IsFewRow (n : NetworkLists) (q : Asked) (row : FewRow) : Type 0 where
   pub arrival : ℕ
-  pub listed : IsListed n q row.boardings arrival
+  pub listed : IsListedArrival n q row.boardings arrival
   pub answers : Answers n q row.journey arrival
   pub boards : rides row.journey ≡ row.boardings
   pub boarded : BoardsOnTime n row.journey
 
 -- the rows by rising boardings: one for each number of boardings that is listed, and no other
-pub record AreRows (n : NetworkLists) (q : Asked) (rows : List FewRow) : Type 0 where
+pub record AreFewRows (n : NetworkLists) (q : Asked) (rows : List FewRow) : Type 0 where
   pub rising : AllPairs (λ first second. first.boardings < second.boardings) rows
-  pub right : All (IsRow n q) rows
-  pub whole : (boardings t : ℕ) → IsListed n q boardings t → (row : FewRow) × Contains rows row × (row.boardings ≡ boardings)
+  pub right : All (IsFewRow n q) rows
+  pub whole : (boardings t : ℕ) → IsListedArrival n q boardings t → (row : FewRow) × Contains rows row × (row.boardings ≡ boardings)
 
 -- no journey with at most 8 rides answers
 abbrev pub HasNoneByFew : NetworkLists → Asked → Type 0
 HasNoneByFew n q = (k : Route) (u : ℕ) → rides k ≤ 8 → Answers n q k u → ⊥
 
 -- the journey of a row can be printed
-abbrev pub IsPrintableRow : NetworkLists → FewRow → Type 0
-IsPrintableRow n row = IsPrintable n row.journey
+abbrev pub IsPrintableFewRow : NetworkLists → FewRow → Type 0
+IsPrintableFewRow n row = IsPrintable n row.journey

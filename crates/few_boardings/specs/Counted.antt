@@ -26,9 +26,9 @@ reads_on AtMost = false
 reads_on AtLeast = true
 
 -- whether a word may end with this count
-abbrev pub may_end : Side → ℕ → ℕ → Bool
-may_end AtMost limit k = true
-may_end AtLeast limit k = k == limit
+abbrev pub may_end_with : Side → ℕ → ℕ → Bool
+may_end_with AtMost limit k = true
+may_end_with AtLeast limit k = k == limit
 
 -- the state q of the inner automaton with the count k
 abbrev pub state_at : ℕ → ℕ → ℕ → ℕ
@@ -49,7 +49,7 @@ counted l side limit = record {
   is_start = λ s. s % (limit + 1) == 0 && l.is_start (s / (limit + 1));
   moves = λ s. 2 * l.moves (s / (limit + 1));
   move_at = λ s i. counted_move (reads_on side) limit (i % 2) (s % (limit + 1)) (l.move_at (s / (limit + 1)) (i / 2));
-  accepts = λ s. may_end side limit (s % (limit + 1)) && l.accepts (s / (limit + 1));
+  accepts = λ s. may_end_with side limit (s % (limit + 1)) && l.accepts (s / (limit + 1));
 }
 
 -- the limits of the inner automaton

@@ -69,7 +69,7 @@ abbrev pub KeepsWithin : Bool → ℕ → ℕ → Type 0
 KeepsWithin more limit count = more ≡ false → count ≤ limit
 
 -- a letter of a kind is one of the inner move, and leads to the state after it
-pub record IsCounted (more : Bool) (limit kind k : ℕ) (move : Move) (c : ℕ) : Type 0 where
+pub record IsCountedLetter (more : Bool) (limit kind k : ℕ) (move : Move) (c : ℕ) : Type 0 where
   pub inner : IsBitSet move.letters c
   pub kind_is : kind ≡ added c
   pub keeps : KeepsWithin more limit (k + added c)
@@ -82,12 +82,12 @@ by_tests road next more limit k move =
     else record { letters = (if more then bit_and move.letters transit_letters else 0); to = state_at limit move.to k })
 
 pub counted_out : (more : Bool) (limit kind k : ℕ) (move : Move) (c : ℕ) → kind < 2 → k ≤ limit → IsBitSet (counted_move more limit kind k move).letters c
-    → IsCounted more limit kind k move c
+    → IsCountedLetter more limit kind k move c
 counted_out more limit kind k move c small le set = on_tests (kind == 0) (nat_lt k limit) more refl refl refl set
   where
     -- by a transit letter, to the count after it
     transit : (next m : Bool) → (kind == 0) ≡ false → nat_lt k limit ≡ next → more ≡ m → IsBitSet (bit_and move.letters transit_letters) c → KeepsWithin more limit (k + 1)
-        → (by_tests false next m limit k move).to ≡ state_at limit move.to (count_after limit k 1) → IsCounted more limit kind k move c
+        → (by_tests false next m limit k move).to ≡ state_at limit move.to (count_after limit k 1) → IsCountedLetter more limit kind k move c
     transit next m is test same set keeps to =
         let both = and_set move.letters transit_letters c set in
         let one = added_transit c (set_transit c both.1) in
@@ -100,7 +100,7 @@ counted_out more limit kind k move c small le set = on_tests (kind == 0) (nat_lt
               ∙ ap (λ (t : Bool). (by_tests false next t limit k move).to) same ∙ to ∙ ap (λ j. state_at limit move.to (count_after limit k j)) (sym one);
         }
 
-    on_tests : (a b m : Bool) → (kind == 0) ≡ a → nat_lt k limit ≡ b → more ≡ m → IsBitSet (by_tests a b m limit k move).letters c → IsCounted more limit kind k move c
+    on_tests : (a b m : Bool) → (kind == 0) ≡ a → nat_lt k limit ≡ b → more ≡ m → IsBitSet (by_tests a b m limit k move).letters c → IsCountedLetter more limit kind k move c
     on_tests true b m is test same set =
         let both = and_set move.letters 7 c set in
         let none = added_road c (set_road c both.1) in

@@ -9,7 +9,7 @@ use Rattle.journey.specs.Boarded.{BoardsOnTime}
 use Rattle.journey.specs.Best.{Asked, Answers}
 use Rattle.few_boardings.specs.declared.boardings.FewRow.{FewRow}
 use Rattle.few_boardings.specs.declared.boardings.Found.{Found}
-use Rattle.few_boardings.specs.Boardings.{rides, IsRow, IsPrintableRow}
+use Rattle.few_boardings.specs.Boardings.{rides, IsFewRow, IsPrintableFewRow}
 
 -- the journey takes the hops of the walk, and its rides are counted
 pub record IsCountedFor (n : NetworkLists) (table : TableLists) (arrival : ℕ) (walk : Walk) (found : Found) : Type 0 where
@@ -18,11 +18,11 @@ pub record IsCountedFor (n : NetworkLists) (table : TableLists) (arrival : ℕ) 
   pub takes : TakesHops n table walk found.row.journey
 
 -- the journey of a walk with its arrival, if both are there
-abbrev pub IsUnpacked : NetworkLists → TableLists → Option ℕ → Option Walk → Option Found → Type 0
-IsUnpacked n table (Some arrival) (Some walk) (Some found) = IsCountedFor n table arrival walk found
-IsUnpacked n table (Some arrival) (Some walk) None = ⊥
-IsUnpacked n table (Some arrival) None found = found ≡ None
-IsUnpacked n table None walk found = found ≡ None
+abbrev pub IsFoundUnpacked : NetworkLists → TableLists → Option ℕ → Option Walk → Option Found → Type 0
+IsFoundUnpacked n table (Some arrival) (Some walk) (Some found) = IsCountedFor n table arrival walk found
+IsFoundUnpacked n table (Some arrival) (Some walk) None = ⊥
+IsFoundUnpacked n table (Some arrival) None found = found ≡ None
+IsFoundUnpacked n table None walk found = found ≡ None
 
 -- a journey with fewer rides than the limit that answers, and arrives no later than each such journey
 pub record IsLeastFound (n : NetworkLists) (q : Asked) (limit : ℕ) (found : Found) : Type 0 where
@@ -31,7 +31,7 @@ pub record IsLeastFound (n : NetworkLists) (q : Asked) (limit : ℕ) (found : Fo
   pub answers : Answers n q found.row.journey found.arrival
   pub boarded : BoardsOnTime n found.row.journey
   pub least : (k : Route) (u : ℕ) → rides k < limit → Answers n q k u → found.arrival ≤ u
-  pub printable : IsPrintableRow n found.row
+  pub printable : IsPrintableFewRow n found.row
 
 -- it was found; or no journey with fewer rides than the limit answers
 abbrev pub IsLeastBelow : NetworkLists → Asked → ℕ → Option Found → Type 0
@@ -44,16 +44,16 @@ is_later None t = true
 is_later (Some found) t = nat_lt t found.arrival
 
 -- the rows with that of a journey before them, if with fewer rides one arrives later
-abbrev pub kept : Option Found → ℕ → FewRow → List FewRow → List FewRow
-kept fewer t row rows = if is_later fewer t then row ∷ rows else rows
+abbrev pub with_fewer_rides : Option Found → ℕ → FewRow → List FewRow → List FewRow
+with_fewer_rides fewer t row rows = if is_later fewer t then row ∷ rows else rows
 
 -- how many rides are still to be looked at
-abbrev pub left_of : Option Found → ℕ
-left_of None = 0
-left_of (Some found) = found.row.boardings + 1
+abbrev pub rides_left : Option Found → ℕ
+rides_left None = 0
+rides_left (Some found) = found.row.boardings + 1
 
 -- a row has a journey with no more rides than this one that arrives no later
-pub record IsCovered (n : NetworkLists) (q : Asked) (rows : List FewRow) (k : Route) (u : ℕ) : Type 0 where
+pub record HasRowAsGood (n : NetworkLists) (q : Asked) (rows : List FewRow) (k : Route) (u : ℕ) : Type 0 where
   pub row : FewRow
   pub listed : Contains rows row
   pub few : row.boardings ≤ rides k
@@ -67,12 +67,12 @@ IsOpen None k u = ⊥
 IsOpen (Some found) k u = ((found.row.boardings ≤ rides k) × (found.arrival ≤ u)) ⊎ (rides k < found.row.boardings)
 
 -- The rows so far are right; what was found last has fewer rides than each of them, and each journey is covered by a row or still open.
-pub record IsListing (n : NetworkLists) (q : Asked) (rows : List FewRow) (best : Option Found) : Type 0 where
+pub record AreRowsSoFar (n : NetworkLists) (q : Asked) (rows : List FewRow) (best : Option Found) : Type 0 where
   pub rising : AllPairs (λ first second. first.boardings < second.boardings) rows
-  pub right : All (IsRow n q) rows
-  pub printable : All (IsPrintableRow n) rows
+  pub right : All (IsFewRow n q) rows
+  pub printable : All (IsPrintableFewRow n) rows
   pub below : IfSome best (λ found. All (λ row. found.row.boardings < row.boardings) rows)
   pub limit : ℕ
   pub few : limit ≤ 9
   pub found : IsLeastBelow n q limit best
-  pub covers : (k : Route) (u : ℕ) → rides k ≤ 8 → Answers n q k u → IsCovered n q rows k u ⊎ IsOpen best k u
+  pub covers : (k : Route) (u : ℕ) → rides k ≤ 8 → Answers n q k u → HasRowAsGood n q rows k u ⊎ IsOpen best k u

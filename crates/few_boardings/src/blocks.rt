@@ -4,8 +4,8 @@ ghost use Rattle.std.specs.Prelude.{◌≡◌, [], ◌∷◌, ◌<◌, ◌^◌, 
 ghost use Rattle.mode_expression.specs.Form.{form_of, IsUsable};
 ghost use Rattle.journey.specs.Blocks.{AddsText, IsFramed};
 ghost use Rattle.journey.specs.Queries.{IsQuery};
-ghost use Rattle.few_boardings.specs.Boardings.{IsPrintableRow};
-ghost use Rattle.few_boardings.specs.Blocks.{AreTold, IsFewText, IsFewBlock};
+ghost use Rattle.few_boardings.specs.Boardings.{IsPrintableFewRow};
+ghost use Rattle.few_boardings.specs.Blocks.{AreBoardingsTold, IsFewText, IsFewBlock};
 
 use crate::boardings::{FewRow, few_with};
 use journey::{BlockBody, Query, QueryFault, block, framed, push_journey, read_query};
@@ -21,8 +21,9 @@ fn push_row(
     network: &Network,
     row: &FewRow,
 ) -> Result<(), AllocError>
-    requires { IsPrintableRow network.now row.now }
-    ensures { OnOk result (AddsText (AreTold network.now (row.now ∷ [])) out.old.items out.new.items) }
+    requires { IsPrintableFewRow network.now row.now }
+    ensures { OnOk result (AddsText (AreBoardingsTold network.now (row.now ∷ [])) out.old.items
+        out.new.items) }
 {
     out.extend_from_slice(b"boardings ")?;
     push_decimal(out, u128::from(row.boardings))?;
@@ -38,8 +39,8 @@ fn push_rows(
     network: &Network,
     rows: &[FewRow],
 ) -> Result<(), AllocError>
-    requires { All (IsPrintableRow network.now) rows.now }
-    ensures { OnOk result (AddsText (AreTold network.now rows.now) out.old.items out.new.items) }
+    requires { All (IsPrintableFewRow network.now) rows.now }
+    ensures { OnOk result (AddsText (AreBoardingsTold network.now rows.now) out.old.items out.new.items) }
 {
     for row in rows {
         push_row(alloc, out, network, row)?;
@@ -54,7 +55,7 @@ fn push_body(
     network: &Network,
     rows: &[FewRow],
 ) -> Result<(), AllocError>
-    requires { All (IsPrintableRow network.now) rows.now }
+    requires { All (IsPrintableFewRow network.now) rows.now }
     ensures { OnOk result (AddsText (IsFewText network.now rows.now) out.old.items out.new.items) }
 {
     if rows.is_empty() {
@@ -72,7 +73,7 @@ fn rows_block(
     line: &[u8],
     rows: &[FewRow],
 ) -> Result<Vec<u8>, AllocError>
-    requires { All (IsPrintableRow network.now) rows.now }
+    requires { All (IsPrintableFewRow network.now) rows.now }
     ensures { IfOk result (λ block. IsFramed (IsFewText network.now rows.now) line.now block.items) }
 {
     let mut text = Vec::new(alloc);
@@ -89,7 +90,8 @@ fn query_block(
     line: &[u8],
     query: &Query,
 ) -> Result<Vec<u8>, AllocError>
-    requires asks { IsQuery network.now line.now query.now.from query.now.to query.now.depart (form_of query.now.expr) }
+    requires asks { IsQuery network.now line.now query.now.from query.now.to query.now.depart
+        (form_of query.now.expr) }
     requires line { query.now.line ≡ line.now }
     requires usable { IsUsable (form_of query.now.expr) }
     requires soon { query.now.depart < 2 ^ 64 }

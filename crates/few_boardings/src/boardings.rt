@@ -6,8 +6,8 @@ ghost use Rattle.mode_expression.specs.Form.{form_of, IsUsable};
 ghost use Rattle.journey.specs.Best.{asked_by};
 ghost use Rattle.journey.specs.Queries.{IsQuery};
 ghost use Rattle.unpack.specs.Taken.{IsPlainWalk};
-ghost use Rattle.few_boardings.specs.Boardings.{is_ride, AreRows, HasNoneByFew, IsPrintableRow};
-ghost use Rattle.few_boardings.specs.Rounds.{IsLeastBelow, IsUnpacked, is_later, kept};
+ghost use Rattle.few_boardings.specs.Boardings.{is_ride, AreFewRows, HasNoneByFew, IsPrintableFewRow};
+ghost use Rattle.few_boardings.specs.Rounds.{IsFoundUnpacked, IsLeastBelow, is_later, with_fewer_rides};
 
 use crate::counted::{Counted, Side};
 use automaton::{Collapsed, Positions};
@@ -52,7 +52,7 @@ fn unpacked(
     walk: &Option<Walk>,
 ) -> Result<Option<Found>, AllocError>
     requires { IsPlainWalk plain.now.network.now plain.now.timetable.now walk.now }
-    ensures { IfOk result (IsUnpacked plain.now.network.now plain.now.timetable.now arrival walk.now) }
+    ensures { IfOk result (IsFoundUnpacked plain.now.network.now plain.now.timetable.now arrival walk.now) }
 {
     match (arrival, walk) {
         (Some(arrival), Some(walk)) => {
@@ -74,7 +74,8 @@ pub fn least_below(
     query: &Query,
     limit: u8,
 ) -> Result<Option<Found>, AllocError>
-    requires asks { IsQuery network.now query.now.line query.now.from query.now.to query.now.depart (form_of query.now.expr) }
+    requires asks { IsQuery network.now query.now.line query.now.from query.now.to query.now.depart
+        (form_of query.now.expr) }
     requires usable { IsUsable (form_of query.now.expr) }
     requires soon { query.now.depart < 2 ^ 64 }
     requires limit { limit ≤ 9 }
@@ -117,7 +118,8 @@ fn is_later(found: &Option<Found>, t: Time) -> bool
 
 /// Puts the row of what was found before the others, if with fewer rides one arrives later.
 fn keep(rows: &mut Vec<FewRow>, found: Found, fewer: &Option<Found>) -> Result<(), AllocError>
-    ensures { OnOk result (rows.new.items ≡ kept fewer.now found.arrival found.row rows.old.items) }
+    ensures { OnOk result (rows.new.items ≡ with_fewer_rides fewer.now found.arrival found.row
+        rows.old.items) }
 {
     let Found { arrival, row } = found;
     if is_later(fewer, arrival) {
@@ -130,12 +132,13 @@ fn keep(rows: &mut Vec<FewRow>, found: Found, fewer: &Option<Found>) -> Result<(
 /// query with so many rides and arrives as early as can be, by rising boardings. None with at most 8 rides answers
 /// exactly where the list is empty.
 pub fn few(alloc: Global, network: &Network, query: &Query) -> Result<Vec<FewRow>, AllocError>
-    requires asks { IsQuery network.now query.now.line query.now.from query.now.to query.now.depart (form_of query.now.expr) }
+    requires asks { IsQuery network.now query.now.line query.now.from query.now.to query.now.depart
+        (form_of query.now.expr) }
     requires usable { IsUsable (form_of query.now.expr) }
     requires soon { query.now.depart < 2 ^ 64 }
-    ensures rows { IfOk result (λ rows. AreRows network.now (asked_by query.now) rows.items) }
+    ensures rows { IfOk result (λ rows. AreFewRows network.now (asked_by query.now) rows.items) }
     ensures none { IfOk result (λ rows. (rows.items ≡ []) ↔ HasNoneByFew network.now (asked_by query.now)) }
-    ensures printable { IfOk result (λ rows. All (IsPrintableRow network.now) rows.items) }
+    ensures printable { IfOk result (λ rows. All (IsPrintableFewRow network.now) rows.items) }
 {
     let mut workspace = Workspace::new(alloc);
     few_with(alloc, &mut workspace, network, query)
@@ -151,12 +154,13 @@ pub fn few_with(
     network: &Network,
     query: &Query,
 ) -> Result<Vec<FewRow>, AllocError>
-    requires asks { IsQuery network.now query.now.line query.now.from query.now.to query.now.depart (form_of query.now.expr) }
+    requires asks { IsQuery network.now query.now.line query.now.from query.now.to query.now.depart
+        (form_of query.now.expr) }
     requires usable { IsUsable (form_of query.now.expr) }
     requires soon { query.now.depart < 2 ^ 64 }
-    ensures rows { IfOk result (λ rows. AreRows network.now (asked_by query.now) rows.items) }
+    ensures rows { IfOk result (λ rows. AreFewRows network.now (asked_by query.now) rows.items) }
     ensures none { IfOk result (λ rows. (rows.items ≡ []) ↔ HasNoneByFew network.now (asked_by query.now)) }
-    ensures printable { IfOk result (λ rows. All (IsPrintableRow network.now) rows.items) }
+    ensures printable { IfOk result (λ rows. All (IsPrintableFewRow network.now) rows.items) }
 {
     let mut rows = Vec::new(alloc);
     let mut best = least_below(alloc, workspace, network, query, 9)?;

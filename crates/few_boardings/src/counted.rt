@@ -1,7 +1,7 @@
 //! The automaton that counts transit letters.
 
 ghost use Rattle.std.specs.Prelude.{◌≡◌, ℕ, ◌+◌, ◌*◌, ◌<◌, ◌≤◌, ◌^◌};
-ghost use Rattle.few_boardings.specs.Counted.{FitsCounted, counted, counted_move, reads_on, may_end, AcceptsCounted};
+ghost use Rattle.few_boardings.specs.Counted.{FitsCounted, counted, counted_move, reads_on, may_end_with, AcceptsCounted};
 ghost use Rattle.few_boardings.specs.CountedLaws.{counted_lawful, counted_road};
 
 use search_laws::{Labels, Move, RoadLabels, TRANSIT};
@@ -62,7 +62,7 @@ impl<L: Labels> Counted<L> {
 
     /// Whether a word may end with the count `k`.
     fn may_end(&self, k: u32) -> bool
-        ensures { result ≡ may_end self.now.side self.now.limit k }
+        ensures { result ≡ may_end_with self.now.side self.now.limit k }
     {
         match self.side {
             Side::AtMost => true,
@@ -101,7 +101,8 @@ impl<L: Labels> Counted<L> {
 impl<L: Labels> Labels for Counted<L> {
     ghost automaton = { λ labels. counted (L.automaton labels.inner) labels.side labels.limit };
 
-    ghost lawful = { λ labels. counted_lawful (L.automaton labels.inner) (L.lawful labels.inner) labels.side labels.limit labels.fits };
+    ghost lawful = { λ labels. counted_lawful (L.automaton labels.inner) (L.lawful labels.inner) labels.side
+        labels.limit labels.fits };
 
     fn states(&self) -> u32 {
         self.inner.states() * self.counts()
@@ -129,5 +130,6 @@ impl<L: Labels> Labels for Counted<L> {
 }
 
 impl<L: RoadLabels> RoadLabels for Counted<L> {
-    ghost road_law = { λ labels. counted_road (L.Labels.automaton labels.inner) (L.Labels.lawful labels.inner) labels.side labels.limit (L.road_law labels.inner) };
+    ghost road_law = { λ labels. counted_road (L.Labels.automaton labels.inner) (L.Labels.lawful labels.inner)
+        labels.side labels.limit (L.road_law labels.inner) };
 }

@@ -2,7 +2,7 @@
 use Rattle.std.proofs.Common.{◌≡◌, ◌≤ℤ◌, arith}
 use Rattle.std.proofs.lemmas.Int.{ints}
 use Rattle.plan_base.specs.declared.places.Place.{Place}
-use Rattle.geo_length.specs.Boxes.{IsInside, IsWithin}
+use Rattle.geo_length.specs.Boxes.{IsInBounds, IsInside}
 use Rattle.geo_length.specs.declared.boxes.Bounds.{Bounds}
 use Rattle.geo_length.specs.Nearest.{Point}
 
@@ -21,5 +21,5 @@ between bounds around place low high inside = record {
 }
 
 -- a point is within a box with the same corners and no higher an id
-pub still_within : (a b : Bounds) (point : Point) → a.low ≡ b.low → a.high ≡ b.high → a.least_id ≤ℤ point.0 → IsInside b point.1 → IsWithin a point
+pub still_within : (a b : Bounds) (point : Point) → a.low ≡ b.low → a.high ≡ b.high → a.least_id ≤ℤ point.0 → IsInside b point.1 → IsInBounds a point
 still_within a b point low high least inside = (same_corners a b point.1 low high inside, least)

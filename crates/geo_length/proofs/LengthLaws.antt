@@ -5,18 +5,18 @@ use Rattle.std.proofs.lemmas.Bool.Decides.{nat_tests}
 use Rattle.std.proofs.lemmas.Int.{ints}
 use Rattle.plan_base.specs.declared.places.Place.{Place}
 use Rattle.geo_length.specs.Widths.{width_at}
-use Rattle.geo_length.specs.Lengths.{around, eastward, length_between, square_between, mean_degree, northward}
+use Rattle.geo_length.specs.Lengths.{short_way_around, eastward, length_between, square_between, mean_degree, northward}
 use Rattle.geo_length.specs.Roots.{root}
 use Rattle.geo_length.proofs.RootLaws.{root-ge, root_is}
 use Rattle.geo_length.proofs.WidthLaws.{width_at-le}
 use Rattle.std.proofs.lemmas.Bool.{cases_lt}
 
 -- the short way around is the less of both ways
-pub around_is : (d : ℕ) → d ≤ 3600000000 → around d ≡ min d (3600000000 - d)
+pub around_is : (d : ℕ) → d ≤ 3600000000 → short_way_around d ≡ min d (3600000000 - d)
 around_is d h = grind (arith, nat_tests)
 
 -- Past an interval of longitudes, one of its ends is nearest.
-pub around_past : (x low high y : ℤ) → unsigned_abs x ≤ 1800000000 → unsigned_abs low ≤ 1800000000 → unsigned_abs high ≤ 1800000000 → low ≤ℤ y → y ≤ℤ high → (x <ℤ low) ⊎ (high <ℤ x) → min (around (unsigned_abs (x -ℤ low))) (around (unsigned_abs (x -ℤ high))) ≤ around (unsigned_abs (x -ℤ y))
+pub around_past : (x low high y : ℤ) → unsigned_abs x ≤ 1800000000 → unsigned_abs low ≤ 1800000000 → unsigned_abs high ≤ 1800000000 → low ≤ℤ y → y ≤ℤ high → (x <ℤ low) ⊎ (high <ℤ x) → min (short_way_around (unsigned_abs (x -ℤ low))) (short_way_around (unsigned_abs (x -ℤ high))) ≤ short_way_around (unsigned_abs (x -ℤ y))
 around_past x low high y a b c south north past =
     let p = around_is (unsigned_abs (x -ℤ low)) (omega (arith, ints)) in
     let q = around_is (unsigned_abs (x -ℤ high)) (omega (arith, ints)) in
@@ -32,10 +32,10 @@ unfolding length_between
 eastward-le a b = root-ge _ (eastward a b) (omega arith)
 
 -- a lesser difference and a lesser width make no longer way
-pub eastward-ge : (a b : Place) (difference width : ℕ) → difference ≤ around (unsigned_abs (a.lon -ℤ b.lon)) → width ≤ width_at (mean_degree a b) → difference * 11132 * width / 10 ^ 7 ≤ eastward a b
+pub eastward-ge : (a b : Place) (difference width : ℕ) → difference ≤ short_way_around (unsigned_abs (a.lon -ℤ b.lon)) → width ≤ width_at (mean_degree a b) → difference * 11132 * width / 10 ^ 7 ≤ eastward a b
 unfolding eastward
 eastward-ge a b difference width less narrower =
-    let product : difference * width ≤ around (unsigned_abs (a.lon -ℤ b.lon)) * width_at (mean_degree a b) = mul-le-mul less narrower in
+    let product : difference * width ≤ short_way_around (unsigned_abs (a.lon -ℤ b.lon)) * width_at (mean_degree a b) = mul-le-mul less narrower in
     omega (arith, product)
 
 northward-few : (a b : Place) → northward a b ≤ 2 ^ 35
@@ -46,8 +46,8 @@ eastward-few : (a b : Place) → eastward a b ≤ 2 ^ 35
 unfolding eastward
 eastward-few a b =
     let wide = around_is (unsigned_abs (a.lon -ℤ b.lon)) (omega (arith, ints, a.in_range.west, a.in_range.east, b.in_range.west, b.in_range.east)) in
-    let few : around (unsigned_abs (a.lon -ℤ b.lon)) ≤ 1800000000 = omega (arith, wide) in
-    let most : around (unsigned_abs (a.lon -ℤ b.lon)) * width_at (mean_degree a b) ≤ 1800000000 * 10000 = mul-le-mul few (width_at-le (mean_degree a b)) in
+    let few : short_way_around (unsigned_abs (a.lon -ℤ b.lon)) ≤ 1800000000 = omega (arith, wide) in
+    let most : short_way_around (unsigned_abs (a.lon -ℤ b.lon)) * width_at (mean_degree a b) ≤ 1800000000 * 10000 = mul-le-mul few (width_at-le (mean_degree a b)) in
     omega (arith, most)
 
 -- no two places are further apart than the circumference

@@ -10,7 +10,7 @@ use Rattle.std.proofs.lemmas.List.Elements.{All-filter, All-nil, All-cons, All-a
 use Rattle.std.proofs.lemmas.List.Sorted.{All-permutation, Contains-permutation, IsPermutation-append_comm, IsPermutation-append_right}
 use Rattle.plan_base.specs.declared.places.Place.{Place}
 use Rattle.geo_length.specs.Lengths.{length_between}
-use Rattle.geo_length.specs.Nearest.{ComesLater, IsClosest, IsNearest, Point, TakesIn, length_to, limit_of, nearer_of}
+use Rattle.geo_length.specs.Nearest.{ComesLater, ExtendsNearest, IsClosest, IsNearest, Point, length_to, limit_of, nearer_of}
 
 -- the test whether the best so far comes no later than a point
 abbrev later_test : ℤ × ℕ → ℤ → ℕ → Bool
@@ -64,15 +64,15 @@ module _ (place : Place) (within : ℕ) where
       let lengths : a.1 ≡ b.1 = omega (arith, up.1, down.1) in
       ap Some (ap₂ (λ (id : ℤ) (mm : ℕ). (id, mm)) ids lengths)
 
-  pub takes_none : (best : Option (ℤ × ℕ)) → TakesIn [] place within best best
+  pub takes_none : (best : Option (ℤ × ℕ)) → ExtendsNearest [] place within best best
   takes_none best = record { joined = λ seen h. rw append-nil h }
 
-  pub takes_append : (xs ys : List Point) (a b c : Option (ℤ × ℕ)) → TakesIn xs place within a b → TakesIn ys place within b c → TakesIn (xs ++ ys) place within a c
+  pub takes_append : (xs ys : List Point) (a b c : Option (ℤ × ℕ)) → ExtendsNearest xs place within a b → ExtendsNearest ys place within b c → ExtendsNearest (xs ++ ys) place within a c
   takes_append xs ys a b c first second =
       record { joined = λ seen h. rw (← append_assoc seen xs ys) (second.joined (seen ++ xs) (first.joined seen h)) }
 
   -- the points behind may be taken in before those in front
-  pub takes_behind : (xs ys : List Point) (a b c : Option (ℤ × ℕ)) → TakesIn ys place within a b → TakesIn xs place within b c → TakesIn (xs ++ ys) place within a c
+  pub takes_behind : (xs ys : List Point) (a b c : Option (ℤ × ℕ)) → ExtendsNearest ys place within a b → ExtendsNearest xs place within b c → ExtendsNearest (xs ++ ys) place within a c
   takes_behind xs ys a b c first second =
       record { joined = λ seen h. IsNearest-permutation (seen ++ (ys ++ xs)) (seen ++ (xs ++ ys)) c (IsPermutation-append_right seen (ys ++ xs) (xs ++ ys) (IsPermutation-append_comm ys xs)) ((takes_append ys xs a b c first second).joined seen h) }
 
@@ -82,7 +82,7 @@ module _ (place : Place) (within : ℕ) where
   far_later (Some best) point far = (omega (arith, far), λ same. absurd (omega (arith, far, same)))
 
   -- points that come later change nothing
-  pub takes_later : (xs : List Point) (best : Option (ℤ × ℕ)) → All (ComesLater place within best) xs → TakesIn xs place within best best
+  pub takes_later : (xs : List Point) (best : Option (ℤ × ℕ)) → All (ComesLater place within best) xs → ExtendsNearest xs place within best best
   takes_later xs None later = record { joined = λ seen h. All-append (λ point. within < length_to place point) seen xs h later }
   takes_later xs (Some best) later =
       let as_far = λ (point : Point). best.1 ≤ length_to place point in
@@ -100,14 +100,14 @@ module _ (place : Place) (within : ℕ) where
         );
       }
 
-  pub passing_later : (passes : Point → Bool) (xs : List Point) (best : Option (ℤ × ℕ)) → All (ComesLater place within best) xs → TakesIn (filter passes xs) place within best best
+  pub passing_later : (passes : Point → Bool) (xs : List Point) (best : Option (ℤ × ℕ)) → All (ComesLater place within best) xs → ExtendsNearest (filter passes xs) place within best best
   passing_later passes xs best later = takes_later (filter passes xs) best (All-filter passes (ComesLater place within best) xs later)
 
-  pub takes_one_later : (best : Option (ℤ × ℕ)) (point : Point) → ComesLater place within best point → TakesIn (point ∷ []) place within best best
+  pub takes_one_later : (best : Option (ℤ × ℕ)) (point : Point) → ComesLater place within best point → ExtendsNearest (point ∷ []) place within best best
   takes_one_later best point later = takes_later (point ∷ []) best (All-cons (ComesLater place within best) point [] later (All-nil (ComesLater place within best)))
 
   -- a point that comes no later than the best so far takes its place
-  takes_sooner : (best : ℤ × ℕ) (id : ℤ) (at : Place) → length_between place at ≤ best.1 → (length_between place at ≡ best.1 → id ≤ℤ best.0) → TakesIn ((id, at) ∷ []) place within (Some best) (Some (id, length_between place at))
+  takes_sooner : (best : ℤ × ℕ) (id : ℤ) (at : Place) → length_between place at ≤ best.1 → (length_between place at ≡ best.1 → id ≤ℤ best.0) → ExtendsNearest ((id, at) ∷ []) place within (Some best) (Some (id, length_between place at))
   takes_sooner best id at sooner first =
       let mm : ℕ = length_between place at in
       record {
@@ -128,7 +128,7 @@ module _ (place : Place) (within : ℕ) where
         );
       }
 
-  takes_first : (id : ℤ) (at : Place) → length_between place at ≤ within → TakesIn ((id, at) ∷ []) place within None (Some (id, length_between place at))
+  takes_first : (id : ℤ) (at : Place) → length_between place at ≤ within → ExtendsNearest ((id, at) ∷ []) place within None (Some (id, length_between place at))
   takes_first id at near =
       let mm : ℕ = length_between place at in
       record {
@@ -145,7 +145,7 @@ module _ (place : Place) (within : ℕ) where
       }
 
   -- each point is taken in
-  pub takes_point : (best : Option (ℤ × ℕ)) (point : Point) → TakesIn (point ∷ []) place within best (nearer_of within best point.0 (length_to place point))
+  pub takes_point : (best : Option (ℤ × ℕ)) (point : Point) → ExtendsNearest (point ∷ []) place within best (nearer_of within best point.0 (length_to place point))
   takes_point None point =
       ⊎_elim
       (λ t. rw t.0 (takes_one_later None point t.1))
@@ -153,7 +153,7 @@ module _ (place : Place) (within : ℕ) where
       (ltb_tells within (length_to place point))
   takes_point (Some best) point = by_test (later_test best point.0 (length_to place point)) refl
     where
-      by_test : (b : Bool) → later_test best point.0 (length_to place point) ≡ b → TakesIn (point ∷ []) place within (Some best) (if b then Some best else Some (point.0, length_to place point))
+      by_test : (b : Bool) → later_test best point.0 (length_to place point) ≡ b → ExtendsNearest (point ∷ []) place within (Some best) (if b then Some best else Some (point.0, length_to place point))
       by_test true e = takes_one_later (Some best) point (later_first best point.0 _ e)
       by_test false e = takes_sooner best point.0 point.1 (sooner_first best point.0 _ e).0 (sooner_first best point.0 _ e).1
 

@@ -10,8 +10,8 @@ pub record IsInside (bounds : Bounds) (place : Place) : Type 0 where
   pub east : place.lon ≤ℤ bounds.high.lon
 
 -- a point is inside, and its id is no lower than the least
-abbrev pub IsWithin : Bounds → ℤ × Place → Type 0
-IsWithin bounds point = IsInside bounds point.1 × (bounds.least_id ≤ℤ point.0)
+abbrev pub IsInBounds : Bounds → ℤ × Place → Type 0
+IsInBounds bounds point = IsInside bounds point.1 × (bounds.least_id ≤ℤ point.0)
 
 abbrev pub AreInside : Bounds → List (ℤ × Place) → Type 0
-AreInside bounds points = All (IsWithin bounds) points
+AreInside bounds points = All (IsInBounds bounds) points

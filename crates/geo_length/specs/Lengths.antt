@@ -6,8 +6,8 @@ use Rattle.geo_length.specs.Roots.{root}
 use Rattle.geo_length.specs.Widths.{width_at}
 
 -- a difference of longitudes, the short way around
-abbrev pub around : ℕ → ℕ
-around difference = if nat_lt 1800000000 difference then 3600000000 - difference else difference
+abbrev pub short_way_around : ℕ → ℕ
+short_way_around difference = if nat_lt 1800000000 difference then 3600000000 - difference else difference
 
 -- the whole degree of the mean latitude of two places, without its sign
 abbrev pub mean_degree : Place → Place → ℕ
@@ -18,7 +18,7 @@ unfoldable pub northward : Place → Place → ℕ
 northward a b = unsigned_abs (a.lat -ℤ b.lat) * 11132 / 1000
 
 unfoldable pub eastward : Place → Place → ℕ
-eastward a b = around (unsigned_abs (a.lon -ℤ b.lon)) * 11132 * width_at (mean_degree a b) / 10 ^ 7
+eastward a b = short_way_around (unsigned_abs (a.lon -ℤ b.lon)) * 11132 * width_at (mean_degree a b) / 10 ^ 7
 
 -- the square of the length
 abbrev pub square_between : Place → Place → ℕ

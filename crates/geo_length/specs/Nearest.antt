@@ -25,7 +25,7 @@ IsNearest points place within None = All (λ point. within < length_to place poi
 IsNearest points place within (Some nearest) = (nearest.1 ≤ within) × IsClosest points place nearest.0 nearest.1
 
 -- From the nearest of any points before, these points make the nearest of them all.
-pub record TakesIn (points : List Point) (place : Place) (within : ℕ) (old new : Option (ℤ × ℕ)) : Type 0 where
+pub record ExtendsNearest (points : List Point) (place : Place) (within : ℕ) (old new : Option (ℤ × ℕ)) : Type 0 where
   pub joined : (seen : List Point) → IsNearest seen place within old → IsNearest (seen ++ points) place within new
 
 -- the greatest length of a point that still matters

@@ -13,7 +13,7 @@ pub struct Bounds {
 impl Bounds {
     ghost use Rattle.std.specs.Prelude.{◌≡◌, ◌≤ℤ◌};
     ghost use Rattle.plan_base.specs.declared.places.Place.{Place};
-    ghost use Rattle.geo_length.specs.Boxes.{AreInside, IsInside, IsWithin};
+    ghost use Rattle.geo_length.specs.Boxes.{AreInside, IsInBounds, IsInside};
     ghost use Rattle.geo_length.specs.Nearest.{Point};
 
     /// The least box around this one and a place.
@@ -51,16 +51,16 @@ impl Bounds {
 
     /// The least box around this one and a point.
     fn with_point(self, id: i64, place: Place) -> Bounds
-        ensures point { IsWithin result (id, place) }
-        ensures kept { (other : Point) → IsWithin self other → IsWithin result other }
+        ensures point { IsInBounds result (id, place) }
+        ensures kept { (other : Point) → IsInBounds self other → IsInBounds result other }
     {
         self.with(place).with_id(id)
     }
 
     /// The least box around this one and another that is not empty.
     pub fn around(self, other: Bounds) -> Bounds
-        ensures kept { (point : Point) → IsWithin self point → IsWithin result point }
-        ensures other { (point : Point) → IsWithin other point → IsWithin result point }
+        ensures kept { (point : Point) → IsInBounds self point → IsInBounds result point }
+        ensures other { (point : Point) → IsInBounds other point → IsInBounds result point }
     {
         let corners = self.with(other.low).with(other.high);
         corners.with_id(other.least_id)

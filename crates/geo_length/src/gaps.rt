@@ -3,7 +3,7 @@
 ghost use Rattle.std.specs.Prelude.{◌≤◌, ◌-ℤ◌, unsigned_abs};
 ghost use Rattle.plan_base.specs.declared.places.Place.{Place};
 ghost use Rattle.geo_length.specs.Boxes.{IsInside};
-ghost use Rattle.geo_length.specs.Lengths.{around, eastward, mean_degree, northward, length_between};
+ghost use Rattle.geo_length.specs.Lengths.{short_way_around, eastward, mean_degree, northward, length_between};
 
 use crate::boxes::Bounds;
 use crate::lengths::longitude_between;
@@ -12,7 +12,8 @@ use plan_base::Place;
 
 // How many units a place is at least to the north or to the south of what is inside.
 fn latitude_gap(bounds: &Bounds, place: Place) -> u64
-    ensures value { (other : Place) → IsInside bounds.now other → result ≤ unsigned_abs (place.lat -ℤ other.lat) }
+    ensures value { (other : Place) → IsInside bounds.now other
+        → result ≤ unsigned_abs (place.lat -ℤ other.lat) }
     ensures within { result ≤ 1800000000 }
 {
     if place.lat < bounds.low.lat {
@@ -26,7 +27,8 @@ fn latitude_gap(bounds: &Bounds, place: Place) -> u64
 
 // How many units it is at least to the east or to the west, the short way around.
 fn longitude_gap(bounds: &Bounds, place: Place) -> u64
-    ensures value { (other : Place) → IsInside bounds.now other → result ≤ around (unsigned_abs (place.lon -ℤ other.lon)) }
+    ensures value { (other : Place) → IsInside bounds.now other
+        → result ≤ short_way_around (unsigned_abs (place.lon -ℤ other.lon)) }
     ensures within { result ≤ 1800000000 }
 {
     if bounds.low.lon <= place.lon && place.lon <= bounds.high.lon {

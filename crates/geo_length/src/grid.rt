@@ -48,7 +48,8 @@ impl Grid {
     /// runs out.
     pub fn build(alloc: Global, points: &[(i64, Place)]) -> Result<Grid, AllocError>
         ensures points { IfOk result (λ grid. IsPermutation points.now grid) }
-        ensures nearest { IfOk result (λ grid. (place : Place) (within : ℕ) (best : Option (ℤ × ℕ)) → IsNearest grid place within best → IsNearest points.now place within best) }
+        ensures nearest { IfOk result (λ grid. (place : Place) (within : ℕ) (best : Option (ℤ × ℕ))
+            → IsNearest grid place within best → IsNearest points.now place within best) }
     {
         Grid::of(alloc, Vec::from_slice(alloc, points)?)
     }
@@ -56,7 +57,8 @@ impl Grid {
     /// The same without a copy of the points, which it takes.
     pub fn of(alloc: Global, points: Vec<(i64, Place)>) -> Result<Grid, AllocError>
         ensures points { IfOk result (λ grid. IsPermutation points.items grid) }
-        ensures nearest { IfOk result (λ grid. (place : Place) (within : ℕ) (best : Option (ℤ × ℕ)) → IsNearest grid place within best → IsNearest points.items place within best) }
+        ensures nearest { IfOk result (λ grid. (place : Place) (within : ℕ) (best : Option (ℤ × ℕ))
+            → IsNearest grid place within best → IsNearest points.items place within best) }
     {
         let mut points = points;
         points.sort_unstable_by_key(|point| rank(point));
@@ -83,7 +85,8 @@ impl Grid {
         within: u64,
     ) -> Option<(i64, u64)>
         ensures nearest { IsNearest (filter (F.passes wanted.now) self.now) place within result }
-        ensures only { (other : Option (ℤ × ℕ)) → IsNearest (filter (F.passes wanted.now) self.now) place within other → other ≡ result }
+        ensures only { (other : Option (ℤ × ℕ)) → IsNearest (filter (F.passes wanted.now) self.now) place
+            within other → other ≡ result }
     {
         with_tree(&self.tree, &self.points, wanted, place, within, None)
     }

@@ -1,7 +1,7 @@
 //! Lengths between places.
 
 ghost use Rattle.std.specs.Prelude.{◌≡◌, ◌+◌, ◌*◌, ◌^◌, ◌<◌, ◌≤◌, ◌-ℤ◌, unsigned_abs};
-ghost use Rattle.geo_length.specs.Lengths.{around, eastward, length_between, mean_degree, northward, square_between};
+ghost use Rattle.geo_length.specs.Lengths.{eastward, length_between, mean_degree, northward, short_way_around, square_between};
 ghost use Rattle.geo_length.specs.Roots.{IsRoot, root};
 
 use crate::widths::width;
@@ -10,7 +10,7 @@ use plan_base::Place;
 // The short way around.
 fn short_way(difference: u64) -> u64
     requires { difference ≤ 3600000000 }
-    ensures value { result ≡ around difference }
+    ensures value { result ≡ short_way_around difference }
     ensures within { result ≤ 1800000000 }
 {
     if difference > 1_800_000_000 {
@@ -22,7 +22,7 @@ fn short_way(difference: u64) -> u64
 
 /// The difference of the longitudes of two places, the short way around.
 pub fn longitude_between(a: Place, b: Place) -> u64
-    ensures value { result ≡ around (unsigned_abs (a.lon -ℤ b.lon)) }
+    ensures value { result ≡ short_way_around (unsigned_abs (a.lon -ℤ b.lon)) }
     ensures within { result ≤ 1800000000 }
 {
     short_way(a.lon.abs_diff(b.lon))

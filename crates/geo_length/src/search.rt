@@ -2,8 +2,8 @@
 
 ghost use Rattle.std.specs.Prelude.{◌≡◌, ◌≤◌, ◌<◌, ◌∷◌, [], true, filter};
 ghost use Rattle.geo_length.specs.Lengths.{length_between};
-ghost use Rattle.geo_length.specs.Boxes.{IsWithin};
-ghost use Rattle.geo_length.specs.Nearest.{ComesLater, Point, TakesIn, limit_of, nearer_of};
+ghost use Rattle.geo_length.specs.Boxes.{IsInBounds};
+ghost use Rattle.geo_length.specs.Nearest.{ComesLater, ExtendsNearest, Point, limit_of, nearer_of};
 ghost use Rattle.geo_length.specs.Trees.{AreBounded};
 
 use crate::boxes::Bounds;
@@ -65,7 +65,7 @@ fn with_point<F: PointFilter>(
     within: u64,
     best: Option<(i64, u64)>,
 ) -> Option<(i64, u64)>
-    ensures { TakesIn (filter (F.passes wanted.now) (point.now ∷ [])) place within best result }
+    ensures { ExtendsNearest (filter (F.passes wanted.now) (point.now ∷ [])) place within best result }
 {
     if is_past(place, point.1, limit(best, within)) {
         return best;
@@ -84,7 +84,7 @@ fn with_points<F: PointFilter>(
     within: u64,
     best: Option<(i64, u64)>,
 ) -> Option<(i64, u64)>
-    ensures { TakesIn (filter (F.passes wanted.now) points.now) place within best result }
+    ensures { ExtendsNearest (filter (F.passes wanted.now) points.now) place within best result }
 {
     let mut nearest = best;
     for point in points {
@@ -95,7 +95,7 @@ fn with_points<F: PointFilter>(
 
 // Whether no point of a box matters: each is surely past the nearest so far, or as far with no lower id.
 fn is_passed_over(bounds: Bounds, place: Place, within: u64, best: Option<(i64, u64)>) -> bool
-    ensures { result ≡ true → (point : Point) → IsWithin bounds point → ComesLater place within best point }
+    ensures { result ≡ true → (point : Point) → IsInBounds bounds point → ComesLater place within best point }
 {
     let least = least_mm(&bounds, place);
     match best {
@@ -115,7 +115,7 @@ pub fn with_tree<F: PointFilter>(
     best: Option<(i64, u64)>,
 ) -> Option<(i64, u64)>
     requires { AreBounded tree.now points.now }
-    ensures { TakesIn (filter (F.passes wanted.now) points.now) place within best result }
+    ensures { ExtendsNearest (filter (F.passes wanted.now) points.now) place within best result }
 {
     if is_passed_over(bounds_of(tree), place, within, best) {
         return best;

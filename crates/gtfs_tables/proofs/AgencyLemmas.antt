@@ -2,7 +2,7 @@
 use Rattle.std.proofs.Common.{◌≡◌, ℕ, List, [], ◌∷◌, ◌++◌, filter_map, refl, false, Some}
 use Rattle.std.specs.Prelude.{unwrap_or}
 use Rattle.std.specs.List.{list_any}
-use Rattle.gtfs_tables.specs.Agencies.{agencies, first_of, is_first}
+use Rattle.gtfs_tables.specs.Agencies.{agencies, first_zone, is_first}
 use Rattle.gtfs_tables.specs.Tables.{has_first_zone}
 
 -- no row has the key of an earlier one, and none gives a record
@@ -15,10 +15,10 @@ without_record [] = refl
 without_record (first ∷ zones) = without_record zones
 
 -- the first time zone
-pub same_zone : (zones : List (List ℕ)) (zone : List ℕ) → has_first_zone agencies zones zone ≡ is_first (first_of zones) zone
+pub same_zone : (zones : List (List ℕ)) (zone : List ℕ) → has_first_zone agencies zones zone ≡ is_first (first_zone zones) zone
 same_zone [] zone = refl
 same_zone (first ∷ zones) zone = refl
 
-pub first_stays : (zones : List (List ℕ)) (zone : List ℕ) → Some (unwrap_or (first_of zones) zone) ≡ first_of (zones ++ zone ∷ [])
+pub first_stays : (zones : List (List ℕ)) (zone : List ℕ) → Some (unwrap_or (first_zone zones) zone) ≡ first_zone (zones ++ zone ∷ [])
 first_stays [] zone = refl
 first_stays (first ∷ zones) zone = refl

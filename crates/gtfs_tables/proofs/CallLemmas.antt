@@ -7,7 +7,7 @@ use Rattle.std.proofs.lemmas.Bool.Decides.{nat_tests}
 use Rattle.std.proofs.lemmas.Option.{same_Some}
 use Rattle.std.proofs.lemmas.List.Quantifiers.{position-Some}
 use Rattle.std.proofs.lemmas.Slice.Eq.{bytes_eq-Decides}
-use Rattle.gtfs_tables.specs.Calls.{StopTime, HasTrip, key_of, is_same_key}
+use Rattle.gtfs_tables.specs.Calls.{StopTime, HasTrip, call_key_of, is_same_key}
 use Rattle.gtfs_tables.specs.Trips.{place_among}
 
 -- the id at a place
@@ -39,7 +39,7 @@ abbrev pub has_key_of : StopTime → StopTime → Bool
 has_key_of time earlier = bytes_eq time.trip earlier.trip && nat_eq time.visit.sequence earlier.visit.sequence
 
 pub found_key : (trips : List (List ℕ)) (time : StopTime) (k : ℕ) → place_among trips time.trip ≡ Some k → (earlier : List StopTime) → AllByRecursion (HasTrip trips) earlier
-    → list_any (has_key_of time) earlier ≡ list_any (is_same_key (k, time.visit.sequence)) (map (key_of trips) earlier)
+    → list_any (has_key_of time) earlier ≡ list_any (is_same_key (k, time.visit.sequence)) (map (call_key_of trips) earlier)
 found_key trips time k is [] known = refl
 found_key trips time k is (other ∷ earlier) known =
     ap₂ ◌||◌ (ap (λ same. same && nat_eq time.visit.sequence other.visit.sequence) (by_place (place_among trips other.trip) refl known.0)) (found_key trips time k is earlier known.1)

@@ -23,23 +23,23 @@ use Rattle.gtfs_tables.specs.declared.routes.RouteRow.{RouteRow}
 use Rattle.gtfs_tables.specs.declared.services.ServiceRow.{ServiceRow}
 use Rattle.gtfs_tables.specs.declared.stops.StopRow.{StopRow}
 use Rattle.gtfs_tables.specs.declared.trips.TripRow.{TripRow}
-use Rattle.gtfs_tables.specs.Calls.{StopTime, call_at, call_between, call_of, calls, times_in, times_of, visit_in}
-use Rattle.gtfs_tables.specs.Forms.{added_at, digits_at, headway_at, hours_and_part, id_at, is_id, is_usual_at, letter_of, optional_time_at, part_at, positive, time_at, trimmed}
+use Rattle.gtfs_tables.specs.Calls.{StopTime, call_between, call_if_timed, call_row_of, calls, times_in, times_of, visit_in}
+use Rattle.gtfs_tables.specs.Forms.{added_at, feed_id_at, headway_at, hours_and_part, is_id, is_usual_at, letter_of_type, minutes_and_seconds_at, optional_time_at, positive, service_time_at, trimmed, up_to_nine_digits_at}
 use Rattle.gtfs_tables.specs.Frequencies.{Frequency, frequencies, frequency_of, frequency_over, span_in}
 use Rattle.gtfs_tables.specs.Holding.{AreRead}
 use Rattle.gtfs_tables.specs.Routes.{routes}
 use Rattle.gtfs_tables.specs.ServiceDates.{dates}
 use Rattle.gtfs_tables.specs.Services.{rule_in, services}
-use Rattle.gtfs_tables.specs.Sound.{IsCall, IsFrequency, IsId, IsRoute, IsTrip, is_same_call}
-use Rattle.gtfs_tables.specs.Stops.{Location, place_in, stops}
+use Rattle.gtfs_tables.specs.Sound.{IsCall, IsFeedId, IsFrequency, IsRoute, IsTrip, is_same_call}
+use Rattle.gtfs_tables.specs.Stops.{Location, place_if_stop, stops}
 use Rattle.gtfs_tables.specs.TableRows.{TableRow, field_in, id_in, value_in}
 use Rattle.gtfs_tables.specs.Trips.{TripLine, place_among, trip_of, trip_over, trips}
 use Rattle.gtfs_tables.proofs.CallLemmas.{same_place}
 use Rattle.gtfs_tables.proofs.SoundLemmas.{behind, distinct_keys, each_keeps, has_value, no_two}
 use Rattle.gtfs_tables.proofs.StopLemmas.{has_id_of}
 
-id_is : (row : TableRow) (column : Column) (id : List ℕ) → id_in row column ≡ Ok id → IsId id
-id_is row column id e = by_test (field_in row column) (is_id (field_in row column)) refl (has_value (id_at (field_in row column)) _ id e)
+id_is : (row : TableRow) (column : Column) (id : List ℕ) → id_in row column ≡ Ok id → IsFeedId id
+id_is row column id e = by_test (field_in row column) (is_id (field_in row column)) refl (has_value (feed_id_at (field_in row column)) _ id e)
   where
     by_test : (text : List ℕ) (t : Bool) → is_id text ≡ t → cond t (Some text) None ≡ Some id → is_id id ≡ true
     by_test text true is e = subst (λ id. is_id id ≡ true) (same_Some text id e) is
@@ -58,33 +58,33 @@ week (Some hours) (Some part) t e = by_test (nat_le (hours * 3600 + part) 604799
     by_test true is e = subst (λ t. t ≤ 604799) (same_Some (hours * 3600 + part) t e) (grind (arith, nat_tests, is))
     by_test false is e = absurd (none-some t e)
 
-time_within : (text : List ℕ) (t : ℕ) → time_at text ≡ Some t → t ≤ 604799
-unfolding time_at
+time_within : (text : List ℕ) (t : ℕ) → service_time_at text ≡ Some t → t ≤ 604799
+unfolding service_time_at
 time_within text t e = by_test (nat_le 7 (length text) && nat_le (length text) 9) e
   where
-    by_test : (sized : Bool) → cond sized (hours_and_part (fixed_at (take (length text - 6) text)) (part_at (drop (length text - 6) text))) None ≡ Some t → t ≤ 604799
-    by_test true e = week (fixed_at (take (length text - 6) text)) (part_at (drop (length text - 6) text)) t e
+    by_test : (sized : Bool) → cond sized (hours_and_part (fixed_at (take (length text - 6) text)) (minutes_and_seconds_at (drop (length text - 6) text))) None ≡ Some t → t ≤ 604799
+    by_test true e = week (fixed_at (take (length text - 6) text)) (minutes_and_seconds_at (drop (length text - 6) text)) t e
     by_test false e = absurd (none-some t e)
 
 within_a_week : (text : List ℕ) (time : Option ℕ) → optional_time_at text ≡ Some time → IfSome time (λ t. t ≤ 604799)
 within_a_week [] time e = subst (λ time. IfSome time (λ t. t ≤ 604799)) (same_Some None time e) tt
-within_a_week (b ∷ bs) time e = by_time (time_at (b ∷ bs)) refl e
+within_a_week (b ∷ bs) time e = by_time (service_time_at (b ∷ bs)) refl e
   where
-    by_time : (o : Option ℕ) → time_at (b ∷ bs) ≡ o → option_map Some o ≡ Some time → IfSome time (λ t. t ≤ 604799)
+    by_time : (o : Option ℕ) → service_time_at (b ∷ bs) ≡ o → option_map Some o ≡ Some time → IfSome time (λ t. t ≤ 604799)
     by_time None is e = absurd (none-some time e)
     by_time (Some t) is e = subst (λ time. IfSome time (λ t. t ≤ 604799)) (same_Some (Some t) time e) (time_within (b ∷ bs) t is)
 
 module _ (caps : Caps) (text : Option (List ℕ)) where
   -- stops
   module _ (rows : List StopRow) (read : AreRead (stops caps) text rows) where
-    pub stops_keep : AllByRecursion (λ (stop : StopRow). IsId stop.id) rows
-    stops_keep = each_keeps (stops caps) text rows read (λ location. IsId location.id) (λ stop. IsId stop.id)
+    pub stops_keep : AllByRecursion (λ (stop : StopRow). IsFeedId stop.id) rows
+    stops_keep = each_keeps (stops caps) text rows read (λ location. IsFeedId location.id) (λ stop. IsFeedId stop.id)
         (λ row.
         behind (id_in row column.StopId) _ _ (λ id is.
         behind (value_in (is_usual_at 4) row column.LocationType) _ _ (λ is_stop _.
-        behind (place_in row is_stop) _ _ (λ place _.
+        behind (place_if_stop row is_stop) _ _ (λ place _.
         id_is row column.StopId id is))))
-        (λ location stop kept gave. subst IsId (sym (has_id_of location stop gave)) kept)
+        (λ location stop kept gave. subst IsFeedId (sym (has_id_of location stop gave)) kept)
 
     pub stop_ids : IsDistinct bytes_eq (map (λ (stop : StopRow). stop.id) rows)
     stop_ids = distinct_keys (λ stop. stop.id) bytes_eq rows (no_two (stops caps) text rows read (same_ids (λ (location : Location). location.id)) (λ stop other. bytes_eq stop.id other.id)
@@ -92,7 +92,7 @@ module _ (caps : Caps) (text : Option (List ℕ)) where
 
   -- routes
   module _ (rows : List RouteRow) (read : AreRead (routes caps) text rows) where
-    letters : (n : ℕ) → (3 ≤ letter_of n) × (letter_of n ≤ 13)
+    letters : (n : ℕ) → (3 ≤ letter_of_type n) × (letter_of_type n ≤ 13)
     letters n = by_tests (nat_le n 7) refl (nat_eq n 11 || nat_eq n 12) refl
       where
         by_tests : (low : Bool) → nat_le n 7 ≡ low → (high : Bool) → (nat_eq n 11 || nat_eq n 12) ≡ high → (3 ≤ cond low (n + 3) (cond high n 13)) × (cond low (n + 3) (cond high n 13) ≤ 13)
@@ -104,7 +104,7 @@ module _ (caps : Caps) (text : Option (List ℕ)) where
     routes_keep = each_keeps (routes caps) text rows read IsRoute IsRoute
         (λ row.
         behind (id_in row column.RouteId) _ _ (λ id is.
-        behind (value_in digits_at row column.RouteType) _ _ (λ type _.
+        behind (value_in up_to_nine_digits_at row column.RouteType) _ _ (λ type _.
         record { id = id_is row column.RouteId id is; above_road = (letters type).0; letter = (letters type).1 })))
         (λ route row kept gave. subst IsRoute (same_Some route row gave) kept)
 
@@ -114,13 +114,13 @@ module _ (caps : Caps) (text : Option (List ℕ)) where
 
   -- services
   module _ (rows : List ServiceRow) (read : AreRead (services caps) text rows) where
-    pub services_keep : AllByRecursion (λ (service : ServiceRow). IsId service.id) rows
-    services_keep = each_keeps (services caps) text rows read (λ service. IsId service.id) (λ service. IsId service.id)
+    pub services_keep : AllByRecursion (λ (service : ServiceRow). IsFeedId service.id) rows
+    services_keep = each_keeps (services caps) text rows read (λ service. IsFeedId service.id) (λ service. IsFeedId service.id)
         (λ row.
         behind (id_in row column.ServiceId) _ _ (λ id is.
         behind (rule_in row) _ _ (λ rule _.
         id_is row column.ServiceId id is)))
-        (λ service row kept gave. subst (λ (service : ServiceRow). IsId service.id) (same_Some service row gave) kept)
+        (λ service row kept gave. subst (λ (service : ServiceRow). IsFeedId service.id) (same_Some service row gave) kept)
 
     pub service_ids : IsDistinct bytes_eq (map (λ (service : ServiceRow). service.id) rows)
     service_ids = distinct_keys (λ service. service.id) bytes_eq rows (no_two (services caps) text rows read (same_ids (λ (service : ServiceRow). service.id)) (λ service other. bytes_eq service.id other.id)
@@ -128,14 +128,14 @@ module _ (caps : Caps) (text : Option (List ℕ)) where
 
   -- dates
   module _ (rows : List DateRow) (read : AreRead (dates caps) text rows) where
-    pub dates_keep : AllByRecursion (λ (date : DateRow). IsId date.id) rows
-    dates_keep = each_keeps (dates caps) text rows read (λ date. IsId date.id) (λ date. IsId date.id)
+    pub dates_keep : AllByRecursion (λ (date : DateRow). IsFeedId date.id) rows
+    dates_keep = each_keeps (dates caps) text rows read (λ date. IsFeedId date.id) (λ date. IsFeedId date.id)
         (λ row.
         behind (id_in row column.ServiceId) _ _ (λ id is.
         behind (value_in date_at row column.Date) _ _ (λ date _.
         behind (value_in added_at row column.ExceptionType) _ _ (λ added _.
         id_is row column.ServiceId id is))))
-        (λ date row kept gave. subst (λ (date : DateRow). IsId date.id) (same_Some date row gave) kept)
+        (λ date row kept gave. subst (λ (date : DateRow). IsFeedId date.id) (same_Some date row gave) kept)
 
   -- trips
   module _ (route_ids : List (List ℕ)) (rows : List TripRow) (read : AreRead (trips caps route_ids) text rows) where
@@ -154,7 +154,7 @@ module _ (caps : Caps) (text : Option (List ℕ)) where
             subst (IsOver line) same (record { is = refl; there = (position-Some (bytes_eq line.route) route_ids place [] at).0 })
 
     pub trips_keep : AllByRecursion (IsTrip (length route_ids)) rows
-    trips_keep = each_keeps (trips caps route_ids) text rows read (λ line. IsId line.id × IsId line.service) (IsTrip (length route_ids))
+    trips_keep = each_keeps (trips caps route_ids) text rows read (λ line. IsFeedId line.id × IsFeedId line.service) (IsTrip (length route_ids))
         (λ row.
         behind (id_in row column.TripId) _ _ (λ id is.
         behind (id_in row column.RouteId) _ _ (λ route _.
@@ -162,7 +162,7 @@ module _ (caps : Caps) (text : Option (List ℕ)) where
         (id_is row column.TripId id is, id_is row column.ServiceId service also)))))
         (λ line trip kept gave.
         let over = is_over line trip gave in
-        record { id = subst IsId (sym (ap (λ (trip : TripRow). trip.id) over.is)) kept.0; service = subst IsId (sym (ap (λ (trip : TripRow). trip.service) over.is)) kept.1; route = over.there })
+        record { id = subst IsFeedId (sym (ap (λ (trip : TripRow). trip.id) over.is)) kept.0; service = subst IsFeedId (sym (ap (λ (trip : TripRow). trip.service) over.is)) kept.1; route = over.there })
 
     pub trip_ids : IsDistinct bytes_eq (map (λ (trip : TripRow). trip.id) rows)
     trip_ids = distinct_keys (λ trip. trip.id) bytes_eq rows (no_two (trips caps route_ids) text rows read (same_ids (λ (line : TripLine). line.id)) (λ trip other. bytes_eq trip.id other.id)
@@ -194,14 +194,14 @@ module _ (caps : Caps) (text : Option (List ℕ)) where
         behind (id_in row column.TripId) _ _ (λ trip _.
         behind (span_in row) _ _ (λ span is.
         IfOk-at_ok IsSpan is
-        (behind (value_in time_at row column.StartTime) _ _ (λ start begins.
-        behind (value_in time_at row column.EndTime) _ _ (λ end ends.
+        (behind (value_in service_time_at row column.StartTime) _ _ (λ start begins.
+        behind (value_in service_time_at row column.EndTime) _ _ (λ end ends.
         behind (value_in headway_at row column.HeadwaySecs) _ _ (λ headway steady.
         behind (value_in (is_usual_at 1) row column.ExactTimes) _ _ (λ inexact _.
         record {
           start = time_within (trimmed (field_in row column.StartTime)) start (has_value _ _ start begins);
           end = time_within (trimmed (field_in row column.EndTime)) end (has_value _ _ end ends);
-          headway = headway_is (digits_at (trimmed (field_in row column.HeadwaySecs))) headway (has_value _ _ headway steady);
+          headway = headway_is (up_to_nine_digits_at (trimmed (field_in row column.HeadwaySecs))) headway (has_value _ _ headway steady);
         }))))))))
         (λ frequency row kept gave. over frequency row kept gave)
 
@@ -217,11 +217,11 @@ module _ (caps : Caps) (text : Option (List ℕ)) where
       sequence : call.sequence ≡ time.visit.sequence
       times : time.visit.times ≡ Some (record { arr = call.arr; dep = call.dep })
 
-    is_between : (time : StopTime) (call : CallRow) → call_of trip_ids stop_ids time ≡ Some call → IsBetween time call
+    is_between : (time : StopTime) (call : CallRow) → call_row_of trip_ids stop_ids time ≡ Some call → IsBetween time call
     is_between time call e = by_places (place_among trip_ids time.trip) refl (place_among stop_ids time.stop) refl e
       where
         by_times : (trip stop : ℕ) → place_among trip_ids time.trip ≡ Some trip → place_among stop_ids time.stop ≡ Some stop → (o : Option Times) → time.visit.times ≡ o
-            → call_at time.row trip stop (record time.visit { times = o }) ≡ Some call → IsBetween time call
+            → call_if_timed time.row trip stop (record time.visit { times = o }) ≡ Some call → IsBetween time call
         by_times trip stop here there None at e = absurd (none-some call e)
         by_times trip stop here there (Some times) at e =
             subst (IsBetween time) (same_Some _ call e) (record { trip = here; stop = there; sequence = refl; times = at })
@@ -244,7 +244,7 @@ module _ (caps : Caps) (text : Option (List ℕ)) where
         behind (id_in row column.StopId) _ _ (λ stop _.
         behind (visit_in row) _ _ (λ visit is.
         IfOk-at_ok (λ (visit : Visit). IfSome visit.times AreTimes) is
-        (behind (value_in digits_at row column.StopSequence) _ _ (λ sequence _.
+        (behind (value_in up_to_nine_digits_at row column.StopSequence) _ _ (λ sequence _.
         behind (times_in row) _ _ (λ times timed.
         behind (value_in (is_usual_at 3) row column.PickupType) _ _ (λ board _.
         behind (value_in (is_usual_at 3) row column.DropOffType) _ _ (λ alight _.

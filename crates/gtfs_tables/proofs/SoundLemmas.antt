@@ -10,7 +10,7 @@ use Rattle.gtfs_tables.specs.Answers.{◌>>=◌, faultless}
 use Rattle.gtfs_tables.specs.Columns.{Row}
 use Rattle.gtfs_tables.specs.TableRows.{TableRow}
 use Rattle.gtfs_tables.specs.Holding.{AreRead}
-use Rattle.gtfs_tables.specs.Tables.{Table, first_dangling, row_fault, judged, row_of, rows_behind, header_in, rows_below, missing_column, rows_of}
+use Rattle.gtfs_tables.specs.Tables.{Table, first_dangling, row_fault, judged, row_of, rows_behind, header_in, rows_below, missing_column, rows_of_file}
 use Rattle.gtfs_tables.proofs.CallLemmas.{one_more_known}
 
 -- a step that has a value
@@ -80,9 +80,9 @@ pub kept_by_records : {F R : Type 0} (t : Table F R) (Kept : List F → Type 0) 
     → ((all : List F) → Kept all → KeptToo (filter_map t.gives all)) → (text : Option (List ℕ)) (rows : List R) → AreRead t text rows → KeptToo rows
 kept_by_records t Kept KeptToo none keeps gives None rows read = subst KeptToo (same_Ok [] rows read.are) (gives [] none)
 kept_by_records t Kept KeptToo none keeps gives (Some text) rows read =
-    let heads = bound (faultless (missing_column t.file t.needed (header_in (rows_of text))) (header_in (rows_of text))) _ rows read.are in
-    let all = bound (rows_behind t heads.value [] (rows_below (rows_of text))) _ rows heads.then in
-    subst KeptToo (same_Ok _ rows all.then) (gives all.value (kept_by_all t Kept keeps heads.value [] (rows_below (rows_of text)) all.value none all.is))
+    let heads = bound (faultless (missing_column t.file t.needed (header_in (rows_of_file text))) (header_in (rows_of_file text))) _ rows read.are in
+    let all = bound (rows_behind t heads.value [] (rows_below (rows_of_file text))) _ rows heads.then in
+    subst KeptToo (same_Ok _ rows all.then) (gives all.value (kept_by_all t Kept keeps heads.value [] (rows_below (rows_of_file text)) all.value none all.is))
 
 -- what the records of rows keep, one by one
 module _ {F R : Type 0} (gives : F → Option R) where

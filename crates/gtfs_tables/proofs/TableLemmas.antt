@@ -15,14 +15,14 @@ use Rattle.gtfs_tables.specs.declared.faults.FeedFault.TheVariants.{MissingFile,
 use Rattle.gtfs_tables.specs.Answers.{◌>>=◌, faultless, IsFaultOf, IsWantOr}
 use Rattle.gtfs_tables.specs.Columns.{Row}
 use Rattle.gtfs_tables.specs.TableRows.{TableRow}
-use Rattle.gtfs_tables.specs.Tables.{IsWithin, Table, limit_fault, first_dangling, has_first_zone, row_fault, judged, rows_behind}
+use Rattle.gtfs_tables.specs.Tables.{IsWithinLimit, Table, limit_fault, first_dangling, has_first_zone, row_fault, judged, rows_behind}
 use Rattle.gtfs_tables.specs.Holding.{Holds, IsTaken, IsOnTheWay}
 use Rattle.gtfs_tables.proofs.ListLemmas.{list_any-map}
 
 past_limit : (limit : Option (Kind × ℕ)) (kind : Kind) (most count : ℕ) → limit ≡ Some (kind, most) → most < count → limit_fault limit count ≡ Some (TooMany kind)
 past_limit limit kind most count is more = let test : nat_lt most count ≡ true = grind (arith, nat_tests) in ap (λ limit. limit_fault limit count) is ∙ cond-true (nat_lt most count) (Some (TooMany kind)) None test
 
-within_limit : (limit : Option (Kind × ℕ)) (count : ℕ) → IsWithin limit count → limit_fault limit count ≡ None
+within_limit : (limit : Option (Kind × ℕ)) (count : ℕ) → IsWithinLimit limit count → limit_fault limit count ≡ None
 within_limit None count few = refl
 within_limit (Some limit) count few = let test : nat_lt limit.1 count ≡ false = grind (arith, nat_tests) in cond-false (nat_lt limit.1 count) (Some (TooMany limit.0)) None test
 
@@ -82,7 +82,7 @@ module _ {F R : Type 0} (t : Table F R) (earlier : List F) (row : TableRow) wher
           pub too_many : (kind : Kind) (most : ℕ) → t.limit ≡ Some (kind, most) → most < length (filter_map t.gives (earlier ++ f ∷ [])) → judged t earlier row ≡ Err (TooMany kind)
           too_many kind most is more = by_limit (Some (TooMany kind)) (past_limit t.limit kind most _ is more)
 
-          pub faultless_row : IsWithin t.limit (length (filter_map t.gives (earlier ++ f ∷ []))) → judged t earlier row ≡ Ok f
+          pub faultless_row : IsWithinLimit t.limit (length (filter_map t.gives (earlier ++ f ∷ []))) → judged t earlier row ≡ Ok f
           faultless_row few = by_limit None (within_limit t.limit _ few)
 
 -- a table without time zones
@@ -112,10 +112,10 @@ module _ {F R K : Type 0} (t : Table F R) (key : F → K) (keys : List K) (rows 
       → MatchResult result (λ _. IsTaken t earlier row Kept) (IsFaultOf (judged t earlier row))
   joins row f is new known same last gave kind most limited (Ok u) more pushed few over more_keys noted Kept keeps =
       let given = one_more t rows earlier holds.rows_are f more (pushed ∙ ap (λ last. rows ++ option_to_list last) gave) in
-      let within : IsWithin t.limit (length more) = subst (λ limit. IsWithin limit (length more)) (sym limited) few in
+      let within : IsWithinLimit t.limit (length more) = subst (λ limit. IsWithinLimit limit (length more)) (sym limited) few in
       record {
         said = f;
-        is = faultless_row t earlier row f is new known (without_zones t earlier f same) (subst (λ rows. IsWithin t.limit (length rows)) (sym given) within);
+        is = faultless_row t earlier row f is new known (without_zones t earlier f same) (subst (λ rows. IsWithinLimit t.limit (length rows)) (sym given) within);
         kept = keeps pushed (record { keys_are = noted ∙ ap (λ keys. keys ++ key f ∷ []) holds.keys_are ∙ sym (map-append key earlier (f ∷ [])); rows_are = sym given; few = within });
       }
   joins row f is new known same last gave kind most limited (Err fault) more pushed few over more_keys noted Kept keeps =

@@ -19,9 +19,9 @@ agencies = record {
 }
 
 -- the first time zone of some rows, and whether another is the same
-abbrev pub first_of : List (List ℕ) → Option (List ℕ)
-first_of [] = None
-first_of (zone ∷ zones) = Some zone
+abbrev pub first_zone : List (List ℕ) → Option (List ℕ)
+first_zone [] = None
+first_zone (zone ∷ zones) = Some zone
 
 abbrev pub is_first : Option (List ℕ) → List ℕ → Bool
 is_first None zone = true

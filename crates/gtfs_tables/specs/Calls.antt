@@ -11,7 +11,7 @@ use Rattle.gtfs_tables.specs.declared.calls.CallRow.{CallRow}
 use Rattle.gtfs_tables.specs.declared.calls.Visit.{Visit}
 use Rattle.gtfs_tables.specs.declared.calls.Times.{Times}
 use Rattle.gtfs_tables.specs.Answers.{◌>>=◌}
-use Rattle.gtfs_tables.specs.Forms.{digits_at, optional_time_at, is_usual_at}
+use Rattle.gtfs_tables.specs.Forms.{up_to_nine_digits_at, optional_time_at, is_usual_at}
 use Rattle.gtfs_tables.specs.Holding.{Holds}
 use Rattle.gtfs_tables.specs.TableRows.{TableRow, id_in, value_in}
 use Rattle.gtfs_tables.specs.Tables.{Table}
@@ -40,7 +40,7 @@ times_in row = do
 -- Boarding and alighting are allowed where the field is empty or 0.
 abbrev pub visit_in : TableRow → Result Visit FeedFault
 visit_in row = do
-  sequence ← value_in digits_at row StopSequence
+  sequence ← value_in up_to_nine_digits_at row StopSequence
   times ← times_in row
   board ← value_in (is_usual_at 3) row PickupType
   alight ← value_in (is_usual_at 3) row DropOffType
@@ -53,8 +53,8 @@ stop_time_in row = do
   visit ← visit_in row
   Ok (record { row = row.number; trip = trip; stop = stop; visit = visit })
 
-abbrev pub call_at : ℕ → ℕ → ℕ → Visit → Option CallRow
-call_at n trip stop visit = option_map (λ times. record {
+abbrev pub call_if_timed : ℕ → ℕ → ℕ → Visit → Option CallRow
+call_if_timed n trip stop visit = option_map (λ times. record {
   row = n;
   trip = trip;
   stop = stop;
@@ -67,10 +67,10 @@ call_at n trip stop visit = option_map (λ times. record {
 
 -- a call with the places of its trip and its stop
 abbrev pub call_between : StopTime → Option ℕ → Option ℕ → Option CallRow
-call_between time trip stop = option_and_then (λ trip. option_and_then (λ stop. call_at time.row trip stop time.visit) stop) trip
+call_between time trip stop = option_and_then (λ trip. option_and_then (λ stop. call_if_timed time.row trip stop time.visit) stop) trip
 
-abbrev pub call_of : List (List ℕ) → List (List ℕ) → StopTime → Option CallRow
-call_of trips stops time =
+abbrev pub call_row_of : List (List ℕ) → List (List ℕ) → StopTime → Option CallRow
+call_row_of trips stops time =
     call_between time (place_among trips time.trip) (place_among stops time.stop)
 
 abbrev pub references : Option ℕ → Option ℕ → List (Column × Bool)
@@ -85,13 +85,13 @@ calls caps trips stops = record {
   has_key_of = λ time earlier. bytes_eq time.trip earlier.trip && nat_eq time.visit.sequence earlier.visit.sequence;
   refers = λ time. references (place_among trips time.trip) (place_among stops time.stop);
   has_zone_of = λ time first. true;
-  gives = call_of trips stops;
+  gives = call_row_of trips stops;
   limit = Some (kind.Calls, caps.calls);
 }
 
 -- a row's key, told by the place of its trip
-abbrev pub key_of : List (List ℕ) → StopTime → ℕ × ℕ
-key_of trips time = (unwrap_or (place_among trips time.trip) 0, time.visit.sequence)
+abbrev pub call_key_of : List (List ℕ) → StopTime → ℕ × ℕ
+call_key_of trips time = (unwrap_or (place_among trips time.trip) 0, time.visit.sequence)
 
 abbrev pub is_same_key : ℕ × ℕ → ℕ × ℕ → Bool
 is_same_key key other = nat_eq key.0 other.0 && nat_eq key.1 other.1
@@ -101,5 +101,5 @@ HasTrip trips time = is_some (place_among trips time.trip) ≡ true
 
 -- the keys and the calls of the earlier rows are kept, which are all of trips
 pub record KeepsCalls (caps : Caps) (trips stops : List (List ℕ)) (keys : List (ℕ × ℕ)) (rows : List CallRow) (earlier : List StopTime) : Type 0 where
-  pub holds : Holds (calls caps trips stops) (key_of trips) keys rows earlier
+  pub holds : Holds (calls caps trips stops) (call_key_of trips) keys rows earlier
   pub known : AllByRecursion (HasTrip trips) earlier

@@ -40,10 +40,10 @@ column_name column.PickupType = codes "pickup_type"
 column_name column.DropOffType = codes "drop_off_type"
 
 -- where a column stands in a header: where its name stands twice the first counts
-unfoldable pub place_of : Row → Column → Option ℕ
-place_of header column = position (bytes_eq (column_name column)) header
+unfoldable pub place_of_column : Row → Column → Option ℕ
+place_of_column header column = position (bytes_eq (column_name column)) header
 
 -- the first of these columns that the header does not name
 abbrev pub first_missing : Row → List Column → Option Column
 first_missing header [] = None
-first_missing header (column ∷ columns) = if is_some (place_of header column) then first_missing header columns else Some column
+first_missing header (column ∷ columns) = if is_some (place_of_column header column) then first_missing header columns else Some column

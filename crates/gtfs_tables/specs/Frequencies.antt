@@ -6,7 +6,7 @@ use Rattle.gtfs_tables.specs.declared.files.FeedFile.TheVariants as file
 use Rattle.gtfs_tables.specs.declared.frequencies.FrequencyRow.{FrequencyRow}
 use Rattle.gtfs_tables.specs.declared.frequencies.Span.{Span}
 use Rattle.gtfs_tables.specs.Answers.{◌>>=◌}
-use Rattle.gtfs_tables.specs.Forms.{headway_at, is_usual_at, time_at}
+use Rattle.gtfs_tables.specs.Forms.{headway_at, is_usual_at, service_time_at}
 use Rattle.gtfs_tables.specs.TableRows.{TableRow, id_in, value_in}
 use Rattle.gtfs_tables.specs.Tables.{Table}
 use Rattle.gtfs_tables.specs.Trips.{place_among}
@@ -20,8 +20,8 @@ pub record Frequency : Type 0 where
 -- The times are exact where the field is 1.
 abbrev pub span_in : TableRow → Result Span FeedFault
 span_in row = do
-  start ← value_in time_at row StartTime
-  end ← value_in time_at row EndTime
+  start ← value_in service_time_at row StartTime
+  end ← value_in service_time_at row EndTime
   headway ← value_in headway_at row HeadwaySecs
   inexact ← value_in (is_usual_at 1) row ExactTimes
   Ok (record { start = start; end = end; headway = headway; exact = not inexact })

@@ -4,13 +4,13 @@ use Rattle.gtfs_tables.specs.declared.faults.FeedFault.{FeedFault}
 use Rattle.gtfs_tables.specs.Answers.{IsFaultOf}
 use Rattle.gtfs_tables.specs.Columns.{Row}
 use Rattle.gtfs_tables.specs.TableRows.{TableRow}
-use Rattle.gtfs_tables.specs.Tables.{IsWithin, Table, judged, rows_behind, records_of}
+use Rattle.gtfs_tables.specs.Tables.{IsWithinLimit, Table, judged, rows_behind, records_of}
 
 -- the keys and the records of the earlier rows, which are within the limit
 pub record Holds {F R K : Type 0} (t : Table F R) (key : F → K) (keys : List K) (rows : List R) (earlier : List F) : Type 0 where
   pub keys_are : keys ≡ map key earlier
   pub rows_are : rows ≡ filter_map t.gives earlier
-  pub few : IsWithin t.limit (length rows)
+  pub few : IsWithinLimit t.limit (length rows)
 
 -- the keys of the records are kept besides
 pub record HoldsListed {F R K L : Type 0} (t : Table F R) (key : F → K) (name : R → L) (keys : List K) (names : List L) (rows : List R) (earlier : List F) : Type 0 where
@@ -49,4 +49,4 @@ pub record IsRead {F R : Type 0} (t : Table F R) (text : Option (List ℕ)) (Kep
 -- the records of a file
 pub record AreRead {F R : Type 0} (t : Table F R) (text : Option (List ℕ)) (rows : List R) : Type 0 where
   pub are : records_of t text ≡ Ok rows
-  pub few : IsWithin t.limit (length rows)
+  pub few : IsWithinLimit t.limit (length rows)

@@ -28,12 +28,12 @@ pub record IsBasis (caps : Caps) (files : FeedFiles) (basis : Basis) : Type 0 wh
   pub dates : AreRead (Dates.dates caps) (bytes_of files.calendar_dates) basis.dates.items
 
 -- those from the trips on were read
-pub record AreRuns (caps : Caps) (files : FeedFiles) (basis : Basis) (runs : Runs) : Type 0 where
+pub record AreTripTables (caps : Caps) (files : FeedFiles) (basis : Basis) (runs : Runs) : Type 0 where
   pub trips : AreRead (Trips.trips caps basis.routes.ids) (bytes_of files.trips) runs.trips.rows.items
   pub trip_ids : runs.trips.ids ≡ map (λ trip. trip.id) runs.trips.rows.items
   pub frequencies : AreRead (Frequencies.frequencies runs.trips.ids) (bytes_of files.frequencies) runs.frequencies.items
   pub calls : AreRead (Calls.calls caps runs.trips.ids basis.stops.ids) (bytes_of files.stop_times) runs.calls.items
 
 -- the rows of all tables
-abbrev pub rows_of : Basis → Runs → FeedLists
-rows_of basis runs = record { stops = basis.stops.rows.items; routes = basis.routes.rows.items; services = basis.services.items; dates = basis.dates.items; trips = runs.trips.rows.items; frequencies = runs.frequencies.items; calls = runs.calls.items }
+abbrev pub feed_rows : Basis → Runs → FeedLists
+feed_rows basis runs = record { stops = basis.stops.rows.items; routes = basis.routes.rows.items; services = basis.services.items; dates = basis.dates.items; trips = runs.trips.rows.items; frequencies = runs.frequencies.items; calls = runs.calls.items }

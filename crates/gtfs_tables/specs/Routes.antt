@@ -7,15 +7,15 @@ use Rattle.gtfs_tables.specs.declared.faults.FeedFault.{FeedFault}
 use Rattle.gtfs_tables.specs.declared.files.FeedFile.TheVariants as file
 use Rattle.gtfs_tables.specs.declared.routes.RouteRow.{RouteRow}
 use Rattle.gtfs_tables.specs.Answers.{◌>>=◌}
-use Rattle.gtfs_tables.specs.Forms.{digits_at, letter_of}
+use Rattle.gtfs_tables.specs.Forms.{letter_of_type, up_to_nine_digits_at}
 use Rattle.gtfs_tables.specs.TableRows.{TableRow, id_in, value_in}
 use Rattle.gtfs_tables.specs.Tables.{Table}
 
 abbrev pub route_in : TableRow → Result RouteRow FeedFault
 route_in row = do
   id ← id_in row RouteId
-  type ← value_in digits_at row RouteType
-  Ok (record { row = row.number; id = id; letter = letter_of type })
+  type ← value_in up_to_nine_digits_at row RouteType
+  Ok (record { row = row.number; id = id; letter = letter_of_type type })
 
 abbrev pub routes : Caps → Table RouteRow RouteRow
 routes caps = record {

@@ -20,8 +20,8 @@ date_in row = do
   Ok (record { row = row.number; id = id; date = date; added = added })
 
 -- the key of a row: a service with a date
-abbrev pub pair_of : DateRow → List ℕ × ℕ
-pair_of date = (date.id, date.date)
+abbrev pub service_date_of : DateRow → List ℕ × ℕ
+service_date_of date = (date.id, date.date)
 
 abbrev pub is_same_pair : List ℕ × ℕ → List ℕ × ℕ → Bool
 is_same_pair pair other = bytes_eq pair.0 other.0 && nat_eq pair.1 other.1
@@ -31,7 +31,7 @@ dates caps = record {
   file = file.CalendarDates;
   needed = column.ServiceId ∷ column.Date ∷ column.ExceptionType ∷ [];
   reads = date_in;
-  has_key_of = λ date earlier. is_same_pair (pair_of date) (pair_of earlier);
+  has_key_of = λ date earlier. is_same_pair (service_date_of date) (service_date_of earlier);
   refers = λ date. [];
   has_zone_of = λ date first. true;
   gives = Some;

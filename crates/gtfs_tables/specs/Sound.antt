@@ -9,19 +9,19 @@ use Rattle.gtfs_tables.specs.FeedLists.{FeedLists}
 use Rattle.gtfs_tables.specs.Forms.{is_id}
 
 -- an id: 1 to fewer than 2 ^ 30 bytes of UTF-8
-abbrev pub IsId : List ℕ → Type 0
-IsId id = is_id id ≡ true
+abbrev pub IsFeedId : List ℕ → Type 0
+IsFeedId id = is_id id ≡ true
 
 -- a letter of transit
 pub record IsRoute (route : RouteRow) : Type 0 where
-  pub id : IsId route.id
+  pub id : IsFeedId route.id
   pub above_road : 3 ≤ route.letter
   pub letter : route.letter ≤ 13
 
 -- a trip over one of so many routes
 pub record IsTrip (routes : ℕ) (trip : TripRow) : Type 0 where
-  pub id : IsId trip.id
-  pub service : IsId trip.service
+  pub id : IsFeedId trip.id
+  pub service : IsFeedId trip.service
   pub route : trip.route < routes
 
 -- a headway of one of so many trips
@@ -46,13 +46,13 @@ is_same_call call other = nat_eq call.trip other.trip && nat_eq call.sequence ot
 -- within a week, and headways take some time. Numbers of routes, trips and stops are places in their lists. No two calls of one trip have one
 -- sequence number.
 pub record IsFeed (feed : FeedLists) : Type 0 where
-  pub stops : AllByRecursion (λ stop. IsId stop.id) feed.stops
+  pub stops : AllByRecursion (λ stop. IsFeedId stop.id) feed.stops
   pub stop_ids : IsDistinct bytes_eq (map (λ stop. stop.id) feed.stops)
   pub routes : AllByRecursion IsRoute feed.routes
   pub route_ids : IsDistinct bytes_eq (map (λ route. route.id) feed.routes)
-  pub services : AllByRecursion (λ service. IsId service.id) feed.services
+  pub services : AllByRecursion (λ service. IsFeedId service.id) feed.services
   pub service_ids : IsDistinct bytes_eq (map (λ service. service.id) feed.services)
-  pub dates : AllByRecursion (λ date. IsId date.id) feed.dates
+  pub dates : AllByRecursion (λ date. IsFeedId date.id) feed.dates
   pub trips : AllByRecursion (IsTrip (length feed.routes)) feed.trips
   pub trip_ids : IsDistinct bytes_eq (map (λ trip. trip.id) feed.trips)
   pub frequencies : AllByRecursion (IsFrequency (length feed.trips)) feed.frequencies

@@ -20,22 +20,22 @@ pub record Location : Type 0 where
   pub id : List ℕ
   pub place : Option Place
 
-abbrev pub place_at : TableRow → Result (Option Place) FeedFault
-place_at row = do
+abbrev pub place_of_stop : TableRow → Result (Option Place) FeedFault
+place_of_stop row = do
   lat ← value_in (degrees_of 90) row StopLat
   lon ← value_in (degrees_of 180) row StopLon
   Ok (base.place_of lat lon)
 
 -- the place of a stop; that of another location is not looked at
-abbrev pub place_in : TableRow → Bool → Result (Option Place) FeedFault
-place_in row is_stop = if is_stop then place_at row else Ok None
+abbrev pub place_if_stop : TableRow → Bool → Result (Option Place) FeedFault
+place_if_stop row is_stop = if is_stop then place_of_stop row else Ok None
 
 -- A row is that of a stop where its location type is empty or 0.
 abbrev pub location_in : TableRow → Result Location FeedFault
 location_in row = do
   id ← id_in row StopId
   is_stop ← value_in (is_usual_at 4) row LocationType
-  place ← place_in row is_stop
+  place ← place_if_stop row is_stop
   Ok (record { row = row.number; id = id; place = place })
 
 abbrev pub stop_of : Location → Option StopRow

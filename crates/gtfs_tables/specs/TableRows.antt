@@ -6,8 +6,8 @@ use Rattle.gtfs_tables.specs.declared.columns.Column.{Column}
 use Rattle.gtfs_tables.specs.declared.files.FeedFile.{FeedFile}
 use Rattle.gtfs_tables.specs.declared.faults.FeedFault.{FeedFault}
 use Rattle.gtfs_tables.specs.declared.faults.FeedFault.TheVariants.{BadField}
-use Rattle.gtfs_tables.specs.Columns.{Row, place_of}
-use Rattle.gtfs_tables.specs.Forms.{id_at, trimmed}
+use Rattle.gtfs_tables.specs.Columns.{Row, place_of_column}
+use Rattle.gtfs_tables.specs.Forms.{feed_id_at, trimmed}
 
 -- a row of a file: its number, where the header is row 1, the header, and the fields of the row
 pub record TableRow : Type 0 where
@@ -19,11 +19,11 @@ pub record TableRow : Type 0 where
 -- The field of a row in a column. It is empty where the header does not name the column, and where the row ends
 -- before it.
 unfoldable pub field_in : TableRow → Column → List ℕ
-field_in row column = unwrap_or (option_and_then (field_at row.fields) (place_of row.header column)) []
+field_in row column = unwrap_or (option_and_then (field_at row.fields) (place_of_column row.header column)) []
 
 -- The id in a column, which is taken as it stands, or the fault of a field that is none.
 abbrev pub id_in : TableRow → Column → Result (List ℕ) FeedFault
-id_in row column = ok_or (id_at (field_in row column)) (BadField row.file row.number column)
+id_in row column = ok_or (feed_id_at (field_in row column)) (BadField row.file row.number column)
 
 -- What a field of this form says in a column, or the fault of a field that is not of the form. The spaces at both
 -- ends are dropped first.

@@ -41,9 +41,9 @@ has_first_zone t [] f = true
 has_first_zone t (first ∷ others) f = t.has_zone_of f first
 
 -- so many records are within a limit, where there is one; or what there are too many of
-abbrev pub IsWithin : Option (Kind × ℕ) → ℕ → Type 0
-IsWithin None count = Unit {0}
-IsWithin (Some limit) count = count ≤ limit.1
+abbrev pub IsWithinLimit : Option (Kind × ℕ) → ℕ → Type 0
+IsWithinLimit None count = Unit {0}
+IsWithinLimit (Some limit) count = count ≤ limit.1
 
 abbrev pub limit_fault : Option (Kind × ℕ) → ℕ → Option FeedFault
 limit_fault None count = None
@@ -93,10 +93,10 @@ table_of t rows =
     >>= (λ header. given t (rows_behind t header [] (rows_below rows)))
 
 -- the rows of a file: one byte-order mark before the header is dropped
-unfoldable pub rows_of : List ℕ → List Row
-rows_of text = records default_config (strip_bom text)
+unfoldable pub rows_of_file : List ℕ → List Row
+rows_of_file text = records default_config (strip_bom text)
 
 -- the records of a table, or its first fault; a file that is not there gives none
 abbrev pub records_of : {F R : Type 0} → Table F R → Option (List ℕ) → Result (List R) FeedFault
 records_of t None = Ok []
-records_of t (Some text) = table_of t (rows_of text)
+records_of t (Some text) = table_of t (rows_of_file text)

@@ -32,7 +32,8 @@ impl Zones {
     /// Compares a time zone with the first, which it is where there is none so far.
     fn agree(&mut self, zone: &[u8]) -> Result<bool, AllocError>
         ensures same { IfOk result (λ same. same ≡ spec.is_first self.old.first zone.now) }
-        ensures first { IfOk result (λ same. IsTrue same → self.new.first ≡ Some (unwrap_or self.old.first zone.now)) }
+        ensures first { IfOk result (λ same. IsTrue same → self.new.first ≡ Some
+            (unwrap_or self.old.first zone.now)) }
     {
         match &self.first {
             Some(first) => Ok(zone == first.as_bytes()),
@@ -53,7 +54,7 @@ impl TakesRows for Zones {
 
     ghost table = { λ _. spec.agencies };
 
-    ghost keeps = { λ zones earlier. zones.first ≡ spec.first_of earlier };
+    ghost keeps = { λ zones earlier. zones.first ≡ spec.first_zone earlier };
 
     fn take(&mut self, row: &TableRow<'_>) -> Result<(), FeedFault> {
         let zone = row.id(Column::AgencyTimezone)?;

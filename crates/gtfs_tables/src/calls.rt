@@ -114,8 +114,8 @@ fn read_visit(row: &TableRow<'_>) -> Result<Visit, FeedFault>
 
 /// What a row says, or the fault of the first field that is not of its form.
 fn read<'a>(row: &TableRow<'a>) -> Result<Line<'a>, FeedFault>
-    ensures { MatchResult result
-        (λ line. spec.stop_time_in row.now ≡ Ok (record { row = line.row; trip = line.trip.now; stop = line.stop.now; visit = line.visit }))
+    ensures { MatchResult result (λ line. spec.stop_time_in row.now ≡ Ok
+        (record { row = line.row; trip = line.trip.now; stop = line.stop.now; visit = line.visit }))
         (λ fault. spec.stop_time_in row.now ≡ Err fault) }
 {
     let trip = row.id(Column::TripId)?;
@@ -131,7 +131,8 @@ fn read<'a>(row: &TableRow<'a>) -> Result<Line<'a>, FeedFault>
 
 /// Notes that a trip has a row of this sequence number, and says whether it had none.
 fn note(keys: &mut IndexSet<(u32, u32)>, trip: u32, sequence: u32) -> Result<bool, AllocError>
-    ensures new { IfOk result (λ new. new ≡ not (list_any (spec.is_same_key (trip, sequence)) keys.old.keys)) }
+    ensures new { IfOk result (λ new. new ≡ not (list_any (spec.is_same_key (trip, sequence))
+        keys.old.keys)) }
     ensures keys { IfOk result (λ new. IsTrue new → keys.new.keys ≡ keys.old.keys ++ (trip, sequence) ∷ []) }
 {
     let new = keys.insert((trip, sequence))?;
@@ -140,7 +141,7 @@ fn note(keys: &mut IndexSet<(u32, u32)>, trip: u32, sequence: u32) -> Result<boo
 
 /// The call that a row is, if it has a time.
 fn call_at(number: u64, trip: u32, stop: u32, visit: Visit) -> Option<CallRow>
-    ensures { result ≡ spec.call_at number trip stop visit }
+    ensures { result ≡ spec.call_if_timed number trip stop visit }
 {
     let Times { arr, dep } = visit.times?;
     Some(CallRow {
@@ -184,7 +185,8 @@ impl<'a> TakesRows for Calls<'a> {
 
     ghost table = { λ kept. spec.calls kept.caps kept.trips.now kept.stops.now };
 
-    ghost keeps = { λ kept. spec.KeepsCalls kept.caps kept.trips.now kept.stops.now kept.keys.keys kept.rows.items };
+    ghost keeps = { λ kept. spec.KeepsCalls kept.caps kept.trips.now kept.stops.now kept.keys.keys
+        kept.rows.items };
 
     fn take(&mut self, row: &TableRow<'_>) -> Result<(), FeedFault> {
         let line = read(row)?;
@@ -212,8 +214,10 @@ pub(crate) fn read_calls(
 ) -> Result<Vec<CallRow>, FeedFault>
     requires trips { length trips.now ≤ 2 ^ 32 }
     requires stops { length stops.now ≤ 2 ^ 32 }
-    ensures calls { IfOk result (λ calls. AreRead (spec.calls caps.now trips.now stops.now) (bytes_of text.entry) calls.items) }
-    ensures fault { IfErr result (IsFaultOf (records_of (spec.calls caps.now trips.now stops.now) (bytes_of text.entry))) }
+    ensures calls { IfOk result (λ calls. AreRead (spec.calls caps.now trips.now stops.now)
+        (bytes_of text.entry) calls.items) }
+    ensures fault { IfErr result (IsFaultOf (records_of (spec.calls caps.now trips.now stops.now)
+        (bytes_of text.entry))) }
 {
     let needed = [
         Column::TripId,

@@ -2,7 +2,7 @@
 
 ghost use Rattle.std.specs.Prelude.{◌≡◌, ◌<◌, [], length, bytes_eq, slice_index_or};
 ghost use Rattle.csv.specs.Records.{fields_of};
-ghost use Rattle.gtfs_tables.specs.Columns.{column_name, first_missing, place_of};
+ghost use Rattle.gtfs_tables.specs.Columns.{column_name, first_missing, place_of_column};
 
 use csv::ByteRecord;
 
@@ -186,7 +186,7 @@ fn has_name(header: &ByteRecord, place: usize, name: &[u8]) -> bool
 
 /// Where a column stands in a header: the first place of its name.
 pub(crate) fn place_of(header: &ByteRecord, column: Column) -> Option<usize>
-    ensures { result ≡ place_of (fields_of header.now) column }
+    ensures { result ≡ place_of_column (fields_of header.now) column }
 {
     let name = column.name().as_bytes();
     for place in 0..header.len() {

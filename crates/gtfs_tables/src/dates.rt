@@ -91,8 +91,8 @@ pub(crate) struct Dates {
 
 /// What a row says, or the fault of the first field that is not of its form.
 fn read<'a>(row: &TableRow<'a>) -> Result<Line<'a>, FeedFault>
-    ensures { MatchResult result
-        (λ line. spec.date_in row.now ≡ Ok (record { row = line.row; id = line.id.now; date = line.date; added = line.added }))
+    ensures { MatchResult result (λ line. spec.date_in row.now ≡ Ok
+        (record { row = line.row; id = line.id.now; date = line.date; added = line.added }))
         (λ fault. spec.date_in row.now ≡ Err fault) }
 {
     let id = row.id(Column::ServiceId)?;
@@ -108,7 +108,13 @@ fn read<'a>(row: &TableRow<'a>) -> Result<Line<'a>, FeedFault>
 
 impl Line<'_> {
     fn to_row(&self, alloc: Global) -> Result<DateRow, AllocError>
-        ensures { IfOk result (λ date. date ≡ record { row = self.now.row; id = self.now.id.now; date = self.now.date; added = self.now.added }) }
+        ensures { IfOk result (λ date. date ≡ record {
+          row = self.now.row;
+          id = self.now.id.now;
+          date =
+              self.now.date;
+          added = self.now.added;
+        }) }
     {
         let id = Id::from_slice(alloc, self.id)?;
         Ok(DateRow {
@@ -144,7 +150,7 @@ impl TakesRows for Dates {
 
     ghost table = { λ kept. spec.dates kept.caps };
 
-    ghost keeps = { λ kept. Holds (spec.dates kept.caps) spec.pair_of kept.pairs kept.rows.items };
+    ghost keeps = { λ kept. Holds (spec.dates kept.caps) spec.service_date_of kept.pairs kept.rows.items };
 
     fn take(&mut self, row: &TableRow<'_>) -> Result<(), FeedFault> {
         let line = read(row)?;

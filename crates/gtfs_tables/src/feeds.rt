@@ -3,7 +3,7 @@
 ghost use Rattle.std.specs.Prelude.{◌≡◌, None, Ok, IfOk, IfErr};
 ghost use Rattle.gtfs_tables.specs.Answers.{IsFaultOf};
 ghost use Rattle.gtfs_tables.specs.Feeds.{feed_of, first_absent, required};
-ghost use Rattle.gtfs_tables.specs.ReadTables.{AreRuns, IsBasis, rows_of};
+ghost use Rattle.gtfs_tables.specs.ReadTables.{AreTripTables, IsBasis, feed_rows};
 ghost use Rattle.gtfs_tables.specs.Sound.{IsFeed};
 
 use crate::agencies::check_agencies;
@@ -45,7 +45,16 @@ impl Model for Feed {
 
     ghost Value = { FeedLists };
 
-    ghost view = { λ f. record { stops = f.stops.items; routes = f.routes.items; services = f.services.items; dates = f.dates.items; trips = f.trips.items; frequencies = f.frequencies.items; calls = f.calls.items } };
+    ghost view = { λ f. record {
+      stops = f.stops.items;
+      routes = f.routes.items;
+      services = f.services.items;
+      dates = f.dates.items;
+      trips = f.trips.items;
+      frequencies = f.frequencies.items;
+      calls =
+          f.calls.items;
+    } };
 }
 
 /// The first file that must be there and is not. One of the two calendar files suffices.
@@ -113,7 +122,7 @@ fn read_runs(
     basis: &Basis,
 ) -> Result<Runs, FeedFault>
     requires { IsBasis caps.now files.now basis.now }
-    ensures runs { IfOk result (AreRuns caps.now files.now basis.now) }
+    ensures runs { IfOk result (AreTripTables caps.now files.now basis.now) }
     ensures fault { IfErr result (IsFaultOf (feed_of caps.now files.now)) }
 {
     let trips = read_trips(alloc, caps, &basis.routes.ids, files.trips)?;
@@ -128,7 +137,7 @@ fn read_runs(
 
 /// The rows of all tables, without the ids.
 fn gathered(basis: Basis, runs: Runs) -> Feed
-    ensures { result ≡ rows_of basis runs }
+    ensures { result ≡ feed_rows basis runs }
 {
     let Basis {
         stops,

@@ -74,8 +74,8 @@ fn read_span(row: &TableRow<'_>) -> Result<Span, FeedFault>
 
 /// What a row says, or the fault of the first field that is not of its form.
 fn read<'a>(row: &TableRow<'a>) -> Result<Line<'a>, FeedFault>
-    ensures { MatchResult result
-        (λ line. spec.frequency_in row.now ≡ Ok (record { row = line.row; trip = line.trip.now; span = line.span }))
+    ensures { MatchResult result (λ line. spec.frequency_in row.now ≡ Ok
+        (record { row = line.row; trip = line.trip.now; span = line.span }))
         (λ fault. spec.frequency_in row.now ≡ Err fault) }
 {
     let trip = row.id(Column::TripId)?;
@@ -90,7 +90,15 @@ fn read<'a>(row: &TableRow<'a>) -> Result<Line<'a>, FeedFault>
 impl Span {
     /// The row of the trip at this place.
     fn to_row(self, number: u64, trip: u32) -> FrequencyRow
-        ensures { result ≡ record { row = number; trip = trip; start = self.start; end = self.end; headway = self.headway; exact = self.exact } }
+        ensures { result ≡ record {
+          row = number;
+          trip = trip;
+          start = self.start;
+          end = self.end;
+          headway =
+              self.headway;
+          exact = self.exact;
+        } }
     {
         let Span {
             start,
@@ -154,7 +162,8 @@ pub(crate) fn read_frequencies(
     text: Option<&[u8]>,
 ) -> Result<Vec<FrequencyRow>, FeedFault>
     requires { length trips.now ≤ 2 ^ 32 }
-    ensures frequencies { IfOk result (λ rows. AreRead (spec.frequencies trips.now) (bytes_of text.entry) rows.items) }
+    ensures frequencies { IfOk result (λ rows. AreRead (spec.frequencies trips.now) (bytes_of text.entry)
+        rows.items) }
     ensures fault { IfErr result (IsFaultOf (records_of (spec.frequencies trips.now) (bytes_of text.entry))) }
 {
     let needed = [

@@ -2,7 +2,7 @@
 
 ghost use Rattle.std.specs.Prelude.{◌≡◌, None, Some, IfErr, IfOk, OnOk};
 ghost use Rattle.csv.specs.Records.{fields_of};
-ghost use Rattle.gtfs_tables.specs.Columns.{place_of};
+ghost use Rattle.gtfs_tables.specs.Columns.{place_of_column};
 ghost use Rattle.gtfs_tables.specs.Answers.{IsWantOr};
 ghost use Rattle.gtfs_tables.specs.Finding.{AreFound};
 ghost use Rattle.gtfs_tables.specs.Tables.{header_in, missing_column, rows_below};
@@ -40,7 +40,8 @@ fn find(
     header: &ByteRecord,
     columns: &[Column],
 ) -> Result<(), AllocError>
-    ensures { AreFound (fields_of header.now) found.old.items → OnOk result (AreFound (fields_of header.now) found.new.items) }
+    ensures { AreFound (fields_of header.now) found.old.items
+        → OnOk result (AreFound (fields_of header.now) found.new.items) }
 {
     for column in columns {
         found.push((*column, place_of(header, *column)))?;
@@ -69,7 +70,7 @@ impl Header {
 
     /// Where a column stands. One that was not found before is searched for.
     pub(crate) fn place(&self, column: Column) -> Option<usize>
-        ensures { result ≡ place_of self.now column }
+        ensures { result ≡ place_of_column self.now column }
     {
         for (known, place) in &self.found {
             if *known == column {
@@ -91,7 +92,8 @@ pub(crate) fn take_header(
     ensures header { IfOk result (λ header. header ≡ header_in rows.old) }
     ensures rows { OnOk result (rows.new ≡ rows_below rows.old) }
     ensures named { OnOk result (missing_column file needed.now (header_in rows.old) ≡ None) }
-    ensures fault { IfErr result (λ fault. IsWantOr fault (missing_column file needed.now (header_in rows.old) ≡ Some fault)) }
+    ensures fault { IfErr result (λ fault. IsWantOr fault (missing_column file needed.now (header_in rows.old)
+        ≡ Some fault)) }
 {
     let fields = rows.take()?.unwrap_or(ByteRecord::new(alloc));
     if let Some(column) = first_missing(&fields, needed) {

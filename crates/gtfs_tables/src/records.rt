@@ -4,7 +4,7 @@ ghost use Rattle.std.specs.Prelude.{◌≡◌, ◌∷◌, [], IfOk, MatchOption}
 ghost use Rattle.csv.specs.Reading.{error_kind};
 ghost use Rattle.csv.specs.Records.{fields_of};
 ghost use Rattle.gtfs_tables.specs.RowsLeft.{HasStepped, IsWant, TakesRows};
-ghost use Rattle.gtfs_tables.specs.Tables.{rows_of};
+ghost use Rattle.gtfs_tables.specs.Tables.{rows_of_file};
 
 use csv::{ByteRecord, ByteRecordsIntoIter, Error, ErrorKind, ReaderBuilder};
 use std::alloc::{AllocError, Global};
@@ -49,9 +49,9 @@ fn want_of_memory(error: Error) -> AllocError
 
 impl<'a> Rows<'a> {
     /// The rows of a file.
-    #[tactic(auto, unfolding(crate::specs::Tables::rows_of))]
+    #[tactic(auto, unfolding(crate::specs::Tables::rows_of_file))]
     pub(crate) fn new(alloc: Global, text: &'a [u8]) -> Rows<'a>
-        ensures { result ≡ rows_of text.now }
+        ensures { result ≡ rows_of_file text.now }
     {
         let reader = ReaderBuilder::new()
             .has_headers(false)
@@ -65,7 +65,8 @@ impl<'a> Rows<'a> {
 
     /// Takes the next row; `None` exactly where no row is left.
     pub(crate) fn take(&mut self) -> Result<Option<ByteRecord>, AllocError>
-        ensures { IfOk result (λ row. MatchOption row ((self.old ≡ []) × (self.new ≡ [])) (λ row. self.old ≡ fields_of row ∷ self.new)) }
+        ensures { IfOk result (λ row. MatchOption row ((self.old ≡ []) × (self.new ≡ []))
+            (λ row. self.old ≡ fields_of row ∷ self.new)) }
     {
         if self.ended {
             return Ok(None);

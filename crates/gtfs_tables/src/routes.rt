@@ -47,8 +47,8 @@ pub(crate) struct Routes {
 
 /// What a row says, or the fault of the first field that is not of its form.
 fn read<'a>(row: &TableRow<'a>) -> Result<Line<'a>, FeedFault>
-    ensures { MatchResult result
-        (λ line. spec.route_in row.now ≡ Ok (record { row = line.row; id = line.id.now; letter = line.letter }))
+    ensures { MatchResult result (λ line. spec.route_in row.now ≡ Ok
+        (record { row = line.row; id = line.id.now; letter = line.letter }))
         (λ fault. spec.route_in row.now ≡ Err fault) }
 {
     let id = row.id(Column::RouteId)?;
@@ -62,7 +62,12 @@ fn read<'a>(row: &TableRow<'a>) -> Result<Line<'a>, FeedFault>
 
 impl Line<'_> {
     fn to_row(&self, alloc: Global) -> Result<RouteRow, AllocError>
-        ensures { IfOk result (λ route. route ≡ record { row = self.now.row; id = self.now.id.now; letter = self.now.letter }) }
+        ensures { IfOk result (λ route. route ≡ record {
+          row = self.now.row;
+          id = self.now.id.now;
+          letter =
+              self.now.letter;
+        }) }
     {
         let id = Id::from_slice(alloc, self.id)?;
         Ok(RouteRow {
@@ -115,7 +120,8 @@ pub(crate) fn read_routes(
     caps: &Caps,
     text: Option<&[u8]>,
 ) -> Result<Listed<RouteRow>, FeedFault>
-    ensures routes { IfOk result (λ routes. AreRead (spec.routes caps.now) (bytes_of text.entry) routes.rows.items) }
+    ensures routes { IfOk result (λ routes. AreRead (spec.routes caps.now) (bytes_of text.entry)
+        routes.rows.items) }
     ensures ids { IfOk result (λ routes. routes.ids ≡ map (λ route. route.id) routes.rows.items) }
     ensures fault { IfErr result (IsFaultOf (records_of (spec.routes caps.now) (bytes_of text.entry))) }
 {

@@ -92,7 +92,12 @@ fn read<'a>(row: &TableRow<'a>) -> Result<Line<'a>, FeedFault>
 
 impl Line<'_> {
     fn to_row(&self, alloc: Global) -> Result<ServiceRow, AllocError>
-        ensures { IfOk result (λ service. service ≡ record { row = self.now.row; id = self.now.id.now; rule = self.now.rule }) }
+        ensures { IfOk result (λ service. service ≡ record {
+          row = self.now.row;
+          id = self.now.id.now;
+          rule =
+              self.now.rule;
+        }) }
     {
         let id = Id::from_slice(alloc, self.id)?;
         Ok(ServiceRow {
@@ -127,7 +132,8 @@ impl TakesRows for Services {
 
     ghost table = { λ kept. spec.services kept.caps };
 
-    ghost keeps = { λ kept. Holds (spec.services kept.caps) (λ service. service.id) kept.ids kept.rows.items };
+    ghost keeps = { λ kept. Holds (spec.services kept.caps) (λ service. service.id) kept.ids
+        kept.rows.items };
 
     fn take(&mut self, row: &TableRow<'_>) -> Result<(), FeedFault> {
         let line = read(row)?;
@@ -150,7 +156,8 @@ pub(crate) fn read_services(
     caps: &Caps,
     text: Option<&[u8]>,
 ) -> Result<Vec<ServiceRow>, FeedFault>
-    ensures services { IfOk result (λ services. AreRead (spec.services caps.now) (bytes_of text.entry) services.items) }
+    ensures services { IfOk result (λ services. AreRead (spec.services caps.now) (bytes_of text.entry)
+        services.items) }
     ensures fault { IfErr result (IsFaultOf (records_of (spec.services caps.now) (bytes_of text.entry))) }
 {
     let needed = [

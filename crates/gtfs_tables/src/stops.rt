@@ -48,7 +48,7 @@ pub(crate) struct Stops {
 
 /// The place of a stop; that of another location is not looked at.
 fn read_place(row: &TableRow<'_>, is_stop: bool) -> Result<Option<Place>, FeedFault>
-    ensures { result ≡ spec.place_in row.now is_stop }
+    ensures { result ≡ spec.place_if_stop row.now is_stop }
 {
     if !is_stop {
         return Ok(None);
@@ -60,8 +60,8 @@ fn read_place(row: &TableRow<'_>, is_stop: bool) -> Result<Option<Place>, FeedFa
 
 /// What a row says, or the fault of the first field that is not of its form.
 fn read<'a>(row: &TableRow<'a>) -> Result<Line<'a>, FeedFault>
-    ensures { MatchResult result
-        (λ line. spec.location_in row.now ≡ Ok (record { row = line.row; id = line.id.now; place = line.place }))
+    ensures { MatchResult result (λ line. spec.location_in row.now ≡ Ok
+        (record { row = line.row; id = line.id.now; place = line.place }))
         (λ fault. spec.location_in row.now ≡ Err fault) }
 {
     let id = row.id(Column::StopId)?;
@@ -77,7 +77,8 @@ fn read<'a>(row: &TableRow<'a>) -> Result<Line<'a>, FeedFault>
 impl Line<'_> {
     /// The stop that a row is, if it is one.
     fn to_row(&self, alloc: Global) -> Result<Option<StopRow>, AllocError>
-        ensures { IfOk result (λ stop. stop ≡ spec.stop_of (record { row = self.now.row; id = self.now.id.now; place = self.now.place })) }
+        ensures { IfOk result (λ stop. stop ≡ spec.stop_of (record
+            { row = self.now.row; id = self.now.id.now; place = self.now.place })) }
     {
         let Some(place) = self.place else {
             return Ok(None);
@@ -92,7 +93,9 @@ impl Line<'_> {
 
     /// Puts the id of a stop to the others, among which it is not.
     fn note(&self, ids: &mut Ids) -> Result<(), AllocError>
-        ensures { list_any (bytes_eq self.now.id.now) ids.old ≡ false → OnOk result (ids.new ≡ ids.old ++ option_to_list (option_map (λ _. self.now.id.now) self.now.place)) }
+        ensures { list_any (bytes_eq self.now.id.now) ids.old ≡ false
+            → OnOk result (ids.new ≡ ids.old ++ option_to_list (option_map (λ _. self.now.id.now)
+            self.now.place)) }
     {
         if self.place.is_some() {
             ids.insert(self.id)?;
@@ -127,7 +130,8 @@ impl TakesRows for Stops {
 
     ghost table = { λ kept. spec.stops kept.caps };
 
-    ghost keeps = { λ kept. HoldsListed (spec.stops kept.caps) (λ location. location.id) (λ stop. stop.id) kept.seen kept.ids kept.rows.items };
+    ghost keeps = { λ kept. HoldsListed (spec.stops kept.caps) (λ location. location.id) (λ stop. stop.id)
+        kept.seen kept.ids kept.rows.items };
 
     fn take(&mut self, row: &TableRow<'_>) -> Result<(), FeedFault> {
         let line = read(row)?;
@@ -146,7 +150,8 @@ pub(crate) fn read_stops(
     caps: &Caps,
     text: Option<&[u8]>,
 ) -> Result<Listed<StopRow>, FeedFault>
-    ensures stops { IfOk result (λ stops. AreRead (spec.stops caps.now) (bytes_of text.entry) stops.rows.items) }
+    ensures stops { IfOk result (λ stops. AreRead (spec.stops caps.now) (bytes_of text.entry)
+        stops.rows.items) }
     ensures ids { IfOk result (λ stops. stops.ids ≡ map (λ stop. stop.id) stops.rows.items) }
     ensures fault { IfErr result (IsFaultOf (records_of (spec.stops caps.now) (bytes_of text.entry))) }
 {

@@ -4,7 +4,7 @@ ghost use Rattle.std.specs.Prelude.{◌≡◌, ◌≤◌, [], unwrap_or, option_
 ghost use Rattle.csv.specs.Records.{field_at, fields_of};
 ghost use Rattle.geo_length.specs.Degrees.{degrees_of};
 ghost use Rattle.service_days.specs.Dates.{date_at};
-ghost use Rattle.gtfs_tables.specs.Forms.{added_at, digits_at, flag_at, headway_at, is_usual_at, optional_time_at, time_at, trimmed};
+ghost use Rattle.gtfs_tables.specs.Forms.{added_at, flag_at, headway_at, is_usual_at, optional_time_at, service_time_at, trimmed, up_to_nine_digits_at};
 ghost use Rattle.gtfs_tables.specs.TableRows as spec;
 ghost use Rattle.gtfs_tables.specs.declared.faults.FeedFault.TheVariants.{BadField, DanglingKey, RepeatedKey};
 
@@ -36,7 +36,13 @@ impl<'a> Model for TableRow<'a> {
 
     ghost Value = { TableRow };
 
-    ghost view = { λ row. record { file = row.file; number = row.number; header = row.header.now; fields = fields_of row.fields.now } };
+    ghost view = { λ row. record {
+      file = row.file;
+      number = row.number;
+      header = row.header.now;
+      fields =
+          fields_of row.fields.now;
+    } };
 }
 
 impl<'a> TableRow<'a> {
@@ -47,7 +53,13 @@ impl<'a> TableRow<'a> {
         header: &'a Header,
         fields: &'a ByteRecord,
     ) -> TableRow<'a>
-        ensures { result ≡ record { file = file; number = number; header = header.now; fields = fields_of fields.now } }
+        ensures { result ≡ record {
+          file = file;
+          number = number;
+          header = header.now;
+          fields = fields_of
+              fields.now;
+        } }
     {
         TableRow {
             file,
@@ -113,14 +125,15 @@ impl<'a> TableRow<'a> {
 
     /// The id in a column, as it stands.
     pub(crate) fn id(&self, column: Column) -> Result<&'a [u8], FeedFault>
-        ensures { MatchResult result (λ id. spec.id_in self.now column ≡ Ok id.now) (λ fault. spec.id_in self.now column ≡ Err fault) }
+        ensures { MatchResult result (λ id. spec.id_in self.now column ≡ Ok id.now)
+            (λ fault. spec.id_in self.now column ≡ Err fault) }
     {
         read_id(self.field(column)).ok_or(self.bad_field(column))
     }
 
     /// A number of 1 to 9 digits.
     pub(crate) fn digits(&self, column: Column) -> Result<u32, FeedFault>
-        ensures { result ≡ spec.value_in digits_at self.now column }
+        ensures { result ≡ spec.value_in up_to_nine_digits_at self.now column }
     {
         read_digits(self.text(column)).ok_or(self.bad_field(column))
     }
@@ -164,7 +177,7 @@ impl<'a> TableRow<'a> {
 
     /// The seconds of a time.
     pub(crate) fn time(&self, column: Column) -> Result<u32, FeedFault>
-        ensures { result ≡ spec.value_in time_at self.now column }
+        ensures { result ≡ spec.value_in service_time_at self.now column }
     {
         read_time(self.text(column)).ok_or(self.bad_field(column))
     }

@@ -63,7 +63,8 @@ pub(crate) fn push_row<R: Drop>(
 ) -> Result<(), FeedFault>
     ensures rows { OnOk result (rows.new.items ≡ rows.old.items ++ option_to_list row) }
     ensures few { OnOk result (length rows.new.items ≤ most) }
-    ensures fault { IfErr result (λ fault. IsWantOr fault ((fault ≡ TooMany kind) × (most < length (rows.old.items ++ option_to_list row)))) }
+    ensures fault { IfErr result (λ fault. IsWantOr fault ((fault ≡ TooMany kind)
+        × (most < length (rows.old.items ++ option_to_list row)))) }
 {
     put(rows, row)?;
     if rows.len() as u64 > most {
@@ -81,7 +82,8 @@ fn take_rows<T: TakesRows>(
     requires file { file ≡ (T.table table.old).file }
     requires nothing { T.keeps table.old [] }
     ensures table { OnOk result (T.table table.new ≡ T.table table.old) }
-    ensures rows { MatchResult result (λ _. AreTaken (T.table table.old) header.now rows.old (T.keeps table.new)) (IsFaultOf (rows_behind (T.table table.old) header.now [] rows.old)) }
+    ensures rows { MatchResult result (λ _. AreTaken (T.table table.old) header.now rows.old
+        (T.keeps table.new)) (IsFaultOf (rows_behind (T.table table.old) header.now [] rows.old)) }
 {
     let mut number: u64 = 1;
     while let Some(fields) = rows.take()? {

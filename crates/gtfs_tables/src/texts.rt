@@ -2,6 +2,7 @@
 
 ghost use Rattle.std.specs.Prelude.{◌≡◌, ◌<◌, ◌≤◌, length, reverse, option_map, IfSome};
 ghost use Rattle.std.specs.Str.{is_utf8};
+ghost use Rattle.service_days.specs.ReadClock.{below_sixty};
 ghost use Rattle.plain_texts.specs.FixedDecimal.{fixed_at};
 ghost use Rattle.gtfs_tables.specs.Forms as spec;
 
@@ -23,7 +24,7 @@ fn is_utf8(text: &[u8]) -> bool
 
 /// The id that a field is, as it stands.
 pub(crate) fn read_id(text: &[u8]) -> Option<&[u8]>
-    ensures { option_map (λ id. id.now) result ≡ spec.id_at text.now }
+    ensures { option_map (λ id. id.now) result ≡ spec.feed_id_at text.now }
 {
     if is_id(text) { Some(text) } else { None }
 }
@@ -61,9 +62,9 @@ pub(crate) fn trimmed(text: &[u8]) -> &[u8]
 }
 
 /// The number that 1 to 9 digits spell.
-#[tactic(auto, unfolding(crate::specs::Forms::digits_at))]
+#[tactic(auto, unfolding(crate::specs::Forms::up_to_nine_digits_at))]
 pub(crate) fn read_digits(text: &[u8]) -> Option<u32>
-    ensures { result ≡ spec.digits_at text.now }
+    ensures { result ≡ spec.up_to_nine_digits_at text.now }
 {
     if text.is_empty() || text.len() > 9 {
         return None;
@@ -127,7 +128,7 @@ pub(crate) fn read_is_usual(text: &[u8], most: u8) -> Option<bool>
 
 /// The letter of a route's type.
 pub(crate) fn letter_of(type_: u32) -> u8
-    ensures { result ≡ spec.letter_of type_ }
+    ensures { result ≡ spec.letter_of_type type_ }
 {
     match type_ {
         0..=7 => type_ as u8 + 3,
@@ -137,7 +138,7 @@ pub(crate) fn letter_of(type_: u32) -> u8
 }
 
 fn below_sixty(n: u32) -> Option<u32>
-    ensures value { result ≡ spec.below_sixty n }
+    ensures value { result ≡ below_sixty n }
     ensures within { IfSome result (λ n. n < 60) }
 {
     if n < 60 { Some(n) } else { None }
@@ -145,7 +146,7 @@ fn below_sixty(n: u32) -> Option<u32>
 
 /// The seconds of `:MM:SS`.
 fn read_part(text: &[u8]) -> Option<u32>
-    ensures value { result ≡ spec.part_at text.now }
+    ensures value { result ≡ spec.minutes_and_seconds_at text.now }
     ensures within { IfSome result (λ n. n < 3600) }
 {
     match text {
@@ -167,9 +168,9 @@ fn read_hours(text: &[u8]) -> Option<u32>
 }
 
 /// The seconds of a time, up to 167:59:59.
-#[tactic(auto, unfolding(crate::specs::Forms::time_at))]
+#[tactic(auto, unfolding(crate::specs::Forms::service_time_at))]
 pub(crate) fn read_time(text: &[u8]) -> Option<u32>
-    ensures { result ≡ spec.time_at text.now }
+    ensures { result ≡ spec.service_time_at text.now }
 {
     if text.len() < 7 || text.len() > 9 {
         return None;

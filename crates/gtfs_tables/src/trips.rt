@@ -51,8 +51,8 @@ pub(crate) struct Trips<'a> {
 
 /// What a row says, or the fault of the first field that is not of its form.
 fn read<'a>(row: &TableRow<'a>) -> Result<Line<'a>, FeedFault>
-    ensures { MatchResult result
-        (λ line. spec.trip_line_in row.now ≡ Ok (record { row = line.row; id = line.id.now; route = line.route.now; service = line.service.now }))
+    ensures { MatchResult result (λ line. spec.trip_line_in row.now ≡ Ok
+        (record { row = line.row; id = line.id.now; route = line.route.now; service = line.service.now }))
         (λ fault. spec.trip_line_in row.now ≡ Err fault) }
 {
     let id = row.id(Column::TripId)?;
@@ -69,7 +69,13 @@ fn read<'a>(row: &TableRow<'a>) -> Result<Line<'a>, FeedFault>
 impl Line<'_> {
     /// The trip over the route at this place.
     fn to_row(&self, alloc: Global, route: u32) -> Result<TripRow, AllocError>
-        ensures { IfOk result (λ trip. trip ≡ record { row = self.now.row; id = self.now.id.now; route = route; service = self.now.service.now }) }
+        ensures { IfOk result (λ trip. trip ≡ record {
+          row = self.now.row;
+          id = self.now.id.now;
+          route =
+              route;
+          service = self.now.service.now;
+        }) }
     {
         let id = Id::from_slice(alloc, self.id)?;
         let service = Id::from_slice(alloc, self.service)?;
@@ -109,7 +115,8 @@ impl<'a> TakesRows for Trips<'a> {
 
     ghost table = { λ kept. spec.trips kept.caps kept.routes.now };
 
-    ghost keeps = { λ kept. HoldsListed (spec.trips kept.caps kept.routes.now) (λ line. line.id) (λ trip. trip.id) kept.ids kept.ids kept.rows.items };
+    ghost keeps = { λ kept. HoldsListed (spec.trips kept.caps kept.routes.now) (λ line. line.id)
+        (λ trip. trip.id) kept.ids kept.ids kept.rows.items };
 
     fn take(&mut self, row: &TableRow<'_>) -> Result<(), FeedFault> {
         let line = read(row)?;
@@ -132,9 +139,11 @@ pub(crate) fn read_trips(
     text: Option<&[u8]>,
 ) -> Result<Listed<TripRow>, FeedFault>
     requires { length routes.now ≤ 2 ^ 32 }
-    ensures trips { IfOk result (λ trips. AreRead (spec.trips caps.now routes.now) (bytes_of text.entry) trips.rows.items) }
+    ensures trips { IfOk result (λ trips. AreRead (spec.trips caps.now routes.now) (bytes_of text.entry)
+        trips.rows.items) }
     ensures ids { IfOk result (λ trips. trips.ids ≡ map (λ trip. trip.id) trips.rows.items) }
-    ensures fault { IfErr result (IsFaultOf (records_of (spec.trips caps.now routes.now) (bytes_of text.entry))) }
+    ensures fault { IfErr result (IsFaultOf (records_of (spec.trips caps.now routes.now)
+        (bytes_of text.entry))) }
 {
     let needed = [Column::TripId, Column::RouteId, Column::ServiceId];
     let trips = Trips::new(alloc, caps, routes);

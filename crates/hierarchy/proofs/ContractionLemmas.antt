@@ -6,10 +6,10 @@ use Rattle.std.proofs.lemmas.List.{get_or_append_left, get_or_push, length_push}
 use Rattle.std.proofs.lemmas.List.Elements.{All-contains, Contains-get_or}
 use Rattle.mode_network.specs.NetworkLists.{NetworkLists}
 use Rattle.hierarchy.specs.declared.entry.Entry.{Entry}
-use Rattle.hierarchy.specs.Hops.{Hop, AreHops, AreHigh, total, nodes_of}
+use Rattle.hierarchy.specs.Hops.{Hop, AreHops, AreHigh, total, nodes_along}
 use Rattle.hierarchy.specs.Lists.{HierarchyLists, height_in}
 use Rattle.hierarchy.specs.Soundness.{HasEntry, HasLighter, IsFree, MayStandAt, FitsLayer, IsMadeBy, IsMade, IsBridged, NodeIsBridged, HoldsBelow, IsSound}
-use Rattle.hierarchy.specs.Contraction.{IsShortcut, IsContraction, ContractionsKeepSoundness}
+use Rattle.hierarchy.specs.Contraction.{IsShortcut, IsContractedNext, ContractionsKeepSoundness}
 use Rattle.hierarchy.proofs.HeightLemmas.{height_most, height_least}
 use Rattle.hierarchy.proofs.SoundLemmas.{fits, bridged}
 
@@ -39,7 +39,7 @@ height_other (y ∷ order) x v differ core = by_test (nat_eq y v) core (height_o
   by_test true h next = absurd (omega arith)
   by_test false h next = (let e = next (omega arith) in omega arith)
 
-module _ (n : NetworkLists) (h : HierarchyLists) (x : ℕ) (h2 : HierarchyLists) (sound : IsSound n h) (c : IsContraction n h x h2) where
+module _ (n : NetworkLists) (h : HierarchyLists) (x : ℕ) (h2 : HierarchyLists) (sound : IsSound n h) (c : IsContractedNext n h x h2) where
   abbrev before : ℕ → ℕ
   before v = height_in h.order v
 
@@ -245,7 +245,7 @@ module _ (n : NetworkLists) (h : HierarchyLists) (x : ℕ) (h2 : HierarchyLists)
   keep_bridge y u v limit lt (inl lighter) = inl (still_lighter u v limit lighter)
   keep_bridge y u v limit lt (inr w) =
       let r = relaxed y lt w.hops u v w.walk w.above in
-      let listed = All-contains (Contains h2.witnesses) h.witnesses (record { below = y; nodes = nodes_of u w.hops }) c.witnesses w.listed in
+      let listed = All-contains (Contains h2.witnesses) h.witnesses (record { below = y; nodes = nodes_along u w.hops }) c.witnesses w.listed in
       inr (record {
         hops = r.hops;
         walk = r.walk;

@@ -10,7 +10,8 @@ use Rattle.std.proofs.lemmas.List.{get_or_default}
 use Rattle.mode_network.proofs.FindLemmas.{answers_rise, not_there, same_ends}
 use Rattle.hierarchy.specs.declared.entry.Entry.{Entry}
 use Rattle.hierarchy.specs.Lists.{WitnessLists, first_of, last_of}
-use Rattle.hierarchy.specs.Rules.{IsAscending, entry_cmp, witness_cmp}
+use Rattle.mode_network.specs.Rules.{IsAscending}
+use Rattle.hierarchy.specs.Rules.{entry_cmp, witness_cmp}
 use Rattle.hierarchy.specs.Soundness.{HasEntry}
 use Rattle.hierarchy.specs.Lookups.{IsEntryFor, HasNoEntry, IsWitnessFor, HasNoWitness, from_of}
 

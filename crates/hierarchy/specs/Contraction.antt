@@ -21,7 +21,7 @@ pub record IsShortcut (h : HierarchyLists) (x : ℕ) (e : Entry) : Type 0 where
   pub light : e.weight < 2 ^ 56
 
 -- the free core node x is contracted next: entries at contracted nodes stay, others only get lighter, and what leads by way of x is bridged
-pub record IsContraction (n : NetworkLists) (h : HierarchyLists) (x : ℕ) (h2 : HierarchyLists) : Type 0 where
+pub record IsContractedNext (n : NetworkLists) (h : HierarchyLists) (x : ℕ) (h2 : HierarchyLists) : Type 0 where
   pub order : h2.order ≡ h.order ++ x ∷ []
   pub core : IsCore h.order x
   pub free : IsFree n x
@@ -32,7 +32,7 @@ pub record IsContraction (n : NetworkLists) (h : HierarchyLists) (x : ℕ) (h2 :
   pub bridged : (u v a b : ℕ) → IsCore h.order u → IsCore h.order v → HasEntry h.entries u x a → HasEntry h.entries x v b → u ≢ v → IsBridged h2 x u v (a + b)
 
 abbrev pub ContractionsKeepSoundness : Type 0
-ContractionsKeepSoundness = (n : NetworkLists) (h : HierarchyLists) (x : ℕ) (h2 : HierarchyLists) → IsSound n h → IsContraction n h x h2 → IsSound n h2
+ContractionsKeepSoundness = (n : NetworkLists) (h : HierarchyLists) (x : ℕ) (h2 : HierarchyLists) → IsSound n h → IsContractedNext n h x h2 → IsSound n h2
 
 -- a walk over entries in the core
 pub record HasCoreWalk (h : HierarchyLists) (u v limit : ℕ) : Type 0 where

@@ -41,6 +41,6 @@ IsFirstBroken n h clause at by =
     ⊎ ((clause ≡ 3) × (by ≡ 0) × OrderHolds n h × All (FitsLayer n) h.entries × All (IsCovered h) n.arcs × FailsFirst (IsMade n h) h.entries at)
     ⊎ ((clause ≡ 4) × OrderHolds n h × All (FitsLayer n) h.entries × All (IsCovered h) n.arcs × All (IsMade n h) h.entries × BridgesFailFirst h at by)
 
-abbrev pub IsVerdict : NetworkLists → HierarchyLists → Verdict → Type 0
-IsVerdict n h Sound = IsSound n h
-IsVerdict n h (Broken clause at by) = IsFirstBroken n h clause at by
+abbrev pub IsSoundnessVerdict : NetworkLists → HierarchyLists → Verdict → Type 0
+IsSoundnessVerdict n h Sound = IsSound n h
+IsSoundnessVerdict n h (Broken clause at by) = IsFirstBroken n h clause at by

@@ -21,8 +21,8 @@ AreAll P [] = Unit {0}
 AreAll P (hop ∷ hops) = P hop.to × AreAll P hops
 
 -- the nodes that the walk from u stands at, in order
-abbrev pub nodes_of : ℕ → List Hop → List ℕ
-nodes_of u hops = u ∷ map (λ hop. hop.to) hops
+abbrev pub nodes_along : ℕ → List Hop → List ℕ
+nodes_along u hops = u ∷ map (λ hop. hop.to) hops
 
 -- each hop leads to a node that is higher than k
 abbrev pub AreHigh : (ℕ → ℕ) → ℕ → List Hop → Type 0

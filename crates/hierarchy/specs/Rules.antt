@@ -3,6 +3,7 @@ use Rattle.std.specs.Prelude.{◌≡◌, ℕ, ◌<◌, ◌≤◌, ◌^◌, List,
 use Rattle.std.specs.Ordering.{ordering_then, nat_cmp}
 use Rattle.std.specs.declared.cmp.Ordering.{Ordering}
 use Rattle.std.specs.declared.cmp.Ordering.TheVariants.{Less}
+use Rattle.mode_network.specs.Rules.{IsAscending}
 use Rattle.hierarchy.specs.declared.entry.Entry.{Entry}
 use Rattle.hierarchy.specs.Lists.{HierarchyLists, WitnessLists, first_of, last_of}
 
@@ -13,10 +14,6 @@ entry_cmp a b = ordering_then (nat_cmp a.from b.from) (nat_cmp a.to b.to)
 -- by the node that a walk is listed for, and then by its first and its last node
 abbrev pub witness_cmp : WitnessLists → WitnessLists → Ordering
 witness_cmp a b = ordering_then (ordering_then (nat_cmp a.below b.below) (nat_cmp (first_of a.nodes) (first_of b.nodes))) (nat_cmp (last_of a.nodes) (last_of b.nodes))
-
--- each row is above those before it
-abbrev pub IsAscending : {X : Type 0} → (X → X → Ordering) → List X → Type 0
-IsAscending cmp rows = AllPairs (λ a b. cmp a b ≡ Less) rows
 
 -- the number of a node of a network
 abbrev pub IsNode : ℕ → Type 0

@@ -4,7 +4,7 @@ use Rattle.mode_network.specs.declared.nodes.Arc.{Arc}
 use Rattle.mode_network.specs.NetworkLists.{NetworkLists, mode_at}
 use Rattle.mode_network.specs.Journeys.{Leads}
 use Rattle.hierarchy.specs.declared.entry.Entry.{Entry}
-use Rattle.hierarchy.specs.Hops.{Hop, AreHops, AreHigh, total, nodes_of}
+use Rattle.hierarchy.specs.Hops.{Hop, AreHops, AreHigh, total, nodes_along}
 use Rattle.hierarchy.specs.Lists.{HierarchyLists, height_in, IsAbove}
 
 -- an entry leads from u to v and weighs so much
@@ -70,7 +70,7 @@ pub record HasWitness (h : HierarchyLists) (x u v limit : ℕ) : Type 0 where
   pub walk : AreHops (HasEntry h.entries) u hops v
   pub above : AreHigh (height_in h.order) (height_in h.order x) hops
   pub within : total hops ≤ limit
-  pub listed : Contains h.witnesses (record { below = x; nodes = nodes_of u hops })
+  pub listed : Contains h.witnesses (record { below = x; nodes = nodes_along u hops })
 
 abbrev pub IsBridged : HierarchyLists → ℕ → ℕ → ℕ → ℕ → Type 0
 IsBridged h x u v limit = HasLighter h.entries u v limit ⊎ HasWitness h x u v limit

@@ -8,8 +8,8 @@ use Rattle.hierarchy.specs.Indexes.{AreEndsBelow, AreHeights, AreOffsets, AreInt
 use Rattle.hierarchy.specs.Rises.{AreRisesUpTo, rise_from, rises_among}
 
 -- the row with these offsets of entries and of rises
-abbrev pub row_of : ℕ × ℕ → NodeRow
-row_of offsets = record { entries = offsets.0; rises = offsets.1 }
+abbrev pub offsets_row : ℕ × ℕ → NodeRow
+offsets_row offsets = record { entries = offsets.0; rises = offsets.1 }
 
 -- the offsets of entries, and those of rises, in the rows of all nodes
 abbrev pub entry_offsets_of : List NodeRow → List ℕ

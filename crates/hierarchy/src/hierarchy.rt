@@ -48,8 +48,18 @@ impl Hierarchy {
         entries: Vec<Entry>,
         witnesses: Vec<Witness>,
     ) -> Result<Hierarchy, AllocError>
-        requires { IsHierarchy (record { order = order.items; entries = entries.items; witnesses = witnesses.items }) }
-        ensures { IfOk result (λ h. h ≡ record { order = order.items; entries = entries.items; witnesses = witnesses.items }) }
+        requires { IsHierarchy (record {
+          order = order.items;
+          entries = entries.items;
+          witnesses =
+              witnesses.items;
+        }) }
+        ensures { IfOk result (λ h. h ≡ record {
+          order = order.items;
+          entries = entries.items;
+          witnesses =
+              witnesses.items;
+        }) }
     {
         let tables = Tables::new(alloc, &order, &entries)?;
         Ok(Hierarchy {
@@ -121,7 +131,8 @@ impl Hierarchy {
 
     /// The entry from `u` to `v`; None exactly where there is none.
     pub fn entry(&self, u: u32, v: u32) -> Option<&Entry>
-        ensures { MatchOption result (HasNoEntry self.now.entries u v) (λ e. IsEntryFor self.now.entries u v e.now) }
+        ensures { MatchOption result (HasNoEntry self.now.entries u v)
+            (λ e. IsEntryFor self.now.entries u v e.now) }
     {
         self.known();
         entry_between(self.entries(), u, v)

@@ -2,7 +2,8 @@
 
 ghost use Rattle.std.specs.Prelude.{◌≡◌, MatchOption};
 ghost use Rattle.hierarchy.specs.Lists.{first_of, last_of};
-ghost use Rattle.hierarchy.specs.Rules.{IsAscending, entry_cmp, witness_cmp};
+ghost use Rattle.mode_network.specs.Rules.{IsAscending};
+ghost use Rattle.hierarchy.specs.Rules.{entry_cmp, witness_cmp};
 ghost use Rattle.hierarchy.specs.Lookups.{IsEntryFor, HasNoEntry, IsWitnessFor, HasNoWitness};
 
 use crate::entry::{Entry, Witness};

@@ -4,7 +4,7 @@ ghost use Rattle.std.specs.Prelude.{◌≡◌, ◌+◌, ◌<◌, ◌≤◌, ◌^
 ghost use Rattle.std.specs.List.{AllWithin};
 ghost use Rattle.std.specs.List.Sorted.{IsNonDecreasingBy};
 ghost use Rattle.hierarchy.specs.Lookups.{count_below, from_of};
-ghost use Rattle.hierarchy.specs.Indexes.{AreOffsets, AreEnds, end_of};
+ghost use Rattle.hierarchy.specs.Indexes.{AreOffsets, AreEntryEnds, end_node};
 
 use crate::entry::Entry;
 use std::alloc::{AllocError, Global};
@@ -33,7 +33,7 @@ pub struct End {
 }
 
 impl Keyed for End {
-    ghost key = { end_of };
+    ghost key = { end_node };
 
     fn key(&self) -> u32 {
         self.to
@@ -78,7 +78,7 @@ pub(crate) fn offsets<T: Keyed>(
 /// The ends of all entries, in order.
 pub(crate) fn ends(alloc: Global, entries: &[Entry]) -> Result<Vec<End>, AllocError>
     requires { length entries.now < 2 ^ 63 }
-    ensures { IfOk result (λ ends. AreEnds entries.now ends.items) }
+    ensures { IfOk result (λ ends. AreEntryEnds entries.now ends.items) }
 {
     let mut ends = Vec::with_capacity(alloc, entries.len())?;
     for (place, entry) in entries.iter().enumerate() {

@@ -6,7 +6,7 @@ ghost use Rattle.std.specs.List.Sorted.{IsNonDecreasingBy};
 ghost use Rattle.hierarchy.specs.Rules.{IsNode, FitsEntry};
 ghost use Rattle.hierarchy.specs.Lookups.{from_of};
 ghost use Rattle.hierarchy.specs.Indexes.{AreIntoTables};
-ghost use Rattle.hierarchy.specs.Tables.{AreTablesOf, row_of};
+ghost use Rattle.hierarchy.specs.Tables.{AreTablesOf, offsets_row};
 
 use crate::entry::Entry;
 use crate::heights::{heights, past_entries, past_order};
@@ -82,7 +82,7 @@ fn rows(
     entry_offsets: &[u64],
     rise_offsets: &[u64],
 ) -> Result<Vec<NodeRow>, AllocError>
-    ensures { IfOk result (λ rows. rows.items ≡ map row_of (zip entry_offsets.now rise_offsets.now)) }
+    ensures { IfOk result (λ rows. rows.items ≡ map offsets_row (zip entry_offsets.now rise_offsets.now)) }
 {
     entry_offsets
         .iter()

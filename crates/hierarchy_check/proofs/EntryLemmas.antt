@@ -3,12 +3,12 @@ use Rattle.std.proofs.Common.{◌≡◌, ℕ, ◌+◌, ◌-◌, ◌<◌, ◌≤�
 use Rattle.std.specs.Prelude.{◌↔◌, Contains, Option, None, IfSome, IfNone, MatchOption}
 use Rattle.std.proofs.lemmas.Bool.{false≢true, leb-true, le-leb, ltb-true, eqb-true, eq-eqb}
 use Rattle.mode_network.specs.declared.nodes.Arc.{Arc}
-use Rattle.mode_network.specs.Rules.{arc_cmp}
+use Rattle.mode_network.specs.Rules.{IsAscending, arc_cmp}
 use Rattle.mode_network.specs.Journeys.{Leads}
 use Rattle.mode_network.proofs.FindLemmas.{leads_once}
 use Rattle.hierarchy.specs.declared.entry.Entry.{Entry}
 use Rattle.hierarchy.specs.Lists.{HierarchyLists, is_above}
-use Rattle.hierarchy.specs.Rules.{IsAscending, entry_cmp}
+use Rattle.hierarchy.specs.Rules.{entry_cmp}
 use Rattle.hierarchy.specs.Soundness.{HasEntry, HasLighter}
 use Rattle.hierarchy.specs.Lookups.{IsEntryFor, HasNoEntry}
 use Rattle.hierarchy.proofs.LookupLemmas.{weight_once}

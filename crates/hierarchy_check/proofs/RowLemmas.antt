@@ -4,7 +4,8 @@ use Rattle.std.specs.Prelude.{Some, slice_range}
 use Rattle.std.proofs.lemmas.List.{get_or-take, get_or-drop, length-take-le, length-drop}
 use Rattle.std.proofs.lemmas.Option.{slice_get-get_or}
 use Rattle.hierarchy.specs.declared.entry.Entry.{Entry}
-use Rattle.hierarchy.specs.Rules.{IsAscending, entry_cmp}
+use Rattle.mode_network.specs.Rules.{IsAscending}
+use Rattle.hierarchy.specs.Rules.{entry_cmp}
 use Rattle.hierarchy.specs.Lookups.{IsEntryFor, HasNoEntry, AreFrom}
 
 module _ (entries : List Entry) (u low high : ℕ) (are : AreFrom entries u low high) where

@@ -6,7 +6,7 @@ use Rattle.hierarchy.specs.declared.verdict.Verdict.{Verdict}
 use Rattle.hierarchy.specs.declared.verdict.Verdict.TheVariants.{Sound, Broken}
 use Rattle.hierarchy.specs.Lists.{HierarchyLists}
 use Rattle.hierarchy.specs.Soundness.{IsSound}
-use Rattle.hierarchy.specs.FirstBroken.{IsFirstBroken, IsVerdict}
+use Rattle.hierarchy.specs.FirstBroken.{IsFirstBroken, IsSoundnessVerdict}
 
 not_both : (n : NetworkLists) (h : HierarchyLists) (clause at by : ℕ) → IsSound n h → IsFirstBroken n h clause at by → ⊥
 not_both n h clause at by sound (inl (is, none, fails)) = fails.fails (sound.in_order at fails.place)
@@ -15,10 +15,10 @@ not_both n h clause at by sound (inr (inr (inl (is, none, order, layers, fails))
 not_both n h clause at by sound (inr (inr (inr (inl (is, none, order, layers, covered, fails))))) = fails.fails (λ d. sound.made at d fails.place)
 not_both n h clause at by sound (inr (inr (inr (inr (is, order, layers, covered, made, fails))))) = fails.node_fails.fails (λ d. sound.bridged fails.place d fails.node_fails.place)
 
-pub sound_verdict : (n : NetworkLists) (h : HierarchyLists) (verdict : Verdict) → IsVerdict n h verdict → IsSound n h → verdict ≡ Sound
+pub sound_verdict : (n : NetworkLists) (h : HierarchyLists) (verdict : Verdict) → IsSoundnessVerdict n h verdict → IsSound n h → verdict ≡ Sound
 sound_verdict n h Sound is sound = refl
 sound_verdict n h (Broken clause at by) is sound = absurd (not_both n h clause at by sound is)
 
-pub sound_checked : {E : Type 0} (n : NetworkLists) (h : HierarchyLists) (checked : Result Verdict E) → IfOk checked (IsVerdict n h) → IsSound n h → IfOk checked (λ verdict. verdict ≡ Sound)
+pub sound_checked : {E : Type 0} (n : NetworkLists) (h : HierarchyLists) (checked : Result Verdict E) → IfOk checked (IsSoundnessVerdict n h) → IsSound n h → IfOk checked (λ verdict. verdict ≡ Sound)
 sound_checked n h (Ok verdict) is sound = sound_verdict n h verdict is sound
 sound_checked n h (Err fault) is sound = is

@@ -4,9 +4,10 @@ use Rattle.std.specs.Prelude.{◌↔◌, Contains}
 use Rattle.std.proofs.lemmas.Bool.{cases_order, false≢true}
 use Rattle.std.proofs.lemmas.Cmp.{tied_itself, nat_cmp_total}
 use Rattle.std.proofs.lemmas.List.{get_or_default}
-use Rattle.hierarchy.specs.Hops.{Hop, AreHops, AreHigh, total, nodes_of}
+use Rattle.hierarchy.specs.Hops.{Hop, AreHops, AreHigh, total, nodes_along}
 use Rattle.hierarchy.specs.Lists.{HierarchyLists, WitnessLists, height_in, first_of, last_of}
-use Rattle.hierarchy.specs.Rules.{IsAscending, witness_cmp}
+use Rattle.mode_network.specs.Rules.{IsAscending}
+use Rattle.hierarchy.specs.Rules.{witness_cmp}
 use Rattle.hierarchy.specs.Soundness.{HasEntry, HasWitness}
 use Rattle.hierarchy.specs.Lookups.{IsWitnessFor, HasNoWitness}
 use Rattle.hierarchy_check.specs.Light.{CanWalk}
@@ -20,7 +21,7 @@ last_on u v nodes =
 -- hops along nodes that can be walked
 pub record Walked (h : HierarchyLists) (x u : ℕ) (nodes : List ℕ) (have : ℕ) : Type 0 where
   pub hops : List Hop
-  pub are : nodes_of u hops ≡ u ∷ nodes
+  pub are : nodes_along u hops ≡ u ∷ nodes
   pub walk : AreHops (HasEntry h.entries) u hops (last_of (u ∷ nodes))
   pub above : AreHigh (height_in h.order) (height_in h.order x) hops
   pub within : total hops ≤ have
@@ -48,7 +49,7 @@ can_walk h x u v (hop ∷ hops) have (entry, walk) (high, above) within = (
 )
 
 -- where hops end
-ends_at : (h : HierarchyLists) (u v : ℕ) (hops : List Hop) → AreHops (HasEntry h.entries) u hops v → last_of (nodes_of u hops) ≡ v
+ends_at : (h : HierarchyLists) (u v : ℕ) (hops : List Hop) → AreHops (HasEntry h.entries) u hops v → last_of (nodes_along u hops) ≡ v
 ends_at h u v [] walk = sym walk
 ends_at h u v (hop ∷ hops) (entry, walk) = last_on u hop.to (map (λ (hop : Hop). hop.to) hops) ∙ ends_at h hop.to v hops walk
 
@@ -84,8 +85,8 @@ witness_decides h ascend x u v limit first rest w found nodes = (λ can. made ca
   made : CanWalk h x first rest limit → HasWitness h x u v limit
   made can =
       let is = walked h x first rest limit can in
-      let same : w ≡ record { below = x; nodes = nodes_of u is.hops } =
-      ap (λ b. record { below = b; nodes = w.nodes }) found.below_is ∙ ap (λ ns. record { below = x; nodes = ns }) (nodes ∙ sym is.are ∙ ap (λ n. nodes_of n is.hops) start) in
+      let same : w ≡ record { below = x; nodes = nodes_along u is.hops } =
+      ap (λ b. record { below = b; nodes = w.nodes }) found.below_is ∙ ap (λ ns. record { below = x; nodes = ns }) (nodes ∙ sym is.are ∙ ap (λ n. nodes_along n is.hops) start) in
       record {
         hops = is.hops;
         walk = subst (λ n. AreHops (HasEntry h.entries) n is.hops v) start (subst (AreHops (HasEntry h.entries) first is.hops) end is.walk);
@@ -96,7 +97,7 @@ witness_decides h ascend x u v limit first rest w found nodes = (λ can. made ca
 
   walk_of : HasWitness h x u v limit → CanWalk h x first rest limit
   walk_of has =
-      let listed : WitnessLists = record { below = x; nodes = nodes_of u has.hops } in
+      let listed : WitnessLists = record { below = x; nodes = nodes_along u has.hops } in
       let same : w ≡ listed = witness_once h.witnesses ascend w listed found.listed has.listed found.below_is found.first_is (found.last_is ∙ sym (ends_at h u v has.hops has.walk)) in
       let all : first ∷ rest ≡ u ∷ map (λ (hop : Hop). hop.to) has.hops = sym nodes ∙ ap (λ (y : WitnessLists). y.nodes) same in
       let tail : rest ≡ map (λ (hop : Hop). hop.to) has.hops = cc in
@@ -105,7 +106,7 @@ witness_decides h ascend x u v limit first rest w found nodes = (λ can. made ca
 -- where none is listed there is none
 pub none_listed : (h : HierarchyLists) (x u v limit : ℕ) → HasNoWitness h.witnesses x u v → HasWitness h x u v limit → ⊥
 none_listed h x u v limit none has =
-    none (record { below = x; nodes = nodes_of u has.hops }) (record { listed = has.listed; below_is = refl; first_is = refl; last_is = ends_at h u v has.hops has.walk })
+    none (record { below = x; nodes = nodes_along u has.hops }) (record { listed = has.listed; below_is = refl; first_is = refl; last_is = ends_at h u v has.hops has.walk })
 
 pub not_listed : (h : HierarchyLists) (x u v limit : ℕ) → HasNoWitness h.witnesses x u v → (false ≡ true) ↔ HasWitness h x u v limit
 not_listed h x u v limit none = (λ e. absurd (false≢true e), λ has. absurd (none_listed h x u v limit none has))

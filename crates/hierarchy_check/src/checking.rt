@@ -3,7 +3,7 @@
 ghost use Rattle.std.specs.Prelude.{◌≡◌, IfOk};
 ghost use Rattle.hierarchy.specs.Lists.{HierarchyLists};
 ghost use Rattle.hierarchy.specs.Soundness.{IsSound};
-ghost use Rattle.hierarchy.specs.FirstBroken.{IsVerdict};
+ghost use Rattle.hierarchy.specs.FirstBroken.{IsSoundnessVerdict};
 ghost use Rattle.hierarchy_check.specs.Nodes.{HasNodes, IsNodesVerdict};
 
 use crate::bridges::first_unbridged;
@@ -17,7 +17,7 @@ use std::alloc::{AllocError, Global};
 /// those of [`Verdict`]. It takes a byte for each node of the network, and time in proportion to the pairs of entries around
 /// contracted nodes and the length of their witnesses, times a logarithm.
 pub fn check(alloc: Global, network: &Network, h: &Hierarchy) -> Result<Verdict, AllocError>
-    ensures verdict { IfOk result (IsVerdict network.now h.now) }
+    ensures verdict { IfOk result (IsSoundnessVerdict network.now h.now) }
     ensures sound { IsSound network.now h.now → IfOk result (λ verdict. verdict ≡ Verdict.Sound) }
 {
     first_broken(alloc, network, h)
@@ -25,7 +25,7 @@ pub fn check(alloc: Global, network: &Network, h: &Hierarchy) -> Result<Verdict,
 
 /// The clauses, tried in turn.
 fn first_broken(alloc: Global, network: &Network, h: &Hierarchy) -> Result<Verdict, AllocError>
-    ensures { IfOk result (IsVerdict network.now h.now) }
+    ensures { IfOk result (IsSoundnessVerdict network.now h.now) }
 {
     match check_nodes(alloc, network, h.order(), h.entries())? {
         Verdict::Sound => Ok(check_ways(network, h)),
@@ -41,7 +41,8 @@ pub fn check_nodes(
     order: &[u32],
     entries: &[Entry],
 ) -> Result<Verdict, AllocError>
-    ensures { (h : HierarchyLists) → h.order ≡ order.now → h.entries ≡ entries.now → IfOk result (IsNodesVerdict network.now h) }
+    ensures { (h : HierarchyLists) → h.order ≡ order.now → h.entries ≡ entries.now
+        → IfOk result (IsNodesVerdict network.now h) }
 {
     match first_misplaced(alloc, network, order)? {
         Some(at) => Ok(broken(1, at)),
@@ -55,7 +56,7 @@ pub fn check_nodes(
 /// The verdict on a hierarchy that keeps the clauses 1 and 5, by the others.
 pub fn check_ways(network: &Network, h: &Hierarchy) -> Verdict
     requires { HasNodes network.now h.now }
-    ensures { IsVerdict network.now h.now result }
+    ensures { IsSoundnessVerdict network.now h.now result }
 {
     if let Some(at) = first_uncovered(network, h) {
         return broken(2, at);

@@ -8,7 +8,7 @@ use Rattle.hierarchy.specs.Soundness.{IsSound}
 use Rattle.hierarchy.specs.FirstBroken.{IsFirstBroken}
 use Rattle.hierarchy_file.specs.declared.fault.HFileFault.{HFileFault}
 use Rattle.hierarchy_file.specs.Causes.{IsNoHierarchy, SpellHierarchy}
-use Rattle.contractor.specs.Contracted.{IsContracted}
+use Rattle.contractor.specs.Contracted.{IsContractedTo}
 use Rattle.run_steps.specs.declared.outcome.FileRole.TheVariants.{Hierarchy}
 use Rattle.run_steps.specs.declared.outcome.Outcome.TheVariants.{BadHierarchy, Unsound}
 use Rattle.run_steps.specs.Regions.{OnRegion}
@@ -45,7 +45,7 @@ SaysCheck caps region hierarchy = OnRegion caps region (λ n. OnHierarchy n hier
 -- Written is the one spelling of a hierarchy that contraction makes of the network, with so many nodes kept.
 pub record IsContraction (n : NetworkLists) (keep : ℕ) (out : List ℕ) : Type 0 where
   pub hierarchy : HierarchyLists
-  pub contracted : IsContracted n keep hierarchy
+  pub contracted : IsContractedTo n keep hierarchy
   pub spells : SpellHierarchy out hierarchy
 
 -- `contract` writes a hierarchy of the region's road layers

@@ -25,8 +25,10 @@ pub fn read_if_named<F: Shelf, E: Sink>(
     network: &Network,
     notes: &mut E,
 ) -> Result<Option<Hierarchy>, Outcome>
-    ensures ok { IfOk result (IsFoundSound (F.meaning shelf.old) (F.meaning shelf.new) network.now (option_map (λ it. it.now) name.entry)) }
-    ensures err { IfErr result (IsNamedOutcome (F.meaning shelf.old) (F.meaning shelf.new) network.now (option_map (λ it. it.now) name.entry)) }
+    ensures ok { IfOk result (IsFoundSound (F.meaning shelf.old) (F.meaning shelf.new) network.now
+        (option_map (λ it. it.now) name.entry)) }
+    ensures err { IfErr result (IsNamedOutcome (F.meaning shelf.old) (F.meaning shelf.new) network.now
+        (option_map (λ it. it.now) name.entry)) }
 {
     match name {
         Some(name) => {
@@ -46,7 +48,8 @@ pub fn read_hierarchy<F: Shelf, E: Sink>(
     notes: &mut E,
 ) -> Result<Hierarchy, Outcome>
     ensures ok { IfOk result (HasSound (F.meaning shelf.old) (F.meaning shelf.new) network.now name.now) }
-    ensures err { IfErr result (IsHierarchyOutcome (F.meaning shelf.old) (F.meaning shelf.new) network.now name.now) }
+    ensures err { IfErr result (IsHierarchyOutcome (F.meaning shelf.old) (F.meaning shelf.new) network.now
+        name.now) }
 {
     let bytes = read_file(alloc, shelf, name, FileRole::Hierarchy, notes)?;
     sound(alloc, network, name, &bytes, notes)

@@ -1,5 +1,5 @@
 -- Each refusal has its cause.
-use Rattle.std.proofs.Common.{◌≡◌, ℕ, ◌-◌, Bool, true, false, cond, eqb, List, ◌++◌, length, inl, inr, Some, None, Result, Ok, Err, refl, sym, ap, subst, ◌∙◌, append_assoc, arith, ◌⊎◌}
+use Rattle.std.proofs.Common.{◌≡◌, ℕ, ◌-◌, Bool, true, false, cond, eqb, List, ◌++◌, length, inl, inr, Some, None, Result, Ok, Err, refl, sym, ap, subst, ◌∙◌, append_assoc, arith}
 use Rattle.std.specs.Prelude.{Option, IfErr}
 use Rattle.std.proofs.lemmas.Bool.{eqb-false}
 use Rattle.hierarchy.specs.declared.entry.Entry.{Entry}
@@ -8,9 +8,9 @@ use Rattle.hierarchy.specs.Rules.{IsNode}
 use Rattle.hierarchy_file.specs.declared.head.Counts.{Counts}
 use Rattle.hierarchy_file.specs.declared.fault.HFileFault.{HFileFault}
 use Rattle.hierarchy_file.specs.declared.fault.HFileFault.TheVariants.{BadHead, BadRecord, Trailing, OutOfMemory}
-use Rattle.hierarchy_file.specs.Spelling.{magic, counts_text, counts_of, node_text, entry_text, witness_text, records_text, hierarchy_text, FitsRow, FitsWalk, key_of_entry, key_of_witness}
-use Rattle.hierarchy_file.specs.Reading.{next_node, entry_at, witness_at, many, head_at, with_witnesses, with_entries, with_order, records_of, ended, of_head, hierarchy_of, GivesHierarchy}
-use Rattle.hierarchy_file.specs.Causes.{AreRows, StopsAt, AnyNext, itself, NextPair, NextThree, RecordsStop, HasHead, HasCause, IsNoHierarchy, SpellHierarchy, SpellNone}
+use Rattle.hierarchy_file.specs.Spelling.{magic, counts_text, hierarchy_counts, node_in_bytes, entry_text, witness_text, records_text, hierarchy_text, FitsRow, FitsWalk, key_of_entry, key_of_witness}
+use Rattle.hierarchy_file.specs.Reading.{next_node, entry_front, witness_at, many_ascending, head_at, with_witnesses, with_entries, with_order, hierarchy_records, whole_hierarchy, of_head, hierarchy_of, GivesHierarchy}
+use Rattle.hierarchy_file.specs.Causes.{AreRows, StopsAt, AnyNext, itself, NextPair, NextThree, RecordsStop, HasHead, HasCause, IsNoHierarchy, IsRefusedHierarchy, SpellHierarchy, SpellNone}
 use Rattle.hierarchy_file.proofs.FieldLaws.{IsBytes}
 use Rattle.hierarchy_file.proofs.ManyLaws.{many_takes, many_stops}
 use Rattle.hierarchy_file.proofs.RecordLaws.{next_node_takes, next_node_again, entry_takes, entry_again, witness_takes, witness_again}
@@ -23,34 +23,34 @@ left_is : {A : Type 0} (a b : ℕ) → ◌≡◌ {A = Result A ℕ} (Err a) (Err
 left_is a b e = cc
 
 -- where the records stop
-records_stop : (c : Counts) (bytes : List ℕ) (left : ℕ) → IsBytes bytes → records_of c bytes ≡ Err left → RecordsStop c bytes left
-unfolding records_of
-records_stop c bytes left fits e = by_order (many next_node itself c.order None bytes) refl e
+records_stop : (c : Counts) (bytes : List ℕ) (left : ℕ) → IsBytes bytes → hierarchy_records c bytes ≡ Err left → RecordsStop c bytes left
+unfolding hierarchy_records
+records_stop c bytes left fits e = by_order (many_ascending next_node itself c.order None bytes) refl e
   where
-    by_witnesses : (order : List ℕ) (entries : List Entry) (rest : List ℕ) → IsBytes rest → (r : Result (List WitnessLists × List ℕ) ℕ) → many witness_at key_of_witness c.witnesses None rest ≡ r
+    by_witnesses : (order : List ℕ) (entries : List Entry) (rest : List ℕ) → IsBytes rest → (r : Result (List WitnessLists × List ℕ) ℕ) → many_ascending witness_at key_of_witness c.witnesses None rest ≡ r
         → with_witnesses order entries r ≡ Err left → StopsAt witness_text FitsWalk NextThree key_of_witness None c.witnesses rest left
     by_witnesses order entries rest fits (Ok x) is e = absurd cc
     by_witnesses order entries rest fits (Err l) is e =
         many_stops witness_at key_of_witness witness_text FitsWalk NextThree witness_takes witness_again c.witnesses None rest left fits (is ∙ ap Err (left_is l left e))
 
-    by_entries : (order : List ℕ) (rest : List ℕ) → IsBytes rest → AreRows node_text IsNode AnyNext itself c.order bytes rest → (r : Result (List Entry × List ℕ) ℕ) → many entry_at key_of_entry c.entries None rest ≡ r
+    by_entries : (order : List ℕ) (rest : List ℕ) → IsBytes rest → AreRows node_in_bytes IsNode AnyNext itself c.order bytes rest → (r : Result (List Entry × List ℕ) ℕ) → many_ascending entry_front key_of_entry c.entries None rest ≡ r
         → with_entries c order r ≡ Err left → RecordsStop c bytes left
     by_entries order rest fits rows (Err l) is e =
-        inr (rest, rows, inl (many_stops entry_at key_of_entry entry_text FitsRow NextPair entry_takes entry_again c.entries None rest left fits (is ∙ ap Err (left_is l left e))))
+        inr (rest, rows, inl (many_stops entry_front key_of_entry entry_text FitsRow NextPair entry_takes entry_again c.entries None rest left fits (is ∙ ap Err (left_is l left e))))
     by_entries order rest fits rows (Ok x) is e =
-        let taken = many_takes entry_at key_of_entry entry_text FitsRow NextPair entry_takes entry_again c.entries None rest x fits is in
+        let taken = many_takes entry_front key_of_entry entry_text FitsRow NextPair entry_takes entry_again c.entries None rest x fits is in
         let more : AreRows entry_text FitsRow NextPair key_of_entry c.entries rest x.1 = record { rows = x.0; fit = taken.2; follow = taken.3; counted = taken.1; are = taken.0.parts } in
-        inr (rest, rows, inr (x.1, more, by_witnesses order x.0 x.1 taken.0.rest_fits (many witness_at key_of_witness c.witnesses None x.1) refl e))
+        inr (rest, rows, inr (x.1, more, by_witnesses order x.0 x.1 taken.0.rest_fits (many_ascending witness_at key_of_witness c.witnesses None x.1) refl e))
 
-    by_order : (r : Result (List ℕ × List ℕ) ℕ) → many next_node itself c.order None bytes ≡ r → with_order c r ≡ Err left → RecordsStop c bytes left
-    by_order (Err l) is e = inl (many_stops next_node itself node_text IsNode AnyNext next_node_takes next_node_again c.order None bytes left fits (is ∙ ap Err (left_is l left e)))
+    by_order : (r : Result (List ℕ × List ℕ) ℕ) → many_ascending next_node itself c.order None bytes ≡ r → with_order c r ≡ Err left → RecordsStop c bytes left
+    by_order (Err l) is e = inl (many_stops next_node itself node_in_bytes IsNode AnyNext next_node_takes next_node_again c.order None bytes left fits (is ∙ ap Err (left_is l left e)))
     by_order (Ok x) is e =
-        let taken = many_takes next_node itself node_text IsNode AnyNext next_node_takes next_node_again c.order None bytes x fits is in
-        let rows : AreRows node_text IsNode AnyNext itself c.order bytes x.1 = record { rows = x.0; fit = taken.2; follow = taken.3; counted = taken.1; are = taken.0.parts } in
-        by_entries x.0 x.1 taken.0.rest_fits rows (many entry_at key_of_entry c.entries None x.1) refl e
+        let taken = many_takes next_node itself node_in_bytes IsNode AnyNext next_node_takes next_node_again c.order None bytes x fits is in
+        let rows : AreRows node_in_bytes IsNode AnyNext itself c.order bytes x.1 = record { rows = x.0; fit = taken.2; follow = taken.3; counted = taken.1; are = taken.0.parts } in
+        by_entries x.0 x.1 taken.0.rest_fits rows (many_ascending entry_front key_of_entry c.entries None x.1) refl e
 
 -- the head, the records and what follows, as the spelling and what follows
-text_is : (bytes : List ℕ) (c : Counts) (rest : List ℕ) (h : HierarchyLists) (more : List ℕ) → bytes ≡ (magic ++ counts_text c) ++ rest → rest ≡ records_text h ++ more → counts_of h ≡ c
+text_is : (bytes : List ℕ) (c : Counts) (rest : List ℕ) (h : HierarchyLists) (more : List ℕ) → bytes ≡ (magic ++ counts_text c) ++ rest → rest ≡ records_text h ++ more → hierarchy_counts h ≡ c
     → bytes ≡ hierarchy_text h ++ more
 unfolding hierarchy_text
 text_is bytes c rest h more first second counts =
@@ -58,13 +58,13 @@ text_is bytes c rest h more first second counts =
     ∙ ap (λ d. ((magic ++ counts_text d) ++ records_text h) ++ more) (sym counts)
 
 -- what follows the head of the bytes
-behind_head : (bytes : List ℕ) (head : Counts × List ℕ) (fault : HFileFault) → IsBytes bytes → head_at bytes ≡ Some head → ended (length bytes) (records_of head.0 head.1) ≡ Err fault → HasCause bytes fault
-behind_head bytes head fault fits is e = by_records (records_of head.0 head.1) refl e
+behind_head : (bytes : List ℕ) (head : Counts × List ℕ) (fault : HFileFault) → IsBytes bytes → head_at bytes ≡ Some head → whole_hierarchy (length bytes) (hierarchy_records head.0 head.1) ≡ Err fault → HasCause bytes fault
+behind_head bytes head fault fits is e = by_records (hierarchy_records head.0 head.1) refl e
   where
     first : HasHead bytes head.0 head.1
     first = let t = head_takes bytes head fits is in record { fit = t.1; are = t.0.parts }
 
-    by_records : (r : Result Read ℕ) → records_of head.0 head.1 ≡ r → ended (length bytes) r ≡ Err fault → HasCause bytes fault
+    by_records : (r : Result Read ℕ) → hierarchy_records head.0 head.1 ≡ r → whole_hierarchy (length bytes) r ≡ Err fault → HasCause bytes fault
     by_records (Err left) stopped e =
         let t = head_takes bytes head fits is in
         let same : BadRecord (length bytes - left) ≡ fault = cc in
@@ -126,9 +126,9 @@ spell_none : (bytes : List ℕ) (fault : HFileFault) → hierarchy_of bytes ≡ 
 spell_none bytes fault e h (has, is) = let again = ap hierarchy_of is ∙ hierarchy_again h has in absurd (cc)
 
 pub gives_none : (bytes : List ℕ) (r : Result HierarchyLists HFileFault) → IsBytes bytes → GivesHierarchy r (hierarchy_of bytes)
-    → IfErr r (λ fault. (fault ≡ OutOfMemory) ⊎ IsNoHierarchy bytes fault)
+    → IfErr r (IsRefusedHierarchy bytes)
 gives_none bytes (Ok h) fits given = tt
-gives_none bytes (Err OutOfMemory) fits given = inl refl
-gives_none bytes (Err BadHead) fits given = inr (spell_none bytes BadHead given, has_cause bytes BadHead fits given)
-gives_none bytes (Err (BadRecord at)) fits given = inr (spell_none bytes (BadRecord at) given, has_cause bytes (BadRecord at) fits given)
-gives_none bytes (Err (Trailing at)) fits given = inr (spell_none bytes (Trailing at) given, has_cause bytes (Trailing at) fits given)
+gives_none bytes (Err OutOfMemory) fits given = tt
+gives_none bytes (Err BadHead) fits given = (spell_none bytes BadHead given, has_cause bytes BadHead fits given)
+gives_none bytes (Err (BadRecord at)) fits given = (spell_none bytes (BadRecord at) given, has_cause bytes (BadRecord at) fits given)
+gives_none bytes (Err (Trailing at)) fits given = (spell_none bytes (Trailing at) given, has_cause bytes (Trailing at) fits given)

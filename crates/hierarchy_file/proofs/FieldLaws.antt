@@ -6,8 +6,8 @@ use Rattle.std.proofs.lemmas.Bool.{cases_lt, ltb-true, ltb-false, le-ltb, lt-ltb
 use Rattle.std.proofs.lemmas.Option.{none-some, same_Some, cond_some, option_and_then_some}
 use Rattle.std.proofs.lemmas.List.{take_at, drop_at, take-append-drop, length-append, length-take, get_or-drop, get_or-take, get_or_past}
 use Rattle.std.proofs.lemmas.Nat.{be_bytes_4, be_bytes_8, from_be_bytes-to_be_bytes_4, from_be_bytes-to_be_bytes_8}
-use Rattle.hierarchy_file.specs.Spelling.{node_text, middle_number}
-use Rattle.hierarchy_file.specs.Reading.{number_at, node_at, middle_of}
+use Rattle.hierarchy_file.specs.Spelling.{node_in_bytes, middle_number}
+use Rattle.hierarchy_file.specs.Reading.{number_front, node_at, middle_of}
 
 abbrev pub IsBytes : List ℕ → Type 0
 IsBytes bytes = (i : ℕ) → get_or bytes i 0 < 256
@@ -62,7 +62,7 @@ guard_some : {A : Type 0} (b : Bool) (x y : A) → cond b None (Some x) ≡ Some
 guard_some true x y e = absurd cc
 guard_some false x y e = (refl, cc)
 
-pub number_takes : (w : Width) (limit : ℕ) (wide : IsWide w limit) (bytes : List ℕ) (x : ℕ × List ℕ) → IsBytes bytes → number_at w bytes ≡ Some x
+pub number_takes : (w : Width) (limit : ℕ) (wide : IsWide w limit) (bytes : List ℕ) (x : ℕ × List ℕ) → IsBytes bytes → number_front w bytes ≡ Some x
     → Takes bytes (to_be_bytes w x.0) x.1 × (x.0 < limit)
 number_takes w limit wide bytes x fits e =
     let g = guard_some (ltb (length bytes) (byte_len w)) (from_be_bytes w (take (byte_len w) bytes), drop (byte_len w) bytes) x e in
@@ -73,7 +73,7 @@ number_takes w limit wide bytes x fits e =
     record { parts = rw front (sym (take-append-drop (byte_len w) bytes)); rest_fits = IsBytes-drop (byte_len w) bytes fits } in
     subst (λ (y : ℕ × List ℕ). Takes bytes (to_be_bytes w y.0) y.1 × (y.0 < limit)) g.1 (taken, wide.below (take (byte_len w) bytes) (IsBytes-take (byte_len w) bytes fits))
 
-pub number_again : (w : Width) (limit : ℕ) (wide : IsWide w limit) (n : ℕ) (rest : List ℕ) → n < limit → number_at w (to_be_bytes w n ++ rest) ≡ Some (n, rest)
+pub number_again : (w : Width) (limit : ℕ) (wide : IsWide w limit) (n : ℕ) (rest : List ℕ) → n < limit → number_front w (to_be_bytes w n ++ rest) ≡ Some (n, rest)
 number_again w limit wide n rest lt =
     let len = wide.len n in
     let long : ltb (length (to_be_bytes w n ++ rest)) (byte_len w) ≡ false = le-ltb _ _ (omega (arith, length-append (to_be_bytes w n) rest)) in
@@ -81,18 +81,18 @@ number_again w limit wide n rest lt =
 
 -- ---- nodes, and the middle nodes of entries
 
-pub node_takes : (bytes : List ℕ) (x : ℕ × List ℕ) → IsBytes bytes → node_at bytes ≡ Some x → Takes bytes (node_text x.0) x.1 × (x.0 < 2 ^ 24)
+pub node_takes : (bytes : List ℕ) (x : ℕ × List ℕ) → IsBytes bytes → node_at bytes ≡ Some x → Takes bytes (node_in_bytes x.0) x.1 × (x.0 < 2 ^ 24)
 unfolding node_at
 node_takes bytes x fits e =
-    option_and_then_some _ (number_at w32 bytes) x e (λ n is e.
+    option_and_then_some _ (number_front w32 bytes) x e (λ n is e.
     let taken = number_takes w32 (2 ^ 32) wide32 bytes n fits is in
     let g = cond_some (ltb n.0 (2 ^ 24)) (n.0, n.1) x e in
-    subst (λ (y : ℕ × List ℕ). Takes bytes (node_text y.0) y.1 × (y.0 < 2 ^ 24)) g.1 (taken.0, ltb-true _ _ g.0))
+    subst (λ (y : ℕ × List ℕ). Takes bytes (node_in_bytes y.0) y.1 × (y.0 < 2 ^ 24)) g.1 (taken.0, ltb-true _ _ g.0))
 
-pub node_again : (v : ℕ) (rest : List ℕ) → v < 2 ^ 24 → node_at (node_text v ++ rest) ≡ Some (v, rest)
+pub node_again : (v : ℕ) (rest : List ℕ) → v < 2 ^ 24 → node_at (node_in_bytes v ++ rest) ≡ Some (v, rest)
 unfolding node_at
 node_again v rest lt =
-    and_then (number_at w32 (node_text v ++ rest)) (λ n. cond (ltb n.0 (2 ^ 24)) (Some (n.0, n.1)) None) (v, rest) (Some (v, rest))
+    and_then (number_front w32 (node_in_bytes v ++ rest)) (λ n. cond (ltb n.0 (2 ^ 24)) (Some (n.0, n.1)) None) (v, rest) (Some (v, rest))
     (number_again w32 (2 ^ 32) wide32 v rest (omega arith))
     (ap (λ b. cond b (Some (v, rest)) None) (lt-ltb v (2 ^ 24) lt))
 

@@ -6,37 +6,37 @@ use Rattle.std.specs.Cmp.{IsTotalOrder}
 use Rattle.std.specs.Ordering.{is_lt}
 use Rattle.std.proofs.lemmas.List.Concat.{flat_map-cons}
 use Rattle.std.proofs.lemmas.List.Elements.{All-cons, All-nil, All-head, All-weaker}
-use Rattle.hierarchy_file.specs.Reading.{many, behind, onto, is_after}
+use Rattle.hierarchy_file.specs.Reading.{many_ascending, record_then, with_first, is_after}
 use Rattle.hierarchy_file.specs.Causes.{Follow, StopsAt}
 use Rattle.hierarchy_file.proofs.FieldLaws.{IsBytes, Takes, Takes-then}
 
 -- a record and those behind it, where they were read
-onto_ok : {X : Type 0} (x : X) (r : Result (List X × List ℕ) ℕ) (y : List X × List ℕ) → onto x r ≡ Ok y → (z : List X × List ℕ) × (r ≡ Ok z) × (y ≡ (x ∷ z.0, z.1))
+onto_ok : {X : Type 0} (x : X) (r : Result (List X × List ℕ) ℕ) (y : List X × List ℕ) → with_first x r ≡ Ok y → (z : List X × List ℕ) × (r ≡ Ok z) × (y ≡ (x ∷ z.0, z.1))
 onto_ok x (Ok z) y e = (z, refl, (let same : ◌≡◌ {A = List _ × List ℕ} (x ∷ z.0, z.1) y = cc in sym same))
 onto_ok x (Err left) y e = absurd cc
 
-onto_err : {X : Type 0} (x : X) (r : Result (List X × List ℕ) ℕ) (left : ℕ) → onto x r ≡ Err left → r ≡ Err left
+onto_err : {X : Type 0} (x : X) (r : Result (List X × List ℕ) ℕ) (left : ℕ) → with_first x r ≡ Err left → r ≡ Err left
 onto_err x (Ok z) left e = absurd cc
 onto_err x (Err l) left e = e
 
-behind_ok : {X : Type 0} (others : X → List ℕ → Result (List X × List ℕ) ℕ) (left : ℕ) (o : Option (X × List ℕ)) (y : List X × List ℕ) → behind others left o ≡ Ok y
-    → (x : X × List ℕ) × (o ≡ Some x) × (onto x.0 (others x.0 x.1) ≡ Ok y)
+behind_ok : {X : Type 0} (others : X → List ℕ → Result (List X × List ℕ) ℕ) (left : ℕ) (o : Option (X × List ℕ)) (y : List X × List ℕ) → record_then others left o ≡ Ok y
+    → (x : X × List ℕ) × (o ≡ Some x) × (with_first x.0 (others x.0 x.1) ≡ Ok y)
 behind_ok others left None y e = absurd cc
 behind_ok others left (Some x) y e = (x, refl, e)
 
 module _ {X K : Type 0} (read : Option K → List ℕ → Option (X × List ℕ)) (key : X → K) (text : X → List ℕ) (Fits : X → Type 0) (Next : Option K → K → Type 0)
     (takes : (before : Option K) (bytes : List ℕ) (x : X × List ℕ) → IsBytes bytes → read before bytes ≡ Some x → Takes bytes (text x.0) x.1 × Fits x.0 × Next before (key x.0))
     (again : (before : Option K) (x : X) (rest : List ℕ) → Fits x → Next before (key x) → read before (text x ++ rest) ≡ Some (x, rest)) where
-  pub many_takes : (n : ℕ) (before : Option K) (bytes : List ℕ) (y : List X × List ℕ) → IsBytes bytes → many read key n before bytes ≡ Ok y
+  pub many_takes : (n : ℕ) (before : Option K) (bytes : List ℕ) (y : List X × List ℕ) → IsBytes bytes → many_ascending read key n before bytes ≡ Ok y
       → Takes bytes (flat_map text y.0) y.1 × (length y.0 ≡ n) × AllByRecursion Fits y.0 × Follow Next key before y.0
-  unfolding many
+  unfolding many_ascending
   many_takes zero before bytes y fits e =
       let same : ◌≡◌ {A = List X × List ℕ} ([], bytes) y = cc in
       subst (λ (z : List X × List ℕ). Takes bytes (flat_map text z.0) z.1 × (length z.0 ≡ 0) × AllByRecursion Fits z.0 × Follow Next key before z.0) same
       (record { parts = refl; rest_fits = fits }, refl, tt, tt)
   many_takes (suc n) before bytes y fits e =
-      let first = behind_ok (λ x rest. many read key n (Some (key x)) rest) (length bytes) (read before bytes) y e in
-      let others = onto_ok first.0.0 (many read key n (Some (key first.0.0)) first.0.1) y first.2 in
+      let first = behind_ok (λ x rest. many_ascending read key n (Some (key x)) rest) (length bytes) (read before bytes) y e in
+      let others = onto_ok first.0.0 (many_ascending read key n (Some (key first.0.0)) first.0.1) y first.2 in
       let one = takes before bytes first.0 fits first.1 in
       let more = many_takes n (Some (key first.0.0)) first.0.1 others.0 one.0.rest_fits others.1 in
       let both = Takes-then bytes (text first.0.0) first.0.1 (flat_map text others.0.0) others.0.1 one.0 more.0 in
@@ -44,24 +44,24 @@ module _ {X K : Type 0} (read : Option K → List ℕ → Option (X × List ℕ)
       (rw flat_map-cons both, ap suc more.1, (one.1, more.2), (one.2, more.3))
 
   pub many_again : (xs : List X) (before : Option K) (rest : List ℕ) → AllByRecursion Fits xs → Follow Next key before xs
-      → many read key (length xs) before (flat_map text xs ++ rest) ≡ Ok (xs, rest)
-  unfolding many
+      → many_ascending read key (length xs) before (flat_map text xs ++ rest) ≡ Ok (xs, rest)
+  unfolding many_ascending
   many_again [] before rest fits follow = refl
   many_again (x ∷ xs) before rest fits follow =
       let regrouped : flat_map text (x ∷ xs) ++ rest ≡ text x ++ (flat_map text xs ++ rest) =
       ap (λ t. t ++ rest) (flat_map-cons text x xs) ∙ append_assoc (text x) (flat_map text xs) rest in
-      ap (many read key (suc (length xs)) before) regrouped
-      ∙ ap (behind (λ y left. many read key (length xs) (Some (key y)) left) (length (text x ++ (flat_map text xs ++ rest)))) (again before x (flat_map text xs ++ rest) fits.0 follow.0)
-      ∙ ap (onto x) (many_again xs (Some (key x)) rest fits.1 follow.1)
+      ap (many_ascending read key (suc (length xs)) before) regrouped
+      ∙ ap (record_then (λ y left. many_ascending read key (length xs) (Some (key y)) left) (length (text x ++ (flat_map text xs ++ rest)))) (again before x (flat_map text xs ++ rest) fits.0 follow.0)
+      ∙ ap (with_first x) (many_again xs (Some (key x)) rest fits.1 follow.1)
 
   -- where reading stops, no record stands that may
-  pub many_stops : (n : ℕ) (before : Option K) (bytes : List ℕ) (left : ℕ) → IsBytes bytes → many read key n before bytes ≡ Err left → StopsAt text Fits Next key before n bytes left
-  unfolding many
+  pub many_stops : (n : ℕ) (before : Option K) (bytes : List ℕ) (left : ℕ) → IsBytes bytes → many_ascending read key n before bytes ≡ Err left → StopsAt text Fits Next key before n bytes left
+  unfolding many_ascending
   many_stops zero before bytes left fits e = absurd cc
   many_stops (suc n) before bytes left fits e = by_first (read before bytes) refl e (λ x rest fit stop. many_stops n (Some (key x)) rest left fit stop)
     where
-      by_first : (o : Option (X × List ℕ)) → read before bytes ≡ o → behind (λ x rest. many read key n (Some (key x)) rest) (length bytes) o ≡ Err left
-          → ((x : X) (rest : List ℕ) → IsBytes rest → many read key n (Some (key x)) rest ≡ Err left → StopsAt text Fits Next key (Some (key x)) n rest left) → StopsAt text Fits Next key before (suc n) bytes left
+      by_first : (o : Option (X × List ℕ)) → read before bytes ≡ o → record_then (λ x rest. many_ascending read key n (Some (key x)) rest) (length bytes) o ≡ Err left
+          → ((x : X) (rest : List ℕ) → IsBytes rest → many_ascending read key n (Some (key x)) rest ≡ Err left → StopsAt text Fits Next key (Some (key x)) n rest left) → StopsAt text Fits Next key before (suc n) bytes left
       by_first None unread e more = record {
         rows = [];
         rest = bytes;
@@ -79,7 +79,7 @@ module _ {X K : Type 0} (read : Option K → List ℕ → Option (X × List ℕ)
         err_is a b e = cc
       by_first (Some x) is e more =
           let one = takes before bytes x fits is in
-          let rest = more x.0 x.1 one.0.rest_fits (onto_err x.0 (many read key n (Some (key x.0)) x.1) left e) in
+          let rest = more x.0 x.1 one.0.rest_fits (onto_err x.0 (many_ascending read key n (Some (key x.0)) x.1) left e) in
           record {
             rows = x.0 ∷ rest.rows;
             rest = rest.rest;

@@ -6,7 +6,7 @@ use Rattle.hierarchy.specs.Rules.{IsNode}
 use Rattle.hierarchy_file.specs.declared.fault.HFileFault.{HFileFault}
 use Rattle.hierarchy_file.specs.declared.fault.HFileFault.TheVariants.{BadHead, BadRecord, Trailing, OutOfMemory}
 use Rattle.hierarchy_file.specs.declared.head.Counts.{Counts}
-use Rattle.hierarchy_file.specs.Spelling.{magic, counts_text, node_text, entry_text, witness_text, hierarchy_text, HasSpelling, FitCounts, FitsRow, FitsWalk, key_of_entry, key_of_witness, pair_cmp, three_cmp}
+use Rattle.hierarchy_file.specs.Spelling.{magic, counts_text, node_in_bytes, entry_text, witness_text, hierarchy_text, HasSpelling, FitEightBytes, FitsRow, FitsWalk, key_of_entry, key_of_witness, pair_cmp, three_cmp}
 use Rattle.hierarchy_file.specs.Reading.{is_after}
 
 -- each row may follow the key of the one before it
@@ -54,15 +54,15 @@ NextThree before key = is_after three_cmp before key ≡ true
 -- entries behind the whole order, or of the witnesses behind both
 abbrev pub RecordsStop : Counts → List ℕ → ℕ → Type 0
 RecordsStop c bytes left =
-    StopsAt node_text IsNode AnyNext itself None c.order bytes left
-    ⊎ ((rest : List ℕ) × AreRows node_text IsNode AnyNext itself c.order bytes rest
+    StopsAt node_in_bytes IsNode AnyNext itself None c.order bytes left
+    ⊎ ((rest : List ℕ) × AreRows node_in_bytes IsNode AnyNext itself c.order bytes rest
     × (StopsAt entry_text FitsRow NextPair key_of_entry None c.entries rest left
     ⊎ ((more : List ℕ) × AreRows entry_text FitsRow NextPair key_of_entry c.entries rest more
     × StopsAt witness_text FitsWalk NextThree key_of_witness None c.witnesses more left)))
 
 -- the bytes begin with a head that tells these counts
 pub record HasHead (bytes : List ℕ) (c : Counts) (rest : List ℕ) : Type 0 where
-  pub fit : FitCounts c
+  pub fit : FitEightBytes c
   pub are : bytes ≡ (magic ++ counts_text c) ++ rest
 
 pub record BadRecordAt (bytes : List ℕ) (at : ℕ) : Type 0 where
@@ -101,3 +101,10 @@ IsNoHierarchy bytes OutOfMemory = ⊥
 IsNoHierarchy bytes BadHead = SpellNone bytes × HasCause bytes BadHead
 IsNoHierarchy bytes (BadRecord at) = SpellNone bytes × HasCause bytes (BadRecord at)
 IsNoHierarchy bytes (Trailing at) = SpellNone bytes × HasCause bytes (Trailing at)
+
+-- what a refusal says of the bytes; want of memory says nothing
+abbrev pub IsRefusedHierarchy : List ℕ → HFileFault → Type 0
+IsRefusedHierarchy bytes OutOfMemory = Unit {0}
+IsRefusedHierarchy bytes BadHead = IsNoHierarchy bytes BadHead
+IsRefusedHierarchy bytes (BadRecord at) = IsNoHierarchy bytes (BadRecord at)
+IsRefusedHierarchy bytes (Trailing at) = IsNoHierarchy bytes (Trailing at)

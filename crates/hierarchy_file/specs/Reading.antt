@@ -19,12 +19,12 @@ o >>= f = option_and_then f o
 
 -- ---- one record: its value and the bytes behind it, or none where it is cut short or breaks its rule
 
-abbrev pub number_at : Width → List ℕ → Option (ℕ × List ℕ)
-number_at w bytes = if nat_lt (length bytes) (byte_len w) then None else Some (from_be_bytes w (take (byte_len w) bytes), drop (byte_len w) bytes)
+abbrev pub number_front : Width → List ℕ → Option (ℕ × List ℕ)
+number_front w bytes = if nat_lt (length bytes) (byte_len w) then None else Some (from_be_bytes w (take (byte_len w) bytes), drop (byte_len w) bytes)
 
 unfoldable pub node_at : List ℕ → Option (ℕ × List ℕ)
 node_at bytes = do
-  node ← number_at w32 bytes
+  node ← number_front w32 bytes
   if nat_lt node.0 (2 ^ 24) then Some (node.0, node.1) else None
 
 unfoldable pub middle_of : ℕ → Option (Option ℕ)
@@ -35,29 +35,29 @@ abbrev pub is_after : {K : Type 0} → (K → K → Ordering) → Option K → K
 is_after cmp None key = true
 is_after cmp (Some before) key = is_lt (cmp before key)
 
-unfoldable pub entry_at : Option (ℕ × ℕ) → List ℕ → Option (Entry × List ℕ)
-entry_at before bytes = do
+unfoldable pub entry_front : Option (ℕ × ℕ) → List ℕ → Option (Entry × List ℕ)
+entry_front before bytes = do
   from ← node_at bytes
   to ← node_at from.1
-  weight ← number_at w64 to.1
-  middle ← number_at w32 weight.1
+  weight ← number_front w64 to.1
+  middle ← number_front w32 weight.1
   via ← middle_of middle.0
   if is_after pair_cmp before (from.0, to.0) then Some (record { from = from.0; to = to.0; weight = weight.0; via = via }, middle.1) else None
 
 -- ---- records in a row
 
-abbrev pub onto : {X : Type 0} → X → Result (List X × List ℕ) ℕ → Result (List X × List ℕ) ℕ
-onto x (Ok others) = Ok (x ∷ others.0, others.1)
-onto x (Err left) = Err left
+abbrev pub with_first : {X : Type 0} → X → Result (List X × List ℕ) ℕ → Result (List X × List ℕ) ℕ
+with_first x (Ok others) = Ok (x ∷ others.0, others.1)
+with_first x (Err left) = Err left
 
-abbrev pub behind : {X : Type 0} → (X → List ℕ → Result (List X × List ℕ) ℕ) → ℕ → Option (X × List ℕ) → Result (List X × List ℕ) ℕ
-behind others left None = Err left
-behind others left (Some x) = onto x.0 (others x.0 x.1)
+abbrev pub record_then : {X : Type 0} → (X → List ℕ → Result (List X × List ℕ) ℕ) → ℕ → Option (X × List ℕ) → Result (List X × List ℕ) ℕ
+record_then others left None = Err left
+record_then others left (Some x) = with_first x.0 (others x.0 x.1)
 
 -- so many records, each read after the key of the one before it; or how many bytes are left at the first that may not stand there
-unfoldable pub many : {X K : Type 0} → (Option K → List ℕ → Option (X × List ℕ)) → (X → K) → ℕ → Option K → List ℕ → Result (List X × List ℕ) ℕ
-many read key zero before bytes = Ok ([], bytes)
-many read key (suc n) before bytes = behind (λ x rest. many read key n (Some (key x)) rest) (length bytes) (read before bytes)
+unfoldable pub many_ascending : {X K : Type 0} → (Option K → List ℕ → Option (X × List ℕ)) → (X → K) → ℕ → Option K → List ℕ → Result (List X × List ℕ) ℕ
+many_ascending read key zero before bytes = Ok ([], bytes)
+many_ascending read key (suc n) before bytes = record_then (λ x rest. many_ascending read key n (Some (key x)) rest) (length bytes) (read before bytes)
 
 abbrev pub next_node : Option ℕ → List ℕ → Option (ℕ × List ℕ)
 next_node before bytes = node_at bytes
@@ -69,8 +69,8 @@ all_read (Err left) = None
 unfoldable pub witness_at : Option (ℕ × ℕ × ℕ) → List ℕ → Option (WitnessLists × List ℕ)
 witness_at before bytes = do
   below ← node_at bytes
-  count ← number_at w64 below.1
-  nodes ← all_read (many next_node (λ (v : ℕ). v) count.0 None count.1)
+  count ← number_front w64 below.1
+  nodes ← all_read (many_ascending next_node (λ (v : ℕ). v) count.0 None count.1)
   let w : WitnessLists = record { below = below.0; nodes = nodes.0 }
   if nat_lt 1 count.0 && is_after three_cmp before (key_of_witness w) then Some (w, nodes.1) else None
 
@@ -78,9 +78,9 @@ witness_at before bytes = do
 
 unfoldable pub counts_at : List ℕ → Option (Counts × List ℕ)
 counts_at bytes = do
-  order ← number_at w64 bytes
-  entries ← number_at w64 order.1
-  witnesses ← number_at w64 entries.1
+  order ← number_front w64 bytes
+  entries ← number_front w64 order.1
+  witnesses ← number_front w64 entries.1
   Some (record { order = order.0; entries = entries.0; witnesses = witnesses.0 }, witnesses.1)
 
 -- the bytes behind the magic, where they begin with it
@@ -97,25 +97,25 @@ with_witnesses order entries (Ok x) = Ok (record { order = order; entries = entr
 with_witnesses order entries (Err left) = Err left
 
 abbrev pub with_entries : Counts → List ℕ → Result (List Entry × List ℕ) ℕ → Result (HierarchyLists × List ℕ) ℕ
-with_entries counts order (Ok x) = with_witnesses order x.0 (many witness_at key_of_witness counts.witnesses None x.1)
+with_entries counts order (Ok x) = with_witnesses order x.0 (many_ascending witness_at key_of_witness counts.witnesses None x.1)
 with_entries counts order (Err left) = Err left
 
 abbrev pub with_order : Counts → Result (List ℕ × List ℕ) ℕ → Result (HierarchyLists × List ℕ) ℕ
-with_order counts (Ok x) = with_entries counts x.0 (many entry_at key_of_entry counts.entries None x.1)
+with_order counts (Ok x) = with_entries counts x.0 (many_ascending entry_front key_of_entry counts.entries None x.1)
 with_order counts (Err left) = Err left
 
 -- the order, the entries and the witnesses, and the bytes behind them
-unfoldable pub records_of : Counts → List ℕ → Result (HierarchyLists × List ℕ) ℕ
-records_of counts bytes = with_order counts (many next_node (λ (v : ℕ). v) counts.order None bytes)
+unfoldable pub hierarchy_records : Counts → List ℕ → Result (HierarchyLists × List ℕ) ℕ
+hierarchy_records counts bytes = with_order counts (many_ascending next_node (λ (v : ℕ). v) counts.order None bytes)
 
 -- in so many bytes, what was read up to the end of the records
-abbrev pub ended : ℕ → Result (HierarchyLists × List ℕ) ℕ → Result HierarchyLists HFileFault
-ended len (Ok x) = if length x.1 == 0 then Ok x.0 else Err (Trailing (len - length x.1))
-ended len (Err left) = Err (BadRecord (len - left))
+abbrev pub whole_hierarchy : ℕ → Result (HierarchyLists × List ℕ) ℕ → Result HierarchyLists HFileFault
+whole_hierarchy len (Ok x) = if length x.1 == 0 then Ok x.0 else Err (Trailing (len - length x.1))
+whole_hierarchy len (Err left) = Err (BadRecord (len - left))
 
 abbrev pub of_head : ℕ → Option (Counts × List ℕ) → Result HierarchyLists HFileFault
 of_head len None = Err BadHead
-of_head len (Some head) = ended len (records_of head.0 head.1)
+of_head len (Some head) = whole_hierarchy len (hierarchy_records head.0 head.1)
 
 -- what the bytes spell: a hierarchy, or the first fault
 unfoldable pub hierarchy_of : List ℕ → Result HierarchyLists HFileFault

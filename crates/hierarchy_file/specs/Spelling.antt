@@ -15,8 +15,8 @@ magic = codes "MPHIER01"
 abbrev pub counts_text : Counts → List ℕ
 counts_text c = to_be_bytes w64 c.order ++ to_be_bytes w64 c.entries ++ to_be_bytes w64 c.witnesses
 
-abbrev pub node_text : ℕ → List ℕ
-node_text v = to_be_bytes w32 v
+abbrev pub node_in_bytes : ℕ → List ℕ
+node_in_bytes v = to_be_bytes w32 v
 
 -- no middle node is spelled as the greatest number
 abbrev pub middle_number : Option ℕ → ℕ
@@ -24,22 +24,22 @@ middle_number None = 0xffffffff
 middle_number (Some m) = m
 
 abbrev pub entry_text : Entry → List ℕ
-entry_text e = node_text e.from ++ node_text e.to ++ to_be_bytes w64 e.weight ++ to_be_bytes w32 (middle_number e.via)
+entry_text e = node_in_bytes e.from ++ node_in_bytes e.to ++ to_be_bytes w64 e.weight ++ to_be_bytes w32 (middle_number e.via)
 
 abbrev pub witness_text : WitnessLists → List ℕ
-witness_text w = node_text w.below ++ to_be_bytes w64 (length w.nodes) ++ flat_map node_text w.nodes
+witness_text w = node_in_bytes w.below ++ to_be_bytes w64 (length w.nodes) ++ flat_map node_in_bytes w.nodes
 
-abbrev pub counts_of : HierarchyLists → Counts
-counts_of h = record { order = length h.order; entries = length h.entries; witnesses = length h.witnesses }
+abbrev pub hierarchy_counts : HierarchyLists → Counts
+hierarchy_counts h = record { order = length h.order; entries = length h.entries; witnesses = length h.witnesses }
 
 abbrev pub records_text : HierarchyLists → List ℕ
-records_text h = flat_map node_text h.order ++ flat_map entry_text h.entries ++ flat_map witness_text h.witnesses
+records_text h = flat_map node_in_bytes h.order ++ flat_map entry_text h.entries ++ flat_map witness_text h.witnesses
 
 unfoldable pub hierarchy_text : HierarchyLists → List ℕ
-hierarchy_text h = magic ++ counts_text (counts_of h) ++ records_text h
+hierarchy_text h = magic ++ counts_text (hierarchy_counts h) ++ records_text h
 
 -- what has a spelling
-pub record FitCounts (c : Counts) : Type 0 where
+pub record FitEightBytes (c : Counts) : Type 0 where
   pub order : c.order < 2 ^ 64
   pub entries : c.entries < 2 ^ 64
   pub witnesses : c.witnesses < 2 ^ 64

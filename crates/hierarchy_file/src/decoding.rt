@@ -1,10 +1,9 @@
 //! From bytes to a hierarchy.
 
-ghost use Rattle.std.specs.Prelude.{◌≡◌, ◌⊎◌, Ok, IfOk, IfErr};
+ghost use Rattle.std.specs.Prelude.{◌≡◌, Ok, IfOk, IfErr};
 ghost use Rattle.hierarchy.specs.Lists.{HierarchyLists};
-ghost use Rattle.hierarchy_file.specs.declared.fault.HFileFault.TheVariants.{OutOfMemory};
-ghost use Rattle.hierarchy_file.specs.Causes.{HasCause, IsNoHierarchy, SpellHierarchy};
-ghost use Rattle.hierarchy_file.specs.Reading.{Gives, GivesHierarchy, records_of, hierarchy_of};
+ghost use Rattle.hierarchy_file.specs.Causes.{HasCause, IsRefusedHierarchy, SpellHierarchy};
+ghost use Rattle.hierarchy_file.specs.Reading.{Gives, GivesHierarchy, hierarchy_records, hierarchy_of};
 
 use crate::fault::{HFileFault, Halt};
 use crate::head::{Counts, head_at};
@@ -14,9 +13,9 @@ use hierarchy::Hierarchy;
 use std::alloc::Global;
 
 /// All records, and the bytes behind them.
-#[tactic(auto, unfolding(crate::specs::Reading::records_of))]
+#[tactic(auto, unfolding(crate::specs::Reading::hierarchy_records))]
 fn records_of(alloc: Global, counts: Counts, bytes: &[u8]) -> Result<(Lists, &[u8]), Halt>
-    ensures { Gives (λ x. (x.0, x.1.now)) result (records_of counts bytes.now) }
+    ensures { Gives (λ x. (x.0, x.1.now)) result (hierarchy_records counts bytes.now) }
 {
     let (order, rest) = nodes_of(alloc, counts.order, bytes)?;
     let (entries, rest) = entries_of(alloc, counts.entries, rest)?;
@@ -67,7 +66,7 @@ fn read(alloc: Global, bytes: &[u8]) -> Result<Hierarchy, HFileFault>
 /// no more room than the records need that are there.
 pub fn decode_lists(alloc: Global, bytes: &[u8]) -> Result<Lists, HFileFault>
     ensures found { IfOk result (SpellHierarchy bytes.now) }
-    ensures none { IfErr result (λ fault. (fault ≡ OutOfMemory) ⊎ IsNoHierarchy bytes.now fault) }
+    ensures none { IfErr result (IsRefusedHierarchy bytes.now) }
     ensures exact { GivesHierarchy result (hierarchy_of bytes.now) }
 {
     lists_of(alloc, bytes)

@@ -2,7 +2,7 @@
 
 ghost use Rattle.std.specs.Prelude.{◌≡◌, ◌++◌, ◌<◌, ◌^◌, All, IfOk, OnOk, length};
 ghost use Rattle.std.specs.List.{flat_map};
-ghost use Rattle.hierarchy_file.specs.Spelling.{node_text, entry_text, witness_text, middle_number};
+ghost use Rattle.hierarchy_file.specs.Spelling.{node_in_bytes, entry_text, witness_text, middle_number};
 ghost use Rattle.hierarchy_file.specs.Causes.{SpellHierarchy};
 
 use crate::head::{Counts, push_head};
@@ -12,7 +12,7 @@ use hierarchy::{Entry, Hierarchy, Witness};
 use std::alloc::{AllocError, Global};
 
 fn push_nodes(out: &mut Vec<u8>, nodes: &[u32]) -> Result<(), AllocError>
-    ensures { OnOk result (out.new.items ≡ out.old.items ++ flat_map node_text nodes.now) }
+    ensures { OnOk result (out.new.items ≡ out.old.items ++ flat_map node_in_bytes nodes.now) }
 {
     for node in nodes {
         push_u32(out, *node)?;

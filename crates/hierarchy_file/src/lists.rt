@@ -21,7 +21,12 @@ impl Model for Lists {
 
     ghost Value = { HierarchyLists };
 
-    ghost view = { λ l. record { order = l.order.items; entries = l.entries.items; witnesses = l.witnesses.items } };
+    ghost view = { λ l. record {
+      order = l.order.items;
+      entries = l.entries.items;
+      witnesses =
+          l.witnesses.items;
+    } };
 }
 
 impl Lists {

@@ -2,14 +2,14 @@
 
 ghost use Rattle.std.specs.Prelude.{◌≡◌, ◌++◌, option_map, OnOk};
 ghost use Rattle.std.specs.Int.{w32, w64, to_be_bytes};
-ghost use Rattle.hierarchy_file.specs.Reading.{number_at};
+ghost use Rattle.hierarchy_file.specs.Reading.{number_front};
 
 use byteorder::{BigEndian, ByteOrder};
 use std::alloc::AllocError;
 
 /// The number in the first four bytes, and the bytes behind it.
 pub(crate) fn u32_at(bytes: &[u8]) -> Option<(u32, &[u8])>
-    ensures { option_map (λ x. (x.0, x.1.now)) result ≡ number_at w32 bytes.now }
+    ensures { option_map (λ x. (x.0, x.1.now)) result ≡ number_front w32 bytes.now }
 {
     match bytes.split_first_chunk::<4>() {
         Some((number, rest)) => Some((u32::from_be_bytes(*number), rest)),
@@ -19,7 +19,7 @@ pub(crate) fn u32_at(bytes: &[u8]) -> Option<(u32, &[u8])>
 
 /// The number in the first eight bytes, and the bytes behind it.
 pub(crate) fn u64_at(bytes: &[u8]) -> Option<(u64, &[u8])>
-    ensures { option_map (λ x. (x.0, x.1.now)) result ≡ number_at w64 bytes.now }
+    ensures { option_map (λ x. (x.0, x.1.now)) result ≡ number_front w64 bytes.now }
 {
     match bytes.split_first_chunk::<8>() {
         Some((number, rest)) => Some((u64::from_be_bytes(*number), rest)),

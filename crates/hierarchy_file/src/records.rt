@@ -2,7 +2,7 @@
 
 ghost use Rattle.std.specs.Prelude.{◌≡◌, ℕ, option_map, IfOk};
 ghost use Rattle.hierarchy_file.specs.Spelling.{key_of_entry, key_of_witness, pair_cmp, three_cmp};
-ghost use Rattle.hierarchy_file.specs.Reading.{Gives, node_at, next_node, middle_of, entry_at, witness_at, many, is_after};
+ghost use Rattle.hierarchy_file.specs.Reading.{Gives, node_at, next_node, middle_of, entry_front, witness_at, many_ascending, is_after};
 
 use crate::fault::Halt;
 use crate::numbers::{u32_at, u64_at};
@@ -63,9 +63,9 @@ fn three_is_after(before: Option<(u32, u32, u32)>, key: (u32, u32, u32)) -> bool
 }
 
 /// The entry at the front of the bytes.
-#[tactic(auto, unfolding(crate::specs::Reading::entry_at))]
+#[tactic(auto, unfolding(crate::specs::Reading::entry_front))]
 fn entry_at(before: Option<(u32, u32)>, bytes: &[u8]) -> Option<(Entry, &[u8])>
-    ensures { option_map (λ x. (x.0, x.1.now)) result ≡ entry_at before bytes.now }
+    ensures { option_map (λ x. (x.0, x.1.now)) result ≡ entry_front before bytes.now }
 {
     let (from, rest) = node_at(bytes)?;
     let (to, rest) = node_at(rest)?;
@@ -89,7 +89,8 @@ fn entry_at(before: Option<(u32, u32)>, bytes: &[u8]) -> Option<(Entry, &[u8])>
 
 /// So many nodes.
 pub(crate) fn nodes_of(alloc: Global, count: u64, bytes: &[u8]) -> Result<(Vec<u32>, &[u8]), Halt>
-    ensures { Gives (λ x. (x.0.items, x.1.now)) result (many next_node (λ (v : ℕ). v) count None bytes.now) }
+    ensures { Gives (λ x. (x.0.items, x.1.now)) result (many_ascending next_node (λ (v : ℕ). v) count None
+        bytes.now) }
 {
     let mut nodes = Vec::new(alloc);
     let mut rest = bytes;
@@ -109,7 +110,8 @@ pub(crate) fn entries_of(
     count: u64,
     bytes: &[u8],
 ) -> Result<(Vec<Entry>, &[u8]), Halt>
-    ensures { Gives (λ x. (x.0.items, x.1.now)) result (many entry_at key_of_entry count None bytes.now) }
+    ensures { Gives (λ x. (x.0.items, x.1.now)) result (many_ascending entry_front key_of_entry count None
+        bytes.now) }
 {
     let mut entries = Vec::new(alloc);
     let mut before = None;
@@ -171,7 +173,8 @@ pub(crate) fn witnesses_of(
     count: u64,
     bytes: &[u8],
 ) -> Result<(Vec<Witness>, &[u8]), Halt>
-    ensures { Gives (λ x. (x.0.items, x.1.now)) result (many witness_at key_of_witness count None bytes.now) }
+    ensures { Gives (λ x. (x.0.items, x.1.now)) result (many_ascending witness_at key_of_witness count None
+        bytes.now) }
 {
     let mut witnesses = Vec::new(alloc);
     let mut before = None;

@@ -28,7 +28,7 @@ use Rattle.mode_network.specs.Journeys.{Route, IsStep, AreSteps, IsJourney}
 use Rattle.journey.specs.Rides.{KeepsRules}
 use Rattle.journey.specs.Ends.{HasTime}
 use Rattle.journey.specs.Texts.{AreTold, IsJourneyText, step_text, ride_text, place_text, node_text, word_text, letter_text, block_text}
-use Rattle.journey.specs.Alike.{End, AreEnds, AreAlike, IsHeld, BlockFixesItsJourney, EachPrintedIsBest}
+use Rattle.journey.specs.Alike.{EndOfStep, AreStepEnds, AreAlikeJourneys, FitsInCertificate, BlockFixesItsJourney, EachPrintedIsBest}
 use Rattle.journey.proofs.RideLemmas.{kept_trip}
 use Rattle.journey.proofs.StepLemmas.{step_once, step_in_range, step_in_time, on_time}
 use Rattle.journey.proofs.TextParts.{Lacks, cut_once, word_lacks, lacks_by_test, letter_is_word, letter_once, word_on_line, fixed_is_word, clock_on_line, clock_once, clock_before}
@@ -169,9 +169,9 @@ module _ (n : NetworkLists) (rules : KeepsRules n) where
   -- ---- the lines of steps, one below the other
 
   record EndAlike (v t : ℕ) (steps other : List Step) : Type 0 where
-    ends : List End
-    of_one : AreEnds n v t steps ends
-    of_other : AreEnds n v t other ends
+    ends : List EndOfStep
+    of_one : AreStepEnds n v t steps ends
+    of_other : AreStepEnds n v t other ends
 
   -- after k steps not much time has passed
   abbrev InTime : ℕ → ℕ → List Step → Type 0
@@ -186,7 +186,7 @@ module _ (n : NetworkLists) (rules : KeepsRules n) where
   more_alike : (v t : ℕ) (step other : Step) (steps others : List Step) (v1 t1 v2 t2 : ℕ) (c c2 : Option ℕ) → IsStep n v t step v1 t1 c → IsStep n v t other v2 t2 c2
       → SameEnd v1 t1 c v2 t2 c2 → EndAlike v1 t1 steps others → EndAlike v t (step ∷ steps) (other ∷ others)
   more_alike v t step other steps others v1 t1 v2 t2 c c2 here there (nodes, times, marks) alike =
-      let end : End = record { node = v1; at = t1; letter = c } in
+      let end : EndOfStep = record { node = v1; at = t1; letter = c } in
       let there_too = subst (λ x. IsStep n v t other x t1 c) (sym nodes) (subst (λ y. IsStep n v t other v2 y c) (sym times) (subst (λ z. IsStep n v t other v2 t2 z) (sym marks) there)) in
       record {
         ends = end ∷ alike.ends;
@@ -230,10 +230,10 @@ module _ (n : NetworkLists) (rules : KeepsRules n) where
       let c = with_feed (codes "from " ++ place_text n v t) in
       append_assoc (a ++ b) c steps ∙ append_assoc a b (c ++ steps)
 
-  held_in_time : (j : Route) → IsHeld n j → InTime 0 j.at j.steps
+  held_in_time : (j : Route) → FitsInCertificate n j → InTime 0 j.at j.steps
   held_in_time j held = let times = held.printable.times in (omega (arith, times.at), omega (arith, held.few), times.waits)
 
-  text_tells : (j k : Route) → IsHeld n j → IsHeld n k → (text : List ℕ) → IsJourneyText n j text → IsJourneyText n k text → AreAlike n j k
+  text_tells : (j k : Route) → FitsInCertificate n j → FitsInCertificate n k → (text : List ℕ) → IsJourneyText n j text → IsJourneyText n k text → AreAlikeJourneys n j k
   text_tells j k one two text a b =
       let in_time = held_in_time j one in
       let in_time2 = held_in_time k two in
@@ -257,11 +257,11 @@ module _ (n : NetworkLists) (rules : KeepsRules n) where
         at = place.1;
         ends = alike.ends;
         of_one = alike.of_one;
-        of_other = subst (λ x. AreEnds n x k.at k.steps alike.ends) place.0 (subst (λ x. AreEnds n j.start x k.steps alike.ends) place.1 alike.of_other);
+        of_other = subst (λ x. AreStepEnds n x k.at k.steps alike.ends) place.0 (subst (λ x. AreStepEnds n j.start x k.steps alike.ends) place.1 alike.of_other);
       }
 
   -- steps that end alike lead to one node at one time, with the same letters
-  steps_alike : (v t : ℕ) (steps others : List Step) (ends : List End) (w u : ℕ) (letters : List ℕ) → AreEnds n v t steps ends → AreEnds n v t others ends → AreSteps n v t steps w u letters → AreSteps n v t others w u letters
+  steps_alike : (v t : ℕ) (steps others : List Step) (ends : List EndOfStep) (w u : ℕ) (letters : List ℕ) → AreStepEnds n v t steps ends → AreStepEnds n v t others ends → AreSteps n v t steps w u letters → AreSteps n v t others w u letters
   steps_alike v t [] [] ends w u letters one other are = are
   steps_alike v t [] (step ∷ steps) ends w u letters none (end, rest, here, more, is) are = absurd (let both : [] ≡ end ∷ rest = sym none ∙ is in cc)
   steps_alike v t (step ∷ steps) [] ends w u letters (end, rest, here, more, is) none are = absurd (let both : [] ≡ end ∷ rest = sym none ∙ is in cc)
@@ -270,21 +270,21 @@ module _ (n : NetworkLists) (rules : KeepsRules n) where
       let both : end ∷ rest ≡ end2 ∷ rest2 = sym is ∙ is2 in
       let first : end ≡ end2 = cc in
       let later : rest ≡ rest2 = cc in
-      let behind = subst (λ (x : End). AreEnds n x.node x.at others rest) (sym first) (subst (λ (r : List End). AreEnds n end2.node end2.at others r) (sym later) more2) in
+      let behind = subst (λ (x : EndOfStep). AreStepEnds n x.node x.at others rest) (sym first) (subst (λ (r : List EndOfStep). AreStepEnds n end2.node end2.at others r) (sym later) more2) in
       let on = subst (λ x. AreSteps n end.node x steps w u left) same.1 (subst (λ x. AreSteps n x t1 steps w u left) same.0 steps_are) in (
         end.node,
         end.at,
         end.letter,
         left,
-        subst (λ (x : End). IsStep n v t other x.node x.at x.letter) (sym first) here2,
+        subst (λ (x : EndOfStep). IsStep n v t other x.node x.at x.letter) (sym first) here2,
         steps_alike end.node end.at steps others rest w u left more behind on,
         e ∙ ap (λ (x : Option ℕ). option_to_list x ++ left) same.2,
       )
 
   -- a journey that is alike ends there and then too, with the same word
-  journey_alike : (j k : Route) → AreAlike n j k → (w u : ℕ) (word : List ℕ) → IsJourney n j w u word → IsJourney n k w u word
+  journey_alike : (j k : Route) → AreAlikeJourneys n j k → (w u : ℕ) (word : List ℕ) → IsJourney n j w u word → IsJourney n k w u word
   journey_alike j k alike w u word real =
-      let other = subst (λ x. AreEnds n x j.at k.steps alike.ends) (sym alike.start) (subst (λ x. AreEnds n k.start x k.steps alike.ends) (sym alike.at) alike.of_other) in
+      let other = subst (λ x. AreStepEnds n x j.at k.steps alike.ends) (sym alike.start) (subst (λ x. AreStepEnds n k.start x k.steps alike.ends) (sym alike.at) alike.of_other) in
       let steps = steps_alike j.start j.at j.steps k.steps alike.ends w u real.letters alike.of_one other real.steps in
       record {
         letters = real.letters;

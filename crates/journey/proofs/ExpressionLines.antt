@@ -10,8 +10,8 @@ use Rattle.mode_expression.specs.declared.token.Token.TheVariants.{Unknown}
 use Rattle.mode_expression.specs.declared.place.Place.{Place}
 use Rattle.mode_expression.specs.declared.place.Place.TheVariants.{NeedsAtom, AfterAtom, AfterItem, Least, AfterLeast, Most, AfterMost}
 use Rattle.mode_expression.specs.Form.{Form}
-use Rattle.mode_expression.specs.Machine.{Reading, step_at, start}
-use Rattle.mode_expression.specs.Tokens.{joins, widened, lexemes, Lexeme, placed, token_of, tokens_of}
+use Rattle.mode_expression.specs.Machine.{Reading, step_at, empty_reading}
+use Rattle.mode_expression.specs.Tokens.{joins, widened, lexemes, Lexeme, placed_token, token_of, tokens_of}
 use Rattle.mode_expression.specs.Reading.{token, Spells}
 use Rattle.mode_expression.proofs.MachineLemmas.{accept, accept_sentence}
 
@@ -47,7 +47,7 @@ known_begins_plain (b ∷ bytes) known = by_test (is_feed b) refl
 abbrev BeginPlain : List Lexeme → Type 0
 BeginPlain = AllByRecursion (λ (l : Lexeme). BeginsPlain l.bytes)
 
-all_begin_plain : (ls : List Lexeme) → AllByRecursion (λ t. t ≢ Unknown) (map token (map placed ls)) → BeginPlain ls
+all_begin_plain : (ls : List Lexeme) → AllByRecursion (λ t. t ≢ Unknown) (map token (map placed_token ls)) → BeginPlain ls
 all_begin_plain [] known = tt
 all_begin_plain (l ∷ ls) known = (known_begins_plain l.bytes known.0, all_begin_plain ls known.1)
 
@@ -95,4 +95,4 @@ plain_from_lexemes (c ∷ text) at h =
 
 pub spelled_is_line : (text : List ℕ) (form : Form) → Spells text form → IsLine text
 spelled_is_line text form spells =
-    plain_from_lexemes text 0 (all_begin_plain (lexemes 0 text) (all_known (map token (tokens_of text)) start form (accept_sentence (map token (tokens_of text)) form spells)))
+    plain_from_lexemes text 0 (all_begin_plain (lexemes 0 text) (all_known (map token (tokens_of text)) empty_reading form (accept_sentence (map token (tokens_of text)) form spells)))

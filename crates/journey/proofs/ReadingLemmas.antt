@@ -5,7 +5,7 @@ use Rattle.std.proofs.lemmas.List.Elements.{All-contains}
 use Rattle.mode_expression.specs.declared.fault.ExprFault.{ExprFault}
 use Rattle.mode_expression.specs.declared.fault.ExprFault.TheVariants.{TooLong as LongExpression, TooDeep as DeepExpression, Syntax as BadSyntax, TooLarge as LargeExpression}
 use Rattle.mode_expression.specs.Form.{Form}
-use Rattle.mode_expression.specs.Reading.{IsOutcome}
+use Rattle.mode_expression.specs.Reading.{IsParse}
 use Rattle.mode_expression.proofs.UniqueLemmas.{same_outcome}
 use Rattle.geo_length.specs.Nearest.{Point, IsClosest, length_to}
 use Rattle.mode_network.specs.declared.nodes.Node.{Node}
@@ -92,7 +92,7 @@ of_expression s depart (Err fault) = Err (fault_of fault)
 
 module _ (n : NetworkLists) (line : List ℕ) where
   abbrev ByExpression : Shape → ℕ → Result Asked QueryFault → Type 0
-  ByExpression s depart r = (o : Result Form ExprFault) × IsOutcome s.expr o × (r ≡ of_expression s depart o)
+  ByExpression s depart r = (o : Result Form ExprFault) × IsParse s.expr o × (r ≡ of_expression s depart o)
 
   -- from a part on, where the earlier ones are right: this part fails, or it is right and a later one decides
   abbrev FromDestination : Shape → ℕ → Result Asked QueryFault → Type 0
@@ -151,7 +151,7 @@ module _ (n : NetworkLists) (line : List ℕ) where
   after_clock : (r : Result Asked QueryFault) (s : Shape) (depart : ℕ) → Departs n line s depart → FromOrigin s depart r → FromShape r
   after_clock r s depart departs rest = inr (s, departs.shape_is, inr (depart, departs.departs, rest))
 
-  at_expression : (o : Result Form ExprFault) (s : Shape) (depart : ℕ) → ReachesExpression n line s depart → IsOutcome s.expr o → FromShape (of_expression s depart o)
+  at_expression : (o : Result Form ExprFault) (s : Shape) (depart : ℕ) → ReachesExpression n line s depart → IsParse s.expr o → FromShape (of_expression s depart o)
   at_expression o s depart reaches outcome =
       after_clock (of_expression s depart o) s depart reaches.departs (inr (reaches.from_known, inr (reaches.to_known, (o, outcome, refl))))
 

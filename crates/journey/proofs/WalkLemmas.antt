@@ -14,7 +14,7 @@ use Rattle.mode_network.proofs.RuleLemmas.{some_is}
 use Rattle.journey.specs.Rides.{KeepsRules}
 use Rattle.journey.specs.Ends.{AreTaken, HasTime}
 use Rattle.journey.specs.Words.{with_letter}
-use Rattle.journey.specs.Real.{IsFirstBad, FirstBad, IsReal, EndsAt, HasWord, IsSpelt, LeadsTo}
+use Rattle.journey.specs.Real.{IsFirstBad, FirstBad, IsReal, EndsAt, HasWord, IsSpelt, AlwaysLeadsTo}
 use Rattle.journey.proofs.StepLemmas.{steps_more, taken_on, step_in_time, on_time}
 use Rattle.journey.proofs.ToldLemmas.{next_step, with_more}
 
@@ -82,7 +82,7 @@ module _ (n : NetworkLists) (v t : ℕ) (steps : List Step) where
   spelling_starts taken = record { at = t; letters = []; before = (refl, refl, refl); word_is = refl; rest = taken }
 
   pub spelling_more : (k node : ℕ) (word : List ℕ) (step : Step) → IsSpelled n v t steps k node word → k < length steps
-      → slice_index_or steps k step ≡ step → (w : ℕ) (c : Option ℕ) → LeadsTo n node step w c → IsSpelled n v t steps (k + 1) w (with_letter word c)
+      → slice_index_or steps k step ≡ step → (w : ℕ) (c : Option ℕ) → AlwaysLeadsTo n node step w c → IsSpelled n v t steps (k + 1) w (with_letter word c)
   spelling_more k node word step spelled lt is w c leads =
       let taken = next_step n steps k node spelled.at step spelled.rest lt is in
       let (v1, t1, letter, rest, here, more, e) = taken.are in

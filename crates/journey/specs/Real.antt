@@ -31,8 +31,8 @@ IsWalked n v t steps (Ok end) = (letters : List ℕ) × AreSteps n v t steps end
 IsWalked n v t steps (Err place) = IsFirstBad n v t steps place
 
 -- where the step leads from v and which letter it has, whenever it is taken
-abbrev pub LeadsTo : NetworkLists → ℕ → Step → ℕ → Option ℕ → Type 0
-LeadsTo n v step node letter = (t w u : ℕ) (c : Option ℕ) → IsStep n v t step w u c → (w ≡ node) × (c ≡ letter)
+abbrev pub AlwaysLeadsTo : NetworkLists → ℕ → Step → ℕ → Option ℕ → Type 0
+AlwaysLeadsTo n v step node letter = (t w u : ℕ) (c : Option ℕ) → IsStep n v t step w u c → (w ≡ node) × (c ≡ letter)
 
 -- the journey is real, and ends at this node at this time
 abbrev pub EndsAt : NetworkLists → Route → ℕ → ℕ → Type 0

@@ -1,6 +1,6 @@
 -- Which ride a step names, if its run allows one.
 use Rattle.std.specs.Prelude.{◌≡◌, ℕ, List, Option, Some, None, slice_get, option_and_then, option_map}
-use Rattle.service_days.specs.Days.{AreDays, AreInOrder}
+use Rattle.service_days.specs.Days.{AreDays, AreRisingDays}
 use Rattle.timetable_arcs.specs.declared.trips.Call.{Call}
 use Rattle.timetable_arcs.specs.Trips.{TripLists, IsRide}
 use Rattle.mode_network.specs.NetworkLists.{NetworkLists, stop_node}
@@ -11,7 +11,7 @@ use Rattle.journey.specs.declared.rides.AllowedRide.{AllowedRide}
 pub record KeepsRules (n : NetworkLists) : Type 0 where
   pub network : IsNetwork n
   pub days : AreDays n.days
-  pub order : AreInOrder n.days
+  pub order : AreRisingDays n.days
 
 -- the letter of a trip, and the stop of one of its calls
 abbrev pub letter_and_stop : List TripLists → ℕ → ℕ → Option (ℕ × ℕ)

@@ -2,13 +2,13 @@
 use Rattle.std.specs.Prelude.{ℕ, ◌-◌, ◌&&◌, ◌==◌, nat_lt, List, [], ◌∷◌, ◌++◌, length, Bool, false, Option, Some, None, slice_get, if◌then◌else◌}
 
 -- whether a letter goes on with the one before it: both are one road mode
-abbrev pub goes_on : Option ℕ → ℕ → Bool
-goes_on None letter = false
-goes_on (Some last) letter = (last == letter) && nat_lt last 3
+abbrev pub repeats_road : Option ℕ → ℕ → Bool
+repeats_road None letter = false
+repeats_road (Some last) letter = (last == letter) && nat_lt last 3
 
 -- a letter that goes on with the last one is no letter more
 abbrev pub appended : List ℕ → ℕ → List ℕ
-appended word letter = if goes_on (slice_get word (length word - 1)) letter then word else (word ++ letter ∷ [])
+appended word letter = if repeats_road (slice_get word (length word - 1)) letter then word else (word ++ letter ∷ [])
 
 -- a letter, if there is one
 abbrev pub with_letter : List ℕ → Option ℕ → List ℕ

@@ -55,7 +55,8 @@ pub fn large_block(
     most: Option<u32>,
     line: &[u8],
 ) -> Result<Option<Vec<u8>>, AllocError>
-    ensures { IfOk result (λ block. IsLargeBlockIfAny network.now most line.now (option_map (λ it. it.items) block)) }
+    ensures { IfOk result (λ block. IsLargeBlockIfAny network.now most line.now
+        (option_map (λ it. it.items) block)) }
 {
     let Some(places) = large_places(alloc, network, most, line)? else {
         return Ok(None);

@@ -22,7 +22,8 @@ fn push_steps(
     steps: &[Step],
 ) -> Result<(), AllocError>
     requires { IsPrintable network.now (record { start = start; at = at; steps = steps.now }) }
-    ensures { OnOk result (AddsText (IsJourneyText network.now (record { start = start; at = at; steps = steps.now })) out.old.items out.new.items) }
+    ensures { OnOk result (AddsText (IsJourneyText network.now
+        (record { start = start; at = at; steps = steps.now })) out.old.items out.new.items) }
 {
     let told = tell(alloc, network, start, at, steps)?;
     push_clock_line(out, network, b"arrive ", told.at)?;

@@ -3,7 +3,7 @@
 ghost use Rattle.std.specs.Prelude.{◌≡◌, ◌<◌, ◌↔◌, All, ℕ, IfOk, IsTrue};
 ghost use Rattle.search_laws.specs.Times.{time_bound};
 ghost use Rattle.journey.specs.Ends.{AreTaken, HasTime, HasTimes};
-ghost use Rattle.journey.specs.Real.{FirstBad, IsReal, IsWalked, EndsAt, HasWord, IsSpelt, LeadsTo};
+ghost use Rattle.journey.specs.Real.{FirstBad, IsReal, IsWalked, EndsAt, HasWord, IsSpelt, AlwaysLeadsTo};
 
 use crate::rides::{alighting, keeps_rules};
 use crate::step_ends::step_end;
@@ -74,7 +74,7 @@ pub fn ends(network: &Network, journey: &Journey) -> (u32, Time)
 
 /// Where a step from `v` leads whenever it is taken, and its letter.
 fn way_of(network: &Network, v: u32, step: Step) -> (u32, Option<u8>)
-    ensures { LeadsTo network.now v step result.0 result.1 }
+    ensures { AlwaysLeadsTo network.now v step result.0 result.1 }
 {
     match step {
         Step::Wait { .. } => (v, None),
@@ -95,7 +95,8 @@ fn word_of(
     start: u32,
     steps: &[Step],
 ) -> Result<Vec<u8>, AllocError>
-    ensures { IfOk result (λ word. (t : ℕ) → AreTaken network.now start t steps.now → IsSpelt network.now start t steps.now word.items) }
+    ensures { IfOk result (λ word. (t : ℕ) → AreTaken network.now start t steps.now
+        → IsSpelt network.now start t steps.now word.items) }
 {
     let mut node = start;
     let mut word = Vec::new(alloc);

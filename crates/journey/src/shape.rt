@@ -2,7 +2,7 @@
 
 ghost use Rattle.std.specs.Prelude.{◌≡◌, ◌==◌, option_map, position, IfOk, IfSome, ◌<◌, ◌^◌};
 ghost use Rattle.journey.specs.Shapes.{at_byte, at_space, place_at, near_in_at, endpoint_of, shape_of, part_at, millis_at, time_at, departure_on, fields_of};
-ghost use Rattle.journey.specs.Shown.{shown};
+ghost use Rattle.journey.specs.Shown.{shape_shown};
 ghost use Rattle.journey.specs.Shapes.{departs_at};
 
 use crate::fault::QueryFault;
@@ -133,7 +133,14 @@ struct Fields<'a> {
 
 /// The fields of a line that has four spaces or more.
 fn cut_fields(line: &[u8]) -> Option<Fields<'_>>
-    ensures { option_map (λ f. record { from = f.from.now; to = f.to.now; date = f.date.now; time = f.time.now; expr = f.expr.now }) result ≡ fields_of line.now }
+    ensures { option_map (λ f. record {
+      from = f.from.now;
+      to = f.to.now;
+      date = f.date.now;
+      time =
+          f.time.now;
+      expr = f.expr.now;
+    }) result ≡ fields_of line.now }
 {
     let (from, rest) = at_space(line)?;
     let (to, rest) = at_space(rest)?;
@@ -160,7 +167,7 @@ pub(crate) struct Shape<'a> {
 
 /// The shape of a query line; None exactly where it has none.
 pub(crate) fn read_shape(alloc: Global, line: &[u8]) -> Result<Option<Shape<'_>>, AllocError>
-    ensures { IfOk result (λ shape. option_map shown shape ≡ shape_of line.now) }
+    ensures { IfOk result (λ shape. option_map shape_shown shape ≡ shape_of line.now) }
 {
     let Some(fields) = cut_fields(line) else {
         return Ok(None);
@@ -185,7 +192,7 @@ pub(crate) fn read_shape(alloc: Global, line: &[u8]) -> Result<Option<Shape<'_>>
 
 /// When a query of this shape departs.
 pub(crate) fn departs_at(days: &Days, shape: &Shape<'_>) -> Result<Time, QueryFault>
-    ensures value { result ≡ departs_at days.now (shown shape.now) }
+    ensures value { result ≡ departs_at days.now (shape_shown shape.now) }
     ensures soon { IfOk result (λ t. t < 2 ^ 64) }
 {
     let (Some(date), Some(ms)) = (read_date(shape.date), read_time(shape.time)) else {

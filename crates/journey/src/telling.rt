@@ -4,7 +4,7 @@ ghost use Rattle.std.specs.Prelude.{◌≡◌, OnOk, IfOk, ◌<◌, ◌++◌, le
 ghost use Rattle.plain_texts.specs.Lines.{with_feed};
 ghost use Rattle.mode_network.specs.NetworkLists.{nodes_of};
 ghost use Rattle.search_laws.specs.Times.{time_bound};
-ghost use Rattle.journey.specs.Words.{goes_on, appended, with_letter};
+ghost use Rattle.journey.specs.Words.{repeats_road, appended, with_letter};
 ghost use Rattle.journey.specs.Texts.{IsThere, step_text};
 ghost use Rattle.journey.specs.Ends.{HasTime, AreTaken};
 ghost use Rattle.journey.specs.Telling.{IsTold};
@@ -18,7 +18,7 @@ use std::alloc::{AllocError, Global};
 
 /// Whether a letter goes on with the one before it: both are one road mode.
 fn goes_on(last: Option<u8>, letter: u8) -> bool
-    ensures { result ≡ goes_on last letter }
+    ensures { result ≡ repeats_road last letter }
 {
     match last {
         None => false,
@@ -62,7 +62,8 @@ fn tell_step(told: &mut Told, network: &Network, step: Step, end: StepEnd) -> Re
     ensures node { OnOk result (told.new.node ≡ end.node) }
     ensures at { OnOk result (told.new.at ≡ end.at) }
     ensures word { OnOk result (told.new.word.items ≡ with_letter told.old.word.items end.letter) }
-    ensures lines { OnOk result (told.new.lines.items ≡ told.old.lines.items ++ with_feed (step_text network.now step end.node end.at)) }
+    ensures lines { OnOk result (told.new.lines.items ≡ told.old.lines.items ++ with_feed
+        (step_text network.now step end.node end.at)) }
 {
     append(&mut told.word, end.letter)?;
     push_step(&mut told.lines, network, step, end.node, end.at)?;

@@ -75,7 +75,8 @@ pub(crate) fn push_clock_line(
     word: &[u8],
     t: Time,
 ) -> Result<(), AllocError>
-    ensures { OnOk result (out.new.items ≡ out.old.items ++ with_feed (word.now ++ clock_text_of network.now.days t)) }
+    ensures { OnOk result (out.new.items ≡ out.old.items ++ with_feed
+        (word.now ++ clock_text_of network.now.days t)) }
 {
     out.extend_from_slice(word)?;
     network.days().push_clock(out, t)?;
@@ -91,7 +92,8 @@ pub(crate) fn push_place_line(
     t: Time,
 ) -> Result<(), AllocError>
     requires { v < length (nodes_of network.now) }
-    ensures { OnOk result (out.new.items ≡ out.old.items ++ with_feed (word.now ++ place_text network.now v t)) }
+    ensures { OnOk result (out.new.items ≡ out.old.items ++ with_feed
+        (word.now ++ place_text network.now v t)) }
 {
     out.extend_from_slice(word)?;
     push_place(out, network, v, t)?;
@@ -111,7 +113,8 @@ fn push_ride(
     requires trip { trip < length network.now.trips }
     requires day { day < numbers_of network.now.days }
     requires node { v < length (nodes_of network.now) }
-    ensures { OnOk result (out.new.items ≡ out.old.items ++ ride_text network.now (slice_index_or network.now.trips trip no_trip) day v t) }
+    ensures { OnOk result (out.new.items ≡ out.old.items ++ ride_text network.now
+        (slice_index_or network.now.trips trip no_trip) day v t) }
 {
     let trip = &trips(network)[trip as usize];
     push_letter(out, trip.letter)?;
@@ -158,7 +161,8 @@ pub(crate) fn push_word(out: &mut Vec<u8>, word: &[u8]) -> Result<(), AllocError
 }
 
 fn push_letters(out: &mut Vec<u8>, word: &[u8]) -> Result<(), AllocError>
-    ensures { OnOk result (out.new.items ≡ out.old.items ++ flat_map (λ letter. 32 ∷ letter_text letter) word.now) }
+    ensures { OnOk result (out.new.items ≡ out.old.items ++ flat_map (λ letter. 32 ∷ letter_text letter)
+        word.now) }
 {
     for letter in word {
         out.push(b' ')?;

@@ -12,14 +12,14 @@ use Rattle.run_steps.specs.declared.outcome.Outcome.TheVariants.{Done, Usage, Wr
 use Rattle.run_steps.proofs.Steps.{later_twice, not_earlier, told_before}
 use Rattle.answer_commands.specs.Working.{HasBoth, IsBothOutcome}
 use Rattle.journey_book.specs.Books.{Book, dropped, kept}
-use Rattle.journey_book.specs.Keepers.{KeeperMeaning, Becomes, Stays, Tells}
+use Rattle.journey_book.specs.Keepers.{KeeperMeaning, Becomes, BookStays, Tells}
 use Rattle.journey_book.specs.Commands.{says}
 use Rattle.journey_book.specs.Outcomes.{IsOutcome}
 use Rattle.journey_book.specs.Reports.{IsListing, IsReported, recheck_rule}
 use Rattle.journey_book.specs.Reviews.{review_rule}
-use Rattle.journey_book.specs.Requests.{AsksFor, Request, keep, drop, list, show, recheck, review}
+use Rattle.journey_book.specs.Requests.{AsksFor, BookRequest, keep, drop, list, show, recheck, review}
 use Rattle.journey_book.specs.Runs.{Change, Does, Run, RunsFold, book_after, changed, keeps, drops, nothing}
-use Rattle.journey_book.specs.Sayings.{Scene, scene, Changes, EndsBy, IsCertificateOutcome, OnBoth, ThenDone, Writes}
+use Rattle.journey_book.specs.Sayings.{BookScene, book_scene, Changes, EndsBy, IsCertificateOutcome, OnBoth, ThenDone, Writes}
 use Rattle.journey_book.specs.declared.outcome.BookOutcome.{BookOutcome}
 use Rattle.journey_book.specs.declared.outcome.BookOutcome.TheVariants.{Common, KeepFault, NotWell}
 
@@ -43,28 +43,28 @@ after_alike (change ∷ changes) a b alike = after_alike changes (changed a chan
 -- ---- what one run does
 
 -- the book stays, and the work is not done
-abbrev IsIdle : Scene → Scene → BookOutcome → Type 0
-IsIdle old new outcome = Stays old.keeper new.keeper × (outcome ≡ Common Done → ⊥)
+abbrev IsIdle : BookScene → BookScene → BookOutcome → Type 0
+IsIdle old new outcome = BookStays old.keeper new.keeper × (outcome ≡ Common Done → ⊥)
 
 -- the work is done, and the book becomes what the change makes of it; or neither
-abbrev Moves : (Book → Book) → Scene → Scene → BookOutcome → Type 0
+abbrev Moves : (Book → Book) → BookScene → BookScene → BookOutcome → Type 0
 Moves change old new outcome = IsIdle old new outcome ⊎ ((outcome ≡ Common Done) × Becomes old.keeper new.keeper change)
 
 not_done : (outcome : Outcome) → (outcome ≡ Done → ⊥) → Common outcome ≡ Common Done → ⊥
 not_done outcome not done = let same : outcome ≡ Done = cc in not same
 
 -- a run that ends so has not done its work
-by_idle : (IsCause : Outcome → Type 0) → (IsCause Done → ⊥) → (old new : Scene) (outcome : BookOutcome) → EndsBy IsCause old new outcome → IsIdle old new outcome
+by_idle : (IsCause : Outcome → Type 0) → (IsCause Done → ⊥) → (old new : BookScene) (outcome : BookOutcome) → EndsBy IsCause old new outcome → IsIdle old new outcome
 by_idle IsCause not old new (Common outcome) (why, same) = (same.1, not_done outcome (λ done. not (subst IsCause done why)))
 by_idle IsCause not old new outcome none = absurd none
 
-changes_move : (P : Book → Type 0) (change : Book → Book) (old new : Scene) (outcome : BookOutcome) → Changes P change old new outcome → Moves change old new outcome
+changes_move : (P : Book → Type 0) (change : Book → Book) (old new : BookScene) (outcome : BookOutcome) → Changes P change old new outcome → Moves change old new outcome
 changes_move P change old new (Common Done) (tells, becomes, unwritten) = inr (refl, becomes)
 changes_move P change old new (Common OutOfMemory) same = inl (same.1, not_done OutOfMemory (λ done. cc))
 changes_move P change old new KeepFault (rose, same) = inl (same.1, λ done. cc)
 changes_move P change old new outcome none = absurd none
 
-writes_stay : (IsText : List ℕ → BookOutcome → Type 0) (old new : Scene) (outcome : BookOutcome) → Writes IsText old new outcome → Stays old.keeper new.keeper
+writes_stay : (IsText : List ℕ → BookOutcome → Type 0) (old new : BookScene) (outcome : BookOutcome) → Writes IsText old new outcome → BookStays old.keeper new.keeper
 writes_stay IsText old new (Common Done) (written, stays) = stays
 writes_stay IsText old new NotWell (written, stays) = stays
 writes_stay IsText old new (Common WriteFault) (rose, front, stays) = stays
@@ -72,15 +72,15 @@ writes_stay IsText old new (Common OutOfMemory) same = same.1
 writes_stay IsText old new KeepFault (rose, same) = same.1
 writes_stay IsText old new outcome none = absurd none
 
-by_stays : (IsCause : Outcome → Type 0) (old new : Scene) (outcome : BookOutcome) → EndsBy IsCause old new outcome → Stays old.keeper new.keeper
+by_stays : (IsCause : Outcome → Type 0) (old new : BookScene) (outcome : BookOutcome) → EndsBy IsCause old new outcome → BookStays old.keeper new.keeper
 by_stays IsCause old new (Common outcome) (why, same) = same.1
 by_stays IsCause old new outcome none = absurd none
 
 -- a report leaves the book
-report_stays : (caps : Caps) (region : List ℕ) (named : Option (List ℕ)) (IsText : NetworkLists → Option HierarchyLists → List ℕ → BookOutcome → Type 0) (old new : Scene) (outcome : BookOutcome)
-    → OnBoth caps region named (λ n h. Writes (IsText n h)) old new outcome → Stays old.keeper new.keeper
+report_stays : (caps : Caps) (region : List ℕ) (named : Option (List ℕ)) (IsText : NetworkLists → Option HierarchyLists → List ℕ → BookOutcome → Type 0) (old new : BookScene) (outcome : BookOutcome)
+    → OnBoth caps region named (λ n h. Writes (IsText n h)) old new outcome → BookStays old.keeper new.keeper
 report_stays caps region named IsText old new outcome (inl ends) = by_stays (IsBothOutcome caps old.shelf new.shelf region named) old new outcome ends
-report_stays caps region named IsText old new outcome (inr (n, h, mid, both, wrote)) = writes_stay (IsText n h) (scene mid old.keeper old.out) new outcome wrote
+report_stays caps region named IsText old new outcome (inr (n, h, mid, both, wrote)) = writes_stay (IsText n h) (book_scene mid old.keeper old.out) new outcome wrote
 
 -- ---- what was read is told of the first shelf
 
@@ -107,20 +107,20 @@ not_certificate n h old new name (inl unread) = unread
 not_certificate n h old new name (inr has) = has.fails
 
 -- the certificate of a file is kept under the name; or neither
-abbrev Keeps : List ℕ → List ℕ → Scene → Scene → BookOutcome → Type 0
+abbrev Keeps : List ℕ → List ℕ → BookScene → BookScene → BookOutcome → Type 0
 Keeps name certificate old new outcome =
     IsIdle old new outcome ⊎ ((body : List ℕ) × (outcome ≡ Common Done) × Told old.shelf certificate (λ held. held ≡ Some body) × Becomes old.keeper new.keeper (kept name body))
 
-certificate_keeps : (caps : Caps) (name region certificate : List ℕ) (named : Option (List ℕ)) (old new : Scene) (outcome : BookOutcome)
+certificate_keeps : (caps : Caps) (name region certificate : List ℕ) (named : Option (List ℕ)) (old new : BookScene) (outcome : BookOutcome)
     → says caps (keep name region certificate named) old new outcome → Keeps name certificate old new outcome
 certificate_keeps caps name region certificate named old new outcome (inl ends) = inl (by_idle (IsBothOutcome caps old.shelf new.shelf region named) (not_both caps old.shelf new.shelf region named) old new outcome ends)
 certificate_keeps caps name region certificate named old new outcome (inr (n, h, mid, both, inl ends)) =
-    let idle = by_idle (IsCertificateOutcome n h mid new.shelf certificate) (not_certificate n h mid new.shelf certificate) (scene mid old.keeper old.out) new outcome ends in
+    let idle = by_idle (IsCertificateOutcome n h mid new.shelf certificate) (not_certificate n h mid new.shelf certificate) (book_scene mid old.keeper old.out) new outcome ends in
     inl (idle.0, idle.1)
 certificate_keeps caps name region certificate named old new outcome (inr (n, h, mid, both, inr (bytes, then, has, changed))) =
-    moved (changes_move (λ book. Unit {0}) (kept name bytes) (scene then old.keeper old.out) new outcome changed)
+    moved (changes_move (λ book. Unit {0}) (kept name bytes) (book_scene then old.keeper old.out) new outcome changed)
   where
-    moved : Moves (kept name bytes) (scene then old.keeper old.out) new outcome → Keeps name certificate old new outcome
+    moved : Moves (kept name bytes) (book_scene then old.keeper old.out) new outcome → Keeps name certificate old new outcome
     moved (inl idle) = inl (idle.0, idle.1)
     moved (inr (done, becomes)) =
         inr (bytes, done, told_before old.shelf mid (both_later caps old.shelf mid region named n h both) certificate (λ held. held ≡ Some bytes) has.file.file, becomes)
@@ -134,7 +134,7 @@ record DoesSo (run : Run) : Type 0 where
 idles : (run : Run) → IsIdle run.old run.new run.outcome → DoesSo run
 idles run (stays, not) = record { change = nothing; does = inl not; becomes = stays }
 
-asked_to : (caps : Caps) (run : Run) (r : Request) → AsksFor run.words r → says caps r run.old run.new run.outcome → DoesSo run
+asked_to : (caps : Caps) (run : Run) (r : BookRequest) → AsksFor run.words r → says caps r run.old run.new run.outcome → DoesSo run
 asked_to caps run (keep name region certificate hierarchy) asks said = of (certificate_keeps caps name region certificate hierarchy run.old run.new run.outcome said)
   where
     of : Keeps name certificate run.old run.new run.outcome → DoesSo run

@@ -32,7 +32,7 @@ use Rattle.certificate.proofs.UniqueLemmas.{verdict_is_unique}
 use Rattle.certificate.proofs.VerifyLemmas.{valid_proves}
 use Rattle.journey_book.specs.Books.{Book, AreNamesOf}
 use Rattle.journey_book.specs.Keepers.{KeeperMeaning, Tells}
-use Rattle.journey_book.specs.Laws.{IsFixed, IsFixedEnd, ReportsAreFixed, StartsAt, ValidIsSame}
+use Rattle.journey_book.specs.Laws.{HoldsOfOneText, IsFixedEnd, ReportsAreFixed, StartsAt, ValidIsSame}
 use Rattle.journey_book.specs.Reports.{AreReported, ClaimRule, IsJudged, IsReported, IsSaidOn, ReportRule, end_by, recheck_rule, verdict_words}
 use Rattle.journey_book.specs.Reviews.{IsAnswered, IsReviewed, arrival_words, beside, kept_arrival, review_rule}
 
@@ -53,7 +53,7 @@ names_once book one other a b =
 
 -- one text is right for a certificate
 abbrev pub IsExact : ClaimRule → Type 0
-IsExact AreRight = (claim : Claim) → IsFixed (AreRight claim)
+IsExact AreRight = (claim : Claim) → HoldsOfOneText (AreRight claim)
 
 pub same_claim : (bytes : List ℕ) (a b : Claim) → IsCertText bytes a → IsCertText bytes b → a ≡ b
 same_claim bytes a b p q = let x = again bytes a p in let y = again bytes b q in cc
@@ -65,7 +65,7 @@ told : (keeper : KeeperMeaning) (book : Book) → keeper.book ≡ Some book → 
 told keeper book is P tells = subst (λ (b : Option Book). IfSome b P) is tells
 
 module _ (AreRight : ClaimRule) (exact : IsExact AreRight) where
-  said_once : (held : Option (List ℕ)) → IsFixed (IsSaidOn AreRight held)
+  said_once : (held : Option (List ℕ)) → HoldsOfOneText (IsSaidOn AreRight held)
   said_once None one other e f = e ∙ sym f
   said_once (Some bytes) one other (inl (line, bad, e)) (inl (line2, bad2, f)) =
       let named = bad_line_is bytes line bad in
@@ -105,7 +105,7 @@ judged_once n network h sound claim one other (verdict, is, e) (verdict2, is2, f
     e ∙ ap verdict_words (verdict_is_unique n network h sound claim verdict verdict2 is is2) ∙ sym f
 
 module _ (n : NetworkLists) (network : IsNetwork n) where
-  answered_once : (kept : Option (ℕ × Route)) (asked : Asked) → IsFixed (IsAnswered n kept asked)
+  answered_once : (kept : Option (ℕ × Route)) (asked : Asked) → HoldsOfOneText (IsAnswered n kept asked)
   answered_once kept asked one other (inl (none, e)) (inl (none2, f)) = e ∙ sym f
   answered_once kept asked one other (inl (none, e)) (inr (j, best, f)) = absurd (none j best.arrival best.answers)
   answered_once kept asked one other (inr (j, best, e)) (inl (none, f)) = absurd (none j best.arrival best.answers)

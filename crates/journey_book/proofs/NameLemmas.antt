@@ -4,11 +4,11 @@ use Rattle.std.specs.Prelude.{⊤, find, option_and_then}
 use Rattle.std.specs.Str.{bytes_eq}
 use Rattle.std.proofs.lemmas.Slice.Eq.{bytes_eq-Decides}
 use Rattle.journey_book.specs.Given.{Given}
-use Rattle.journey_book.specs.Requests.{Request}
+use Rattle.journey_book.specs.Requests.{BookRequest}
 
 -- what a command asks for
 abbrev pub Asking : Type 0
-Asking = List (List ℕ) → Option (List ℕ) → Bool → Option Request
+Asking = List (List ℕ) → Option (List ℕ) → Bool → Option BookRequest
 
 -- the name is that of none of these
 abbrev pub IsNoneOf : List ℕ → List (List ℕ × Asking) → Type 0

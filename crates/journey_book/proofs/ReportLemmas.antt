@@ -5,7 +5,7 @@ use Rattle.std.specs.List.{list_all}
 use Rattle.std.proofs.lemmas.List.Folds.{list_all-append}
 use Rattle.plain_texts.specs.Lines.{lines_text, with_feed}
 use Rattle.journey.specs.Blocks.{AddsText}
-use Rattle.journey_book.specs.Keepers.{KeeperMeaning, Stays}
+use Rattle.journey_book.specs.Keepers.{BookStays, KeeperMeaning}
 use Rattle.journey_book.specs.Reports.{AreReported, ClaimRule, HasReported, IsSaidOf, ReportRule}
 use Rattle.journey_book.proofs.KeeperLemmas.{told_before}
 
@@ -50,14 +50,14 @@ has_more rule keeper names out well name words (said, lines, all) is =
     )
 
 -- what is reported after the book stayed is true of it before
-reported_before : (AreRight : ClaimRule) (old mid : KeeperMeaning) → Stays old mid → (names said : List (List ℕ)) (out : List ℕ) → AreReported AreRight mid names said out → AreReported AreRight old names said out
+reported_before : (AreRight : ClaimRule) (old mid : KeeperMeaning) → BookStays old mid → (names said : List (List ℕ)) (out : List ℕ) → AreReported AreRight mid names said out → AreReported AreRight old names said out
 reported_before AreRight old mid stays [] [] out none = none
 reported_before AreRight old mid stays (name ∷ names) (words ∷ said) out (rest, is, more, are) =
     (rest, record { held = is.held; told = told_before old mid name is.held stays is.told; says = is.says }, reported_before AreRight old mid stays names said rest more, are)
 reported_before AreRight old mid stays [] (words ∷ said) out none = absurd none
 reported_before AreRight old mid stays (name ∷ names) [] out none = absurd none
 
-pub has_before : (rule : ReportRule) (old mid : KeeperMeaning) → Stays old mid → (names : List (List ℕ)) (out : List ℕ) (well : Bool) → HasReported rule mid names out well → HasReported rule old names out well
+pub has_before : (rule : ReportRule) (old mid : KeeperMeaning) → BookStays old mid → (names : List (List ℕ)) (out : List ℕ) (well : Bool) → HasReported rule mid names out well → HasReported rule old names out well
 has_before rule old mid stays names out well (said, lines, all) = (said, reported_before rule.AreRight old mid stays names said out lines, all)
 
 -- one line more

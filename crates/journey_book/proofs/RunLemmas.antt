@@ -6,16 +6,16 @@ use Rattle.run_steps.specs.declared.outcome.Outcome.{Outcome}
 use Rattle.run_steps.specs.declared.outcome.Outcome.TheVariants.{Done, WriteFault}
 use Rattle.run_steps.specs.Working.{IsTextOutcome}
 use Rattle.journey_book.specs.Books.{Book}
-use Rattle.journey_book.specs.Keepers.{KeeperMeaning, IsKeepFault, Stays, Tells}
+use Rattle.journey_book.specs.Keepers.{KeeperMeaning, IsKeepFault, BookStays, Tells}
 use Rattle.journey_book.specs.Reports.{IsReport, IsReported, ReportRule, end_by}
-use Rattle.journey_book.specs.Sayings.{Scene, IsUntouched, Changes, ThenDone, Writes}
+use Rattle.journey_book.specs.Sayings.{BookScene, IsUntouched, Changes, ThenDone, Writes}
 use Rattle.journey_book.specs.Working.{ended_by, outcome_of_keeper}
 use Rattle.journey_book.specs.declared.keeper.KeepFault.{KeepFault as KeepCause}
 use Rattle.journey_book.specs.declared.keeper.KeepFault.TheVariants as keep_cause
 use Rattle.journey_book.specs.declared.outcome.BookOutcome.{BookOutcome}
 use Rattle.journey_book.specs.declared.outcome.BookOutcome.TheVariants.{Common}
 
-module _ (old new : Scene) (same : IsUntouched old new) where
+module _ (old new : BookScene) (same : IsUntouched old new) where
   -- the keeper refused a change
   pub change_fails : (P : Book → Type 0) (change : Book → Book) (fault : KeepCause) → IsKeepFault old.keeper new.keeper fault → Changes P change old new (outcome_of_keeper fault)
   change_fails P change keep_cause.Failed rose = (rose, same)
@@ -26,7 +26,7 @@ module _ (old new : Scene) (same : IsUntouched old new) where
   telling_fails IsText keep_cause.Failed rose = (rose, same)
   telling_fails IsText keep_cause.OutOfMemory none = same
 
-module _ (old new : Scene) (stays : Stays old.keeper new.keeper) where
+module _ (old new : BookScene) (stays : BookStays old.keeper new.keeper) where
   -- the text was not written whole
   text_fails : (IsText : List ℕ → BookOutcome → Type 0) (text : List ℕ) (end : BookOutcome) → IsText text end → (outcome : Outcome) → IsTextOutcome old.out new.out text outcome
       → Writes IsText old new (Common outcome)

@@ -4,11 +4,11 @@ use Rattle.std.specs.Prelude.{option_and_then}
 use Rattle.std.specs.declared.string.String.{String}
 use Rattle.std.proofs.lemmas.List.{take_all}
 use Rattle.journey_book.specs.Given.{given_by}
-use Rattle.journey_book.specs.Requests.{AreRefused, AsksFor, Request, asked_by, request_by}
+use Rattle.journey_book.specs.Requests.{AreRefused, AsksFor, BookRequest, request_by, request_in_words}
 
 -- a command's name and the words behind it
 pub words_asked : (words : List (String Global)) (name : String Global) → 3 ≤ length words → name ≡ get_or words 2 name
-    → asked_by (map string_bytes words) ≡ option_and_then (request_by (string_bytes name)) (given_by (map string_bytes (take (length words - 3) (drop 3 words))))
+    → request_in_words (map string_bytes words) ≡ option_and_then (request_by (string_bytes name)) (given_by (map string_bytes (take (length words - 3) (drop 3 words))))
 words_asked [] name many is = absurd (omega arith)
 words_asked (a ∷ []) name many is = absurd (omega arith)
 words_asked (a ∷ b ∷ []) name many is = absurd (omega arith)
@@ -18,16 +18,16 @@ words_asked (a ∷ b ∷ c ∷ rest) name many is =
     rw (count, all) (ap (λ (w : String Global). option_and_then (request_by (string_bytes w)) (given_by (map string_bytes rest))) (sym is))
 
 -- fewer words ask for nothing
-pub none_asked : (words : List (String Global)) → length words < 3 → None ≡ asked_by (map string_bytes words)
+pub none_asked : (words : List (String Global)) → length words < 3 → None ≡ request_in_words (map string_bytes words)
 none_asked [] few = refl
 none_asked (a ∷ []) few = refl
 none_asked (a ∷ b ∷ []) few = refl
 none_asked (a ∷ b ∷ c ∷ rest) few = absurd (omega arith)
 
 -- words that ask for nothing are refused
-pub are_refused : (words : List (List ℕ)) → None ≡ asked_by words → AreRefused words
+pub are_refused : (words : List (List ℕ)) → None ≡ request_in_words words → AreRefused words
 are_refused words none r asks = let e = none ∙ asks in absurd (cc)
 
 -- words ask for one thing
-pub asked_once : (words : List (List ℕ)) (one other : Request) → Some one ≡ asked_by words → AsksFor words other → one ≡ other
+pub asked_once : (words : List (List ℕ)) (one other : BookRequest) → Some one ≡ request_in_words words → AsksFor words other → one ≡ other
 asked_once words one other is asks = let e = is ∙ asks in cc

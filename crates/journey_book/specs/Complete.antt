@@ -4,7 +4,7 @@ use Rattle.plan_base.specs.declared.limits.Caps.{Caps}
 use Rattle.hierarchy_commands.specs.Complete.{IsSoundIfNamed}
 use Rattle.run_steps.specs.Complete.{Files, IsDoneOrMemory, IsHeld, SpellsNetwork}
 use Rattle.answer_commands.specs.Complete.{CanVerify}
-use Rattle.journey_book.specs.Requests.{Request, keep, drop, list, show, recheck, review}
+use Rattle.journey_book.specs.Requests.{BookRequest, keep, drop, list, show, recheck, review}
 use Rattle.journey_book.specs.declared.outcome.BookOutcome.{BookOutcome}
 use Rattle.journey_book.specs.declared.outcome.BookOutcome.TheVariants.{Common, KeepFault, Absent, NotWell}
 
@@ -14,7 +14,7 @@ AreHeld caps files region hierarchy =
     IsHeld files region (SpellsNetwork caps (λ n. IsSoundIfNamed files n hierarchy (λ h. Unit {0})))
 
 -- each file that is asked for is there and without fault; a certificate is kept where `verify` could be done
-abbrev pub CanBeDone : Caps → Files → Request → Type 0
+abbrev pub CanBeDone : Caps → Files → BookRequest → Type 0
 CanBeDone caps files (keep name region certificate hierarchy) =
     CanVerify caps files region certificate hierarchy
 CanBeDone caps files (recheck region hierarchy fail) = AreHeld caps files region hierarchy

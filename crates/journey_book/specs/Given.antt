@@ -46,15 +46,15 @@ given_by (word ∷ next ∷ rest) =
 
 -- ---- how the program holds them
 
-abbrev pub words_of : Plain → List (List ℕ)
-words_of plain.No = []
-words_of (plain.One first) = first.now ∷ []
-words_of (plain.Two first second) = first.now ∷ second.now ∷ []
-words_of (plain.Three first second third) = first.now ∷ second.now ∷ third.now ∷ []
+abbrev pub given_words : Plain → List (List ℕ)
+given_words plain.No = []
+given_words (plain.One first) = first.now ∷ []
+given_words (plain.Two first second) = first.now ∷ second.now ∷ []
+given_words (plain.Three first second third) = first.now ∷ second.now ∷ third.now ∷ []
 
-abbrev pub given_of : GivenWords → Given
-given_of it = record {
-  words = words_of it.plain;
+abbrev pub given_view : GivenWords → Given
+given_view it = record {
+  words = given_words it.plain;
   hierarchy = option_map (λ file. file.now) it.hierarchy;
   fail = it.fail;
 }

@@ -20,8 +20,8 @@ Becomes old new change =
     (book : Book) → old.book ≡ Some book → (then : Book) × (new.book ≡ Some then) × ((name : List ℕ) → then name ≡ change book name)
 
 -- the book stays
-abbrev pub Stays : KeeperMeaning → KeeperMeaning → Type 0
-Stays old new = Becomes old new (λ book. book)
+abbrev pub BookStays : KeeperMeaning → KeeperMeaning → Type 0
+BookStays old new = Becomes old new (λ book. book)
 
 -- a failure was counted; want of memory needs no cause
 abbrev pub IsKeepFault : KeeperMeaning → KeeperMeaning → KeepFault → Type 0

@@ -14,8 +14,8 @@ use Rattle.journey_book.specs.Reviews.{IsReviewed, review_rule}
 use Rattle.journey_book.specs.declared.outcome.BookOutcome.{BookOutcome}
 
 -- one text alone is so
-abbrev pub IsFixed : (List ℕ → Type 0) → Type 0
-IsFixed IsText = (one other : List ℕ) → IsText one → IsText other → one ≡ other
+abbrev pub HoldsOfOneText : (List ℕ → Type 0) → Type 0
+HoldsOfOneText IsText = (one other : List ℕ) → IsText one → IsText other → one ≡ other
 
 -- one text alone is so, and ends a run in one way
 abbrev pub IsFixedEnd : (List ℕ → BookOutcome → Type 0) → Type 0

@@ -32,6 +32,6 @@ pub record IsCounted (old new : MemoryKeeper) (failed : Bool) : Type 0 where
   pub failed_is : failed ≡ list_any (λ n. nat_eq n new.calls) old.fail.items
 
 -- no call was made yet, and those with these numbers will fail
-pub record IsFresh (keeper : MemoryKeeper) (fail : List ℕ) : Type 0 where
+pub record IsUncalled (keeper : MemoryKeeper) (fail : List ℕ) : Type 0 where
   pub calls : keeper.calls ≡ 0
   pub fail_is : keeper.fail.items ≡ fail

@@ -9,8 +9,8 @@ use Rattle.journey_book.specs.Commands.{says}
 use Rattle.run_steps.specs.Complete.{Files}
 use Rattle.run_steps.specs.declared.outcome.Outcome.TheVariants.{Usage}
 use Rattle.journey_book.specs.Complete.{CanBeDone, IsDoneOrAbsent}
-use Rattle.journey_book.specs.Requests.{AreRefused, AsksFor, Request}
-use Rattle.journey_book.specs.Sayings.{Scene, Ends}
+use Rattle.journey_book.specs.Requests.{AreRefused, AsksFor, BookRequest}
+use Rattle.journey_book.specs.Sayings.{BookScene, Ends}
 use Rattle.journey_book.specs.declared.outcome.BookOutcome.{BookOutcome}
 use Rattle.journey_book.specs.declared.outcome.BookOutcome.TheVariants.{Common}
 
@@ -19,16 +19,16 @@ abbrev pub AreFull : Caps → Type 0
 AreFull caps = (kind : Kind) → cap_of caps kind ≡ full_cap_of kind
 
 -- What a run with these words says: that they are refused, where they ask for nothing; or what it says that was asked for.
-abbrev pub IsOutcome : Caps → List (List ℕ) → Scene → Scene → BookOutcome → Type 0
+abbrev pub IsOutcome : Caps → List (List ℕ) → BookScene → BookScene → BookOutcome → Type 0
 IsOutcome caps words old new outcome =
     (AreRefused words × Ends (Common Usage) old new outcome)
-    ⊎ ((r : Request) × AsksFor words r × says caps r old new outcome)
+    ⊎ ((r : BookRequest) × AsksFor words r × says caps r old new outcome)
 
 -- Where the shelf tells that all files are there and without fault, and no count of faults rose, all of the work is done, unless
 -- nothing is kept under the name or memory ran out.
-abbrev pub IsComplete : Caps → List (List ℕ) → Scene → Scene → BookOutcome → Type 0
+abbrev pub IsComplete : Caps → List (List ℕ) → BookScene → BookScene → BookOutcome → Type 0
 IsComplete caps words old new outcome =
-    (r : Request) (files : Files) → AsksFor words r → old.shelf.files ≡ Some files → CanBeDone caps files r
+    (r : BookRequest) (files : Files) → AsksFor words r → old.shelf.files ≡ Some files → CanBeDone caps files r
     → (Rose old.shelf.faults new.shelf.faults → ⊥) → (Rose old.keeper.faults new.keeper.faults → ⊥)
     → (Rose old.out.faults new.out.faults → ⊥)
     → IsDoneOrAbsent outcome

@@ -8,15 +8,15 @@ use Rattle.journey_book.specs.declared.words.BookCommand.TheVariants as command
 
 -- a command with what it works on: names, and the paths of files; and whether it is to fail where a line of its
 -- report is not well
-pub data Request : Type 0 where
-  keep : (name region certificate : List ℕ) (hierarchy : Option (List ℕ)) → Request
-  drop : (name : List ℕ) → Request
-  list : Request
-  show : (name : List ℕ) → Request
-  recheck : (region : List ℕ) (hierarchy : Option (List ℕ)) (fail : Bool) → Request
-  review : (region : List ℕ) (hierarchy : Option (List ℕ)) (fail : Bool) → Request
+pub data BookRequest : Type 0 where
+  keep : (name region certificate : List ℕ) (hierarchy : Option (List ℕ)) → BookRequest
+  drop : (name : List ℕ) → BookRequest
+  list : BookRequest
+  show : (name : List ℕ) → BookRequest
+  recheck : (region : List ℕ) (hierarchy : Option (List ℕ)) (fail : Bool) → BookRequest
+  review : (region : List ℕ) (hierarchy : Option (List ℕ)) (fail : Bool) → BookRequest
 
-abbrev pub request_of : BookCommand → Request
+abbrev pub request_of : BookCommand → BookRequest
 request_of (command.Keep name region certificate hierarchy) =
     keep name.now region.now certificate.now (option_map (λ h. h.now) hierarchy)
 request_of (command.Drop name) = drop name.now
@@ -35,42 +35,42 @@ abbrev pub begins_name : List ℕ → Bool
 begins_name [] = false
 begins_name (b ∷ rest) = is_letter_or_digit b
 
-abbrev pub is_name_byte : ℕ → Bool
-is_name_byte b = is_letter_or_digit b || nat_eq b 45 || nat_eq b 95
+abbrev pub is_book_name_byte : ℕ → Bool
+is_book_name_byte b = is_letter_or_digit b || nat_eq b 45 || nat_eq b 95
 
 -- a name is 1 to 64 small letters, digits, `-` and `_`, and begins with a letter or a digit
-abbrev pub is_name : List ℕ → Bool
-is_name word = begins_name word && nat_le (length word) 64 && list_all is_name_byte word
+abbrev pub is_book_name : List ℕ → Bool
+is_book_name word = begins_name word && nat_le (length word) 64 && list_all is_book_name_byte word
 
 -- ---- what each command asks for, by its plain words, the file behind `--hierarchy`, and whether `--fail` stands there
 
-abbrev pub keep_by : List (List ℕ) → Option (List ℕ) → Bool → Option Request
+abbrev pub keep_by : List (List ℕ) → Option (List ℕ) → Bool → Option BookRequest
 keep_by (name ∷ region ∷ certificate ∷ []) hierarchy false =
-    if is_name name then Some (keep name region certificate hierarchy) else None
+    if is_book_name name then Some (keep name region certificate hierarchy) else None
 keep_by _ _ _ = None
 
-abbrev pub drop_by : List (List ℕ) → Option (List ℕ) → Bool → Option Request
-drop_by (name ∷ []) None false = if is_name name then Some (drop name) else None
+abbrev pub drop_by : List (List ℕ) → Option (List ℕ) → Bool → Option BookRequest
+drop_by (name ∷ []) None false = if is_book_name name then Some (drop name) else None
 drop_by _ _ _ = None
 
-abbrev pub list_by : List (List ℕ) → Option (List ℕ) → Bool → Option Request
+abbrev pub list_by : List (List ℕ) → Option (List ℕ) → Bool → Option BookRequest
 list_by [] None false = Some list
 list_by _ _ _ = None
 
-abbrev pub show_by : List (List ℕ) → Option (List ℕ) → Bool → Option Request
-show_by (name ∷ []) None false = if is_name name then Some (show name) else None
+abbrev pub show_by : List (List ℕ) → Option (List ℕ) → Bool → Option BookRequest
+show_by (name ∷ []) None false = if is_book_name name then Some (show name) else None
 show_by _ _ _ = None
 
-abbrev pub recheck_by : List (List ℕ) → Option (List ℕ) → Bool → Option Request
+abbrev pub recheck_by : List (List ℕ) → Option (List ℕ) → Bool → Option BookRequest
 recheck_by (region ∷ []) hierarchy fail = Some (recheck region hierarchy fail)
 recheck_by _ _ _ = None
 
-abbrev pub review_by : List (List ℕ) → Option (List ℕ) → Bool → Option Request
+abbrev pub review_by : List (List ℕ) → Option (List ℕ) → Bool → Option BookRequest
 review_by (region ∷ []) hierarchy fail = Some (review region hierarchy fail)
 review_by _ _ _ = None
 
 -- the commands by their names
-abbrev pub commands : List (List ℕ × (List (List ℕ) → Option (List ℕ) → Bool → Option Request))
+abbrev pub commands : List (List ℕ × (List (List ℕ) → Option (List ℕ) → Bool → Option BookRequest))
 commands =
     (codes "keep", keep_by)
     ∷ (codes "drop", drop_by)
@@ -81,7 +81,7 @@ commands =
     ∷ []
 
 -- what a command of this name asks for, where this stands behind it
-abbrev pub request_by : List ℕ → Given → Option Request
+abbrev pub request_by : List ℕ → Given → Option BookRequest
 request_by name given =
     option_and_then (λ command. command.1 given.words given.hierarchy given.fail)
     (find (λ command. bytes_eq command.0 name) commands)
@@ -89,14 +89,14 @@ request_by name given =
 -- ---- what words ask for
 
 -- behind the program's name and the book's, which may be any, stand a command's name and its words
-abbrev pub asked_by : List (List ℕ) → Option Request
-asked_by (program ∷ book ∷ name ∷ behind) = option_and_then (request_by name) (given_by behind)
-asked_by _ = None
+abbrev pub request_in_words : List (List ℕ) → Option BookRequest
+request_in_words (program ∷ book ∷ name ∷ behind) = option_and_then (request_by name) (given_by behind)
+request_in_words _ = None
 
 -- the words ask for this
-abbrev pub AsksFor : List (List ℕ) → Request → Type 0
-AsksFor words r = asked_by words ≡ Some r
+abbrev pub AsksFor : List (List ℕ) → BookRequest → Type 0
+AsksFor words r = request_in_words words ≡ Some r
 
 -- the words ask for nothing that there is
 abbrev pub AreRefused : List (List ℕ) → Type 0
-AreRefused words = (r : Request) → AsksFor words r → ⊥
+AreRefused words = (r : BookRequest) → AsksFor words r → ⊥

@@ -6,8 +6,8 @@ use Rattle.plan_base.specs.declared.limits.Caps.{Caps}
 use Rattle.journey_book.specs.Books.{Book, dropped, kept}
 use Rattle.journey_book.specs.Keepers.{KeeperMeaning}
 use Rattle.journey_book.specs.Outcomes.{IsOutcome}
-use Rattle.journey_book.specs.Requests.{AsksFor, Request, keep, drop, list, show, recheck, review}
-use Rattle.journey_book.specs.Sayings.{Scene}
+use Rattle.journey_book.specs.Requests.{AsksFor, BookRequest, keep, drop, list, show, recheck, review}
+use Rattle.journey_book.specs.Sayings.{BookScene}
 use Rattle.journey_book.specs.declared.outcome.BookOutcome.{BookOutcome}
 use Rattle.journey_book.specs.declared.outcome.BookOutcome.TheVariants.{Common}
 use Rattle.run_steps.specs.declared.outcome.Outcome.TheVariants.{Done}
@@ -30,8 +30,8 @@ book_after changes book = fold changed book changes
 -- a run with these words
 pub record Run : Type 0 where
   pub words : List (List ℕ)
-  pub old : Scene
-  pub new : Scene
+  pub old : BookScene
+  pub new : BookScene
   pub outcome : BookOutcome
 
 -- runs, each over the keeper that the one before it left
@@ -42,7 +42,7 @@ AreRuns caps first (run ∷ runs) last =
     × AreRuns caps run.new.keeper runs last
 
 -- whether a request is one to keep or to drop
-abbrev pub may_change : Request → Bool
+abbrev pub may_change : BookRequest → Bool
 may_change (keep name region certificate hierarchy) = true
 may_change (drop name) = true
 may_change list = false
@@ -59,7 +59,7 @@ Does run (keeps name body) =
     × Told run.old.shelf certificate (λ held. held ≡ Some body)
 Does run (drops name) = (run.outcome ≡ Common Done) × AsksFor run.words (drop name)
 Does run nothing =
-    (run.outcome ≡ Common Done → ⊥) ⊎ ((r : Request) × AsksFor run.words r × (may_change r ≡ false))
+    (run.outcome ≡ Common Done → ⊥) ⊎ ((r : BookRequest) × AsksFor run.words r × (may_change r ≡ false))
 
 -- runs one after the other leave the book that their changes make of the first
 abbrev pub RunsFold : Type 0

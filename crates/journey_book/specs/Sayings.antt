@@ -16,22 +16,22 @@ use Rattle.answer_commands.specs.Complete.{SpellsValid}
 use Rattle.answer_commands.specs.Outputs.{best_certificates}
 use Rattle.answer_commands.specs.Working.{HasBoth, IsBothOutcome}
 use Rattle.journey_book.specs.Books.{Book}
-use Rattle.journey_book.specs.Keepers.{KeeperMeaning, Becomes, Stays, Tells}
+use Rattle.journey_book.specs.Keepers.{KeeperMeaning, Becomes, BookStays, Tells}
 use Rattle.journey_book.specs.declared.outcome.BookOutcome.{BookOutcome}
 use Rattle.journey_book.specs.declared.outcome.BookOutcome.TheVariants.{Common, KeepFault, NotWell}
 
 -- what a run works on: the shelf that it reads from, the keeper, and the output
-pub record Scene : Type 0 where
+pub record BookScene : Type 0 where
   pub shelf : ShelfMeaning
   pub keeper : KeeperMeaning
   pub out : SinkMeaning
 
-abbrev pub scene : ShelfMeaning → KeeperMeaning → SinkMeaning → Scene
-scene shelf keeper out = record { shelf = shelf; keeper = keeper; out = out }
+abbrev pub book_scene : ShelfMeaning → KeeperMeaning → SinkMeaning → BookScene
+book_scene shelf keeper out = record { shelf = shelf; keeper = keeper; out = out }
 
 -- a saying speaks of a run, or of the rest of one: of what it works on, before and after, and of the outcome
-abbrev pub Saying : Type 1
-Saying = Scene → Scene → BookOutcome → Type 0
+abbrev pub BookSaying : Type 1
+BookSaying = BookScene → BookScene → BookOutcome → Type 0
 
 -- how a step of a run ends the run, or that it goes on to its end
 abbrev pub end_of : Result ⊤ BookOutcome → BookOutcome
@@ -39,15 +39,15 @@ end_of (Ok _) = Common Done
 end_of (Err outcome) = outcome
 
 -- nothing is written, and the book stays
-abbrev pub IsUntouched : Scene → Scene → Type 0
-IsUntouched old new = sinks.Stays old.out new.out × Stays old.keeper new.keeper
+abbrev pub IsUntouched : BookScene → BookScene → Type 0
+IsUntouched old new = sinks.Stays old.out new.out × BookStays old.keeper new.keeper
 
 -- the run ends so, and nothing is changed
-abbrev pub Ends : BookOutcome → Saying
+abbrev pub Ends : BookOutcome → BookSaying
 Ends end old new outcome = (outcome ≡ end) × IsUntouched old new
 
 -- the run ends as one of the planner that has this cause, and nothing is changed
-abbrev pub EndsBy : (Outcome → Type 0) → Saying
+abbrev pub EndsBy : (Outcome → Type 0) → BookSaying
 EndsBy IsCause old new (Common outcome) = IsCause outcome × IsUntouched old new
 EndsBy IsCause old new _ = ⊥
 
@@ -55,11 +55,11 @@ EndsBy IsCause old new _ = ⊥
 
 -- a region is read, and a hierarchy that is sound for it, if one is named: they are not to be had, or the rest says
 -- this of them
-abbrev pub OnBoth : Caps → List ℕ → Option (List ℕ) → (NetworkLists → Option HierarchyLists → Saying) → Saying
+abbrev pub OnBoth : Caps → List ℕ → Option (List ℕ) → (NetworkLists → Option HierarchyLists → BookSaying) → BookSaying
 OnBoth caps region named rest old new outcome =
     EndsBy (IsBothOutcome caps old.shelf new.shelf region named) old new outcome
     ⊎ ((n : NetworkLists) × (h : Option HierarchyLists) × (mid : ShelfMeaning)
-    × HasBoth caps old.shelf mid region named n h × rest n h (scene mid old.keeper old.out) new outcome)
+    × HasBoth caps old.shelf mid region named n h × rest n h (book_scene mid old.keeper old.out) new outcome)
 
 -- the file of this name was read whole, and spells a certificate that is valid
 pub record HasValid (n : NetworkLists) (h : Option HierarchyLists) (old new : ShelfMeaning)
@@ -83,17 +83,17 @@ IsCertificateOutcome n h old new name outcome =
     IsUnread old new name Certificate outcome ⊎ HasInvalid n h old new name outcome
 
 -- a certificate is read and verified: it is not to be had or not valid, or the rest says this of its bytes
-abbrev pub OnValid : NetworkLists → Option HierarchyLists → List ℕ → (List ℕ → Saying) → Saying
+abbrev pub OnValid : NetworkLists → Option HierarchyLists → List ℕ → (List ℕ → BookSaying) → BookSaying
 OnValid n h name rest old new outcome =
     EndsBy (IsCertificateOutcome n h old.shelf new.shelf name) old new outcome
     ⊎ ((bytes : List ℕ) × (mid : ShelfMeaning) × HasValid n h old.shelf mid name bytes
-    × rest bytes (scene mid old.keeper old.out) new outcome)
+    × rest bytes (book_scene mid old.keeper old.out) new outcome)
 
 -- ---- the book
 
 -- the book, which has P, becomes what the change makes of it; or the keeper fails, or memory runs out, and nothing is
 -- changed
-abbrev pub Changes : (Book → Type 0) → (Book → Book) → Saying
+abbrev pub Changes : (Book → Type 0) → (Book → Book) → BookSaying
 Changes P change old new (Common Done) =
     Tells old.keeper P × Becomes old.keeper new.keeper change × sinks.Stays old.out new.out
 Changes P change old new (Common OutOfMemory) = IsUntouched old new
@@ -108,18 +108,18 @@ BeginsOne IsText part =
     (whole : List ℕ) × (end : BookOutcome) × (count : ℕ) × IsText whole end × (part ≡ take count whole)
 
 -- a text is written with which the run may end so, and the book stays
-abbrev pub HasEnded : (List ℕ → BookOutcome → Type 0) → Saying
-HasEnded IsText old new outcome =
-    HasWritten (λ text. IsText text outcome) old.out new.out × Stays old.keeper new.keeper
+abbrev pub EndsWithText : (List ℕ → BookOutcome → Type 0) → BookSaying
+EndsWithText IsText old new outcome =
+    HasWritten (λ text. IsText text outcome) old.out new.out × BookStays old.keeper new.keeper
 
 -- a text is written, which says how the run ends; or a front of one; or the keeper fails, or memory runs out, and
 -- nothing is written
-abbrev pub Writes : (List ℕ → BookOutcome → Type 0) → Saying
-Writes IsText old new (Common Done) = HasEnded IsText old new (Common Done)
-Writes IsText old new NotWell = HasEnded IsText old new NotWell
+abbrev pub Writes : (List ℕ → BookOutcome → Type 0) → BookSaying
+Writes IsText old new (Common Done) = EndsWithText IsText old new (Common Done)
+Writes IsText old new NotWell = EndsWithText IsText old new NotWell
 Writes IsText old new (Common WriteFault) =
     Rose old.out.faults new.out.faults × HasWritten (BeginsOne IsText) old.out new.out
-    × Stays old.keeper new.keeper
+    × BookStays old.keeper new.keeper
 Writes IsText old new (Common OutOfMemory) = IsUntouched old new
 Writes IsText old new KeepFault = Rose old.keeper.faults new.keeper.faults × IsUntouched old new
 Writes IsText old new _ = ⊥

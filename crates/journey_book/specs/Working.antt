@@ -19,6 +19,6 @@ ended_by (Ok _) end = end
 ended_by (Err outcome) end = Common outcome
 
 -- a refusal of the database was counted, unless memory ran out
-pub record IsRefusal (before after : ℕ) (fault : KeepCause) : Type 0 where
+pub record IsCountedRefusal (before after : ℕ) (fault : KeepCause) : Type 0 where
   pub later : before ≤ after
   pub cause : IsKeepFault (record { book = None; faults = before }) (record { book = None; faults = after }) fault

@@ -1,7 +1,7 @@
 //! The words behind a command: plain ones, and the options among them.
 
 ghost use Rattle.std.specs.Prelude.{◌≡◌, map, option_and_then, option_map, string_bytes};
-ghost use Rattle.journey_book.specs.Given.{is_option, given_by, given_of, nothing_given, with_fail, with_hierarchy, with_plain, with_word};
+ghost use Rattle.journey_book.specs.Given.{is_option, given_by, given_view, nothing_given, with_fail, with_hierarchy, with_plain, with_word};
 
 /// What the words behind a command say.
 #[derive(Clone, Copy)]
@@ -28,7 +28,7 @@ const MOST_WORDS: usize = 6;
 
 /// What the words behind a command say; None where no command has such words.
 pub fn read_given(words: &[String]) -> Option<GivenWords<'_>>
-    ensures { option_map given_of result ≡ given_by (map string_bytes words.now) }
+    ensures { option_map given_view result ≡ given_by (map string_bytes words.now) }
 {
     if words.len() > MOST_WORDS {
         return None;
@@ -38,7 +38,7 @@ pub fn read_given(words: &[String]) -> Option<GivenWords<'_>>
 
 /// The same of few words.
 fn read_few(words: &[String]) -> Option<GivenWords<'_>>
-    ensures { option_map given_of result ≡ given_by (map string_bytes words.now) }
+    ensures { option_map given_view result ≡ given_by (map string_bytes words.now) }
 {
     let [word, rest @ ..] = words else {
         return Some(nothing());
@@ -53,7 +53,7 @@ fn read_few(words: &[String]) -> Option<GivenWords<'_>>
 }
 
 fn nothing() -> GivenWords<'static>
-    ensures { given_of result ≡ nothing_given }
+    ensures { given_view result ≡ nothing_given }
 {
     GivenWords {
         plain: Plain::No,
@@ -64,8 +64,8 @@ fn nothing() -> GivenWords<'static>
 
 /// With this word in front.
 fn with_word<'a>(word: &'a str, given: Option<GivenWords<'a>>) -> Option<GivenWords<'a>>
-    ensures { option_map given_of result
-        ≡ option_and_then (with_word word.now) (option_map given_of given.entry) }
+    ensures { option_map given_view result
+        ≡ option_and_then (with_word word.now) (option_map given_view given.entry) }
 {
     let given = given?;
     if word == "--fail" {
@@ -76,7 +76,7 @@ fn with_word<'a>(word: &'a str, given: Option<GivenWords<'a>>) -> Option<GivenWo
 }
 
 fn with_fail(given: GivenWords<'_>) -> Option<GivenWords<'_>>
-    ensures { option_map given_of result ≡ with_fail (given_of given.entry) }
+    ensures { option_map given_view result ≡ with_fail (given_view given.entry) }
 {
     if given.fail {
         return None;
@@ -90,8 +90,8 @@ fn with_fail(given: GivenWords<'_>) -> Option<GivenWords<'_>>
 
 /// With `--hierarchy` and this file in front.
 fn with_hierarchy<'a>(file: &'a str, given: Option<GivenWords<'a>>) -> Option<GivenWords<'a>>
-    ensures { option_map given_of result
-        ≡ option_and_then (with_hierarchy file.now) (option_map given_of given.entry) }
+    ensures { option_map given_view result
+        ≡ option_and_then (with_hierarchy file.now) (option_map given_view given.entry) }
 {
     let given = given?;
     if is_option(file) || given.hierarchy.is_some() {
@@ -105,7 +105,7 @@ fn with_hierarchy<'a>(file: &'a str, given: Option<GivenWords<'a>>) -> Option<Gi
 }
 
 fn with_plain<'a>(word: &'a str, given: GivenWords<'a>) -> Option<GivenWords<'a>>
-    ensures { option_map given_of result ≡ with_plain word.now (given_of given.entry) }
+    ensures { option_map given_view result ≡ with_plain word.now (given_view given.entry) }
 {
     if is_option(word) {
         return None;

@@ -10,7 +10,7 @@ ghost use Rattle.answer_commands.specs.Outputs.{best_certificates};
 ghost use Rattle.journey_book.specs.Books.{kept};
 ghost use Rattle.journey_book.specs.Commands.{says};
 ghost use Rattle.journey_book.specs.Requests.{keep, drop};
-ghost use Rattle.journey_book.specs.Sayings.{Changes, HasValid, IsCertificateOutcome, OnValid, end_of, scene};
+ghost use Rattle.journey_book.specs.Sayings.{Changes, HasValid, IsCertificateOutcome, OnValid, book_scene, end_of};
 
 use crate::keeper::Keeper;
 use crate::outcome::BookOutcome;
@@ -39,8 +39,8 @@ pub(crate) fn keep<F: Shelf, K: Keeper, E: Sink>(
 ) -> Result<(), BookOutcome>
     ensures { (out : SinkMeaning) → says caps.now
         (keep name.now region.now certificate.now (option_map (λ it. it.now) hierarchy.entry))
-        (scene (F.meaning shelf.old) (K.meaning keeper.old) out)
-        (scene (F.meaning shelf.new) (K.meaning keeper.new) out) (end_of result) }
+        (book_scene (F.meaning shelf.old) (K.meaning keeper.old) out)
+        (book_scene (F.meaning shelf.new) (K.meaning keeper.new) out) (end_of result) }
 {
     match read_both(alloc, region, hierarchy, shelf, notes, caps) {
         Ok(both) => keep_over(
@@ -72,8 +72,8 @@ fn keep_over<F: Shelf, K: Keeper, E: Sink>(
     requires { IfSome hierarchy (λ h. IsSound network.now h.now) }
     ensures { (out : SinkMeaning) → OnValid network.now (option_map (λ h. h.now) hierarchy.entry)
         certificate.now (λ bytes. Changes (λ book. Unit {0}) (kept name.now bytes))
-        (scene (F.meaning shelf.old) (K.meaning keeper.old) out)
-        (scene (F.meaning shelf.new) (K.meaning keeper.new) out) (end_of result) }
+        (book_scene (F.meaning shelf.old) (K.meaning keeper.old) out)
+        (book_scene (F.meaning shelf.new) (K.meaning keeper.new) out) (end_of result) }
 {
     match read_valid(alloc, network, hierarchy, certificate, shelf, notes) {
         Ok(bytes) => put(name, bytes.as_slice(), keeper),
@@ -84,8 +84,8 @@ fn keep_over<F: Shelf, K: Keeper, E: Sink>(
 /// Keeps bytes under a name.
 fn put<K: Keeper>(name: &str, bytes: &[u8], keeper: &mut K) -> Result<(), BookOutcome>
     ensures { (shelf : ShelfMeaning) (out : SinkMeaning) → Changes (λ book. Unit {0})
-        (kept name.now bytes.now) (scene shelf (K.meaning keeper.old) out)
-        (scene shelf (K.meaning keeper.new) out) (end_of result) }
+        (kept name.now bytes.now) (book_scene shelf (K.meaning keeper.old) out)
+        (book_scene shelf (K.meaning keeper.new) out) (end_of result) }
 {
     match keeper.put(name, bytes) {
         Ok(()) => Ok(()),
@@ -163,7 +163,8 @@ pub(crate) fn drop_name<K: Keeper>(
     caps: &Caps,
 ) -> Result<(), BookOutcome>
     ensures { (shelf : ShelfMeaning) (out : SinkMeaning) → says caps.now (drop name.now)
-        (scene shelf (K.meaning keeper.old) out) (scene shelf (K.meaning keeper.new) out) (end_of result) }
+        (book_scene shelf (K.meaning keeper.old) out) (book_scene shelf (K.meaning keeper.new) out)
+        (end_of result) }
 {
     match keeper.remove(name) {
         Ok(true) => Ok(()),

@@ -2,8 +2,8 @@
 
 ghost use Rattle.std.specs.Prelude.{◌≡◌, ◌≤◌, ℕ, List, Some, is_some, option_map, map as each, string_bytes, IfErr, IfOk, OnErr, OnOk};
 ghost use Rattle.journey_book.specs.Books.{AreNamesOf, dropped, kept};
-ghost use Rattle.journey_book.specs.Keepers.{Becomes, IsKeepFault, Stays, Tells};
-ghost use Rattle.journey_book.specs.Memory.{IsCounted, IsFresh, book_of, has_failed, memory_meaning};
+ghost use Rattle.journey_book.specs.Keepers.{Becomes, BookStays, IsKeepFault, Tells};
+ghost use Rattle.journey_book.specs.Memory.{IsCounted, IsUncalled, book_of, has_failed, memory_meaning};
 
 use crate::keeper::{KeepFault, Keeper};
 use std::alloc::{AllocError, Global};
@@ -23,7 +23,7 @@ impl MemoryKeeper {
     /// A keeper of this book. The calls whose numbers, from 1, are in `fail` fail.
     pub fn new(alloc: Global, map: BTreeMap<String, Vec<u8>>, fail: Vec<u64>) -> MemoryKeeper
         ensures book { memory_meaning result ≡ record { book = Some (book_of map); faults = 0 } }
-        ensures calls { IsFresh result fail.items }
+        ensures calls { IsUncalled result fail.items }
     {
         MemoryKeeper {
             alloc,
@@ -57,7 +57,8 @@ fn put_in(
     name: &str,
     body: &[u8],
 ) -> Result<(), AllocError>
-    ensures ok { OnOk result ((other : List ℕ) → book_of map.new other ≡ kept name.now body.now (book_of map.old) other) }
+    ensures ok { OnOk result ((other : List ℕ) → book_of map.new other ≡ kept name.now body.now
+        (book_of map.old) other) }
     ensures same { OnErr result ((other : List ℕ) → book_of map.new other ≡ book_of map.old other) }
 {
     let key = String::from_str(alloc, name)?;
@@ -106,8 +107,9 @@ impl Keeper for MemoryKeeper {
 
     fn put(&mut self, name: &str, body: &[u8]) -> Result<(), KeepFault>
         ensures later { (memory_meaning self.old).faults ≤ (memory_meaning self.new).faults }
-        ensures ok { OnOk result (Becomes (memory_meaning self.old) (memory_meaning self.new) (kept name.now body.now)) }
-        ensures same { OnErr result (Stays (memory_meaning self.old) (memory_meaning self.new)) }
+        ensures ok { OnOk result (Becomes (memory_meaning self.old) (memory_meaning self.new)
+            (kept name.now body.now)) }
+        ensures same { OnErr result (BookStays (memory_meaning self.old) (memory_meaning self.new)) }
         ensures cause { IfErr result (IsKeepFault (memory_meaning self.old) (memory_meaning self.new)) }
         ensures counted { IsCounted self.old self.new (has_failed result) }
     {
@@ -118,9 +120,11 @@ impl Keeper for MemoryKeeper {
 
     fn remove(&mut self, name: &str) -> Result<bool, KeepFault>
         ensures later { (memory_meaning self.old).faults ≤ (memory_meaning self.new).faults }
-        ensures ok { OnOk result (Becomes (memory_meaning self.old) (memory_meaning self.new) (dropped name.now)) }
-        ensures was { IfOk result (λ was. Tells (memory_meaning self.old) (λ book. is_some (book name.now) ≡ was)) }
-        ensures same { OnErr result (Stays (memory_meaning self.old) (memory_meaning self.new)) }
+        ensures ok { OnOk result (Becomes (memory_meaning self.old) (memory_meaning self.new)
+            (dropped name.now)) }
+        ensures was { IfOk result (λ was. Tells (memory_meaning self.old)
+            (λ book. is_some (book name.now) ≡ was)) }
+        ensures same { OnErr result (BookStays (memory_meaning self.old) (memory_meaning self.new)) }
         ensures cause { IfErr result (IsKeepFault (memory_meaning self.old) (memory_meaning self.new)) }
         ensures counted { IsCounted self.old self.new (has_failed result) }
     {
@@ -130,8 +134,9 @@ impl Keeper for MemoryKeeper {
 
     fn get(&mut self, name: &str) -> Result<Option<Vec<u8>>, KeepFault>
         ensures later { (memory_meaning self.old).faults ≤ (memory_meaning self.new).faults }
-        ensures ok { IfOk result (λ held. Tells (memory_meaning self.old) (λ book. book name.now ≡ option_map (λ body. body.items) held)) }
-        ensures same { Stays (memory_meaning self.old) (memory_meaning self.new) }
+        ensures ok { IfOk result (λ held. Tells (memory_meaning self.old)
+            (λ book. book name.now ≡ option_map (λ body. body.items) held)) }
+        ensures same { BookStays (memory_meaning self.old) (memory_meaning self.new) }
         ensures cause { IfErr result (IsKeepFault (memory_meaning self.old) (memory_meaning self.new)) }
         ensures counted { IsCounted self.old self.new (has_failed result) }
     {
@@ -142,8 +147,9 @@ impl Keeper for MemoryKeeper {
 
     fn names(&mut self) -> Result<Vec<String>, KeepFault>
         ensures later { (memory_meaning self.old).faults ≤ (memory_meaning self.new).faults }
-        ensures ok { IfOk result (λ names. Tells (memory_meaning self.old) (λ book. AreNamesOf book (each string_bytes names.items))) }
-        ensures same { Stays (memory_meaning self.old) (memory_meaning self.new) }
+        ensures ok { IfOk result (λ names. Tells (memory_meaning self.old)
+            (λ book. AreNamesOf book (each string_bytes names.items))) }
+        ensures same { BookStays (memory_meaning self.old) (memory_meaning self.new) }
         ensures cause { IfErr result (IsKeepFault (memory_meaning self.old) (memory_meaning self.new)) }
         ensures counted { IsCounted self.old self.new (has_failed result) }
     {

@@ -4,7 +4,7 @@ ghost use Rattle.std.specs.Prelude.{◌≡◌, ◌≤◌, ℕ, List, ◌++◌, �
 ghost use Rattle.plain_texts.specs.Lines.{with_feed};
 ghost use Rattle.journey.specs.Blocks.{AddsText};
 ghost use Rattle.certificate.specs.Valid.{HaveTimes};
-ghost use Rattle.journey_book.specs.Keepers.{IsKeepFault, Stays};
+ghost use Rattle.journey_book.specs.Keepers.{BookStays, IsKeepFault};
 ghost use Rattle.journey_book.specs.Reports.{HasReported, IsReport, IsSaid, IsSaidOn};
 
 use crate::keeper::{KeepFault, Keeper};
@@ -63,7 +63,7 @@ pub fn report_of<R: Report, K: Keeper>(
     ensures later { (K.meaning keeper.old).faults ≤ (K.meaning keeper.new).faults }
     ensures ok { IfOk result (λ it. IsReport (R.rule report.now) (K.meaning keeper.old)
         it.text.items it.well) }
-    ensures same { Stays (K.meaning keeper.old) (K.meaning keeper.new) }
+    ensures same { BookStays (K.meaning keeper.old) (K.meaning keeper.new) }
     ensures cause { IfErr result (IsKeepFault (K.meaning keeper.old) (K.meaning keeper.new)) }
 {
     let names = keeper.names()?;
@@ -81,7 +81,7 @@ fn report_all<R: Report, K: Keeper>(
     ensures later { (K.meaning keeper.old).faults ≤ (K.meaning keeper.new).faults }
     ensures ok { IfOk result (λ it. HasReported (R.rule report.now) (K.meaning keeper.old)
         (map string_bytes names.now) it.text.items it.well) }
-    ensures same { Stays (K.meaning keeper.old) (K.meaning keeper.new) }
+    ensures same { BookStays (K.meaning keeper.old) (K.meaning keeper.new) }
     ensures cause { IfErr result (IsKeepFault (K.meaning keeper.old) (K.meaning keeper.new)) }
 {
     let mut room = Room::new(alloc);

@@ -123,7 +123,8 @@ fn push_arrival(
 ) -> Result<(), AllocError>
     requires depart { depart < 2 ^ 64 }
     requires times { IfSome kept.now (λ kept. (kept.0 < time_bound) × HasTimes kept.1) }
-    ensures { OnOk result (text.new.items ≡ text.old.items ++ arrival_words network.now depart arrival kept.now) }
+    ensures { OnOk result (text.new.items ≡ text.old.items ++ arrival_words network.now depart arrival
+        kept.now) }
 {
     match kept {
         Some((at, journey)) => {
@@ -159,7 +160,8 @@ fn push_clock(
     at: Time,
     text: &mut Vec<u8>,
 ) -> Result<(), AllocError>
-    ensures { OnOk result (text.new.items ≡ text.old.items ++ (word.now ++ clock_text_of network.now.days at)) }
+    ensures { OnOk result (text.new.items ≡ text.old.items ++
+        (word.now ++ clock_text_of network.now.days at)) }
 {
     text.extend_from_slice(word)?;
     network.days().push_clock(text, at)

@@ -5,7 +5,7 @@ ghost use Rattle.plan_base.specs.declared.limits.Caps.{Caps};
 ghost use Rattle.journey_book.specs.Commands.{says};
 ghost use Rattle.journey_book.specs.Outcomes.{AreFull, IsComplete, IsOutcome};
 ghost use Rattle.journey_book.specs.Requests.{request_of};
-ghost use Rattle.journey_book.specs.Sayings.{end_of, scene};
+ghost use Rattle.journey_book.specs.Sayings.{book_scene, end_of};
 
 use crate::keeper::Keeper;
 use crate::keeping::{drop_name, keep};
@@ -28,8 +28,8 @@ fn carry_out<F: Shelf, K: Keeper, O: Sink, E: Sink>(
     caps: &Caps,
 ) -> Result<(), BookOutcome>
     ensures { says caps.now (request_of command.entry)
-        (scene (F.meaning shelf.old) (K.meaning keeper.old) (O.meaning out.old))
-        (scene (F.meaning shelf.new) (K.meaning keeper.new) (O.meaning out.new)) (end_of result) }
+        (book_scene (F.meaning shelf.old) (K.meaning keeper.old) (O.meaning out.old))
+        (book_scene (F.meaning shelf.new) (K.meaning keeper.new) (O.meaning out.new)) (end_of result) }
 {
     match command {
         BookCommand::Keep {
@@ -79,11 +79,11 @@ pub fn run_book_within<F: Shelf, K: Keeper, O: Sink, E: Sink>(
     caps: &Caps,
 ) -> BookOutcome
     ensures outcome { IsOutcome caps.now (map string_bytes words.now)
-        (scene (F.meaning shelf.old) (K.meaning keeper.old) (O.meaning out.old))
-        (scene (F.meaning shelf.new) (K.meaning keeper.new) (O.meaning out.new)) result }
+        (book_scene (F.meaning shelf.old) (K.meaning keeper.old) (O.meaning out.old))
+        (book_scene (F.meaning shelf.new) (K.meaning keeper.new) (O.meaning out.new)) result }
     ensures complete { IsComplete caps.now (map string_bytes words.now)
-        (scene (F.meaning shelf.old) (K.meaning keeper.old) (O.meaning out.old))
-        (scene (F.meaning shelf.new) (K.meaning keeper.new) (O.meaning out.new)) result }
+        (book_scene (F.meaning shelf.old) (K.meaning keeper.old) (O.meaning out.old))
+        (book_scene (F.meaning shelf.new) (K.meaning keeper.new) (O.meaning out.new)) result }
 {
     let Some(command) = read_words(words) else {
         return BookOutcome::Common(Outcome::Usage);
@@ -113,11 +113,11 @@ pub fn run_book<F: Shelf, K: Keeper, O: Sink, E: Sink>(
     notes: &mut E,
 ) -> BookOutcome
     ensures outcome { (caps : Caps) × AreFull caps × IsOutcome caps (map string_bytes words.now)
-        (scene (F.meaning shelf.old) (K.meaning keeper.old) (O.meaning out.old))
-        (scene (F.meaning shelf.new) (K.meaning keeper.new) (O.meaning out.new)) result }
+        (book_scene (F.meaning shelf.old) (K.meaning keeper.old) (O.meaning out.old))
+        (book_scene (F.meaning shelf.new) (K.meaning keeper.new) (O.meaning out.new)) result }
     ensures complete { (caps : Caps) × AreFull caps × IsComplete caps (map string_bytes words.now)
-        (scene (F.meaning shelf.old) (K.meaning keeper.old) (O.meaning out.old))
-        (scene (F.meaning shelf.new) (K.meaning keeper.new) (O.meaning out.new)) result }
+        (book_scene (F.meaning shelf.old) (K.meaning keeper.old) (O.meaning out.old))
+        (book_scene (F.meaning shelf.new) (K.meaning keeper.new) (O.meaning out.new)) result }
 {
     let outcome = run_book_within(alloc, words, shelf, keeper, out, notes, &Caps::FULL);
     tell_end(alloc, words, outcome, notes);

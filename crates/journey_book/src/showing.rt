@@ -8,7 +8,7 @@ ghost use Rattle.journey_book.specs.Commands.{says};
 ghost use Rattle.journey_book.specs.Requests.{list, show, recheck, review};
 ghost use Rattle.journey_book.specs.Reports.{IsReported, end_by, recheck_rule};
 ghost use Rattle.journey_book.specs.Reviews.{review_rule};
-ghost use Rattle.journey_book.specs.Sayings.{Writes, end_of, scene};
+ghost use Rattle.journey_book.specs.Sayings.{Writes, book_scene, end_of};
 
 use crate::keeper::Keeper;
 use crate::outcome::BookOutcome;
@@ -32,8 +32,8 @@ pub(crate) fn list<K: Keeper, O: Sink>(
     caps: &Caps,
 ) -> Result<(), BookOutcome>
     ensures { (shelf : ShelfMeaning) → says caps.now list
-        (scene shelf (K.meaning keeper.old) (O.meaning out.old))
-        (scene shelf (K.meaning keeper.new) (O.meaning out.new)) (end_of result) }
+        (book_scene shelf (K.meaning keeper.old) (O.meaning out.old))
+        (book_scene shelf (K.meaning keeper.new) (O.meaning out.new)) (end_of result) }
 {
     let names = match keeper.names() {
         Ok(names) => names,
@@ -65,8 +65,8 @@ pub(crate) fn show<K: Keeper, O: Sink>(
     caps: &Caps,
 ) -> Result<(), BookOutcome>
     ensures { (shelf : ShelfMeaning) → says caps.now (show name.now)
-        (scene shelf (K.meaning keeper.old) (O.meaning out.old))
-        (scene shelf (K.meaning keeper.new) (O.meaning out.new)) (end_of result) }
+        (book_scene shelf (K.meaning keeper.old) (O.meaning out.old))
+        (book_scene shelf (K.meaning keeper.new) (O.meaning out.new)) (end_of result) }
 {
     match keeper.get(name) {
         Ok(Some(body)) => ended(write_text(out, &body), Ok(())),
@@ -88,8 +88,8 @@ pub(crate) fn recheck_all<F: Shelf, K: Keeper, O: Sink, E: Sink>(
     caps: &Caps,
 ) -> Result<(), BookOutcome>
     ensures { says caps.now (recheck region.now (option_map (λ it. it.now) hierarchy.entry) fail)
-        (scene (F.meaning shelf.old) (K.meaning keeper.old) (O.meaning out.old))
-        (scene (F.meaning shelf.new) (K.meaning keeper.new) (O.meaning out.new)) (end_of result) }
+        (book_scene (F.meaning shelf.old) (K.meaning keeper.old) (O.meaning out.old))
+        (book_scene (F.meaning shelf.new) (K.meaning keeper.new) (O.meaning out.new)) (end_of result) }
 {
     match read_both(alloc, region, hierarchy, shelf, notes, caps) {
         Ok(both) => recheck_over(alloc, &both.0, both.1.as_ref(), fail, keeper, out),
@@ -110,8 +110,8 @@ fn recheck_over<K: Keeper, O: Sink>(
     ensures { (shelf : ShelfMeaning) → Writes
         (IsReported (recheck_rule network.now (option_map (λ h. h.now) hierarchy.entry)) fail
         (K.meaning keeper.old))
-        (scene shelf (K.meaning keeper.old) (O.meaning out.old))
-        (scene shelf (K.meaning keeper.new) (O.meaning out.new)) (end_of result) }
+        (book_scene shelf (K.meaning keeper.old) (O.meaning out.old))
+        (book_scene shelf (K.meaning keeper.new) (O.meaning out.new)) (end_of result) }
 {
     let recheck = Recheck { network, hierarchy };
     write_report(alloc, &recheck, fail, keeper, out)
@@ -130,8 +130,8 @@ pub(crate) fn review_all<F: Shelf, K: Keeper, O: Sink, E: Sink>(
     caps: &Caps,
 ) -> Result<(), BookOutcome>
     ensures { says caps.now (review region.now (option_map (λ it. it.now) hierarchy.entry) fail)
-        (scene (F.meaning shelf.old) (K.meaning keeper.old) (O.meaning out.old))
-        (scene (F.meaning shelf.new) (K.meaning keeper.new) (O.meaning out.new)) (end_of result) }
+        (book_scene (F.meaning shelf.old) (K.meaning keeper.old) (O.meaning out.old))
+        (book_scene (F.meaning shelf.new) (K.meaning keeper.new) (O.meaning out.new)) (end_of result) }
 {
     match read_both(alloc, region, hierarchy, shelf, notes, caps) {
         Ok(both) => review_over(alloc, &both.0, both.1.as_ref(), fail, keeper, out),
@@ -151,8 +151,8 @@ fn review_over<K: Keeper, O: Sink>(
     requires { IfSome hierarchy (λ h. IsSound network.now h.now) }
     ensures { (shelf : ShelfMeaning) → Writes
         (IsReported (review_rule network.now) fail (K.meaning keeper.old))
-        (scene shelf (K.meaning keeper.old) (O.meaning out.old))
-        (scene shelf (K.meaning keeper.new) (O.meaning out.new)) (end_of result) }
+        (book_scene shelf (K.meaning keeper.old) (O.meaning out.old))
+        (book_scene shelf (K.meaning keeper.new) (O.meaning out.new)) (end_of result) }
 {
     let review = Review { network, hierarchy };
     write_report(alloc, &review, fail, keeper, out)
@@ -168,8 +168,8 @@ fn write_report<R: Report, K: Keeper, O: Sink>(
 ) -> Result<(), BookOutcome>
     requires { R.may report.now }
     ensures { (shelf : ShelfMeaning) → Writes (IsReported (R.rule report.now) fail (K.meaning keeper.old))
-        (scene shelf (K.meaning keeper.old) (O.meaning out.old))
-        (scene shelf (K.meaning keeper.new) (O.meaning out.new)) (end_of result) }
+        (book_scene shelf (K.meaning keeper.old) (O.meaning out.old))
+        (book_scene shelf (K.meaning keeper.new) (O.meaning out.new)) (end_of result) }
 {
     match report_of(alloc, report, keeper) {
         Ok(reported) => ended(write_text(out, &reported.text), end_by(fail, reported.well)),

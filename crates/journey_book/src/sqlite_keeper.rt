@@ -1,6 +1,6 @@
 //! A keeper over an SQLite database. It tells nothing of what it keeps.
 
-ghost use Rattle.journey_book.specs.Working.{IsRefusal};
+ghost use Rattle.journey_book.specs.Working.{IsCountedRefusal};
 
 use crate::keeper::{KeepFault, Keeper};
 use crate::words::is_name;
@@ -62,7 +62,7 @@ impl<S: Alter> SqliteKeeper<S> {
 
     /// Counts a refusal, unless memory ran out.
     fn refused(&mut self, refusal: Refusal) -> KeepFault
-        ensures { IsRefusal self.old.faults self.new.faults result }
+        ensures { IsCountedRefusal self.old.faults self.new.faults result }
     {
         match refusal {
             Refusal::Database(Error::SqliteFailure(ErrorCode::OutOfMemory)) =>

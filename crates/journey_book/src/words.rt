@@ -2,8 +2,8 @@
 
 ghost use Rattle.std.specs.Prelude.{◌≡◌, map, option_and_then, option_map, string_bytes};
 ghost use Rattle.std.specs.List.{list_all};
-ghost use Rattle.journey_book.specs.Given.{given_of};
-ghost use Rattle.journey_book.specs.Requests.{asked_by, begins_name, drop_by, is_letter_or_digit, is_name, is_name_byte, keep_by, list_by, recheck_by, request_by, request_of, review_by, show_by};
+ghost use Rattle.journey_book.specs.Given.{given_view};
+ghost use Rattle.journey_book.specs.Requests.{begins_name, drop_by, is_book_name, is_book_name_byte, is_letter_or_digit, keep_by, list_by, recheck_by, request_by, request_in_words, request_of, review_by, show_by};
 
 use crate::given::{GivenWords, Plain, read_given};
 
@@ -46,7 +46,7 @@ pub enum BookCommand<'a> {
 /// The command that the words ask for: the program's name, the book's, the command's, and what it works on. None exactly where they
 /// ask for nothing.
 pub fn read_words(words: &[String]) -> Option<BookCommand<'_>>
-    ensures { option_map request_of result ≡ asked_by (map string_bytes words.now) }
+    ensures { option_map request_of result ≡ request_in_words (map string_bytes words.now) }
 {
     match words {
         [_, _, command, behind @ ..] => named_behind(command.as_str(), read_given(behind)),
@@ -57,14 +57,14 @@ pub fn read_words(words: &[String]) -> Option<BookCommand<'_>>
 /// The command of this name, if the words behind it are those of any.
 fn named_behind<'a>(command: &str, given: Option<GivenWords<'a>>) -> Option<BookCommand<'a>>
     ensures { option_map request_of result
-        ≡ option_and_then (request_by command.now) (option_map given_of given.entry) }
+        ≡ option_and_then (request_by command.now) (option_map given_view given.entry) }
 {
     named(command, given?)
 }
 
 /// The command of this name, behind which this stands.
 fn named<'a>(command: &str, given: GivenWords<'a>) -> Option<BookCommand<'a>>
-    ensures { option_map request_of result ≡ request_by command.now (given_of given.entry) }
+    ensures { option_map request_of result ≡ request_by command.now (given_view given.entry) }
 {
     match command {
         "keep" => keep(given),
@@ -79,7 +79,7 @@ fn named<'a>(command: &str, given: GivenWords<'a>) -> Option<BookCommand<'a>>
 
 fn keep(given: GivenWords<'_>) -> Option<BookCommand<'_>>
     ensures { option_map request_of result
-        ≡ keep_by (given_of given.entry).words (given_of given.entry).hierarchy given.entry.fail }
+        ≡ keep_by (given_view given.entry).words (given_view given.entry).hierarchy given.entry.fail }
 {
     if given.fail {
         return None;
@@ -103,7 +103,7 @@ fn keep(given: GivenWords<'_>) -> Option<BookCommand<'_>>
 
 fn drop_name(given: GivenWords<'_>) -> Option<BookCommand<'_>>
     ensures { option_map request_of result
-        ≡ drop_by (given_of given.entry).words (given_of given.entry).hierarchy given.entry.fail }
+        ≡ drop_by (given_view given.entry).words (given_view given.entry).hierarchy given.entry.fail }
 {
     if given.fail || given.hierarchy.is_some() {
         return None;
@@ -122,7 +122,7 @@ fn drop_name(given: GivenWords<'_>) -> Option<BookCommand<'_>>
 
 fn list(given: GivenWords<'_>) -> Option<BookCommand<'_>>
     ensures { option_map request_of result
-        ≡ list_by (given_of given.entry).words (given_of given.entry).hierarchy given.entry.fail }
+        ≡ list_by (given_view given.entry).words (given_view given.entry).hierarchy given.entry.fail }
 {
     if given.fail || given.hierarchy.is_some() {
         return None;
@@ -135,7 +135,7 @@ fn list(given: GivenWords<'_>) -> Option<BookCommand<'_>>
 
 fn show(given: GivenWords<'_>) -> Option<BookCommand<'_>>
     ensures { option_map request_of result
-        ≡ show_by (given_of given.entry).words (given_of given.entry).hierarchy given.entry.fail }
+        ≡ show_by (given_view given.entry).words (given_view given.entry).hierarchy given.entry.fail }
 {
     if given.fail || given.hierarchy.is_some() {
         return None;
@@ -154,7 +154,7 @@ fn show(given: GivenWords<'_>) -> Option<BookCommand<'_>>
 
 fn recheck(given: GivenWords<'_>) -> Option<BookCommand<'_>>
     ensures { option_map request_of result
-        ≡ recheck_by (given_of given.entry).words (given_of given.entry).hierarchy given.entry.fail }
+        ≡ recheck_by (given_view given.entry).words (given_view given.entry).hierarchy given.entry.fail }
 {
     match given.plain {
         Plain::One(region) => Some(BookCommand::Recheck {
@@ -168,7 +168,7 @@ fn recheck(given: GivenWords<'_>) -> Option<BookCommand<'_>>
 
 fn review(given: GivenWords<'_>) -> Option<BookCommand<'_>>
     ensures { option_map request_of result
-        ≡ review_by (given_of given.entry).words (given_of given.entry).hierarchy given.entry.fail }
+        ≡ review_by (given_view given.entry).words (given_view given.entry).hierarchy given.entry.fail }
 {
     match given.plain {
         Plain::One(region) => Some(BookCommand::Review {
@@ -182,20 +182,20 @@ fn review(given: GivenWords<'_>) -> Option<BookCommand<'_>>
 
 /// Whether a word is a name: 1 to 64 small letters, digits, `-` and `_`, the first a letter or a digit.
 pub(crate) fn is_name(word: &[u8]) -> bool
-    ensures { result ≡ is_name word.now }
+    ensures { result ≡ is_book_name word.now }
 {
     begins_name(word) && word.len() <= 64 && are_name_bytes(word)
 }
 
 /// Whether all bytes may stand in a name.
 fn are_name_bytes(word: &[u8]) -> bool
-    ensures { result ≡ list_all is_name_byte word.now }
+    ensures { result ≡ list_all is_book_name_byte word.now }
 {
     word.iter().all(is_name_byte)
 }
 
 fn is_name_byte(b: &u8) -> bool
-    ensures { result ≡ is_name_byte b.now }
+    ensures { result ≡ is_book_name_byte b.now }
 {
     is_letter_or_digit(*b) || *b == b'-' || *b == b'_'
 }

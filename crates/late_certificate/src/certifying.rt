@@ -46,7 +46,8 @@ pub fn certify_late_within(
     requires line { IsLine query.line }
     ensures certificate { IfEnded result (IsLateCertificateOf network.now query.line) }
     ensures few { IfEnded result (λ c. IfSome limit (λ most. length c.labels ≤ most)) }
-    ensures stopped { IfStopped result (λ most. (limit ≡ Some most) × LateSearchHasMore network.now (asked_by query) most) }
+    ensures stopped { IfStopped result (λ most. (limit ≡ Some most)
+        × LateSearchHasMore network.now (asked_by query) most) }
 {
     network.known();
     network.days().facts();

@@ -29,7 +29,8 @@ fn push_departure(out: &mut Vec<u8>, at: Time) -> Result<(), AllocError>
 fn push_result(out: &mut Vec<u8>, answer: &Option<Journey>) -> Result<(), AllocError>
     requires { FitsLateResult answer.now }
     ensures fit { OnOk result (AllByRecursion FitsLine (result_lines answer.now)) }
-    ensures lines { OnOk result (out.new.items ≡ out.old.items ++ lines_text (map spelled (result_lines answer.now))) }
+    ensures lines { OnOk result (out.new.items ≡ out.old.items ++ lines_text
+        (map spelled (result_lines answer.now))) }
 {
     match answer {
         Some(journey) => {
@@ -44,7 +45,8 @@ fn push_result(out: &mut Vec<u8>, answer: &Option<Journey>) -> Result<(), AllocE
 
 /// The lines before the result: the head and the query line.
 fn push_front(out: &mut Vec<u8>, query: &[u8]) -> Result<(), AllocError>
-    ensures { OnOk result (out.new.items ≡ out.old.items ++ lines_text (map spelled (front_lines query.now))) }
+    ensures { OnOk result (out.new.items ≡ out.old.items ++ lines_text
+        (map spelled (front_lines query.now))) }
 {
     out.extend_from_slice(b"modeplan late 1\n")?;
     push_query(out, query)?;

@@ -77,7 +77,8 @@ fn verify_claim(
     requires usable { IsUsable (form_of query.now.expr) }
     requires times { HaveTimes (claim_on query.now claimed.now labels.now) }
     ensures verdict { IfOk result (IsLateVerdict network.now (claim_on query.now claimed.now labels.now)) }
-    ensures proves { IfOk result (λ verdict. verdict ≡ Valid → ProvesLate network.now (claim_on query.now claimed.now labels.now)) }
+    ensures proves { IfOk result (λ verdict. verdict ≡ Valid
+        → ProvesLate network.now (claim_on query.now claimed.now labels.now)) }
 {
     network.known();
     network.days().facts();
@@ -117,7 +118,8 @@ fn verify_claim(
 fn late_bound(deadline: Time, span: Time, claimed: &Option<Journey>) -> Time
     requires span { span < 2 ^ 57 }
     requires in_time { IfSome claimed.now (λ j. j.at ≤ deadline) }
-    ensures { (n : NetworkLists) (q : Asked) → q.depart ≡ deadline → late.span n q ≡ span → result ≡ late_bound n q claimed.now }
+    ensures { (n : NetworkLists) (q : Asked) → q.depart ≡ deadline → late.span n q ≡ span
+        → result ≡ late_bound n q claimed.now }
 {
     match claimed {
         Some(journey) => deadline - journey.at,

@@ -19,8 +19,8 @@ abbrev pub CountsNothing : List ℕ → ℕ → Type 0
 CountsNothing line count = count ≡ 0
 
 -- the right late block of a query line, of so many places and so many labels at most
-abbrev pub IsLatest : NetworkLists → Limits → List ℕ → List ℕ → Type 0
-IsLatest n limits line block = IsBlockUnder n limits.places (IsLateBlockWithin n limits.labels) line block
+abbrev pub IsLatestBlock : NetworkLists → Limits → List ℕ → List ℕ → Type 0
+IsLatestBlock n limits line block = IsBlockUnder n limits.places (IsLateBlockWithin n limits.labels) line block
 
 -- `few` writes for each query line, of so many places at most, the block of its boardings list
 abbrev pub SaysFew : Caps → (places : Option ℕ) → List ℕ → List ℕ → Saying
@@ -28,7 +28,7 @@ SaysFew caps places region queries = OnRegion caps region (λ n. AnswersFile Que
 
 -- `latest` writes for each query line its late block within the limits
 abbrev pub SaysLatest : Caps → Limits → List ℕ → List ℕ → Saying
-SaysLatest caps limits region queries = OnRegion caps region (λ n. AnswersFile Queries queries (IsLatest n limits))
+SaysLatest caps limits region queries = OnRegion caps region (λ n. AnswersFile Queries queries (IsLatestBlock n limits))
 
 -- `profile` writes for each query line, of so many places at most, the block of the departures of the window, which is in milliseconds
 abbrev pub SaysProfile : Caps → (places : Option ℕ) → List ℕ → List ℕ → ℕ → Saying

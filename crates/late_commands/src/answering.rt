@@ -26,7 +26,8 @@ impl LineBlocks for FewBlocks<'_> {
     ghost use Rattle.few_boardings.specs.Blocks.{IsFewBlock};
     ghost use Rattle.late_commands.specs.Commands.{CountsNothing};
 
-    ghost is_block = { λ blocks. IsBlockUnder blocks.network.now blocks.places (IsFewBlock blocks.network.now) };
+    ghost is_block = { λ blocks. IsBlockUnder blocks.network.now blocks.places
+        (IsFewBlock blocks.network.now) };
 
     ghost counts = { λ _. CountsNothing };
 
@@ -58,9 +59,9 @@ struct LateBlocks<'a> {
 }
 
 impl LineBlocks for LateBlocks<'_> {
-    ghost use Rattle.late_commands.specs.Commands.{CountsNothing, IsLatest};
+    ghost use Rattle.late_commands.specs.Commands.{CountsNothing, IsLatestBlock};
 
-    ghost is_block = { λ blocks. IsLatest blocks.backwards.now.network blocks.limits };
+    ghost is_block = { λ blocks. IsLatestBlock blocks.backwards.now.network blocks.limits };
 
     ghost counts = { λ _. CountsNothing };
 

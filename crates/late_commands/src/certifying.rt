@@ -94,7 +94,8 @@ fn refused(
     line: &[u8],
     fault: QueryFault,
 ) -> Result<Vec<u8>, AllocError>
-    ensures { IfOk result (λ text. (fault ≢ OutOfMemory) × IsBlockText network.now line.now (Refused fault) text.items) }
+    ensures { IfOk result (λ text. (fault ≢ OutOfMemory) × IsBlockText network.now line.now (Refused fault)
+        text.items) }
 {
     match fault {
         QueryFault::OutOfMemory => Err(AllocError),

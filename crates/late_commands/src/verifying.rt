@@ -76,7 +76,8 @@ fn claimed_block(
     certificate: LateCertificate,
 ) -> Result<Vec<u8>, AllocError>
     requires { IfSome certificate.result (IsPrintable network.now) }
-    ensures { IfOk result (λ block. IsAnswerBlock network.now certificate.line certificate.result block.items) }
+    ensures { IfOk result (λ block. IsAnswerBlock network.now certificate.line certificate.result
+        block.items) }
 {
     let LateCertificate {
         line,

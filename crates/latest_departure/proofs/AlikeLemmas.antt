@@ -17,7 +17,7 @@ use Rattle.automaton.specs.Written.{written}
 use Rattle.automaton.specs.Collapsed.{collapsed}
 use Rattle.automaton.proofs.SameLemmas.{AnswerAlike, positions_alike, collapsed_alike}
 use Rattle.phase_graph.specs.Arcs.{IsArcBy}
-use Rattle.phase_graph.specs.InUse.{Covers, AreAlike}
+use Rattle.phase_graph.specs.InUse.{Covers, CoverEachOther}
 use Rattle.journey.specs.Best.{Asked}
 use Rattle.latest_departure.specs.Late.{deadline}
 use Rattle.latest_departure.specs.Latest.{ReadsFromEnds, Mirroring, graph_of}
@@ -106,7 +106,7 @@ module _ (n : NetworkLists) (network : IsNetwork n) (q : Asked) (one other : Mir
   covers p time i u has arrives =
       covered p time u (arc_into one.rows p i) has.node (all_into n one.table one.rows one.sources p has.node i Stand has.arc) arrives
 
-pub mirrors_are_alike : (n : NetworkLists) → IsNetwork n → (q : Asked) (one other : Mirroring n q) → AreAlike (graph_of n q one) (graph_of n q other)
+pub mirrors_are_alike : (n : NetworkLists) → IsNetwork n → (q : Asked) (one other : Mirroring n q) → CoverEachOther (graph_of n q one) (graph_of n q other)
 mirrors_are_alike n network q one other = record { nodes = refl; forth = covers n network q one other; back = covers n network q other one }
 
 -- whichever automaton that reads the words of what is asked from their ends is taken, it answers alike

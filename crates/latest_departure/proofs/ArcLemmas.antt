@@ -24,12 +24,12 @@ use Rattle.mode_network.proofs.RuleLemmas.{both, some_is}
 use Rattle.plain_graph.specs.declared.plain.PlainArc.{PlainArc}
 use Rattle.plain_graph.specs.declared.plain.PlainArc.TheVariants.{Road, Link, Stand, Ride}
 use Rattle.plain_graph.specs.PlainArcs.{pattern_call, plain_arc, graph_arc, arrival, run_at, no_arc}
-use Rattle.plain_graph.specs.OutArcs.{IsListed, IsRideFrom, IsOut, out_of}
+use Rattle.plain_graph.specs.OutArcs.{IsArcFrom, IsRideFrom, IsOut, out_of}
 use Rattle.plain_graph.specs.Simulation.{IsNoWait}
 use Rattle.plain_graph.proofs.Same.{step_at, steps_are_arcs}
 use Rattle.latest_departure.specs.declared.source.Source.{Source}
 use Rattle.latest_departure.specs.declared.source.Source.TheVariants as source
-use Rattle.latest_departure.specs.MirrorArcs.{arcs_of, arcs_into, arc_into, mirror_arc, run_by, begins, AlightsAt, LeadsInto, AreSources}
+use Rattle.latest_departure.specs.MirrorArcs.{plain_arcs_of, arcs_into, arc_into, mirror_arc, run_by, begins, AlightsAt, LeadsInto, AreSources}
 use Rattle.latest_departure.proofs.OrderLemmas.{no_later, all_of_pieces, in_piece}
 
 -- the arc leads to v; a ride does so from an earlier call of its pattern, where one may or may not board
@@ -47,7 +47,7 @@ abbrev ride_from : ℕ → ℕ → ℕ → PlainArc
 ride_from pattern call board = Ride (record { pattern = pattern; board = board; alight = call })
 
 module _ (n : NetworkLists) (t : TableLists) (rows : ℕ → List Source) (sources : AreSources n t rows) where
-  pieces_into : (v : ℕ) (s : Source) → LeadsInto n t v s → All (IsInto n t v) (arcs_of s)
+  pieces_into : (v : ℕ) (s : Source) → LeadsInto n t v s → All (IsInto n t v) (plain_arcs_of s)
   pieces_into v (source.Road arc) leads = All-cons (IsInto n t v) (Road arc) [] leads (All-nil (IsInto n t v))
   pieces_into v (source.Link link) leads = All-cons (IsInto n t v) (Link link) [] leads (All-nil (IsInto n t v))
   pieces_into v source.Stand leads = All-cons (IsInto n t v) Stand [] leads (All-nil (IsInto n t v))
@@ -58,7 +58,7 @@ module _ (n : NetworkLists) (t : TableLists) (rows : ℕ → List Source) (sourc
       record { alights = leads; later = omega arith }))
 
   pub all_into : (v : ℕ) → v < length (nodes_of n) → All (IsInto n t v) (arcs_into rows v)
-  all_into v node = all_of_pieces arcs_of (IsInto n t v) (rows v) (λ s there. pieces_into v s (All-contains (LeadsInto n t v) (rows v) s (sources.fit v node) there))
+  all_into v node = all_of_pieces plain_arcs_of (IsInto n t v) (rows v) (λ s there. pieces_into v s (All-contains (LeadsInto n t v) (rows v) s (sources.fit v node) there))
 
   -- a place of the arc among those into v
   pub record HasPlace (v : ℕ) (a : PlainArc) : Type 0 where
@@ -66,9 +66,9 @@ module _ (n : NetworkLists) (t : TableLists) (rows : ℕ → List Source) (sourc
     pub within : i < length (arcs_into rows v)
     pub is : arc_into rows v i ≡ a
 
-  place_of : (v : ℕ) (s : Source) (a : PlainArc) → v < length (nodes_of n) → LeadsInto n t v s → Contains (arcs_of s) a → HasPlace v a
+  place_of : (v : ℕ) (s : Source) (a : PlainArc) → v < length (nodes_of n) → LeadsInto n t v s → Contains (plain_arcs_of s) a → HasPlace v a
   place_of v s a node leads held =
-      let there = in_piece arcs_of (rows v) s a (sources.whole v s node leads) held in
+      let there = in_piece plain_arcs_of (rows v) s a (sources.whole v s node leads) held in
       record { i = there.0; within = there.1; is = get_or_default (arcs_into rows v) there.0 Stand a there.1 ∙ there.2 }
 
   pub place_into : (v : ℕ) (a : PlainArc) → v < length (nodes_of n) → IsInto n t v a → HasPlace v a
@@ -135,7 +135,7 @@ module _ (n : NetworkLists) (network : IsNetwork n) (t : TableLists) (table : Is
         ride_at = record { pattern = alights.is_pattern; later = into.later; within = alights.within; at_stop = refl; boards = boards; alights = alights.alights };
       }
 
-  listed_from : (arcs : List Arc) (arc : Arc) → Contains arcs arc → IsListed arcs arc.from arc
+  listed_from : (arcs : List Arc) (arc : Arc) → Contains arcs arc → IsArcFrom arcs arc.from arc
   listed_from arcs arc (place, within, is) = record { place = place; within = within; is = get_or_default arcs place no_arc arc within ∙ is; begins = refl }
 
   -- a step from v at t that is at w by u

@@ -10,7 +10,7 @@ use Rattle.search_laws.specs.Walks.{WalkStep, wait, arc, IsWalk, ArrivesAt, word
 use Rattle.search_laws.proofs.WalkLemmas.{reads_more, reads_one, walk_more, word_more}
 use Rattle.product_search.specs.declared.label.Label.{Label}
 use Rattle.product_search.specs.Reach.{IsReachedAt, IsLeastAt}
-use Rattle.product_search.specs.Listed.{label_of, IsAscending, AreLeastLabels}
+use Rattle.product_search.specs.Listed.{label_of, AreAscendingLabels, AreLeastLabels}
 use Rattle.product_search.specs.Answer.{IsArrival}
 use Rattle.product_search.specs.Closed.{IsListedBy, start_states, pairs_at, start_pairs, IsInOrderAt, StartIsListedAt, IsNoEndAt, ArcsAreListedAt, IsClosed}
 use Rattle.mode_network.proofs.RuleLemmas.{both}
@@ -106,7 +106,7 @@ has_or_none (x ∷ list) v q = on_test ((x.node == v) && (x.state == q)) refl (h
 
 -- ---- the list
 module _ (g : GraphMeaning) (graph : IsLawfulGraph g) (l : LabelsMeaning) (labels : IsLawfulLabels l) (starts targets : List ℕ) (within : All (λ v. v < g.nodes) starts)
-    (dep a : ℕ) (list : List Label) (ascending : IsAscending list)
+    (dep a : ℕ) (list : List Label) (ascending : AreAscendingLabels list)
     (least : All (λ x. IsLeastAt g l starts dep x.node x.state x.at × (x.at < a)) list)
     (complete : (v q t : ℕ) → IsLeastAt g l starts dep v q t → t < a → Contains list (label_of v q t))
     (none : (t : ℕ) → t < a → ArrivesAt g l starts targets dep t → ⊥) where

@@ -6,7 +6,7 @@ use Rattle.std.proofs.lemmas.Bool.Decides.{nat_tests}
 use Rattle.std.proofs.lemmas.List.Quantifiers.{position-Some}
 use Rattle.plain_texts.specs.FixedDecimal.{fixed_at}
 use Rattle.plain_texts.proofs.FixedDecimal.{fixed_takes}
-use Rattle.service_days.specs.Days.{AreDays, AreInOrder, base_of, day_with_date}
+use Rattle.service_days.specs.Days.{AreDays, AreRisingDays, base_of, day_with_date}
 use Rattle.mode_expression.specs.Form.{Form}
 use Rattle.mode_network.specs.declared.endpoints.Endpoint.{Endpoint}
 use Rattle.mode_network.specs.NetworkLists.{NetworkLists}
@@ -59,7 +59,7 @@ time_small (a ∷ b ∷ c ∷ d ∷ e ∷ f ∷ g ∷ h ∷ rest) ms is =
     omega arith)))
 time_small _ ms is = cc
 
-module _ (n : NetworkLists) (days : AreDays n.days) (order : AreInOrder n.days) where
+module _ (n : NetworkLists) (days : AreDays n.days) (order : AreRisingDays n.days) where
   record IsSoon (depart : ℕ) : Type 0 where
     not_before : first_moment n ≤ depart
     small : depart < 2 ^ 41

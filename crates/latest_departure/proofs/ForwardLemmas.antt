@@ -18,7 +18,7 @@ use Rattle.journey.specs.Best.{Asked, Answers}
 use Rattle.journey.specs.CopyLists.{AreTheCopies}
 use Rattle.unpack.specs.Unpacking.{letters_of}
 use Rattle.unpack.proofs.TakenLemmas as taken
-use Rattle.latest_departure.specs.Forward.{IsFirstIfAny, IsUnpacked}
+use Rattle.latest_departure.specs.Forward.{IsFirstIfAny, IsJourneyUnpacked}
 
 -- the automaton reads each word whose collapse the form denotes
 abbrev pub IsReaderOf : Form → LabelsMeaning → Type 0
@@ -37,7 +37,7 @@ module _ (n : NetworkLists) (network : IsNetwork n) (table : TableLists) (q : As
       taken.arrives n table q l origins destinations from to journeys k t a ((reads a.real.letters).1 (subst (IsWordOf q.form) a.real.word_is a.denoted))
 
   pub found_first : (arrival : Option ℕ) (walk : Option Walk) (found : Option Route) → IsArrival (plain_meaning n table) l origins destinations q.depart None arrival
-      → IsWalkFor (plain_meaning n table) l origins destinations q.depart arrival walk → q.depart < 2 ^ 64 → IsUnpacked n table walk found → IsFirstIfAny n q found
+      → IsWalkFor (plain_meaning n table) l origins destinations q.depart arrival walk → q.depart < 2 ^ 64 → IsJourneyUnpacked n table walk found → IsFirstIfAny n q found
   found_first None None None none is soon takes = λ k t answers. none t tt (arrives k t answers)
   found_first None None (Some j) none is soon takes = absurd takes
   found_first None (Some w) found none is soon takes = absurd is

@@ -17,22 +17,22 @@ use Rattle.plain_graph.specs.Rides.{IsKnownRide}
 use Rattle.latest_departure.specs.declared.source.Source.{Source}
 use Rattle.latest_departure.specs.declared.source.Source.TheVariants as source
 use Rattle.latest_departure.specs.declared.source.Entry.{Entry}
-use Rattle.latest_departure.specs.MirrorArcs.{arcs_of, count_of, arc_of, arc_into, LeadsInto, AreSources}
-use Rattle.latest_departure.specs.Entries.{row_entries, row_of, place_at}
+use Rattle.latest_departure.specs.MirrorArcs.{plain_arcs_of, count_of, plain_arc_of, arc_into, LeadsInto, AreSources}
+use Rattle.latest_departure.specs.Entries.{row_entries, sources_at, entries_begin}
 use Rattle.latest_departure.specs.Known.{source_of, entry_count, RidesAreKnown, FewLead}
 use Rattle.latest_departure.proofs.ArcLemmas.{IsInto, all_into}
 
 -- ---- one source
-counts : (s : Source) → length (arcs_of s) ≡ count_of s
+counts : (s : Source) → length (plain_arcs_of s) ≡ count_of s
 counts (source.Road arc) = refl
 counts (source.Link link) = refl
 counts source.Stand = refl
 counts (source.Alight pattern call) = length-map-range_with_len (λ board. Ride (record { pattern = pattern; board = board; alight = call })) 0 call
 
 abbrev at_of : Source → ℕ → PlainArc
-at_of s i = slice_index_or (arcs_of s) i Stand
+at_of s i = slice_index_or (plain_arcs_of s) i Stand
 
-is_at : (s : Source) (i : ℕ) → i < count_of s → at_of s i ≡ arc_of s i
+is_at : (s : Source) (i : ℕ) → i < count_of s → at_of s i ≡ plain_arc_of s i
 is_at (source.Road arc) i lt = let none : i ≡ 0 = omega arith in ap (at_of (source.Road arc)) none
 is_at (source.Link link) i lt = let none : i ≡ 0 = omega arith in ap (at_of (source.Link link)) none
 is_at source.Stand i lt = let none : i ≡ 0 = omega arith in ap (at_of source.Stand) none
@@ -40,13 +40,13 @@ is_at (source.Alight pattern call) i lt = get_or-map-range_with_len (λ board. R
 
 -- ---- a row
 abbrev pub arcs_along : List Entry → List PlainArc
-arcs_along row = flat_map arcs_of (map source_of row)
+arcs_along row = flat_map plain_arcs_of (map source_of row)
 
 pub total : (row : List Entry) → length (arcs_along row) ≡ sum_by entry_count row
 total [] = refl
 total (entry ∷ row) =
     let rest = total row in
-    let both = length-append (arcs_of entry.source) (arcs_along row) in
+    let both = length-append (plain_arcs_of entry.source) (arcs_along row) in
     let own = counts entry.source in
     let sum = sum_by-cons entry_count entry row in
     omega arith
@@ -55,21 +55,21 @@ split_at : (row : List Entry) (k : ℕ) (entry : Entry) → k < length row → e
 split_at row k entry within is = rw (add-one, drop-cons row k entry) (ap (λ (e : Entry). e ∷ drop (suc k) row) (sym is))
 
 pub found : (row : List Entry) (k left : ℕ) (entry : Entry) → k < length row → entry ≡ get_or row k entry → left < count_of entry.source
-    → slice_index_or (arcs_along (drop k row)) left Stand ≡ arc_of entry.source left
+    → slice_index_or (arcs_along (drop k row)) left Stand ≡ plain_arc_of entry.source left
 found row k left entry within is lt =
     let split : drop k row ≡ entry ∷ drop (k + 1) row = split_at row k entry within is in
     ap (λ (xs : List Entry). slice_index_or (arcs_along xs) left Stand) split
-    ∙ get_or_append_left (arcs_of entry.source) (arcs_along (drop (k + 1) row)) Stand left (let own = counts entry.source in omega arith) ∙ is_at entry.source left lt
+    ∙ get_or_append_left (plain_arcs_of entry.source) (arcs_along (drop (k + 1) row)) Stand left (let own = counts entry.source in omega arith) ∙ is_at entry.source left lt
 
 pub skipped : (row : List Entry) (k left : ℕ) (entry : Entry) → k < length row → entry ≡ get_or row k entry → count_of entry.source ≤ left
     → slice_index_or (arcs_along (drop k row)) left Stand ≡ slice_index_or (arcs_along (drop (k + 1) row)) (left - count_of entry.source) Stand
 skipped row k left entry within is le =
     let split : drop k row ≡ entry ∷ drop (k + 1) row = split_at row k entry within is in
     let own = counts entry.source in
-    let whole : left ≡ length (arcs_of entry.source) + (left - count_of entry.source) = omega arith in
+    let whole : left ≡ length (plain_arcs_of entry.source) + (left - count_of entry.source) = omega arith in
     ap (λ (xs : List Entry). slice_index_or (arcs_along xs) left Stand) split
-    ∙ ap (λ j. slice_index_or (arcs_of entry.source ++ arcs_along (drop (k + 1) row)) j Stand) whole
-    ∙ get_or-append-add (arcs_of entry.source) (arcs_along (drop (k + 1) row)) (left - count_of entry.source) Stand
+    ∙ ap (λ j. slice_index_or (plain_arcs_of entry.source ++ arcs_along (drop (k + 1) row)) j Stand) whole
+    ∙ get_or-append-add (plain_arcs_of entry.source) (arcs_along (drop (k + 1) row)) (left - count_of entry.source) Stand
 
 -- ---- what is known of an arc into a node
 module _ (n : NetworkLists) (t : TableLists) (rows : ℕ → List Source) (sources : AreSources n t rows) where
@@ -83,7 +83,7 @@ module _ (n : NetworkLists) (t : TableLists) (rows : ℕ → List Source) (sourc
   arc_known v i node within = ride_known v (arc_into rows v i) (all_into n t rows sources v node i Stand within)
 
 -- few arcs lead to a node
-module _ (n : NetworkLists) (t : TableLists) (table : IsTable t) (entries : List Entry) (places : List ℕ) (sources : AreSources n t (row_of entries places)) where
+module _ (n : NetworkLists) (t : TableLists) (table : IsTable t) (entries : List Entry) (places : List ℕ) (sources : AreSources n t (sources_at entries places)) where
   few_each : (v : ℕ) (s : Source) → LeadsInto n t v s → count_of s ≤ 2 ^ 32 - 1
   few_each v (source.Road arc) leads = omega arith
   few_each v (source.Link link) leads = omega arith
@@ -101,8 +101,8 @@ module _ (n : NetworkLists) (t : TableLists) (table : IsTable t) (entries : List
       let row = row_entries entries places v in
       let each = λ (k : ℕ) (d : Entry) (within : k < length row). few_each v (source_of (get_or row k d)) (entry_leads v node k d within) in
       let most = sum_by-le entry_count (2 ^ 32 - 1) row each in
-      let size = length-take (place_at places (v + 1) - place_at places v) (drop (place_at places v) entries) in
-      let rest = length-drop (place_at places v) entries in
+      let size = length-take (entries_begin places (v + 1) - entries_begin places v) (drop (entries_begin places v) entries) in
+      let rest = length-drop (entries_begin places v) entries in
       let less : length row ≤ 2 ^ 32 - 1 = omega arith in
       let product = mul-le-mul_right {m = length row} {n = 2 ^ 32 - 1} (2 ^ 32 - 1) less in
       omega arith

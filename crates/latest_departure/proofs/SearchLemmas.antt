@@ -9,7 +9,7 @@ use Rattle.mode_network.specs.Journeys.{Route, AreSteps}
 use Rattle.journey.specs.Best.{Asked}
 use Rattle.automaton.specs.Collapsed.{collapsed}
 use Rattle.latest_departure.specs.declared.search.LateSearch.{LateSearch}
-use Rattle.latest_departure.specs.BackLists.{BackLists, IsBackwards, rows_of, mirrored}
+use Rattle.latest_departure.specs.BackLists.{BackLists, IsBackwards, source_rows, mirrored}
 use Rattle.latest_departure.specs.Late.{deadline, HasNoneInTime}
 use Rattle.latest_departure.specs.Latest.{IsLate, span, Mirroring}
 use Rattle.latest_departure.specs.Forward.{IsFirstIfAny, leaving}
@@ -27,7 +27,7 @@ module _ (b : BackLists) (keeps : IsBackwards b) (q : Asked) (s : LateSearch) (i
     table = b.table;
     of = keeps.of;
     keeps = keeps.keeps;
-    rows = rows_of b;
+    rows = source_rows b;
     sources = keeps.sources;
     reversed = reversed_meaning s.machine.labels.inner;
     reads = is.reads;

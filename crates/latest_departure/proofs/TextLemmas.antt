@@ -12,10 +12,10 @@ use Rattle.journey.specs.Best.{Asked, Asks}
 use Rattle.journey.specs.Blocks.{IsPrintable}
 use Rattle.latest_departure.specs.Late.{IsToldResult}
 use Rattle.latest_departure.specs.Latest.{IsLate}
-use Rattle.latest_departure.specs.Blocks.{IsLateText, IsAnswerBlock, IsLateBlock}
+use Rattle.latest_departure.specs.Blocks.{IsLateJourneyText, IsAnswerBlock, IsLateBlock}
 
 pub late_told : (n : NetworkLists) (j : Route) (old now new : List ℕ) → now ≡ old ++ with_feed (codes "depart " ++ clock_text_of n.days j.at) → AddsText (IsJourneyText n j) now new
-    → AddsText (IsLateText n j) old new
+    → AddsText (IsLateJourneyText n j) old new
 late_told n j old now new departs own =
     let line = with_feed (codes "depart " ++ clock_text_of n.days j.at) in
     record {

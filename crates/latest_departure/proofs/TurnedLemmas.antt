@@ -13,7 +13,8 @@ use Rattle.search_laws.specs.Letters.{IsLetterSet}
 use Rattle.search_laws.specs.declared.labels.Move.{Move}
 use Rattle.search_laws.specs.LabelLaws.{LabelsMeaning, IsLawfulLabels, HasMove, IsMove}
 use Rattle.search_laws.proofs.WayLemmas.{range_more}
-use Rattle.latest_departure.specs.Reversed.{IsReversed, StateLists, all_moves, turned_move, turned, turned_from, turned_below, no_move, no_state, states_meaning, turned_state}
+use Rattle.automaton.specs.States.{no_move}
+use Rattle.latest_departure.specs.Reversed.{IsReversed, StateLists, all_moves, turned_move, turned, turned_from, turned_below, no_state, states_meaning, turned_state}
 use Rattle.latest_departure.specs.declared.reversed.State.{State}
 use Rattle.latest_departure.specs.StateViews.{view_of}
 use Rattle.latest_departure.proofs.OrderLemmas.{all_of_pieces, in_piece}

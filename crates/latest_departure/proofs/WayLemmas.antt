@@ -16,21 +16,21 @@ use Rattle.plain_graph.specs.PlainArcs.{pattern_call}
 use Rattle.latest_departure.specs.declared.source.Source.{Source}
 use Rattle.latest_departure.specs.declared.source.Source.TheVariants as source
 use Rattle.latest_departure.specs.declared.source.Entry.{Entry}
-use Rattle.latest_departure.specs.MirrorArcs.{arcs_of, count_of, arc_of, arcs_into, arc_into, mirror_arc, mirror_meaning, begins}
-use Rattle.latest_departure.specs.MirrorWays.{ride_of, ride_ways, run_ways, source_ways}
+use Rattle.latest_departure.specs.MirrorArcs.{plain_arcs_of, count_of, plain_arc_of, arcs_into, arc_into, mirror_arc, mirror_meaning, begins}
+use Rattle.latest_departure.specs.MirrorWays.{mirror_ride_ways, mirror_run_ways, ride_calls, source_ways}
 use Rattle.latest_departure.specs.Entries.{row_entries}
-use Rattle.latest_departure.specs.BackLists.{BackLists, rows_of, mirrored}
+use Rattle.latest_departure.specs.BackLists.{BackLists, source_rows, mirrored}
 use Rattle.latest_departure.specs.Known.{source_of, entry_count}
 use Rattle.latest_departure.proofs.RowLemmas.{arcs_along, total, found}
 use Rattle.latest_departure.proofs.TurnedLemmas.{pieces_more}
 
 -- ---- places of a row
 along_append : (xs ys : List Entry) → arcs_along (xs ++ ys) ≡ arcs_along xs ++ arcs_along ys
-along_append xs ys = ap (flat_map arcs_of) (map-append source_of xs ys) ∙ flat_map-append arcs_of (map source_of xs) (map source_of ys)
+along_append xs ys = ap (flat_map plain_arcs_of) (map-append source_of xs ys) ∙ flat_map-append plain_arcs_of (map source_of xs) (map source_of ys)
 
 -- what an entry of a row stands for are the arcs from the place on at which the entries before it end
 source_at : (row : List Entry) (k : ℕ) (entry : Entry) → k < length row → entry ≡ get_or row k entry → (i : ℕ) → i < count_of entry.source
-    → slice_index_or (arcs_along row) (sum_by entry_count (take k row) + i) Stand ≡ arc_of entry.source i
+    → slice_index_or (arcs_along row) (sum_by entry_count (take k row) + i) Stand ≡ plain_arc_of entry.source i
 source_at row k entry within is i lt =
     ap (λ (xs : List Entry). slice_index_or (arcs_along xs) (sum_by entry_count (take k row) + i) Stand) (sym (take-append-drop k row))
     ∙ ap (λ (xs : List PlainArc). slice_index_or xs (sum_by entry_count (take k row) + i) Stand) (along_append (take k row) (drop k row))
@@ -71,7 +71,7 @@ module _ (n : NetworkLists) (t : TableLists) (rows : ℕ → List Source) (deadl
 
   -- these arcs stand from the place on
   abbrev AreAt : ℕ → Source → Type 0
-  AreAt place s = (i : ℕ) → i < count_of s → arc_into rows v (place + i) ≡ arc_of s i
+  AreAt place s = (i : ℕ) → i < count_of s → arc_into rows v (place + i) ≡ plain_arc_of s i
 
   one : (place : ℕ) (a : PlainArc) → arc_into rows v (place + 0) ≡ a → way_by place a ≡ from place 1
   one place a is =
@@ -82,19 +82,19 @@ module _ (n : NetworkLists) (t : TableLists) (rows : ℕ → List Source) (deadl
     abbrev letter : Option ℕ
     letter = Some (pattern_trip t pattern).letter
 
-    ride_at : (i : ℕ) → i < call → at (place + i) ≡ way_by (place + i) (Ride (ride_of pattern call i))
-    ride_at i lt = at_is (place + i) (Ride (ride_of pattern call i)) (are i lt)
+    ride_at : (i : ℕ) → i < call → at (place + i) ≡ way_by (place + i) (Ride (ride_calls pattern call i))
+    ride_at i lt = at_is (place + i) (Ride (ride_calls pattern call i)) (are i lt)
 
     closed : is_open letters letter ≡ false → from place call ≡ []
-    closed shut = none_from call place (λ i lt. ride_at i lt ∙ ap (λ (b : Bool). cond b (way_if (place + i) (mirror_arc n t v (Ride (ride_of pattern call i))) (begins t deadline time (Ride (ride_of pattern call i)))) []) shut)
+    closed shut = none_from call place (λ i lt. ride_at i lt ∙ ap (λ (b : Bool). cond b (way_if (place + i) (mirror_arc n t v (Ride (ride_calls pattern call i))) (begins t deadline time (Ride (ride_calls pattern call i)))) []) shut)
 
     -- without a run there is none
     abbrev by_run : ℕ → Bool → Option Instance → List Way
     by_run i may last =
-        open_way letters (place + i) (mirror_arc n t v (Ride (ride_of pattern call i)))
+        open_way letters (place + i) (mirror_arc n t v (Ride (ride_calls pattern call i)))
         (option_map (λ run. deadline - departs t run i) (cond (may && (pattern_call t pattern i).board) last None))
 
-    no_run : (i : ℕ) (boards : Bool) → open_way letters (place + i) (mirror_arc n t v (Ride (ride_of pattern call i)))
+    no_run : (i : ℕ) (boards : Bool) → open_way letters (place + i) (mirror_arc n t v (Ride (ride_calls pattern call i)))
         (option_map (λ run. deadline - departs t run i) (cond boards None None)) ≡ []
     no_run i true = none_open (is_open letters letter)
     no_run i false = none_open (is_open letters letter)
@@ -107,28 +107,28 @@ module _ (n : NetworkLists) (t : TableLists) (rows : ℕ → List Source) (deadl
         none_from call place (λ i lt. ride_at i lt ∙ ap (λ (b : Bool). by_run i b (last_run t pattern call (deadline - time))) early
         ∙ ap (by_run i true) none ∙ no_run i (pattern_call t pattern i).board)
 
-    with_run : (i : ℕ) (run : Instance) (boards : Bool) → cond true (way_if (place + i) (mirror_arc n t v (Ride (ride_of pattern call i)))
+    with_run : (i : ℕ) (run : Instance) (boards : Bool) → cond true (way_if (place + i) (mirror_arc n t v (Ride (ride_calls pattern call i)))
         (option_map (λ run. deadline - departs t run i) (cond boards (Some run) None))) []
-        ≡ cond boards (record { place = place + i; arc = mirror_arc n t v (Ride (ride_of pattern call i)); at = deadline - departs t run i } ∷ []) []
+        ≡ cond boards (record { place = place + i; arc = mirror_arc n t v (Ride (ride_calls pattern call i)); at = deadline - departs t run i } ∷ []) []
     with_run i run true = refl
     with_run i run false = refl
 
     run_at : (run : Instance) → nat_le time deadline ≡ true → is_open letters letter ≡ true → last_run t pattern call (deadline - time) ≡ Some run
-        → (i : ℕ) → i < call → at (place + i) ≡ ride_ways n t deadline run (place + i) (ride_of pattern call i)
+        → (i : ℕ) → i < call → at (place + i) ≡ mirror_ride_ways n t deadline run (place + i) (ride_calls pattern call i)
     run_at run early opens last i lt =
         ride_at i lt ∙ ap (λ (b : Bool). by_run i b (last_run t pattern call (deadline - time))) early ∙ ap (by_run i true) last
-        ∙ ap (λ (b : Bool). cond b (way_if (place + i) (mirror_arc n t v (Ride (ride_of pattern call i)))
+        ∙ ap (λ (b : Bool). cond b (way_if (place + i) (mirror_arc n t v (Ride (ride_calls pattern call i)))
         (option_map (λ run. deadline - departs t run i) (cond (pattern_call t pattern i).board (Some run) None))) []) opens
         ∙ with_run i run (pattern_call t pattern i).board
 
-    run_from : (run : Instance) → ((i : ℕ) → i < call → at (place + i) ≡ ride_ways n t deadline run (place + i) (ride_of pattern call i))
-        → (k : ℕ) → k ≤ call → flat_map (λ board. ride_ways n t deadline run (place + board) (ride_of pattern call board)) (range_with_len 0 k) ≡ from place k
+    run_from : (run : Instance) → ((i : ℕ) → i < call → at (place + i) ≡ mirror_ride_ways n t deadline run (place + i) (ride_calls pattern call i))
+        → (k : ℕ) → k ≤ call → flat_map (λ board. mirror_ride_ways n t deadline run (place + board) (ride_calls pattern call board)) (range_with_len 0 k) ≡ from place k
     run_from run each zero within = refl
     run_from run each (suc k) within =
         let more : suc k ≡ k + 1 = omega arith in
-        ap (λ j. flat_map (λ (board : ℕ). ride_ways n t deadline run (place + board) (ride_of pattern call board)) (range_with_len 0 j)) more
-        ∙ pieces_more (λ (board : ℕ). ride_ways n t deadline run (place + board) (ride_of pattern call board)) k
-        ∙ ap (λ (ws : List Way). ws ++ ride_ways n t deadline run (place + k) (ride_of pattern call k)) (run_from run each k (omega arith))
+        ap (λ j. flat_map (λ (board : ℕ). mirror_ride_ways n t deadline run (place + board) (ride_calls pattern call board)) (range_with_len 0 j)) more
+        ∙ pieces_more (λ (board : ℕ). mirror_ride_ways n t deadline run (place + board) (ride_calls pattern call board)) k
+        ∙ ap (λ (ws : List Way). ws ++ mirror_ride_ways n t deadline run (place + k) (ride_calls pattern call k)) (run_from run each k (omega arith))
         ∙ ap (λ (ws : List Way). from place k ++ ws) (sym (each k (omega arith)))
         ∙ sym (ways_more (mirror_meaning n t rows deadline) v time letters place k) ∙ ap (from place) (sym more)
 
@@ -136,20 +136,20 @@ module _ (n : NetworkLists) (t : TableLists) (rows : ℕ → List Source) (deadl
     alight_ways = on_tests (nat_le time deadline) (is_open letters letter) refl refl
       where
         on_last : (last : Option Instance) → last_run t pattern call (deadline - time) ≡ last → nat_le time deadline ≡ true → is_open letters letter ≡ true
-            → run_ways n t deadline place pattern call last ≡ from place call
+            → mirror_run_ways n t deadline place pattern call last ≡ from place call
         on_last None e early opens = sym (runless early e)
         on_last (Some run) e early opens = run_from run (run_at run early opens e) call (omega arith)
 
         on_tests : (a b : Bool) → nat_le time deadline ≡ a → is_open letters letter ≡ b
-            → cond (nat_le time deadline && is_open letters letter) (run_ways n t deadline place pattern call (last_run t pattern call (deadline - time))) [] ≡ from place call
+            → cond (nat_le time deadline && is_open letters letter) (mirror_run_ways n t deadline place pattern call (last_run t pattern call (deadline - time))) [] ≡ from place call
         on_tests false b e f =
-            ap (λ (a : Bool). cond (a && is_open letters letter) (run_ways n t deadline place pattern call (last_run t pattern call (deadline - time))) []) e ∙ sym (late e)
+            ap (λ (a : Bool). cond (a && is_open letters letter) (mirror_run_ways n t deadline place pattern call (last_run t pattern call (deadline - time))) []) e ∙ sym (late e)
         on_tests true false e f =
-            ap (λ (a : Bool). cond (a && is_open letters letter) (run_ways n t deadline place pattern call (last_run t pattern call (deadline - time))) []) e
-            ∙ ap (λ (b : Bool). cond b (run_ways n t deadline place pattern call (last_run t pattern call (deadline - time))) []) f ∙ sym (closed f)
+            ap (λ (a : Bool). cond (a && is_open letters letter) (mirror_run_ways n t deadline place pattern call (last_run t pattern call (deadline - time))) []) e
+            ∙ ap (λ (b : Bool). cond b (mirror_run_ways n t deadline place pattern call (last_run t pattern call (deadline - time))) []) f ∙ sym (closed f)
         on_tests true true e f =
-            ap (λ (a : Bool). cond (a && is_open letters letter) (run_ways n t deadline place pattern call (last_run t pattern call (deadline - time))) []) e
-            ∙ ap (λ (b : Bool). cond b (run_ways n t deadline place pattern call (last_run t pattern call (deadline - time))) []) f
+            ap (λ (a : Bool). cond (a && is_open letters letter) (mirror_run_ways n t deadline place pattern call (last_run t pattern call (deadline - time))) []) e
+            ∙ ap (λ (b : Bool). cond b (mirror_run_ways n t deadline place pattern call (last_run t pattern call (deadline - time))) []) f
             ∙ on_last (last_run t pattern call (deadline - time)) refl e f
 
   source_ways_are : (place : ℕ) (s : Source) → AreAt place s → source_ways n t deadline v time letters place s ≡ from place (count_of s)
@@ -168,9 +168,9 @@ module _ (b : BackLists) (deadline v time letters : ℕ) (row : List Entry) (is_
       → now ≡ before ++ g_from 0 place → next ≡ now ++ source_ways b.network b.table deadline v time letters place entry.source → next ≡ before ++ g_from 0 (place + entry_count entry)
   entry_pushed k place entry before now next within is so_far first push =
       let here : 0 + place ≡ place = omega arith in
-      let are = λ (i : ℕ) (lt : i < count_of entry.source). subst (λ (r : List Entry). slice_index_or (arcs_along r) (place + i) Stand ≡ arc_of entry.source i) is_row
+      let are = λ (i : ℕ) (lt : i < count_of entry.source). subst (λ (r : List Entry). slice_index_or (arcs_along r) (place + i) Stand ≡ plain_arc_of entry.source i) is_row
       (ap (λ j. slice_index_or (arcs_along row) (j + i) Stand) so_far ∙ source_at row k entry within is i lt) in
-      let own = source_ways_are b.network b.table (rows_of b) deadline v time letters place entry.source are in
+      let own = source_ways_are b.network b.table (source_rows b) deadline v time letters place entry.source are in
       push ∙ ap (λ (ws : List Way). ws ++ source_ways b.network b.table deadline v time letters place entry.source) first
       ∙ append_assoc before (g_from 0 place) (source_ways b.network b.table deadline v time letters place entry.source)
       ∙ ap (λ (ws : List Way). before ++ (g_from 0 place ++ ws)) own
@@ -180,6 +180,6 @@ module _ (b : BackLists) (deadline v time letters : ℕ) (row : List Entry) (is_
   pub row_done : (k place : ℕ) (before now : List Way) → length row ≤ k → place ≡ sum_by entry_count (take k row) → now ≡ before ++ g_from 0 place
       → now ≡ before ++ ways_of (mirrored b deadline) v time letters
   row_done k place before now past so_far first =
-      let count : place ≡ length (arcs_into (rows_of b) v) =
+      let count : place ≡ length (arcs_into (source_rows b) v) =
       so_far ∙ ap (sum_by entry_count) (take_all k row past) ∙ sym (total row) ∙ ap (λ (r : List Entry). length (arcs_along r)) is_row in
       first ∙ ap (λ j. before ++ g_from 0 j) count

@@ -10,14 +10,14 @@ use Rattle.journey.specs.Texts.{IsJourneyText}
 use Rattle.latest_departure.specs.Late.{IsToldResult, IsLateResult}
 
 -- what is printed of a journey: when it departs, and then what any block prints of it
-pub record IsLateText (n : NetworkLists) (j : Route) (text : List ℕ) : Type 0 where
+pub record IsLateJourneyText (n : NetworkLists) (j : Route) (text : List ℕ) : Type 0 where
   pub own : List ℕ
   pub told : IsJourneyText n j own
   pub text_is : text ≡ with_feed (codes "depart " ++ clock_text_of n.days j.at) ++ own
 
 -- what is printed of a journey, or of the answer that none is in time
 abbrev pub IsResultText : NetworkLists → Option Route → List ℕ → Type 0
-IsResultText n (Some j) text = IsLateText n j text
+IsResultText n (Some j) text = IsLateJourneyText n j text
 IsResultText n None text = text ≡ with_feed (codes "no journey")
 
 -- the block of a line with this journey, or with the answer that there is none

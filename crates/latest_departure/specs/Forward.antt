@@ -26,8 +26,8 @@ IsFirstIfAny n q None = HasNone n q
 IsFirstIfAny n q (Some j) = IsFirst n q j
 
 -- the journey of a walk, if there is one
-abbrev pub IsUnpacked : NetworkLists → TableLists → Option Walk → Option Route → Type 0
-IsUnpacked n table None None = Unit {0}
-IsUnpacked n table None (Some j) = ⊥
-IsUnpacked n table (Some walk) None = ⊥
-IsUnpacked n table (Some walk) (Some j) = TakesHops n table walk j
+abbrev pub IsJourneyUnpacked : NetworkLists → TableLists → Option Walk → Option Route → Type 0
+IsJourneyUnpacked n table None None = Unit {0}
+IsJourneyUnpacked n table None (Some j) = ⊥
+IsJourneyUnpacked n table (Some walk) None = ⊥
+IsJourneyUnpacked n table (Some walk) (Some j) = TakesHops n table walk j

@@ -17,8 +17,8 @@ source_of entry = entry.source
 abbrev pub entry_count : Entry → ℕ
 entry_count entry = count_of entry.source
 
-abbrev pub no_entry : Entry
-no_entry = record { node = 0; source = source.Road (record { from = 0; to = 0; ms = 0 }) }
+abbrev pub no_source_entry : Entry
+no_source_entry = record { node = 0; source = source.Road (record { from = 0; to = 0; ms = 0 }) }
 
 abbrev pub RidesAreKnown : TableLists → (ℕ → List Source) → ℕ → Type 0
 RidesAreKnown t rows nodes = (v i : ℕ) → v < nodes → i < length (arcs_into rows v) → IsKnownRide t (arc_into rows v i)

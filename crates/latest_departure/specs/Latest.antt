@@ -40,7 +40,7 @@ pub record ReadsFromEnds (q : Asked) (reversed : LabelsMeaning) : Type 0 where
   pub fits : FitsCollapsed reversed
 
 -- the nodes are the copies of the destination, where the search starts, and those of the origin
-pub record AreEnds (n : NetworkLists) (q : Asked) (starts targets : List ℕ) : Type 0 where
+pub record AreSwappedEnds (n : NetworkLists) (q : Asked) (starts targets : List ℕ) : Type 0 where
   pub destination : AreTheCopies n q.to starts
   pub origin : AreTheCopies n q.from targets
   pub start_nodes : All (λ v. v < length (nodes_of n)) starts
@@ -58,7 +58,7 @@ pub record Mirroring (n : NetworkLists) (q : Asked) : Type 0 where
   pub reads : ReadsFromEnds q reversed
   pub starts : List ℕ
   pub targets : List ℕ
-  pub ends : AreEnds n q starts targets
+  pub ends : AreSwappedEnds n q starts targets
 
 abbrev pub graph_of : (n : NetworkLists) (q : Asked) → Mirroring n q → GraphMeaning
 graph_of n q m = mirror_meaning n m.table m.rows (deadline q)

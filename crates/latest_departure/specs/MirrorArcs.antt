@@ -14,11 +14,11 @@ use Rattle.latest_departure.specs.declared.source.Source.{Source}
 use Rattle.latest_departure.specs.declared.source.Source.TheVariants as source
 
 -- the arcs that a source stands for: the call of a pattern at which one may alight stands for the rides from each earlier call
-abbrev pub arcs_of : Source → List PlainArc
-arcs_of (source.Road arc) = Road arc ∷ []
-arcs_of (source.Link link) = Link link ∷ []
-arcs_of source.Stand = Stand ∷ []
-arcs_of (source.Alight pattern call) = map (λ board. Ride (record { pattern = pattern; board = board; alight = call })) (range_with_len 0 call)
+abbrev pub plain_arcs_of : Source → List PlainArc
+plain_arcs_of (source.Road arc) = Road arc ∷ []
+plain_arcs_of (source.Link link) = Link link ∷ []
+plain_arcs_of source.Stand = Stand ∷ []
+plain_arcs_of (source.Alight pattern call) = map (λ board. Ride (record { pattern = pattern; board = board; alight = call })) (range_with_len 0 call)
 
 -- how many these are, and the one at a place
 abbrev pub count_of : Source → ℕ
@@ -27,15 +27,15 @@ count_of (source.Link link) = 1
 count_of source.Stand = 1
 count_of (source.Alight pattern call) = call
 
-abbrev pub arc_of : Source → ℕ → PlainArc
-arc_of (source.Road arc) i = Road arc
-arc_of (source.Link link) i = Link link
-arc_of source.Stand i = Stand
-arc_of (source.Alight pattern call) i = Ride (record { pattern = pattern; board = i; alight = call })
+abbrev pub plain_arc_of : Source → ℕ → PlainArc
+plain_arc_of (source.Road arc) i = Road arc
+plain_arc_of (source.Link link) i = Link link
+plain_arc_of source.Stand i = Stand
+plain_arc_of (source.Alight pattern call) i = Ride (record { pattern = pattern; board = i; alight = call })
 
 -- what leads to a node, of the rows that list it
 abbrev pub arcs_into : (ℕ → List Source) → ℕ → List PlainArc
-arcs_into rows v = flat_map arcs_of (rows v)
+arcs_into rows v = flat_map plain_arcs_of (rows v)
 
 -- where an arc comes from, and its letter
 abbrev pub mirror_arc : NetworkLists → TableLists → ℕ → PlainArc → GraphArc

@@ -11,12 +11,12 @@ use Rattle.plain_graph.specs.PlainArcs.{pattern_call}
 use Rattle.latest_departure.specs.declared.source.Source.{Source}
 use Rattle.latest_departure.specs.declared.source.Source.TheVariants as source
 
-abbrev pub ride_of : ℕ → ℕ → ℕ → RideCalls
-ride_of pattern call board = record { pattern = pattern; board = board; alight = call }
+abbrev pub ride_calls : ℕ → ℕ → ℕ → RideCalls
+ride_calls pattern call board = record { pattern = pattern; board = board; alight = call }
 
 -- a ride of a run, as the arc at a place, if one may board
-abbrev pub ride_ways : NetworkLists → TableLists → ℕ → Instance → ℕ → RideCalls → List Way
-ride_ways n t deadline run place ride =
+abbrev pub mirror_ride_ways : NetworkLists → TableLists → ℕ → Instance → ℕ → RideCalls → List Way
+mirror_ride_ways n t deadline run place ride =
     if (pattern_call t ride.pattern ride.board).board then record {
       place = place;
       arc = record { to = stop_node n (pattern_call t ride.pattern ride.board).stop; letter = Some (pattern_trip t ride.pattern).letter };
@@ -24,9 +24,9 @@ ride_ways n t deadline run place ride =
     } ∷ [] else []
 
 -- its rides to a call from each earlier one, as the arcs from this place on
-abbrev pub run_ways : NetworkLists → TableLists → ℕ → ℕ → ℕ → ℕ → Option Instance → List Way
-run_ways n t deadline place pattern call None = []
-run_ways n t deadline place pattern call (Some run) = flat_map (λ board. ride_ways n t deadline run (place + board) (ride_of pattern call board)) (range_with_len 0 call)
+abbrev pub mirror_run_ways : NetworkLists → TableLists → ℕ → ℕ → ℕ → ℕ → Option Instance → List Way
+mirror_run_ways n t deadline place pattern call None = []
+mirror_run_ways n t deadline place pattern call (Some run) = flat_map (λ board. mirror_ride_ways n t deadline run (place + board) (ride_calls pattern call board)) (range_with_len 0 call)
 
 -- What a source of v stands for, as the arcs from this place on. One run makes all rides to a call: of those that are over by the deadline less s, the one
 -- that departs last.
@@ -35,4 +35,4 @@ source_ways n t deadline v s letters place (source.Road arc) = open_way letters 
 source_ways n t deadline v s letters place (source.Link link) = open_way letters place (record { to = link.from; letter = None }) (Some (s + link.ms))
 source_ways n t deadline v s letters place source.Stand = open_way letters place (record { to = v; letter = mode_at n.roads v }) (Some s)
 source_ways n t deadline v s letters place (source.Alight pattern call) =
-    if nat_le s deadline && is_open letters (Some (pattern_trip t pattern).letter) then run_ways n t deadline place pattern call (last_run t pattern call (deadline - s)) else []
+    if nat_le s deadline && is_open letters (Some (pattern_trip t pattern).letter) then mirror_run_ways n t deadline place pattern call (last_run t pattern call (deadline - s)) else []

@@ -1,6 +1,7 @@
 -- An automaton that reads words from their ends.
 use Rattle.std.specs.Prelude.{◌≡◌, ℕ, ◌<◌, ◌≤◌, ◌==◌, ◌↔◌, Bool, List, [], ◌∷◌, length, reverse, slice_index_or, false, if◌then◌else◌}
 use Rattle.std.specs.List.{flat_map, range_with_len, sum_by}
+use Rattle.automaton.specs.States.{no_move}
 use Rattle.search_laws.specs.declared.labels.Move.{Move}
 use Rattle.search_laws.specs.LabelLaws.{LabelsMeaning, HasMove, Accepts}
 
@@ -33,9 +34,6 @@ turned_from l r q n = flat_map (turned l r q) (range_with_len 0 n)
 
 abbrev pub turned_below : LabelsMeaning → ℕ → ℕ → List Move
 turned_below l r n = flat_map (λ q. turned_from l r q (l.moves q)) (range_with_len 0 n)
-
-abbrev pub no_move : Move
-no_move = record { letters = 0; to = 0 }
 
 -- a state: its moves, and whether one may start and end there
 pub record StateLists : Type 0 where

@@ -3,7 +3,7 @@ use Rattle.std.specs.Prelude.{◌≡◌, ◌<◌, ◌≤◌, ◌^◌}
 use Rattle.journey.specs.Best.{Asked}
 use Rattle.latest_departure.specs.declared.search.LateSearch.{LateSearch}
 use Rattle.latest_departure.specs.Late.{deadline, first_moment}
-use Rattle.latest_departure.specs.Latest.{span, ReadsFromEnds, AreEnds}
+use Rattle.latest_departure.specs.Latest.{span, ReadsFromEnds, AreSwappedEnds}
 use Rattle.latest_departure.specs.BackLists.{BackLists}
 use Rattle.latest_departure.specs.Meanings.{reversed_meaning}
 
@@ -15,4 +15,4 @@ pub record IsSearchFor (b : BackLists) (q : Asked) (s : LateSearch) : Type 0 whe
   pub not_before : first_moment b.network ≤ deadline q
   pub back_to : s.span ≡ span b.network q
   pub reads : ReadsFromEnds q (reversed_meaning s.machine.labels.inner)
-  pub ends : AreEnds b.network q s.starts.items s.targets.items
+  pub ends : AreSwappedEnds b.network q s.starts.items s.targets.items

@@ -6,7 +6,7 @@ ghost use Rattle.mode_expression.specs.Form.{form_of, IsUsable};
 ghost use Rattle.service_days.specs.Clock.{clock_text_of};
 ghost use Rattle.journey.specs.Blocks.{AddsText, IsPrintable};
 ghost use Rattle.journey.specs.Queries.{IsQuery};
-ghost use Rattle.latest_departure.specs.Blocks.{IsLateText, IsResultText, IsAnswerBlock, IsLateBlock};
+ghost use Rattle.latest_departure.specs.Blocks.{IsLateJourneyText, IsResultText, IsAnswerBlock, IsLateBlock};
 ghost use Rattle.latest_departure.specs.Limits.{IsLateBlockWithin};
 
 use crate::backwards::Backwards;
@@ -22,7 +22,8 @@ use std::alloc::{AllocError, Global};
 
 /// The line of a departure.
 fn push_departure(out: &mut Vec<u8>, network: &Network, t: Time) -> Result<(), AllocError>
-    ensures { OnOk result (out.new.items ≡ out.old.items ++ with_feed (codes "depart " ++ clock_text_of network.now.days t)) }
+    ensures { OnOk result (out.new.items ≡ out.old.items ++ with_feed
+        (codes "depart " ++ clock_text_of network.now.days t)) }
 {
     out.extend_from_slice(b"depart ")?;
     network.days().push_clock(out, t)?;
@@ -37,7 +38,7 @@ fn push_late(
     journey: &Journey,
 ) -> Result<(), AllocError>
     requires { IsPrintable network.now journey.now }
-    ensures { OnOk result (AddsText (IsLateText network.now journey.now) out.old.items out.new.items) }
+    ensures { OnOk result (AddsText (IsLateJourneyText network.now journey.now) out.old.items out.new.items) }
 {
     push_departure(out, network, journey.at)?;
     push_journey(alloc, out, network, journey)?;
@@ -86,7 +87,8 @@ fn query_block(
     query: &Query,
     limit: Option<u64>,
 ) -> Result<Vec<u8>, AllocError>
-    requires asks { IsQuery backwards.now.network line.now query.now.from query.now.to query.now.depart (form_of query.now.expr) }
+    requires asks { IsQuery backwards.now.network line.now query.now.from query.now.to query.now.depart
+        (form_of query.now.expr) }
     requires line { query.now.line ≡ line.now }
     requires usable { IsUsable (form_of query.now.expr) }
     ensures { IfOk result (λ block. IsLateBlockWithin backwards.now.network limit line.now block.items) }

@@ -45,8 +45,9 @@ fn best_at(
 ) -> Result<Option<Journey>, AllocError>
     requires usable { IsUsable (form_of query.now.expr) }
     requires search { IsSearchFor backwards.now (asked_by query.now) search.now }
-    requires moment { IsArrival (mirrored backwards.now query.now.depart) (collapsed (reversed_meaning search.now.machine.labels.inner))
-        search.now.starts.items search.now.targets.items 0 (Some (span backwards.now.network (asked_by query.now))) moment }
+    requires moment { IsArrival (mirrored backwards.now query.now.depart)
+        (collapsed (reversed_meaning search.now.machine.labels.inner)) search.now.starts.items
+        search.now.targets.items 0 (Some (span backwards.now.network (asked_by query.now))) moment }
     ensures { IfOk result (IsLate backwards.now.network (asked_by query.now)) }
 {
     backwards.known();
@@ -71,10 +72,13 @@ fn least_moment(
     limit: Option<u64>,
 ) -> Result<Limited<Option<Time>>, AllocError>
     requires { IsSearchFor backwards.now (asked_by query.now) search.now }
-    ensures moment { IfEnded result (IsArrival (mirrored backwards.now query.now.depart) (collapsed (reversed_meaning search.now.machine.labels.inner))
-        search.now.starts.items search.now.targets.items 0 (Some (span backwards.now.network (asked_by query.now)))) }
-    ensures few { IfEnded result (λ _. IfSome limit (LateSearchHasAtMost backwards.now.network (asked_by query.now))) }
-    ensures stopped { IfStopped result (λ most. (limit ≡ Some most) × LateSearchHasMore backwards.now.network (asked_by query.now) most) }
+    ensures moment { IfEnded result (IsArrival (mirrored backwards.now query.now.depart)
+        (collapsed (reversed_meaning search.now.machine.labels.inner)) search.now.starts.items
+        search.now.targets.items 0 (Some (span backwards.now.network (asked_by query.now)))) }
+    ensures few { IfEnded result (λ _. IfSome limit (LateSearchHasAtMost backwards.now.network
+        (asked_by query.now))) }
+    ensures stopped { IfStopped result (λ most. (limit ≡ Some most)
+        × LateSearchHasMore backwards.now.network (asked_by query.now) most) }
 {
     backwards.known();
     if limit.is_none() {
@@ -125,7 +129,8 @@ pub fn find_latest(
     backwards: &Backwards<'_>,
     query: &Query,
 ) -> Result<Option<Journey>, AllocError>
-    requires asks { IsQuery backwards.now.network query.now.line query.now.from query.now.to query.now.depart (form_of query.now.expr) }
+    requires asks { IsQuery backwards.now.network query.now.line query.now.from query.now.to query.now.depart
+        (form_of query.now.expr) }
     requires usable { IsUsable (form_of query.now.expr) }
     ensures { IfOk result (IsLate backwards.now.network (asked_by query.now)) }
 {
@@ -142,11 +147,14 @@ pub fn find_latest_within(
     query: &Query,
     limit: Option<u64>,
 ) -> Result<Limited<Option<Journey>>, AllocError>
-    requires asks { IsQuery backwards.now.network query.now.line query.now.from query.now.to query.now.depart (form_of query.now.expr) }
+    requires asks { IsQuery backwards.now.network query.now.line query.now.from query.now.to query.now.depart
+        (form_of query.now.expr) }
     requires usable { IsUsable (form_of query.now.expr) }
     ensures journey { IfEnded result (IsLate backwards.now.network (asked_by query.now)) }
-    ensures few { IfEnded result (λ _. IfSome limit (LateSearchHasAtMost backwards.now.network (asked_by query.now))) }
-    ensures stopped { IfStopped result (λ most. (limit ≡ Some most) × LateSearchHasMore backwards.now.network (asked_by query.now) most) }
+    ensures few { IfEnded result (λ _. IfSome limit (LateSearchHasAtMost backwards.now.network
+        (asked_by query.now))) }
+    ensures stopped { IfStopped result (λ most. (limit ≡ Some most)
+        × LateSearchHasMore backwards.now.network (asked_by query.now) most) }
 {
     let search = LateSearch::new(alloc, backwards, query)?;
     let moment = match least_moment(alloc, workspace, backwards, query, &search, limit)? {
@@ -160,7 +168,8 @@ pub fn find_latest_within(
 /// What is answered for a deadline, with a table and a workspace of its own: such a journey, and exactly the labels of the
 /// search through mirrored time, up to the region's first date.
 pub fn latest(alloc: Global, network: &Network, query: &Query) -> Result<Late, AllocError>
-    requires asks { IsQuery network.now query.now.line query.now.from query.now.to query.now.depart (form_of query.now.expr) }
+    requires asks { IsQuery network.now query.now.line query.now.from query.now.to query.now.depart
+        (form_of query.now.expr) }
     requires usable { IsUsable (form_of query.now.expr) }
     ensures journey { IfOk result (λ late. IsLate network.now (asked_by query.now) late.journey) }
     ensures labels { IfOk result (λ late. AreLateLabels network.now (asked_by query.now) late.labels.items) }
@@ -177,13 +186,16 @@ pub fn latest_within(
     query: &Query,
     limit: Option<u64>,
 ) -> Result<Limited<Late>, AllocError>
-    requires asks { IsQuery network.now query.now.line query.now.from query.now.to query.now.depart (form_of query.now.expr) }
+    requires asks { IsQuery network.now query.now.line query.now.from query.now.to query.now.depart
+        (form_of query.now.expr) }
     requires usable { IsUsable (form_of query.now.expr) }
     ensures journey { IfEnded result (λ late. IsLate network.now (asked_by query.now) late.journey) }
-    ensures labels { IfEnded result (λ late. AreLateLabels network.now (asked_by query.now) late.labels.items) }
+    ensures labels { IfEnded result (λ late. AreLateLabels network.now (asked_by query.now)
+        late.labels.items) }
     ensures times { IfEnded result (λ late. All (λ x. x.at < time_bound) late.labels.items) }
     ensures few { IfEnded result (λ late. IfSome limit (λ most. length late.labels.items ≤ most)) }
-    ensures stopped { IfStopped result (λ most. (limit ≡ Some most) × LateSearchHasMore network.now (asked_by query.now) most) }
+    ensures stopped { IfStopped result (λ most. (limit ≡ Some most)
+        × LateSearchHasMore network.now (asked_by query.now) most) }
 {
     let mut workspace = Workspace::new(alloc);
     let backwards = Backwards::new(alloc, network)?;

@@ -4,8 +4,8 @@ ghost use Rattle.std.specs.Prelude.{◌<◌, ◌^◌, IfOk};
 ghost use Rattle.mode_expression.specs.Form.{form_of, IsUsable};
 ghost use Rattle.journey.specs.Best.{asked_by};
 ghost use Rattle.unpack.specs.Taken.{IsPlainWalk};
-ghost use Rattle.latest_departure.specs.Forward.{IsFirstIfAny, IsUnpacked, leaving};
-ghost use Rattle.latest_departure.specs.Latest.{AreEnds};
+ghost use Rattle.latest_departure.specs.Forward.{IsFirstIfAny, IsJourneyUnpacked, leaving};
+ghost use Rattle.latest_departure.specs.Latest.{AreSwappedEnds};
 
 use crate::search::LateSearch;
 use automaton::{Collapsed, Positions};
@@ -24,7 +24,7 @@ fn unpacked(
     walk: &Option<Walk>,
 ) -> Result<Option<Journey>, AllocError>
     requires { IsPlainWalk plain.now.network.now plain.now.timetable.now walk.now }
-    ensures { IfOk result (IsUnpacked plain.now.network.now plain.now.timetable.now walk.now) }
+    ensures { IfOk result (IsJourneyUnpacked plain.now.network.now plain.now.timetable.now walk.now) }
 {
     match walk {
         Some(walk) => {
@@ -46,7 +46,8 @@ pub(crate) fn first_from(
     at: Time,
 ) -> Result<Option<Journey>, AllocError>
     requires usable { IsUsable (form_of query.now.expr) }
-    requires ends { AreEnds network.now (asked_by query.now) search.now.starts.items search.now.targets.items }
+    requires ends { AreSwappedEnds network.now (asked_by query.now) search.now.starts.items
+        search.now.targets.items }
     requires soon { at < 2 ^ 64 }
     ensures { IfOk result (IsFirstIfAny network.now (leaving (asked_by query.now) at)) }
 {

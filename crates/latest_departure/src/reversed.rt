@@ -48,7 +48,8 @@ fn push_turned<L: Labels>(
     moves: &mut Vec<Move>,
 ) -> Result<(), AllocError>
     requires { q < (L.automaton inner.now).states }
-    ensures { OnOk result (moves.new.items ≡ moves.old.items ++ turned_from (L.automaton inner.now) r q ((L.automaton inner.now).moves q)) }
+    ensures { OnOk result (moves.new.items ≡ moves.old.items ++ turned_from (L.automaton inner.now) r q
+        ((L.automaton inner.now).moves q)) }
 {
     for i in 0..inner.moves(q) {
         push_if(moves, inner.move_at(q, i), q, r)?;
@@ -58,7 +59,8 @@ fn push_turned<L: Labels>(
 
 /// The moves that lead to the state `r`, turned round.
 fn turned_below<L: Labels>(alloc: Global, inner: &L, r: u32) -> Result<Vec<Move>, AllocError>
-    ensures { IfOk result (λ moves. moves.items ≡ turned_below (L.automaton inner.now) r (L.automaton inner.now).states) }
+    ensures { IfOk result (λ moves. moves.items ≡ turned_below (L.automaton inner.now) r
+        (L.automaton inner.now).states) }
 {
     let mut moves = Vec::new(alloc);
     for q in 0..inner.states() {
@@ -82,7 +84,8 @@ fn turned_state<L: Labels>(alloc: Global, inner: &L, r: u32) -> Result<State, Al
 
 /// The states that stand for those of an automaton, in order.
 fn turned_states<L: Labels>(alloc: Global, inner: &L) -> Result<Vec<State>, AllocError>
-    ensures { IfOk result (λ states. map view_of states.items ≡ map (turned_state (L.automaton inner.now)) (range_with_len 0 (L.automaton inner.now).states)) }
+    ensures { IfOk result (λ states. map view_of states.items ≡ map (turned_state (L.automaton inner.now))
+        (range_with_len 0 (L.automaton inner.now).states)) }
 {
     let mut states = Vec::new(alloc);
     for r in 0..inner.states() {
@@ -98,9 +101,12 @@ impl Reversed {
     /// The automaton that accepts exactly the reverses of the words that another accepts. Fails where memory runs out.
     pub fn of<L: Labels>(alloc: Global, inner: &L) -> Result<Reversed, AllocError>
         requires { all_moves (L.automaton inner.now) ≤ 2 ^ 16 }
-        ensures reversed { IfOk result (λ labels. IsReversed (L.automaton inner.now) (reversed_meaning labels)) }
-        ensures accepts { IfOk result (λ labels. AcceptsReversed (L.automaton inner.now) (reversed_meaning labels)) }
-        ensures few_moves { IfOk result (λ labels. (q : ℕ) → q < (L.automaton inner.now).states → (reversed_meaning labels).moves q ≤ 2 ^ 16) }
+        ensures reversed { IfOk result (λ labels. IsReversed (L.automaton inner.now)
+            (reversed_meaning labels)) }
+        ensures accepts { IfOk result (λ labels. AcceptsReversed (L.automaton inner.now)
+            (reversed_meaning labels)) }
+        ensures few_moves { IfOk result (λ labels. (q : ℕ) → q < (L.automaton inner.now).states
+            → (reversed_meaning labels).moves q ≤ 2 ^ 16) }
     {
         let states = turned_states(alloc, inner)?;
         Ok(Reversed { states })

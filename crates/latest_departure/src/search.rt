@@ -37,7 +37,8 @@ impl<'a> LateSearch<'a> {
         backwards: &'a Backwards<'a>,
         query: &Query,
     ) -> Result<LateSearch<'a>, AllocError>
-        requires asks { IsQuery backwards.now.network query.now.line query.now.from query.now.to query.now.depart (form_of query.now.expr) }
+        requires asks { IsQuery backwards.now.network query.now.line query.now.from query.now.to
+            query.now.depart (form_of query.now.expr) }
         requires usable { IsUsable (form_of query.now.expr) }
         ensures { IfOk result (IsSearchFor backwards.now (asked_by query.now)) }
     {

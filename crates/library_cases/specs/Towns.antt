@@ -18,15 +18,15 @@ abbrev pub letter_drawn : ℕ → Option ℕ
 letter_drawn n = cond (n == 0) None (Some n)
 
 -- the next multiple of the period, and the ride after it, if that is not past the last time
-abbrev pub timed : ℕ → ℕ → ℕ → ℕ → Option ℕ
-timed every last ms t = cond (nat_lt last t) None (Some ((t + (every - 1)) / every * every + ms))
+abbrev pub timetabled : ℕ → ℕ → ℕ → ℕ → Option ℕ
+timetabled every last ms t = cond (nat_lt last t) None (Some ((t + (every - 1)) / every * every + ms))
 
 abbrev pub town : ℕ → ℕ → GraphMeaning
 town seed nodes = record {
   nodes = nodes;
   arcs = λ v. 3;
   arc_at = λ v i. record { to = drawn seed v i 1 nodes; letter = letter_drawn (drawn seed v i 2 4) };
-  arrive = λ v i t. timed (drawn seed v i 3 7 + 1) (drawn seed v i 4 40) (drawn seed v i 5 6) t;
+  arrive = λ v i t. timetabled (drawn seed v i 3 7 + 1) (drawn seed v i 4 40) (drawn seed v i 5 6) t;
 }
 
 abbrev pub rules : ℕ → ℕ → LabelsMeaning
@@ -59,7 +59,7 @@ unfolding next
 next_rises every s t some le = mul-le-mul_right every
     (le-div ((s + (every - 1)) / every) (t + (every - 1)) every some (omega (arith, div-mul-le_self (s + (every - 1)) every)))
 
-timed_parts : (every last ms t u : ℕ) → timed every last ms t ≡ Some u → (nat_lt last t ≡ false) × (u ≡ next every t + ms)
+timed_parts : (every last ms t u : ℕ) → timetabled every last ms t ≡ Some u → (nat_lt last t ≡ false) × (u ≡ next every t + ms)
 unfolding next
 timed_parts every last ms t u is = go (nat_lt last t) refl where
   go : (b : Bool) → nat_lt last t ≡ b → (nat_lt last t ≡ false) × (u ≡ (t + (every - 1)) / every * every + ms)
@@ -67,9 +67,9 @@ timed_parts every last ms t u is = go (nat_lt last t) refl where
   go false e = (let h : Some ((t + (every - 1)) / every * every + ms) ≡ Some u = sym (ap (λ b. cond b None (Some ((t + (every - 1)) / every * every + ms))) e) ∙ is in
       let same : u ≡ (t + (every - 1)) / every * every + ms = cc in (e, same))
 
-timed_none : (every last ms s t : ℕ) → s ≤ t → timed every last ms s ≡ None → timed every last ms t ≡ None
+timed_none : (every last ms s t : ℕ) → s ≤ t → timetabled every last ms s ≡ None → timetabled every last ms t ≡ None
 timed_none every last ms s t le none = go (nat_lt last s) refl where
-  go : (b : Bool) → nat_lt last s ≡ b → timed every last ms t ≡ None
+  go : (b : Bool) → nat_lt last s ≡ b → timetabled every last ms t ≡ None
   go true e = ap (λ b. cond b None (Some ((t + (every - 1)) / every * every + ms))) (lt-ltb last t (omega (arith, ltb-true last s e)))
   go false e = (let h : None ≡ Some ((s + (every - 1)) / every * every + ms) = sym none ∙ ap (λ b. cond b None (Some ((s + (every - 1)) / every * every + ms))) e in cc)
 

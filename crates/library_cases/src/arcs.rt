@@ -52,8 +52,10 @@ pub fn unpacked(rt: &HostRuntime, network: &Network, words: &[u8]) {
 /// Prints the steps of the walk from a node by a hop.
 fn print_walk(rt: &HostRuntime, plain: &Plain<'_>, node: u32, at: Time, hop: Hop)
     requires has { HasArc (plain_meaning plain.now.network.now plain.now.timetable.now) node hop.arc }
-    requires arrives { (plain_meaning plain.now.network.now plain.now.timetable.now).arrive node hop.arc at ≡ Some hop.at }
-    requires to { hop.to ≡ ((plain_meaning plain.now.network.now plain.now.timetable.now).arc_at node hop.arc).to }
+    requires arrives { (plain_meaning plain.now.network.now plain.now.timetable.now).arrive node hop.arc at
+        ≡ Some hop.at }
+    requires to { hop.to ≡ ((plain_meaning plain.now.network.now plain.now.timetable.now).arc_at node
+        hop.arc).to }
 {
     if let Ok(hops) = vec![in rt.alloc(); hop] {
         let walk = Walk {
@@ -76,9 +78,12 @@ fn print_journey(rt: &HostRuntime, journey: &Journey) {
 
 /// The hop by the arc at place `i` of those out of `v`, taken at `t`.
 fn hop(plain: &Plain<'_>, v: u32, t: Time, i: u64) -> Option<Hop>
-    ensures has { IfSome result (λ h. HasArc (plain_meaning plain.now.network.now plain.now.timetable.now) v h.arc) }
-    ensures arrives { IfSome result (λ h. (plain_meaning plain.now.network.now plain.now.timetable.now).arrive v h.arc t ≡ Some h.at) }
-    ensures to { IfSome result (λ h. h.to ≡ ((plain_meaning plain.now.network.now plain.now.timetable.now).arc_at v h.arc).to) }
+    ensures has { IfSome result (λ h. HasArc (plain_meaning plain.now.network.now
+        plain.now.timetable.now) v h.arc) }
+    ensures arrives { IfSome result (λ h. (plain_meaning plain.now.network.now plain.now.timetable.now).arrive
+        v h.arc t ≡ Some h.at) }
+    ensures to { IfSome result (λ h. h.to ≡ ((plain_meaning plain.now.network.now
+        plain.now.timetable.now).arc_at v h.arc).to) }
 {
     if v >= plain.nodes() || t >= 1_000_000_000_000_000_000_000 {
         return None;

@@ -22,8 +22,8 @@ use Rattle.journey.specs.Best.{Asks, asked_by}
 use Rattle.journey.specs.Large.{IsSmall}
 use Rattle.journey.proofs.LargeLemmas.{same_size}
 use Rattle.planning.specs.Arrivals.{asked_to}
-use Rattle.matrix_commands.specs.Cells.{line_of}
-use Rattle.matrix_commands.specs.Working.{IsEnd, IsField}
+use Rattle.matrix_commands.specs.Cells.{query_line_of}
+use Rattle.matrix_commands.specs.Working.{IsEndQuery, IsField}
 
 -- ---- the fields of the query line
 
@@ -49,7 +49,7 @@ cut text rest field =
     ∙ ap₂ (λ (a b : List ℕ). Some (a, b)) (take-append_seam text (32 ∷ rest)) (drop-append-add text (32 ∷ rest) 1)
 
 module _ (date time expr : List ℕ) (date_field : IsField date) (time_field : IsField time) where
-  fields : (from to : List ℕ) → IsField from → IsField to → fields_of (line_of date time expr from to) ≡ Some (record { from = from; to = to; date = date; time = time; expr = expr })
+  fields : (from to : List ℕ) → IsField from → IsField to → fields_of (query_line_of date time expr from to) ≡ Some (record { from = from; to = to; date = date; time = time; expr = expr })
   unfolding spaced
   fields from to from_field to_field =
       rw (cut from (to ++ 32 ∷ (date ++ 32 ∷ (time ++ 32 ∷ expr))) from_field, cut to (date ++ 32 ∷ (time ++ 32 ∷ expr)) to_field, cut date (time ++ 32 ∷ expr) date_field, cut time expr time_field) refl
@@ -84,17 +84,17 @@ module _ (date time expr : List ℕ) (date_field : IsField date) (time_field : I
             expr_is = ap (λ (z : Shape). z.expr) (sym shape);
           }
 
-  shape_parts : (from to : List ℕ) → IsField from → IsField to → (s : Shape) → shape_of (line_of date time expr from to) ≡ Some s → HasParts from to s
+  shape_parts : (from to : List ℕ) → IsField from → IsField to → (s : Shape) → shape_of (query_line_of date time expr from to) ≡ Some s → HasParts from to s
   shape_parts from to from_field to_field s e = parts from to s (sym (ap (option_and_then shape_of_fields) (fields from to from_field to_field)) ∙ e)
 
   parts_shape : (from to : List ℕ) → IsField from → IsField to → (a b : Endpoint) → (is_filled date && is_filled time) ≡ true → endpoint_of from ≡ Some a → endpoint_of to ≡ Some b
-      → shape_of (line_of date time expr from to) ≡ Some (record { from = a; to = b; date = date; time = time; expr = expr })
+      → shape_of (query_line_of date time expr from to) ≡ Some (record { from = a; to = b; date = date; time = time; expr = expr })
   parts_shape from to from_field to_field a b filled from_is to_is =
       ap (option_and_then shape_of_fields) (fields from to from_field to_field) ∙ rw (filled, from_is, to_is) refl
 
 -- ---- what it asks
 
-pub pair_asks : (n : NetworkLists) (places : Option ℕ) (date time expr from to : List ℕ) (p q : Query) → IsEnd n places date time expr from p → IsEnd n places date time expr to q → Asks n (line_of date time expr from to) (asked_to p q)
+pub pair_asks : (n : NetworkLists) (places : Option ℕ) (date time expr from to : List ℕ) (p q : Query) → IsEndQuery n places date time expr from p → IsEndQuery n places date time expr to q → Asks n (query_line_of date time expr from to) (asked_to p q)
 pair_asks n places date time expr from to p q one other =
     let a = subst (λ (line : List ℕ). IsQuery n line p.from p.to p.depart (form_of p.expr)) one.line_is one.read.asks in
     let b = subst (λ (line : List ℕ). IsQuery n line q.from q.to q.depart (form_of q.expr)) other.line_is other.read.asks in
@@ -118,14 +118,14 @@ pair_asks n places date time expr from to p q one other =
     }
 
 -- its expression is that of the one, so it has no more places than are allowed
-pub pair_small : (n : NetworkLists) (places : Option ℕ) (date time expr from to : List ℕ) (p q : Query) → IsEnd n places date time expr from p → IsEnd n places date time expr to q
-    → IsSmall n places (line_of date time expr from to)
+pub pair_small : (n : NetworkLists) (places : Option ℕ) (date time expr from to : List ℕ) (p q : Query) → IsEndQuery n places date time expr from p → IsEndQuery n places date time expr to q
+    → IsSmall n places (query_line_of date time expr from to)
 pair_small n places date time expr from to p q one other =
-    same_size n places p.line (line_of date time expr from to) (asked_by p) (asked_to p q) one.read.asks (pair_asks n places date time expr from to p q one other) refl one.small
+    same_size n places p.line (query_line_of date time expr from to) (asked_by p) (asked_to p q) one.read.asks (pair_asks n places date time expr from to p q one other) refl one.small
 
 -- ---- how a query line is put together, and lines that ask as both ends
 
-pub line_is : (date time expr from to : List ℕ) → (((from ++ 32 ∷ to) ++ 32 ∷ date) ++ 32 ∷ time) ++ 32 ∷ expr ≡ line_of date time expr from to
+pub line_is : (date time expr from to : List ℕ) → (((from ++ 32 ∷ to) ++ 32 ∷ date) ++ 32 ∷ time) ++ 32 ∷ expr ≡ query_line_of date time expr from to
 unfolding spaced
 line_is date time expr from to = simp append_assoc
 

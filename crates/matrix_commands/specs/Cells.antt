@@ -12,8 +12,8 @@ use Rattle.matrix_commands.specs.declared.cell.Cell.{Cell}
 use Rattle.matrix_commands.specs.declared.cell.Cell.TheVariants.{Takes, Without, Refused}
 
 -- the query line of an origin and a destination: its fields, joined by one space each
-abbrev pub line_of : (date time expr from to : List ℕ) → List ℕ
-line_of date time expr from to = spaced (from ∷ to ∷ date ∷ time ∷ expr ∷ [])
+abbrev pub query_line_of : (date time expr from to : List ℕ) → List ℕ
+query_line_of date time expr from to = spaced (from ∷ to ∷ date ∷ time ∷ expr ∷ [])
 
 -- the milliseconds from the departure to the arrival of a best journey; that there is none; or the fault with which the line is refused
 abbrev pub IsCellOf : NetworkLists → List ℕ → Cell → Type 0

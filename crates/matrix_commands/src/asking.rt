@@ -1,8 +1,8 @@
 //! What is asked of each origin and each destination, and their query lines.
 
 ghost use Rattle.std.specs.Prelude.{◌≡◌, ◌∷◌, ◌++◌, ◌==◌, ◌↔◌, [], IfOk, IfSome, IsTrue, OnOk, map, position};
-ghost use Rattle.matrix_commands.specs.Cells.{line_of};
-ghost use Rattle.matrix_commands.specs.Working.{AreEnds, IsEndIfAny, IsField};
+ghost use Rattle.matrix_commands.specs.Cells.{query_line_of};
+ghost use Rattle.matrix_commands.specs.Working.{AreEndQueries, IsEndIfAny, IsField};
 
 use journey::{Query, QueryFault, large_places, read_query};
 use mode_network::Network;
@@ -20,7 +20,7 @@ pub struct Asking<'a> {
 
 impl Asking<'_> {
     ghost use Rattle.std.specs.Prelude.{◌≡◌, ◌↔◌, IfOk, IsTrue};
-    ghost use Rattle.matrix_commands.specs.Cells.{line_of};
+    ghost use Rattle.matrix_commands.specs.Cells.{query_line_of};
     ghost use Rattle.matrix_commands.specs.Working.{IsField};
 
     /// The query line of an origin and a destination.
@@ -31,7 +31,7 @@ impl Asking<'_> {
         to: &[u8],
     ) -> Result<Vec<u8>, AllocError>
         ensures { IfOk result (λ line. line.items ≡
-            line_of self.now.date.now self.now.time.now self.now.expr.now from.now to.now) }
+            query_line_of self.now.date.now self.now.time.now self.now.expr.now from.now to.now) }
     {
         let mut line = Vec::from_slice(alloc, from)?;
         push_field(&mut line, to)?;
@@ -79,8 +79,8 @@ pub(crate) fn read_end(
     asking: &Asking<'_>,
     line: &[u8],
 ) -> Result<Option<Query>, AllocError>
-    ensures { IfOk result (IsEndIfAny network.now asking.now.places asking.now.date.now asking.now.time.now asking.now.expr.now
-        line.now) }
+    ensures { IfOk result (IsEndIfAny network.now asking.now.places asking.now.date.now asking.now.time.now
+        asking.now.expr.now line.now) }
 {
     if !asking.is_apart(line) {
         return Ok(None);
@@ -103,8 +103,8 @@ pub(crate) fn read_ends(
     asking: &Asking<'_>,
     lines: &[&[u8]],
 ) -> Result<Vec<Option<Query>>, AllocError>
-    ensures { IfOk result (λ queries. AreEnds network.now asking.now.places asking.now.date.now asking.now.time.now asking.now.expr.now
-        (map (λ line. line.now) lines.now) queries.items) }
+    ensures { IfOk result (λ queries. AreEndQueries network.now asking.now.places asking.now.date.now
+        asking.now.time.now asking.now.expr.now (map (λ line. line.now) lines.now) queries.items) }
 {
     let mut queries = Vec::new(alloc);
     for line in lines {

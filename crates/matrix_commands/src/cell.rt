@@ -5,7 +5,7 @@ ghost use Rattle.hierarchy.specs.Soundness.{IsSound};
 ghost use Rattle.plain_texts.specs.Lines.{with_feed};
 ghost use Rattle.matrix_commands.specs.Cells.{IsRightCell, cell_text};
 ghost use Rattle.matrix_commands.specs.Rows.{row_text};
-ghost use Rattle.matrix_commands.specs.Working.{timed};
+ghost use Rattle.matrix_commands.specs.Working.{cell_of_arrival};
 
 use hierarchy::Hierarchy;
 use journey::{QueryFault, large_places, push_refusal, read_query};
@@ -53,7 +53,7 @@ pub(crate) fn cell_of(
 
 /// The cell of the arrival of a best journey, if there is one.
 pub(crate) fn timed(depart: Time, arrival: Option<Time>) -> Cell
-    ensures { result ≡ timed depart arrival }
+    ensures { result ≡ cell_of_arrival depart arrival }
 {
     match arrival {
         Some(arrival) => Cell::Takes(arrival.saturating_sub(depart)),

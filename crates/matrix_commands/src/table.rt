@@ -1,7 +1,7 @@
 //! The rows of a table of times.
 
 ghost use Rattle.std.specs.Prelude.{◌≡◌, ◌<◌, [], IfOk, length, slice_index_or};
-ghost use Rattle.matrix_commands.specs.Working.{AreRowsIn, IsCellIn, IsOrigin, IsTable, lines_in};
+ghost use Rattle.matrix_commands.specs.Working.{AreRowsIn, IsCellIn, IsOrigin, IsReadyTable, lines_in};
 
 use crate::asking::{Asking, read_end};
 use crate::cell::{Cell, cell_of, push_row, timed};
@@ -30,9 +30,9 @@ struct Origin<'a> {
 
 impl LineBlocks for Table<'_> {
     ghost use Rattle.std.specs.Prelude.{◌≡◌};
-    ghost use Rattle.matrix_commands.specs.Working.{AreRowsIn, IsTable};
+    ghost use Rattle.matrix_commands.specs.Working.{AreRowsIn, IsReadyTable};
 
-    ghost may = { IsTable };
+    ghost may = { IsReadyTable };
 
     ghost is_block = { AreRowsIn };
 
@@ -62,7 +62,7 @@ impl LineBlocks for Table<'_> {
 impl Table<'_> {
     /// The rows of an origin, one for each destination, in order.
     fn rows_of(&self, alloc: Global, room: &mut Room, from: &[u8]) -> Result<Vec<u8>, AllocError>
-        requires { IsTable self.now }
+        requires { IsReadyTable self.now }
         ensures { IfOk result (λ rows. AreRowsIn self.now from.now rows.items) }
     {
         let origin = self.origin(alloc, room, from)?;
@@ -81,7 +81,7 @@ impl Table<'_> {
         room: &mut Room,
         line: &'b [u8],
     ) -> Result<Origin<'b>, AllocError>
-        requires { IsTable self.now }
+        requires { IsReadyTable self.now }
         ensures line { IfOk result (λ origin. origin.line.now ≡ line.now) }
         ensures is { IfOk result (IsOrigin self.now) }
     {
@@ -102,10 +102,11 @@ impl Table<'_> {
         origin: &Origin<'_>,
         k: usize,
     ) -> Result<Cell, AllocError>
-        requires table { IsTable self.now }
+        requires table { IsReadyTable self.now }
         requires origin { IsOrigin self.now origin.now }
         requires place { k < length self.now.lines.now }
-        ensures { IfOk result (IsCellIn self.now origin.now.line.now (slice_index_or (lines_in self.now) k [])) }
+        ensures { IfOk result (IsCellIn self.now origin.now.line.now
+            (slice_index_or (lines_in self.now) k [])) }
     {
         match (&origin.query, &self.destinations.queries[k]) {
             (Some(query), Some(_)) => Ok(timed(query.depart, origin.times[k])),
@@ -121,7 +122,7 @@ impl Table<'_> {
         from: &[u8],
         to: &[u8],
     ) -> Result<Cell, AllocError>
-        requires { IsTable self.now }
+        requires { IsReadyTable self.now }
         ensures { IfOk result (IsCellIn self.now from.now to.now) }
     {
         let line = self.asking.line_of(alloc, from, to)?;

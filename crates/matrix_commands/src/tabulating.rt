@@ -38,10 +38,11 @@ pub fn matrix<F: Shelf, O: Sink, E: Sink>(
     asking: &Asking<'_>,
     caps: &Caps,
 ) -> Result<(), Outcome>
-    ensures { SaysMatrix caps.now asking.now.places files.now.region.now files.now.origins.now files.now.destinations.now
-        asking.now.date.now asking.now.time.now asking.now.expr.now (option_map (λ it. it.now) files.now.hierarchy)
-        (scene (F.meaning ports.old.shelf) (O.meaning ports.old.out))
-        (scene (F.meaning ports.new.shelf) (O.meaning ports.new.out)) (end_of result) }
+    ensures { SaysMatrix caps.now asking.now.places files.now.region.now files.now.origins.now
+        files.now.destinations.now asking.now.date.now asking.now.time.now asking.now.expr.now
+        (option_map (λ it. it.now) files.now.hierarchy) (scene (F.meaning ports.old.shelf)
+        (O.meaning ports.old.out)) (scene (F.meaning ports.new.shelf) (O.meaning ports.new.out))
+        (end_of result) }
 {
     let alloc = ports.alloc;
     let (shelf, notes) = (&mut ports.shelf, &mut ports.notes);

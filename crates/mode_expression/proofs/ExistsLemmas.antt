@@ -5,7 +5,7 @@ use Rattle.std.proofs.lemmas.Option.{slice_get_past}
 use Rattle.mode_expression.specs.declared.fault.ExprFault.{ExprFault}
 use Rattle.mode_expression.specs.declared.fault.ExprFault.TheVariants.{TooLong, TooDeep, Syntax, TooLarge}
 use Rattle.mode_expression.specs.Form.{Form, places}
-use Rattle.mode_expression.specs.Reading.{Spells, IsTooDeepAt, IsShallow, IsReadAs, reading_of, IsOutcome, OutcomeExists}
+use Rattle.mode_expression.specs.Reading.{Spells, IsTooDeepAt, IsShallow, IsReadAs, reading_of, IsParse, OutcomeExists}
 use Rattle.mode_expression.proofs.ReadingLemmas.{reading_is_right}
 
 module _ (text : List ℕ) where
@@ -59,7 +59,7 @@ module _ (text : List ℕ) where
       by_place false is = let past = slice_get_past text k (grind (arith, nat_tests)) in let e = sym past ∙ deep.0 in cc
 
   abbrev HasOutcome : Type 0
-  HasOutcome = (outcome : Result Form ExprFault) × IsOutcome text outcome
+  HasOutcome = (outcome : Result Form ExprFault) × IsParse text outcome
 
   by_size : length text ≤ 4096 → IsShallow text → (form : Form) → Spells text form → (b : Bool) → nat_le (places form) 200 ≡ b → HasOutcome
   by_size short shallow form spells true is = (Ok form, record { short = short; shallow = shallow; spells = spells; small = grind (arith, nat_tests) })

@@ -6,7 +6,7 @@ use mathlib.Core.Former.{Count}
 use Rattle.mode_expression.specs.declared.expr.Expr.{Expr, Seq, Seq', Alt, Alt', Repeat, Row_of-Expr, end_of-Expr, more_of-Expr, items-the_row-Expr, items_hidden-the_row-Expr-0}
 use Rattle.mode_expression.specs.Form.{Form, form_of, form_in_turn, form_of_one, in_turn, one_of, both, either, repeated}
 use Rattle.mode_expression.specs.Grammar.{sequence, alternative}
-use Rattle.mode_expression.specs.Machine.{Frame, onto, with_choice, whole_of}
+use Rattle.mode_expression.specs.Machine.{Frame, in_order_onto, with_choice, group_of}
 use Rattle.mode_expression.specs.Views.{latest}
 
 abbrev row_of : Expr → (n : Count) × Row_of-Expr n
@@ -51,13 +51,13 @@ form_sequence parts many = form_seq parts ∙ sym (sequence_of_many (map form_of
 pub form_alternative : (parts : Vec Expr Global) → length parts.items ≢ 1 → form_of (Alt parts) ≡ alternative (map form_of parts.items)
 form_alternative parts many = form_alt parts ∙ sym (alternative_of_many (map form_of parts.items) (rw length-map many))
 
-onto-reverse : (forms more : List Form) → onto forms more ≡ reverse forms ++ more
+onto-reverse : (forms more : List Form) → in_order_onto forms more ≡ reverse forms ++ more
 onto-reverse [] more = refl
 onto-reverse (form ∷ forms) more =
     onto-reverse forms (form ∷ more) ∙ sym (append_assoc (reverse forms) (form ∷ []) more)
     ∙ ap (λ forms. forms ++ more) (sym (reverse_onto forms form []))
 
-pub onto-latest : (items : List Expr) → onto (latest items) [] ≡ map form_of items
+pub onto-latest : (items : List Expr) → in_order_onto (latest items) [] ≡ map form_of items
 onto-latest items = onto-reverse (latest items) [] ∙ append-nil (reverse (latest items)) ∙ reverse-reverse (map form_of items)
 
 pub latest-push : (items : List Expr) (expr : Expr) → latest (items ++ expr ∷ []) ≡ form_of expr ∷ latest items
@@ -76,7 +76,7 @@ choice_made choices parts choices_after parts_after row made pushed emptied =
     ap (λ cs. frame_with cs parts_after) first ∙ ap (λ items. frame_with (with_choice (frame choices parts)).choices items) emptied
 
 pub whole_made : (choices parts choices_after : List Expr) (row : Expr) → form_of row ≡ sequence (map form_of parts)
-    → choices_after ≡ choices ++ row ∷ [] → alternative (map form_of choices_after) ≡ whole_of (frame choices parts)
+    → choices_after ≡ choices ++ row ∷ [] → alternative (map form_of choices_after) ≡ group_of (frame choices parts)
 whole_made choices parts choices_after row made pushed =
     let first = ap latest pushed ∙ latest-push choices row ∙ ap (λ form. form ∷ latest choices) (made ∙ ap sequence (sym (onto-latest parts))) in
-    ap alternative (sym (onto-latest choices_after) ∙ ap (λ forms. onto forms []) first)
+    ap alternative (sym (onto-latest choices_after) ∙ ap (λ forms. in_order_onto forms []) first)

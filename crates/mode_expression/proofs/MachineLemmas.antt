@@ -7,7 +7,7 @@ use Rattle.mode_expression.specs.declared.place.Place.{Place}
 use Rattle.mode_expression.specs.declared.place.Place.TheVariants.{NeedsAtom, AfterAtom, AfterItem, Least, AfterLeast, Most, AfterMost}
 use Rattle.mode_expression.specs.Form.{Form, letters}
 use Rattle.mode_expression.specs.Grammar.{Suffix, star, plus, question, exactly, between, Choice, only, or, Row, last, next, Item, plain, counted, Atom, name, group, suffix_tokens, choice_tokens, row_tokens, item_tokens, atom_tokens, sequence, alternative, counted_form, choice_forms, row_forms, item_form, atom_form, IsSentence}
-use Rattle.mode_expression.specs.Machine.{Frame, Reading, onto, step, step_atom, step_item, step_suffix, step_least, step_after_least, step_most, step_after_most, repeat_last, finish, start}
+use Rattle.mode_expression.specs.Machine.{Frame, Reading, in_order_onto, step, step_atom, step_item, step_suffix, step_least, step_after_least, step_most, step_after_most, repeat_last, finish, empty_reading}
 
 abbrev pub reading : List Frame → List Form → List Form → Place → Reading
 reading outer choices parts place = record { outer = outer; frame = record { choices = choices; parts = parts }; place = place }
@@ -48,13 +48,13 @@ abbrev last_parts : Choice → List Form
 last_parts (only row) = parts_after [] row
 last_parts (or row choice) = last_parts choice
 
-onto-parts_after : (parts : List Form) (row : Row) → onto (parts_after parts row) [] ≡ onto parts (row_forms row)
+onto-parts_after : (parts : List Form) (row : Row) → in_order_onto (parts_after parts row) [] ≡ in_order_onto parts (row_forms row)
 onto-parts_after parts (last item) = refl
 onto-parts_after parts (next item row) = onto-parts_after (item_form item ∷ parts) row
 
 onto-choices_after : (choices : List Form) (choice : Choice) →
-    onto (choices_after choices choice) (sequence (onto (last_parts choice) []) ∷ []) ≡ onto choices (choice_forms choice)
-onto-choices_after choices (only row) = ap (λ parts. onto choices (sequence parts ∷ [])) (onto-parts_after [] row)
+    in_order_onto (choices_after choices choice) (sequence (in_order_onto (last_parts choice) []) ∷ []) ≡ in_order_onto choices (choice_forms choice)
+onto-choices_after choices (only row) = ap (λ parts. in_order_onto choices (sequence parts ∷ [])) (onto-parts_after [] row)
 onto-choices_after choices (or row choice) = onto-choices_after (sequence (row_forms row) ∷ choices) choice
 
 takes_after : (item : Item) → TakesAtom (place_after item)
@@ -84,7 +84,7 @@ takes_after_choice (only row) = ends_after_row row
 takes_after_choice (or row choice) = takes_after_choice choice
 
 accept_bar : (outer : List Frame) (choices parts : List Form) (place : Place) → EndsItem place → (more : List Token) →
-    accept (reading outer choices parts place) (Bar ∷ more) ≡ accept (reading outer (sequence (onto parts []) ∷ choices) [] NeedsAtom) more
+    accept (reading outer choices parts place) (Bar ∷ more) ≡ accept (reading outer (sequence (in_order_onto parts []) ∷ choices) [] NeedsAtom) more
 accept_bar outer choices parts AfterAtom ends more = refl
 accept_bar outer choices parts AfterItem ends more = refl
 accept_bar outer choices parts NeedsAtom ends more = absurd ends
@@ -95,7 +95,7 @@ accept_bar outer choices parts (AfterMost m n) ends more = absurd ends
 
 pub accept_close : (before_choices before_parts : List Form) (outer : List Frame) (choices parts : List Form) (place : Place) → EndsItem place → (more : List Token) →
     accept (reading (record { choices = before_choices; parts = before_parts } ∷ outer) choices parts place) (Close ∷ more)
-    ≡ accept (reading outer before_choices (alternative (onto choices (sequence (onto parts []) ∷ [])) ∷ before_parts) AfterAtom) more
+    ≡ accept (reading outer before_choices (alternative (in_order_onto choices (sequence (in_order_onto parts []) ∷ [])) ∷ before_parts) AfterAtom) more
 accept_close cs ps outer choices parts AfterAtom ends more = refl
 accept_close cs ps outer choices parts AfterItem ends more = refl
 accept_close cs ps outer choices parts NeedsAtom ends more = absurd ends
@@ -194,13 +194,13 @@ rest_tokens (others choice) = Bar ∷ choice_tokens choice
 
 -- the expression of a group, from what was read of it and the choice that goes on with its row
 abbrev choice_onto : List Form → List Form → Choice → Form
-choice_onto choices parts (only row) = alternative (onto choices (sequence (onto parts (row_forms row)) ∷ []))
-choice_onto choices parts (or row choice) = alternative (onto choices (sequence (onto parts (row_forms row)) ∷ choice_forms choice))
+choice_onto choices parts (only row) = alternative (in_order_onto choices (sequence (in_order_onto parts (row_forms row)) ∷ []))
+choice_onto choices parts (or row choice) = alternative (in_order_onto choices (sequence (in_order_onto parts (row_forms row)) ∷ choice_forms choice))
 
 abbrev rest_onto : List Form → List Form → Rest → Form
-rest_onto choices parts nothing = alternative (onto choices (sequence (onto parts []) ∷ []))
+rest_onto choices parts nothing = alternative (in_order_onto choices (sequence (in_order_onto parts []) ∷ []))
 rest_onto choices parts (more choice) = choice_onto choices parts choice
-rest_onto choices parts (others choice) = choice_onto (sequence (onto parts []) ∷ choices) [] choice
+rest_onto choices parts (others choice) = choice_onto (sequence (in_order_onto parts []) ∷ choices) [] choice
 
 -- the choice of an item and what follows it
 abbrev with_item : Item → Rest → Choice
@@ -216,7 +216,7 @@ tokens_with_item item (more (or row choice)) = append_assoc (item_tokens item) (
 tokens_with_item item (others choice) = refl
 
 choice_onto-others : (choices : List Form) (row : Form) (choice : Choice) →
-    choice_onto (row ∷ choices) [] choice ≡ alternative (onto choices (row ∷ choice_forms choice))
+    choice_onto (row ∷ choices) [] choice ≡ alternative (in_order_onto choices (row ∷ choice_forms choice))
 choice_onto-others choices row (only _) = refl
 choice_onto-others choices row (or _ _) = refl
 
@@ -225,7 +225,7 @@ onto_with_item : (choices parts : List Form) (item : Item) (rest : Rest) →
 onto_with_item choices parts item nothing = refl
 onto_with_item choices parts item (more (only row)) = refl
 onto_with_item choices parts item (more (or row choice)) = refl
-onto_with_item choices parts item (others choice) = sym (choice_onto-others choices (sequence (onto parts (item_form item ∷ []))) choice)
+onto_with_item choices parts item (others choice) = sym (choice_onto-others choices (sequence (in_order_onto parts (item_form item ∷ []))) choice)
 
 choice_onto-nil : (choice : Choice) → choice_onto [] [] choice ≡ alternative (choice_forms choice)
 choice_onto-nil (only row) = refl
@@ -328,9 +328,9 @@ module _ (e : Form) where
     sound_item : (token : Token) (outer : List Frame) (choices parts : List Form) (place : Place)
         → option_and_then (λ after. accept after tokens) (step_item (reading outer choices parts place) token) ≡ Some e
         → FollowsItem (Ends e outer) choices parts (token ∷ tokens)
-    sound_item Bar outer choices parts place h = inside (later outer (sequence (onto parts []) ∷ choices) [] NeedsAtom h)
+    sound_item Bar outer choices parts place h = inside (later outer (sequence (in_order_onto parts []) ∷ choices) [] NeedsAtom h)
       where
-        inside : Completes e outer (sequence (onto parts []) ∷ choices) [] NeedsAtom tokens → FollowsItem (Ends e outer) choices parts (Bar ∷ tokens)
+        inside : Completes e outer (sequence (in_order_onto parts []) ∷ choices) [] NeedsAtom tokens → FollowsItem (Ends e outer) choices parts (Bar ∷ tokens)
         inside (choice, after, split, held) = (others choice, after, ap (λ ts. Bar ∷ ts) split, held)
     sound_item Close [] choices parts place h = absurd (cc)
     sound_item Close (frame ∷ outer) choices parts place h =
@@ -428,7 +428,7 @@ module _ (e : Form) where
   sound (token ∷ tokens) outer choices parts place h = sound_step tokens (sound tokens) token outer choices parts place h
 
 -- what is accepted is a sentence
-pub sentence_of_accepted : (tokens : List Token) (form : Form) → accept start tokens ≡ Some form → IsSentence tokens form
+pub sentence_of_accepted : (tokens : List Token) (form : Form) → accept empty_reading tokens ≡ Some form → IsSentence tokens form
 sentence_of_accepted tokens form h = inside (sound form tokens [] [] [] NeedsAtom h)
   where
     inside : Completes form [] [] [] NeedsAtom tokens → IsSentence tokens form
@@ -439,7 +439,7 @@ sentence_of_accepted tokens form h = inside (sound form tokens [] [] [] NeedsAto
     }
 
 pub finish_ends : (choices parts : List Form) (place : Place) → EndsItem place
-    → finish (reading [] choices parts place) ≡ Some (alternative (onto choices (sequence (onto parts []) ∷ [])))
+    → finish (reading [] choices parts place) ≡ Some (alternative (in_order_onto choices (sequence (in_order_onto parts []) ∷ [])))
 finish_ends choices parts AfterAtom ends = refl
 finish_ends choices parts AfterItem ends = refl
 finish_ends choices parts NeedsAtom ends = absurd ends
@@ -449,10 +449,10 @@ finish_ends choices parts (Most n) ends = absurd ends
 finish_ends choices parts (AfterMost m n) ends = absurd ends
 
 -- each sentence is accepted, with its expression
-pub accept_sentence : (tokens : List Token) (form : Form) → IsSentence tokens form → accept start tokens ≡ Some form
+pub accept_sentence : (tokens : List Token) (form : Form) → IsSentence tokens form → accept empty_reading tokens ≡ Some form
 accept_sentence tokens form sentence =
     let choice = sentence.tree in
     let run = accept_choice choice [] [] [] in
     let end = finish_ends (choices_after [] choice) (last_parts choice) (place_after_choice choice) (takes_after_choice choice) in
-    let spelled = ap (λ ts. accept start ts) (sym sentence.derives ∙ sym (append-nil (choice_tokens choice))) in
+    let spelled = ap (λ ts. accept empty_reading ts) (sym sentence.derives ∙ sym (append-nil (choice_tokens choice))) in
     spelled ∙ run ∙ end ∙ ap (λ forms. Some (alternative forms)) (onto-choices_after [] choice) ∙ ap (λ f. Some f) sentence.means

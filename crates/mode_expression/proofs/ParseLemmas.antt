@@ -12,7 +12,7 @@ use Rattle.mode_expression.specs.Form.{Form, in_turn, one_of, IsWellFormed}
 use Rattle.mode_expression.specs.Grammar.{Suffix, star, plus, question, exactly, between, Choice, only, or, Row, last, next, Item, plain, counted, Atom, name, group, suffix_tokens, choice_tokens, row_tokens, item_tokens, atom_tokens, sequence, alternative, counted_form, choice_forms, row_forms, item_form, atom_form}
 use Rattle.plan_base.specs.LetterNames.{letter_names}
 use Rattle.mode_expression.specs.Letters.{letter_named, letters_named}
-use Rattle.mode_expression.specs.Tokens.{Lexeme, is_lower, is_digit, placed, lexemes, token_of, name_token, symbol_token, decimal}
+use Rattle.mode_expression.specs.Tokens.{Lexeme, is_lower, is_digit, placed_token, lexemes, token_of, name_token, symbol_token, decimal}
 use Rattle.mode_expression.specs.Reading.{token, Spells, IsReadAs, reading_of, IsFault, IsShallow, ReadsAs, ExpressionsAreUsable}
 use Rattle.mode_expression.proofs.ReadingLemmas.{reading_is_right}
 
@@ -137,7 +137,7 @@ token_known (c ∷ bytes) =
     token_cases (is_lower c) (is_digit c) (nat_le (length all) 4) (name_token (letters_named all)) (Number (decimal all)) (symbol_token c)
     (name_known (letters_named all) (letters_known all)) tt (symbol_known c)
 
-tokens_known : (ls : List Lexeme) → AllKnown (map token (map placed ls))
+tokens_known : (ls : List Lexeme) → AllKnown (map token (map placed_token ls))
 tokens_known [] = tt
 tokens_known (l ∷ ls) = (token_known l.bytes, tokens_known ls)
 

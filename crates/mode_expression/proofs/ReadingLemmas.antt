@@ -9,7 +9,7 @@ use Rattle.mode_expression.specs.declared.place.Place.TheVariants.{NeedsAtom, Af
 use Rattle.mode_expression.specs.Form.{Form, letters, repeated}
 use Rattle.mode_expression.specs.Grammar.{sequence, alternative, IsSentence, BeginsSentence}
 use Rattle.mode_expression.specs.Tokens.{Placed, tokens_of}
-use Rattle.mode_expression.specs.Machine.{Frame, Reading, onto, step, step_atom, step_item, step_suffix, step_least, step_after_least, step_most, step_after_most, repeat_last, finish, start, read_from, read_on, ok_or_at}
+use Rattle.mode_expression.specs.Machine.{Frame, Reading, in_order_onto, step, step_atom, step_item, step_suffix, step_least, step_after_least, step_most, step_after_most, repeat_last, finish, empty_reading, read_from, read_on, ok_or_at}
 use Rattle.mode_expression.specs.Reading.{token, Spells, IsMisplaced, IsUnfinished, IsReadAs, reading_of}
 use Rattle.mode_expression.proofs.MachineLemmas.{reading, accept, EndsItem, accept_close, finish_ends, accept_sentence, sentence_of_accepted}
 
@@ -117,7 +117,7 @@ accept_closes : (outer : List Frame) (choices parts : List Form) (place : Place)
     → (form : Form) × (accept (reading outer choices parts place) (closes outer) ≡ Some form)
 accept_closes [] choices parts place ends = (_, finish_ends choices parts place ends)
 accept_closes (frame ∷ outer) choices parts place ends =
-    let later = accept_closes outer frame.choices (alternative (onto choices (sequence (onto parts []) ∷ [])) ∷ frame.parts) AfterAtom tt in
+    let later = accept_closes outer frame.choices (alternative (in_order_onto choices (sequence (in_order_onto parts []) ∷ [])) ∷ frame.parts) AfterAtom tt in
     (later.0, accept_close frame.choices frame.parts outer choices parts place ends (closes outer) ∙ later.1)
 
 -- tokens that make a sentence of what was read
@@ -153,22 +153,22 @@ accept_completion outer choices (form ∷ parts) (Most m) proper =
 accept_completion outer choices (form ∷ parts) (AfterMost m n) proper = accept_closes outer choices (repeated form m (Some n) ∷ parts) AfterItem tt
 
 -- what was read begins a sentence
-begins_of_run : (tokens : List Token) (s : Reading) → run start tokens ≡ Some s → IsProper s.place s.frame.parts → BeginsSentence tokens
+begins_of_run : (tokens : List Token) (s : Reading) → run empty_reading tokens ≡ Some s → IsProper s.place s.frame.parts → BeginsSentence tokens
 begins_of_run tokens s ran proper =
     let done = accept_completion s.outer s.frame.choices s.frame.parts s.place proper in
     let rest = completion s.place s.outer in
-    let accepted = accept-append tokens start rest ∙ ap (λ o. option_and_then (λ after. accept after rest) o) ran ∙ done.1 in
+    let accepted = accept-append tokens empty_reading rest ∙ ap (λ o. option_and_then (λ after. accept after rest) o) ran ∙ done.1 in
     (rest, done.0, sentence_of_accepted (tokens ++ rest) done.0 accepted)
 
 -- what begins a sentence can be read
-run_of_begins : (tokens : List Token) → BeginsSentence tokens → (s : Reading) × (run start tokens ≡ Some s)
-run_of_begins tokens (rest, form, sentence) = inside (run start tokens) refl
+run_of_begins : (tokens : List Token) → BeginsSentence tokens → (s : Reading) × (run empty_reading tokens ≡ Some s)
+run_of_begins tokens (rest, form, sentence) = inside (run empty_reading tokens) refl
   where
-    inside : (o : Option Reading) → run start tokens ≡ o → (s : Reading) × (run start tokens ≡ Some s)
+    inside : (o : Option Reading) → run empty_reading tokens ≡ o → (s : Reading) × (run empty_reading tokens ≡ Some s)
     inside (Some s) ran = (s, ran)
     inside None ran =
         let accepted = accept_sentence (tokens ++ rest) form sentence in
-        let never = accept-append tokens start rest ∙ ap (λ o. option_and_then (λ after. accept after rest) o) ran in
+        let never = accept-append tokens empty_reading rest ∙ ap (λ o. option_and_then (λ after. accept after rest) o) ran in
         absurd (cc)
 
 proper_run : (tokens : List Token) (s t : Reading) → IsProper s.place s.frame.parts → run s tokens ≡ Some t → IsProper t.place t.frame.parts
@@ -182,8 +182,8 @@ proper_run (x ∷ tokens) s t proper ran =
     inside None stays never later = absurd (cc)
     inside (Some after) stays ran later = later after stays ran
 
-run_one : (tokens : List Token) (s : Reading) (x : Token) → run start tokens ≡ Some s → run start (tokens ++ x ∷ []) ≡ option_and_then (λ after. Some after) (step s x)
-run_one tokens s x ran = run-append tokens start (x ∷ []) ∙ ap (λ o. option_and_then (λ after. run after (x ∷ [])) o) ran
+run_one : (tokens : List Token) (s : Reading) (x : Token) → run empty_reading tokens ≡ Some s → run empty_reading (tokens ++ x ∷ []) ≡ option_and_then (λ after. Some after) (step s x)
+run_one tokens s x ran = run-append tokens empty_reading (x ∷ []) ∙ ap (λ o. option_and_then (λ after. run after (x ∷ [])) o) ran
 
 read_from-append : (end : ℕ) (before : List Placed) (s t : Reading) (more : List Placed) → run s (map token before) ≡ Some t
     → read_from end s (before ++ more) ≡ read_from end t more
@@ -197,7 +197,7 @@ read_from-append end (x ∷ before) s t more ran =
     inside None never later = absurd (cc)
     inside (Some after) ran later = later after ran
 
-stuck : (tokens : List Token) (s : Reading) (x : Token) → run start tokens ≡ Some s → step s x ≡ None → BeginsSentence (tokens ++ x ∷ []) → ⊥
+stuck : (tokens : List Token) (s : Reading) (x : Token) → run empty_reading tokens ≡ Some s → step s x ≡ None → BeginsSentence (tokens ++ x ∷ []) → ⊥
 stuck tokens s x ran stops begins =
     let goes = run_of_begins (tokens ++ x ∷ []) begins in
     let one = run_one tokens s x ran ∙ ap (λ o. option_and_then (λ after. Some after) o) stops in
@@ -205,21 +205,21 @@ stuck tokens s x ran stops begins =
 
 -- how the reading of a text goes on after a front of it
 module _ (text : List ℕ) where
-  read_rest : (rest before : List Placed) (s : Reading) → tokens_of text ≡ before ++ rest → run start (map token before) ≡ Some s
+  read_rest : (rest before : List Placed) (s : Reading) → tokens_of text ≡ before ++ rest → run empty_reading (map token before) ≡ Some s
       → IsReadAs text (read_from (length text) s rest)
   read_rest [] before s split ran = inside (finish s) refl
     where
       all : map token (tokens_of text) ≡ map token before
       all = ap (λ ts. map token ts) (split ∙ append-nil before)
 
-      accepted : accept start (map token (tokens_of text)) ≡ finish s
-      accepted = ap (λ ts. accept start ts) (all ∙ sym (append-nil (map token before))) ∙ accept-append (map token before) start []
+      accepted : accept empty_reading (map token (tokens_of text)) ≡ finish s
+      accepted = ap (λ ts. accept empty_reading ts) (all ∙ sym (append-nil (map token before))) ∙ accept-append (map token before) empty_reading []
           ∙ ap (λ o. option_and_then (λ after. finish after) o) ran
 
       inside : (o : Option Form) → finish s ≡ o → IsReadAs text (ok_or_at (length text) o)
       inside (Some form) is = sentence_of_accepted (map token (tokens_of text)) form (accepted ∙ is)
       inside None is = inr (record {
-        begins = begins_of_run (map token (tokens_of text)) s (ap (λ ts. run start ts) all ∙ ran) (proper_run (map token before) start s tt ran);
+        begins = begins_of_run (map token (tokens_of text)) s (ap (λ ts. run empty_reading ts) all ∙ ran) (proper_run (map token before) empty_reading s tt ran);
         none = λ form sentence. let yes = accept_sentence (map token (tokens_of text)) form sentence in let no = accepted ∙ is in cc;
         place = refl;
       })
@@ -230,50 +230,50 @@ module _ (text : List ℕ) where
       mapped = map-append token before (x ∷ [])
 
       inside : (o : Option Reading) → step s x.token ≡ o
-          → ((after : Reading) → run start (map token (before ++ x ∷ [])) ≡ Some after → IsReadAs text (read_from (length text) after rest))
+          → ((after : Reading) → run empty_reading (map token (before ++ x ∷ [])) ≡ Some after → IsReadAs text (read_from (length text) after rest))
           → IsReadAs text (read_on x.at o (λ next. read_from (length text) next rest))
       inside None is later = inl (record {
         before = before;
         here = x;
         after = rest;
         split = split;
-        begins = begins_of_run (map token before) s ran (proper_run (map token before) start s tt ran);
+        begins = begins_of_run (map token before) s ran (proper_run (map token before) empty_reading s tt ran);
         ends = stuck (map token before) s x.token ran is;
         place = refl;
       })
       inside (Some after) is later =
-          later after (ap (λ ts. run start ts) mapped ∙ run_one (map token before) s x.token ran ∙ ap (λ o. option_and_then (λ last. Some last) o) is)
+          later after (ap (λ ts. run empty_reading ts) mapped ∙ run_one (map token before) s x.token ran ∙ ap (λ o. option_and_then (λ last. Some last) o) is)
 
   -- the reading is the one that the grammar asks for
   pub reading_is_right : IsReadAs text (reading_of text)
-  reading_is_right = read_rest (tokens_of text) [] start refl refl
+  reading_is_right = read_rest (tokens_of text) [] empty_reading refl refl
 
   misplaced_is_read : (at : ℕ) → IsMisplaced text at → reading_of text ≡ Err at
   misplaced_is_read at misplaced =
       let before = misplaced.before in
       let here = misplaced.here in
       let ran = run_of_begins (map token before) misplaced.begins in
-      let split = ap (λ ts. read_from (length text) start ts) misplaced.split in
-      let on = read_from-append (length text) before start ran.0 (here ∷ misplaced.after) ran.1 in
+      let split = ap (λ ts. read_from (length text) empty_reading ts) misplaced.split in
+      let on = read_from-append (length text) before empty_reading ran.0 (here ∷ misplaced.after) ran.1 in
       split ∙ on ∙ inside ran.0 ran.1 (step ran.0 here.token) refl
     where
-      inside : (s : Reading) → run start (map token misplaced.before) ≡ Some s → (o : Option Reading) → step s misplaced.here.token ≡ o
+      inside : (s : Reading) → run empty_reading (map token misplaced.before) ≡ Some s → (o : Option Reading) → step s misplaced.here.token ≡ o
           → read_on misplaced.here.at o (λ next. read_from (length text) next misplaced.after) ≡ Err at
       inside s ran None is = ap (λ n. Err n) (sym misplaced.place)
       inside s ran (Some after) is =
           let one = run_one (map token misplaced.before) s misplaced.here.token ran ∙ ap (λ o. option_and_then (λ last. Some last) o) is in
-          let proper = proper_run (map token misplaced.before ++ misplaced.here.token ∷ []) start after tt one in
+          let proper = proper_run (map token misplaced.before ++ misplaced.here.token ∷ []) empty_reading after tt one in
           absurd (misplaced.ends (begins_of_run (map token misplaced.before ++ misplaced.here.token ∷ []) after one proper))
 
   unfinished_is_read : (at : ℕ) → IsUnfinished text at → reading_of text ≡ Err at
   unfinished_is_read at unfinished =
       let all = map token (tokens_of text) in
       let ran = run_of_begins all unfinished.begins in
-      let on = read_from-append (length text) (tokens_of text) start ran.0 [] ran.1 in
-      let accepted = ap (λ ts. accept start ts) (sym (append-nil all)) ∙ accept-append all start [] ∙ ap (λ o. option_and_then (λ after. finish after) o) ran.1 in
-      ap (λ ts. read_from (length text) start ts) (sym (append-nil (tokens_of text))) ∙ on ∙ inside (finish ran.0) accepted
+      let on = read_from-append (length text) (tokens_of text) empty_reading ran.0 [] ran.1 in
+      let accepted = ap (λ ts. accept empty_reading ts) (sym (append-nil all)) ∙ accept-append all empty_reading [] ∙ ap (λ o. option_and_then (λ after. finish after) o) ran.1 in
+      ap (λ ts. read_from (length text) empty_reading ts) (sym (append-nil (tokens_of text))) ∙ on ∙ inside (finish ran.0) accepted
     where
-      inside : (o : Option Form) → accept start (map token (tokens_of text)) ≡ o → ok_or_at (length text) o ≡ Err at
+      inside : (o : Option Form) → accept empty_reading (map token (tokens_of text)) ≡ o → ok_or_at (length text) o ≡ Err at
       inside None is = ap (λ n. Err n) (sym unfinished.place)
       inside (Some form) is = absurd (unfinished.none form (sentence_of_accepted (map token (tokens_of text)) form is))
 
@@ -282,9 +282,9 @@ module _ (text : List ℕ) where
       let all = map token (tokens_of text) in
       let accepted = accept_sentence all form spells in
       let ran = run_of_begins all ([], form, subst (λ ts. IsSentence ts form) (sym (append-nil all)) spells) in
-      let on = read_from-append (length text) (tokens_of text) start ran.0 [] ran.1 in
-      let finished = sym (ap (λ ts. accept start ts) (sym (append-nil all)) ∙ accept-append all start [] ∙ ap (λ o. option_and_then (λ after. finish after) o) ran.1) ∙ accepted in
-      ap (λ ts. read_from (length text) start ts) (sym (append-nil (tokens_of text))) ∙ on ∙ ap (λ o. ok_or_at (length text) o) finished
+      let on = read_from-append (length text) (tokens_of text) empty_reading ran.0 [] ran.1 in
+      let finished = sym (ap (λ ts. accept empty_reading ts) (sym (append-nil all)) ∙ accept-append all empty_reading [] ∙ ap (λ o. option_and_then (λ after. finish after) o) ran.1) ∙ accepted in
+      ap (λ ts. read_from (length text) empty_reading ts) (sym (append-nil (tokens_of text))) ∙ on ∙ ap (λ o. ok_or_at (length text) o) finished
 
   -- and there is no other
   pub reading_is_unique : (result : Result Form ℕ) → IsReadAs text result → reading_of text ≡ result

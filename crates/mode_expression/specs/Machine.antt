@@ -22,26 +22,26 @@ pub record Reading : Type 0 where
 abbrev pub empty_frame : Frame
 empty_frame = record { choices = []; parts = [] }
 
-abbrev pub start : Reading
-start = record { outer = []; frame = empty_frame; place = NeedsAtom }
+abbrev pub empty_reading : Reading
+empty_reading = record { outer = []; frame = empty_frame; place = NeedsAtom }
 
 abbrev pub with_part : Frame → Form → Frame
 with_part frame form = record { choices = frame.choices; parts = form ∷ frame.parts }
 
 -- the parts in order, and then more
-abbrev pub onto : List Form → List Form → List Form
-onto [] more = more
-onto (part ∷ parts) more = onto parts (part ∷ more)
+abbrev pub in_order_onto : List Form → List Form → List Form
+in_order_onto [] more = more
+in_order_onto (part ∷ parts) more = in_order_onto parts (part ∷ more)
 
-abbrev pub row_of : Frame → Form
-row_of frame = sequence (onto frame.parts [])
+abbrev pub sequence_of : Frame → Form
+sequence_of frame = sequence (in_order_onto frame.parts [])
 
 abbrev pub with_choice : Frame → Frame
-with_choice frame = record { choices = row_of frame ∷ frame.choices; parts = [] }
+with_choice frame = record { choices = sequence_of frame ∷ frame.choices; parts = [] }
 
 -- the expression of a group
-abbrev pub whole_of : Frame → Form
-whole_of frame = alternative (onto (row_of frame ∷ frame.choices) [])
+abbrev pub group_of : Frame → Form
+group_of frame = alternative (in_order_onto (sequence_of frame ∷ frame.choices) [])
 
 abbrev pub at_place : Reading → Place → Reading
 at_place s place = record { outer = s.outer; frame = s.frame; place = place }
@@ -57,7 +57,7 @@ close_onto [] form = None
 close_onto (frame ∷ outer) form = Some (record { outer = outer; frame = with_part frame form; place = AfterAtom })
 
 abbrev pub close_group : Reading → Option Reading
-close_group s = close_onto s.outer (whole_of s.frame)
+close_group s = close_onto s.outer (group_of s.frame)
 
 abbrev pub end_row : Reading → Reading
 end_row s = record { outer = s.outer; frame = with_choice s.frame; place = NeedsAtom }
@@ -128,7 +128,7 @@ abbrev pub step : Reading → Token → Option Reading
 step s token = step_at s.place s token
 
 abbrev pub whole_if_closed : List Frame → Frame → Option Form
-whole_if_closed [] frame = Some (whole_of frame)
+whole_if_closed [] frame = Some (group_of frame)
 whole_if_closed (_ ∷ _) frame = None
 
 abbrev pub finish_at : Place → Reading → Option Form

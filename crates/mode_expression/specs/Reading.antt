@@ -6,7 +6,7 @@ use Rattle.mode_expression.specs.declared.token.Token.{Token}
 use Rattle.mode_expression.specs.Form.{Form, IsUsable, places}
 use Rattle.mode_expression.specs.Grammar.{IsSentence, BeginsSentence}
 use Rattle.mode_expression.specs.Tokens.{Placed, tokens_of}
-use Rattle.mode_expression.specs.Machine.{start, read_from}
+use Rattle.mode_expression.specs.Machine.{empty_reading, read_from}
 
 abbrev pub token : Placed → Token
 token t = t.token
@@ -47,7 +47,7 @@ IsReadAs text (Err at) = IsMisplaced text at ⊎ IsUnfinished text at
 
 -- what reading the text a token at a time gives
 abbrev pub reading_of : List ℕ → Result Form ℕ
-reading_of text = read_from (length text) start (tokens_of text)
+reading_of text = read_from (length text) empty_reading (tokens_of text)
 
 -- the text is the expression
 pub record IsExpression (text : List ℕ) (form : Form) : Type 0 where
@@ -68,17 +68,17 @@ IsFault text (TooLarge count) =
 IsFault text OutOfMemory = ⊥
 
 -- what a text gives: its expression, or its first fault
-abbrev pub IsOutcome : List ℕ → Result Form ExprFault → Type 0
-IsOutcome text (Ok form) = IsExpression text form
-IsOutcome text (Err fault) = IsFault text fault
+abbrev pub IsParse : List ℕ → Result Form ExprFault → Type 0
+IsParse text (Ok form) = IsExpression text form
+IsParse text (Err fault) = IsFault text fault
 
 -- a text gives no two things
 abbrev pub OutcomeIsUnique : Type 0
-OutcomeIsUnique = (text : List ℕ) (one other : Result Form ExprFault) → IsOutcome text one → IsOutcome text other → one ≡ other
+OutcomeIsUnique = (text : List ℕ) (one other : Result Form ExprFault) → IsParse text one → IsParse text other → one ≡ other
 
 -- and each gives one
 abbrev pub OutcomeExists : Type 0
-OutcomeExists = (text : List ℕ) → (outcome : Result Form ExprFault) × IsOutcome text outcome
+OutcomeExists = (text : List ℕ) → (outcome : Result Form ExprFault) × IsParse text outcome
 
 -- a text spells only what an automaton can be made of
 abbrev pub ExpressionsAreUsable : Type 0

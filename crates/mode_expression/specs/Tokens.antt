@@ -61,12 +61,12 @@ pub record Placed : Type 0 where
   pub at : ℕ
   pub token : Token
 
-abbrev pub placed : Lexeme → Placed
-placed lexeme = record { at = lexeme.at; token = token_of lexeme.bytes }
+abbrev pub placed_token : Lexeme → Placed
+placed_token lexeme = record { at = lexeme.at; token = token_of lexeme.bytes }
 
 -- the tokens of a text whose first byte stands at `at`
 abbrev pub tokens_from : ℕ → List ℕ → List Placed
-tokens_from at text = map placed (lexemes at text)
+tokens_from at text = map placed_token (lexemes at text)
 
 abbrev pub tokens_of : List ℕ → List Placed
 tokens_of text = tokens_from 0 text

@@ -17,12 +17,12 @@ frame_of level = record { choices = latest level.choices.items; parts = latest l
 abbrev pub frames_of : List Level → List Frame
 frames_of levels = reverse (map frame_of levels)
 
-abbrev pub state_of : Reader → Reading
-state_of reader = record { outer = frames_of reader.outer.items; frame = frame_of reader.level; place = reader.place }
+abbrev pub state_of_reader : Reader → Reading
+state_of_reader reader = record { outer = frames_of reader.outer.items; frame = frame_of reader.level; place = reader.place }
 
 -- the reader is as a step made it, if there was one
 abbrev pub IsAfter : Option Reading → Reader → Bool → Type 0
-IsAfter after reader done = after ≡ (if done then Some (state_of reader) else None)
+IsAfter after reader done = after ≡ (if done then Some (state_of_reader reader) else None)
 
 -- the level is as a step made it, if there was one
 abbrev pub IsLevelAfter : Option Frame → Level → Bool → Type 0

@@ -2,7 +2,7 @@ ghost use Rattle.std.specs.Prelude.{◌≡◌, ◌≢◌, map, IfOk, OnOk, IfErr
 ghost use Rattle.mode_expression.specs.Form.{form_of};
 ghost use Rattle.mode_expression.specs.Grammar.{sequence, alternative};
 ghost use Rattle.mode_expression.specs.Machine.{empty_frame, with_part, with_choice};
-ghost use Rattle.mode_expression.specs.Machine.{whole_of, repeat_in};
+ghost use Rattle.mode_expression.specs.Machine.{group_of, repeat_in};
 
 use crate::expr::Expr;
 use std::alloc::{AllocError, Global};
@@ -97,7 +97,7 @@ impl Level {
 
     /// The expression of the group.
     pub fn whole(self) -> Result<Expr, AllocError>
-        ensures { IfOk result (λ expr. form_of expr ≡ whole_of (frame_of self)) }
+        ensures { IfOk result (λ expr. form_of expr ≡ group_of (frame_of self)) }
     {
         let Level { mut choices, parts } = self;
         choices.push(make_sequence(parts))?;

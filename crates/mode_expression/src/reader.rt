@@ -1,6 +1,6 @@
 ghost use Rattle.std.specs.Prelude.{◌≡◌, IfOk, OnOk, Some, option_map, true};
 ghost use Rattle.mode_expression.specs.Form.{form_of};
-ghost use Rattle.mode_expression.specs.Machine.{start, finish, at_place};
+ghost use Rattle.mode_expression.specs.Machine.{empty_reading, finish, at_place};
 ghost use Rattle.mode_expression.specs.Machine.{put_atom, open_group, close_group, end_row, repeat_last};
 ghost use Rattle.mode_expression.specs.Machine.{step, step_atom, step_item, step_suffix};
 ghost use Rattle.mode_expression.specs.Machine.{step_after_least, step_most};
@@ -23,10 +23,10 @@ pub struct Reader {
 }
 
 impl Reader {
-    ghost use Rattle.mode_expression.specs.Views.{IsAfter, state_of};
+    ghost use Rattle.mode_expression.specs.Views.{IsAfter, state_of_reader};
 
     pub fn new(alloc: Global) -> Reader
-        ensures { state_of result ≡ start }
+        ensures { state_of_reader result ≡ empty_reading }
     {
         Reader {
             alloc,
@@ -37,7 +37,8 @@ impl Reader {
     }
 
     fn put_atom(&mut self, atom: Expr) -> Result<(), AllocError>
-        ensures { OnOk result (state_of self.new ≡ put_atom (state_of self.old) (form_of atom)) }
+        ensures { OnOk result (state_of_reader self.new ≡ put_atom (state_of_reader self.old)
+            (form_of atom)) }
     {
         self.level.push(atom)?;
         self.place = Place::AfterAtom;
@@ -45,7 +46,7 @@ impl Reader {
     }
 
     fn open_group(&mut self) -> Result<(), AllocError>
-        ensures { OnOk result (state_of self.new ≡ open_group (state_of self.old)) }
+        ensures { OnOk result (state_of_reader self.new ≡ open_group (state_of_reader self.old)) }
     {
         let around = mem::replace(&mut self.level, Level::new(self.alloc));
         self.outer.push(around)?;
@@ -55,7 +56,7 @@ impl Reader {
 
     /// Ends this group, where it is one in parentheses.
     fn close_group(&mut self) -> Result<bool, AllocError>
-        ensures { IfOk result (IsAfter (close_group (state_of self.old)) self.new) }
+        ensures { IfOk result (IsAfter (close_group (state_of_reader self.old)) self.new) }
     {
         match self.outer.pop() {
             None => Ok(false),
@@ -68,7 +69,7 @@ impl Reader {
     }
 
     fn end_row(&mut self) -> Result<(), AllocError>
-        ensures { OnOk result (state_of self.new ≡ end_row (state_of self.old)) }
+        ensures { OnOk result (state_of_reader self.new ≡ end_row (state_of_reader self.old)) }
     {
         self.level.end_row(self.alloc)?;
         self.place = Place::NeedsAtom;
@@ -76,7 +77,7 @@ impl Reader {
     }
 
     fn repeat_last(&mut self, least: u32, most: Option<u32>) -> Result<bool, AllocError>
-        ensures { IfOk result (IsAfter (repeat_last (state_of self.old) least most) self.new) }
+        ensures { IfOk result (IsAfter (repeat_last (state_of_reader self.old) least most) self.new) }
     {
         let done = self.level.repeat_last(self.alloc, least, most)?;
         if done {
@@ -86,7 +87,7 @@ impl Reader {
     }
 
     fn move_to(&mut self, place: Place) -> bool
-        ensures place { state_of self.new ≡ at_place (state_of self.old) place }
+        ensures place { state_of_reader self.new ≡ at_place (state_of_reader self.old) place }
         ensures done { result ≡ true }
     {
         self.place = place;
@@ -94,7 +95,7 @@ impl Reader {
     }
 
     fn read_atom(&mut self, token: Token) -> Result<bool, AllocError>
-        ensures { IfOk result (IsAfter (step_atom (state_of self.old) token) self.new) }
+        ensures { IfOk result (IsAfter (step_atom (state_of_reader self.old) token) self.new) }
     {
         match token {
             Token::Name(bits) => self.put_atom(Expr::Letters(bits))?,
@@ -105,7 +106,7 @@ impl Reader {
     }
 
     fn read_item(&mut self, token: Token) -> Result<bool, AllocError>
-        ensures { IfOk result (IsAfter (step_item (state_of self.old) token) self.new) }
+        ensures { IfOk result (IsAfter (step_item (state_of_reader self.old) token) self.new) }
     {
         match token {
             Token::Bar => {
@@ -118,7 +119,7 @@ impl Reader {
     }
 
     fn read_suffix(&mut self, token: Token) -> Result<bool, AllocError>
-        ensures { IfOk result (IsAfter (step_suffix (state_of self.old) token) self.new) }
+        ensures { IfOk result (IsAfter (step_suffix (state_of_reader self.old) token) self.new) }
     {
         match token {
             Token::Star => self.repeat_last(0, None),
@@ -130,7 +131,7 @@ impl Reader {
     }
 
     fn read_after_least(&mut self, least: u32, token: Token) -> Result<bool, AllocError>
-        ensures { IfOk result (IsAfter (step_after_least (state_of self.old) least token) self.new) }
+        ensures { IfOk result (IsAfter (step_after_least (state_of_reader self.old) least token) self.new) }
     {
         match token {
             Token::CloseBrace if least >= 1 => self.repeat_last(least, Some(least)),
@@ -140,7 +141,7 @@ impl Reader {
     }
 
     fn read_most(&mut self, least: u32, token: Token) -> bool
-        ensures { IsAfter (step_most (state_of self.old) least token) self.new result }
+        ensures { IsAfter (step_most (state_of_reader self.old) least token) self.new result }
     {
         match token {
             Token::Number(most) if most >= 1 && least <= most => self.move_to(Place::AfterMost(
@@ -152,7 +153,7 @@ impl Reader {
 
     /// Reads one more token, if it may stand here.
     pub fn read(&mut self, token: Token) -> Result<bool, AllocError>
-        ensures { IfOk result (IsAfter (step (state_of self.old) token) self.new) }
+        ensures { IfOk result (IsAfter (step (state_of_reader self.old) token) self.new) }
     {
         match self.place {
             Place::NeedsAtom => self.read_atom(token),
@@ -173,7 +174,7 @@ impl Reader {
 
     /// The expression, if the text may end here.
     pub fn finish(self) -> Result<Option<Expr>, AllocError>
-        ensures { IfOk result (λ whole. option_map form_of whole ≡ finish (state_of self)) }
+        ensures { IfOk result (λ whole. option_map form_of whole ≡ finish (state_of_reader self)) }
     {
         let Reader {
             alloc: _,

@@ -16,7 +16,7 @@ use Rattle.mode_network.specs.declared.nodes.Arc.{Arc}
 use Rattle.mode_network.specs.Rules.{IsAscending, arc_cmp}
 use Rattle.mode_network.specs.declared.indexes.NodeRow.{NodeRow}
 use Rattle.mode_network.specs.declared.nodes.Node.{Node}
-use Rattle.mode_network.specs.Indexes.{AreRows, row_of, count_below, range_from, IsRange}
+use Rattle.mode_network.specs.Indexes.{AreNodeRows, node_row, arcs_begun_below, range_from, IsRange}
 
 no_arc : Arc
 no_arc = record { from = 0; to = 0; ms = 0 }
@@ -62,14 +62,14 @@ module _ {X : Type 0} (p : X → Bool) (xs : List X) (d : X) (cut : ℕ) (within
 
 -- of the arcs that are ordered, those begin below v that stand before so many places, and no others
 module _ (arcs : List Arc) (ascend : IsAscending arc_cmp arcs) (v : ℕ) where
-  pub below_stands_before : (k : ℕ) (d : Arc) → k < length arcs → (slice_index_or arcs k d).from < v → k < count_below arcs v
+  pub below_stands_before : (k : ℕ) (d : Arc) → k < length arcs → (slice_index_or arcs k d).from < v → k < arcs_begun_below arcs v
   below_stands_before k d lt h =
       let p : Arc → Bool = λ arc. nat_lt arc.from v in
       let front = in_front p arcs d (k + 1) (omega arith)
       (λ j before. lt-ltb _ _ (lt_of_le_of_lt (from_rises arcs ascend j k d (omega arith) lt) h)) (k + 1) (omega arith) in
       omega (arith, front, sum_by-take-le (λ (arc : Arc). cond (nat_lt arc.from v) 1 0) arcs (k + 1))
 
-  pub above_stands_after : (k : ℕ) (d : Arc) → k < length arcs → v ≤ (slice_index_or arcs k d).from → count_below arcs v ≤ k
+  pub above_stands_after : (k : ℕ) (d : Arc) → k < length arcs → v ≤ (slice_index_or arcs k d).from → arcs_begun_below arcs v ≤ k
   above_stands_after k d lt h =
       let p : Arc → Bool = λ arc. nat_lt arc.from v in
       let before = count_before p arcs d k (omega arith) (λ j from within. le-ltb _ _ (le_trans h (from_rises arcs ascend k j d from within))) in
@@ -78,13 +78,13 @@ module _ (arcs : List Arc) (ascend : IsAscending arc_cmp arcs) (v : ℕ) where
 -- the first place whose arc leaves v or a later node is the number of arcs that begin below v
 pub count_below_is : (arcs : List Arc) (v place : ℕ) → IsAscending arc_cmp arcs → place ≤ length arcs
     → AllWithin (λ arc. arc.from < v) arcs 0 place → ((d : Arc) → place < length arcs → v ≤ (slice_index_or arcs place d).from)
-    → count_below arcs v ≡ place
+    → arcs_begun_below arcs v ≡ place
 count_below_is arcs v place ascend within below next = by_end (nat_lt place (length arcs)) refl
   where
     front : count_by (λ arc. nat_lt arc.from v) (take place arcs) ≡ place
     front = in_front (λ arc. nat_lt arc.from v) arcs no_arc place within (λ k h. lt-ltb _ _ (below k no_arc (omega arith) h)) place (omega arith)
 
-    by_end : (t : Bool) → nat_lt place (length arcs) ≡ t → count_below arcs v ≡ place
+    by_end : (t : Bool) → nat_lt place (length arcs) ≡ t → arcs_begun_below arcs v ≡ place
     by_end true h =
         let inside = ltb-true _ _ h in
         count_before (λ arc. nat_lt arc.from v) arcs no_arc place within
@@ -95,16 +95,16 @@ count_below_is arcs v place ascend within below next = by_end (nat_lt place (len
 
 -- one row more
 pub rows_more : (roads : List Node) (arcs links : List Arc) (rows : List NodeRow) (v : ℕ) → length rows ≡ v
-    → ((w : ℕ) (d : NodeRow) → w < v → slice_index_or rows w d ≡ row_of roads arcs links w)
-    → (row : NodeRow) → row ≡ row_of roads arcs links v
-    → (w : ℕ) (d : NodeRow) → w < v + 1 → slice_index_or (rows ++ row ∷ []) w d ≡ row_of roads arcs links w
+    → ((w : ℕ) (d : NodeRow) → w < v → slice_index_or rows w d ≡ node_row roads arcs links w)
+    → (row : NodeRow) → row ≡ node_row roads arcs links v
+    → (w : ℕ) (d : NodeRow) → w < v + 1 → slice_index_or (rows ++ row ∷ []) w d ≡ node_row roads arcs links w
 rows_more roads arcs links rows v len before row here w d =
-    below_more (λ w. slice_index_or (rows ++ row ∷ []) w d ≡ row_of roads arcs links w) v
+    below_more (λ w. slice_index_or (rows ++ row ∷ []) w d ≡ node_row roads arcs links w) v
     (λ w h. get_or-append rows (row ∷ []) d w (omega arith) ∙ before w d h)
     (rw (← len) (get_or-append_seam rows row [] d) ∙ here) w
 
 -- more arcs begin below a later node
-count_rises : (arcs : List Arc) (v w : ℕ) → v ≤ w → count_below arcs v ≤ count_below arcs w
+count_rises : (arcs : List Arc) (v w : ℕ) → v ≤ w → arcs_begun_below arcs v ≤ arcs_begun_below arcs w
 count_rises arcs v w h = sum_by-le-sum_by (λ (arc : Arc). cond (nat_lt arc.from v) 1 0) (λ (arc : Arc). cond (nat_lt arc.from w) 1 0) arcs each
   where
     both : (n : ℕ) (s t : Bool) → nat_lt n v ≡ s → nat_lt n w ≡ t → cond s 1 0 ≤ cond t 1 0
@@ -129,7 +129,7 @@ begins_in_range arcs ascend v k d low high =
     from : ℕ
     from = (slice_index_or arcs k d).from
 
-    not_other : (s : Bool) → nat_lt from v ≡ s → (t : Bool) → nat_lt v from ≡ t → (from < v → k < count_below arcs v) → (v + 1 ≤ from → count_below arcs (v + 1) ≤ k) → from ≡ v
+    not_other : (s : Bool) → nat_lt from v ≡ s → (t : Bool) → nat_lt v from ≡ t → (from < v → k < arcs_begun_below arcs v) → (v + 1 ≤ from → arcs_begun_below arcs (v + 1) ≤ k) → from ≡ v
     not_other true e t f below above = let early = below (ltb-true _ _ e) in absurd (omega arith)
     not_other false e true f below above = let late = above (let gt = ltb-true _ _ f in omega arith) in absurd (omega arith)
     not_other false e false f below above = let ge = ltb-false _ _ e in let le = ltb-false _ _ f in omega arith
@@ -140,14 +140,14 @@ pub in_range_of_begin : (arcs : List Arc) → IsAscending arc_cmp arcs → (k : 
 in_range_of_begin arcs ascend k d lt =
     (above_stands_after arcs ascend _ k d lt (le_refl _), below_stands_before arcs ascend _ k d lt (omega arith))
 
-module _ (nodes : ℕ) (roads : List Node) (arcs links : List Arc) (table : List NodeRow) (are : AreRows nodes roads arcs links table) where
+module _ (nodes : ℕ) (roads : List Node) (arcs links : List Arc) (table : List NodeRow) (are : AreNodeRows nodes roads arcs links table) where
   -- what is read of a node is its row
-  row_read : (v : ℕ) → v ≤ nodes → (row : NodeRow) → row ≡ slice_index_or table v row → row ≡ row_of roads arcs links v
+  row_read : (v : ℕ) → v ≤ nodes → (row : NodeRow) → row ≡ slice_index_or table v row → row ≡ node_row roads arcs links v
   row_read v h row at = at ∙ are.are v row h
 
   -- and what is read of it and of the next one is a range of the list whose counts the rows have
-  pub range_read : (part : NodeRow → ℕ) (list : List Arc) → ((w : ℕ) → part (row_of roads arcs links w) ≡ count_below list w) → (v : ℕ) → v < nodes
+  pub range_read : (part : NodeRow → ℕ) (list : List Arc) → ((w : ℕ) → part (node_row roads arcs links w) ≡ arcs_begun_below list w) → (v : ℕ) → v < nodes
       → (first end : NodeRow) → first ≡ slice_index_or table v first → end ≡ slice_index_or table (v + 1) end → (part first, part end) ≡ range_from list v
   range_read part list has v h first end at_first at_end =
       ap (λ k. (k, part end)) (ap part (row_read v (omega arith) first at_first) ∙ has v)
-      ∙ ap (λ k. (count_below list v, k)) (ap part (row_read (v + 1) (omega arith) end at_end) ∙ has (v + 1))
+      ∙ ap (λ k. (arcs_begun_below list v, k)) (ap part (row_read (v + 1) (omega arith) end at_end) ∙ has (v + 1))

@@ -22,7 +22,7 @@ use Rattle.std.proofs.lemmas.Option.{slice_get_within, get_or_from_slice_get}
 use Rattle.mode_network.specs.declared.nodes.NodeKey.{NodeKey}
 use Rattle.mode_network.specs.declared.nodes.NodeKey.TheVariants.{Road as RoadKey, Stop as StopKey, Switch as SwitchKey}
 use Rattle.mode_network.specs.NetworkLists.{NetworkLists, nodes_of, mode_of, mode_at}
-use Rattle.mode_network.specs.Rules.{rank_of, node_cmp, name_cmp, arc_cmp, first_unsorted, lists_fault, IsAscending, IsRoad, is_same_mode, AreNamed, AreNames, AreParts, HaveDurations, IsNetwork, or_else, row_fault, unsorted_fault}
+use Rattle.mode_network.specs.Rules.{rank_of, node_cmp, name_cmp, arc_cmp, first_unsorted, lists_fault, IsAscending, IsRoad, is_same_mode, AreNamed, AreNames, AreParts, HaveDurations, IsNetwork, or_else, end_or_order_fault, unsorted_fault}
 
 less_of : (o : Ordering) → is_lt o ≡ true → o ≡ Less
 less_of Less e = refl
@@ -74,7 +74,7 @@ neither : (a b : Option NetFault) → or_else a b ≡ None → (a ≡ None) × (
 neither None b e = (refl, e)
 neither (Some f) b e = cc
 
-no_row : (kind : Kind) (bad unsorted : Option ℕ) → row_fault kind bad unsorted ≡ None → (bad ≡ None) × (unsorted ≡ None)
+no_row : (kind : Kind) (bad unsorted : Option ℕ) → end_or_order_fault kind bad unsorted ≡ None → (bad ≡ None) × (unsorted ≡ None)
 no_row kind None None e = (refl, refl)
 no_row kind (Some b) None e = cc
 no_row kind None (Some u) e = cc

@@ -7,12 +7,12 @@ use Rattle.mode_network.specs.declared.indexes.NodeRow.{NodeRow}
 use Rattle.mode_network.specs.NetworkLists.{NetworkLists, nodes_of, mode_at}
 
 -- how many arcs begin below the node v
-abbrev pub count_below : List Arc → ℕ → ℕ
-count_below arcs v = count_by (λ arc. nat_lt arc.from v) arcs
+abbrev pub arcs_begun_below : List Arc → ℕ → ℕ
+arcs_begun_below arcs v = count_by (λ arc. nat_lt arc.from v) arcs
 
 -- where those that begin at v stand in a list that is ordered by `from`: the first place, and one past the last
 abbrev pub range_from : List Arc → ℕ → ℕ × ℕ
-range_from arcs v = (count_below arcs v, count_below arcs (v + 1))
+range_from arcs v = (arcs_begun_below arcs v, arcs_begun_below arcs (v + 1))
 
 -- a range of places of a list
 abbrev pub IsRange : {X : Type 0} → ℕ × ℕ → List X → Type 0
@@ -23,18 +23,18 @@ abbrev pub is_end_of : List Arc → ℕ → Bool
 is_end_of arcs v = list_any (λ arc. (arc.from == v) || (arc.to == v)) arcs
 
 -- what is kept of the node v: its mode, and how many arcs and links begin below it
-abbrev pub row_of : List Node → List Arc → List Arc → ℕ → NodeRow
-row_of roads arcs links v = record { mode = mode_at roads v; arcs = count_below arcs v; links = count_below links v }
+abbrev pub node_row : List Node → List Arc → List Arc → ℕ → NodeRow
+node_row roads arcs links v = record { mode = mode_at roads v; arcs = arcs_begun_below arcs v; links = arcs_begun_below links v }
 
 -- the rows of so many nodes, and one for one past the last
-pub record AreRows (nodes : ℕ) (roads : List Node) (arcs links : List Arc) (rows : List NodeRow) : Type 0 where
+pub record AreNodeRows (nodes : ℕ) (roads : List Node) (arcs links : List Arc) (rows : List NodeRow) : Type 0 where
   pub one_more : length rows ≡ nodes + 1
-  pub are : (v : ℕ) (d : NodeRow) → v ≤ nodes → slice_index_or rows v d ≡ row_of roads arcs links v
+  pub are : (v : ℕ) (d : NodeRow) → v ≤ nodes → slice_index_or rows v d ≡ node_row roads arcs links v
 
-pub record AreEnds (nodes : ℕ) (arcs : List Arc) (ends : List Bool) : Type 0 where
+pub record AreEndMarks (nodes : ℕ) (arcs : List Arc) (ends : List Bool) : Type 0 where
   pub one_each : length ends ≡ nodes
   pub are : (v : ℕ) (d : Bool) → v < nodes → slice_index_or ends v d ≡ is_end_of arcs v
 
 pub record AreIndexes (n : NetworkLists) (table : List NodeRow) (linked : List Bool) : Type 0 where
-  pub rows : AreRows (length (nodes_of n)) n.roads n.arcs n.links table
-  pub ends : AreEnds (length (nodes_of n)) n.links linked
+  pub rows : AreNodeRows (length (nodes_of n)) n.roads n.arcs n.links table
+  pub ends : AreEndMarks (length (nodes_of n)) n.links linked

@@ -67,11 +67,11 @@ joins_layers roads nodes link =
     nat_lt link.from nodes && nat_lt link.to nodes && (if nat_lt link.from roads then nat_le roads link.to else nat_lt link.to roads)
 
 -- the first fault of a row, where the first bad end and the first row out of order stand there: at one row the bad end comes first
-abbrev pub row_fault : Kind → Option ℕ → Option ℕ → Option NetFault
-row_fault kind None None = None
-row_fault kind (Some bad) None = Some (BadEnd kind bad)
-row_fault kind None (Some unsorted) = Some (OutOfOrder kind unsorted)
-row_fault kind (Some bad) (Some unsorted) = Some (if nat_le bad unsorted then BadEnd kind bad else OutOfOrder kind unsorted)
+abbrev pub end_or_order_fault : Kind → Option ℕ → Option ℕ → Option NetFault
+end_or_order_fault kind None None = None
+end_or_order_fault kind (Some bad) None = Some (BadEnd kind bad)
+end_or_order_fault kind None (Some unsorted) = Some (OutOfOrder kind unsorted)
+end_or_order_fault kind (Some bad) (Some unsorted) = Some (if nat_le bad unsorted then BadEnd kind bad else OutOfOrder kind unsorted)
 
 abbrev pub unsorted_fault : Kind → Option ℕ → Option NetFault
 unsorted_fault kind unsorted = option_map (OutOfOrder kind) unsorted
@@ -86,10 +86,10 @@ count_fault caps n =
     else None)))
 
 abbrev pub arcs_fault : NetworkLists → Option NetFault
-arcs_fault n = row_fault Arcs (position (λ arc. not (joins_modes n.roads arc)) n.arcs) (first_unsorted arc_cmp 0 n.arcs)
+arcs_fault n = end_or_order_fault Arcs (position (λ arc. not (joins_modes n.roads arc)) n.arcs) (first_unsorted arc_cmp 0 n.arcs)
 
 abbrev pub links_fault : NetworkLists → Option NetFault
-links_fault n = row_fault Links (position (λ link. not (joins_layers (length n.roads) (length (nodes_of n)) link)) n.links) (first_unsorted arc_cmp 0 n.links)
+links_fault n = end_or_order_fault Links (position (λ link. not (joins_layers (length n.roads) (length (nodes_of n)) link)) n.links) (first_unsorted arc_cmp 0 n.links)
 
 -- the first fault that is there
 abbrev pub or_else : Option NetFault → Option NetFault → Option NetFault

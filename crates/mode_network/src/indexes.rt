@@ -5,7 +5,7 @@ ghost use Rattle.std.specs.List.{AllWithin};
 ghost use Rattle.mode_network.specs.declared.nodes.Arc.{Arc};
 ghost use Rattle.mode_network.specs.Rules.{IsAscending, arc_cmp};
 ghost use Rattle.mode_network.specs.Copies.{road_points};
-ghost use Rattle.mode_network.specs.Indexes.{AreRows, AreEnds};
+ghost use Rattle.mode_network.specs.Indexes.{AreNodeRows, AreEndMarks};
 ghost use Rattle.mode_network.specs.NetworkLists.{mode_of, mode_at};
 ghost use Rattle.mode_network.specs.Points.{HoldSame};
 
@@ -46,8 +46,9 @@ impl Tables {
         requires few_links { length links.now < 2 ^ 31 }
         requires links_ascend { IsAscending arc_cmp links.now }
         requires in_range { All (λ link. (link.from < nodes) × (link.to < nodes)) links.now }
-        ensures rows { IfOk result (λ tables. AreRows nodes roads.now arcs.now links.now tables.rows.items) }
-        ensures ends { IfOk result (λ tables. AreEnds nodes links.now tables.linked.items) }
+        ensures rows { IfOk result (λ tables. AreNodeRows nodes roads.now arcs.now links.now
+            tables.rows.items) }
+        ensures ends { IfOk result (λ tables. AreEndMarks nodes links.now tables.linked.items) }
         ensures grid { IfOk result (λ tables. HoldSame tables.grid (road_points roads.now)) }
     {
         Ok(Tables {
@@ -85,7 +86,7 @@ fn rows(
     requires arcs_ascend { IsAscending arc_cmp arcs.now }
     requires few_links { length links.now < 2 ^ 31 }
     requires links_ascend { IsAscending arc_cmp links.now }
-    ensures { IfOk result (λ rows. AreRows nodes roads.now arcs.now links.now rows.items) }
+    ensures { IfOk result (λ rows. AreNodeRows nodes roads.now arcs.now links.now rows.items) }
 {
     let mut rows = Vec::with_capacity(alloc, nodes as usize + 1)?;
     let mut arc = 0;
@@ -122,7 +123,7 @@ pub(crate) fn mode_at(roads: &[Node], v: u32) -> Option<u8>
 /// For each node number: whether some arc begins or ends there.
 fn ends(alloc: Global, nodes: u32, arcs: &[Arc]) -> Result<Vec<bool>, AllocError>
     requires in_range { All (λ arc. (arc.from < nodes) × (arc.to < nodes)) arcs.now }
-    ensures { IfOk result (λ ends. AreEnds nodes arcs.now ends.items) }
+    ensures { IfOk result (λ ends. AreEndMarks nodes arcs.now ends.items) }
 {
     let mut ends = vec![in alloc; false; nodes as usize]?;
     for arc in arcs {

@@ -28,5 +28,16 @@ impl Model for Parts {
 
     ghost Value = { NetworkLists };
 
-    ghost view = { λ p. record { days = p.days; roads = p.roads.items; stop_names = p.stop_names.items; stops = p.stops.items; switches = p.switches.items; arcs = p.arcs.items; links = p.links.items; trips = p.trips.items } };
+    ghost view = { λ p. record {
+      days = p.days;
+      roads = p.roads.items;
+      stop_names = p.stop_names.items;
+      stops
+          = p.stops.items;
+      switches = p.switches.items;
+      arcs = p.arcs.items;
+      links = p.links.items;
+      trips =
+          p.trips.items;
+    } };
 }

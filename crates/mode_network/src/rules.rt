@@ -3,7 +3,7 @@
 ghost use Rattle.std.specs.Prelude.{◌≡◌, ◌<◌, ◌^◌, length, not, option_map, true};
 ghost use Rattle.std.specs.List.{position};
 ghost use Rattle.mode_network.specs.NetworkLists.{nodes_of};
-ghost use Rattle.mode_network.specs.Rules.{joins_modes, joins_layers, row_fault, unsorted_fault, count_fault, lists_fault, arcs_fault, links_fault, AreNamed, AreNames, HaveDurations};
+ghost use Rattle.mode_network.specs.Rules.{joins_modes, joins_layers, end_or_order_fault, unsorted_fault, count_fault, lists_fault, arcs_fault, links_fault, AreNamed, AreNames, HaveDurations};
 ghost use Rattle.plain_texts.specs.Names.{is_name};
 
 use crate::faults::NetFault;
@@ -53,7 +53,7 @@ fn first_bad_link(roads: u128, nodes: u128, links: &[Arc]) -> Option<usize>
 }
 
 fn row_fault(kind: Kind, bad: Option<u64>, unsorted: Option<u64>) -> Option<NetFault>
-    ensures { result ≡ row_fault kind bad unsorted }
+    ensures { result ≡ end_or_order_fault kind bad unsorted }
 {
     match (bad, unsorted) {
         (None, None) => None,

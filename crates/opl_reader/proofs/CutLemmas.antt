@@ -6,7 +6,8 @@ use Rattle.std.proofs.lemmas.Bool.Decides.{nat_tests}
 use Rattle.std.proofs.lemmas.List.Splits.{slice_split_none, slice_split_first}
 use Rattle.std.proofs.lemmas.List.Sums.{fails_before_first}
 use Rattle.std.proofs.lemmas.Option.{none-some, cond_some, some_pair_parts}
-use Rattle.opl_reader.specs.Cuts.{is_byte, around, cut_of}
+use Rattle.plain_texts.specs.Lines.{around}
+use Rattle.opl_reader.specs.Cuts.{is_byte, cut_of}
 
 pub cut_some : (byte : ℕ) (text before behind : List ℕ) → cut_of byte text ≡ Some (before, behind) → slice_split (is_byte byte) text ≡ before ∷ slice_split (is_byte byte) behind
 unfolding cut_of

@@ -12,9 +12,9 @@ use Rattle.opl_reader.specs.declared.lines.Line.{Line}
 use Rattle.opl_reader.specs.declared.lines.Line.TheVariants.{Passed, Bad, Node, Way}
 use Rattle.opl_reader.specs.Optional.{◌>>=◌}
 use Rattle.opl_reader.specs.Cuts.{at_blanks}
-use Rattle.opl_reader.specs.Ids.{digit_step, digits_at, id_at}
+use Rattle.opl_reader.specs.Ids.{digit_step, osm_id_at, up_to_eighteen_digits_at}
 use Rattle.opl_reader.specs.ObjectLists.{IsOsmId}
-use Rattle.opl_reader.specs.Lines.{is_field, is_plain, visible_of, place_in, tags_in, references_in, node_of, way_of, node_line, way_line, element_line, words_line, text_line, line_of}
+use Rattle.opl_reader.specs.Lines.{is_field, is_plain_byte, visible_of, place_in, tags_in, references_in, node_by_tags, way_by_tags, node_by_fields, way_by_fields, element_line, words_line, text_line, map_line_of}
 use Rattle.opl_reader.proofs.Powers.{powers_up}
 
 fold_none : (ds : List ℕ) → fold (more digit_step) None ds ≡ None
@@ -33,8 +33,8 @@ fold_within (b ∷ bs) v k n h e = by_digit (digit_of b) refl e (λ d below e. f
     by_digit None is e rest = absurd (none-some n (sym (fold_none bs) ∙ e))
     by_digit (Some d) is e rest = let more : suc k + length bs ≡ k + suc (length bs) = omega arith in subst (λ j. n < 10 ^ j) more (rest d (small_digit b d is) e)
 
-digits_within : (ds : List ℕ) (n : ℕ) → digits_at ds ≡ Some n → n < 10 ^ 18
-unfolding digits_at
+digits_within : (ds : List ℕ) (n : ℕ) → up_to_eighteen_digits_at ds ≡ Some n → n < 10 ^ 18
+unfolding up_to_eighteen_digits_at
 digits_within ds n e = by_test (nat_lt 0 (length ds) && nat_le (length ds) 18) refl e
   where
     by_test : (t : Bool) → (nat_lt 0 (length ds) && nat_le (length ds) 18) ≡ t → cond t (fold (more digit_step) (Some 0) ds) None ≡ Some n → n < 10 ^ 18
@@ -47,22 +47,22 @@ size_of_neg : (n : ℕ) → unsigned_abs (neg_ℤ (pos n)) ≡ n
 size_of_neg zero = refl
 size_of_neg (suc n) = refl
 
-pub id_within : (text : List ℕ) (id : ℤ) → id_at text ≡ Some id → IsOsmId id
-unfolding id_at
+pub id_within : (text : List ℕ) (id : ℤ) → osm_id_at text ≡ Some id → IsOsmId id
+unfolding osm_id_at
 id_within [] id e = absurd (none-some id e)
 id_within (b ∷ bs) id e = by_sign (b == 45) e
   where
-    minus : (o : Option ℕ) → digits_at bs ≡ o → option_map (λ n. neg_ℤ (pos n)) o ≡ Some id → IsOsmId id
+    minus : (o : Option ℕ) → up_to_eighteen_digits_at bs ≡ o → option_map (λ n. neg_ℤ (pos n)) o ≡ Some id → IsOsmId id
     minus None is e = absurd (none-some id e)
     minus (Some n) is e = subst IsOsmId (same_Some (neg_ℤ (pos n)) id e) (subst (λ k. k < 10 ^ 18) (sym (size_of_neg n)) (digits_within bs n is))
 
-    plus : (o : Option ℕ) → digits_at (b ∷ bs) ≡ o → option_map pos o ≡ Some id → IsOsmId id
+    plus : (o : Option ℕ) → up_to_eighteen_digits_at (b ∷ bs) ≡ o → option_map pos o ≡ Some id → IsOsmId id
     plus None is e = absurd (none-some id e)
     plus (Some n) is e = subst IsOsmId (same_Some (pos n) id e) (digits_within (b ∷ bs) n is)
 
-    by_sign : (t : Bool) → cond t (option_map (λ n. neg_ℤ (pos n)) (digits_at bs)) (option_map pos (digits_at (b ∷ bs))) ≡ Some id → IsOsmId id
-    by_sign true e = minus (digits_at bs) refl e
-    by_sign false e = plus (digits_at (b ∷ bs)) refl e
+    by_sign : (t : Bool) → cond t (option_map (λ n. neg_ℤ (pos n)) (up_to_eighteen_digits_at bs)) (option_map pos (up_to_eighteen_digits_at (b ∷ bs))) ≡ Some id → IsOsmId id
+    by_sign true e = minus (up_to_eighteen_digits_at bs) refl e
+    by_sign false e = plus (up_to_eighteen_digits_at (b ∷ bs)) refl e
 
 -- what stands on a line has an id
 abbrev pub HasId : Line → Type 0
@@ -84,17 +84,17 @@ has_or_bad None h = tt
 has_or_bad (Some line) h = h
 
 has_line : (e : Element) (id : List ℕ) (fields : List (List ℕ)) → IfSome (element_line e id fields) HasId
-unfolding node_line way_line node_of way_of
+unfolding node_by_fields way_by_fields node_by_tags way_by_tags
 has_line element.Node text fields =
     has_behind (tags_in element.Node fields) _ (λ tags _.
-    has_behind (id_at text) _ (λ id is.
+    has_behind (osm_id_at text) _ (λ id is.
     has_behind (visible_of fields) _ (λ visible _.
     has_behind (place_in fields) _ (λ place _.
     has_either visible _ Passed (id_within text id is) tt))))
 has_line element.Way text fields =
     has_behind (tags_in element.Way fields) _ (λ tags _.
     has_behind (references_in fields) _ (λ references _.
-    has_behind (id_at text) _ (λ id is.
+    has_behind (osm_id_at text) _ (λ id is.
     has_behind (visible_of fields) _ (λ visible _.
     has_either visible _ Passed (id_within text id is) tt))))
 
@@ -104,15 +104,15 @@ has_words e (id ∷ fields) = has_either (list_all is_field fields) _ Bad (has_o
 
 has_text : (e : Element) (text : List ℕ) → HasId (text_line e text)
 unfolding text_line
-has_text e text = has_either (list_all is_plain text) _ Bad (has_words e (at_blanks text)) tt
+has_text e text = has_either (list_all is_plain_byte text) _ Bad (has_words e (at_blanks text)) tt
 
-pub line_has_id : (text : List ℕ) → HasId (line_of text)
-unfolding line_of
+pub line_has_id : (text : List ℕ) → HasId (map_line_of text)
+unfolding map_line_of
 line_has_id [] = tt
 line_has_id (b ∷ text) =
     has_either (b == 110) _ _ (has_text element.Node text)
     (has_either (b == 119) _ _ (has_text element.Way text) (has_either _ Passed Bad tt tt))
 
-pub lines_have_ids : (texts : List (List ℕ)) → AllByRecursion HasId (map line_of texts)
+pub lines_have_ids : (texts : List (List ℕ)) → AllByRecursion HasId (map map_line_of texts)
 lines_have_ids [] = tt
 lines_have_ids (text ∷ texts) = (line_has_id text, lines_have_ids texts)

@@ -4,8 +4,8 @@ use Rattle.plan_base.specs.declared.limits.Caps.{Caps}
 use Rattle.plain_texts.specs.Lines.{pieces, lines_of, lines_of_pieces}
 use Rattle.opl_reader.specs.declared.objects.OplFault.{OplFault}
 use Rattle.opl_reader.specs.declared.lines.Line.{Line}
-use Rattle.opl_reader.specs.Lines.{line_of}
-use Rattle.opl_reader.specs.Objects.{ended}
+use Rattle.opl_reader.specs.Lines.{map_line_of}
+use Rattle.opl_reader.specs.Objects.{all_but_last}
 use Rattle.opl_reader.specs.Gathered.{GatheredLists, with_line, last_line}
 use Rattle.opl_reader.specs.Readers.{ReaderState, on_ok, with_pieces, with_bytes}
 
@@ -25,19 +25,19 @@ module _ (caps : Caps) where
   at_line g held = record { caps = caps; gathered = g; held = held }
 
   -- the lines that have ended are added, and the rest is held
-  ended_pieces : (g : GatheredLists) (ps : List (List ℕ)) → with_pieces (at_line g []) ps ≡ on_ok (with_lines caps g (map line_of (ended ps))) (λ h. Ok (at_line h (last_piece ps)))
+  ended_pieces : (g : GatheredLists) (ps : List (List ℕ)) → with_pieces (at_line g []) ps ≡ on_ok (with_lines caps g (map map_line_of (all_but_last ps))) (λ h. Ok (at_line h (last_piece ps)))
   ended_pieces g [] = refl
   ended_pieces g (piece ∷ []) = refl
-  ended_pieces g (piece ∷ next ∷ more) = by_line (with_line caps g (line_of piece)) (λ h. ended_pieces h (next ∷ more))
+  ended_pieces g (piece ∷ next ∷ more) = by_line (with_line caps g (map_line_of piece)) (λ h. ended_pieces h (next ∷ more))
     where
       by_line : (r : Result GatheredLists OplFault)
-          → ((h : GatheredLists) → with_pieces (at_line h []) (next ∷ more) ≡ on_ok (with_lines caps h (map line_of (ended (next ∷ more)))) (λ k. Ok (at_line k (last_piece (next ∷ more)))))
+          → ((h : GatheredLists) → with_pieces (at_line h []) (next ∷ more) ≡ on_ok (with_lines caps h (map map_line_of (all_but_last (next ∷ more)))) (λ k. Ok (at_line k (last_piece (next ∷ more)))))
           → on_ok (on_ok r (λ h. Ok (at_line h []))) (λ t. with_pieces t (next ∷ more))
-          ≡ on_ok (on_ok r (λ h. with_lines caps h (map line_of (ended (next ∷ more))))) (λ h. Ok (at_line h (last_piece (next ∷ more))))
+          ≡ on_ok (on_ok r (λ h. with_lines caps h (map map_line_of (all_but_last (next ∷ more))))) (λ h. Ok (at_line h (last_piece (next ∷ more))))
       by_line (Ok h) rest = rest h
       by_line (Err fault) rest = refl
 
-  pub ended_bytes : (g : GatheredLists) (bytes : List ℕ) → with_bytes (at_line g []) bytes ≡ on_ok (with_lines caps g (map line_of (ended (pieces bytes)))) (λ h. Ok (at_line h (last_piece (pieces bytes))))
+  pub ended_bytes : (g : GatheredLists) (bytes : List ℕ) → with_bytes (at_line g []) bytes ≡ on_ok (with_lines caps g (map map_line_of (all_but_last (pieces bytes)))) (λ h. Ok (at_line h (last_piece (pieces bytes))))
   unfolding with_bytes
   ended_bytes g bytes = ended_pieces g (pieces bytes)
 
@@ -46,19 +46,19 @@ module _ (caps : Caps) where
   unchanged (Err fault) = refl
 
   -- with the last line too
-  all_pieces : (g : GatheredLists) (ps : List (List ℕ)) → on_ok (with_pieces (at_line g []) ps) (λ t. last_line t.caps t.gathered t.held) ≡ with_lines caps g (map line_of (lines_of_pieces ps))
+  all_pieces : (g : GatheredLists) (ps : List (List ℕ)) → on_ok (with_pieces (at_line g []) ps) (λ t. last_line t.caps t.gathered t.held) ≡ with_lines caps g (map map_line_of (lines_of_pieces ps))
   all_pieces g [] = refl
   all_pieces g ([] ∷ []) = refl
-  all_pieces g ((b ∷ bs) ∷ []) = unchanged (with_line caps g (line_of (b ∷ bs)))
-  all_pieces g (piece ∷ next ∷ more) = by_line (with_line caps g (line_of piece)) (λ h. all_pieces h (next ∷ more))
+  all_pieces g ((b ∷ bs) ∷ []) = unchanged (with_line caps g (map_line_of (b ∷ bs)))
+  all_pieces g (piece ∷ next ∷ more) = by_line (with_line caps g (map_line_of piece)) (λ h. all_pieces h (next ∷ more))
     where
       by_line : (r : Result GatheredLists OplFault)
-          → ((h : GatheredLists) → on_ok (with_pieces (at_line h []) (next ∷ more)) (λ t. last_line t.caps t.gathered t.held) ≡ with_lines caps h (map line_of (lines_of_pieces (next ∷ more))))
+          → ((h : GatheredLists) → on_ok (with_pieces (at_line h []) (next ∷ more)) (λ t. last_line t.caps t.gathered t.held) ≡ with_lines caps h (map map_line_of (lines_of_pieces (next ∷ more))))
           → on_ok (on_ok (on_ok r (λ h. Ok (at_line h []))) (λ t. with_pieces t (next ∷ more))) (λ t. last_line t.caps t.gathered t.held)
-          ≡ on_ok r (λ h. with_lines caps h (map line_of (lines_of_pieces (next ∷ more))))
+          ≡ on_ok r (λ h. with_lines caps h (map map_line_of (lines_of_pieces (next ∷ more))))
       by_line (Ok h) rest = rest h
       by_line (Err fault) rest = refl
 
-  pub all_bytes : (g : GatheredLists) (bytes : List ℕ) → on_ok (with_bytes (at_line g []) bytes) (λ t. last_line t.caps t.gathered t.held) ≡ with_lines caps g (map line_of (lines_of bytes))
+  pub all_bytes : (g : GatheredLists) (bytes : List ℕ) → on_ok (with_bytes (at_line g []) bytes) (λ t. last_line t.caps t.gathered t.held) ≡ with_lines caps g (map map_line_of (lines_of bytes))
   unfolding with_bytes lines_of
   all_bytes g bytes = all_pieces g (pieces bytes)

@@ -17,7 +17,7 @@ use Rattle.opl_reader.specs.declared.lines.Line.{Line}
 use Rattle.opl_reader.specs.declared.lines.Line.TheVariants.{Passed, Bad, Node, Way}
 use Rattle.opl_reader.specs.declared.lines.NodeLine.{NodeLine}
 use Rattle.opl_reader.specs.ObjectLists.{is_placed}
-use Rattle.opl_reader.specs.Objects.{nodes_on, ways_on, placed, placed_on, has_node, fault_behind, first_fault, cut_way, objects_on}
+use Rattle.opl_reader.specs.Objects.{nodes_on, ways_on, placed, placed_on, has_node, fault_behind, first_line_fault, cut_way, objects_on}
 use Rattle.opl_reader.specs.Gathered.{is_seen_placed, objects_from}
 use Rattle.opl_reader.proofs.SeenLemmas.{seen, gathered_on, nodes_more}
 
@@ -73,10 +73,10 @@ distinct_more caps before (Node node) none distinct =
     subst (IsDistinct int_eq) (sym (ap (map node_id) (nodes_more before (Node node)) ∙ map-append node_id (nodes_on before) (node ∷ [])))
     (IsDistinct-push int_eq_equiv (map node_id (nodes_on before)) node.id distinct new)
 
-pub distinct_nodes : (caps : Caps) (before lines : List Line) → first_fault caps before lines ≡ None → IsDistinct int_eq (map node_id (nodes_on before)) → IsDistinct int_eq (map node_id (nodes_on (before ++ lines)))
+pub distinct_nodes : (caps : Caps) (before lines : List Line) → first_line_fault caps before lines ≡ None → IsDistinct int_eq (map node_id (nodes_on before)) → IsDistinct int_eq (map node_id (nodes_on (before ++ lines)))
 distinct_nodes caps before [] none distinct = subst (λ all. IsDistinct int_eq (map node_id (nodes_on all))) (sym (append-nil before)) distinct
 distinct_nodes caps before (line ∷ lines) none distinct =
-    let both = none_either (fault_behind caps before line) (first_fault caps (before ++ line ∷ []) lines) none in
+    let both = none_either (fault_behind caps before line) (first_line_fault caps (before ++ line ∷ []) lines) none in
     subst (λ all. IsDistinct int_eq (map node_id (nodes_on all))) (append_assoc before (line ∷ []) lines)
     (distinct_nodes caps (before ++ line ∷ []) lines both.1 (distinct_more caps before line both.0 distinct))
 
@@ -85,7 +85,7 @@ unfolding IsDistinct
 nothing_distinct = tt
 
 -- what is gathered gives the objects of the lines
-pub objects_are : (caps : Caps) (lines : List Line) → first_fault caps [] lines ≡ None → objects_from (gathered_on lines) ≡ objects_on lines
+pub objects_are : (caps : Caps) (lines : List Line) → first_line_fault caps [] lines ≡ None → objects_from (gathered_on lines) ≡ objects_on lines
 objects_are caps lines none =
     let distinct = distinct_nodes caps [] lines none nothing_distinct in
     let same : is_seen_placed (map seen (nodes_on lines)) ≡ is_placed (placed_on lines) = λ j id. placed_seen (nodes_on lines) id distinct j in

@@ -6,10 +6,10 @@ use Rattle.plain_texts.specs.Lines.{pieces, lines_of}
 use Rattle.opl_reader.specs.declared.objects.OplFault.{OplFault}
 use Rattle.opl_reader.specs.declared.objects.OplFault.TheVariants.{BadLine, RepeatedObject, TooMany, OutOfMemory}
 use Rattle.opl_reader.specs.declared.lines.Line.{Line}
-use Rattle.opl_reader.specs.Lines.{line_of}
+use Rattle.opl_reader.specs.Lines.{map_line_of}
 use Rattle.opl_reader.specs.ObjectLists.{ObjectLists, AreObjects}
-use Rattle.opl_reader.specs.Objects.{ended, ended_fault, first_fault, faultless, objects_on, objects_of_lines, objects_of}
-use Rattle.opl_reader.specs.Gathered.{GatheredLists, nothing, last_line, objects_from, IsFaultOf}
+use Rattle.opl_reader.specs.Objects.{all_but_last, ended_fault, first_line_fault, faultless, objects_on, objects_of_lines, objects_of}
+use Rattle.opl_reader.specs.Gathered.{GatheredLists, nothing_gathered, last_line, objects_from, IsFaultOf}
 use Rattle.opl_reader.specs.Readers.{ReaderState, on_ok, fresh, with_bytes, finished}
 use Rattle.opl_reader.specs.Readings.{HasTaken, IsEndedFault, IsFaultOfEnded}
 use Rattle.opl_reader.proofs.AppendLemmas.{with_both}
@@ -22,10 +22,10 @@ then_on : {A B C : Type 0} (r : Result A OplFault) (f : A → Result B OplFault)
 then_on (Ok a) f g = refl
 then_on (Err fault) f g = refl
 
-gives_objects : (caps : Caps) (lines : List Line) → on_ok (faultless (first_fault caps [] lines) (gathered_on lines)) (λ g. Ok (objects_from g)) ≡ objects_of_lines caps lines
-gives_objects caps lines = by_fault (first_fault caps [] lines) refl
+gives_objects : (caps : Caps) (lines : List Line) → on_ok (faultless (first_line_fault caps [] lines) (gathered_on lines)) (λ g. Ok (objects_from g)) ≡ objects_of_lines caps lines
+gives_objects caps lines = by_fault (first_line_fault caps [] lines) refl
   where
-    by_fault : (o : Option OplFault) → first_fault caps [] lines ≡ o → on_ok (faultless o (gathered_on lines)) (λ g. Ok (objects_from g)) ≡ faultless o (objects_on lines)
+    by_fault : (o : Option OplFault) → first_line_fault caps [] lines ≡ o → on_ok (faultless o (gathered_on lines)) (λ g. Ok (objects_from g)) ≡ faultless o (objects_on lines)
     by_fault None is = ap Ok (objects_are caps lines is)
     by_fault (Some fault) is = refl
 
@@ -33,18 +33,18 @@ gives_objects caps lines = by_fault (first_fault caps [] lines) refl
 pub whole_text : (caps : Caps) (text : List ℕ) → on_ok (with_bytes (fresh caps) text) finished ≡ objects_of caps text
 unfolding objects_of
 whole_text caps text =
-    let lines = map line_of (lines_of text) in
+    let lines = map map_line_of (lines_of text) in
     sym (then_on (with_bytes (fresh caps) text) (λ t. last_line t.caps t.gathered t.held) (λ g. Ok (objects_from g)))
-    ∙ ap (λ r. on_ok r (λ g. Ok (objects_from g))) (all_bytes caps nothing text ∙ with_all caps [] lines)
+    ∙ ap (λ r. on_ok r (λ g. Ok (objects_from g))) (all_bytes caps nothing_gathered text ∙ with_all caps [] lines)
     ∙ gives_objects caps lines
 
 abbrev held_behind : Caps → List ℕ → GatheredLists → ReaderState
 held_behind caps text g = record { caps = caps; gathered = g; held = last_piece (pieces text) }
 
 -- what the lines that have ended give
-ended_text : (caps : Caps) (text : List ℕ) → with_bytes (fresh caps) text ≡ on_ok (faultless (ended_fault caps text) (gathered_on (map line_of (ended (pieces text))))) (λ g. Ok (held_behind caps text g))
+ended_text : (caps : Caps) (text : List ℕ) → with_bytes (fresh caps) text ≡ on_ok (faultless (ended_fault caps text) (gathered_on (map map_line_of (all_but_last (pieces text))))) (λ g. Ok (held_behind caps text g))
 unfolding ended_fault
-ended_text caps text = ended_bytes caps nothing text ∙ ap (λ r. on_ok r (λ g. Ok (held_behind caps text g))) (with_all caps [] (map line_of (ended (pieces text))))
+ended_text caps text = ended_bytes caps nothing_gathered text ∙ ap (λ r. on_ok r (λ g. Ok (held_behind caps text g))) (with_all caps [] (map map_line_of (all_but_last (pieces text))))
 
 no_fault : {A B : Type 0} (o : Option OplFault) (a : A) (f : A → B) (b : B) → Ok b ≡ on_ok (faultless o a) (λ a. Ok (f a)) → o ≡ None
 no_fault None a f b e = refl
@@ -58,11 +58,11 @@ same_fault (Some other) a f fault e = ap Some (sym (err_is fault other e))
     err_is x y e = cc
 
 pub ended_ok : (caps : Caps) (text : List ℕ) (s : ReaderState) → with_bytes (fresh caps) text ≡ Ok s → ended_fault caps text ≡ None
-ended_ok caps text s e = no_fault (ended_fault caps text) (gathered_on (map line_of (ended (pieces text)))) (held_behind caps text) s (sym e ∙ ended_text caps text)
+ended_ok caps text s e = no_fault (ended_fault caps text) (gathered_on (map map_line_of (all_but_last (pieces text)))) (held_behind caps text) s (sym e ∙ ended_text caps text)
 
 pub is_ended : (caps : Caps) (text : List ℕ) (fault : OplFault) → with_bytes (fresh caps) text ≡ Err fault → IsEndedFault caps text fault
 is_ended caps text fault e = record {
-  ended = same_fault (ended_fault caps text) (gathered_on (map line_of (ended (pieces text)))) (held_behind caps text) fault (sym e ∙ ended_text caps text);
+  ended = same_fault (ended_fault caps text) (gathered_on (map map_line_of (all_but_last (pieces text)))) (held_behind caps text) fault (sym e ∙ ended_text caps text);
   stays = λ more. sym (whole_text caps (text ++ more)) ∙ ap (λ r. on_ok r finished) (with_both text more (fresh caps) ∙ ap (λ r. on_ok r (λ t. with_bytes t more)) e);
 }
 

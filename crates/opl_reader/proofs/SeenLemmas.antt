@@ -17,7 +17,7 @@ use Rattle.opl_reader.specs.declared.lines.Line.{Line}
 use Rattle.opl_reader.specs.declared.lines.Line.TheVariants.{Passed, Bad, Node, Way}
 use Rattle.opl_reader.specs.declared.lines.NodeLine.{NodeLine}
 use Rattle.opl_reader.specs.declared.lines.WayLine.{WayLine}
-use Rattle.opl_reader.specs.Objects.{node_on, way_on, nodes_on, ways_on, placed, placed_on, references_on, has_node, has_way, fault_behind, first_fault, faultless}
+use Rattle.opl_reader.specs.Objects.{node_on, way_on, nodes_on, ways_on, placed, placed_on, references_on, has_node, has_way, fault_behind, first_line_fault, faultless}
 use Rattle.opl_reader.specs.Gathered.{GatheredLists, with_line}
 use Rattle.opl_reader.specs.Readers.{on_ok}
 use Rattle.opl_reader.proofs.LineLemmas.{with_lines}
@@ -134,12 +134,12 @@ step caps before (Way way) =
     ∙ ap (λ all. faultless (cond (has_way (ways_on before) way.id) (Some (RepeatedObject (length before + 1))) (cond (nat_lt caps.ways (length all.ways)) (Some (TooMany Ways)) (cond (nat_lt caps.refs all.references) (Some (TooMany Refs)) None))) all) (sym (way_more before way))
 
 -- lines are added until the first that has a fault
-pub with_all : (caps : Caps) (before lines : List Line) → with_lines caps (gathered_on before) lines ≡ faultless (first_fault caps before lines) (gathered_on (before ++ lines))
+pub with_all : (caps : Caps) (before lines : List Line) → with_lines caps (gathered_on before) lines ≡ faultless (first_line_fault caps before lines) (gathered_on (before ++ lines))
 with_all caps before [] = ap (λ all. Ok (gathered_on all)) (sym (append-nil before))
 with_all caps before (line ∷ lines) =
     ap (λ r. on_ok r (λ h. with_lines caps h lines)) (step caps before line) ∙ by_fault (fault_behind caps before line) (with_all caps (before ++ line ∷ []) lines)
   where
-    by_fault : (o : Option OplFault) → with_lines caps (gathered_on (before ++ line ∷ [])) lines ≡ faultless (first_fault caps (before ++ line ∷ []) lines) (gathered_on ((before ++ line ∷ []) ++ lines))
-        → on_ok (faultless o (gathered_on (before ++ line ∷ []))) (λ h. with_lines caps h lines) ≡ faultless (option_or o (first_fault caps (before ++ line ∷ []) lines)) (gathered_on (before ++ line ∷ lines))
-    by_fault None rest = rest ∙ ap (λ all. faultless (first_fault caps (before ++ line ∷ []) lines) (gathered_on all)) (append_assoc before (line ∷ []) lines)
+    by_fault : (o : Option OplFault) → with_lines caps (gathered_on (before ++ line ∷ [])) lines ≡ faultless (first_line_fault caps (before ++ line ∷ []) lines) (gathered_on ((before ++ line ∷ []) ++ lines))
+        → on_ok (faultless o (gathered_on (before ++ line ∷ []))) (λ h. with_lines caps h lines) ≡ faultless (option_or o (first_line_fault caps (before ++ line ∷ []) lines)) (gathered_on (before ++ line ∷ lines))
+    by_fault None rest = rest ∙ ap (λ all. faultless (first_line_fault caps (before ++ line ∷ []) lines) (gathered_on all)) (append_assoc before (line ∷ []) lines)
     by_fault (Some fault) rest = refl

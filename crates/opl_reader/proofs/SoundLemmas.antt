@@ -14,9 +14,9 @@ use Rattle.opl_reader.specs.declared.lines.Line.{Line}
 use Rattle.opl_reader.specs.declared.lines.Line.TheVariants.{Passed, Bad, Node, Way}
 use Rattle.opl_reader.specs.declared.lines.NodeLine.{NodeLine}
 use Rattle.opl_reader.specs.declared.lines.WayLine.{WayLine}
-use Rattle.opl_reader.specs.Lines.{line_of}
+use Rattle.opl_reader.specs.Lines.{map_line_of}
 use Rattle.opl_reader.specs.ObjectLists.{ObjectLists, ids_of, is_placed, IsOsmId, IsPiece, AreObjects}
-use Rattle.opl_reader.specs.Objects.{nodes_on, ways_on, placed, placed_on, first_fault, faultless, cut_way, objects_on, objects_of}
+use Rattle.opl_reader.specs.Objects.{nodes_on, ways_on, placed, placed_on, first_line_fault, faultless, cut_way, objects_on, objects_of}
 use Rattle.opl_reader.proofs.IdLemmas.{HasId, lines_have_ids}
 use Rattle.opl_reader.proofs.PlacedLemmas.{node_id, at_place, nothing_distinct, distinct_nodes}
 
@@ -80,7 +80,7 @@ of_nodes : (nodes : List OsmNode) → AllByRecursion IsOsmId (ids_of nodes) → 
 of_nodes [] h = tt
 of_nodes (node ∷ nodes) h = (h.0, of_nodes nodes h.1)
 
-sound_lines : (caps : Caps) (lines : List Line) → AllByRecursion HasId lines → first_fault caps [] lines ≡ None → AreObjects (objects_on lines)
+sound_lines : (caps : Caps) (lines : List Line) → AllByRecursion HasId lines → first_line_fault caps [] lines ≡ None → AreObjects (objects_on lines)
 sound_lines caps lines ids none = record {
   distinct = distinct_placed (nodes_on lines) (distinct_nodes caps [] lines none nothing_distinct);
   pieces = cut_ways (placed_on lines) (ways_on lines);
@@ -91,11 +91,11 @@ sound_lines caps lines ids none = record {
 -- what a text gives keeps the rules
 pub sound_text : (caps : Caps) (text : List ℕ) (objects : ObjectLists) → objects_of caps text ≡ Ok objects → AreObjects objects
 unfolding objects_of
-sound_text caps text objects e = by_fault (first_fault caps [] (map line_of (lines_of text))) refl e
+sound_text caps text objects e = by_fault (first_line_fault caps [] (map map_line_of (lines_of text))) refl e
   where
     ok_is : (x y : ObjectLists) → ◌≡◌ {A = Result ObjectLists OplFault} (Ok x) (Ok y) → x ≡ y
     ok_is x y e = cc
 
-    by_fault : (o : Option OplFault) → first_fault caps [] (map line_of (lines_of text)) ≡ o → faultless o (objects_on (map line_of (lines_of text))) ≡ Ok objects → AreObjects objects
-    by_fault None is e = subst AreObjects (ok_is _ objects e) (sound_lines caps (map line_of (lines_of text)) (lines_have_ids (lines_of text)) is)
+    by_fault : (o : Option OplFault) → first_line_fault caps [] (map map_line_of (lines_of text)) ≡ o → faultless o (objects_on (map map_line_of (lines_of text))) ≡ Ok objects → AreObjects objects
+    by_fault None is e = subst AreObjects (ok_is _ objects e) (sound_lines caps (map map_line_of (lines_of text)) (lines_have_ids (lines_of text)) is)
     by_fault (Some fault) is e = absurd cc

@@ -1,6 +1,7 @@
 -- How a line is cut.
 use Rattle.std.specs.Prelude.{ℕ, ◌+◌, List, take, drop, position, Bool, ◌==◌, ◌||◌, Option, option_map}
 use Rattle.std.specs.List.{slice_split}
+use Rattle.plain_texts.specs.Lines.{around}
 
 abbrev pub is_byte : ℕ → ℕ → Bool
 is_byte byte b = b == byte
@@ -8,10 +9,6 @@ is_byte byte b = b == byte
 -- a space or a tab
 abbrev pub is_blank : ℕ → Bool
 is_blank b = b == 32 || b == 9
-
--- what stands before a byte, and what stands behind it
-abbrev pub around : List ℕ → ℕ → List ℕ × List ℕ
-around text at = (take at text, drop (at + 1) text)
 
 -- what stands before the first such byte and what stands behind it, if there is one
 unfoldable pub cut_of : ℕ → List ℕ → Option (List ℕ × List ℕ)

@@ -7,20 +7,20 @@ use Rattle.opl_reader.specs.Optional.{◌>>=◌}
 use Rattle.opl_reader.specs.Cuts.{is_byte}
 
 -- what a byte stands for as a hexadecimal digit, in either case
-abbrev pub hexadecimal_digit_of : ℕ → Option ℕ
-hexadecimal_digit_of b =
+abbrev pub either_case_digit_of : ℕ → Option ℕ
+either_case_digit_of b =
     if nat_le 48 b && nat_le b 57 then Some (b - 48)
     else (if nat_le 65 b && nat_le b 70 then Some (b - 55)
     else (if nat_le 97 b && nat_le b 102 then Some (b - 87) else None))
 
 -- a digit more
-abbrev pub hexadecimal_step : ℕ → ℕ → Option ℕ
-hexadecimal_step n b = option_map (λ d. n * 16 + d) (hexadecimal_digit_of b)
+abbrev pub either_case_step : ℕ → ℕ → Option ℕ
+either_case_step n b = option_map (λ d. n * 16 + d) (either_case_digit_of b)
 
 -- the number that 1 to 6 hexadecimal digits spell
-unfoldable pub hexadecimal_at : List ℕ → Option ℕ
-hexadecimal_at digits =
-    if nat_lt 0 (length digits) && nat_le (length digits) 6 then fold (more hexadecimal_step) (Some 0) digits else None
+unfoldable pub hexadecimal_scalar_at : List ℕ → Option ℕ
+hexadecimal_scalar_at digits =
+    if nat_lt 0 (length digits) && nat_le (length digits) 6 then fold (more either_case_step) (Some 0) digits else None
 
 -- the characters are the Unicode scalar values: no surrogate, and none above 10ffff
 abbrev pub scalar_of : ℕ → Option ℕ
@@ -28,7 +28,7 @@ scalar_of n = if nat_lt n 0xd800 || (nat_le 0xe000 n && nat_lt n 0x110000) then 
 
 -- the character that stands between two percent signs
 unfoldable pub character_at : List ℕ → Option ℕ
-character_at digits = option_and_then scalar_of (hexadecimal_at digits)
+character_at digits = option_and_then scalar_of (hexadecimal_scalar_at digits)
 
 -- What stands before, between and behind the percent signs is by turns bytes and a character, and ends
 -- with bytes.

@@ -14,7 +14,7 @@ use Rattle.opl_reader.specs.declared.lines.NodeLine.{NodeLine}
 use Rattle.opl_reader.specs.declared.lines.WayLine.{WayLine}
 use Rattle.opl_reader.specs.declared.gathered.Gathered.{Gathered}
 use Rattle.opl_reader.specs.ObjectLists.{ObjectLists}
-use Rattle.opl_reader.specs.Lines.{line_of}
+use Rattle.opl_reader.specs.Lines.{map_line_of}
 use Rattle.opl_reader.specs.Objects.{placed, cut_way}
 
 -- the number of lines; the visible nodes' ids, and whether each has a place; the nodes that have one; the
@@ -30,8 +30,8 @@ pub record GatheredLists : Type 0 where
 abbrev pub lists_of : Gathered → GatheredLists
 lists_of g = record { lines = g.lines; seen_nodes = g.seen_nodes.entries; nodes = g.nodes.items; seen_ways = g.seen_ways.keys; ways = g.ways.items; references = g.references }
 
-abbrev pub nothing : GatheredLists
-nothing = record { lines = 0; seen_nodes = []; nodes = []; seen_ways = []; ways = []; references = 0 }
+abbrev pub nothing_gathered : GatheredLists
+nothing_gathered = record { lines = 0; seen_nodes = []; nodes = []; seen_ways = []; ways = []; references = 0 }
 
 -- the answer is the fault of this result; want of memory is no matter of the text
 abbrev pub IsFaultOf : {X : Type 0} → Result X OplFault → OplFault → Type 0
@@ -66,7 +66,7 @@ with_line caps g (Way way) = with_way caps g way
 -- what is gathered with a last line, which stands there if it is not empty
 abbrev pub last_line : Caps → GatheredLists → List ℕ → Result GatheredLists OplFault
 last_line caps g [] = Ok g
-last_line caps g (b ∷ bs) = with_line caps g (line_of (b ∷ bs))
+last_line caps g (b ∷ bs) = with_line caps g (map_line_of (b ∷ bs))
 
 -- a visible node of this id was seen, and has a place
 abbrev pub is_seen_placed : List (ℤ × Bool) → ℤ → Bool

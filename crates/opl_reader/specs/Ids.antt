@@ -7,13 +7,13 @@ abbrev pub digit_step : ℕ → ℕ → Option ℕ
 digit_step n b = option_map (λ d. n * 10 + d) (digit_of b)
 
 -- the number that 1 to 18 digits spell
-unfoldable pub digits_at : List ℕ → Option ℕ
-digits_at digits =
+unfoldable pub up_to_eighteen_digits_at : List ℕ → Option ℕ
+up_to_eighteen_digits_at digits =
     if nat_lt 0 (length digits) && nat_le (length digits) 18 then fold (more digit_step) (Some 0) digits else None
 
 -- the id that a text spells
-unfoldable pub id_at : List ℕ → Option ℤ
-id_at [] = None
-id_at (b ∷ bs) =
-    if b == 45 then option_map (λ n. neg_ℤ (pos n)) (digits_at bs)
-    else option_map pos (digits_at (b ∷ bs))
+unfoldable pub osm_id_at : List ℕ → Option ℤ
+osm_id_at [] = None
+osm_id_at (b ∷ bs) =
+    if b == 45 then option_map (λ n. neg_ℤ (pos n)) (up_to_eighteen_digits_at bs)
+    else option_map pos (up_to_eighteen_digits_at (b ∷ bs))

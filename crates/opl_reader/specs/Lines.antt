@@ -7,7 +7,7 @@ use Rattle.plan_base.specs.declared.places.Place.{Place}
 use Rattle.plan_base.specs.PlaceOf.{place_of}
 use Rattle.opl_reader.specs.Optional.{◌>>=◌}
 use Rattle.opl_reader.specs.Cuts.{at_blanks}
-use Rattle.opl_reader.specs.Ids.{id_at}
+use Rattle.opl_reader.specs.Ids.{osm_id_at}
 use Rattle.opl_reader.specs.References.{coordinate_at, references_at}
 use Rattle.opl_reader.specs.Tags.{tags_at, is_key, amenity_of}
 use Rattle.opl_reader.specs.declared.objects.Element.{Element}
@@ -44,8 +44,8 @@ unfoldable pub field_of : ℕ → List (List ℕ) → Option (Option (List ℕ))
 field_of letter fields = at_most_one (values_of letter fields)
 
 -- the value of the field with this letter, which is empty where the field is absent
-abbrev pub text_of : ℕ → List (List ℕ) → Option (List ℕ)
-text_of letter fields = option_map (λ value. unwrap_or value []) (field_of letter fields)
+abbrev pub field_text : ℕ → List (List ℕ) → Option (List ℕ)
+field_text letter fields = option_map (λ value. unwrap_or value []) (field_of letter fields)
 
 -- V is visible and D is deleted; without the field the object is visible
 abbrev pub visible_at : Option (List ℕ) → Option Bool
@@ -63,12 +63,12 @@ visible_of fields = do
 -- a coordinate that is absent or empty is none
 abbrev pub coordinate_of : ℕ → ℕ → List (List ℕ) → Option (Option ℤ)
 coordinate_of letter most fields = do
-  value ← text_of letter fields
+  value ← field_text letter fields
   coordinate_at most value
 
 -- the place of a latitude and a longitude, where both are there
-abbrev pub place_at : Option ℤ → Option ℤ → Option Place
-place_at lat lon = do
+abbrev pub place_if_both : Option ℤ → Option ℤ → Option Place
+place_if_both lat lon = do
   lat ← lat
   lon ← lon
   place_of lat lon
@@ -78,55 +78,55 @@ abbrev pub place_in : List (List ℕ) → Option (Option Place)
 place_in fields = do
   lon ← coordinate_of 120 180 fields
   lat ← coordinate_of 121 90 fields
-  Some (place_at lat lon)
+  Some (place_if_both lat lon)
 
 -- the tags that are kept
 abbrev pub tags_in : Element → List (List ℕ) → Option (List (List ℕ × List ℕ))
 tags_in element fields = do
-  value ← text_of 84 fields
+  value ← field_text 84 fields
   tags_at (is_key element) value
 
 -- the ids of the nodes that a way names
 abbrev pub references_in : List (List ℕ) → Option (List ℤ)
 references_in fields = do
-  value ← text_of 78 fields
+  value ← field_text 78 fields
   references_at value
 
 -- a deleted object says nothing
-abbrev pub shown : Bool → Line → Line
-shown visible line = if visible then line else Passed
+abbrev pub line_if_visible : Bool → Line → Line
+line_if_visible visible line = if visible then line else Passed
 
 -- what a node with these tags says
-unfoldable pub node_of : List ℕ → List (List ℕ) → List (List ℕ × List ℕ) → Option Line
-node_of text fields tags = do
-  id ← id_at text
+unfoldable pub node_by_tags : List ℕ → List (List ℕ) → List (List ℕ × List ℕ) → Option Line
+node_by_tags text fields tags = do
+  id ← osm_id_at text
   visible ← visible_of fields
   place ← place_in fields
-  Some (shown visible (Node (record { id = id; place = place; amenity = amenity_of tags })))
+  Some (line_if_visible visible (Node (record { id = id; place = place; amenity = amenity_of tags })))
 
 -- what a way with these tags and references says
-unfoldable pub way_of : List ℕ → List (List ℕ) → List (List ℕ × List ℕ) → List ℤ → Option Line
-way_of text fields tags references = do
-  id ← id_at text
+unfoldable pub way_by_tags : List ℕ → List (List ℕ) → List (List ℕ × List ℕ) → List ℤ → Option Line
+way_by_tags text fields tags references = do
+  id ← osm_id_at text
   visible ← visible_of fields
-  Some (shown visible (Way (record { id = id; tags = tags; references = references })))
+  Some (line_if_visible visible (Way (record { id = id; tags = tags; references = references })))
 
 -- what an id and fields say of a node, if they are of the form of one
-unfoldable pub node_line : List ℕ → List (List ℕ) → Option Line
-node_line id fields = do
+unfoldable pub node_by_fields : List ℕ → List (List ℕ) → Option Line
+node_by_fields id fields = do
   tags ← tags_in element.Node fields
-  node_of id fields tags
+  node_by_tags id fields tags
 
 -- the same of a way
-unfoldable pub way_line : List ℕ → List (List ℕ) → Option Line
-way_line id fields = do
+unfoldable pub way_by_fields : List ℕ → List (List ℕ) → Option Line
+way_by_fields id fields = do
   tags ← tags_in element.Way fields
   references ← references_in fields
-  way_of id fields tags references
+  way_by_tags id fields tags references
 
 abbrev pub element_line : Element → List ℕ → List (List ℕ) → Option Line
-element_line element.Node id fields = node_line id fields
-element_line element.Way id fields = way_line id fields
+element_line element.Node id fields = node_by_fields id fields
+element_line element.Way id fields = way_by_fields id fields
 
 -- an id, and the fields behind it: what has not the form of an element is bad
 abbrev pub words_line : Element → List (List ℕ) → Line
@@ -134,17 +134,17 @@ words_line element [] = Bad
 words_line element (id ∷ fields) = if list_all is_field fields then unwrap_or (element_line element id fields) Bad else Bad
 
 -- a tab, or any byte but the control characters and the delete character
-abbrev pub is_plain : ℕ → Bool
-is_plain b = b == 9 || (nat_le 32 b && not (b == 127))
+abbrev pub is_plain_byte : ℕ → Bool
+is_plain_byte b = b == 9 || (nat_le 32 b && not (b == 127))
 
 -- what the text behind the letter of an element says
 unfoldable pub text_line : Element → List ℕ → Line
-text_line element text = if list_all is_plain text then words_line element (at_blanks text) else Bad
+text_line element text = if list_all is_plain_byte text then words_line element (at_blanks text) else Bad
 
 -- What a line says. An empty line says nothing, nor does one that begins with `#`, `r` or `c`.
-unfoldable pub line_of : List ℕ → Line
-line_of [] = Passed
-line_of (b ∷ text) =
+unfoldable pub map_line_of : List ℕ → Line
+map_line_of [] = Passed
+map_line_of (b ∷ text) =
     if b == 110 then text_line element.Node text
     else (if b == 119 then text_line element.Way text
     else (if b == 35 || (b == 114 || b == 99) then Passed else Bad))

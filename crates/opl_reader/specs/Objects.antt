@@ -15,7 +15,7 @@ use Rattle.opl_reader.specs.declared.lines.Line.TheVariants.{Passed, Bad, Node, 
 use Rattle.opl_reader.specs.declared.lines.NodeLine.{NodeLine}
 use Rattle.opl_reader.specs.declared.lines.WayLine.{WayLine}
 use Rattle.opl_reader.specs.ObjectLists.{ObjectLists, is_placed}
-use Rattle.opl_reader.specs.Lines.{line_of}
+use Rattle.opl_reader.specs.Lines.{map_line_of}
 
 -- the visible node on a line
 abbrev pub node_on : Line → Option NodeLine
@@ -80,9 +80,9 @@ fault_behind caps before (Way way) =
     else way_limit caps (before ++ Way way ∷ [])
 
 -- the fault of the first line that has one, where the lines stand behind others that have none
-abbrev pub first_fault : Caps → List Line → List Line → Option OplFault
-first_fault caps before [] = None
-first_fault caps before (line ∷ lines) = option_or (fault_behind caps before line) (first_fault caps (before ++ line ∷ []) lines)
+abbrev pub first_line_fault : Caps → List Line → List Line → Option OplFault
+first_line_fault caps before [] = None
+first_line_fault caps before (line ∷ lines) = option_or (fault_behind caps before line) (first_line_fault caps (before ++ line ∷ []) lines)
 
 -- A way is cut where it names a node without a place. Pieces of two or more nodes remain.
 abbrev pub pieces_by : (ℤ → Bool) → List ℤ → List (List ℤ)
@@ -103,18 +103,18 @@ faultless (Some fault) x = Err fault
 
 -- the first fault of lines, or their objects
 abbrev pub objects_of_lines : Caps → List Line → Result ObjectLists OplFault
-objects_of_lines caps lines = faultless (first_fault caps [] lines) (objects_on lines)
+objects_of_lines caps lines = faultless (first_line_fault caps [] lines) (objects_on lines)
 
 -- all pieces but the last
-abbrev pub ended : List (List ℕ) → List (List ℕ)
-ended [] = []
-ended (piece ∷ []) = []
-ended (piece ∷ next ∷ more) = piece ∷ ended (next ∷ more)
+abbrev pub all_but_last : List (List ℕ) → List (List ℕ)
+all_but_last [] = []
+all_but_last (piece ∷ []) = []
+all_but_last (piece ∷ next ∷ more) = piece ∷ all_but_last (next ∷ more)
 
 -- the first fault on the lines that end in a line feed
 unfoldable pub ended_fault : Caps → List ℕ → Option OplFault
-ended_fault caps text = first_fault caps [] (map line_of (ended (pieces text)))
+ended_fault caps text = first_line_fault caps [] (map map_line_of (all_but_last (pieces text)))
 
 -- The objects of a text, or its first fault. The last line may end without a line feed.
 unfoldable pub objects_of : Caps → List ℕ → Result ObjectLists OplFault
-objects_of caps text = objects_of_lines caps (map line_of (lines_of text))
+objects_of caps text = objects_of_lines caps (map map_line_of (lines_of text))

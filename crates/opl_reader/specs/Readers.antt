@@ -5,8 +5,8 @@ use Rattle.plain_texts.specs.Lines.{pieces}
 use Rattle.opl_reader.specs.declared.objects.OplFault.{OplFault}
 use Rattle.opl_reader.specs.declared.reader.Reader.{Reader}
 use Rattle.opl_reader.specs.ObjectLists.{ObjectLists}
-use Rattle.opl_reader.specs.Lines.{line_of}
-use Rattle.opl_reader.specs.Gathered.{GatheredLists, lists_of, nothing, with_line, last_line, objects_from}
+use Rattle.opl_reader.specs.Lines.{map_line_of}
+use Rattle.opl_reader.specs.Gathered.{GatheredLists, lists_of, nothing_gathered, with_line, last_line, objects_from}
 
 -- the limits, what the lines that have ended gave, and the line that has not
 pub record ReaderState : Type 0 where
@@ -23,7 +23,7 @@ on_ok (Err fault) f = Err fault
 
 -- nothing was taken yet
 abbrev pub fresh : Caps → ReaderState
-fresh caps = record { caps = caps; gathered = nothing; held = [] }
+fresh caps = record { caps = caps; gathered = nothing_gathered; held = [] }
 
 -- bytes without a line feed join the line that is held
 abbrev pub holding : ReaderState → List ℕ → ReaderState
@@ -31,7 +31,7 @@ holding s bytes = record s { held = s.held ++ bytes }
 
 -- the line that is held has ended
 abbrev pub with_end : ReaderState → Result ReaderState OplFault
-with_end s = on_ok (with_line s.caps s.gathered (line_of s.held)) (λ g. Ok (record s { gathered = g; held = [] }))
+with_end s = on_ok (with_line s.caps s.gathered (map_line_of s.held)) (λ g. Ok (record s { gathered = g; held = [] }))
 
 -- What stands before, between and behind line feeds: each but the last ends a line.
 abbrev pub with_pieces : ReaderState → List (List ℕ) → Result ReaderState OplFault

@@ -3,7 +3,7 @@ use Rattle.std.specs.Prelude.{ℕ, List, [], ◌∷◌, ℤ, Bool, false, ◌&&�
 use Rattle.geo_length.specs.Degrees.{degrees_of}
 use Rattle.opl_reader.specs.Optional.{each}
 use Rattle.opl_reader.specs.Cuts.{cut_of, at_commas}
-use Rattle.opl_reader.specs.Ids.{id_at}
+use Rattle.opl_reader.specs.Ids.{osm_id_at}
 
 -- Degrees of at most this size, in units of 10^-7 degree; or nothing, which is no coordinate.
 abbrev pub coordinate_at : ℕ → List ℕ → Option (Option ℤ)
@@ -16,8 +16,8 @@ are_coordinates (Some parts) = is_some (coordinate_at 180 parts.0) && is_some (c
 
 -- An id stands alone, or with an `x` and a `y`, whose values are coordinates.
 abbrev pub placed_id : List ℕ → Option (List ℕ × List ℕ) → Option ℤ
-placed_id text None = id_at text
-placed_id text (Some parts) = if are_coordinates (cut_of 121 parts.1) then id_at parts.0 else None
+placed_id text None = osm_id_at text
+placed_id text (Some parts) = if are_coordinates (cut_of 121 parts.1) then osm_id_at parts.0 else None
 
 -- the id of the node that a reference names: `n`, an id, and optionally coordinates, which are not used
 unfoldable pub reference_at : List ℕ → Option ℤ

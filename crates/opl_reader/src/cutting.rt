@@ -25,13 +25,15 @@ fn cuts<'a>(
     seen: &IndexMap<i64, bool>,
     references: &'a [i64],
 ) -> Result<Vec<&'a [i64]>, AllocError>
-    ensures { IfOk result (λ v. map (λ piece. piece.now) v.items ≡ slice_split (λ id. not (is_seen_placed seen.now.entries id)) references.now) }
+    ensures { IfOk result (λ v. map (λ piece. piece.now) v.items ≡ slice_split
+        (λ id. not (is_seen_placed seen.now.entries id)) references.now) }
 {
     references.split(|id| !has_place(seen, *id)).collect(alloc)
 }
 
 fn long_pieces(alloc: Global, pieces: &[&[i64]]) -> Result<Items<Items<i64>>, AllocError>
-    ensures { IfOk result (λ v. v ≡ filter (λ piece. nat_le 2 (length piece)) (map (λ piece. piece.now) pieces.now)) }
+    ensures { IfOk result (λ v. v ≡ filter (λ piece. nat_le 2 (length piece))
+        (map (λ piece. piece.now) pieces.now)) }
 {
     let mut long = Vec::new(alloc);
     for piece in pieces {

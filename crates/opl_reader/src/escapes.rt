@@ -1,14 +1,14 @@
 //! Keys and values, and the escapes in them.
 
 ghost use Rattle.std.specs.Prelude.{◌≡◌, ◌^◌, ◌<◌, ◌++◌, encode_utf8, IfOk, IfSome, OnOk};
-ghost use Rattle.opl_reader.specs.Escapes.{character_at, hexadecimal_at, hexadecimal_digit_of, scalar_of, unescaped};
+ghost use Rattle.opl_reader.specs.Escapes.{character_at, either_case_digit_of, hexadecimal_scalar_at, scalar_of, unescaped};
 
 use crate::cuts::cut;
 use crate::objects::Bytes;
 use std::alloc::{AllocError, Global};
 
 fn digit(byte: u8) -> Option<u32>
-    ensures value { result ≡ hexadecimal_digit_of byte }
+    ensures value { result ≡ either_case_digit_of byte }
     ensures within { IfSome result (λ d. d < 16) }
 {
     match byte {
@@ -19,9 +19,9 @@ fn digit(byte: u8) -> Option<u32>
     }
 }
 
-#[tactic(auto, unfolding(crate::specs::Escapes::hexadecimal_at))]
+#[tactic(auto, unfolding(crate::specs::Escapes::hexadecimal_scalar_at))]
 fn hexadecimal(digits: &[u8]) -> Option<u32>
-    ensures { result ≡ hexadecimal_at digits.now }
+    ensures { result ≡ hexadecimal_scalar_at digits.now }
 {
     if digits.is_empty() || digits.len() > 6 {
         return None;

@@ -50,9 +50,12 @@ impl Opl {
     pub fn feed(&mut self, piece: &[u8]) -> Result<(), OplFault>
         ensures again { IfSome self.old.fault (λ fault. (result ≡ Err fault) × (self.new ≡ self.old)) }
         ensures kept { IfErr result (λ fault. self.new.fault ≡ Some fault) }
-        ensures taken { (caps : Caps) (bytes : List ℕ) → HasTaken self.old caps bytes → OnOk result (HasTaken self.new caps (bytes ++ piece.now)) }
-        ensures faultless { (caps : Caps) (bytes : List ℕ) → HasTaken self.old caps bytes → OnOk result (ended_fault caps (bytes ++ piece.now) ≡ None) }
-        ensures fault { (caps : Caps) (bytes : List ℕ) → HasTaken self.old caps bytes → IfErr result (IsFaultOfEnded caps (bytes ++ piece.now)) }
+        ensures taken { (caps : Caps) (bytes : List ℕ) → HasTaken self.old caps bytes
+            → OnOk result (HasTaken self.new caps (bytes ++ piece.now)) }
+        ensures faultless { (caps : Caps) (bytes : List ℕ) → HasTaken self.old caps bytes
+            → OnOk result (ended_fault caps (bytes ++ piece.now) ≡ None) }
+        ensures fault { (caps : Caps) (bytes : List ℕ) → HasTaken self.old caps bytes
+            → IfErr result (IsFaultOfEnded caps (bytes ++ piece.now)) }
     {
         if let Some(fault) = self.fault {
             return Err(fault);
@@ -65,9 +68,11 @@ impl Opl {
     /// The objects of the whole text, or its first fault. A last line without a line feed counts as well.
     pub fn finish(self) -> Result<Objects, OplFault>
         ensures again { IfSome self.fault (λ fault. result ≡ Err fault) }
-        ensures objects { (caps : Caps) (bytes : List ℕ) → HasTaken self caps bytes → IfOk result (λ objects. objects_of caps bytes ≡ Ok objects) }
+        ensures objects { (caps : Caps) (bytes : List ℕ) → HasTaken self caps bytes
+            → IfOk result (λ objects. objects_of caps bytes ≡ Ok objects) }
         ensures sound { (caps : Caps) (bytes : List ℕ) → HasTaken self caps bytes → IfOk result AreObjects }
-        ensures fault { (caps : Caps) (bytes : List ℕ) → HasTaken self caps bytes → IfErr result (IsFaultOf (objects_of caps bytes)) }
+        ensures fault { (caps : Caps) (bytes : List ℕ) → HasTaken self caps bytes
+            → IfErr result (IsFaultOf (objects_of caps bytes)) }
     {
         let Opl { reader, fault } = self;
         match fault {

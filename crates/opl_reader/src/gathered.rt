@@ -28,7 +28,8 @@ pub struct Gathered {
 /// Puts the id of a visible node to those that were seen, and says whether it is new.
 fn note_node(seen: &mut IndexMap<i64, bool>, id: i64, has_place: bool) -> Result<bool, AllocError>
     ensures new { IfOk result (λ new. new ≡ not (is_some (lookup (int_eq id) seen.old.entries))) }
-    ensures entries { IfOk result (λ new. IsTrue new → seen.new.entries ≡ seen.old.entries ++ (id, has_place) ∷ []) }
+    ensures entries { IfOk result (λ new. IsTrue new → seen.new.entries ≡ seen.old.entries ++
+        (id, has_place) ∷ []) }
 {
     let old = seen.insert(id, has_place)?;
     Ok(old.is_none())
@@ -61,11 +62,11 @@ fn push_way(ways: &mut Vec<WayLine>, way: WayLine) -> Result<(), AllocError>
 }
 
 impl Gathered {
-    ghost use Rattle.opl_reader.specs.Gathered.{IsFaultOf, lists_of, nothing, objects_from, with_line, with_node, with_way};
+    ghost use Rattle.opl_reader.specs.Gathered.{IsFaultOf, lists_of, nothing_gathered, objects_from, with_line, with_node, with_way};
 
     /// Nothing yet.
     pub(crate) fn new(alloc: Global) -> Gathered
-        ensures { lists_of result ≡ nothing }
+        ensures { lists_of result ≡ nothing_gathered }
     {
         Gathered {
             lines: 0,

@@ -2,7 +2,7 @@
 
 ghost use Rattle.std.specs.Prelude.{◌≡◌, ◌^◌, ◌<◌, ◌≤◌, unsigned_abs, option_map, length, IfSome};
 ghost use Rattle.plain_texts.specs.Digits.{digit_of};
-ghost use Rattle.opl_reader.specs.Ids.{digits_at, id_at};
+ghost use Rattle.opl_reader.specs.Ids.{osm_id_at, up_to_eighteen_digits_at};
 ghost use Rattle.opl_reader.specs.ObjectLists.{IsOsmId};
 
 fn digit(byte: u8) -> Option<u64>
@@ -15,9 +15,9 @@ fn digit(byte: u8) -> Option<u64>
     }
 }
 
-#[tactic(auto, unfolding(crate::specs::Ids::digits_at))]
+#[tactic(auto, unfolding(crate::specs::Ids::up_to_eighteen_digits_at))]
 fn number(digits: &[u8]) -> Option<u64>
-    ensures value { result ≡ digits_at digits.now }
+    ensures value { result ≡ up_to_eighteen_digits_at digits.now }
     ensures within { IfSome result (λ n. n < 10 ^ 18) }
 {
     if digits.is_empty() || digits.len() > 18 {
@@ -33,9 +33,9 @@ fn number(digits: &[u8]) -> Option<u64>
 /// The id that `text` spells: an optional minus and 1 to 18 digits, which may begin with zeros.
 ///
 /// `None` exactly where the text is not of this form.
-#[tactic(auto, unfolding(crate::specs::Ids::id_at))]
+#[tactic(auto, unfolding(crate::specs::Ids::osm_id_at))]
 pub(crate) fn read_id(text: &[u8]) -> Option<i64>
-    ensures value { result ≡ id_at text.now }
+    ensures value { result ≡ osm_id_at text.now }
     ensures within { IfSome result IsOsmId }
 {
     match text {

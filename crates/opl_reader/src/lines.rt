@@ -83,7 +83,8 @@ fn value_with(letter: u8, field: &[u8]) -> Option<&[u8]>
 /// The value of the field with this letter, if there is one; `None` exactly where there are more.
 #[tactic(auto, unfolding(crate::specs::Lines::field_of))]
 fn field<'a>(letter: u8, fields: &[&'a [u8]]) -> Option<Option<&'a [u8]>>
-    ensures { option_map (option_map (λ value. value.now)) result ≡ spec.field_of letter (map (λ field. field.now) fields.now) }
+    ensures { option_map (option_map (λ value. value.now)) result ≡ spec.field_of letter
+        (map (λ field. field.now) fields.now) }
 {
     let mut found = None;
     for field in fields {
@@ -98,7 +99,8 @@ fn field<'a>(letter: u8, fields: &[&'a [u8]]) -> Option<Option<&'a [u8]>>
 }
 
 fn text<'a>(letter: u8, fields: &[&'a [u8]]) -> Option<&'a [u8]>
-    ensures { option_map (λ value. value.now) result ≡ spec.text_of letter (map (λ field. field.now) fields.now) }
+    ensures { option_map (λ value. value.now) result ≡ spec.field_text letter
+        (map (λ field. field.now) fields.now) }
 {
     match field(letter, fields)? {
         Some(value) => Some(value),
@@ -135,7 +137,7 @@ fn coordinate(letter: u8, most: u32, fields: &[&[u8]]) -> Option<Option<i64>>
 }
 
 fn place_at(lat: Option<i64>, lon: Option<i64>) -> Option<Place>
-    ensures { result ≡ spec.place_at lat lon }
+    ensures { result ≡ spec.place_if_both lat lon }
 {
     let lat = lat?;
     let lon = lon?;
@@ -151,14 +153,14 @@ fn read_place(fields: &[&[u8]]) -> Option<Option<Place>>
 }
 
 fn shown(visible: bool, line: Line) -> Line
-    ensures { result ≡ spec.shown visible line }
+    ensures { result ≡ spec.line_if_visible visible line }
 {
     if visible { line } else { Line::Passed }
 }
 
-#[tactic(auto, unfolding(crate::specs::Lines::node_of))]
+#[tactic(auto, unfolding(crate::specs::Lines::node_by_tags))]
 fn node(id: &[u8], fields: &[&[u8]], tags: &[(Bytes, Bytes)]) -> Option<Line>
-    ensures { result ≡ spec.node_of id.now (map (λ field. field.now) fields.now) tags.now }
+    ensures { result ≡ spec.node_by_tags id.now (map (λ field. field.now) fields.now) tags.now }
 {
     let id = read_id(id)?;
     let visible = read_visible(fields)?;
@@ -168,14 +170,14 @@ fn node(id: &[u8], fields: &[&[u8]], tags: &[(Bytes, Bytes)]) -> Option<Line>
     Some(shown(visible, Line::Node(node)))
 }
 
-#[tactic(auto, unfolding(crate::specs::Lines::way_of))]
+#[tactic(auto, unfolding(crate::specs::Lines::way_by_tags))]
 fn way(
     id: &[u8],
     fields: &[&[u8]],
     tags: Items<(Bytes, Bytes)>,
     references: Items<i64>,
 ) -> Option<Line>
-    ensures { result ≡ spec.way_of id.now (map (λ field. field.now) fields.now) tags references }
+    ensures { result ≡ spec.way_by_tags id.now (map (λ field. field.now) fields.now) tags references }
 {
     let id = read_id(id)?;
     let visible = read_visible(fields)?;
@@ -209,9 +211,9 @@ fn references_in(alloc: Global, fields: &[&[u8]]) -> Result<Option<Items<i64>>, 
     }
 }
 
-#[tactic(auto, unfolding(crate::specs::Lines::node_line))]
+#[tactic(auto, unfolding(crate::specs::Lines::node_by_fields))]
 fn node_line(alloc: Global, id: &[u8], fields: &[&[u8]]) -> Result<Option<Line>, AllocError>
-    ensures { IfOk result (λ line. line ≡ spec.node_line id.now (map (λ field. field.now) fields.now)) }
+    ensures { IfOk result (λ line. line ≡ spec.node_by_fields id.now (map (λ field. field.now) fields.now)) }
 {
     let Some(tags) = tags_in(alloc, Element::Node, fields)? else {
         return Ok(None);
@@ -219,9 +221,9 @@ fn node_line(alloc: Global, id: &[u8], fields: &[&[u8]]) -> Result<Option<Line>,
     Ok(node(id, fields, tags.as_slice()))
 }
 
-#[tactic(auto, unfolding(crate::specs::Lines::way_line))]
+#[tactic(auto, unfolding(crate::specs::Lines::way_by_fields))]
 fn way_line(alloc: Global, id: &[u8], fields: &[&[u8]]) -> Result<Option<Line>, AllocError>
-    ensures { IfOk result (λ line. line ≡ spec.way_line id.now (map (λ field. field.now) fields.now)) }
+    ensures { IfOk result (λ line. line ≡ spec.way_by_fields id.now (map (λ field. field.now) fields.now)) }
 {
     let Some(tags) = tags_in(alloc, Element::Way, fields)? else {
         return Ok(None);
@@ -238,7 +240,8 @@ fn element_line(
     id: &[u8],
     fields: &[&[u8]],
 ) -> Result<Option<Line>, AllocError>
-    ensures { IfOk result (λ line. line ≡ spec.element_line element id.now (map (λ field. field.now) fields.now)) }
+    ensures { IfOk result (λ line. line ≡ spec.element_line element id.now
+        (map (λ field. field.now) fields.now)) }
 {
     match element {
         Element::Node => node_line(alloc, id, fields),
@@ -264,7 +267,7 @@ fn words_line(alloc: Global, element: Element, words: &[&[u8]]) -> Result<Line, 
 }
 
 fn are_plain(text: &[u8]) -> bool
-    ensures { result ≡ list_all spec.is_plain text.now }
+    ensures { result ≡ list_all spec.is_plain_byte text.now }
 {
     text.iter()
         .all(|byte| *byte == b'\t' || (b' ' <= *byte && *byte != 0x7f))
@@ -282,9 +285,9 @@ fn text_line(alloc: Global, element: Element, text: &[u8]) -> Result<Line, Alloc
 }
 
 /// What a line says.
-#[tactic(auto, unfolding(crate::specs::Lines::line_of))]
+#[tactic(auto, unfolding(crate::specs::Lines::map_line_of))]
 pub(crate) fn read_line(alloc: Global, line: &[u8]) -> Result<Line, AllocError>
-    ensures { IfOk result (λ read. read ≡ spec.line_of line.now) }
+    ensures { IfOk result (λ read. read ≡ spec.map_line_of line.now) }
 {
     match line {
         [] => Ok(Line::Passed),

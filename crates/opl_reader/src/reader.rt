@@ -1,7 +1,7 @@
 //! Reads a map's text in pieces.
 
 ghost use Rattle.std.specs.Prelude.{◌≡◌, ◌++◌, [], Ok, IfOk, OnOk, IfErr};
-ghost use Rattle.opl_reader.specs.Lines.{line_of};
+ghost use Rattle.opl_reader.specs.Lines.{map_line_of};
 ghost use Rattle.opl_reader.specs.Gathered.{IsFaultOf, last_line, lists_of};
 
 use crate::cuts::cut;
@@ -22,7 +22,7 @@ pub struct Reader {
 
 /// What a line says that ends with these bytes, behind those that were held.
 fn read_held(alloc: Global, held: &mut Vec<u8>, line: &[u8]) -> Result<Line, AllocError>
-    ensures line { IfOk result (λ read. read ≡ line_of (held.old.items ++ line.now)) }
+    ensures line { IfOk result (λ read. read ≡ map_line_of (held.old.items ++ line.now)) }
     ensures held { OnOk result (held.new.items ≡ []) }
 {
     if held.is_empty() {
@@ -41,7 +41,8 @@ fn take_last_line(
     gathered: &mut Gathered,
     line: &[u8],
 ) -> Result<(), OplFault>
-    ensures ok { OnOk result (last_line caps.now (lists_of gathered.old) line.now ≡ Ok (lists_of gathered.new)) }
+    ensures ok { OnOk result (last_line caps.now (lists_of gathered.old) line.now ≡ Ok
+        (lists_of gathered.new)) }
     ensures fault { IfErr result (IsFaultOf (last_line caps.now (lists_of gathered.old) line.now)) }
 {
     if line.is_empty() {

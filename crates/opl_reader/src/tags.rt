@@ -82,7 +82,8 @@ fn read_each(
     element: Element,
     texts: &[&[u8]],
 ) -> Result<Option<Items<(Bytes, Bytes)>>, AllocError>
-    ensures { IfOk result (λ tags. tags ≡ option_map (fold (spec.with_tag (spec.is_key element)) []) (each spec.tag_at (map (λ text. text.now) texts.now))) }
+    ensures { IfOk result (λ tags. tags ≡ option_map (fold (spec.with_tag (spec.is_key element)) [])
+        (each spec.tag_at (map (λ text. text.now) texts.now))) }
 {
     let mut tags = Vec::new(alloc);
     for text in texts {

@@ -5,12 +5,12 @@ use Rattle.search_laws.specs.GraphLaws.{GraphMeaning}
 use Rattle.search_laws.specs.Walks.{WalkStep, wait, arc, IsWalk, word_from}
 use Rattle.mode_network.specs.NetworkLists.{NetworkLists}
 use Rattle.hierarchy.specs.Lists.{HierarchyLists}
-use Rattle.phase_graph.specs.Moves.{PhaseMove, rest, rise, fall, cross, stand, IsMove, AreMoves}
-use Rattle.phase_graph.specs.Arcs.{phase_node, IsRest, IsPhaseGraph, HasWalk, HasMoves, PhaseGraphsHaveMoves, PhaseGraphsHaveNoOthers}
+use Rattle.phase_graph.specs.Moves.{PhaseMove, rest, rise, fall, cross, stand, IsPhaseMove, AreMoves}
+use Rattle.phase_graph.specs.Arcs.{phase_node, IsResting, IsPhaseGraph, HasWalk, HasMoves, PhaseGraphsHaveMoves, PhaseGraphsHaveNoOthers}
 
 module _ (n : NetworkLists) (h : HierarchyLists) (targets : List ℕ) (g : GraphMeaning) (is : IsPhaseGraph n h targets g) where
   -- a move but a rest is an arc, and then a wait
-  by_arc : (move : PhaseMove) (v : ℕ) (down : Bool) (t v1 : ℕ) (d1 : Bool) (t1 q u : ℕ) (letter : Option ℕ) (more : List ℕ) → IsMove n h targets v down t move v1 d1 t1 letter → (IsRest move → ⊥)
+  by_arc : (move : PhaseMove) (v : ℕ) (down : Bool) (t v1 : ℕ) (d1 : Bool) (t1 q u : ℕ) (letter : Option ℕ) (more : List ℕ) → IsPhaseMove n h targets v down t move v1 d1 t1 letter → (IsResting move → ⊥)
       → HasWalk g (phase_node v1 d1) t1 q u more → HasWalk g (phase_node v down) t q u (option_to_list letter ++ more)
   by_arc move v down t v1 d1 t1 q u letter more done moving next =
       let found = is.arc_of v down t move v1 d1 t1 letter done moving in

@@ -25,7 +25,7 @@ use Rattle.phase_graph.specs.declared.phases.PhaseArc.{PhaseArc}
 use Rattle.phase_graph.specs.declared.phases.PhaseArc.TheVariants.{Up, Down, Other}
 use Rattle.phase_graph.specs.Arcs.{phase_node}
 use Rattle.phase_graph.specs.Marks.{is_fall}
-use Rattle.phase_graph.specs.PhaseArcs.{phase_meaning, phase_arc, phase_arcs_at, arc_of, arrival_of, entry_at, rises_at, first_entry, entries_at, others_at, first_other, no_rise, no_entry, node_of, is_down}
+use Rattle.phase_graph.specs.PhaseArcs.{phase_meaning, phase_arc, phase_arcs_at, arc_of, phase_arrival, entry_at, rises_at, first_entry, entries_at, others_at, first_other, no_rise, no_entry, node_of, is_down}
 
 -- ---- the numbers of nodes
 
@@ -148,7 +148,7 @@ module _ (n : NetworkLists) (h : HierarchyLists) (network : IsNetwork n) (rules 
   letter_fits v down (Down place) node is = mode_fits v _ refl
   letter_fits v down (Other place) node is = laws.letter_in_range v place (plain_has v place down node is)
 
-  soon : (v time at : ℕ) (down : Bool) (a : PhaseArc) → v < length (nodes_of n) → IsKnown v down a → arrival_of n t h marks v time a ≡ Some at → (time ≤ at) × (at ≤ time + 2 ^ 57)
+  soon : (v time at : ℕ) (down : Bool) (a : PhaseArc) → v < length (nodes_of n) → IsKnown v down a → phase_arrival n t h marks v time a ≡ Some at → (time ≤ at) × (at ≤ time + 2 ^ 57)
   soon v time at down (Up place) node is e = let light = (layer place is.1).light in let same = some_is e in (omega (arith, same), omega (arith, same, light))
   soon v time at down (Down place) node is e =
       let light = (layer place is.0).light in
@@ -156,7 +156,7 @@ module _ (n : NetworkLists) (h : HierarchyLists) (network : IsNetwork n) (rules 
       (omega (arith, same), omega (arith, same, light))
   soon v time at down (Other place) node is e = (laws.not_before v place time at (plain_has v place down node is) e, laws.not_late v place time at (plain_has v place down node is) e)
 
-  later : (v s time a b : ℕ) (down : Bool) (arc : PhaseArc) → v < length (nodes_of n) → IsKnown v down arc → s ≤ time → arrival_of n t h marks v s arc ≡ Some a → arrival_of n t h marks v time arc ≡ Some b → a ≤ b
+  later : (v s time a b : ℕ) (down : Bool) (arc : PhaseArc) → v < length (nodes_of n) → IsKnown v down arc → s ≤ time → phase_arrival n t h marks v s arc ≡ Some a → phase_arrival n t h marks v time arc ≡ Some b → a ≤ b
   later v s time a b down (Up place) node is le e f = omega (arith, le, some_is e, some_is f)
   later v s time a b down (Down place) node is le e f =
       let first = (taken (is_fall h marks (entry_at h place)) _ a e).1 in
@@ -164,7 +164,7 @@ module _ (n : NetworkLists) (h : HierarchyLists) (network : IsNetwork n) (rules 
       omega (arith, le, first, second)
   later v s time a b down (Other place) node is le e f = laws.rises v place s time a b (plain_has v place down node is) le e f
 
-  never : (v s time : ℕ) (down : Bool) (arc : PhaseArc) → v < length (nodes_of n) → IsKnown v down arc → s ≤ time → arrival_of n t h marks v s arc ≡ None → arrival_of n t h marks v time arc ≡ None
+  never : (v s time : ℕ) (down : Bool) (arc : PhaseArc) → v < length (nodes_of n) → IsKnown v down arc → s ≤ time → phase_arrival n t h marks v s arc ≡ None → phase_arrival n t h marks v time arc ≡ None
   never v s time down (Up place) node is le e = cc
   never v s time down (Down place) node is le e = shut (is_fall h marks (entry_at h place)) _ _ e
   never v s time down (Other place) node is le e = laws.stays_none v place s time (plain_has v place down node is) le e

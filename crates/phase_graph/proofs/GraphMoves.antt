@@ -34,16 +34,16 @@ use Rattle.hierarchy.proofs.OffsetLemmas.{in_range_of_key}
 use Rattle.plain_graph.specs.declared.plain.PlainArc.{PlainArc}
 use Rattle.plain_graph.specs.declared.plain.PlainArc.TheVariants.{Road, Link, Stand, Ride}
 use Rattle.plain_graph.specs.PlainArcs.{plain_meaning, plain_arc, count_from, stands_at, run_at, arrival, graph_arc, no_arc}
-use Rattle.plain_graph.specs.OutArcs.{IsOut, IsListed, out_of, no_mode}
+use Rattle.plain_graph.specs.OutArcs.{IsOut, IsArcFrom, out_of, no_mode}
 use Rattle.plain_graph.specs.Simulation.{IsNoWait}
 use Rattle.plain_graph.proofs.PlaceTies.{stand_at}
 use Rattle.plain_graph.proofs.Same.{step_at, steps_are_arcs}
 use Rattle.phase_graph.specs.declared.phases.PhaseArc.{PhaseArc}
 use Rattle.phase_graph.specs.declared.phases.PhaseArc.TheVariants.{Up, Down, Other}
-use Rattle.phase_graph.specs.Moves.{PhaseMove, rest, rise, fall, cross, stand, IsMove, IsRise, IsCrossing, IsMarked}
-use Rattle.phase_graph.specs.Arcs.{phase_node, IsRest, IsArcBy, IsArcOfMove, IsPhaseGraph}
+use Rattle.phase_graph.specs.Moves.{PhaseMove, rest, rise, fall, cross, stand, IsPhaseMove, IsRise, IsCrossing, IsMarked}
+use Rattle.phase_graph.specs.Arcs.{phase_node, IsResting, IsArcBy, IsArcOfMove, IsPhaseGraph}
 use Rattle.phase_graph.specs.Marks.{AreMarksFor, has_mark, is_fall}
-use Rattle.phase_graph.specs.PhaseArcs.{phase_meaning, phase_arc, phase_arcs_at, arc_of, arrival_of, entry_at, rises_at, first_entry, entries_at, others_at, first_other, no_rise, no_entry}
+use Rattle.phase_graph.specs.PhaseArcs.{phase_meaning, phase_arc, phase_arcs_at, arc_of, phase_arrival, entry_at, rises_at, first_entry, entries_at, others_at, first_other, no_rise, no_entry}
 use Rattle.phase_graph.proofs.GraphLemmas.{half, phase_of, in_nodes, road_inside, IsArcAt, arc_is, taken, place_fits}
 use Rattle.phase_graph.proofs.MarkLemmas.{marked_by_fall}
 use Rattle.phase_graph.proofs.PlaceLemmas.{up_is, down_is, other_is}
@@ -103,11 +103,11 @@ module _ (n : NetworkLists) (h : HierarchyLists) (targets : List ℕ) (network :
     move : PhaseMove
     to : ℕ
     down2 : Bool
-    moves : IsRest move → ⊥
-    is : IsMove n h targets v down time move to down2 u a.letter
+    moves : IsResting move → ⊥
+    is : IsPhaseMove n h targets v down time move to down2 u a.letter
     leads : a.to ≡ phase_node to down2
 
-  up_move : (v time u place : ℕ) (down : Bool) → IsArcAt n h t v down (Up place) → arrival_of n t h marks v time (Up place) ≡ Some u → IsMoveAlong v down time u (arc_of n t h v down (Up place))
+  up_move : (v time u place : ℕ) (down : Bool) → IsArcAt n h t v down (Up place) → phase_arrival n t h marks v time (Up place) ≡ Some u → IsMoveAlong v down time u (arc_of n t h v down (Up place))
   up_move v time u place down (before, lt, from, up) e =
       let to = (entry_at h place).to in
       let weight = (entry_at h place).weight in
@@ -120,7 +120,7 @@ module _ (n : NetworkLists) (h : HierarchyLists) (targets : List ℕ) (network :
         leads = refl;
       }
 
-  down_move : (v time u place : ℕ) (down : Bool) → IsArcAt n h t v down (Down place) → arrival_of n t h marks v time (Down place) ≡ Some u
+  down_move : (v time u place : ℕ) (down : Bool) → IsArcAt n h t v down (Down place) → phase_arrival n t h marks v time (Down place) ≡ Some u
       → IsMoveAlong v down time u (arc_of n t h v down (Down place))
   down_move v time u place down (lt, from) e =
       let to = (entry_at h place).to in
@@ -138,7 +138,7 @@ module _ (n : NetworkLists) (h : HierarchyLists) (targets : List ℕ) (network :
         leads = refl;
       }
 
-  other_move : (v time u place : ℕ) (down : Bool) → v < length (nodes_of n) → IsArcAt n h t v down (Other place) → arrival_of n t h marks v time (Other place) ≡ Some u
+  other_move : (v time u place : ℕ) (down : Bool) → v < length (nodes_of n) → IsArcAt n h t v down (Other place) → phase_arrival n t h marks v time (Other place) ≡ Some u
       → IsMoveAlong v down time u (arc_of n t h v down (Other place))
   other_move v time u place down node is e =
       by_kind (plain_arc n t v place) refl (out_of n network t table v place (place_fits n h network rules sound t table of marks v place down is)) e
@@ -180,11 +180,11 @@ module _ (n : NetworkLists) (h : HierarchyLists) (targets : List ℕ) (network :
           let s = step_at n network t table of v time u (Ride ride) out arrives in
           crossed s.0 (Ride ride) (stop_is_core n h targets network sound v out.stop out.at) (ridden ride s.0 (run_at t time ride) s.1) s.2 (before down is (λ stands. let clash = sym at ∙ stands in cc))
 
-  along : (v : ℕ) (down : Bool) (i time u : ℕ) → v < length (nodes_of n) → i < phase_arcs_at n t h v down → arrival_of n t h marks v time (phase_arc n h v down i) ≡ Some u
+  along : (v : ℕ) (down : Bool) (i time u : ℕ) → v < length (nodes_of n) → i < phase_arcs_at n t h v down → phase_arrival n t h marks v time (phase_arc n h v down i) ≡ Some u
       → IsMoveAlong v down time u (arc_of n t h v down (phase_arc n h v down i))
   along v down i time u node lt e = by_kind (phase_arc n h v down i) (arc_is n h network rules sound t table of marks v i down lt) e
     where
-      by_kind : (a : PhaseArc) → IsArcAt n h t v down a → arrival_of n t h marks v time a ≡ Some u → IsMoveAlong v down time u (arc_of n t h v down a)
+      by_kind : (a : PhaseArc) → IsArcAt n h t v down a → phase_arrival n t h marks v time a ≡ Some u → IsMoveAlong v down time u (arc_of n t h v down a)
       by_kind (Up place) is arrives = up_move v time u place down is arrives
       by_kind (Down place) is arrives = down_move v time u place down is arrives
       by_kind (Other place) is arrives = other_move v time u place down node is arrives
@@ -196,8 +196,8 @@ module _ (n : NetworkLists) (h : HierarchyLists) (targets : List ℕ) (network :
   arc_same : (v : ℕ) (down : Bool) (i : ℕ) → g.arc_at (phase_node v down) i ≡ arc_of n t h v down (phase_arc n h v down i)
   arc_same v down i = ap₂ (λ x d. arc_of n t h x d (phase_arc n h x d i)) (half v down) (phase_of v down)
 
-  arrive_same : (v : ℕ) (down : Bool) (i time : ℕ) → g.arrive (phase_node v down) i time ≡ arrival_of n t h marks v time (phase_arc n h v down i)
-  arrive_same v down i time = ap₂ (λ x d. arrival_of n t h marks x time (phase_arc n h x d i)) (half v down) (phase_of v down)
+  arrive_same : (v : ℕ) (down : Bool) (i time : ℕ) → g.arrive (phase_node v down) i time ≡ phase_arrival n t h marks v time (phase_arc n h v down i)
+  arrive_same v down i time = ap₂ (λ x d. phase_arrival n t h marks x time (phase_arc n h x d i)) (half v down) (phase_of v down)
 
   inside : (v : ℕ) (down : Bool) → phase_node v down < 2 * length (nodes_of n) → v < length (nodes_of n)
   inside v false lt = omega arith
@@ -211,14 +211,14 @@ module _ (n : NetworkLists) (h : HierarchyLists) (targets : List ℕ) (network :
         to = m.to;
         down2 = m.down2;
         moves = m.moves;
-        is = subst (λ (a : GraphArc). IsMove n h targets v down time m.move m.to m.down2 u a.letter) (sym (arc_same v down i)) m.is;
+        is = subst (λ (a : GraphArc). IsPhaseMove n h targets v down time m.move m.to m.down2 u a.letter) (sym (arc_same v down i)) m.is;
         leads = ap (λ (a : GraphArc). a.to) (arc_same v down i) ∙ m.leads;
       }
 
   -- ---- moves have arcs
 
   arc_there : (v : ℕ) (down : Bool) (time i q u a : ℕ) (letter : Option ℕ) (arc : PhaseArc) → v < length (nodes_of n) → i < phase_arcs_at n t h v down → phase_arc n h v down i ≡ arc
-      → arrival_of n t h marks v time arc ≡ Some a → a ≤ u → (arc_of n t h v down arc).to ≡ q → (arc_of n t h v down arc).letter ≡ letter
+      → phase_arrival n t h marks v time arc ≡ Some a → a ≤ u → (arc_of n t h v down arc).to ≡ q → (arc_of n t h v down arc).letter ≡ letter
       → (i : ℕ) × (a : ℕ) × IsArcBy g (phase_node v down) time q u letter i a
   arc_there v down time i q u a letter arc node lt is arrives le to tells =
       let known = arc_same v down i ∙ ap (arc_of n t h v down) is in (
@@ -228,7 +228,7 @@ module _ (n : NetworkLists) (h : HierarchyLists) (targets : List ℕ) (network :
           has = record { node = in_nodes v down (length (nodes_of n)) node; arc = subst (λ k. i < k) (sym (arcs_same v down)) lt };
           to = ap (λ (x : GraphArc). x.to) known ∙ to;
           tells = ap (λ (x : GraphArc). x.letter) known ∙ tells;
-          arrives = arrive_same v down i time ∙ ap (arrival_of n t h marks v time) is ∙ arrives;
+          arrives = arrive_same v down i time ∙ ap (phase_arrival n t h marks v time) is ∙ arrives;
           in_time = le;
         },
       )
@@ -280,7 +280,7 @@ module _ (n : NetworkLists) (h : HierarchyLists) (targets : List ℕ) (network :
       (omega (arith, low, high)) (other_is n h v down place low) arrives le to tells
 
   -- a node that a road arc leaves has a mode
-  arc_mode : (v : ℕ) (arc : Arc) → IsListed n.arcs v arc → (mode : ℕ) × (mode_at n.roads v ≡ Some mode)
+  arc_mode : (v : ℕ) (arc : Arc) → IsArcFrom n.arcs v arc → (mode : ℕ) × (mode_at n.roads v ≡ Some mode)
   arc_mode v arc out =
       let begins = ap (λ (x : Arc). x.from) out.is ∙ out.begins in
       let covered = sound.arcs_covered out.place no_arc out.within in
@@ -353,7 +353,7 @@ module _ (n : NetworkLists) (h : HierarchyLists) (targets : List ℕ) (network :
     },
   )
 
-  has_arc : (v : ℕ) (down : Bool) (time : ℕ) (move : PhaseMove) (w : ℕ) (down2 : Bool) (u : ℕ) (letter : Option ℕ) → IsMove n h targets v down time move w down2 u letter → (IsRest move → ⊥)
+  has_arc : (v : ℕ) (down : Bool) (time : ℕ) (move : PhaseMove) (w : ℕ) (down2 : Bool) (u : ℕ) (letter : Option ℕ) → IsPhaseMove n h targets v down time move w down2 u letter → (IsResting move → ⊥)
       → (i : ℕ) × (a : ℕ) × IsArcBy g (phase_node v down) time (phase_node w down2) u letter i a
   has_arc v down time (rest until) w down2 u letter is moves = absurd (moves tt)
   has_arc v down time (rise hop) w down2 u letter (before, entry, up, ew, ed, eu, el) moves =

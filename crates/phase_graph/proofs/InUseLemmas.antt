@@ -16,7 +16,7 @@ use Rattle.plain_graph.specs.Lawful.{plain_lawful}
 use Rattle.plain_graph.proofs.Same.{journeys_are_walks, arcs_are_steps, steps_are_arcs}
 use Rattle.phase_graph.specs.Arcs.{phase_node, IsArcBy, IsPhaseGraph}
 use Rattle.phase_graph.specs.PhaseArcs.{phase_meaning, node_of, is_down}
-use Rattle.phase_graph.specs.InUse.{IsPlain, starts_in, numbers_of, ends_in, node_under, HasWalkInUse, JourneysHaveWalksInUse, GraphsInUseAreLawful, Covers, GraphsInUseAreAlike}
+use Rattle.phase_graph.specs.InUse.{IsPlain, starts_in, target_numbers, ends_in, node_under, HasWalkInUse, JourneysHaveWalksInUse, GraphsInUseAreLawful, Covers, GraphsInUseAreAlike}
 use Rattle.phase_graph.proofs.GraphLemmas.{lawful, whole, half}
 use Rattle.phase_graph.proofs.GraphMoves.{is_phase_graph}
 use Rattle.phase_graph.proofs.WalkedLemmas.{journeys_have_walks}
@@ -27,12 +27,12 @@ mapped : (f : ℕ → ℕ) (list : List ℕ) (v : ℕ) → Contains list v → C
 mapped f list v (k, lt, is) = (k, omega (arith, lt, length-map list f), get_or-map f list k v ∙ ap f is)
 
 -- a number of a target is among those of all
-listed : (h : HierarchyLists) (targets : List ℕ) (v p : ℕ) → Contains targets v → Contains (numbers_of h v) p → Contains (flat_map (numbers_of h) targets) p
+listed : (h : HierarchyLists) (targets : List ℕ) (v p : ℕ) → Contains targets v → Contains (target_numbers h v) p → Contains (flat_map (target_numbers h) targets) p
 listed h [] v p (k, lt, is) there = absurd (omega (arith, lt))
-listed h (x ∷ targets) v p (zero, lt, is) there = Contains-append_left (numbers_of h x) (flat_map (numbers_of h) targets) p (subst (λ y. Contains (numbers_of h y) p) (sym is) there)
-listed h (x ∷ targets) v p (suc k, lt, is) there = Contains-append_right (numbers_of h x) (flat_map (numbers_of h) targets) p (listed h targets v p (k, omega (arith, lt), is) there)
+listed h (x ∷ targets) v p (zero, lt, is) there = Contains-append_left (target_numbers h x) (flat_map (target_numbers h) targets) p (subst (λ y. Contains (target_numbers h y) p) (sym is) there)
+listed h (x ∷ targets) v p (suc k, lt, is) there = Contains-append_right (target_numbers h x) (flat_map (target_numbers h) targets) p (listed h targets v p (k, omega (arith, lt), is) there)
 
-numbered : (h : HierarchyLists) (v : ℕ) (down : Bool) → (down ≡ true → IsContracted h.order v) → Contains (numbers_of h v) (phase_node v down)
+numbered : (h : HierarchyLists) (v : ℕ) (down : Bool) → (down ≡ true → IsContracted h.order v) → Contains (target_numbers h v) (phase_node v down)
 numbered h v down low = by_test (is_contracted h.order v) refl down low
   where
     by_test : (b : Bool) → is_contracted h.order v ≡ b → (down : Bool) → (down ≡ true → IsContracted h.order v)
@@ -50,7 +50,7 @@ unmapped list p (k, lt, is) =
     let same : v ≡ node_of p = sym (half v false) ∙ ap node_of (sym at ∙ get_or_default (map (λ v. phase_node v false) list) k (phase_node 0 false) p lt ∙ is) in
     (k, inside, get_or_default list k (node_of p) 0 inside ∙ same)
 
-unnumbered : (h : HierarchyLists) (v p : ℕ) → Contains (numbers_of h v) p → node_of p ≡ v
+unnumbered : (h : HierarchyLists) (v p : ℕ) → Contains (target_numbers h v) p → node_of p ≡ v
 unnumbered h v p there = by_test (is_contracted h.order v) there
   where
     by_test : (b : Bool) → Contains (cond b (phase_node v false ∷ phase_node v true ∷ []) (phase_node v false ∷ [])) p → node_of p ≡ v
@@ -60,11 +60,11 @@ unnumbered h v p there = by_test (is_contracted h.order v) there
     by_test false (zero, lt, is) = ap node_of (sym is) ∙ half v false
     by_test false (suc k, lt, is) = absurd (omega (arith, lt))
 
-unlisted : (h : HierarchyLists) (targets : List ℕ) (p : ℕ) → Contains (flat_map (numbers_of h) targets) p → Contains targets (node_of p)
+unlisted : (h : HierarchyLists) (targets : List ℕ) (p : ℕ) → Contains (flat_map (target_numbers h) targets) p → Contains targets (node_of p)
 unlisted h [] p (k, lt, is) = absurd (omega (arith, lt))
-unlisted h (x ∷ targets) p there = by_part (Contains-append_cases (numbers_of h x) (flat_map (numbers_of h) targets) p there) (λ later. unlisted h targets p later)
+unlisted h (x ∷ targets) p there = by_part (Contains-append_cases (target_numbers h x) (flat_map (target_numbers h) targets) p there) (λ later. unlisted h targets p later)
   where
-    by_part : Contains (numbers_of h x) p ⊎ Contains (flat_map (numbers_of h) targets) p → (Contains (flat_map (numbers_of h) targets) p → Contains targets (node_of p)) → Contains (x ∷ targets) (node_of p)
+    by_part : Contains (target_numbers h x) p ⊎ Contains (flat_map (target_numbers h) targets) p → (Contains (flat_map (target_numbers h) targets) p → Contains targets (node_of p)) → Contains (x ∷ targets) (node_of p)
     by_part (inl here) below = (0, omega arith, sym (unnumbered h x p here))
     by_part (inr later) below = Contains-append_right (x ∷ []) targets (node_of p) (below later)
 

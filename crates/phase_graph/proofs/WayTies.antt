@@ -30,7 +30,7 @@ use Rattle.phase_graph.specs.declared.phases.PhaseArc.{PhaseArc}
 use Rattle.phase_graph.specs.declared.phases.PhaseArc.TheVariants.{Down, Other}
 use Rattle.phase_graph.specs.Arcs.{phase_node}
 use Rattle.phase_graph.specs.Marks.{has_mark, is_fall}
-use Rattle.phase_graph.specs.PhaseArcs.{phase_meaning, phase_arc, arc_of, arrival_of, rises_at, first_entry, entries_at, entry_at, others_at, first_other, node_of, is_down, before_descent, renumbered, phase_rides, fall_way, fall_ways, FitsAnew}
+use Rattle.phase_graph.specs.PhaseArcs.{phase_meaning, phase_arc, arc_of, phase_arrival, rises_at, first_entry, entries_at, entry_at, others_at, first_other, node_of, is_down, before_descent, renumbered, phase_rides, fall_way, fall_ways, FitsAnew}
 use Rattle.phase_graph.proofs.GraphLemmas.{whole, entry_begins}
 use Rattle.phase_graph.proofs.PlaceLemmas.{down_is, other_is}
 
@@ -69,8 +69,8 @@ module _ (n : NetworkLists) (h : HierarchyLists) (t : TableLists) (marks : List 
   arc_there i = phase_arc n h (node_of p) (is_down p) i
 
   -- a known arc at a place
-  way_is : (i : ℕ) (a : PhaseArc) → arc_there i ≡ a → way_at g p time letters i ≡ open_way letters i (arc_of n t h (node_of p) (is_down p) a) (arrival_of n t h marks (node_of p) time a)
-  way_is i a is = ap (λ (x : PhaseArc). open_way letters i (arc_of n t h (node_of p) (is_down p) x) (arrival_of n t h marks (node_of p) time x)) is
+  way_is : (i : ℕ) (a : PhaseArc) → arc_there i ≡ a → way_at g p time letters i ≡ open_way letters i (arc_of n t h (node_of p) (is_down p) a) (phase_arrival n t h marks (node_of p) time a)
+  way_is i a is = ap (λ (x : PhaseArc). open_way letters i (arc_of n t h (node_of p) (is_down p) x) (phase_arrival n t h marks (node_of p) time x)) is
 
   -- one arc more
   pushed : (start i : ℕ) (one before now next : List Way) → now ≡ before ++ from start i → way_at g p time letters (start + i) ≡ one → next ≡ now ++ one → next ≡ before ++ from start (i + 1)
@@ -123,7 +123,7 @@ module _ (n : NetworkLists) (h : HierarchyLists) (t : TableLists) (marks : List 
   entry_closed : is_open letters letter ≡ false → (i : ℕ) (a : PhaseArc) → arc_there i ≡ a → (arc_of n t h (node_of p) (is_down p) a).letter ≡ letter → way_at g p time letters i ≡ []
   entry_closed closed i a is tells = way_is i a is ∙ shut (is_open letters (arc_of n t h (node_of p) (is_down p) a).letter) (ap (is_open letters) tells ∙ closed)
     where
-      shut : (b : Bool) → b ≡ false → cond b (way_if i (arc_of n t h (node_of p) (is_down p) a) (arrival_of n t h marks (node_of p) time a)) [] ≡ []
+      shut : (b : Bool) → b ≡ false → cond b (way_if i (arc_of n t h (node_of p) (is_down p) a) (phase_arrival n t h marks (node_of p) time a)) [] ≡ []
       shut true e = cc
       shut false e = refl
 
@@ -221,7 +221,7 @@ module _ (n : NetworkLists) (h : HierarchyLists) (t : TableLists) (marks : List 
       let arc : g.arc_at p k ≡ arc_of n t h (node_of p) (is_down p) (Other place) = ap (arc_of n t h (node_of p) (is_down p)) there in
       let letter_is : (g.arc_at p k).letter ≡ (plain.arc_at (node_of p) place).letter = ap (λ (a : GraphArc). a.letter) arc in
       let stand = past_roads_stand n t (node_of p) time leaving closed place at c (omega arith)
-      (sym (ap (arrival_of n t h marks (node_of p) time) there) ∙ arrives) (sym letter_is ∙ is) in
+      (sym (ap (phase_arrival n t h marks (node_of p) time) there) ∙ arrives) (sym letter_is ∙ is) in
       let to : phase_node (plain.arc_at (node_of p) place).to (is_down p) ≡ p = ap (λ w. phase_node w (is_down p)) stand.to ∙ whole p in
       record {
         to = ap (λ (a : GraphArc). a.to) arc ∙ to;

@@ -4,19 +4,19 @@ use Rattle.search_laws.specs.GraphLaws.{GraphMeaning, HasArc}
 use Rattle.search_laws.specs.Walks.{WalkStep, IsWalk, word_from}
 use Rattle.mode_network.specs.NetworkLists.{NetworkLists}
 use Rattle.hierarchy.specs.Lists.{HierarchyLists}
-use Rattle.phase_graph.specs.Moves.{PhaseMove, rest, rise, fall, cross, stand, IsMove, AreMoves}
+use Rattle.phase_graph.specs.Moves.{PhaseMove, rest, rise, fall, cross, stand, IsPhaseMove, AreMoves}
 
 -- each node has two numbers: before the descent, and in it
 abbrev pub phase_node : ℕ → Bool → ℕ
 phase_node v false = 2 * v
 phase_node v true = 2 * v + 1
 
-abbrev pub IsRest : PhaseMove → Type 0
-IsRest (rest until) = Unit {0}
-IsRest (rise hop) = ⊥
-IsRest (fall hop) = ⊥
-IsRest (cross step) = ⊥
-IsRest stand = ⊥
+abbrev pub IsResting : PhaseMove → Type 0
+IsResting (rest until) = Unit {0}
+IsResting (rise hop) = ⊥
+IsResting (fall hop) = ⊥
+IsResting (cross step) = ⊥
+IsResting stand = ⊥
 
 -- the arc at a place of p leads to q with this letter, and arrives at a, which is no later than u, if it is taken at t
 pub record IsArcBy (g : GraphMeaning) (p t q u : ℕ) (letter : Option ℕ) (i a : ℕ) : Type 0 where
@@ -31,14 +31,14 @@ pub record IsArcOfMove (n : NetworkLists) (h : HierarchyLists) (targets : List �
   pub move : PhaseMove
   pub to : ℕ
   pub down2 : Bool
-  pub moves : IsRest move → ⊥
-  pub is : IsMove n h targets v down t move to down2 u (g.arc_at (phase_node v down) i).letter
+  pub moves : IsResting move → ⊥
+  pub is : IsPhaseMove n h targets v down t move to down2 u (g.arc_at (phase_node v down) i).letter
   pub leads : (g.arc_at (phase_node v down) i).to ≡ phase_node to down2
 
 -- each move but a rest has an arc that arrives no later, and each arc that arrives is such a move
 pub record IsPhaseGraph (n : NetworkLists) (h : HierarchyLists) (targets : List ℕ) (g : GraphMeaning) : Type 0 where
   pub arc_of : (v : ℕ) (down : Bool) (t : ℕ) (move : PhaseMove) (w : ℕ) (down2 : Bool) (u : ℕ) (letter : Option ℕ)
-      → IsMove n h targets v down t move w down2 u letter → (IsRest move → ⊥) → (i : ℕ) × (a : ℕ) × IsArcBy g (phase_node v down) t (phase_node w down2) u letter i a
+      → IsPhaseMove n h targets v down t move w down2 u letter → (IsResting move → ⊥) → (i : ℕ) × (a : ℕ) × IsArcBy g (phase_node v down) t (phase_node w down2) u letter i a
   pub move_of : (v : ℕ) (down : Bool) (t i u : ℕ) → HasArc g (phase_node v down) i → g.arrive (phase_node v down) i t ≡ Some u → IsArcOfMove n h targets g v down t i u
 
 -- waits and arcs lead from p at t to q at u, and their word is this

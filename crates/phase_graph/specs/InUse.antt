@@ -45,12 +45,12 @@ starts_in None origins = origins
 starts_in (Some h) origins = map (λ v. phase_node v false) origins
 
 -- the numbers of a target: before the descent, and in it where the target is contracted
-abbrev pub numbers_of : HierarchyLists → ℕ → List ℕ
-numbers_of h v = if is_contracted h.order v then phase_node v false ∷ phase_node v true ∷ [] else phase_node v false ∷ []
+abbrev pub target_numbers : HierarchyLists → ℕ → List ℕ
+target_numbers h v = if is_contracted h.order v then phase_node v false ∷ phase_node v true ∷ [] else phase_node v false ∷ []
 
 abbrev pub ends_in : Option HierarchyLists → List ℕ → List ℕ
 ends_in None targets = targets
-ends_in (Some h) targets = flat_map (numbers_of h) targets
+ends_in (Some h) targets = flat_map (target_numbers h) targets
 
 -- the node of the network that a number stands for
 abbrev pub node_under : Option HierarchyLists → ℕ → ℕ
@@ -86,7 +86,7 @@ GraphsInUseAreLawful = (n : NetworkLists) → IsNetwork n → (o : Option Hierar
 abbrev pub Covers : GraphMeaning → GraphMeaning → Type 0
 Covers g h = (p t i u : ℕ) → HasArc g p i → g.arrive p i t ≡ Some u → (j : ℕ) × (a : ℕ) × IsArcBy h p t (g.arc_at p i).to u (g.arc_at p i).letter j a
 
-pub record AreAlike (g h : GraphMeaning) : Type 0 where
+pub record CoverEachOther (g h : GraphMeaning) : Type 0 where
   pub nodes : g.nodes ≡ h.nodes
   pub forth : Covers g h
   pub back : Covers h g
@@ -94,4 +94,4 @@ pub record AreAlike (g h : GraphMeaning) : Type 0 where
 -- whatever the timetable, it is the same graph
 abbrev pub GraphsInUseAreAlike : Type 0
 GraphsInUseAreAlike = (n : NetworkLists) → IsNetwork n → (o : Option HierarchyLists) → IsSoundIfGiven n o → (targets : List ℕ) (one other : GraphMeaning)
-    → IsInUse n o targets one → IsInUse n o targets other → AreAlike one other
+    → IsInUse n o targets one → IsInUse n o targets other → CoverEachOther one other

@@ -36,17 +36,17 @@ abbrev pub IsRise : HierarchyLists → ℕ → ℕ → Type 0
 IsRise h u v = IsAbove h.order v u ⊎ (IsCore h.order u × IsCore h.order v)
 
 -- the move leads from the node v, before the descent or in it, at the time t to w, before it or in it, at the time u; its letter
-abbrev pub IsMove : NetworkLists → HierarchyLists → List ℕ → ℕ → Bool → ℕ → PhaseMove → ℕ → Bool → ℕ → Option ℕ → Type 0
-IsMove n h targets v down t (rest until) w down2 u letter = (t ≤ until) × (w ≡ v) × (down2 ≡ down) × (u ≡ until) × (letter ≡ None)
-IsMove n h targets v down t (rise hop) w down2 u letter =
+abbrev pub IsPhaseMove : NetworkLists → HierarchyLists → List ℕ → ℕ → Bool → ℕ → PhaseMove → ℕ → Bool → ℕ → Option ℕ → Type 0
+IsPhaseMove n h targets v down t (rest until) w down2 u letter = (t ≤ until) × (w ≡ v) × (down2 ≡ down) × (u ≡ until) × (letter ≡ None)
+IsPhaseMove n h targets v down t (rise hop) w down2 u letter =
     (down ≡ false) × HasEntry h.entries v hop.to hop.weight × IsRise h v hop.to
     × (w ≡ hop.to) × (down2 ≡ false) × (u ≡ t + hop.weight) × (letter ≡ mode_at n.roads v)
-IsMove n h targets v down t (fall hop) w down2 u letter =
+IsPhaseMove n h targets v down t (fall hop) w down2 u letter =
     HasEntry h.entries v hop.to hop.weight × IsAbove h.order v hop.to × IsMarked h targets hop.to
     × (w ≡ hop.to) × (down2 ≡ true) × (u ≡ t + hop.weight) × (letter ≡ mode_at n.roads v)
-IsMove n h targets v down t (cross step) w down2 u letter =
+IsPhaseMove n h targets v down t (cross step) w down2 u letter =
     (down ≡ false) × IsCore h.order v × IsCrossing step × IsStep n v t step w u letter × (down2 ≡ false)
-IsMove n h targets v down t stand w down2 u letter =
+IsPhaseMove n h targets v down t stand w down2 u letter =
     (mode : ℕ) × (mode_at n.roads v ≡ Some mode) × (w ≡ v) × (down2 ≡ down) × (u ≡ t) × (letter ≡ Some mode)
 
 -- the moves lead from v at t to w at u, each from where and when the one before it ended, and these are their letters
@@ -54,4 +54,4 @@ abbrev pub AreMoves : NetworkLists → HierarchyLists → List ℕ → ℕ → B
 AreMoves n h targets v down t [] w down2 u letters = (w ≡ v) × (down2 ≡ down) × (u ≡ t) × (letters ≡ [])
 AreMoves n h targets v down t (move ∷ moves) w down2 u letters =
     (v1 : ℕ) × (down1 : Bool) × (t1 : ℕ) × (letter : Option ℕ) × (more : List ℕ)
-    × IsMove n h targets v down t move v1 down1 t1 letter × AreMoves n h targets v1 down1 t1 moves w down2 u more × (letters ≡ option_to_list letter ++ more)
+    × IsPhaseMove n h targets v down t move v1 down1 t1 letter × AreMoves n h targets v1 down1 t1 moves w down2 u more × (letters ≡ option_to_list letter ++ more)

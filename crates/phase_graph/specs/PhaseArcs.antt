@@ -82,10 +82,10 @@ pub record TellsEntry (h : HierarchyLists) (rise : Rise) : Type 0 where
   pub node : IsNode rise.to
 
 -- an arc out of v whose place is one
-abbrev pub FitsArc : NetworkLists → TableLists → HierarchyLists → ℕ → PhaseArc → Type 0
-FitsArc n t h v (Up place) = BeginsAt h v place
-FitsArc n t h v (Down place) = BeginsAt h v place
-FitsArc n t h v (Other place) = place < arcs_at n t v
+abbrev pub IsArcOutOf : NetworkLists → TableLists → HierarchyLists → ℕ → PhaseArc → Type 0
+IsArcOutOf n t h v (Up place) = BeginsAt h v place
+IsArcOutOf n t h v (Down place) = BeginsAt h v place
+IsArcOutOf n t h v (Other place) = place < arcs_at n t v
 
 -- where it leads, and its letter
 abbrev pub arc_of : NetworkLists → TableLists → HierarchyLists → ℕ → Bool → PhaseArc → GraphArc
@@ -98,10 +98,10 @@ abbrev pub fall_arrival : HierarchyLists → List Bool → ℕ → ℕ → Optio
 fall_arrival h marks place time = if is_fall h marks (entry_at h place) then Some (time + (entry_at h place).weight) else None
 
 -- when it arrives, taken at a time
-abbrev pub arrival_of : NetworkLists → TableLists → HierarchyLists → List Bool → ℕ → ℕ → PhaseArc → Option ℕ
-arrival_of n t h marks v time (Up place) = Some (time + (entry_at h place).weight)
-arrival_of n t h marks v time (Down place) = fall_arrival h marks place time
-arrival_of n t h marks v time (Other place) = (plain_meaning n t).arrive v place time
+abbrev pub phase_arrival : NetworkLists → TableLists → HierarchyLists → List Bool → ℕ → ℕ → PhaseArc → Option ℕ
+phase_arrival n t h marks v time (Up place) = Some (time + (entry_at h place).weight)
+phase_arrival n t h marks v time (Down place) = fall_arrival h marks place time
+phase_arrival n t h marks v time (Other place) = (plain_meaning n t).arrive v place time
 
 -- an entry down as a way, at a place among the arcs of its node
 abbrev pub fall_way : HierarchyLists → Option ℕ → ℕ → ℕ → ℕ → Way
@@ -140,7 +140,7 @@ phase_meaning n t h marks = record {
   nodes = 2 * length (nodes_of n);
   arcs = λ p. phase_arcs_at n t h (node_of p) (is_down p);
   arc_at = λ p i. arc_of n t h (node_of p) (is_down p) (phase_arc n h (node_of p) (is_down p) i);
-  arrive = λ p i time. arrival_of n t h marks (node_of p) time (phase_arc n h (node_of p) (is_down p) i);
+  arrive = λ p i time. phase_arrival n t h marks (node_of p) time (phase_arc n h (node_of p) (is_down p) i);
 }
 
 -- what is done along an arc of the plain graph, and along one of the phase graph

@@ -4,7 +4,7 @@ ghost use Rattle.std.specs.Prelude.{◌≡◌, ◌<◌, ◌^◌, ◌++◌, All, 
 ghost use Rattle.std.specs.List.{flat_map};
 ghost use Rattle.hierarchy.specs.Soundness.{IsSound};
 ghost use Rattle.phase_graph.specs.Arcs.{phase_node};
-ghost use Rattle.phase_graph.specs.InUse.{IsInUse, IsSoundIfGiven, starts_in, ends_in, numbers_of};
+ghost use Rattle.phase_graph.specs.InUse.{IsInUse, IsSoundIfGiven, starts_in, ends_in, target_numbers};
 
 use crate::phases::{Phases, number_of};
 use hierarchy::Hierarchy;
@@ -32,8 +32,10 @@ impl<'a> GraphInUse<'a> {
         targets: &[u32],
     ) -> Result<GraphInUse<'a>, AllocError>
         requires { IfSome hierarchy (λ h. IsSound network.now h.now) }
-        ensures is { IfOk result (λ g. IsInUse network.now (option_map (λ h. h.now) hierarchy.entry) targets.now (meaning_in_use g)) }
-        ensures sound { IfOk result (λ _. IsSoundIfGiven network.now (option_map (λ h. h.now) hierarchy.entry)) }
+        ensures is { IfOk result (λ g. IsInUse network.now (option_map (λ h. h.now) hierarchy.entry)
+            targets.now (meaning_in_use g)) }
+        ensures sound { IfOk result (λ _. IsSoundIfGiven network.now
+            (option_map (λ h. h.now) hierarchy.entry)) }
         ensures network { IfOk result (λ g. network_in g ≡ network.now) }
         ensures hierarchy { IfOk result (λ g. hierarchy_in g ≡ option_map (λ h. h.now) hierarchy.entry) }
     {
@@ -139,7 +141,8 @@ pub fn starts_in(
     origins: &[u32],
 ) -> Result<Vec<u32>, AllocError>
     requires { All (λ v. v < 2 ^ 31) origins.now }
-    ensures { IfOk result (λ starts. starts.items ≡ starts_in (option_map (λ h. h.now) hierarchy.entry) origins.now) }
+    ensures { IfOk result (λ starts. starts.items ≡ starts_in (option_map (λ h. h.now) hierarchy.entry)
+        origins.now) }
 {
     match hierarchy {
         None => Ok(Vec::from_slice(alloc, origins)?),
@@ -167,7 +170,8 @@ pub fn ends_in(
     targets: &[u32],
 ) -> Result<Vec<u32>, AllocError>
     requires { All (λ v. v < 2 ^ 31) targets.now }
-    ensures { IfOk result (λ ends. ends.items ≡ ends_in (option_map (λ h. h.now) hierarchy.entry) targets.now) }
+    ensures { IfOk result (λ ends. ends.items ≡ ends_in (option_map (λ h. h.now) hierarchy.entry)
+        targets.now) }
 {
     match hierarchy {
         None => Ok(Vec::from_slice(alloc, targets)?),
@@ -178,7 +182,7 @@ pub fn ends_in(
 /// The numbers of targets in the phase graph.
 fn numbers_in(alloc: Global, hierarchy: &Hierarchy, targets: &[u32]) -> Result<Vec<u32>, AllocError>
     requires { All (λ v. v < 2 ^ 31) targets.now }
-    ensures { IfOk result (λ ends. ends.items ≡ flat_map (numbers_of hierarchy.now) targets.now) }
+    ensures { IfOk result (λ ends. ends.items ≡ flat_map (target_numbers hierarchy.now) targets.now) }
 {
     let mut ends = Vec::with_capacity(alloc, targets.len())?;
     for v in targets {
@@ -190,7 +194,7 @@ fn numbers_in(alloc: Global, hierarchy: &Hierarchy, targets: &[u32]) -> Result<V
 /// Appends the numbers of a target in the phase graph.
 fn push_numbers(hierarchy: &Hierarchy, v: u32, ends: &mut Vec<u32>) -> Result<(), AllocError>
     requires { v < 2 ^ 31 }
-    ensures { OnOk result (ends.new.items ≡ ends.old.items ++ numbers_of hierarchy.now v) }
+    ensures { OnOk result (ends.new.items ≡ ends.old.items ++ target_numbers hierarchy.now v) }
 {
     ends.push(number_of(v, false))?;
     if hierarchy.contracted(v) {

@@ -64,7 +64,7 @@ impl<'a> Phases<'a> {
     ghost use Rattle.hierarchy.specs.Lookups.{AreFrom};
     ghost use Rattle.timetable_arcs.specs.Table.{IsTable};
     ghost use Rattle.phase_graph.specs.Walked.{JourneysHaveWalks, WalksHaveJourneys};
-    ghost use Rattle.phase_graph.specs.PhaseArcs.{phase_meaning, rises_at, first_rise, no_rise, first_entry, entries_at, others_at, first_other, phase_arc, phase_arcs_at, FitsArc, BeginsAt, TellsEntry, entry_at, fall_arrival, fall_ways, phase_step, phase_rides, node_of, is_down};
+    ghost use Rattle.phase_graph.specs.PhaseArcs.{phase_meaning, rises_at, first_rise, no_rise, first_entry, entries_at, others_at, first_other, phase_arc, phase_arcs_at, IsArcOutOf, BeginsAt, TellsEntry, entry_at, fall_arrival, fall_ways, phase_step, phase_rides, node_of, is_down};
     ghost use Rattle.plain_graph.specs.PlainArcs.{plain_meaning, arcs_at};
 
     /// The phase graph of a sound hierarchy for these targets, which are nodes of the network. For each journey to a
@@ -223,10 +223,14 @@ impl<'a> Phases<'a> {
     /// The arc at place `i` of those out of the node `p`: first come the entries up and along the core, then all entries, of
     /// which those arrive that lead down from a node with a mark to another, and then what the plain graph has in common with this one.
     pub fn phase_arc(&self, p: u32, i: u64) -> PhaseArc
-        requires node { p < (phase_meaning self.now.plain.network.now self.now.plain.timetable.now self.now.hierarchy.now self.now.marks.items).nodes }
-        requires arc { i < (phase_meaning self.now.plain.network.now self.now.plain.timetable.now self.now.hierarchy.now self.now.marks.items).arcs p }
-        ensures value { result ≡ phase_arc self.now.plain.network.now self.now.hierarchy.now (node_of p) (is_down p) i }
-        ensures fits { FitsArc self.now.plain.network.now self.now.plain.timetable.now self.now.hierarchy.now (node_of p) result }
+        requires node { p < (phase_meaning self.now.plain.network.now self.now.plain.timetable.now
+            self.now.hierarchy.now self.now.marks.items).nodes }
+        requires arc { i < (phase_meaning self.now.plain.network.now self.now.plain.timetable.now
+            self.now.hierarchy.now self.now.marks.items).arcs p }
+        ensures value { result ≡ phase_arc self.now.plain.network.now self.now.hierarchy.now (node_of p)
+            (is_down p) i }
+        ensures fits { IsArcOutOf self.now.plain.network.now self.now.plain.timetable.now
+            self.now.hierarchy.now (node_of p) result }
     {
         self.plain.timetable().known();
         let (v, down) = split(p);
@@ -245,7 +249,11 @@ impl<'a> Phases<'a> {
     /// Where an entry leads, before the descent or in it, with this letter.
     fn entry_arc(&self, letter: Option<u8>, place: u64, down: bool) -> GraphArc
         requires { place < length self.now.hierarchy.now.entries }
-        ensures { result ≡ record { to = phase_node (entry_at self.now.hierarchy.now place).to down; letter = letter } }
+        ensures { result ≡ record {
+          to = phase_node (entry_at self.now.hierarchy.now place).to down;
+          letter
+              = letter;
+        } }
     {
         self.hierarchy.known();
         GraphArc {
@@ -281,8 +289,11 @@ impl<'a> Phases<'a> {
         requires node { v < length (nodes_of self.now.plain.network.now) }
         requires arc { place < arcs_at self.now.plain.network.now self.now.plain.timetable.now v }
         ensures { result ≡ record {
-          to = phase_node ((plain_meaning self.now.plain.network.now self.now.plain.timetable.now).arc_at v place).to down;
-          letter = ((plain_meaning self.now.plain.network.now self.now.plain.timetable.now).arc_at v place).letter;
+          to = phase_node ((plain_meaning self.now.plain.network.now
+              self.now.plain.timetable.now).arc_at v place).to down;
+          letter =
+              ((plain_meaning self.now.plain.network.now self.now.plain.timetable.now).arc_at v
+              place).letter;
         } }
     {
         let arc = self.plain.arc_at(v, place);
@@ -294,10 +305,13 @@ impl<'a> Phases<'a> {
 
     /// What is done along the arc at place `i` of those out of the node `p`. The numbering of arcs has no other use.
     pub fn step(&self, p: u32, i: u64) -> PhaseStep
-        requires node { p < (phase_meaning self.now.plain.network.now self.now.plain.timetable.now self.now.hierarchy.now self.now.marks.items).nodes }
-        requires arc { i < (phase_meaning self.now.plain.network.now self.now.plain.timetable.now self.now.hierarchy.now self.now.marks.items).arcs p }
-        ensures { result ≡ phase_step self.now.plain.network.now self.now.plain.timetable.now self.now.hierarchy.now (node_of p)
-            (phase_arc self.now.plain.network.now self.now.hierarchy.now (node_of p) (is_down p) i) }
+        requires node { p < (phase_meaning self.now.plain.network.now self.now.plain.timetable.now
+            self.now.hierarchy.now self.now.marks.items).nodes }
+        requires arc { i < (phase_meaning self.now.plain.network.now self.now.plain.timetable.now
+            self.now.hierarchy.now self.now.marks.items).arcs p }
+        ensures { result ≡ phase_step self.now.plain.network.now self.now.plain.timetable.now
+            self.now.hierarchy.now (node_of p) (phase_arc self.now.plain.network.now self.now.hierarchy.now
+            (node_of p) (is_down p) i) }
     {
         match self.phase_arc(p, i) {
             PhaseArc::Up(place) | PhaseArc::Down(place) => {
@@ -327,9 +341,10 @@ impl<'a> Phases<'a> {
     ) -> Result<(), AllocError>
         requires time { t < 2 ^ 127 }
         requires opens { is_open letters (mode_at self.now.plain.network.now.roads (node_of p)) ≡ true }
-        ensures { OnOk result (ways.new.items ≡ ways.old.items
-            ++ ways_from (phase_meaning self.now.plain.network.now self.now.plain.timetable.now self.now.hierarchy.now self.now.marks.items) p t letters
-            (length (rises_at self.now.hierarchy.now (node_of p) (is_down p))) (entries_at self.now.hierarchy.now (node_of p))) }
+        ensures { OnOk result (ways.new.items ≡ ways.old.items ++ ways_from
+            (phase_meaning self.now.plain.network.now self.now.plain.timetable.now self.now.hierarchy.now
+            self.now.marks.items) p t letters (length (rises_at self.now.hierarchy.now (node_of p)
+            (is_down p))) (entries_at self.now.hierarchy.now (node_of p))) }
     {
         self.hierarchy.known();
         let (v, down) = split(p);
@@ -384,9 +399,10 @@ impl<'a> Phases<'a> {
         ways: &mut Vec<Way>,
     ) -> Result<(), AllocError>
         requires time { t < 2 ^ 127 }
-        ensures { OnOk result (ways.new.items ≡ ways.old.items
-            ++ ways_from (phase_meaning self.now.plain.network.now self.now.plain.timetable.now self.now.hierarchy.now self.now.marks.items) p t letters
-            (length (rises_at self.now.hierarchy.now (node_of p) (is_down p))) (entries_at self.now.hierarchy.now (node_of p))) }
+        ensures { OnOk result (ways.new.items ≡ ways.old.items ++ ways_from
+            (phase_meaning self.now.plain.network.now self.now.plain.timetable.now self.now.hierarchy.now
+            self.now.marks.items) p t letters (length (rises_at self.now.hierarchy.now (node_of p)
+            (is_down p))) (entries_at self.now.hierarchy.now (node_of p))) }
     {
         if is_open(letters, self.network().mode(p / 2)) {
             self.push_open_falls(p, t, letters, ways)
@@ -408,11 +424,12 @@ impl<'a> Phases<'a> {
     ) -> Result<(), AllocError>
         requires node { node_of p < length (nodes_of self.now.plain.network.now) }
         requires time { t < 2 ^ 127 }
-        ensures { OnOk result (AddsFresh (phase_rides self.now.plain.network.now self.now.plain.timetable.now) state given.old given.new
-            (ways_from (phase_meaning self.now.plain.network.now self.now.plain.timetable.now self.now.hierarchy.now self.now.marks.items) p t letters
-            (length (rises_at self.now.hierarchy.now (node_of p) (is_down p)) + entries_at self.now.hierarchy.now (node_of p))
-            (others_at self.now.plain.network.now self.now.plain.timetable.now (node_of p) (is_down p)))
-            ways.old.items ways.new.items) }
+        ensures { OnOk result (AddsFresh (phase_rides self.now.plain.network.now self.now.plain.timetable.now)
+            state given.old given.new (ways_from (phase_meaning self.now.plain.network.now
+            self.now.plain.timetable.now self.now.hierarchy.now self.now.marks.items) p t letters
+            (length (rises_at self.now.hierarchy.now (node_of p) (is_down p)) + entries_at
+            self.now.hierarchy.now (node_of p)) (others_at self.now.plain.network.now
+            self.now.plain.timetable.now (node_of p) (is_down p))) ways.old.items ways.new.items) }
     {
         let (v, down) = split(p);
         let first = self.rises_at(v, down).len() as u64 + self.entries_at(v).1;
@@ -437,11 +454,13 @@ impl<'a> Phases<'a> {
     ) -> Result<(), AllocError>
         requires node { node_of p < length (nodes_of self.now.plain.network.now) }
         requires phase { is_down p ≡ false }
-        requires first { first ≡ length (rises_at self.now.hierarchy.now (node_of p) (is_down p)) + entries_at self.now.hierarchy.now (node_of p) }
+        requires first { first ≡ length (rises_at self.now.hierarchy.now (node_of p) (is_down p)) + entries_at
+            self.now.hierarchy.now (node_of p) }
         requires few { first < 2 ^ 62 }
         requires time { t < 2 ^ 127 }
-        ensures { OnOk result (AddsFresh (phase_rides self.now.plain.network.now self.now.plain.timetable.now) state given.old given.new
-            (ways_from (phase_meaning self.now.plain.network.now self.now.plain.timetable.now self.now.hierarchy.now self.now.marks.items) p t letters first
+        ensures { OnOk result (AddsFresh (phase_rides self.now.plain.network.now self.now.plain.timetable.now)
+            state given.old given.new (ways_from (phase_meaning self.now.plain.network.now
+            self.now.plain.timetable.now self.now.hierarchy.now self.now.marks.items) p t letters first
             (others_at self.now.plain.network.now self.now.plain.timetable.now (node_of p) (is_down p)))
             ways.old.items ways.new.items) }
     {
@@ -465,10 +484,12 @@ impl<'a> Phases<'a> {
         ways: &mut Vec<Way>,
     ) -> Result<(), AllocError>
         requires phase { is_down p ≡ true }
-        requires first { first ≡ length (rises_at self.now.hierarchy.now (node_of p) (is_down p)) + entries_at self.now.hierarchy.now (node_of p) }
-        ensures { OnOk result (ways.new.items ≡ ways.old.items
-            ++ ways_from (phase_meaning self.now.plain.network.now self.now.plain.timetable.now self.now.hierarchy.now self.now.marks.items) p t letters first
-            (others_at self.now.plain.network.now self.now.plain.timetable.now (node_of p) (is_down p))) }
+        requires first { first ≡ length (rises_at self.now.hierarchy.now (node_of p) (is_down p)) + entries_at
+            self.now.hierarchy.now (node_of p) }
+        ensures { OnOk result (ways.new.items ≡ ways.old.items ++ ways_from
+            (phase_meaning self.now.plain.network.now self.now.plain.timetable.now self.now.hierarchy.now
+            self.now.marks.items) p t letters first (others_at self.now.plain.network.now
+            self.now.plain.timetable.now (node_of p) (is_down p))) }
     {
         if let Some(mode) = self.network().mode(p / 2) {
             if is_open(letters, Some(mode)) {
@@ -489,7 +510,8 @@ impl<'a> Phases<'a> {
 impl Graph for Phases<'_> {
     ghost use Rattle.phase_graph.specs.PhaseArcs.{phase_meaning, phase_rides, steady_rises, node_of, is_down};
 
-    ghost meaning = { λ g. phase_meaning g.plain.network.now g.plain.timetable.now g.hierarchy.now g.marks.items };
+    ghost meaning = { λ g. phase_meaning g.plain.network.now g.plain.timetable.now g.hierarchy.now
+        g.marks.items };
 
     fn nodes(&self) -> u32 {
         2 * self.network().nodes()
@@ -586,7 +608,8 @@ fn renumber(ways: &mut Vec<Way>, from: usize, old: u64, first: u64)
     requires within { from ≤ length ways.old.items }
     requires fits { All (FitsAnew old) (drop from ways.old.items) }
     requires few { first < 2 ^ 62 }
-    ensures { ways.new.items ≡ take from ways.old.items ++ map (renumbered old first) (drop from ways.old.items) }
+    ensures { ways.new.items ≡ take from ways.old.items ++ map (renumbered old first)
+        (drop from ways.old.items) }
 {
     for k in from..ways.len() {
         ways[k] = renumbered(ways[k], old, first);

@@ -10,7 +10,7 @@ use Rattle.std.proofs.lemmas.List.Elements.{Contains-append_left, Contains-appen
 use Rattle.search_laws.specs.declared.graph.Way.{Way}
 use Rattle.search_laws.specs.declared.given.GivenRun.{GivenRun}
 use Rattle.search_laws.specs.declared.given.GivenRuns.{GivenRuns}
-use Rattle.search_laws.specs.Fresh.{KnowsBy, IsNoted, HasAsGood, WasGiven, IsCovered, AddsFresh}
+use Rattle.search_laws.specs.Fresh.{KnowsBy, IsRunNoted, HasAsGood, WasGiven, HasAsGoodOrGiven, AddsFresh}
 use Rattle.search_laws.proofs.FreshLemmas.{as_good_right, as_good_through, all_from, fresh_none, fresh_noted, adds_more}
 use Rattle.timetable_arcs.specs.declared.trips.Call.{Call}
 use Rattle.timetable_arcs.specs.declared.trips.Instance.{Instance}
@@ -219,7 +219,7 @@ module _ (n : NetworkLists) (t : TableLists) (board : Board) (run : Instance) (a
       ∙ ways_append n (slice_index t.bases run.day) (trip_at t run.trip).letter a some (drop past calls)
 
   -- those to the calls before one
-  pub run_fresh : (old new : GivenRuns) (past : ℕ) (before after : List Way) → IsPast old past → IsNoted old new (run_from place board.call)
+  pub run_fresh : (old new : GivenRuns) (past : ℕ) (before after : List Way) → IsPast old past → IsRunNoted old new (run_from place board.call)
       → after ≡ before ++ day_ways n t board run.day first (take past calls) → AddsFresh (plain_rides n t) state old new (run_ways n t first board (Some run)) before after
   run_fresh old new past before after is_past noted is =
       let base = slice_index t.bases run.day in
@@ -229,7 +229,7 @@ module _ (n : NetworkLists) (t : TableLists) (board : Board) (run : Instance) (a
       let fresh = ways_to first some in
       let rest = ways_to (first + length fresh) (drop past calls) in
       let parts = cut k past first (omega (arith, is_past.later)) is_past.inside in
-      let covered : (a : ℕ) (way : Way) → Contains (ways_to a (drop k calls)) way → IsCovered (plain_rides n t) state old fresh way =
+      let covered : (a : ℕ) (way : Way) → Contains (ways_to a (drop k calls)) way → HasAsGoodOrGiven (plain_rides n t) state old fresh way =
       λ a way has. elim (Contains-append_cases (ways_to a some) (ways_to (a + length (ways_to a some)) (drop past calls)) way
       (rw (cut k past a (omega (arith, is_past.later)) is_past.inside) at has)) [
         | inl here ↦ inl (good_anywhere n base letter a first some way here)

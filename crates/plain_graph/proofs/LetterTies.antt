@@ -10,7 +10,7 @@ use Rattle.timetable_arcs.specs.declared.rides.Board.{Board}
 use Rattle.timetable_arcs.specs.declared.rides.Ride.{Ride as RideCalls}
 use Rattle.timetable_arcs.specs.Patterns.{TableLists, pattern_trip}
 use Rattle.timetable_arcs.specs.Rides.{rides_at, boards_at}
-use Rattle.timetable_arcs.specs.RideTables.{end_at, end_of}
+use Rattle.timetable_arcs.specs.RideTables.{end_at, rides_end}
 use Rattle.timetable_arcs.proofs.RideLemmas.{no_board, boards_rise, ride_found}
 use Rattle.mode_network.specs.NetworkLists.{NetworkLists, mode_at, stop_at}
 use Rattle.plain_graph.specs.declared.plain.PlainArc.{PlainArc}
@@ -22,7 +22,7 @@ use Rattle.plain_graph.proofs.BoardTies.{at_ride, before_few}
 module _ (t : TableLists) (stop i place : ℕ) (bounded : place ≤ length (boards_at t stop))
     (point : IsPartitionPoint (λ (b : Board). nat_le b.before i ≡ true) (λ (b : Board). nat_le b.before i ≡ false) (boards_at t stop) place) where
   abbrev end : ℕ
-  end = end_of (boards_at t stop) (length (rides_at t stop)) place
+  end = rides_end (boards_at t stop) (length (rides_at t stop)) place
 
   end_is : (d : Board) → place < length (boards_at t stop) → end ≡ (get_or (boards_at t stop) place d).before
   end_is d lt = ap (end_at (length (rides_at t stop))) (slice_get-get_or (boards_at t stop) place d lt)
@@ -55,7 +55,7 @@ module _ (t : TableLists) (stop i place : ℕ) (bounded : place ≤ length (boar
 -- so it is as the search by halves among these boards answers
 pub past_found : (t : TableLists) (stop i place past : ℕ) (boards : List Board) → boards ≡ boards_at t stop → i < length (rides_at t stop) → place ≤ length boards
     → (IsPartitionedBy (λ (b : Board). nat_le b.before i) boards → IsPartitionPoint (λ (b : Board). nat_le b.before i ≡ true) (λ (b : Board). nat_le b.before i ≡ false) boards place)
-    → past ≡ end_of boards (length (rides_at t stop)) place → IsPastBoard t stop i past
+    → past ≡ rides_end boards (length (rides_at t stop)) place → IsPastBoard t stop i past
 past_found t stop i place past boards are inside bounded search_ends is =
     let ends = rw are at search_ends in
     rw (is, are) (past_board t stop i place (rw are at bounded) (ends (IsPartitionedBy-leb (λ (b : Board). b.before) (boards_at t stop) i (boards_rise t stop))) inside)

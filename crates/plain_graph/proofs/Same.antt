@@ -24,8 +24,8 @@ use Rattle.mode_network.specs.Journeys.{Leads, IsStep}
 use Rattle.plain_graph.specs.declared.plain.PlainArc.{PlainArc}
 use Rattle.plain_graph.specs.declared.plain.PlainArc.TheVariants.{Road, Link, Stand, Ride}
 use Rattle.plain_graph.specs.PlainArcs.{plain_arc, plain_meaning, graph_arc, run_at, arrival, no_arc, pattern_call}
-use Rattle.plain_graph.specs.Simulation.{step_of, WalksAreJourneys, HasWalk, JourneysAreWalks, ArcsAreSteps, HasArcBy, IsNoWait, StepsAreArcs}
-use Rattle.plain_graph.specs.OutArcs.{IsListed, IsRideFrom, IsOut, out_of, place_of}
+use Rattle.plain_graph.specs.Simulation.{step_of, WalksAreJourneys, HasPlainWalk, JourneysAreWalks, ArcsAreSteps, HasArcBy, IsNoWait, StepsAreArcs}
+use Rattle.plain_graph.specs.OutArcs.{IsArcFrom, IsRideFrom, IsOut, out_of, place_of}
 use Rattle.plain_graph.specs.Rides.{takes, alights_within}
 use Rattle.plain_graph.specs.Lawful.{node_of, plain_lawful}
 use Rattle.mode_network.proofs.RuleLemmas.{some_is}
@@ -33,13 +33,13 @@ use Rattle.mode_network.proofs.RuleLemmas.{some_is}
 abbrev arc_of : ℕ → ℕ → ℕ → Arc
 arc_of v w ms = record { from = v; to = w; ms = ms }
 
-leads_of : (arcs : List Arc) (v : ℕ) (a : Arc) → IsListed arcs v a → Leads arcs v a.to a.ms
+leads_of : (arcs : List Arc) (v : ℕ) (a : Arc) → IsArcFrom arcs v a → Leads arcs v a.to a.ms
 leads_of arcs v a out =
     let there = arc_of v a.to a.ms in
     let same : a ≡ there = ap (λ (x : ℕ). arc_of x a.to a.ms) out.begins in
     (out.place, out.within, get_or_default arcs out.place there no_arc out.within ∙ (out.is ∙ same))
 
-listed_of : (arcs : List Arc) (v w ms : ℕ) → Leads arcs v w ms → IsListed arcs v (arc_of v w ms)
+listed_of : (arcs : List Arc) (v w ms : ℕ) → Leads arcs v w ms → IsArcFrom arcs v (arc_of v w ms)
 listed_of arcs v w ms (place, within, is) = record {
   place = place;
   within = within;
@@ -140,8 +140,8 @@ module _ (n : NetworkLists) (network : IsNetwork n) (table : TableLists) (keeps 
       }
 
   -- the arc, a wait until the step ends, and then on
-  go_on : (v t w1 t1 : ℕ) (letter : Option ℕ) (w u : ℕ) (rest letters : List ℕ) → HasArcBy n table v t w1 t1 letter → HasWalk n table w1 t1 w u rest → letters ≡ option_to_list letter ++ rest
-      → HasWalk n table v t w u letters
+  go_on : (v t w1 t1 : ℕ) (letter : Option ℕ) (w u : ℕ) (rest letters : List ℕ) → HasArcBy n table v t w1 t1 letter → HasPlainWalk n table w1 t1 w u rest → letters ≡ option_to_list letter ++ rest
+      → HasPlainWalk n table v t w u letters
   go_on v t w1 t1 letter w u rest letters first later e =
       let g = plain_meaning n table in
       let word : word_from g (g.arc_at v first.place).to later.walk ≡ rest = subst (λ x. word_from g x later.walk ≡ rest) (sym first.to) later.word in
@@ -257,7 +257,7 @@ module _ (n : NetworkLists) (network : IsNetwork n) (table : TableLists) (keeps 
   pub journeys_are_walks : JourneysAreWalks n table
   journeys_are_walks v t [] w u letters (same, now, none) = record { walk = []; leads = (same, now); word = sym none }
   journeys_are_walks v t (Wait until ∷ steps) w u letters (v1, t1, letter, rest, (later, same, now, none), more, e) =
-      let walk = subst (λ x. HasWalk n table x until w u rest) same (subst (λ x. HasWalk n table v1 x w u rest) now (journeys_are_walks v1 t1 steps w u rest more)) in
+      let walk = subst (λ x. HasPlainWalk n table x until w u rest) same (subst (λ x. HasPlainWalk n table v1 x w u rest) now (journeys_are_walks v1 t1 steps w u rest more)) in
       record { walk = wait until ∷ walk.walk; leads = (later, walk.leads); word = walk.word ∙ sym (e ∙ ap (λ (x : Option ℕ). option_to_list x ++ rest) none) }
   journeys_are_walks v t (TakeRoad to ∷ steps) w u letters (v1, t1, letter, rest, step, more, e) =
       go_on v t v1 t1 letter w u rest letters (arc_for v t v1 t1 (TakeRoad to) letter tt step) (journeys_are_walks v1 t1 steps w u rest more) e

@@ -20,7 +20,7 @@ use Rattle.plain_graph.specs.declared.plain.PlainArc.TheVariants.{Road, Link, St
 use Rattle.plain_graph.specs.PlainArcs.{plain_arc, count_from, stands_at, rides_from_stop, rides_of, arcs_at, no_arc, no_ride}
 
 -- the arc stands at this place of the list, and begins at v
-pub record IsListed (arcs : List Arc) (v : ℕ) (arc : Arc) : Type 0 where
+pub record IsArcFrom (arcs : List Arc) (v : ℕ) (arc : Arc) : Type 0 where
   pub place : ℕ
   pub within : place < length arcs
   pub is : slice_index_or arcs place no_arc ≡ arc
@@ -34,8 +34,8 @@ pub record IsRideFrom (n : NetworkLists) (t : TableLists) (v : ℕ) (ride : Ride
   pub ride_at : IsRideAt t stop ride
 
 abbrev pub IsOut : NetworkLists → TableLists → ℕ → PlainArc → Type 0
-IsOut n t v (Road arc) = IsListed n.arcs v arc
-IsOut n t v (Link link) = IsListed n.links v link
+IsOut n t v (Road arc) = IsArcFrom n.arcs v arc
+IsOut n t v (Link link) = IsArcFrom n.links v link
 IsOut n t v Stand = (mode : ℕ) × (mode_at n.roads v ≡ Some mode)
 IsOut n t v (Ride ride) = IsRideFrom n t v ride
 
@@ -64,7 +64,7 @@ pub no_mode : (n : NetworkLists) (stop : ℕ) → mode_at n.roads (stop_node n s
 no_mode n stop = ap (option_and_then (λ (node : Node). mode_of node.key)) (slice_get_past n.roads (length n.roads + stop) (omega arith))
 
 module _ (n : NetworkLists) (network : IsNetwork n) (t : TableLists) (table : IsTable t) where
-  listed : (arcs : List Arc) → IsAscending arc_cmp arcs → (v i : ℕ) → i < count_from arcs v → IsListed arcs v (slice_index_or arcs ((range_from arcs v).0 + i) no_arc)
+  listed : (arcs : List Arc) → IsAscending arc_cmp arcs → (v i : ℕ) → i < count_from arcs v → IsArcFrom arcs v (slice_index_or arcs ((range_from arcs v).0 + i) no_arc)
   listed arcs ascend v i h =
       let range = range_is_range arcs v in
       record {
@@ -115,7 +115,7 @@ module _ (n : NetworkLists) (network : IsNetwork n) (t : TableLists) (table : Is
     pub is : plain_arc n t v i ≡ a
 
   -- how far behind the first of its node the arc stands
-  stands_in : (arcs : List Arc) → IsAscending arc_cmp arcs → (v : ℕ) (arc : Arc) → IsListed arcs v arc
+  stands_in : (arcs : List Arc) → IsAscending arc_cmp arcs → (v : ℕ) (arc : Arc) → IsArcFrom arcs v arc
       → (i : ℕ) × (i < count_from arcs v) × (slice_index_or arcs ((range_from arcs v).0 + i) no_arc ≡ arc)
   stands_in arcs ascend v arc out =
       let at_v = ap (λ (a : Arc). a.from) out.is ∙ out.begins in

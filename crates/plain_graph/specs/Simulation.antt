@@ -25,14 +25,14 @@ WalksAreJourneys n table = (v t : ℕ) (walk : List WalkStep) (w u : ℕ) → Is
     → (steps : List Step) × AreSteps n v t steps w u (word_from (plain_meaning n table) v walk)
 
 -- a walk from v at t to w at u with these letters
-pub record HasWalk (n : NetworkLists) (table : TableLists) (v t w u : ℕ) (letters : List ℕ) : Type 0 where
+pub record HasPlainWalk (n : NetworkLists) (table : TableLists) (v t w u : ℕ) (letters : List ℕ) : Type 0 where
   pub walk : List WalkStep
   pub leads : IsWalk (plain_meaning n table) v t walk w u
   pub word : word_from (plain_meaning n table) v walk ≡ letters
 
 -- for each journey there is a walk with the same ends, times and letters
 abbrev pub JourneysAreWalks : NetworkLists → TableLists → Type 0
-JourneysAreWalks n table = (v t : ℕ) (steps : List Step) (w u : ℕ) (letters : List ℕ) → AreSteps n v t steps w u letters → HasWalk n table v t w u letters
+JourneysAreWalks n table = (v t : ℕ) (steps : List Step) (w u : ℕ) (letters : List ℕ) → AreSteps n v t steps w u letters → HasPlainWalk n table v t w u letters
 
 abbrev pub IsNoWait : Step → Type 0
 IsNoWait (Wait until) = ⊥

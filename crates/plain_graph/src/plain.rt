@@ -2,7 +2,7 @@
 
 ghost use Rattle.std.specs.Prelude.{◌≡◌, ◌<◌, ◌+◌, ◌^◌, ◌++◌, ◌∷◌, OnOk, IfOk, length};
 ghost use Rattle.timetable_arcs.specs.Rides.{rides_at};
-ghost use Rattle.timetable_arcs.specs.RideTables.{end_of};
+ghost use Rattle.timetable_arcs.specs.RideTables.{rides_end};
 ghost use Rattle.search_laws.specs.GraphLaws.{IsLawfulGraph};
 ghost use Rattle.mode_network.specs.NetworkLists.{nodes_of};
 ghost use Rattle.mode_network.specs.Rules.{IsNetwork, IsNetwork-prop};
@@ -151,7 +151,8 @@ impl<'a> Plain<'a> {
     /// Where a ride leads, and its letter.
     fn ride_arc(&self, ride: Ride) -> GraphArc
         requires { IsRideOf self.now.timetable.now ride }
-        ensures to { result.to ≡ stop_node self.now.network.now (pattern_call self.now.timetable.now ride.pattern ride.alight).stop }
+        ensures to { result.to ≡ stop_node self.now.network.now
+            (pattern_call self.now.timetable.now ride.pattern ride.alight).stop }
         ensures letter { result.letter ≡ Some (pattern_trip self.now.timetable.now ride.pattern).letter }
     {
         self.timetable.known();
@@ -165,7 +166,8 @@ impl<'a> Plain<'a> {
     /// When a ride arrives that is taken at `t`.
     fn ride_arrival(&self, ride: Ride, t: Time) -> Option<Time>
         requires { IsRideOf self.now.timetable.now ride }
-        ensures { result ≡ option_map (λ run. arrives self.now.timetable.now run ride.alight) (run_at self.now.timetable.now t ride) }
+        ensures { result ≡ option_map (λ run. arrives self.now.timetable.now run ride.alight)
+            (run_at self.now.timetable.now t ride) }
     {
         self.timetable.known();
         let run = self.timetable.next(ride.pattern, ride.board, t)?;
@@ -245,8 +247,9 @@ impl<'a> Plain<'a> {
         requires board { IsBoardOf self.now.timetable.now board }
         requires run { slice_get (runs_of self.now.timetable.now board.pattern) next.place ≡ Some next.run }
         requires place { first < 2 ^ 63 + 2 ^ 34 }
-        ensures { OnOk result (AddsFresh (plain_rides self.now.network.now self.now.timetable.now) state given.old given.new
-            (run_ways self.now.network.now self.now.timetable.now first board (Some next.run)) ways.old.items ways.new.items) }
+        ensures { OnOk result (AddsFresh (plain_rides self.now.network.now self.now.timetable.now) state
+            given.old given.new (run_ways self.now.network.now self.now.timetable.now first board
+            (Some next.run)) ways.old.items ways.new.items) }
     {
         self.timetable.known();
         let calls = self.timetable.run_calls(next.run);
@@ -268,8 +271,10 @@ impl<'a> Plain<'a> {
     /// The run that one boards at `t`: the next one, if the letter of its pattern is in the set.
     fn open_run(&self, board: Board, t: Time, letters: u32) -> Option<PlacedRun>
         requires { IsBoardOf self.now.timetable.now board }
-        ensures value { option_map (λ next. next.run) result ≡ open_run self.now.timetable.now t letters board }
-        ensures place { IfSome result (λ next. slice_get (runs_of self.now.timetable.now board.pattern) next.place ≡ Some next.run) }
+        ensures value { option_map (λ next. next.run) result ≡ open_run self.now.timetable.now t
+            letters board }
+        ensures place { IfSome result (λ next. slice_get (runs_of self.now.timetable.now board.pattern)
+            next.place ≡ Some next.run) }
     {
         self.timetable.known();
         if is_open(letters, Some(self.timetable.pattern_letter(board.pattern))) {
@@ -293,8 +298,9 @@ impl<'a> Plain<'a> {
     ) -> Result<(), AllocError>
         requires board { IsBoardOf self.now.timetable.now board }
         requires place { first < 2 ^ 63 + 2 ^ 34 }
-        ensures { OnOk result (AddsFresh (plain_rides self.now.network.now self.now.timetable.now) state given.old given.new
-            (board_ways self.now.network.now self.now.timetable.now t letters first board) ways.old.items ways.new.items) }
+        ensures { OnOk result (AddsFresh (plain_rides self.now.network.now self.now.timetable.now) state
+            given.old given.new (board_ways self.now.network.now self.now.timetable.now t letters first board)
+            ways.old.items ways.new.items) }
     {
         if let Some(next) = self.open_run(board, t, letters) {
             self.push_fresh_run(board, next, first, state, given, ways)?;
@@ -316,8 +322,9 @@ impl<'a> Plain<'a> {
     ) -> Result<(), AllocError>
         requires stop { stop < self.now.timetable.now.stops }
         requires place { first < 2 ^ 34 }
-        ensures { OnOk result (AddsFresh (plain_rides self.now.network.now self.now.timetable.now) state given.old given.new
-            (boards_ways self.now.network.now self.now.timetable.now t letters first (boards_at self.now.timetable.now stop)) ways.old.items ways.new.items) }
+        ensures { OnOk result (AddsFresh (plain_rides self.now.network.now self.now.timetable.now) state
+            given.old given.new (boards_ways self.now.network.now self.now.timetable.now t letters first
+            (boards_at self.now.timetable.now stop)) ways.old.items ways.new.items) }
     {
         self.timetable.known();
         for board in self.timetable.boards(stop) {
@@ -340,10 +347,10 @@ impl<'a> Plain<'a> {
     ) -> Result<(), AllocError>
         requires node { v < length (nodes_of self.now.network.now) }
         requires time { t < 2 ^ 127 }
-        ensures { OnOk result (AddsFresh (plain_rides self.now.network.now self.now.timetable.now) state given.old given.new
-            (ways_from (plain_meaning self.now.network.now self.now.timetable.now) v t letters (count_from self.now.network.now.arcs v)
-            (count_from self.now.network.now.links v + inner_arcs_at self.now.network.now self.now.timetable.now v))
-            ways.old.items ways.new.items) }
+        ensures { OnOk result (AddsFresh (plain_rides self.now.network.now self.now.timetable.now) state
+            given.old given.new (ways_from (plain_meaning self.now.network.now self.now.timetable.now) v t
+            letters (count_from self.now.network.now.arcs v) (count_from self.now.network.now.links v +
+            inner_arcs_at self.now.network.now self.now.timetable.now v)) ways.old.items ways.new.items) }
     {
         let (first_arc, past_arc) = self.network.arcs_from(v);
         let (first_link, past_link) = self.network.links_from(v);
@@ -366,8 +373,9 @@ impl<'a> Plain<'a> {
         requires node { v < length (nodes_of self.now.network.now) }
         requires place { first_place ≡ count_from self.now.network.now.arcs v }
         requires time { t < 2 ^ 127 }
-        ensures { OnOk result (ways.new.items ≡ ways.old.items
-            ++ ways_from (plain_meaning self.now.network.now self.now.timetable.now) v t letters first_place (count_from self.now.network.now.links v)) }
+        ensures { OnOk result (ways.new.items ≡ ways.old.items ++ ways_from
+            (plain_meaning self.now.network.now self.now.timetable.now) v t letters first_place
+            (count_from self.now.network.now.links v)) }
     {
         let (first, past) = self.network.links_from(v);
         for i in 0..past - first {
@@ -393,9 +401,11 @@ impl<'a> Plain<'a> {
     ) -> Result<(), AllocError>
         requires node { v < length (nodes_of self.now.network.now) }
         requires mode { mode_at self.now.network.now.roads v ≡ Some mode }
-        requires place { place ≡ count_from self.now.network.now.arcs v + count_from self.now.network.now.links v }
-        ensures { OnOk result (ways.new.items ≡ ways.old.items
-            ++ ways_from (plain_meaning self.now.network.now self.now.timetable.now) v t letters place (inner_arcs_at self.now.network.now self.now.timetable.now v)) }
+        requires place { place ≡ count_from self.now.network.now.arcs v + count_from
+            self.now.network.now.links v }
+        ensures { OnOk result (ways.new.items ≡ ways.old.items ++ ways_from
+            (plain_meaning self.now.network.now self.now.timetable.now) v t letters place
+            (inner_arcs_at self.now.network.now self.now.timetable.now v)) }
     {
         if is_open(letters, Some(mode)) {
             ways.push(Way {
@@ -423,11 +433,13 @@ impl<'a> Plain<'a> {
         ways: &mut Vec<Way>,
     ) -> Result<(), AllocError>
         requires node { v < length (nodes_of self.now.network.now) }
-        requires place { first ≡ count_from self.now.network.now.arcs v + count_from self.now.network.now.links v }
+        requires place { first ≡ count_from self.now.network.now.arcs v + count_from
+            self.now.network.now.links v }
         requires few { first < 2 ^ 34 }
-        ensures { OnOk result (AddsFresh (plain_rides self.now.network.now self.now.timetable.now) state given.old given.new
-            (ways_from (plain_meaning self.now.network.now self.now.timetable.now) v t letters first (inner_arcs_at self.now.network.now self.now.timetable.now v))
-            ways.old.items ways.new.items) }
+        ensures { OnOk result (AddsFresh (plain_rides self.now.network.now self.now.timetable.now) state
+            given.old given.new (ways_from (plain_meaning self.now.network.now self.now.timetable.now) v t
+            letters first (inner_arcs_at self.now.network.now self.now.timetable.now v)) ways.old.items
+            ways.new.items) }
     {
         match (self.network.mode(v), self.network.stop_at(v)) {
             (Some(mode), _) => self.push_stand(v, mode, first, t, letters, ways)?,
@@ -471,7 +483,7 @@ fn rides_at(timetable: &Timetable, stop: u32) -> u64
 
 /// How many rides from a stop begin at the boards before this place.
 fn rides_before(boards: &[Board], rides: u64, place: usize) -> u64
-    ensures { result ≡ end_of boards.now rides place }
+    ensures { result ≡ rides_end boards.now rides place }
 {
     match boards.get(place) {
         Some(board) => board.before,

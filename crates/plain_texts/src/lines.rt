@@ -26,7 +26,8 @@ fn cut_line(text: &[u8]) -> Option<(&[u8], &[u8])>
 /// `None` exactly where the text has no line feed.
 pub fn next_line(text: &[u8]) -> Option<(&[u8], &[u8])>
     ensures line { option_map (λ x. (x.0.now, x.1.now)) result ≡ next_line_of text.now }
-    ensures exact { MatchOption result (IsLine text.now) (λ x. IsLine x.0.now × (text.now ≡ x.0.now ++ 10 ∷ x.1.now)) }
+    ensures exact { MatchOption result (IsLine text.now) (λ x. IsLine x.0.now
+        × (text.now ≡ x.0.now ++ 10 ∷ x.1.now)) }
     ensures shorter { IfSome result (λ x. length x.1.now < length text.now) }
 {
     cut_line(text)
@@ -51,7 +52,8 @@ fn cut_any_line(text: &[u8]) -> Option<(&[u8], &[u8])>
 /// `None` exactly where the text is empty. Taken again and again, these are the lines of the text.
 pub fn split_line(text: &[u8]) -> Option<(&[u8], &[u8])>
     ensures line { option_map (λ x. (x.0.now, x.1.now)) result ≡ split_line_of text.now }
-    ensures exact { MatchOption result (lines_of text.now ≡ []) (λ x. lines_of text.now ≡ x.0.now ∷ lines_of x.1.now) }
+    ensures exact { MatchOption result (lines_of text.now ≡ [])
+        (λ x. lines_of text.now ≡ x.0.now ∷ lines_of x.1.now) }
     ensures shorter { IfSome result (λ x. length x.1.now < length text.now) }
 {
     cut_any_line(text)

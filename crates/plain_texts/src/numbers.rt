@@ -74,7 +74,8 @@ fn digits_value(digits: &[u8]) -> Option<u64>
 // Whether a zero stands before other bytes.
 #[inline]
 fn is_padded(text: &[u8]) -> bool
-    ensures { MatchBool result ((1 < length text.now) × (slice_index text.now 0 ≡ 48)) (1 < length text.now → slice_index text.now 0 ≢ 48) }
+    ensures { MatchBool result ((1 < length text.now) × (slice_index text.now 0 ≡ 48))
+        (1 < length text.now → slice_index text.now 0 ≢ 48) }
 {
     text.len() > 1 && text[0] == b'0'
 }

@@ -22,7 +22,8 @@ pub trait Disk {
     ///
     /// `Missing` where there is no such file, and `Failed`.
     fn open(&self, path: &str, from: u64) -> Result<Self::File, ShelfError>
-        ensures rest { IfOk result (λ file. IsRest (holds self.now) path.now from (Self.File.remaining file)) }
+        ensures rest { IfOk result (λ file. IsRest (holds self.now) path.now from
+            (Self.File.remaining file)) }
         ensures missing { result ≡ Err Missing → IfSome (holds self.now) (λ files. files path.now ≡ None) };
 }
 

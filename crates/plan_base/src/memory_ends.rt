@@ -54,7 +54,8 @@ impl Shelf for MemoryShelf {
         ensures within { IfOk result (λ n. n ≤ length into.old) }
         ensures bytes { IfOk result (λ n. Gave (shelf_meaning self.old) name.now from n into.new) }
         ensures cause { IfErr result (HasCause (shelf_meaning self.old) (shelf_meaning self.new) name.now) }
-        ensures exact { result ≡ read_answer (shelf_fails self.old) (shelf_reads self.new) (shelf_files self.old name.now) from (length into.old) }
+        ensures exact { result ≡ read_answer (shelf_fails self.old) (shelf_reads self.new)
+            (shelf_files self.old name.now) from (length into.old) }
         ensures reads { shelf_reads self.new ≡ count_after (shelf_reads self.old) }
         ensures fails { shelf_fails self.new ≡ shelf_fails self.old }
         ensures counts { shelf_counts self.new ≡ counts_after result (shelf_counts self.old) }
@@ -142,10 +143,12 @@ impl Sink for MemorySink {
         ensures later { (sink_meaning self.old).faults ≤ (sink_meaning self.new).faults }
         ensures some { 0 < length piece.now → IfOk result (λ n. 0 < n) }
         ensures within { IfOk result (λ n. n ≤ length piece.now) }
-        ensures ok { IfOk result (λ n. Appended (sink_meaning self.old) (sink_meaning self.new) (take n piece.now)) }
+        ensures ok { IfOk result (λ n. Appended (sink_meaning self.old) (sink_meaning self.new)
+            (take n piece.now)) }
         ensures same { OnErr result (Stays (sink_meaning self.old) (sink_meaning self.new)) }
         ensures cause { OnErr result (Rose (sink_meaning self.old).faults (sink_meaning self.new).faults) }
-        ensures exact { result ≡ write_answer (sink_fails self.old) (sink_writes self.new) (sink_most self.old) (sink_left self.old) (length piece.now) }
+        ensures exact { result ≡ write_answer (sink_fails self.old) (sink_writes self.new)
+            (sink_most self.old) (sink_left self.old) (length piece.now) }
         ensures writes { sink_writes self.new ≡ count_after (sink_writes self.old) }
         ensures kept { KeepsSink self.old self.new }
         ensures faults { sink_faults self.new ≡ faults_after result (sink_faults self.old) }

@@ -1,7 +1,7 @@
 //! A keeper over the file of a book. It opens the file at the first call, waits for one that is held, makes one only to keep
 //! something, and reads a copy of one that it may not write.
 
-ghost use Rattle.journey_book.specs.Working.{IsRefusal};
+ghost use Rattle.journey_book.specs.Working.{IsCountedRefusal};
 
 use crate::copy::open_copy;
 use crate::paths::{Found, log_path, look_at};
@@ -67,7 +67,7 @@ impl<'a> FileKeeper<'a> {
 
     /// Counts a failure, unless memory ran out.
     fn refused(&mut self, fault: KeepFault) -> KeepFault
-        ensures { IsRefusal self.old.faults self.new.faults result }
+        ensures { IsCountedRefusal self.old.faults self.new.faults result }
     {
         match fault {
             KeepFault::OutOfMemory => KeepFault::OutOfMemory,

@@ -6,7 +6,7 @@ use Rattle.clap.specs.Words.{Row, first_of, subcommand_of}
 use Rattle.mode_network.proofs.RuleLemmas.{both}
 use Rattle.region_file.specs.declared.format.Format.TheVariants.{Binary}
 use Rattle.command_line.specs.Description.{modeplan}
-use Rattle.command_words.specs.Requests.{Request, AsksFor, number_of, size_of, format_or, keep_or_none, commands, request_at, two_at, days_and_format_at, compile_at, migrate_at, contract_at, check_at, sample_at, answer_at, certify_at, verify_at, few_at, latest_at, certify_latest_at, verify_latest_at, asking_at, limits_at, places_at, profile_at, matrix_at, requests_at, window_or_two_hours, compile, migrate, contract, answer, certify, verify, check, sample, latest, certify_latest, verify_latest, few, profile, matrix, requests}
+use Rattle.command_words.specs.Requests.{Request, AsksFor, small_number_of_word, size_of_word, format_or, keep_or_none, commands, request_at, two_at, days_and_format_at, compile_at, migrate_at, contract_at, check_at, sample_at, answer_at, certify_at, verify_at, few_at, latest_at, certify_latest_at, verify_latest_at, asking_at, limits_at, places_at, profile_at, matrix_at, requests_at, window_or_two_hours, compile, migrate, contract, answer, certify, verify, check, sample, latest, certify_latest, verify_latest, few, profile, matrix, requests}
 use Rattle.planner_core.specs.Working.{HasSize}
 
 in_range : (n size : ℕ) (fits : Bool) → nat_le 1 n && nat_le n 300 ≡ fits → (if fits then Some n else None) ≡ Some size → (1 ≤ size) × (size ≤ 300)
@@ -53,8 +53,8 @@ check_gives rows = made (λ two. check two.0 two.1) (two_at rows) (λ two is. tt
 
 sample_gives : (rows : List Row) → GivesSize (sample_at rows)
 sample_gives rows =
-    made_of (λ word. option_map (λ size. sample size) (size_of word)) (first_of (codes "first") rows)
-    (λ word. made (λ size. sample size) (size_of word) (λ size is. read_in_range (number_of word) size is))
+    made_of (λ word. option_map (λ size. sample size) (size_of_word word)) (first_of (codes "first") rows)
+    (λ word. made (λ size. sample size) (size_of_word word) (λ size is. read_in_range (small_number_of_word word) size is))
 
 answer_gives : (rows : List Row) → GivesSize (answer_at rows)
 answer_gives rows =

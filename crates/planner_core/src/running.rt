@@ -188,7 +188,8 @@ pub fn run<F: Shelf, O: Sink, E: Sink>(ports: &mut Ports<F, O, E>, words: &[Stri
     ensures complete { (caps : Caps) × AreFull caps × IsComplete caps (map string_bytes words.now)
         (scene (F.meaning ports.old.shelf) (O.meaning ports.old.out))
         (scene (F.meaning ports.new.shelf) (O.meaning ports.new.out)) result }
-    ensures plain { (r : Request) → IsPlainForm (map string_bytes words.now) r → AsksFor (map string_bytes words.now) r }
+    ensures plain { (r : Request) → IsPlainForm (map string_bytes words.now) r
+        → AsksFor (map string_bytes words.now) r }
 {
     let outcome = run_within(ports, words, &Caps::FULL);
     tell_end(ports.alloc, words, outcome, &mut ports.notes);

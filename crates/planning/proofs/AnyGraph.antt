@@ -10,7 +10,7 @@ use Rattle.product_search.specs.Limits.{HasMoreLabels}
 use Rattle.product_search.specs.Reach.{IsReachedAt, IsLeastAt}
 use Rattle.automaton.specs.Collapsed.{collapsed}
 use Rattle.phase_graph.specs.Arcs.{HasWalk}
-use Rattle.phase_graph.specs.InUse.{Covers, AreAlike}
+use Rattle.phase_graph.specs.InUse.{Covers, CoverEachOther}
 use Rattle.planning.specs.Plans.{AreLabelsOver}
 
 -- an arc that arrives sooner is waited after, so that a walk of one graph is one of the other with its ends, times and word
@@ -59,16 +59,16 @@ module _ (g h : GraphMeaning) (covers : Covers g h) where
         word = subst (Accepts l) (sym over.word_is) a.word;
       }
 
-least_over : (g h : GraphMeaning) → AreAlike g h → (l : LabelsMeaning) (starts : List ℕ) (dep v q t : ℕ) → IsLeastAt g l starts dep v q t → IsLeastAt h l starts dep v q t
+least_over : (g h : GraphMeaning) → CoverEachOther g h → (l : LabelsMeaning) (starts : List ℕ) (dep v q t : ℕ) → IsLeastAt g l starts dep v q t → IsLeastAt h l starts dep v q t
 least_over g h same l starts dep v q t is = record {
   reached = reached g h same.forth l starts dep v q t is.reached;
   least = λ u r. is.least u (reached h g same.back l starts dep v q u r);
 }
 
-alike_back : (g h : GraphMeaning) → AreAlike g h → AreAlike h g
+alike_back : (g h : GraphMeaning) → CoverEachOther g h → CoverEachOther h g
 alike_back g h same = record { nodes = sym same.nodes; forth = same.back; back = same.forth }
 
-module _ (g h : GraphMeaning) (same : AreAlike g h) (automaton : LabelsMeaning) (starts ends : List ℕ) (dep : ℕ) where
+module _ (g h : GraphMeaning) (same : CoverEachOther g h) (automaton : LabelsMeaning) (starts ends : List ℕ) (dep : ℕ) where
   arrival_over : (arrival : Option ℕ) → IsArrival g (collapsed automaton) starts ends dep None arrival → IsArrival h (collapsed automaton) starts ends dep None arrival
   arrival_over None none = λ t within a. none t within (arrives_at h g same.back (collapsed automaton) starts ends dep t a)
   arrival_over (Some t) is = (

@@ -15,7 +15,7 @@ use Rattle.hierarchy.specs.Lists.{HierarchyLists, is_contracted, IsContracted}
 use Rattle.plain_graph.proofs.Same.{walks_are_journeys}
 use Rattle.phase_graph.specs.Arcs.{phase_node, IsPhaseGraph}
 use Rattle.phase_graph.specs.PhaseArcs.{phase_meaning, node_of, is_down}
-use Rattle.phase_graph.specs.InUse.{IsInUse, IsSoundIfGiven, starts_in, ends_in, node_under, numbers_of, HasWalkInUse}
+use Rattle.phase_graph.specs.InUse.{IsInUse, IsSoundIfGiven, starts_in, ends_in, node_under, target_numbers, HasWalkInUse}
 use Rattle.phase_graph.specs.Laws.{HasJourney}
 use Rattle.phase_graph.proofs.GraphLemmas.{whole, half}
 use Rattle.phase_graph.proofs.GraphMoves.{is_phase_graph}
@@ -36,7 +36,7 @@ use Rattle.planning.specs.Arrivals.{IsBestArrival}
 numbered_start : (origins : List ℕ) (v : ℕ) → Contains origins v → Contains (map (λ x. phase_node x false) origins) (phase_node v false)
 numbered_start origins v (k, lt, is) = (k, omega (arith, lt, length-map origins (λ x. phase_node x false)), get_or-map (λ x. phase_node x false) origins k v ∙ ap (λ x. phase_node x false) is)
 
-numbered : (h : HierarchyLists) (v : ℕ) (down : Bool) → (down ≡ true → IsContracted h.order v) → Contains (numbers_of h v) (phase_node v down)
+numbered : (h : HierarchyLists) (v : ℕ) (down : Bool) → (down ≡ true → IsContracted h.order v) → Contains (target_numbers h v) (phase_node v down)
 numbered h v down low = by_test (is_contracted h.order v) refl down low
   where
     by_test : (b : Bool) → is_contracted h.order v ≡ b → (down : Bool) → (down ≡ true → IsContracted h.order v)
@@ -46,10 +46,10 @@ numbered h v down low = by_test (is_contracted h.order v) refl down low
     by_test false e false low = (0, omega arith, refl)
     by_test false e true low = absurd (let is = lt-ltb _ _ (low refl) in let clash = sym is ∙ e in cc)
 
-numbered_end : (h : HierarchyLists) (copies : List ℕ) (v p : ℕ) → Contains copies v → Contains (numbers_of h v) p → Contains (flat_map (numbers_of h) copies) p
+numbered_end : (h : HierarchyLists) (copies : List ℕ) (v p : ℕ) → Contains copies v → Contains (target_numbers h v) p → Contains (flat_map (target_numbers h) copies) p
 numbered_end h [] v p (k, lt, is) there = absurd (omega (arith, lt))
-numbered_end h (x ∷ copies) v p (zero, lt, is) there = Contains-append_left (numbers_of h x) (flat_map (numbers_of h) copies) p (subst (λ y. Contains (numbers_of h y) p) (sym is) there)
-numbered_end h (x ∷ copies) v p (suc k, lt, is) there = Contains-append_right (numbers_of h x) (flat_map (numbers_of h) copies) p (numbered_end h copies v p (k, omega (arith, lt), is) there)
+numbered_end h (x ∷ copies) v p (zero, lt, is) there = Contains-append_left (target_numbers h x) (flat_map (target_numbers h) copies) p (subst (λ y. Contains (target_numbers h y) p) (sym is) there)
+numbered_end h (x ∷ copies) v p (suc k, lt, is) there = Contains-append_right (target_numbers h x) (flat_map (target_numbers h) copies) p (numbered_end h copies v p (k, omega (arith, lt), is) there)
 
 -- ---- walks and journeys
 

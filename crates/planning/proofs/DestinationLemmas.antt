@@ -26,7 +26,7 @@ use Rattle.planning.specs.declared.destinations.Part.{Part}
 use Rattle.planning.specs.declared.destinations.Listing.{Listing}
 use Rattle.planning.specs.declared.destinations.Destinations.{Destinations}
 use Rattle.planning.specs.Arrivals.{IsArrivalTo, AreArrivalsTo, asked_to}
-use Rattle.planning.specs.Destinations.{AddsDestination, AreDestinations, IsPartFor, ArePartsFor, earlier, earliest_in, hierarchy_of}
+use Rattle.planning.specs.Destinations.{AddsDestination, AreDestinations, IsPartFor, ArePartsFor, earlier, earliest_in, hierarchy_searched}
 use Rattle.planning.proofs.ArrivalLemmas.{best_arrival}
 
 -- ---- listing
@@ -187,24 +187,24 @@ module _ (d : Destinations) (ready : AreDestinations d) (times : List (Option �
   -- each part lies within the times
   pub parts_fit : length times ≡ length d.table.nodes.items → All (λ (part : Part). (part.first ≤ part.end) × (part.end ≤ length times)) d.parts.items
   parts_fit one_each k part lt =
-      let fits = part_fits d.network.now (hierarchy_of d) ready.targets d.table.nodes.items (get_or d.queries.now k None) (get_or d.parts.items k part)
+      let fits = part_fits d.network.now (hierarchy_searched d) ready.targets d.table.nodes.items (get_or d.queries.now k None) (get_or d.parts.items k part)
       (ready.are k (omega (arith, lt, ready.one_each)) part) in
       (fits.0, omega (arith, fits.1, one_each))
 
   -- the earliest of each part is the arrival at its destination
   pub all_arrivals : IsNetwork d.network.now → (q : Query) (l : LabelsMeaning) → AreDenoted (form_of q.expr) l → (origins : List ℕ) → AreTheCopies d.network.now q.from origins
-      → AreArrivals (meaning_in_use d.graph) l (starts_in (hierarchy_of d) origins) d.table.nodes.items q.depart times
+      → AreArrivals (meaning_in_use d.graph) l (starts_in (hierarchy_searched d) origins) d.table.nodes.items q.depart times
       → AreArrivalsTo d.network.now q d.queries.now (map (earliest_in times) d.parts.items)
   all_arrivals network q l denotes origins from are = arrivals_to d.network.now q d.queries.now d.parts.items times ready.one_each (λ k lt p. at (get_or d.queries.now k None) (get_or d.parts.items k p) (ready.are k lt p))
     where
-      nowhere : (copies : List ℕ) → copies ≡ [] → (arrival : Option ℕ) → IsArrival (meaning_in_use d.graph) l (starts_in (hierarchy_of d) origins) (ends_in (hierarchy_of d) copies) q.depart None arrival → arrival ≡ None
+      nowhere : (copies : List ℕ) → copies ≡ [] → (arrival : Option ℕ) → IsArrival (meaning_in_use d.graph) l (starts_in (hierarchy_searched d) origins) (ends_in (hierarchy_searched d) copies) q.depart None arrival → arrival ≡ None
       nowhere copies none None is = refl
       nowhere copies none (Some t) (least, _) =
-          absurd (let there = subst (λ (vs : List ℕ). Contains vs (node_under (hierarchy_of d) least.reached.end)) none (ends_under (hierarchy_of d) copies least.reached.end least.reached.ends_there) in let lt = there.1 in omega arith)
+          absurd (let there = subst (λ (vs : List ℕ). Contains vs (node_under (hierarchy_searched d) least.reached.end)) none (ends_under (hierarchy_searched d) copies least.reached.end least.reached.ends_there) in let lt = there.1 in omega arith)
 
-      at : (o : Option Query) (part : Part) → IsPartFor d.network.now (hierarchy_of d) ready.targets d.table.nodes.items o part → IsArrivalTo d.network.now q o (earliest_in times part)
+      at : (o : Option Query) (part : Part) → IsPartFor d.network.now (hierarchy_searched d) ready.targets d.table.nodes.items o part → IsArrivalTo d.network.now q o (earliest_in times part)
       at None part is =
-          nowhere is.copies is.are (earliest_in times part) (earliest_arrival (meaning_in_use d.graph) l (starts_in (hierarchy_of d) origins) q.depart d.network.now (hierarchy_of d) ready.targets d.table.nodes.items None part is times are)
+          nowhere is.copies is.are (earliest_in times part) (earliest_arrival (meaning_in_use d.graph) l (starts_in (hierarchy_searched d) origins) q.depart d.network.now (hierarchy_searched d) ready.targets d.table.nodes.items None part is times are)
       at (Some other) part is =
-          best_arrival d.network.now network (hierarchy_of d) ready.sound ready.targets (meaning_in_use d.graph) ready.in_use (asked_to q other) l denotes origins is.copies from is.are is.inside (earliest_in times part)
-          (earliest_arrival (meaning_in_use d.graph) l (starts_in (hierarchy_of d) origins) q.depart d.network.now (hierarchy_of d) ready.targets d.table.nodes.items (Some other) part is times are)
+          best_arrival d.network.now network (hierarchy_searched d) ready.sound ready.targets (meaning_in_use d.graph) ready.in_use (asked_to q other) l denotes origins is.copies from is.are is.inside (earliest_in times part)
+          (earliest_arrival (meaning_in_use d.graph) l (starts_in (hierarchy_searched d) origins) q.depart d.network.now (hierarchy_searched d) ready.targets d.table.nodes.items (Some other) part is times are)

@@ -16,11 +16,11 @@ use Rattle.journey.specs.Queries.{IsRefused}
 use Rattle.journey.specs.Best.{Asked, asked_by}
 use Rattle.planning.specs.Settled.{HasLabelCount, IsLabelCount, told_count}
 use Rattle.planning.specs.Limits.{SearchHasMore, SearchHasAtMost, IsLineWithin, IsWithinLabels}
-use Rattle.planning.specs.Searched.{IsSearched}
+use Rattle.planning.specs.Searched.{IsSearchSpace}
 use Rattle.planning.proofs.AnyGraph.{more_over}
 
 pub has_more : (n : NetworkLists) → IsNetwork n → (h : Option HierarchyLists) (q : Query) (g : GraphMeaning) (l : LabelsMeaning) (starts ends : List ℕ)
-    → (is : IsSearched n h q g l starts ends) → (most : ℕ) → HasMoreLabels g (collapsed l) starts ends q.depart None most → SearchHasMore n h (asked_by q) most
+    → (is : IsSearchSpace n h q g l starts ends) → (most : ℕ) → HasMoreLabels g (collapsed l) starts ends q.depart None most → SearchHasMore n h (asked_by q) most
 has_more n network h q g l starts ends is most more = record {
   automaton = l;
   positions = is.positions;

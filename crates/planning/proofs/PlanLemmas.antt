@@ -27,8 +27,9 @@ use Rattle.journey.specs.Queries.{IsQuery}
 use Rattle.journey.specs.Best.{Asked, Answers, asked_by}
 use Rattle.journey.specs.Ends.{HasTime}
 use Rattle.journey.specs.Blocks.{IsPrintable}
+use Rattle.journey.specs.Boarded.{BoardsOnTime}
 use Rattle.journey.proofs.CopyLemmas.{copy_in_range}
-use Rattle.unpack.specs.Unpacking.{IsSoon, end_of}
+use Rattle.unpack.specs.Unpacking.{IsSoon, node_after}
 use Rattle.unpack.specs.PhaseUnpacking.{letters_in}
 use Rattle.unpack.proofs.UnpackLemmas.{hops_in, hops_end_in, hops_letters_in}
 use Rattle.certificate.specs.Texts.{FitsResult}
@@ -37,7 +38,7 @@ use Rattle.certificate.specs.Verdicts.{claim_on}
 use Rattle.certificate.proofs.UniqueLemmas.{journey_once}
 use Rattle.certificate.proofs.VerifyLemmas.{best_result}
 use Rattle.planning.specs.Plans.{IsCertifiable, IsPlan, both, route_of}
-use Rattle.planning.specs.Searched.{IsSearched, IsWalkOf, IsUnder, TakesHops}
+use Rattle.planning.specs.Searched.{IsSearchSpace, IsWalkOf, IsJourneyUnder, LiesUnder}
 
 -- ---- numbers of the graph in use
 
@@ -65,7 +66,7 @@ module _ (n : NetworkLists) (h : Option HierarchyLists) (targets : List ℕ) (g 
 
 -- ---- what a search finds
 
-module _ (n : NetworkLists) (network : IsNetwork n) (h : Option HierarchyLists) (q : Query) (g : GraphMeaning) (l : LabelsMeaning) (starts ends : List ℕ) (s : IsSearched n h q g l starts ends) where
+module _ (n : NetworkLists) (network : IsNetwork n) (h : Option HierarchyLists) (q : Query) (g : GraphMeaning) (l : LabelsMeaning) (starts ends : List ℕ) (s : IsSearchSpace n h q g l starts ends) where
   -- a walk that leaves later is one that waits first
   waited : (d t : ℕ) → q.depart ≤ d → ArrivesAt g (collapsed l) starts ends d t → ArrivesAt g (collapsed l) starts ends q.depart t
   waited d t later a = record {
@@ -96,7 +97,7 @@ module _ (n : NetworkLists) (network : IsNetwork n) (h : Option HierarchyLists) 
   has_time (Ride trip day board alight) soon = tt
 
   -- the journey under a walk that counts answers
-  walk_answers : (a : ℕ) (w : Walk) (j : Route) → IsWalkTo g (collapsed l) starts ends q.depart a w → TakesHops n h g w j → Answers n (asked_by q) j a
+  walk_answers : (a : ℕ) (w : Walk) (j : Route) → IsWalkTo g (collapsed l) starts ends q.depart a w → LiesUnder n h g w j → Answers n (asked_by q) j a
   walk_answers a w j is takes =
       let real = takes.unpacked in
       let at_end = hops_end_in g (collapsed l) w.hops.items w.node w.state w.at is.end is.final a is.hops in
@@ -115,7 +116,7 @@ module _ (n : NetworkLists) (network : IsNetwork n) (h : Option HierarchyLists) 
         real = record {
           letters = real.letters;
           steps = subst (λ x. AreSteps n j.start j.at j.steps (node_under h x) a real.letters) at_end.0
-              (subst (λ y. AreSteps n j.start j.at j.steps (node_under h (end_of w.node w.hops.items)) y real.letters) at_end.1 real.real);
+              (subst (λ y. AreSteps n j.start j.at j.steps (node_under h (node_after w.node w.hops.items)) y real.letters) at_end.1 real.real);
           word_is = refl;
         };
         ends_at_copy = (s.destination.are (node_under h is.end)).0 to;
@@ -123,7 +124,7 @@ module _ (n : NetworkLists) (network : IsNetwork n) (h : Option HierarchyLists) 
       }
 
   -- and it can be printed
-  walk_printable : (w : Walk) (j : Route) (a : ℕ) → Answers n (asked_by q) j a → q.depart < 2 ^ 64 → w.at ≡ q.depart → TakesHops n h g w j → IsPrintable n j
+  walk_printable : (w : Walk) (j : Route) (a : ℕ) → Answers n (asked_by q) j a → q.depart < 2 ^ 64 → w.at ≡ q.depart → LiesUnder n h g w j → IsPrintable n j
   walk_printable w j a answers soon leaves takes = record {
     node = copy_in_range n network q.from j.start answers.starts_at_copy;
     times = record { at = (let same = takes.at ∙ leaves in omega arith); waits = λ k d lt. has_time (slice_index_or j.steps k d) (takes.soon k d lt) };
@@ -145,18 +146,18 @@ module _ (n : NetworkLists) (network : IsNetwork n) (h : Option HierarchyLists) 
     pub same : claimed_arrival (both arrival j) ≡ arrival
 
   best_found : (a : ℕ) (w : Walk) (j : Route) → IsArrival g (collapsed l) starts ends q.depart None (Some a) → IsWalkTo g (collapsed l) starts ends q.depart a w
-      → q.depart < 2 ^ 64 → a ≤ last_time q.depart → TakesHops n h g w j → IsFoundFor (Some a) (Some j)
+      → q.depart < 2 ^ 64 → a ≤ last_time q.depart → LiesUnder n h g w j → IsFoundFor (Some a) (Some j)
   best_found a w j least is soon in_time takes =
       let answers = walk_answers a w j is takes in
       let printable = walk_printable w j a answers soon is.leaves takes in
       let best = best_of (Some (a, j)) answers least in
-      let boarded = record { end = _; arrival = _; letters = _; are = takes.unpacked.boarded } in
+      let boarded : BoardsOnTime n j = record { end = _; arrival = _; letters = _; are = takes.unpacked.boarded } in
       record { plan = (best.0, printable, boarded); holds = answers; fits = (omega arith, printable.times); same = refl }
 
   -- what a search found
   pub found_for : (arrival : Option ℕ) (walk : Option Walk) (j : Option Route) → IsArrival g (collapsed l) starts ends q.depart None arrival
       → IsWalkFor g (collapsed l) starts ends q.depart arrival walk → q.depart < 2 ^ 64 → IfSome arrival (λ a. a ≤ last_time q.depart)
-      → IsUnder n h g walk j → IsFoundFor arrival j
+      → IsJourneyUnder n h g walk j → IsFoundFor arrival j
   found_for None None None none is soon in_time under = record { plan = best_of None tt none; holds = tt; fits = tt; same = refl }
   found_for None None (Some j) none is soon in_time under = absurd under
   found_for None (Some w) j none is soon in_time under = absurd is
@@ -166,7 +167,7 @@ module _ (n : NetworkLists) (network : IsNetwork n) (h : Option HierarchyLists) 
 
   -- its journey alone
   same_route : (arrival : Option ℕ) (walk : Option Walk) (j : Option Route) → IsWalkFor g (collapsed l) starts ends q.depart arrival walk
-      → IsUnder n h g walk j → route_of (both arrival j) ≡ j
+      → IsJourneyUnder n h g walk j → route_of (both arrival j) ≡ j
   same_route None None None is under = refl
   same_route None None (Some j) is under = absurd under
   same_route None (Some w) j is under = absurd is
@@ -176,7 +177,7 @@ module _ (n : NetworkLists) (network : IsNetwork n) (h : Option HierarchyLists) 
 
   pub plan_for : (arrival : Option ℕ) (walk : Option Walk) (j : Option Route) → IsArrival g (collapsed l) starts ends q.depart None arrival
       → IsWalkFor g (collapsed l) starts ends q.depart arrival walk → q.depart < 2 ^ 64 → IfSome arrival (λ a. a ≤ last_time q.depart)
-      → IsUnder n h g walk j → IsPlan n (asked_by q) j
+      → IsJourneyUnder n h g walk j → IsPlan n (asked_by q) j
   plan_for arrival walk j least is soon in_time under = subst (IsPlan n (asked_by q)) (same_route arrival walk j is under) (found_for arrival walk j least is soon in_time under).plan
 
 -- what was found for a query proves what its certificate claims

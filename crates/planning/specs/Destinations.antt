@@ -47,16 +47,16 @@ pub record AreListed (n : NetworkLists) (h : Option HierarchyLists) (queries : L
   pub are : ArePartsFor n h l.targets.items l.numbers.items queries l.parts.items (length queries)
 
 -- the hierarchy that destinations are searched over, if there is one
-abbrev pub hierarchy_of : Destinations → Option HierarchyLists
-hierarchy_of d = option_map (λ (h : Bor Hierarchy). h.now) d.hierarchy
+abbrev pub hierarchy_searched : Destinations → Option HierarchyLists
+hierarchy_searched d = option_map (λ (h : Bor Hierarchy). h.now) d.hierarchy
 
 -- the graph in use is that for the copies of all destinations, and the table has their numbers in it
 pub record AreDestinations (d : Destinations) : Type 0 where
-  pub sound : IsSoundIfGiven d.network.now (hierarchy_of d)
+  pub sound : IsSoundIfGiven d.network.now (hierarchy_searched d)
   pub targets : List ℕ
-  pub in_use : IsInUse d.network.now (hierarchy_of d) targets (meaning_in_use d.graph)
+  pub in_use : IsInUse d.network.now (hierarchy_searched d) targets (meaning_in_use d.graph)
   pub one_each : length d.parts.items ≡ length d.queries.now
-  pub are : ArePartsFor d.network.now (hierarchy_of d) targets d.table.nodes.items d.queries.now d.parts.items (length d.queries.now)
+  pub are : ArePartsFor d.network.now (hierarchy_searched d) targets d.table.nodes.items d.queries.now d.parts.items (length d.queries.now)
 
 -- ---- the earliest of some times
 

@@ -16,7 +16,7 @@ use Rattle.journey.specs.CopyLists.{AreTheCopies}
 use Rattle.journey.specs.Best.{Asked, Asks, IsToldBlock}
 use Rattle.journey.specs.Large.{stopped_block}
 use Rattle.planning.specs.Plans.{AreTheLabels}
-use Rattle.planning.specs.Settled.{IsSettledBy}
+use Rattle.planning.specs.Settled.{IsSettledCount}
 
 -- the search for what is asked has more labels than so many, over each graph in use
 pub record SearchHasMore (n : NetworkLists) (h : Option HierarchyLists) (q : Asked) (limit : ℕ) : Type 0 where
@@ -54,4 +54,4 @@ IsBlockWithin n h limit line block = IsWithinLabels n h limit line (λ most. blo
 
 -- how many labels the search for a line has; one that is stopped counts none
 abbrev pub IsSettledWithin : NetworkLists → Option HierarchyLists → Option ℕ → List ℕ → ℕ → Type 0
-IsSettledWithin n h limit line count = IsWithinLabels n h limit line (λ most. count ≡ 0) (IsSettledBy n h line count)
+IsSettledWithin n h limit line count = IsWithinLabels n h limit line (λ most. count ≡ 0) (IsSettledCount n h line count)

@@ -4,7 +4,7 @@ use Rattle.mode_expression.specs.Form.{form_of}
 use Rattle.search_laws.specs.GraphLaws.{GraphMeaning}
 use Rattle.search_laws.specs.LabelLaws.{LabelsMeaning, IsLawfulLabels}
 use Rattle.product_search.specs.declared.label.Walk.{Walk}
-use Rattle.unpack.specs.Unpacking.{AreHopsIn, IsSoon, end_of, arrival_of}
+use Rattle.unpack.specs.Unpacking.{AreHopsIn, IsSoon, node_after, arrival_after}
 use Rattle.unpack.specs.PhaseUnpacking.{IsUnpacked, letters_in}
 use Rattle.automaton.specs.Written.{written}
 use Rattle.automaton.specs.States.{IsPositionAutomaton}
@@ -18,7 +18,7 @@ use Rattle.journey.specs.CopyLists.{AreTheCopies}
 use Rattle.certificate.specs.Verdicts.{AreDenoted}
 
 -- What a search for a query goes over: the graph in use, from the starts to the ends, and an automaton of the expression.
-pub record IsSearched (n : NetworkLists) (h : Option HierarchyLists) (q : Query) (g : GraphMeaning) (l : LabelsMeaning) (starts ends : List ℕ) : Type 0 where
+pub record IsSearchSpace (n : NetworkLists) (h : Option HierarchyLists) (q : Query) (g : GraphMeaning) (l : LabelsMeaning) (starts ends : List ℕ) : Type 0 where
   pub sound : IsSoundIfGiven n h
   pub origins : List ℕ
   pub targets : List ℕ
@@ -39,15 +39,15 @@ IsWalkOf g None = Unit {0}
 IsWalkOf g (Some walk) = AreHopsIn g walk.node walk.at walk.hops.items
 
 -- the journey is the one under the walk: it starts where the walk does, and is unpacked from its hops
-pub record TakesHops (n : NetworkLists) (h : Option HierarchyLists) (g : GraphMeaning) (walk : Walk) (j : Route) : Type 0 where
+pub record LiesUnder (n : NetworkLists) (h : Option HierarchyLists) (g : GraphMeaning) (walk : Walk) (j : Route) : Type 0 where
   pub start : j.start ≡ node_under h walk.node
   pub at : j.at ≡ walk.at
-  pub unpacked : IsUnpacked n j.start j.at j.steps (node_under h (end_of walk.node walk.hops.items)) (arrival_of walk.at walk.hops.items) (letters_in g walk.node walk.hops.items)
+  pub unpacked : IsUnpacked n j.start j.at j.steps (node_under h (node_after walk.node walk.hops.items)) (arrival_after walk.at walk.hops.items) (letters_in g walk.node walk.hops.items)
   pub soon : All IsSoon j.steps
 
 -- the journey under a walk, if there is one
-abbrev pub IsUnder : NetworkLists → Option HierarchyLists → GraphMeaning → Option Walk → Option Route → Type 0
-IsUnder n h g None None = Unit {0}
-IsUnder n h g None (Some j) = ⊥
-IsUnder n h g (Some walk) None = ⊥
-IsUnder n h g (Some walk) (Some j) = TakesHops n h g walk j
+abbrev pub IsJourneyUnder : NetworkLists → Option HierarchyLists → GraphMeaning → Option Walk → Option Route → Type 0
+IsJourneyUnder n h g None None = Unit {0}
+IsJourneyUnder n h g None (Some j) = ⊥
+IsJourneyUnder n h g (Some walk) None = ⊥
+IsJourneyUnder n h g (Some walk) (Some j) = LiesUnder n h g walk j

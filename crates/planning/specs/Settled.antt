@@ -22,11 +22,11 @@ told_count None labels = 0
 told_count (Some h) labels = labels
 
 -- that of the query of a line; none where the line is refused
-abbrev pub IsSettledBy : NetworkLists → Option HierarchyLists → List ℕ → ℕ → Type 0
-IsSettledBy n h line count =
+abbrev pub IsSettledCount : NetworkLists → Option HierarchyLists → List ℕ → ℕ → Type 0
+IsSettledCount n h line count =
     ((fault : QueryFault) × IsRefused n line fault × (count ≡ 0)) ⊎ ((asked : Asked) × Asks n line asked × IsLabelCount n h asked count)
 
 -- and the sum of these over some lines
 abbrev pub Settled : NetworkLists → Option HierarchyLists → List (List ℕ) → ℕ → Type 0
 Settled n h [] sum = sum ≡ 0
-Settled n h (line ∷ lines) sum = (count : ℕ) × (rest : ℕ) × IsSettledBy n h line count × Settled n h lines rest × (sum ≡ count + rest)
+Settled n h (line ∷ lines) sum = (count : ℕ) × (rest : ℕ) × IsSettledCount n h line count × Settled n h lines rest × (sum ≡ count + rest)

@@ -5,7 +5,7 @@ ghost use Rattle.hierarchy.specs.Soundness.{IsSound};
 ghost use Rattle.journey.specs.Best.{IsBoardedBody, IsRightBody, IsToldBlock};
 ghost use Rattle.journey.specs.Blocks.{IsBlockText, IsPrintableBody};
 ghost use Rattle.planning.specs.Limits.{IsBlockWithin, IsLineWithin, IsSettledWithin, IsStoppedLine};
-ghost use Rattle.planning.specs.Settled.{IsSettledBy};
+ghost use Rattle.planning.specs.Settled.{IsSettledCount};
 ghost use Rattle.product_search.specs.Limits.{IfEnded, IfStopped};
 
 use crate::plans::{BestPlan, find_best_within};
@@ -30,7 +30,8 @@ fn body(
     ensures right { IfEnded result (λ it. IsRightBody network.now line.now it.0) }
     ensures boarded { IfEnded result (λ it. IsBoardedBody network.now it.0) }
     ensures printable { IfEnded result (λ it. IsPrintableBody network.now it.0) }
-    ensures settled { IfEnded result (λ it. IsSettledBy network.now (option_map (λ h. h.now) hierarchy.entry) line.now it.1) }
+    ensures settled { IfEnded result (λ it. IsSettledCount network.now
+        (option_map (λ h. h.now) hierarchy.entry) line.now it.1) }
     ensures few { IfEnded result (λ it. IfSome limit (λ most. IsLineWithin network.now
         (option_map (λ h. h.now) hierarchy.entry) most line.now)) }
     ensures stopped { IfStopped result (λ most. (limit ≡ Some most)
@@ -64,7 +65,8 @@ pub fn block_of(
 ) -> Result<(Vec<u8>, u64), AllocError>
     requires { IfSome hierarchy (λ h. IsSound network.now h.now) }
     ensures block { IfOk result (λ it. IsToldBlock network.now line.now it.0.items) }
-    ensures settled { IfOk result (λ it. IsSettledBy network.now (option_map (λ h. h.now) hierarchy.entry) line.now it.1) }
+    ensures settled { IfOk result (λ it. IsSettledCount network.now (option_map (λ h. h.now) hierarchy.entry)
+        line.now it.1) }
 {
     block_within(alloc, room, network, hierarchy, line, None)
 }
@@ -80,8 +82,10 @@ pub fn block_within(
     limit: Option<u64>,
 ) -> Result<(Vec<u8>, u64), AllocError>
     requires { IfSome hierarchy (λ h. IsSound network.now h.now) }
-    ensures block { IfOk result (λ it. IsBlockWithin network.now (option_map (λ h. h.now) hierarchy.entry) limit line.now it.0.items) }
-    ensures settled { IfOk result (λ it. IsSettledWithin network.now (option_map (λ h. h.now) hierarchy.entry) limit line.now it.1) }
+    ensures block { IfOk result (λ it. IsBlockWithin network.now (option_map (λ h. h.now) hierarchy.entry)
+        limit line.now it.0.items) }
+    ensures settled { IfOk result (λ it. IsSettledWithin network.now (option_map (λ h. h.now) hierarchy.entry)
+        limit line.now it.1) }
 {
     match body(alloc, room, network, hierarchy, line, limit)? {
         Limited::Ended((body, settled)) => {

@@ -84,7 +84,8 @@ impl<'a> Destinations<'a> {
     ) -> Result<Vec<Option<Time>>, AllocError>
         requires ready { AreDestinations self.now }
         requires read { IsRead self.now.network.now query.now }
-        ensures { IfOk result (λ times. AreArrivalsTo self.now.network.now query.now self.now.queries.now times.items) }
+        ensures { IfOk result (λ times. AreArrivalsTo self.now.network.now query.now self.now.queries.now
+            times.items) }
     {
         self.network.known();
         let expressed = room.take(alloc, query)?;

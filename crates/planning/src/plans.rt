@@ -7,7 +7,7 @@ ghost use Rattle.journey.specs.Best.{asked_by};
 ghost use Rattle.phase_graph.specs.InUseGraph.{meaning_in_use, network_in, hierarchy_in};
 ghost use Rattle.planning.specs.Arrivals.{IsBestArrival};
 ghost use Rattle.planning.specs.Plans.{IsRead, IsPlan, AreTheLabels, IsCertifiable, both, route_of};
-ghost use Rattle.planning.specs.Searched.{IsSearched, IsWalkOf, IsUnder};
+ghost use Rattle.planning.specs.Searched.{IsSearchSpace, IsWalkOf, IsJourneyUnder};
 ghost use Rattle.planning.specs.Settled.{HasLabelCount, IsLabelCount, told_count};
 ghost use Rattle.planning.specs.Limits.{SearchHasAtMost, SearchHasMore};
 ghost use Rattle.product_search.specs.Limits.{IfEnded, IfStopped};
@@ -60,7 +60,8 @@ pub fn find_best(
     requires sound { IfSome hierarchy (λ h. IsSound network.now h.now) }
     requires read { IsRead network.now query.now }
     ensures journey { IfOk result (λ best. IsPlan network.now (asked_by query.now) best.journey) }
-    ensures settled { IfOk result (λ best. IsLabelCount network.now (option_map (λ h. h.now) hierarchy.entry) (asked_by query.now) best.settled) }
+    ensures settled { IfOk result (λ best. IsLabelCount network.now (option_map (λ h. h.now) hierarchy.entry)
+        (asked_by query.now) best.settled) }
 {
     let found = find_best_within(alloc, room, network, hierarchy, query, None)?;
     Ok(found.into_answer())
@@ -80,8 +81,10 @@ pub fn find_best_within(
     requires sound { IfSome hierarchy (λ h. IsSound network.now h.now) }
     requires read { IsRead network.now query.now }
     ensures journey { IfEnded result (λ best. IsPlan network.now (asked_by query.now) best.journey) }
-    ensures settled { IfEnded result (λ best. IsLabelCount network.now (option_map (λ h. h.now) hierarchy.entry) (asked_by query.now) best.settled) }
-    ensures few { IfEnded result (λ best. IfSome limit (SearchHasAtMost network.now (option_map (λ h. h.now) hierarchy.entry) (asked_by query.now))) }
+    ensures settled { IfEnded result (λ best. IsLabelCount network.now
+        (option_map (λ h. h.now) hierarchy.entry) (asked_by query.now) best.settled) }
+    ensures few { IfEnded result (λ best. IfSome limit (SearchHasAtMost network.now
+        (option_map (λ h. h.now) hierarchy.entry) (asked_by query.now))) }
     ensures stopped { IfStopped result (λ most. (limit ≡ Some most)
         × SearchHasMore network.now (option_map (λ h. h.now) hierarchy.entry) (asked_by query.now) most) }
 {
@@ -182,7 +185,8 @@ fn find_counted(
     requires sound { IfSome hierarchy (λ h. IsSound network.now h.now) }
     requires read { IsRead network.now query.now }
     ensures journey { IfEnded result (λ best. IsPlan network.now (asked_by query.now) best.journey) }
-    ensures labels { IfEnded result (λ best. HasLabelCount network.now (option_map (λ h. h.now) hierarchy.entry) (asked_by query.now) best.settled) }
+    ensures labels { IfEnded result (λ best. HasLabelCount network.now
+        (option_map (λ h. h.now) hierarchy.entry) (asked_by query.now) best.settled) }
     ensures few { IfEnded result (λ best. IfSome limit (λ most. best.settled ≤ most)) }
     ensures stopped { IfStopped result (λ most. (limit ≡ Some most)
         × SearchHasMore network.now (option_map (λ h. h.now) hierarchy.entry) (asked_by query.now) most) }
@@ -231,8 +235,10 @@ pub fn find_plan(
     requires sound { IfSome hierarchy (λ h. IsSound network.now h.now) }
     requires read { IsRead network.now query.now }
     ensures journey { IfOk result (λ found. IsPlan network.now (asked_by query.now) (route_of found.best)) }
-    ensures labels { IfOk result (λ found. AreTheLabels network.now (option_map (λ h. h.now) hierarchy.entry) (asked_by query.now) found.labels.items) }
-    ensures certifiable { IfOk result (λ found. IsCertifiable network.now (option_map (λ h. h.now) hierarchy.entry) query.now found.best found.labels.items) }
+    ensures labels { IfOk result (λ found. AreTheLabels network.now (option_map (λ h. h.now) hierarchy.entry)
+        (asked_by query.now) found.labels.items) }
+    ensures certifiable { IfOk result (λ found. IsCertifiable network.now
+        (option_map (λ h. h.now) hierarchy.entry) query.now found.best found.labels.items) }
 {
     let found = find_plan_within(alloc, network, hierarchy, query, None)?;
     Ok(found.into_answer())
@@ -249,9 +255,12 @@ pub fn find_plan_within(
 ) -> Result<Limited<FoundPlan>, AllocError>
     requires sound { IfSome hierarchy (λ h. IsSound network.now h.now) }
     requires read { IsRead network.now query.now }
-    ensures journey { IfEnded result (λ found. IsPlan network.now (asked_by query.now) (route_of found.best)) }
-    ensures labels { IfEnded result (λ found. AreTheLabels network.now (option_map (λ h. h.now) hierarchy.entry) (asked_by query.now) found.labels.items) }
-    ensures certifiable { IfEnded result (λ found. IsCertifiable network.now (option_map (λ h. h.now) hierarchy.entry) query.now found.best found.labels.items) }
+    ensures journey { IfEnded result (λ found. IsPlan network.now (asked_by query.now)
+        (route_of found.best)) }
+    ensures labels { IfEnded result (λ found. AreTheLabels network.now
+        (option_map (λ h. h.now) hierarchy.entry) (asked_by query.now) found.labels.items) }
+    ensures certifiable { IfEnded result (λ found. IsCertifiable network.now
+        (option_map (λ h. h.now) hierarchy.entry) query.now found.best found.labels.items) }
     ensures few { IfEnded result (λ found. IfSome limit (λ most. length found.labels.items ≤ most)) }
     ensures stopped { IfStopped result (λ most. (limit ≡ Some most)
         × SearchHasMore network.now (option_map (λ h. h.now) hierarchy.entry) (asked_by query.now) most) }
@@ -292,8 +301,9 @@ fn prepared<'a>(
 ) -> Result<Searched<'a>, AllocError>
     requires sound { IfSome hierarchy (λ h. IsSound network.now h.now) }
     requires read { IsRead network.now query.now }
-    ensures is { IfOk result (λ s. IsSearched network.now (option_map (λ h. h.now) hierarchy.entry) query.now
-        (meaning_in_use s.graph) (position_meaning s.expressed.machine.labels.inner) s.starts.items s.ends.items) }
+    ensures is { IfOk result (λ s. IsSearchSpace network.now (option_map (λ h. h.now) hierarchy.entry)
+        query.now (meaning_in_use s.graph) (position_meaning s.expressed.machine.labels.inner) s.starts.items
+        s.ends.items) }
     ensures network { IfOk result (λ s. network_in s.graph ≡ network.now) }
     ensures hierarchy { IfOk result (λ s. hierarchy_in s.graph ≡ option_map (λ h. h.now) hierarchy.entry) }
 {
@@ -319,7 +329,8 @@ fn unpacked(
     walk: &Option<Walk>,
 ) -> Result<Option<Journey>, AllocError>
     requires { IsWalkOf (meaning_in_use graph.now) walk.now }
-    ensures { IfOk result (IsUnder (network_in graph.now) (hierarchy_in graph.now) (meaning_in_use graph.now) walk.now) }
+    ensures { IfOk result (IsJourneyUnder (network_in graph.now) (hierarchy_in graph.now)
+        (meaning_in_use graph.now) walk.now) }
 {
     match walk {
         Some(walk) => {

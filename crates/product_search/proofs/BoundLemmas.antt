@@ -8,7 +8,7 @@ use Rattle.search_laws.specs.Walks.{ArrivesAt}
 use Rattle.search_laws.proofs.WalkLemmas.{walk_rises, walk_known}
 use Rattle.product_search.specs.declared.label.Label.{Label}
 use Rattle.product_search.specs.Reach.{IsBefore}
-use Rattle.product_search.specs.Listed.{label_of, IsBelow, IsAscending}
+use Rattle.product_search.specs.Listed.{label_of, IsBelow, AreAscendingLabels}
 use Rattle.product_search.specs.Closed.{IsListedBy, IsInOrderAt, ArcIsListed, HoldsBelow, IsClosed, NoneArrivesBefore}
 use Rattle.product_search.proofs.CheckLemmas.{label_total}
 use Rattle.product_search.proofs.StartLemmas.{pairs_contain}
@@ -16,7 +16,7 @@ use Rattle.product_search.proofs.StartLemmas.{pairs_contain}
 -- ---- order
 
 -- each label is above the one before it, so it is above all before it
-pub ascending_in_order : (g : GraphMeaning) (l : LabelsMeaning) (arrival : Option ℕ) (list : List Label) → HoldsBelow (length list) (IsInOrderAt g l arrival list) → IsAscending list
+pub ascending_in_order : (g : GraphMeaning) (l : LabelsMeaning) (arrival : Option ℕ) (list : List Label) → HoldsBelow (length list) (IsInOrderAt g l arrival list) → AreAscendingLabels list
 ascending_in_order g l arrival list in_order i zero d lt in_range = absurd (omega arith)
 ascending_in_order g l arrival list in_order i (suc m) d lt in_range =
     let next : IsBelow (get_or list m d) (get_or list (suc m) d) = subst (λ k. IsBelow (get_or list k d) (get_or list (suc m) d)) (omega arith) ((in_order (suc m) in_range d).1 (omega arith)) in

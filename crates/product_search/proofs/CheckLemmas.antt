@@ -10,7 +10,7 @@ use Rattle.std.proofs.lemmas.List.{get_or_default}
 use Rattle.std.proofs.lemmas.List.Elements.{Contains-get_or}
 use Rattle.std.proofs.lemmas.Map.Lookups.{exact_pairs, exact_unsigned}
 use Rattle.product_search.specs.declared.label.Label.{Label}
-use Rattle.product_search.specs.Listed.{label_of, label_cmp, IsAscending}
+use Rattle.product_search.specs.Listed.{label_of, label_cmp, AreAscendingLabels}
 use Rattle.product_search.specs.Closed.{IsListedBy, HoldsBelow, FailsFirstAt}
 
 -- ---- the first place where a test fails
@@ -24,7 +24,7 @@ pub label_total : IsTotalOrder label_cmp
 label_total = then_total (on_total (λ (x : Label). x.node) nat_cmp_total) (on_total (λ (x : Label). x.state) nat_cmp_total)
 
 -- what is before a label that is below, is below
-pub below_up_to : (list : List Label) → IsAscending list → (m : ℕ) (x y d : Label) → m < length list → x ≡ get_or list m x → label_cmp x y ≡ Less
+pub below_up_to : (list : List Label) → AreAscendingLabels list → (m : ℕ) (x y d : Label) → m < length list → x ≡ get_or list m x → label_cmp x y ≡ Less
     → (i : ℕ) → i ≤ m → label_cmp (get_or list i d) y ≡ Less
 below_up_to list ascending m x y d lt is below i le = elim (cases_lt i m) [
   | inr ge ↦ (let e : i ≡ m = omega arith in rw e (subst (λ z. label_cmp z y ≡ Less) (is ∙ get_or_default list m x d lt) below))
@@ -39,7 +39,7 @@ reverse_less : (x y : Label) → label_cmp y x ≡ Less → label_cmp x y ≡ Gr
 reverse_less x y e = label_total.antisymm x y ∙ ap ordering_reverse e
 
 -- what is after a label that is above, is above
-pub above_from : (list : List Label) → IsAscending list → (m : ℕ) (x y d : Label) → m < length list → x ≡ get_or list m x → label_cmp x y ≡ Greater
+pub above_from : (list : List Label) → AreAscendingLabels list → (m : ℕ) (x y d : Label) → m < length list → x ≡ get_or list m x → label_cmp x y ≡ Greater
     → (i : ℕ) → m ≤ i → i < length list → label_cmp (get_or list i d) y ≡ Greater
 above_from list ascending m x y d lt is above i le in_range = elim (cases_lt m i) [
   | inr ge ↦ (let e : i ≡ m = omega arith in rw e (subst (λ z. label_cmp z y ≡ Greater) (is ∙ get_or_default list m x d lt) above))
@@ -56,7 +56,7 @@ same_tied : (v q s t : ℕ) → label_cmp (label_of v q s) (label_of v q t) ≡ 
 same_tied v q s t = grind (arith, nat_tests)
 
 -- the label that was found is the one of its product state
-pub found_is : (list : List Label) → IsAscending list → (m : ℕ) (x : Label) (v q t : ℕ) → m < length list → x ≡ get_or list m x → label_cmp x (label_of v q t) ≡ Equal
+pub found_is : (list : List Label) → AreAscendingLabels list → (m : ℕ) (x : Label) (v q t : ℕ) → m < length list → x ≡ get_or list m x → label_cmp x (label_of v q t) ≡ Equal
     → (b : Bool) → (IsTrue b ↔ (x.at ≤ t)) → IsTrue b ↔ IsListedBy list v q t
 found_is list ascending m x v q t lt is equal b test = (λ yes. (x.at, test.0 yes, there), λ listed. test.1 (late listed)) where
   same : x ≡ label_of v q x.at

@@ -21,7 +21,7 @@ use Rattle.product_search.specs.Reach.{IsReachedAt, IsWithin, IsToList}
 use Rattle.product_search.specs.Answer.{IsArrival}
 use Rattle.product_search.specs.Waiting.{reached_at, KeepsNumbers, IsQueueRight, NobodyWaits, SameReached, SettlesLeast, is_same}
 use Rattle.product_search.specs.Exploring.{IsSettledBy, Offers, IsStartAmong, IsSuccessor, StartIsReached}
-use Rattle.product_search.specs.Searching.{unsettled, unsettled_at, count_unless, is_settled, IsTracedTo, IsSearching, IsSearched, IsSettledAt, IsEnd, IsExplored, arrival_of}
+use Rattle.product_search.specs.Searching.{unsettled, unsettled_at, count_unless, is_settled, IsTracedTo, IsSearching, IsSearched, IsSettledAt, IsEnd, IsExplored, end_arrival}
 use Rattle.product_search.proofs.QueueLemmas.{same_parts}
 use Rattle.product_search.proofs.OfferLemmas.{offers_none}
 use Rattle.product_search.proofs.SumLemmas.{sum_below-le}
@@ -160,7 +160,7 @@ module _ (g : GraphMeaning) (l : LabelsMeaning) (starts targets : List ℕ) (dep
       }) (listed t (omega arith)) in
       searched.no_end arrives.end word.1 known.0 known.1 known.2 (listed (known.0).at known.3) arrives.ends_there word.5
 
-  pub arrives : (end : Option Settled) → IsExplored g l starts targets dep bound f end → IsArrival g l starts targets dep bound (arrival_of end)
+  pub arrives : (end : Option Settled) → IsExplored g l starts targets dep bound f end → IsArrival g l starts targets dep bound (end_arrival end)
   arrives None searched = λ t within arrival. none_listed None searched t arrival (λ u le. within_down bound u t le within)
   arrives (Some s) (searched, end) =
       (record { reached = there; least = earliest }, subst (λ t. IsWithin bound t) (sym end.at) (searched.within s.node s.state (end.entry) end.known)) where

@@ -3,7 +3,7 @@ use Rattle.std.proofs.Common.{◌≡◌, ℕ, inl, inr, List, [], ◌++◌, sym,
 use Rattle.std.specs.Prelude.{Option, All, Contains}
 use Rattle.std.proofs.lemmas.List.Elements.{All-weaker, All-contains}
 use Rattle.search_laws.specs.LabelLaws.{LabelsMeaning, AllAfter}
-use Rattle.search_laws.specs.Fresh.{Knows, IsAsGood, HasAsGood, RunRides, AreFresh, AreMoving, AddsMoving}
+use Rattle.search_laws.specs.Fresh.{HoldsRun, IsAsGood, HasAsGood, RunRides, AreFresh, AreMoving, AddsMoving}
 use Rattle.search_laws.specs.declared.graph.GraphArc.{GraphArc}
 use Rattle.search_laws.specs.declared.graph.Way.{Way}
 use Rattle.search_laws.specs.declared.given.GivenRun.{GivenRun}
@@ -47,7 +47,7 @@ module _ (l : LabelsMeaning) (bound : Option ℕ) where
 
   module _ (rides : RunRides) where
     -- at first no state was given anything
-    pub none_given : (f : Frontier) (given : GivenRuns) → ((run : GivenRun) → Knows given run → ⊥) → AreGivenReached rides l bound f given
+    pub none_given : (f : Frontier) (given : GivenRuns) → ((run : GivenRun) → HoldsRun given run → ⊥) → AreGivenReached rides l bound f given
     none_given f given none q way was = absurd (none was.run was.known)
 
     -- what was given stays reached where all that is reached does

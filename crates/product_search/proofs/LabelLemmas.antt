@@ -7,15 +7,15 @@ use Rattle.search_laws.specs.GraphLaws.{GraphMeaning}
 use Rattle.search_laws.specs.LabelLaws.{LabelsMeaning}
 use Rattle.product_search.specs.declared.label.Label.{Label}
 use Rattle.product_search.specs.Reach.{IsLeastAt, IsToList}
-use Rattle.product_search.specs.Listed.{IsBelow, IsAscending, AreLeastLabels}
+use Rattle.product_search.specs.Listed.{IsBelow, AreAscendingLabels, AreLeastLabels}
 use Rattle.product_search.proofs.CheckLemmas.{label_total}
 
 -- ---- ascending lists with the same labels
 
-tail_ascends : (x : Label) (xs : List Label) → IsAscending (x ∷ xs) → IsAscending xs
+tail_ascends : (x : Label) (xs : List Label) → AreAscendingLabels (x ∷ xs) → AreAscendingLabels xs
 tail_ascends x xs ascending i j d lt in_range = ascending (suc i) (suc j) d (omega arith) (omega arith)
 
-head_below : (x : Label) (xs : List Label) → IsAscending (x ∷ xs) → (y : Label) → Contains xs y → IsBelow x y
+head_below : (x : Label) (xs : List Label) → AreAscendingLabels (x ∷ xs) → (y : Label) → Contains xs y → IsBelow x y
 head_below x xs ascending y (k, lt, is) = subst (λ z. IsBelow x z) is (ascending zero (suc k) y (omega arith) (omega arith))
 
 head_or_tail : (x : Label) (xs : List Label) (y : Label) → Contains (x ∷ xs) y → (x ≡ y) ⊎ Contains xs y
@@ -31,7 +31,7 @@ not_both x y below above = let e : Less ≡ ordering_reverse Less = sym below �
 abbrev pub SubList : List Label → List Label → Type 0
 SubList xs ys = (z : Label) → Contains xs z → Contains ys z
 
-same_head : (x y : Label) (xs ys : List Label) → IsAscending (x ∷ xs) → IsAscending (y ∷ ys) → SubList (x ∷ xs) (y ∷ ys) → SubList (y ∷ ys) (x ∷ xs) → x ≡ y
+same_head : (x y : Label) (xs ys : List Label) → AreAscendingLabels (x ∷ xs) → AreAscendingLabels (y ∷ ys) → SubList (x ∷ xs) (y ∷ ys) → SubList (y ∷ ys) (x ∷ xs) → x ≡ y
 same_head x y xs ys up above there back = elim (head_or_tail y ys x (there x (0, (omega arith), refl))) [
   | inl e ↦ sym e
   | inr below ↦ elim (head_or_tail x xs y (back y (0, (omega arith), refl))) [
@@ -40,13 +40,13 @@ same_head x y xs ys up above there back = elim (head_or_tail y ys x (there x (0,
   ]
 ]
 
-tails : (x y : Label) (xs ys : List Label) → x ≡ y → IsAscending (x ∷ xs) → SubList (x ∷ xs) (y ∷ ys) → SubList xs ys
+tails : (x y : Label) (xs ys : List Label) → x ≡ y → AreAscendingLabels (x ∷ xs) → SubList (x ∷ xs) (y ∷ ys) → SubList xs ys
 tails x y xs ys same up there z has = elim (head_or_tail y ys z (there z (in_tail x xs z has))) [
   | inr in_ys ↦ in_ys
   | inl e ↦ (let below : IsBelow x x = subst (λ w. IsBelow x w) (sym (same ∙ e)) (head_below x xs up z has) in not_both x x below below)
 ]
 
-same_lists : (xs ys : List Label) → IsAscending xs → IsAscending ys → SubList xs ys → SubList ys xs → xs ≡ ys
+same_lists : (xs ys : List Label) → AreAscendingLabels xs → AreAscendingLabels ys → SubList xs ys → SubList ys xs → xs ≡ ys
 same_lists [] [] up above there back = refl
 same_lists [] (y ∷ ys) up above there back = let h = back y (0, (omega arith), refl) in absurd (omega (arith, h.1))
 same_lists (x ∷ xs) [] up above there back = let h = there x (0, (omega arith), refl) in absurd (omega (arith, h.1))
@@ -56,7 +56,7 @@ same_lists (x ∷ xs) (y ∷ ys) up above there back =
     ap (λ z. z ∷ xs) head ∙ ap (λ zs. y ∷ zs) tail
 
 -- where the first of some labels is behind y, so are they all
-past : (x y : Label) (xs ys : List Label) → IsAscending (x ∷ xs) → IsAscending (y ∷ ys) → Contains ys x → SubList (x ∷ xs) (y ∷ ys) → SubList (x ∷ xs) ys
+past : (x y : Label) (xs ys : List Label) → AreAscendingLabels (x ∷ xs) → AreAscendingLabels (y ∷ ys) → Contains ys x → SubList (x ∷ xs) (y ∷ ys) → SubList (x ∷ xs) ys
 past x y xs ys up above below there z has = elim (head_or_tail y ys z (there z has)) [
   | inr in_ys ↦ in_ys
   | inl e ↦ elim (head_or_tail x xs z has) [
@@ -66,7 +66,7 @@ past x y xs ys up above below there z has = elim (head_or_tail y ys z (there z h
 ]
 
 -- a list whose labels are all in another one is no longer
-pub no_longer : (xs ys : List Label) → IsAscending xs → IsAscending ys → SubList xs ys → length xs ≤ length ys
+pub no_longer : (xs ys : List Label) → AreAscendingLabels xs → AreAscendingLabels ys → SubList xs ys → length xs ≤ length ys
 no_longer [] ys up above there = omega arith
 no_longer (x ∷ xs) [] up above there = let h = there x (0, (omega arith), refl) in absurd (omega (arith, h.1))
 no_longer (x ∷ xs) (y ∷ ys) up above there = elim (head_or_tail y ys x (there x (0, (omega arith), refl))) [

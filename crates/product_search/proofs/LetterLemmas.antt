@@ -9,6 +9,7 @@ use Rattle.std.proofs.Math.Nat.{div-eq_of_lt}
 use Rattle.std.proofs.lemmas.Bool.{cases_lt}
 use Rattle.std.proofs.lemmas.Nat.{bit_set_by_shift, leading_length}
 use Rattle.std.proofs.lemmas.Nat.Bits.{bit_at_or, shr_and_one}
+use Rattle.search_laws.specs.Letters.{IsLetterSet, letter_count}
 use Rattle.search_laws.specs.LabelLaws.{LabelsMeaning}
 use Rattle.product_search.specs.MoveTables.{HasLettersBelow, HasLeavingBelow}
 
@@ -51,7 +52,7 @@ letter_below letters m c small set = elim (cases_lt c m) [
 ]
 
 -- where a set of the fourteen letters ends
-pub few_letters : (letters : ℕ) → letters < 2 ^ 14 → 32 - count_leading_zeros 32 letters ≤ 14
+pub few_letters : (letters : ℕ) → IsLetterSet letters → 32 - count_leading_zeros 32 letters ≤ letter_count
 few_letters letters small =
     let it = leading_length 32 letters (omega arith) in
     elim (cases_lt it.0 15) [
@@ -59,7 +60,7 @@ few_letters letters small =
       | inr ge ↦ absurd (omega (arith, pow_mono {i = 15} {j = it.0} ge, it.3))
     ]
 
-pub letters_below : (letters c : ℕ) → letters < 2 ^ 14 → IsBitSet letters c → c < 32 - count_leading_zeros 32 letters
+pub letters_below : (letters c : ℕ) → IsLetterSet letters → IsBitSet letters c → c < 32 - count_leading_zeros 32 letters
 letters_below letters c small set =
     let it = leading_length 32 letters (omega arith) in
     let below = letter_below letters it.0 c it.2 set in

@@ -21,7 +21,7 @@ use Rattle.product_search.specs.declared.frontier.Reached.{Reached}
 use Rattle.product_search.specs.declared.frontier.Frontier.{Frontier}
 use Rattle.product_search.specs.declared.row.Row.{Row}
 use Rattle.product_search.specs.Reach.{IsReachedAt, IsLeastAt, IsWithin, IsToList, is_before}
-use Rattle.product_search.specs.Listed.{label_of, label_order, IsBelow, IsAscending, AreLeastLabels}
+use Rattle.product_search.specs.Listed.{label_of, label_order, IsBelow, AreAscendingLabels, AreLeastLabels}
 use Rattle.product_search.specs.Answer.{last_time}
 use Rattle.product_search.specs.Closed.{IsListedBy}
 use Rattle.product_search.specs.Waiting.{state_eq, made, keyed, rows, keyed_rows, reached_in, reached_at, IsApart}
@@ -126,7 +126,7 @@ below_from : (x y : Label) → is_lt (label_order y x) ≡ false → same_key x 
 unfolding same_key
 below_from x y not_less differ = less_from x.node x.state y.node y.state x.at y.at not_less differ
 
-ascending : (xs : List Label) → IsSorted label_order xs → IsDistinct same_key xs → IsAscending xs
+ascending : (xs : List Label) → IsSorted label_order xs → IsDistinct same_key xs → AreAscendingLabels xs
 ascending xs sorted apart i j d lt in_range =
     below_from (get_or xs i d) (get_or xs j d)
     (sorted_far (λ x y. is_lt (label_order x y)) (ranks_by order_total (λ x. x)) xs sorted i j d (omega arith) in_range)

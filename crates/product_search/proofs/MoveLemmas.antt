@@ -7,6 +7,7 @@ use Rattle.std.proofs.Math.Seq.{get_or-append_seam}
 use Rattle.std.proofs.lemmas.Bool.{cases_lt, eq-eqb, eqb-true}
 use Rattle.std.proofs.lemmas.List.{append-nil, get_or_append_left, get_or-set_same, get_or-set_other, length-set}
 use Rattle.std.proofs.lemmas.List.Elements.{All-contains, All-push, Contains-push, Contains-append_left}
+use Rattle.search_laws.specs.Letters.{IsLetter, letter_count}
 use Rattle.search_laws.specs.GraphLaws.{GraphMeaning, IsLawfulGraph}
 use Rattle.search_laws.specs.LabelLaws.{LabelsMeaning, HasMove, Follows, AllAfter}
 use Rattle.search_laws.specs.declared.graph.Steady.{Steady}
@@ -76,7 +77,7 @@ module _ (step : Move) (old : List (List ℕ)) where
   }
 
   -- none of its letters is left
-  pub with_all : (n : ℕ) (new : List (List ℕ)) → AreTargetsWith step n old new → n ≤ 14 → ((c : ℕ) → IsBitSet step.letters c → c < n) → AreTargetsWith step 14 old new
+  pub with_all : (n : ℕ) (new : List (List ℕ)) → AreTargetsWith step n old new → n ≤ letter_count → ((c : ℕ) → IsBitSet step.letters c → c < n) → AreTargetsWith step letter_count old new
   with_all n new with_it few end = record {
     one_each = with_it.one_each;
     by = λ c lt by. with_it.by c (end c by) by;
@@ -135,7 +136,7 @@ module _ (l : LabelsMeaning) (q c : ℕ) where
   ]
 
   -- one move more, whose target is added to the lists of its letters
-  pub targets_with : (n : ℕ) (old new : List (List ℕ)) → AreTargetsWith (l.move_at q n) 14 old new → c < 14
+  pub targets_with : (n : ℕ) (old new : List (List ℕ)) → AreTargetsWith (l.move_at q n) letter_count old new → IsLetter c
       → slice_index_or old c [] ≡ targets_below l q c n → slice_index_or new c [] ≡ targets_below l q c (n + 1)
   targets_with n old new with_it letter are = elim (by_or_not (l.move_at q n)) [
     | inl by ↦ rw add-one (with_it.by c letter by ∙ ap (λ (xs : List ℕ). xs ++ (l.move_at q n).to ∷ []) are ∙ ap (λ (ys : List ℕ). targets_below l q c n ++ ys) (sym (target_there (l.move_at q n) by)))
@@ -171,9 +172,9 @@ module _ (l : LabelsMeaning) (q c : ℕ) where
 module _ (g : GraphMeaning) (l : LabelsMeaning) (s : Settled) (steady : Steady) (same : (i : ℕ) → i < steady.count → (g.arc_at s.node i).letter ≡ steady.letter)
     (c : ℕ) (is : steady.letter ≡ Some c) where
   -- which is one
-  pub steady_letter : IsLawfulGraph g → s.node < g.nodes → 0 < steady.count → steady.count ≤ g.arcs s.node → c < 14
+  pub steady_letter : IsLawfulGraph g → s.node < g.nodes → 0 < steady.count → steady.count ≤ g.arcs s.node → IsLetter c
   steady_letter lawful node some within =
-      subst (λ (o : Option ℕ). IfSome o (λ a. a < 14)) (same 0 some ∙ is) (lawful.letter_in_range s.node 0 (record { node = node; arc = omega arith }))
+      subst (λ (o : Option ℕ). IfSome o IsLetter) (same 0 some ∙ is) (lawful.letter_in_range s.node 0 (record { node = node; arc = omega arith }))
 
   -- each of the states follows each of them
   pub steady_follow : (targets : List ℕ) → AreTargets l s.state c targets

@@ -17,7 +17,7 @@ use Rattle.product_search.specs.declared.frontier.Settled.{Settled}
 use Rattle.product_search.specs.declared.frontier.Frontier.{Frontier}
 use Rattle.product_search.specs.declared.key.Key.{Key}
 use Rattle.product_search.specs.Queued.{entry_of, Queued, TakesIn, GivesLeast, GivesNone}
-use Rattle.product_search.specs.Waiting.{state_eq, made, settled_now, keyed, rows, reached_in, reached_at, waits_at, IsAt, IsNowhere, IsApart, KeepsNumbers, chain_of, chain_in, IsIndexed, IsClear, IsBehind, IsLast, Waits, IsQueueRight, is_same, offered, IsOffered, IsSetAt, NobodyWaits, SameReached, SettlesLeast, AreKept, bar_of, key_of}
+use Rattle.product_search.specs.Waiting.{state_eq, made, settled_now, keyed, rows, reached_in, reached_at, waits_at, IsAt, IsNowhere, IsApart, KeepsNumbers, chain_of, chain_in, IsIndexed, IsClear, HasChainsFrom, IsLast, Waits, IsQueueRight, is_same, offered, IsOffered, IsSetAt, NobodyWaits, SameReached, SettlesLeast, HaveKeys, bar_of, key_of}
 use Rattle.product_search.proofs.RowLemmas.{key_read, entry_read}
 
 -- ---- equal keys
@@ -266,7 +266,7 @@ module _ (old new : Frontier) (n v q c : ℕ) (way : Reached) (right : IsQueueRi
         subst (λ u. Queued new.queue u k) at (subst (λ j. Queued new.queue way.at j) (sym same) put.there))
   ]
 
-  pub right_put : IsIndexed new.chains.count (rows new) new.first.items → AreKept new.keys.items new.entries.items → length new.entries.items < 2 ^ 32 → IsQueueRight new
+  pub right_put : IsIndexed new.chains.count (rows new) new.first.items → HaveKeys new.keys.items new.entries.items → length new.entries.items < 2 ^ 32 → IsQueueRight new
   right_put indexed kept few = record {
     queue = put.right;
     waits = put_waits;
@@ -431,7 +431,7 @@ module _ (old new : Frontier) (t n : ℕ) (right : IsQueueRight old) (popped : G
   still k u e waits other = popped.stays u k (right.waits k u e waits) other
 
   -- by a stale one nobody waits
-  pub right_stale : IsIndexed new.chains.count (rows old) new.first.items → rows new ≡ rows old → AreKept new.keys.items new.entries.items → new.entries.items ≡ old.entries.items
+  pub right_stale : IsIndexed new.chains.count (rows old) new.first.items → rows new ≡ rows old → HaveKeys new.keys.items new.entries.items → new.entries.items ≡ old.entries.items
       → ((e : Row) → Waits (rows old) n t e → ⊥) → IsQueueRight new
   right_stale indexed same kept entries stale = record {
     queue = popped.right;
@@ -463,7 +463,7 @@ module _ (old new : Frontier) (t n : ℕ) (right : IsQueueRight old) (popped : G
           (λ is. let p = entry_parts t n u k is in other (sym p.1))
     ]
 
-    pub right_settled : IsIndexed new.chains.count (rows old) new.first.items → AreKept new.keys.items new.entries.items → new.entries.items ≡ old.entries.items → IsQueueRight new
+    pub right_settled : IsIndexed new.chains.count (rows old) new.first.items → HaveKeys new.keys.items new.entries.items → new.entries.items ≡ old.entries.items → IsQueueRight new
     unfolding at_row
     right_settled indexed kept entries = record {
       queue = popped.right;
@@ -634,11 +634,11 @@ sought_within count rs v q c some sought = let p = sought.there (c - 1) (omega (
 
 -- ---- the table is cleared
 
-pub behind_first : (count : ℕ) (rs : List Row) (first : List ℕ) → IsIndexed count rs first → IsBehind count rs first 0
+pub behind_first : (count : ℕ) (rs : List Row) (first : List ℕ) → IsIndexed count rs first → HasChainsFrom count rs first 0
 behind_first count rs first indexed v k is = let p = (indexed.first_of v).there k is in (k, omega arith, p.1, p.2, p.3)
 
-pub behind_next : (count : ℕ) (rs : List Row) (old new : List ℕ) (i : ℕ) (x : Row) → slice_get rs i ≡ Some x → IsBehind count rs old i
-    → slice_index new (chain_in count x) ≡ 0 → ((v : ℕ) → v ≢ chain_in count x → slice_index new v ≡ slice_index old v) → IsBehind count rs new (i + 1)
+pub behind_next : (count : ℕ) (rs : List Row) (old new : List ℕ) (i : ℕ) (x : Row) → slice_get rs i ≡ Some x → HasChainsFrom count rs old i
+    → slice_index new (chain_in count x) ≡ 0 → ((v : ℕ) → v ≢ chain_in count x → slice_index new v ≡ slice_index old v) → HasChainsFrom count rs new (i + 1)
 behind_next count rs old new i x known behind here others v k is = elim (cases_eq v (chain_in count x)) [
   | inl same ↦ (let e : slice_index new (chain_in count x) ≡ suc k = subst (λ w. slice_index new w ≡ suc k) same is in absurd (omega (arith, e, here)))
   | inr other ↦ (let b = behind v k (sym (others v other) ∙ is) in elim (cases_eq b.0 i) [
@@ -648,7 +648,7 @@ behind_next count rs old new i x known behind here others v k is = elim (cases_e
   ])
 ]
 
-pub behind_all : (count : ℕ) (rs : List Row) (first : List ℕ) (i : ℕ) → length rs ≤ i → IsBehind count rs first i → IsClear first
+pub behind_all : (count : ℕ) (rs : List Row) (first : List ℕ) (i : ℕ) → length rs ≤ i → HasChainsFrom count rs first i → IsClear first
 behind_all count rs first i all behind v = go (slice_index first v) refl where
   go : (m : ℕ) → slice_index first v ≡ m → slice_index first v ≡ 0
   go zero e = e

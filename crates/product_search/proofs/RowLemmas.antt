@@ -10,7 +10,7 @@ use Rattle.product_search.specs.declared.frontier.Reached.{Reached}
 use Rattle.product_search.specs.declared.frontier.Entry.{Entry}
 use Rattle.product_search.specs.declared.key.Key.{Key}
 use Rattle.product_search.specs.declared.row.Row.{Row}
-use Rattle.product_search.specs.Waiting.{row_of, rows_of, bar_of, key_of, slim, settled_now, AreKept, Waits, is_waiting}
+use Rattle.product_search.specs.Waiting.{keyed_row, rows_of, bar_of, key_of, slim, settled_now, HaveKeys, Waits, is_waiting}
 
 -- ---- a row, its entry and its key
 
@@ -18,7 +18,7 @@ bar_tells : (x : Reached) → (bar_of x == 0) ≡ x.settled
 bar_tells x = grind (arith, nat_tests)
 
 -- what is kept of a row says that row again
-pub row_again : (r : Row) → row_of (key_of r) (slim r) ≡ r
+pub row_again : (r : Row) → keyed_row (key_of r) (slim r) ≡ r
 row_again r = ap (λ (b : Bool). record {
   node = r.node;
   state = r.state;
@@ -30,17 +30,17 @@ row_again r = ap (λ (b : Bool). record {
 
 -- a row is that of the entry and the key with its number
 pub row_parts : (ks : List Key) (es : List Entry) (n : ℕ) (r : Row) → slice_get (rows_of ks es) n ≡ Some r
-    → (k : Key) × (e : Entry) × (slice_get ks n ≡ Some k) × (slice_get es n ≡ Some e) × (row_of k e ≡ r)
+    → (k : Key) × (e : Entry) × (slice_get ks n ≡ Some k) × (slice_get es n ≡ Some e) × (keyed_row k e ≡ r)
 row_parts [] es n r is = cc
 row_parts (k ∷ ks) [] n r is = cc
-row_parts (k ∷ ks) (e ∷ es) zero r is = let same : row_of k e ≡ r = cc in (k, e, refl, refl, same)
+row_parts (k ∷ ks) (e ∷ es) zero r is = let same : keyed_row k e ≡ r = cc in (k, e, refl, refl, same)
 row_parts (k ∷ ks) (e ∷ es) (suc n) r is = row_parts ks es n r is
 
 pub row_there : (ks : List Key) (es : List Entry) (n : ℕ) (k : Key) (e : Entry) → slice_get ks n ≡ Some k → slice_get es n ≡ Some e
-    → slice_get (rows_of ks es) n ≡ Some (row_of k e)
+    → slice_get (rows_of ks es) n ≡ Some (keyed_row k e)
 row_there [] es n k e key entry = cc
 row_there (d ∷ ks) [] n k e key entry = cc
-row_there (d ∷ ks) (b ∷ es) zero k e key entry = let p : d ≡ k = cc in let q : b ≡ e = cc in ap (λ x. Some (row_of x b)) p ∙ ap (λ x. Some (row_of k x)) q
+row_there (d ∷ ks) (b ∷ es) zero k e key entry = let p : d ≡ k = cc in let q : b ≡ e = cc in ap (λ x. Some (keyed_row x b)) p ∙ ap (λ x. Some (keyed_row k x)) q
 row_there (d ∷ ks) (b ∷ es) (suc n) k e key entry = row_there ks es n k e key entry
 
 pub rows_length : (ks : List Key) (es : List Entry) → length ks ≡ length es → length (rows_of ks es) ≡ length es
@@ -49,18 +49,18 @@ rows_length [] (e ∷ es) same = absurd (omega arith)
 rows_length (k ∷ ks) [] same = absurd (omega arith)
 rows_length (k ∷ ks) (e ∷ es) same = ap suc (rows_length ks es (omega arith))
 
-rows_push : (ks : List Key) (es : List Entry) (k : Key) (e : Entry) → length ks ≡ length es → rows_of (ks ++ k ∷ []) (es ++ e ∷ []) ≡ rows_of ks es ++ row_of k e ∷ []
+rows_push : (ks : List Key) (es : List Entry) (k : Key) (e : Entry) → length ks ≡ length es → rows_of (ks ++ k ∷ []) (es ++ e ∷ []) ≡ rows_of ks es ++ keyed_row k e ∷ []
 rows_push [] [] k e same = refl
 rows_push [] (d ∷ es) k e same = absurd (omega arith)
 rows_push (d ∷ ks) [] k e same = absurd (omega arith)
-rows_push (d ∷ ks) (b ∷ es) k e same = ap (λ rs. row_of d b ∷ rs) (rows_push ks es k e (omega arith))
+rows_push (d ∷ ks) (b ∷ es) k e same = ap (λ rs. keyed_row d b ∷ rs) (rows_push ks es k e (omega arith))
 
-rows_set : (ks : List Key) (es : List Entry) (n : ℕ) (k : Key) (e : Entry) → rows_of (slice_set ks n k) (slice_set es n e) ≡ slice_set (rows_of ks es) n (row_of k e)
+rows_set : (ks : List Key) (es : List Entry) (n : ℕ) (k : Key) (e : Entry) → rows_of (slice_set ks n k) (slice_set es n e) ≡ slice_set (rows_of ks es) n (keyed_row k e)
 rows_set [] es n k e = refl
 rows_set (d ∷ ks) [] zero k e = refl
 rows_set (d ∷ ks) [] (suc n) k e = refl
 rows_set (d ∷ ks) (b ∷ es) zero k e = refl
-rows_set (d ∷ ks) (b ∷ es) (suc n) k e = ap (λ rs. row_of d b ∷ rs) (rows_set ks es n k e)
+rows_set (d ∷ ks) (b ∷ es) (suc n) k e = ap (λ rs. keyed_row d b ∷ rs) (rows_set ks es n k e)
 
 set_again : {X : Type 0} (xs : List X) (n : ℕ) (x : X) → slice_get xs n ≡ Some x → slice_set xs n x ≡ xs
 set_again [] n x is = cc
@@ -69,11 +69,11 @@ set_again (y ∷ xs) (suc n) x is = ap (λ ys. y ∷ ys) (set_again xs n x is)
 
 -- ---- what is kept
 
-module _ (ks : List Key) (es : List Entry) (kept : AreKept ks es) where
+module _ (ks : List Key) (es : List Entry) (kept : HaveKeys ks es) where
   pub kept_length : length (rows_of ks es) ≡ length es
   kept_length = rows_length ks es kept.as_long
 
-  pub kept_push : (r : Row) → AreKept (ks ++ key_of r ∷ []) (es ++ slim r ∷ []) × (rows_of (ks ++ key_of r ∷ []) (es ++ slim r ∷ []) ≡ rows_of ks es ++ r ∷ [])
+  pub kept_push : (r : Row) → HaveKeys (ks ++ key_of r ∷ []) (es ++ slim r ∷ []) × (rows_of (ks ++ key_of r ∷ []) (es ++ slim r ∷ []) ≡ rows_of ks es ++ r ∷ [])
   kept_push r =
       let same : rows_of (ks ++ key_of r ∷ []) (es ++ slim r ∷ []) ≡ rows_of ks es ++ r ∷ [] =
       rows_push ks es (key_of r) (slim r) kept.as_long ∙ ap (λ x. rows_of ks es ++ x ∷ []) (row_again r) in (
@@ -84,7 +84,7 @@ module _ (ks : List Key) (es : List Entry) (kept : AreKept ks es) where
         same,
       )
 
-  pub kept_set : (n : ℕ) (r : Row) → AreKept (slice_set ks n (key_of r)) (slice_set es n (slim r)) × (rows_of (slice_set ks n (key_of r)) (slice_set es n (slim r)) ≡ slice_set (rows_of ks es) n r)
+  pub kept_set : (n : ℕ) (r : Row) → HaveKeys (slice_set ks n (key_of r)) (slice_set es n (slim r)) × (rows_of (slice_set ks n (key_of r)) (slice_set es n (slim r)) ≡ slice_set (rows_of ks es) n r)
   kept_set n r =
       let same : rows_of (slice_set ks n (key_of r)) (slice_set es n (slim r)) ≡ slice_set (rows_of ks es) n r =
       rows_set ks es n (key_of r) (slim r) ∙ ap (λ x. slice_set (rows_of ks es) n x) (row_again r) in (
@@ -100,16 +100,16 @@ module _ (ks : List Key) (es : List Entry) (kept : AreKept ks es) where
 
   -- one that is settled, where its entry stays
   pub kept_settled : (n : ℕ) (r : Row) → slice_get (rows_of ks es) n ≡ Some r
-      → AreKept (slice_set ks n (key_of (settled_now r))) es × (rows_of (slice_set ks n (key_of (settled_now r))) es ≡ slice_set (rows_of ks es) n (settled_now r))
+      → HaveKeys (slice_set ks n (key_of (settled_now r))) es × (rows_of (slice_set ks n (key_of (settled_now r))) es ≡ slice_set (rows_of ks es) n (settled_now r))
   kept_settled n r is =
       let parts = row_parts ks es n r is in
       let entry : slice_get es n ≡ Some (slim (settled_now r)) = parts.3 ∙ ap (λ (x : Row). Some (slim x)) parts.4 in
       let same : slice_set es n (slim (settled_now r)) ≡ es = set_again es n (slim (settled_now r)) entry in
-      subst (λ xs. AreKept (slice_set ks n (key_of (settled_now r))) xs × (rows_of (slice_set ks n (key_of (settled_now r))) xs ≡ slice_set (rows_of ks es) n (settled_now r))) same
+      subst (λ xs. HaveKeys (slice_set ks n (key_of (settled_now r))) xs × (rows_of (slice_set ks n (key_of (settled_now r))) xs ≡ slice_set (rows_of ks es) n (settled_now r))) same
       (kept_set n (settled_now r))
 
 -- the key that was read is that of the row with that number
-pub key_read : (ks : List Key) (es : List Entry) (n : ℕ) (x : Key) (r : Row) → AreKept ks es → x ≡ get_or ks n x → slice_get (rows_of ks es) n ≡ Some r → x ≡ key_of r
+pub key_read : (ks : List Key) (es : List Entry) (n : ℕ) (x : Key) (r : Row) → HaveKeys ks es → x ≡ get_or ks n x → slice_get (rows_of ks es) n ≡ Some r → x ≡ key_of r
 key_read ks es n x r kept is known = is ∙ get_or_from_slice_get ks n (key_of r) x (key_at ks es kept n r known)
 
 -- and so is the entry
@@ -124,31 +124,31 @@ waits_told : (r : Row) (t : ℕ) → is_waiting (bar_of r.known) r.known.at t �
 waits_told r t = grind (arith, nat_tests)
 
 -- what the bar and the entry with the number n say
-module _ (ks : List Key) (es : List Entry) (kept : AreKept ks es) (n t : ℕ) (k : Key) (e : Entry) (key : slice_get ks n ≡ Some k) (entry : slice_get es n ≡ Some e) where
-  row_here : slice_get (rows_of ks es) n ≡ Some (row_of k e)
+module _ (ks : List Key) (es : List Entry) (kept : HaveKeys ks es) (n t : ℕ) (k : Key) (e : Entry) (key : slice_get ks n ≡ Some k) (entry : slice_get es n ≡ Some e) where
+  row_here : slice_get (rows_of ks es) n ≡ Some (keyed_row k e)
   row_here = row_there ks es n k e key entry
 
-  told_here : is_waiting k.bar e.at t ≡ (not (row_of k e).known.settled && (e.at == t))
+  told_here : is_waiting k.bar e.at t ≡ (not (keyed_row k e).known.settled && (e.at == t))
   told_here =
-      let h : Some k ≡ Some (key_of (row_of k e)) = sym key ∙ key_at ks es kept n (row_of k e) row_here in
-      let same : k ≡ key_of (row_of k e) = cc in
-      ap (λ (x : Key). is_waiting x.bar e.at t) same ∙ waits_told (row_of k e) t
+      let h : Some k ≡ Some (key_of (keyed_row k e)) = sym key ∙ key_at ks es kept n (keyed_row k e) row_here in
+      let same : k ≡ key_of (keyed_row k e) = cc in
+      ap (λ (x : Key). is_waiting x.bar e.at t) same ∙ waits_told (keyed_row k e) t
 
-  pub waits_now : is_waiting k.bar e.at t ≡ true → Waits (rows_of ks es) n t (row_of k e)
-  waits_now waits = let p = and_parts (not (row_of k e).known.settled) (e.at == t) (sym told_here ∙ waits) in
-      record { known = row_here; unsettled = not-true (row_of k e).known.settled p.0; at = eqb-true e.at t p.1 }
+  pub waits_now : is_waiting k.bar e.at t ≡ true → Waits (rows_of ks es) n t (keyed_row k e)
+  waits_now waits = let p = and_parts (not (keyed_row k e).known.settled) (e.at == t) (sym told_here ∙ waits) in
+      record { known = row_here; unsettled = not-true (keyed_row k e).known.settled p.0; at = eqb-true e.at t p.1 }
 
-  pub settled_here : AreKept (slice_set ks n (record { state = k.state; next = k.next; bar = 0 })) es
-      × (rows_of (slice_set ks n (record { state = k.state; next = k.next; bar = 0 })) es ≡ slice_set (rows_of ks es) n (settled_now (row_of k e)))
-  settled_here = kept_settled ks es kept n (row_of k e) row_here
+  pub settled_here : HaveKeys (slice_set ks n (record { state = k.state; next = k.next; bar = 0 })) es
+      × (rows_of (slice_set ks n (record { state = k.state; next = k.next; bar = 0 })) es ≡ slice_set (rows_of ks es) n (settled_now (keyed_row k e)))
+  settled_here = kept_settled ks es kept n (keyed_row k e) row_here
 
   pub none_waits : is_waiting k.bar e.at t ≡ false → (r : Row) → Waits (rows_of ks es) n t r → ⊥
   none_waits stale r waits =
-      let h : Some (row_of k e) ≡ Some r = sym row_here ∙ waits.known in
-      let same : row_of k e ≡ r = cc in
-      let still : (row_of k e).known.settled ≡ false = ap (λ (x : Row). x.known.settled) same ∙ waits.unsettled in
+      let h : Some (keyed_row k e) ≡ Some r = sym row_here ∙ waits.known in
+      let same : keyed_row k e ≡ r = cc in
+      let still : (keyed_row k e).known.settled ≡ false = ap (λ (x : Row). x.known.settled) same ∙ waits.unsettled in
       let at : e.at ≡ t = ap (λ (x : Row). x.known.at) same ∙ waits.at in
-      false≢true (sym stale ∙ told_here ∙ and_from (not (row_of k e).known.settled) (e.at == t) (not_from_false (row_of k e).known.settled still) (eq-eqb e.at t at))
+      false≢true (sym stale ∙ told_here ∙ and_from (not (keyed_row k e).known.settled) (e.at == t) (not_from_false (keyed_row k e).known.settled still) (eq-eqb e.at t at))
 
 -- ---- a list made row by row
 
@@ -159,10 +159,10 @@ cons_is_append (Some y) xs = refl
 -- what a row gives goes from the rest to the list
 pub listed_next : {Y : Type 0} (h : Row → Option Y) (list all : List Y) (k : Key) (e : Entry) (ks more_keys : List Key) (es more_entries : List Entry)
     → ks ≡ k ∷ more_keys → es ≡ e ∷ more_entries → list ++ filter_map h (rows_of ks es) ≡ all
-    → (list ++ option_to_list (h (row_of k e))) ++ filter_map h (rows_of more_keys more_entries) ≡ all
+    → (list ++ option_to_list (h (keyed_row k e))) ++ filter_map h (rows_of more_keys more_entries) ≡ all
 listed_next h list all k e ks more_keys es more_entries first second so_far =
-    append_assoc list (option_to_list (h (row_of k e))) (filter_map h (rows_of more_keys more_entries))
-    ∙ ap (λ xs. list ++ xs) (sym (cons_is_append (h (row_of k e)) (filter_map h (rows_of more_keys more_entries))))
+    append_assoc list (option_to_list (h (keyed_row k e))) (filter_map h (rows_of more_keys more_entries))
+    ∙ ap (λ xs. list ++ xs) (sym (cons_is_append (h (keyed_row k e)) (filter_map h (rows_of more_keys more_entries))))
     ∙ ap (λ xs. list ++ filter_map h (rows_of xs (e ∷ more_entries))) (sym first) ∙ ap (λ xs. list ++ filter_map h (rows_of ks xs)) (sym second) ∙ so_far
 
 pub listed_all : {Y : Type 0} (h : Row → Option Y) (list all : List Y) (ks : List Key) (es : List Entry) → (ks ≡ []) ⊎ (es ≡ [])
@@ -186,8 +186,8 @@ pub few_listed : {Y : Type 0} (h : Row → Option Y) (ks : List Key) (es : List 
 few_listed h [] es = omega arith
 few_listed h (k ∷ ks) [] = omega arith
 few_listed h (k ∷ ks) (e ∷ es) =
-    let one = option_few (h (row_of k e)) in
-    let parts = ap length (cons_is_append (h (row_of k e)) (filter_map h (rows_of ks es))) ∙ length-append (option_to_list (h (row_of k e))) (filter_map h (rows_of ks es)) in
+    let one = option_few (h (keyed_row k e)) in
+    let parts = ap length (cons_is_append (h (keyed_row k e)) (filter_map h (rows_of ks es))) ∙ length-append (option_to_list (h (keyed_row k e))) (filter_map h (rows_of ks es)) in
     let rest = few_listed h ks es in
     omega (arith, one, parts, rest)
   where

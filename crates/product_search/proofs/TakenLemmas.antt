@@ -4,10 +4,11 @@ use Rattle.std.specs.Prelude.{◌⊎◌, Option, All, Contains, IfSome, IsBitSet
 use Rattle.std.specs.Int.Bits.{bit_and}
 use Rattle.std.proofs.lemmas.Bool.{false≢true, eqb-true, cases_lt, cases_eq}
 use Rattle.std.proofs.lemmas.List.Elements.{All-weaker, All-contains}
+use Rattle.search_laws.specs.Letters.{IsLetter}
 use Rattle.search_laws.specs.GraphLaws.{GraphMeaning, IsLawfulGraph}
 use Rattle.search_laws.specs.LabelLaws.{LabelsMeaning, AllAfter, Follows}
 use Rattle.search_laws.specs.Ways.{is_open, ways_past, IsWay}
-use Rattle.search_laws.specs.Fresh.{RunRides, IsCovered, StandsStill, AreMoving}
+use Rattle.search_laws.specs.Fresh.{RunRides, HasAsGoodOrGiven, StandsStill, AreMoving}
 use Rattle.search_laws.specs.declared.given.GivenRuns.{GivenRuns}
 use Rattle.search_laws.specs.declared.graph.GraphArc.{GraphArc}
 use Rattle.search_laws.specs.declared.graph.Way.{Way}
@@ -31,10 +32,10 @@ module _ (g : GraphMeaning) (l : LabelsMeaning) (bound : Option ℕ) (s : Settle
       All-weaker (Contains (ways_past g s.node s.at letters first)) (IsWay g s.node s.at)
       (λ way has. All-contains (IsWay g s.node s.at) (ways_past g s.node s.at letters first) way (ways_are g s.node s.at letters first node inside) has) ways are
 
-  pub ways_letters : IsLawfulGraph g → s.node < g.nodes → All (λ (way : Way). IfSome way.arc.letter (λ c. c < 14)) ways
+  pub ways_letters : IsLawfulGraph g → s.node < g.nodes → All (λ (way : Way). IfSome way.arc.letter IsLetter) ways
   ways_letters lawful node =
-      All-weaker (IsWay g s.node s.at) (λ (way : Way). IfSome way.arc.letter (λ c. c < 14))
-      (λ way is. subst (λ (a : GraphArc). IfSome a.letter (λ c. c < 14)) (sym is.is) (lawful.letter_in_range s.node way.place is.has)) ways (each_is node)
+      All-weaker (IsWay g s.node s.at) (λ (way : Way). IfSome way.arc.letter IsLetter)
+      (λ way is. subst (λ (a : GraphArc). IfSome a.letter IsLetter) (sym is.is) (lawful.letter_in_range s.node way.place is.has)) ways (each_is node)
 
   pub ways_times : IsLawfulGraph g → s.node < g.nodes → All (λ (way : Way). s.at ≤ way.at) ways
   ways_times lawful node =
@@ -75,7 +76,7 @@ module _ (g : GraphMeaning) (l : LabelsMeaning) (bound : Option ℕ) (s : Settle
   module _ (leaving first : ℕ) (leaves : HasLeaving l s.state leaving) (here : IsReachedBy f s.node s.state s.at) (moving : List Way)
       (parts : AreMoving s.node s.at leaving (ways_past g s.node s.at letters first) moving) where
     -- what the arcs from a place on lead to is reached, if it is by these ways and by what was given before
-    arcs_past_reached : (rides : RunRides) (given : GivenRuns) (ways : List Way) → All (IsCovered rides s.state given ways) moving
+    arcs_past_reached : (rides : RunRides) (given : GivenRuns) (ways : List Way) → All (HasAsGoodOrGiven rides s.state given ways) moving
         → AreGivenReached rides l bound f given → All (WayIsReached l bound f s.state) ways
         → (i : ℕ) → first ≤ i → i < g.arcs s.node → ArcIsReached g l bound f s.node s.state s.at i
     arcs_past_reached rides given ways covered before all i from lt u e within = by_letter (is_open letters (g.arc_at s.node i).letter) refl
@@ -84,7 +85,7 @@ module _ (g : GraphMeaning) (l : LabelsMeaning) (bound : Option ℕ) (s : Settle
         way = record { place = i; arc = g.arc_at s.node i; at = u }
 
         moves : Contains moving way → WayIsReached l bound f s.state way
-        moves has = elim (All-contains (IsCovered rides s.state given ways) moving way covered has) [
+        moves has = elim (All-contains (HasAsGoodOrGiven rides s.state given ways) moving way covered has) [
           | inl found ↦ among_reached l bound f s.state ways way all found
           | inr was ↦ before s.state way was
         ]
@@ -99,7 +100,7 @@ module _ (g : GraphMeaning) (l : LabelsMeaning) (bound : Option ℕ) (s : Settle
         by_letter false h = none_after (g.arc_at s.node i).letter (λ r. IsReachedBy f (g.arc_at s.node i).to r u) h
 
     -- so it is by all arcs, if it is by those before
-    pub arcs_reached : (rides : RunRides) (given : GivenRuns) (ways : List Way) → All (IsCovered rides s.state given ways) moving
+    pub arcs_reached : (rides : RunRides) (given : GivenRuns) (ways : List Way) → All (HasAsGoodOrGiven rides s.state given ways) moving
         → AreGivenReached rides l bound f given → All (WayIsReached l bound f s.state) ways
         → ((i : ℕ) → i < first → ArcIsReached g l bound f s.node s.state s.at i) → (i : ℕ) → i < g.arcs s.node → ArcIsReached g l bound f s.node s.state s.at i
     arcs_reached rides given ways covered before all steady i lt = elim (cases_lt i first) [

@@ -12,8 +12,8 @@ use Rattle.product_search.specs.declared.frontier.Settled.{Settled}
 use Rattle.product_search.specs.declared.frontier.Frontier.{Frontier}
 use Rattle.product_search.specs.declared.row.Row.{Row}
 use Rattle.product_search.specs.Waiting.{rows, reached_at, IsAt, IsLink, IsQueueRight}
-use Rattle.product_search.specs.Answer.{IsHop, AreHops, IsWalkFor, IsWalkTo, last_time}
-use Rattle.product_search.specs.Searching.{IsFromParent, IsFromStart, IsTraced, IsTracedTo, IsEnd, IsExplored, IsSearched, arrival_of}
+use Rattle.product_search.specs.Answer.{IsHop, AreWalkHops, IsWalkFor, IsWalkTo, last_time}
+use Rattle.product_search.specs.Searching.{IsFromParent, IsFromStart, IsTraced, IsTracedTo, IsEnd, IsExplored, IsSearched, end_arrival}
 use Rattle.product_search.proofs.QueueLemmas.{same_place, found_in, within}
 use Rattle.product_search.proofs.RowLemmas.{kept_length}
 use Rattle.product_search.specs.Trail.{HasParents, IsBackWithin, IsRowOf, IsTrailHop, AreTrail, IsTrailIfAny, IsTrailTo}
@@ -91,7 +91,7 @@ module _ (g : GraphMeaning) (l : LabelsMeaning) (starts : List ℕ) (dep : ℕ) 
               state = rw (hop.arc, sym ew, sym er) state;
             }
 
-  pub hops_of : (hops : List Hop) (v q t v2 q2 t2 : ℕ) (x : Reached) → reached_at f v q ≡ Some x → t ≡ x.at → AreTrail f v q t hops v2 q2 t2 → AreHops g l v q t hops v2 q2 t2
+  pub hops_of : (hops : List Hop) (v q t v2 q2 t2 : ℕ) (x : Reached) → reached_at f v q ≡ Some x → t ≡ x.at → AreTrail f v q t hops v2 q2 t2 → AreWalkHops g l v q t hops v2 q2 t2
   hops_of [] v q t v2 q2 t2 x is at trail = trail
   hops_of (h ∷ hops) v q t v2 q2 t2 x is at (hop, trail) =
       (hop_of v q t x h is at hop, hops_of hops h.to h.state h.at v2 q2 t2 (hop.entry) hop.known hop.at trail)
@@ -108,7 +108,7 @@ module _ (g : GraphMeaning) (l : LabelsMeaning) (starts : List ℕ) (dep : ℕ) 
         is_state = from.is_state;
         is_start = from.is_start;
         leaves = trail.at ∙ from.at;
-        hops = subst (λ t. AreHops g l w.node w.state w.at w.hops.items s.node s.state t) (ap (λ (y : Reached). y.at) same ∙ sym end.at)
+        hops = subst (λ t. AreWalkHops g l w.node w.state w.at w.hops.items s.node s.state t) (ap (λ (y : Reached). y.at) same ∙ sym end.at)
             (hops_of w.hops.items w.node w.state w.at s.node s.state (trail.last).at (trail.first) trail.begins trail.at trail.hops);
         ends_there = end.target;
         accepts = end.accepts;
@@ -183,7 +183,7 @@ end_in_time l targets f dep all s end = subst (λ t. t ≤ dep + 2 ^ 98) (sym en
 -- ---- what a search that has ended gives
 
 module _ (g : GraphMeaning) (l : LabelsMeaning) (starts targets : List ℕ) (dep : ℕ) (bound : Option ℕ) (f : Frontier) where
-  pub searched : (end : Option Settled) → IsExplored g l starts targets dep bound f end → IsSearched g l starts targets dep bound (arrival_of end) f
+  pub searched : (end : Option Settled) → IsExplored g l starts targets dep bound f end → IsSearched g l starts targets dep bound (end_arrival end) f
   searched None explored = explored
   searched (Some s) explored = explored.0
 
@@ -197,13 +197,13 @@ module _ (g : GraphMeaning) (l : LabelsMeaning) (starts targets : List ℕ) (dep
   link_of (Some s) explored = (explored.1).link
 
   pub walk_for : (end : Option Settled) (walk : Option Walk) → IsExplored g l starts targets dep bound f end → IsTrailIfAny f end walk
-      → IsWalkFor g l starts targets dep (arrival_of end) walk
+      → IsWalkFor g l starts targets dep (end_arrival end) walk
   walk_for None None explored trail = tt
   walk_for None (Some w) explored trail = trail
   walk_for (Some s) None explored trail = trail
   walk_for (Some s) (Some w) explored trail = walk_of g l starts dep (explored.0).depth f (explored.0).traced targets s w explored.1 trail
 
-  pub arrival_in_time : (end : Option Settled) → IsExplored g l starts targets dep bound f end → IfSome (arrival_of end) (λ t. t ≤ last_time dep)
+  pub arrival_in_time : (end : Option Settled) → IsExplored g l starts targets dep bound f end → IfSome (end_arrival end) (λ t. t ≤ last_time dep)
   arrival_in_time None explored = tt
   arrival_in_time (Some s) explored = end_in_time l targets f dep (explored.0).bounded s explored.1
 

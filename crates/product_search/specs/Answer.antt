@@ -21,9 +21,9 @@ pub record IsHop (g : GraphMeaning) (l : LabelsMeaning) (v q t : ℕ) (h : Hop) 
   pub state : Follows l q (g.arc_at v h.arc).letter h.state
 
 -- the hops lead from v in the state q at t to v2 in the state q2 at t2, each taken when the one before arrives
-abbrev pub AreHops : GraphMeaning → LabelsMeaning → ℕ → ℕ → ℕ → List Hop → ℕ → ℕ → ℕ → Type 0
-AreHops g l v q t [] v2 q2 t2 = (v2 ≡ v) × (q2 ≡ q) × (t2 ≡ t)
-AreHops g l v q t (h ∷ hops) v2 q2 t2 = IsHop g l v q t h × AreHops g l h.to h.state h.at hops v2 q2 t2
+abbrev pub AreWalkHops : GraphMeaning → LabelsMeaning → ℕ → ℕ → ℕ → List Hop → ℕ → ℕ → ℕ → Type 0
+AreWalkHops g l v q t [] v2 q2 t2 = (v2 ≡ v) × (q2 ≡ q) × (t2 ≡ t)
+AreWalkHops g l v q t (h ∷ hops) v2 q2 t2 = IsHop g l v q t h × AreWalkHops g l h.to h.state h.at hops v2 q2 t2
 
 -- the walk leaves a start in a start state at dep, and reaches a target in an accepting state at t2
 pub record IsWalkTo (g : GraphMeaning) (l : LabelsMeaning) (starts targets : List ℕ) (dep t2 : ℕ) (w : Walk) : Type 0 where
@@ -33,7 +33,7 @@ pub record IsWalkTo (g : GraphMeaning) (l : LabelsMeaning) (starts targets : Lis
   pub is_state : w.state < l.states
   pub is_start : IsTrue (l.is_start w.state)
   pub leaves : w.at ≡ dep
-  pub hops : AreHops g l w.node w.state w.at w.hops.items end final t2
+  pub hops : AreWalkHops g l w.node w.state w.at w.hops.items end final t2
   pub ends_there : Contains targets end
   pub accepts : IsTrue (l.accepts final)
 
@@ -48,7 +48,7 @@ IsWalkFor g l starts targets dep (Some a) (Some w) = IsWalkTo g l starts targets
 abbrev pub last_time : ℕ → ℕ
 last_time dep = dep + 2 ^ 98
 
-pub record IsInTime (dep : ℕ) (f : Found) : Type 0 where
+pub record IsByLastTime (dep : ℕ) (f : Found) : Type 0 where
   pub arrival : IfSome f.arrival (λ a. a ≤ last_time dep)
   pub labels : All (λ x. x.at ≤ last_time dep) f.labels.items
   pub walk : IfSome f.walk (λ w. (w.at ≤ last_time dep) × All (λ h. h.at ≤ last_time dep) w.hops.items)

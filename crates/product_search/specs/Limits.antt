@@ -7,7 +7,7 @@ use Rattle.product_search.specs.declared.label.Label.{Label}
 use Rattle.product_search.specs.declared.limit.Limited.{Limited}
 use Rattle.product_search.specs.declared.limit.Limited.TheVariants.{Ended, Stopped}
 use Rattle.product_search.specs.Reach.{IsLeastAt, IsWithin}
-use Rattle.product_search.specs.Listed.{IsAscending, AreLeastLabels}
+use Rattle.product_search.specs.Listed.{AreAscendingLabels, AreLeastLabels}
 use Rattle.product_search.specs.Answer.{IsArrival}
 
 -- a label of the search: a product state with its least arrival, within the bound and before each accepted arrival at a target
@@ -19,7 +19,7 @@ pub record IsLabel (g : GraphMeaning) (l : LabelsMeaning) (starts targets : List
 -- the search has more labels than so many
 pub record HasMoreLabels (g : GraphMeaning) (l : LabelsMeaning) (starts targets : List ℕ) (dep : ℕ) (bound : Option ℕ) (most : ℕ) : Type 0 where
   pub some : List Label
-  pub ascending : IsAscending some
+  pub ascending : AreAscendingLabels some
   pub are : All (IsLabel g l starts targets dep bound) some
   pub more : most < length some
 

@@ -21,12 +21,12 @@ label_order x y = ordering_then (ordering_then (nat_cmp x.node y.node) (nat_cmp 
 abbrev pub IsBelow : Label → Label → Type 0
 IsBelow x y = label_cmp x y ≡ Less
 
-abbrev pub IsAscending : List Label → Type 0
-IsAscending list = AllPairs IsBelow list
+abbrev pub AreAscendingLabels : List Label → Type 0
+AreAscendingLabels list = AllPairs IsBelow list
 
 -- the least arrivals of all product states that are reached, as far as an answer lists them; there is one such list
 pub record AreLeastLabels (g : GraphMeaning) (l : LabelsMeaning) (starts : List ℕ) (dep : ℕ) (bound arrival : Option ℕ) (list : List Label) : Type 0 where
-  pub ascending : IsAscending list
+  pub ascending : AreAscendingLabels list
   pub least : All (λ x. IsLeastAt g l starts dep x.node x.state x.at × IsToList bound arrival x.at) list
   pub complete : (v q t : ℕ) → IsLeastAt g l starts dep v q t → IsToList bound arrival t → Contains list (label_of v q t)
 

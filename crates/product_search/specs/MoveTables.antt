@@ -1,6 +1,7 @@
 -- The moves of the states of an automaton, by their letters.
 use Rattle.std.specs.Prelude.{◌≡◌, ◌==◌, ℕ, zero, suc, ◌<◌, ◌≤◌, ◌++◌, ◌∷◌, [], List, length, All, Contains, IsBitSet, slice_index_or, if◌then◌else◌}
 use Rattle.std.specs.Int.{bit_at}
+use Rattle.search_laws.specs.Letters.{IsLetter, letter_count}
 use Rattle.search_laws.specs.LabelLaws.{LabelsMeaning, HasMove}
 use Rattle.search_laws.specs.declared.labels.Move.{Move}
 use Rattle.product_search.specs.declared.moves.StateMoves.{StateMoves}
@@ -27,8 +28,8 @@ targets_below l q c (suc n) = targets_below l q c n ++ target_by c (l.move_at q 
 pub record AreMovesBelow (l : LabelsMeaning) (q n : ℕ) (moves : StateMoves) : Type 0 where
   pub letters : HasLettersBelow l q n moves.letters
   pub leaving : HasLeavingBelow l q n moves.leaving
-  pub one_each : length moves.targets.items ≡ 14
-  pub targets : (c : ℕ) → c < 14 → slice_index_or moves.targets.items c [] ≡ targets_below l q c n
+  pub one_each : length moves.targets.items ≡ letter_count
+  pub targets : (c : ℕ) → IsLetter c → slice_index_or moves.targets.items c [] ≡ targets_below l q c n
 
 -- ---- all moves
 

@@ -112,9 +112,9 @@ abbrev pub IsExplored : GraphMeaning → LabelsMeaning → List ℕ → List ℕ
 IsExplored g l starts targets dep bound f None = IsSearched g l starts targets dep bound None f
 IsExplored g l starts targets dep bound f (Some s) = IsSearched g l starts targets dep bound (Some s.at) f × IsEnd l targets f s
 
-abbrev pub arrival_of : Option Settled → Option ℕ
-arrival_of None = None
-arrival_of (Some s) = Some s.at
+abbrev pub end_arrival : Option Settled → Option ℕ
+end_arrival None = None
+end_arrival (Some s) = Some s.at
 
 -- the frontier is that of a search which has come to this arrival, by this walk
 pub record IsSettlement (g : GraphMeaning) (l : LabelsMeaning) (starts targets : List ℕ) (dep : ℕ) (bound : Option ℕ) (f : Frontier) (best : Best) : Type 0 where

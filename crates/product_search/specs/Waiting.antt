@@ -24,11 +24,11 @@ abbrev pub settled_now : Row → Row
 settled_now r = record { node = r.node; state = r.state; next = r.next; known = record r.known { settled = true } }
 
 -- what a key and its entry say
-abbrev pub row_of : Key → Entry → Row
-row_of k e = record { node = e.node; state = k.state; next = k.next; known = record { at = e.at; parent = e.parent; arc = e.arc; settled = k.bar == 0 } }
+abbrev pub keyed_row : Key → Entry → Row
+keyed_row k e = record { node = e.node; state = k.state; next = k.next; known = record { at = e.at; parent = e.parent; arc = e.arc; settled = k.bar == 0 } }
 
 abbrev pub row_by : Key × Entry → Row
-row_by p = row_of p.0 p.1
+row_by p = keyed_row p.0 p.1
 
 abbrev pub rows_of : List Key → List Entry → List Row
 rows_of ks es = map row_by (zip ks es)
@@ -47,7 +47,7 @@ abbrev pub slim : Row → Entry
 slim r = record { node = r.node; parent = r.known.parent; arc = r.known.arc; at = r.known.at }
 
 -- each entry has a key, whose bar is the one that its row asks for
-pub record AreKept (ks : List Key) (es : List Entry) : Type 0 where
+pub record HaveKeys (ks : List Key) (es : List Entry) : Type 0 where
   pub as_long : length ks ≡ length es
   pub keys : ks ≡ map key_of (rows_of ks es)
 
@@ -110,8 +110,8 @@ abbrev pub IsClear : List ℕ → Type 0
 IsClear first = (chain : ℕ) → slice_index first chain ≡ 0
 
 -- where the table has a number for a chain, some row from i on is of that chain
-abbrev pub IsBehind : ℕ → List Row → List ℕ → ℕ → Type 0
-IsBehind count rs first i = (chain k : ℕ) → slice_index first chain ≡ suc k
+abbrev pub HasChainsFrom : ℕ → List Row → List ℕ → ℕ → Type 0
+HasChainsFrom count rs first i = (chain k : ℕ) → slice_index first chain ≡ suc k
     → (j : ℕ) × (i ≤ j) × (r : Row) × (slice_get rs j ≡ Some r) × (chain_in count r ≡ chain)
 
 -- the rows of each chain are linked, from the last one to the first
@@ -138,7 +138,7 @@ pub record IsQueueRight (f : Frontier) : Type 0 where
   pub waits : (k t : ℕ) (r : Row) → Waits (rows f) k t r → Queued f.queue t k
   pub apart : IsApart (rows f)
   pub indexed : IsIndexed f.chains.count (rows f) f.first.items
-  pub kept : AreKept f.keys.items f.entries.items
+  pub kept : HaveKeys f.keys.items f.entries.items
   pub few : length f.entries.items < 2 ^ 32
 
 abbrev pub is_same : ℕ → ℕ → ℕ → ℕ → Bool

@@ -1,9 +1,10 @@
 //! Clause 9: what the arcs of each label lead to before the arrival is listed by then.
 
 ghost use Rattle.std.specs.Prelude.{◌<◌, ◌^◌, ◌↔◌, All, Some, IfSome, IsTrue, IsBitSet, MatchOption, length};
+ghost use Rattle.search_laws.specs.Times.{time_bound};
 ghost use Rattle.search_laws.specs.Letters.{IsLetter};
 ghost use Rattle.search_laws.specs.LabelLaws.{AllAfter};
-ghost use Rattle.product_search.specs.Listed.{IsAscending};
+ghost use Rattle.product_search.specs.Listed.{AreAscendingLabels};
 ghost use Rattle.product_search.specs.Closed.{IsListedBy, IsInOrderAt, ArcIsListed, ArcsAreListed, ArcsAreListedAt, HoldsBelow, FailsFirstAt};
 
 use crate::label::Label;
@@ -19,12 +20,14 @@ pub(crate) fn first_open_arcs<G: Graph, L: Labels>(
     arrival: Option<Time>,
     list: &[Label],
 ) -> Option<usize>
-    requires times { All (λ x. x.at < 10 ^ 30) list.now }
-    requires ascending { IsAscending list.now }
-    requires in_range { All (λ x. (x.node < (G.meaning graph.now).nodes) × (x.state < (L.automaton labels.now).states)) list.now }
-    ensures { MatchOption result
-        (HoldsBelow (length list.now) (ArcsAreListedAt (G.meaning graph.now) (L.automaton labels.now) arrival list.now))
-        (FailsFirstAt (length list.now) (ArcsAreListedAt (G.meaning graph.now) (L.automaton labels.now) arrival list.now)) }
+    requires times { All (λ x. x.at < time_bound) list.now }
+    requires ascending { AreAscendingLabels list.now }
+    requires in_range { All (λ x. (x.node < (G.meaning graph.now).nodes)
+        × (x.state < (L.automaton labels.now).states)) list.now }
+    ensures { MatchOption result (HoldsBelow (length list.now)
+        (ArcsAreListedAt (G.meaning graph.now) (L.automaton labels.now) arrival list.now))
+        (FailsFirstAt (length list.now) (ArcsAreListedAt (G.meaning graph.now) (L.automaton labels.now)
+        arrival list.now)) }
 {
     for k in 0..list.len() {
         if !arcs_are_listed(graph, labels, arrival, list, list[k]) {
@@ -42,11 +45,12 @@ fn arcs_are_listed<G: Graph, L: Labels>(
     list: &[Label],
     label: Label,
 ) -> bool
-    requires ascending { IsAscending list.now }
+    requires ascending { AreAscendingLabels list.now }
     requires node { label.node < (G.meaning graph.now).nodes }
     requires state { label.state < (L.automaton labels.now).states }
     requires time { label.at < 2 ^ 127 }
-    ensures { IsTrue result ↔ ArcsAreListed (G.meaning graph.now) (L.automaton labels.now) arrival list.now label }
+    ensures { IsTrue result ↔ ArcsAreListed (G.meaning graph.now) (L.automaton labels.now) arrival
+        list.now label }
 {
     let letters = letters_after(labels, label.state);
     let arcs = graph.arcs(label.node);
@@ -73,12 +77,13 @@ fn arc_is_listed<G: Graph, L: Labels>(
     label: Label,
     i: u64,
 ) -> bool
-    requires ascending { IsAscending list.now }
+    requires ascending { AreAscendingLabels list.now }
     requires node { label.node < (G.meaning graph.now).nodes }
     requires arc { i < (G.meaning graph.now).arcs label.node }
     requires state { label.state < (L.automaton labels.now).states }
     requires time { label.at < 2 ^ 127 }
-    ensures { IsTrue result ↔ ArcIsListed (G.meaning graph.now) (L.automaton labels.now) arrival list.now label i }
+    ensures { IsTrue result ↔ ArcIsListed (G.meaning graph.now) (L.automaton labels.now) arrival
+        list.now label i }
 {
     match graph.arrive(label.node, i, label.at) {
         None => true,
@@ -97,10 +102,11 @@ fn states_are_listed<L: Labels>(
     state: u32,
     at: Time,
 ) -> bool
-    requires ascending { IsAscending list.now }
+    requires ascending { AreAscendingLabels list.now }
     requires state { state < (L.automaton labels.now).states }
     requires letter { IfSome arc.letter IsLetter }
-    ensures { IsTrue result ↔ AllAfter (L.automaton labels.now) state arc.letter (λ r. IsListedBy list.now arc.to r at) }
+    ensures { IsTrue result ↔ AllAfter (L.automaton labels.now) state arc.letter
+        (λ r. IsListedBy list.now arc.to r at) }
 {
     match arc.letter {
         None => is_listed(list, arc.to, state, at),
@@ -117,10 +123,11 @@ fn moves_are_listed<L: Labels>(
     letter: u8,
     at: Time,
 ) -> bool
-    requires ascending { IsAscending list.now }
+    requires ascending { AreAscendingLabels list.now }
     requires state { state < (L.automaton labels.now).states }
     requires letter { IsLetter letter }
-    ensures { IsTrue result ↔ AllAfter (L.automaton labels.now) state (Some letter) (λ r. IsListedBy list.now to r at) }
+    ensures { IsTrue result ↔ AllAfter (L.automaton labels.now) state (Some letter)
+        (λ r. IsListedBy list.now to r at) }
 {
     for j in 0..labels.moves(state) {
         if !move_is_listed(list, labels.move_at(state, j), to, letter, at) {
@@ -132,7 +139,7 @@ fn moves_are_listed<L: Labels>(
 
 /// Whether a node is listed in the state that a move leads to, if it is by the letter.
 fn move_is_listed(list: &[Label], step: Move, to: u32, letter: u8, at: Time) -> bool
-    requires ascending { IsAscending list.now }
+    requires ascending { AreAscendingLabels list.now }
     requires letter { IsLetter letter }
     ensures { IsTrue result ↔ (IsBitSet step.letters letter → IsListedBy list.now to step.to at) }
 {

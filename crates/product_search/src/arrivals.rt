@@ -29,8 +29,8 @@ pub fn search_arrivals<G: Graph, L: Labels>(
 ) -> Result<Vec<Option<Time>>, AllocError>
     requires starts { All (λ v. v < (G.meaning graph.now).nodes) starts.now }
     requires dep { dep < 2 ^ 64 }
-    ensures { IfOk result (λ times. AreArrivals (G.meaning graph.now) (L.automaton machine.now.labels) starts.now
-        targets.now.nodes.items dep times.items) }
+    ensures { IfOk result (λ times. AreArrivals (G.meaning graph.now) (L.automaton machine.now.labels)
+        starts.now targets.now.nodes.items dep times.items) }
 {
     let kept = workspace.take(alloc);
     let arrived = settle_targets(alloc, kept, graph, machine, starts, targets, dep)?;
@@ -60,8 +60,8 @@ fn settle_targets<G: Graph, L: Labels>(
     requires starts { All (λ v. v < (G.meaning graph.now).nodes) starts.now }
     requires dep { dep < 2 ^ 64 }
     ensures right { IfOk result (λ a. IsQueueRight a.frontier) }
-    ensures times { IfOk result (λ a. AreAllTimes (G.meaning graph.now) (L.automaton machine.now.labels) starts.now dep
-        targets.now.places.items a.noted.times.items) }
+    ensures times { IfOk result (λ a. AreAllTimes (G.meaning graph.now) (L.automaton machine.now.labels)
+        starts.now dep targets.now.places.items a.noted.times.items) }
 {
     let mut noted = Noted::none(alloc, targets)?;
     let mut frontier = Frontier::new(alloc, workspace, machine.labels.states());
@@ -91,7 +91,8 @@ fn listed(
     targets: &TargetTable,
     noted: &Noted,
 ) -> Result<Vec<Option<Time>>, AllocError>
-    ensures { IfOk result (λ list. list.items ≡ map (time_of targets.now.places.items noted.now.times.items) targets.now.nodes.items) }
+    ensures { IfOk result (λ list. list.items ≡ map (time_of targets.now.places.items noted.now.times.items)
+        targets.now.nodes.items) }
 {
     let mut list = Vec::new(alloc);
     for node in &targets.nodes {

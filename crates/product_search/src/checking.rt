@@ -1,6 +1,7 @@
 //! The check that a list of labels is closed.
 
 ghost use Rattle.std.specs.Prelude.{◌≡◌, ◌<◌, ◌^◌, All, IfSome, length};
+ghost use Rattle.search_laws.specs.Times.{time_bound};
 ghost use Rattle.product_search.specs.declared.verdict.LabelVerdict.{LabelVerdict};
 ghost use Rattle.product_search.specs.declared.verdict.LabelVerdict.TheVariants.{Closed};
 ghost use Rattle.product_search.specs.Closed.{IsVerdict, NoneArrivesBefore};
@@ -28,11 +29,13 @@ pub fn check_labels<G: Graph, L: Labels>(
     arrival: Option<Time>,
     list: &[Label],
 ) -> LabelVerdict
-    requires times { All (λ x. x.at < 10 ^ 30) list.now }
-    requires arrival { IfSome arrival (λ a. a < 10 ^ 30) }
+    requires times { All (λ x. x.at < time_bound) list.now }
+    requires arrival { IfSome arrival (λ a. a < time_bound) }
     requires few { length starts.now < 2 ^ 32 }
-    ensures verdict { IsVerdict (G.meaning graph.now) (L.automaton labels.now) starts.now targets.now dep arrival list.now result }
-    ensures bound { result ≡ Closed → NoneArrivesBefore (G.meaning graph.now) (L.automaton labels.now) starts.now targets.now dep arrival }
+    ensures verdict { IsVerdict (G.meaning graph.now) (L.automaton labels.now) starts.now targets.now dep
+        arrival list.now result }
+    ensures bound { result ≡ Closed → NoneArrivesBefore (G.meaning graph.now) (L.automaton labels.now)
+        starts.now targets.now dep arrival }
 {
     if let Some(k) = first_out_of_order(graph, labels, arrival, list) {
         return LabelVerdict::Open {

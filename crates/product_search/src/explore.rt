@@ -32,13 +32,16 @@ pub(crate) fn explore<G: Graph, L: Labels>(
     requires right { IsQueueRight frontier.old }
     requires settled { IsSettledBy frontier.old from.at }
     requires here { IsReachedBy frontier.old from.node from.state from.at }
-    requires given { AreGivenReached (G.rides graph.now) (L.automaton machine.now.labels) bound frontier.old given.old }
+    requires given { AreGivenReached (G.rides graph.now) (L.automaton machine.now.labels) bound frontier.old
+        given.old }
     ensures right { OnOk result (IsQueueRight frontier.new) }
     ensures offers { OnOk result (Offers frontier.old frontier.new
         (IsSuccessor (G.meaning graph.now) (L.automaton machine.now.labels) bound from)) }
     ensures reached { OnOk result ((i : ℕ) → i < (G.meaning graph.now).arcs from.node
-        → ArcIsReached (G.meaning graph.now) (L.automaton machine.now.labels) bound frontier.new from.node from.state from.at i) }
-    ensures given { OnOk result (AreGivenReached (G.rides graph.now) (L.automaton machine.now.labels) bound frontier.new given.new) }
+        → ArcIsReached (G.meaning graph.now) (L.automaton machine.now.labels) bound frontier.new from.node
+        from.state from.at i) }
+    ensures given { OnOk result (AreGivenReached (G.rides graph.now) (L.automaton machine.now.labels) bound
+        frontier.new given.new) }
 {
     let steady = graph.steady(from.node);
     explore_steady(frontier, graph, machine, bound, from, steady)?;
@@ -66,14 +69,16 @@ fn explore_steady<G: Graph, L: Labels>(
     requires time { from.at < 2 ^ 127 }
     requires steady { steady ≡ G.steady_of graph.now from.node }
     requires within { steady.count ≤ (G.meaning graph.now).arcs from.node }
-    requires letter { (i : ℕ) → i < steady.count → ((G.meaning graph.now).arc_at from.node i).letter ≡ steady.letter }
+    requires letter { (i : ℕ) → i < steady.count → ((G.meaning graph.now).arc_at from.node i).letter
+        ≡ steady.letter }
     requires right { IsQueueRight frontier.old }
     requires settled { IsSettledBy frontier.old from.at }
     ensures right { OnOk result (IsQueueRight frontier.new) }
     ensures offers { OnOk result (Offers frontier.old frontier.new
         (IsSuccessor (G.meaning graph.now) (L.automaton machine.now.labels) bound from)) }
     ensures reached { OnOk result ((i : ℕ) → i < steady.count
-        → ArcIsReached (G.meaning graph.now) (L.automaton machine.now.labels) bound frontier.new from.node from.state from.at i) }
+        → ArcIsReached (G.meaning graph.now) (L.automaton machine.now.labels) bound frontier.new from.node
+        from.state from.at i) }
 {
     if steady.count == 0 {
         return Ok(());
@@ -122,7 +127,8 @@ fn offer_to_states<G: Graph, L: Labels>(
     requires steady { steady ≡ G.steady_of graph.now from.node }
     requires within { steady.count ≤ (G.meaning graph.now).arcs from.node }
     requires follow { All (λ next. (i : ℕ) → i < steady.count
-        → Follows (L.automaton labels.now) from.state ((G.meaning graph.now).arc_at from.node i).letter next) states.now }
+        → Follows (L.automaton labels.now) from.state ((G.meaning graph.now).arc_at from.node i).letter next)
+        states.now }
     requires right { IsQueueRight frontier.old }
     requires settled { IsSettledBy frontier.old from.at }
     ensures right { OnOk result (IsQueueRight frontier.new) }
@@ -159,7 +165,8 @@ fn offer_legs<G: Graph, L: Labels>(
     ensures right { OnOk result (IsQueueRight frontier.new) }
     ensures offers { OnOk result (Offers frontier.old frontier.new
         (IsSuccessor (G.meaning graph.now) (L.automaton labels.now) bound from)) }
-    ensures reached { OnOk result ((i : ℕ) → i < steady.count → LegIsReached (G.meaning graph.now) bound frontier.new from next i) }
+    ensures reached { OnOk result ((i : ℕ) → i < steady.count
+        → LegIsReached (G.meaning graph.now) bound frontier.new from next i) }
 {
     for i in 0..steady.count {
         offer_leg(frontier, graph, labels, bound, from, next, steady, i)?;
@@ -184,7 +191,8 @@ fn offer_leg<G: Graph, L: Labels>(
     requires steady { steady ≡ G.steady_of graph.now from.node }
     requires place { i < steady.count }
     requires arc { i < (G.meaning graph.now).arcs from.node }
-    requires follows { Follows (L.automaton labels.now) from.state ((G.meaning graph.now).arc_at from.node i).letter next }
+    requires follows { Follows (L.automaton labels.now) from.state
+        ((G.meaning graph.now).arc_at from.node i).letter next }
     requires right { IsQueueRight frontier.old }
     requires settled { IsSettledBy frontier.old from.at }
     ensures right { OnOk result (IsQueueRight frontier.new) }
@@ -215,8 +223,10 @@ fn explore_ways<L: Labels>(
     requires right { IsQueueRight frontier.old }
     requires settled { IsSettledBy frontier.old from.at }
     ensures right { OnOk result (IsQueueRight frontier.new) }
-    ensures offers { OnOk result (Offers frontier.old frontier.new (IsByWays (L.automaton machine.now.labels) bound from ways.now)) }
-    ensures reached { OnOk result (All (WayIsReached (L.automaton machine.now.labels) bound frontier.new from.state) ways.now) }
+    ensures offers { OnOk result (Offers frontier.old frontier.new
+        (IsByWays (L.automaton machine.now.labels) bound from ways.now)) }
+    ensures reached { OnOk result (All (WayIsReached (L.automaton machine.now.labels) bound frontier.new
+        from.state) ways.now) }
 {
     for way in ways {
         explore_way(frontier, machine, bound, from, *way)?;
@@ -239,8 +249,10 @@ fn explore_way<L: Labels>(
     requires right { IsQueueRight frontier.old }
     requires settled { IsSettledBy frontier.old from.at }
     ensures right { OnOk result (IsQueueRight frontier.new) }
-    ensures offers { OnOk result (Offers frontier.old frontier.new (IsByWay (L.automaton machine.now.labels) bound from way)) }
-    ensures reached { OnOk result (WayIsReached (L.automaton machine.now.labels) bound frontier.new from.state way) }
+    ensures offers { OnOk result (Offers frontier.old frontier.new
+        (IsByWay (L.automaton machine.now.labels) bound from way)) }
+    ensures reached { OnOk result (WayIsReached (L.automaton machine.now.labels) bound frontier.new
+        from.state way) }
 {
     if is_within(bound, way.at) {
         let reached = way_by(from, way.place, way.at);

@@ -1,7 +1,7 @@
 //! What a search has reached, and the queue of those product states that it has not settled.
 
 ghost use Rattle.std.specs.Prelude.{◌≡◌, ◌≢◌, ℕ, ◌<◌, ◌^◌, ◌++◌, false, true, None, Some, IfSome, IfNone, IfOk, OnOk, IsTrue, IsFalse, MatchOption, ◌∷◌, [], slice_get, slice_index, slice_set, ◌+◌, length};
-ghost use Rattle.product_search.specs.Waiting.{IsQueueRight, IsOffered, SettlesLeast, NobodyWaits, SameReached, KeepsNumbers, rows, rows_of, reached_at, offered, IsAt, IsNowhere, IsClear, IsBehind, settled_now, Waits, AreKept, is_waiting};
+ghost use Rattle.product_search.specs.Waiting.{IsQueueRight, IsOffered, SettlesLeast, NobodyWaits, SameReached, KeepsNumbers, rows, rows_of, reached_at, offered, IsAt, IsNowhere, IsClear, HasChainsFrom, settled_now, Waits, HaveKeys, is_waiting};
 
 use crate::chains::Chains;
 use crate::key::Key;
@@ -83,7 +83,8 @@ impl Frontier {
     #[inline(always)]
     fn find(&self, node: u32, state: u32) -> Option<u32>
         requires { IsQueueRight self.now }
-        ensures { MatchOption result (IsNowhere (rows self.now) node state) (IsAt (rows self.now) node state) }
+        ensures { MatchOption result (IsNowhere (rows self.now) node state)
+            (IsAt (rows self.now) node state) }
     {
         let mut cursor = self.head(self.chains.place(node, state));
         'chain: while cursor != 0 {
@@ -191,7 +192,8 @@ impl Frontier {
         requires right { IsQueueRight self.now }
         requires there { IsAt (rows self.now) node state number }
         ensures better { IsTrue result → offered (reached_at self.now node state) way ≡ Some way }
-        ensures kept { IsFalse result → offered (reached_at self.now node state) way ≡ reached_at self.now node state }
+        ensures kept { IsFalse result → offered (reached_at self.now node state) way ≡ reached_at self.now
+            node state }
     {
         let bar = self.keys[number as usize].bar;
         if bar == u64::MAX {
@@ -227,7 +229,7 @@ impl Frontier {
 /// A table as it was before there were entries.
 pub(crate) fn cleared(entries: &[Entry], keys: &[Key], chains: Chains, first: Vec<u32>) -> Vec<u32>
     requires keys { length keys.now ≡ length entries.now }
-    requires behind { IsBehind chains.count (rows_of keys.now entries.now) first.items 0 }
+    requires behind { HasChainsFrom chains.count (rows_of keys.now entries.now) first.items 0 }
     ensures { IsClear result.items }
 {
     let mut first = first;
@@ -275,9 +277,10 @@ pub(crate) fn grow(first: &mut Vec<u32>, chain: usize) -> Result<(), AllocError>
 
 /// Puts an entry and its key behind the others.
 fn push(entries: &mut Vec<Entry>, keys: &mut Vec<Key>, row: Row) -> Result<(), AllocError>
-    requires { AreKept keys.old.items entries.old.items }
-    ensures kept { OnOk result (AreKept keys.new.items entries.new.items) }
-    ensures rows { OnOk result (rows_of keys.new.items entries.new.items ≡ rows_of keys.old.items entries.old.items ++ row ∷ []) }
+    requires { HaveKeys keys.old.items entries.old.items }
+    ensures kept { OnOk result (HaveKeys keys.new.items entries.new.items) }
+    ensures rows { OnOk result (rows_of keys.new.items entries.new.items ≡ rows_of keys.old.items
+        entries.old.items ++ row ∷ []) }
     ensures entries { OnOk result (length entries.new.items ≡ length entries.old.items + 1) }
 {
     keys.push(Key::of(row))?;
@@ -287,10 +290,11 @@ fn push(entries: &mut Vec<Entry>, keys: &mut Vec<Key>, row: Row) -> Result<(), A
 
 /// Writes an entry and its key.
 fn write(entries: &mut Vec<Entry>, keys: &mut Vec<Key>, number: u32, row: Row)
-    requires kept { AreKept keys.old.items entries.old.items }
+    requires kept { HaveKeys keys.old.items entries.old.items }
     requires there { number < length entries.old.items }
-    ensures kept { AreKept keys.new.items entries.new.items }
-    ensures rows { rows_of keys.new.items entries.new.items ≡ slice_set (rows_of keys.old.items entries.old.items) number row }
+    ensures kept { HaveKeys keys.new.items entries.new.items }
+    ensures rows { rows_of keys.new.items entries.new.items ≡ slice_set
+        (rows_of keys.old.items entries.old.items) number row }
     ensures entries { length entries.new.items ≡ length entries.old.items }
 {
     entries[number as usize] = row.entry();
@@ -299,8 +303,8 @@ fn write(entries: &mut Vec<Entry>, keys: &mut Vec<Key>, number: u32, row: Row)
 
 /// Marks a product state as settled, if it waits for that time, and answers its row as it was.
 fn settle(entries: &[Entry], keys: &mut Vec<Key>, number: u32, at: Time) -> Option<Row>
-    requires { AreKept keys.old.items entries.now }
-    ensures kept { AreKept keys.new.items entries.now }
+    requires { HaveKeys keys.old.items entries.now }
+    ensures kept { HaveKeys keys.new.items entries.now }
     ensures known { IfSome result (λ r. Waits (rows_of keys.old.items entries.now) number at r) }
     ensures settled { IfSome result (λ r. rows_of keys.new.items entries.now
         ≡ slice_set (rows_of keys.old.items entries.now) number (settled_now r)) }

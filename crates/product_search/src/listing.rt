@@ -19,7 +19,8 @@ pub(crate) fn list_labels(
     arrival: Option<Time>,
 ) -> Result<Vec<Label>, AllocError>
     ensures sorted { IfOk result (λ v. IsSorted label_order v.items) }
-    ensures labels { IfOk result (λ v. IsPermutation (filter_map (label_of_row arrival) (rows frontier.now)) v.items) }
+    ensures labels { IfOk result (λ v. IsPermutation (filter_map (label_of_row arrival)
+        (rows frontier.now)) v.items) }
 {
     let mut list = settled_labels(alloc, frontier, arrival)?;
     list.sort_unstable();

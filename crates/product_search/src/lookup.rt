@@ -1,7 +1,7 @@
 //! Labels found in a list by halving.
 
 ghost use Rattle.std.specs.Prelude.{◌↔◌, IsTrue};
-ghost use Rattle.product_search.specs.Listed.{IsAscending};
+ghost use Rattle.product_search.specs.Listed.{AreAscendingLabels};
 ghost use Rattle.product_search.specs.Closed.{IsListedBy};
 
 use crate::label::Label;
@@ -10,7 +10,7 @@ use std::cmp::Ordering::{Equal, Greater, Less};
 
 /// Whether a product state has a label that is no later than `at`.
 pub(crate) fn is_listed(list: &[Label], node: u32, state: u32, at: Time) -> bool
-    requires { IsAscending list.now }
+    requires { AreAscendingLabels list.now }
     ensures { IsTrue result ↔ IsListedBy list.now node state at }
 {
     let mut low = 0;

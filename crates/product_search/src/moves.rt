@@ -1,7 +1,7 @@
 //! The moves of the states of an automaton, by their letters.
 
 ghost use Rattle.std.specs.Prelude.{◌≡◌, [], ◌+◌, ◌<◌, ◌≤◌, ◌++◌, ◌∷◌, ℕ, length, IfOk, OnOk, IsBitSet};
-ghost use Rattle.search_laws.specs.Letters.{IsLetterSet};
+ghost use Rattle.search_laws.specs.Letters.{IsLetterSet, letter_count};
 ghost use Rattle.search_laws.specs.LabelLaws.{LabelsMeaning};
 ghost use Rattle.product_search.specs.MoveTables.{AreMoves, AreMovesBelow, AreTargetsWith, HasLetters, IsTableOf};
 
@@ -98,8 +98,8 @@ fn letters_leaving(step: Move, state: u32) -> u32
 /// Adds where a move leads to to the list of each of its letters.
 fn add_target(targets: &mut Vec<Targets>, step: Move) -> Result<(), AllocError>
     requires letters { IsLetterSet step.letters }
-    requires one_each { length targets.old.items ≡ 14 }
-    ensures { OnOk result (AreTargetsWith step 14 targets.old.items targets.new.items) }
+    requires one_each { length targets.old.items ≡ letter_count }
+    ensures { OnOk result (AreTargetsWith step letter_count targets.old.items targets.new.items) }
 {
     for letter in 0..letters_end(step.letters) {
         if step.has_letter(letter as u8) {
@@ -112,7 +112,7 @@ fn add_target(targets: &mut Vec<Targets>, step: Move) -> Result<(), AllocError>
 /// The letter behind the last one of a set.
 fn letters_end(letters: u32) -> u32
     requires { IsLetterSet letters }
-    ensures few { result ≤ 14 }
+    ensures few { result ≤ letter_count }
     ensures end { (c : ℕ) → IsBitSet letters c → c < result }
 {
     u32::BITS - letters.leading_zeros()

@@ -15,9 +15,10 @@ pub(crate) fn first_out_of_order<G: Graph, L: Labels>(
     arrival: Option<Time>,
     list: &[Label],
 ) -> Option<usize>
-    ensures { MatchOption result
-        (HoldsBelow (length list.now) (IsInOrderAt (G.meaning graph.now) (L.automaton labels.now) arrival list.now))
-        (FailsFirstAt (length list.now) (IsInOrderAt (G.meaning graph.now) (L.automaton labels.now) arrival list.now)) }
+    ensures { MatchOption result (HoldsBelow (length list.now)
+        (IsInOrderAt (G.meaning graph.now) (L.automaton labels.now) arrival list.now))
+        (FailsFirstAt (length list.now) (IsInOrderAt (G.meaning graph.now) (L.automaton labels.now) arrival
+        list.now)) }
 {
     for k in 0..list.len() {
         if !is_in_order_at(graph, labels, arrival, list, k) {

@@ -1,7 +1,7 @@
 //! An entry and its key, read together.
 
 ghost use Rattle.std.specs.Prelude.{◌≡◌};
-ghost use Rattle.product_search.specs.Waiting.{row_of, slim};
+ghost use Rattle.product_search.specs.Waiting.{keyed_row, slim};
 
 use crate::frontier::{Entry, Reached};
 use crate::key::Key;
@@ -19,7 +19,7 @@ pub(crate) struct Row {
 impl Row {
     /// What a key and its entry say.
     pub fn of(key: Key, entry: Entry) -> Row
-        ensures { result ≡ row_of key entry }
+        ensures { result ≡ keyed_row key entry }
     {
         Row {
             node: entry.node,

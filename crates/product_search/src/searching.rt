@@ -3,7 +3,7 @@
 ghost use Rattle.std.specs.Prelude.{◌≡◌, ◌<◌, ◌≤◌, ◌^◌, All, IfOk, IfSome, None, Some, length};
 ghost use Rattle.product_search.specs.Reach.{IsWithin};
 ghost use Rattle.product_search.specs.Listed.{AreLeastLabels, HasLeastLabels};
-ghost use Rattle.product_search.specs.Answer.{IsArrival, IsWalkFor, IsInTime, last_time};
+ghost use Rattle.product_search.specs.Answer.{IsArrival, IsWalkFor, IsByLastTime, last_time};
 ghost use Rattle.product_search.specs.Closed.{IsClosed};
 ghost use Rattle.product_search.specs.Limits.{HasMoreLabels, IfEnded, IfStopped};
 ghost use Rattle.product_search.specs.Searching.{IsSettlementWithin};
@@ -42,15 +42,15 @@ pub fn search<G: Graph, L: Labels>(
     requires targets { All (λ v. v < (G.meaning graph.now).nodes) targets.now }
     requires dep { dep < 2 ^ 64 }
     requires bound { IsWithin bound dep }
-    ensures arrival { IfOk result (λ f. IsArrival (G.meaning graph.now) (L.automaton machine.now.labels) starts.now targets.now dep
-        bound f.arrival) }
-    ensures walk { IfOk result (λ f. IsWalkFor (G.meaning graph.now) (L.automaton machine.now.labels) starts.now targets.now dep
-        f.arrival f.walk) }
-    ensures labels { IfOk result (λ f. AreLeastLabels (G.meaning graph.now) (L.automaton machine.now.labels) starts.now dep
-        bound f.arrival f.labels.items) }
-    ensures closed { bound ≡ None → IfOk result (λ f. IsClosed (G.meaning graph.now) (L.automaton machine.now.labels) starts.now targets.now dep
-        f.arrival f.labels.items) }
-    ensures times { IfOk result (IsInTime dep) }
+    ensures arrival { IfOk result (λ f. IsArrival (G.meaning graph.now) (L.automaton machine.now.labels)
+        starts.now targets.now dep bound f.arrival) }
+    ensures walk { IfOk result (λ f. IsWalkFor (G.meaning graph.now) (L.automaton machine.now.labels)
+        starts.now targets.now dep f.arrival f.walk) }
+    ensures labels { IfOk result (λ f. AreLeastLabels (G.meaning graph.now) (L.automaton machine.now.labels)
+        starts.now dep bound f.arrival f.labels.items) }
+    ensures closed { bound ≡ None → IfOk result (λ f. IsClosed (G.meaning graph.now)
+        (L.automaton machine.now.labels) starts.now targets.now dep f.arrival f.labels.items) }
+    ensures times { IfOk result (IsByLastTime dep) }
 {
     let found = search_within(alloc, graph, machine, starts, targets, dep, bound, None)?;
     Ok(found.into_answer())
@@ -72,15 +72,15 @@ pub fn search_within<G: Graph, L: Labels>(
     requires targets { All (λ v. v < (G.meaning graph.now).nodes) targets.now }
     requires dep { dep < 2 ^ 64 }
     requires bound { IsWithin bound dep }
-    ensures arrival { IfEnded result (λ f. IsArrival (G.meaning graph.now) (L.automaton machine.now.labels) starts.now targets.now dep
-        bound f.arrival) }
-    ensures walk { IfEnded result (λ f. IsWalkFor (G.meaning graph.now) (L.automaton machine.now.labels) starts.now targets.now dep
-        f.arrival f.walk) }
-    ensures labels { IfEnded result (λ f. AreLeastLabels (G.meaning graph.now) (L.automaton machine.now.labels) starts.now dep
-        bound f.arrival f.labels.items) }
-    ensures closed { bound ≡ None → IfEnded result (λ f. IsClosed (G.meaning graph.now) (L.automaton machine.now.labels) starts.now
-        targets.now dep f.arrival f.labels.items) }
-    ensures times { IfEnded result (IsInTime dep) }
+    ensures arrival { IfEnded result (λ f. IsArrival (G.meaning graph.now) (L.automaton machine.now.labels)
+        starts.now targets.now dep bound f.arrival) }
+    ensures walk { IfEnded result (λ f. IsWalkFor (G.meaning graph.now) (L.automaton machine.now.labels)
+        starts.now targets.now dep f.arrival f.walk) }
+    ensures labels { IfEnded result (λ f. AreLeastLabels (G.meaning graph.now)
+        (L.automaton machine.now.labels) starts.now dep bound f.arrival f.labels.items) }
+    ensures closed { bound ≡ None → IfEnded result (λ f. IsClosed (G.meaning graph.now)
+        (L.automaton machine.now.labels) starts.now targets.now dep f.arrival f.labels.items) }
+    ensures times { IfEnded result (IsByLastTime dep) }
     ensures few { IfEnded result (λ f. IfSome limit (λ most. length f.labels.items ≤ most)) }
     ensures stopped { IfStopped result (λ most. (limit ≡ Some most) × HasMoreLabels (G.meaning graph.now)
         (L.automaton machine.now.labels) starts.now targets.now dep bound most) }
@@ -120,12 +120,12 @@ pub fn search_counted_with<G: Graph, L: Labels>(
     requires starts { All (λ v. v < (G.meaning graph.now).nodes) starts.now }
     requires dep { dep < 2 ^ 64 }
     requires bound { IsWithin bound dep }
-    ensures arrival { IfOk result (λ f. IsArrival (G.meaning graph.now) (L.automaton machine.now.labels) starts.now targets.now dep
-        bound f.arrival) }
-    ensures walk { IfOk result (λ f. IsWalkFor (G.meaning graph.now) (L.automaton machine.now.labels) starts.now targets.now dep
-        f.arrival f.walk) }
-    ensures labels { IfOk result (λ f. HasLeastLabels (G.meaning graph.now) (L.automaton machine.now.labels) starts.now dep
-        bound f.arrival f.labels) }
+    ensures arrival { IfOk result (λ f. IsArrival (G.meaning graph.now) (L.automaton machine.now.labels)
+        starts.now targets.now dep bound f.arrival) }
+    ensures walk { IfOk result (λ f. IsWalkFor (G.meaning graph.now) (L.automaton machine.now.labels)
+        starts.now targets.now dep f.arrival f.walk) }
+    ensures labels { IfOk result (λ f. HasLeastLabels (G.meaning graph.now) (L.automaton machine.now.labels)
+        starts.now dep bound f.arrival f.labels) }
     ensures time { IfOk result (λ f. IfSome f.arrival (λ t. t ≤ last_time dep)) }
 {
     let found = search_counted_within(
@@ -149,12 +149,12 @@ pub fn search_counted_within<G: Graph, L: Labels>(
     requires starts { All (λ v. v < (G.meaning graph.now).nodes) starts.now }
     requires dep { dep < 2 ^ 64 }
     requires bound { IsWithin bound dep }
-    ensures arrival { IfEnded result (λ f. IsArrival (G.meaning graph.now) (L.automaton machine.now.labels) starts.now targets.now dep
-        bound f.arrival) }
-    ensures walk { IfEnded result (λ f. IsWalkFor (G.meaning graph.now) (L.automaton machine.now.labels) starts.now targets.now dep
-        f.arrival f.walk) }
-    ensures labels { IfEnded result (λ f. HasLeastLabels (G.meaning graph.now) (L.automaton machine.now.labels) starts.now dep
-        bound f.arrival f.labels) }
+    ensures arrival { IfEnded result (λ f. IsArrival (G.meaning graph.now) (L.automaton machine.now.labels)
+        starts.now targets.now dep bound f.arrival) }
+    ensures walk { IfEnded result (λ f. IsWalkFor (G.meaning graph.now) (L.automaton machine.now.labels)
+        starts.now targets.now dep f.arrival f.walk) }
+    ensures labels { IfEnded result (λ f. HasLeastLabels (G.meaning graph.now)
+        (L.automaton machine.now.labels) starts.now dep bound f.arrival f.labels) }
     ensures time { IfEnded result (λ f. IfSome f.arrival (λ t. t ≤ last_time dep)) }
     ensures few { IfEnded result (λ f. IfSome limit (λ most. f.labels ≤ most)) }
     ensures stopped { IfStopped result (λ most. (limit ≡ Some most) × HasMoreLabels (G.meaning graph.now)
@@ -198,10 +198,10 @@ pub fn search_best_with<G: Graph, L: Labels>(
     requires starts { All (λ v. v < (G.meaning graph.now).nodes) starts.now }
     requires dep { dep < 2 ^ 64 }
     requires bound { IsWithin bound dep }
-    ensures arrival { IfOk result (λ f. IsArrival (G.meaning graph.now) (L.automaton machine.now.labels) starts.now targets.now dep
-        bound f.arrival) }
-    ensures walk { IfOk result (λ f. IsWalkFor (G.meaning graph.now) (L.automaton machine.now.labels) starts.now targets.now dep
-        f.arrival f.walk) }
+    ensures arrival { IfOk result (λ f. IsArrival (G.meaning graph.now) (L.automaton machine.now.labels)
+        starts.now targets.now dep bound f.arrival) }
+    ensures walk { IfOk result (λ f. IsWalkFor (G.meaning graph.now) (L.automaton machine.now.labels)
+        starts.now targets.now dep f.arrival f.walk) }
     ensures time { IfOk result (λ f. IfSome f.arrival (λ t. t ≤ last_time dep)) }
 {
     let kept = workspace.take(alloc);
@@ -235,8 +235,8 @@ fn settle<G: Graph, L: Labels>(
     requires starts { All (λ v. v < (G.meaning graph.now).nodes) starts.now }
     requires dep { dep < 2 ^ 64 }
     requires bound { IsWithin bound dep }
-    ensures { IfOk result (λ s. IsSettlementWithin (G.meaning graph.now) (L.automaton machine.now.labels) starts.now targets.now dep
-        bound limit s.frontier s.best) }
+    ensures { IfOk result (λ s. IsSettlementWithin (G.meaning graph.now) (L.automaton machine.now.labels)
+        starts.now targets.now dep bound limit s.frontier s.best) }
 {
     let explored = settle_all(
         alloc, workspace, graph, machine, starts, targets, dep, bound, limit,

@@ -4,7 +4,7 @@ ghost use Rattle.std.specs.Prelude.{◌≡◌, ℕ, ◌<◌, ◌^◌, ◌&&◌, 
 ghost use Rattle.std.specs.BTreeSet as sorted;
 ghost use Rattle.std.specs.Ordering.{nat_cmp};
 ghost use Rattle.product_search.specs.Reach.{IsWithin};
-ghost use Rattle.product_search.specs.Searching.{IsExploredWithin, arrival_of};
+ghost use Rattle.product_search.specs.Searching.{IsExploredWithin, end_arrival};
 
 use crate::explore::explore;
 use crate::frontier::{Frontier, Settled};
@@ -39,8 +39,8 @@ pub(crate) fn settle_all<G: Graph, L: Labels>(
     requires starts { All (λ v. v < (G.meaning graph.now).nodes) starts.now }
     requires dep { dep < 2 ^ 64 }
     requires bound { IsWithin bound dep }
-    ensures { IfOk result (λ e. IsExploredWithin (G.meaning graph.now) (L.automaton machine.now.labels) starts.now targets.now dep bound
-        limit e.frontier e.end) }
+    ensures { IfOk result (λ e. IsExploredWithin (G.meaning graph.now) (L.automaton machine.now.labels)
+        starts.now targets.now dep bound limit e.frontier e.end) }
 {
     let ends = set_of(alloc, targets)?;
     let mut frontier = Frontier::new(alloc, workspace, machine.labels.states());
@@ -80,7 +80,7 @@ pub(crate) fn settle_all<G: Graph, L: Labels>(
 
 /// When a search arrives that has come to an end.
 pub(crate) fn arrival_of(end: Option<Settled>) -> Option<Time>
-    ensures { result ≡ arrival_of end }
+    ensures { result ≡ end_arrival end }
 {
     Some(end?.at)
 }
@@ -88,7 +88,8 @@ pub(crate) fn arrival_of(end: Option<Settled>) -> Option<Time>
 /// Whether a product state is a target in an accepting state.
 fn is_end<L: Labels>(labels: &L, ends: &BTreeSet<u32>, settled: Settled) -> bool
     requires { settled.state < (L.automaton labels.now).states }
-    ensures { result ≡ ((L.automaton labels.now).accepts settled.state && sorted.contains nat_cmp ends.now settled.node) }
+    ensures { result ≡ ((L.automaton labels.now).accepts settled.state && sorted.contains nat_cmp ends.now
+        settled.node) }
 {
     labels.accepts(settled.state) && ends.contains(&settled.node)
 }

@@ -1,7 +1,7 @@
 //! Clause 7: each start is listed by the departure, in each start state.
 
 ghost use Rattle.std.specs.Prelude.{◌≡◌, ◌<◌, ◌≤◌, ◌^◌, length, IfOk, IfErr, MatchOption};
-ghost use Rattle.product_search.specs.Listed.{IsAscending};
+ghost use Rattle.product_search.specs.Listed.{AreAscendingLabels};
 ghost use Rattle.product_search.specs.Closed.{start_states, start_pairs, pairs_at, AllListed, FailsAt, StartIsListedAt, HoldsBelow, FailsFirstAt};
 
 use crate::label::Label;
@@ -17,11 +17,12 @@ pub(crate) fn first_open_start<L: Labels>(
     arrival: Option<Time>,
     list: &[Label],
 ) -> Option<u64>
-    requires ascending { IsAscending list.now }
+    requires ascending { AreAscendingLabels list.now }
     requires few { length starts.now < 2 ^ 32 }
-    ensures { MatchOption result
-        (HoldsBelow (length (start_pairs (L.automaton labels.now) starts.now)) (StartIsListedAt (L.automaton labels.now) starts.now dep arrival list.now))
-        (FailsFirstAt (length (start_pairs (L.automaton labels.now) starts.now)) (StartIsListedAt (L.automaton labels.now) starts.now dep arrival list.now)) }
+    ensures { MatchOption result (HoldsBelow (length (start_pairs (L.automaton labels.now) starts.now))
+        (StartIsListedAt (L.automaton labels.now) starts.now dep arrival list.now))
+        (FailsFirstAt (length (start_pairs (L.automaton labels.now) starts.now))
+        (StartIsListedAt (L.automaton labels.now) starts.now dep arrival list.now)) }
 {
     if is_before(arrival, dep) {
         first_unlisted_start(labels, starts, dep, list)
@@ -39,7 +40,7 @@ fn first_unlisted_start<L: Labels>(
     dep: Time,
     list: &[Label],
 ) -> Option<u64>
-    requires ascending { IsAscending list.now }
+    requires ascending { AreAscendingLabels list.now }
     requires few { length starts.now < 2 ^ 32 }
     ensures { MatchOption result
         (AllListed list.now dep (start_pairs (L.automaton labels.now) starts.now))
@@ -57,9 +58,10 @@ fn first_unlisted_start<L: Labels>(
 
 /// The number of start states, if a node is listed in each of them; else the place of the first in which it is not.
 fn unlisted_state<L: Labels>(labels: &L, node: u32, dep: Time, list: &[Label]) -> Result<u32, u32>
-    requires { IsAscending list.now }
-    ensures listed { IfOk result (λ n. (n ≡ length (start_states (L.automaton labels.now) (L.automaton labels.now).states))
-        × AllListed list.now dep (pairs_at node (start_states (L.automaton labels.now) (L.automaton labels.now).states))) }
+    requires { AreAscendingLabels list.now }
+    ensures listed { IfOk result (λ n. (n ≡ length (start_states (L.automaton labels.now)
+        (L.automaton labels.now).states)) × AllListed list.now dep
+        (pairs_at node (start_states (L.automaton labels.now) (L.automaton labels.now).states))) }
     ensures unlisted { IfErr result (FailsAt list.now dep
         (pairs_at node (start_states (L.automaton labels.now) (L.automaton labels.now).states))) }
     ensures few { IfOk result (λ n. n ≤ 2 ^ 16) }

@@ -88,10 +88,13 @@ impl Noted {
     ) -> bool
         requires state { settled.state < (L.automaton labels.now).states }
         requires one_each { length self.old.times.items ≡ length targets.now.nodes.items }
-        requires passed { AreReached targets.now.nodes.items targets.now.places.items self.old.times.items self.old.passed }
+        requires passed { AreReached targets.now.nodes.items targets.now.places.items self.old.times.items
+            self.old.passed }
         ensures one_each { length self.new.times.items ≡ length targets.now.nodes.items }
-        ensures passed { AreReached targets.now.nodes.items targets.now.places.items self.new.times.items self.new.passed }
-        ensures noted { IsEndNoted (L.automaton labels.now) targets.now.places.items self.old.times.items self.new.times.items settled }
+        ensures passed { AreReached targets.now.nodes.items targets.now.places.items self.new.times.items
+            self.new.passed }
+        ensures noted { IsEndNoted (L.automaton labels.now) targets.now.places.items self.old.times.items
+            self.new.times.items settled }
         ensures all { IsTrue result → length targets.now.nodes.items ≤ self.new.passed }
     {
         if !labels.accepts(settled.state) {
@@ -120,8 +123,10 @@ impl Noted {
     /// Passes over the targets that were reached, up to the first that was not.
     #[inline(always)]
     fn pass(&mut self, targets: &TargetTable)
-        requires { AreReached targets.now.nodes.items targets.now.places.items self.old.times.items self.old.passed }
-        ensures passed { AreReached targets.now.nodes.items targets.now.places.items self.new.times.items self.new.passed }
+        requires { AreReached targets.now.nodes.items targets.now.places.items self.old.times.items
+            self.old.passed }
+        ensures passed { AreReached targets.now.nodes.items targets.now.places.items self.new.times.items
+            self.new.passed }
         ensures same { self.new.times.items ≡ self.old.times.items }
     {
         'pass: while self.passed < targets.nodes.len() {

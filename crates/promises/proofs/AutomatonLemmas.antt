@@ -5,7 +5,7 @@ use Rattle.search_laws.specs.Letters.{transit_letters}
 use Rattle.search_laws.specs.declared.labels.Move.{Move}
 use Rattle.search_laws.specs.LabelLaws.{LabelsMeaning, HasMove}
 use Rattle.automaton.specs.Written.{Written}
-use Rattle.automaton.specs.Rows.{rows, entry}
+use Rattle.automaton.specs.Rows.{position_rows, entry}
 use Rattle.automaton.specs.States.{IsPositionAutomaton}
 use Rattle.automaton.specs.Collapsed.{move_by, stay, other_move, collapsed}
 use Rattle.automaton.specs.CollapsedLaws.{and_set, set_and, no_bits, move_to}
@@ -21,8 +21,8 @@ module _ (e : Written) (l m : LabelsMeaning) (is : IsPositionAutomaton e l) (als
   in_range q c p lt move =
       let own = positions_alike e l (automaton_of e) is (is_position_automaton e) in
       let there : q < (automaton_of e).states = subst (λ k. q < k) own.states lt in
-      let steps = steps_of_move (rows e 0 end) (entry e 0 end) q c p (omega (arith, state_count (rows e 0 end) (entry e 0 end))) ((own.moves q c p lt).0 move) in
-      omega (arith, own.states, steps.1, state_count (rows e 0 end) (entry e 0 end))
+      let steps = steps_of_move (position_rows e 0 end) (entry e 0 end) q c p (omega (arith, state_count (position_rows e 0 end) (entry e 0 end))) ((own.moves q c p lt).0 move) in
+      omega (arith, own.states, steps.1, state_count (position_rows e 0 end) (entry e 0 end))
 
   pub positions_covered : IsCovered l m
   positions_covered =

@@ -4,7 +4,7 @@ use Rattle.mode_network.specs.NetworkLists.{NetworkLists}
 use Rattle.mode_network.specs.Rules.{AreInOrder, IsNetwork}
 use Rattle.mode_network.specs.declared.nodes.Node.{Node}
 use Rattle.sample_city.specs.Roads.{city_arcs, road_number}
-use Rattle.sample_city.specs.Stops.{city_links, city_stops, stop_nodes}
+use Rattle.sample_city.specs.Stops.{city_links, city_stop_nodes, city_stops}
 use Rattle.sample_city.specs.Trips.{city_trips}
 use Rattle.sample_city.specs.SampleCity.{IsSampleCity}
 use Rattle.promises.proofs.NetworkLemmas.{arcs_once, named_once, same_network}
@@ -33,7 +33,7 @@ module _ (n : ℕ) (one other : NetworkLists) (rules : IsNetwork one) (also : Is
       let days = is.days ∙ sym too.days in
       let roads = same_roads in
       let names = is.names ∙ ap (λ city. map (λ stop. stop.name) city) same_stops ∙ sym too.names in
-      let stops = is.stops ∙ ap (stop_nodes 0) same_stops ∙ sym too.stops in
+      let stops = is.stops ∙ ap (city_stop_nodes 0) same_stops ∙ sym too.stops in
       let switches = is.switches ∙ sym too.switches in
       let arcs = same_arcs in
       let links = same_links in

@@ -20,7 +20,7 @@ use Rattle.gtfs_tables.specs.Services.{services}
 use Rattle.gtfs_tables.specs.ServiceDates.{dates}
 use Rattle.gtfs_tables.specs.Calls.{calls}
 use Rattle.gtfs_tables.specs.TableRows.{TableRow, id_in}
-use Rattle.gtfs_tables.specs.Tables.{Table, given, header_in, judged, missing_column, records_of, row_fault, row_of, rows_behind, rows_below, rows_of}
+use Rattle.gtfs_tables.specs.Tables.{Table, given, header_in, judged, missing_column, records_of, row_fault, row_of, rows_behind, rows_below, rows_of_file}
 use Rattle.gtfs_tables.specs.Trips.{place_among, trips}
 
 -- two headways are of one trip and one row of frequencies.txt
@@ -115,7 +115,7 @@ table_apart ids None all e = subst (IsDistinct is_same_headway) (same [] all e) 
     same a b e = cc
 table_apart ids (Some text) all e =
     let t = frequencies ids in
-    let rows = rows_of text in
+    let rows = rows_of_file text in
     let head = bound (faultless (missing_column t.file t.needed (header_in rows)) (header_in rows)) (λ header. given t (rows_behind t header [] (rows_below rows))) all e in
     let fs = bound (rows_behind t head.0 [] (rows_below rows)) (λ fs. Ok (filter_map t.gives fs)) all head.2 in
     let apart = given_apart ids 2 fs.0 (rows_numbered ids head.0 (rows_below rows) [] fs.0 fs.1 tt) in

@@ -10,7 +10,7 @@ use Rattle.hierarchy.specs.declared.verdict.Verdict.{Verdict}
 use Rattle.hierarchy.specs.declared.verdict.Verdict.TheVariants.{Sound, Broken}
 use Rattle.hierarchy.specs.Lists.{HierarchyLists}
 use Rattle.hierarchy.specs.Soundness.{HoldsBelow, MayStandAt, FitsLayer, IsCovered, IsMade, NodeIsBridged, PairsAreBridged, PairIsBridged}
-use Rattle.hierarchy.specs.FirstBroken.{BridgesFailFirst, FailsFirst, FailsFirstAt, IsVerdict}
+use Rattle.hierarchy.specs.FirstBroken.{BridgesFailFirst, FailsFirst, FailsFirstAt, IsSoundnessVerdict}
 use Rattle.promises.specs.Hierarchies.{CheckVerdictIsUnique}
 
 -- something fails first at one place
@@ -79,7 +79,7 @@ module _ (n : NetworkLists) (h : HierarchyLists) where
   same_bridges v w (inr (all, e)) (inl (c, d, q, f)) = absurd (q.node_fails.fails (λ d. all q.place d q.node_fails.place))
   same_bridges v w (inr (_, e)) (inr (_, f)) = e ∙ sym f
 
-  clauses_of : (v : Verdict) → IsVerdict n h v → ByOrder v
+  clauses_of : (v : Verdict) → IsSoundnessVerdict n h v → ByOrder v
   clauses_of Sound sound = inr (
     sound.in_order,
     inr (

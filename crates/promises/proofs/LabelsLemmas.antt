@@ -14,7 +14,7 @@ use Rattle.journey.specs.CopyLists.{AreTheCopies}
 use Rattle.journey.specs.Best.{Asked}
 use Rattle.journey.proofs.CopyLemmas.{one_list_of_copies}
 use Rattle.planning.specs.Plans.{AreTheLabels, AreLabelsOver}
-use Rattle.planning.specs.Settled.{IsLabelCount, IsSettledBy}
+use Rattle.planning.specs.Settled.{IsLabelCount, IsSettledCount}
 use Rattle.planning.specs.Limits.{SearchHasMore, SearchHasAtMost, IsStoppedLine, IsLineWithin, IsSettledWithin}
 use Rattle.promises.specs.Searches.{LabelsAreUnique}
 use Rattle.promises.proofs.SearchLemmas.{IsCovered, arrival_over, labels_over, labels_once}
@@ -57,7 +57,7 @@ module _ (n : NetworkLists) (h : Option HierarchyLists) where
   count_once None q a b e f = e ∙ sym f
   count_once (Some k) q a b (xs, one, e) (ys, other, f) = e ∙ (ap length (labels_are_unique n (Some k) q xs ys one other) ∙ sym f)
 
-  settled_once : (line : List ℕ) (a b : ℕ) → IsSettledBy n h line a → IsSettledBy n h line b → a ≡ b
+  settled_once : (line : List ℕ) (a b : ℕ) → IsSettledCount n h line a → IsSettledCount n h line b → a ≡ b
   settled_once line a b (inl (f, x, e)) (inl (g, y, d)) = e ∙ sym d
   settled_once line a b (inl (f, x, e)) (inr (q, y, d)) = absurd (not_both n line q f y x)
   settled_once line a b (inr (q, x, e)) (inl (g, y, d)) = absurd (not_both n line q g x y)

@@ -9,7 +9,7 @@ use Rattle.plan_base.specs.declared.limits.Kind.TheVariants.{Nodes, Stops, Arcs,
 use Rattle.mode_network.specs.declared.faults.NetFault.{NetFault}
 use Rattle.mode_network.specs.declared.faults.NetFault.TheVariants.{Table}
 use Rattle.mode_network.specs.NetworkLists.{NetworkLists, nodes_of}
-use Rattle.mode_network.specs.Rules.{AreInOrder, IsAscending, arc_cmp, arcs_fault, count_fault, first_fault, first_unsorted, joins_layers, joins_modes, links_fault, lists_fault, name_cmp, node_cmp, or_else, row_fault, trips_fault, unsorted_fault}
+use Rattle.mode_network.specs.Rules.{AreInOrder, IsAscending, arc_cmp, arcs_fault, count_fault, end_or_order_fault, first_fault, first_unsorted, joins_layers, joins_modes, links_fault, lists_fault, name_cmp, node_cmp, or_else, trips_fault, unsorted_fault}
 use Rattle.mode_network.specs.declared.nodes.Arc.{Arc}
 use Rattle.mode_network.proofs.RuleLemmas.{arcs_total, ascending_from, names_total}
 use Rattle.promises.proofs.OrderLemmas.{ascending_permutation_once, ascends_by}
@@ -44,7 +44,7 @@ neither : (a b : Option NetFault) → or_else a b ≡ None → (a ≡ None) × (
 neither None b e = (refl, e)
 neither (Some fault) b e = absurd (cc)
 
-in_order : (kind : Kind) (bad unsorted : Option ℕ) → row_fault kind bad unsorted ≡ None → unsorted ≡ None
+in_order : (kind : Kind) (bad unsorted : Option ℕ) → end_or_order_fault kind bad unsorted ≡ None → unsorted ≡ None
 in_order kind None None e = refl
 in_order kind (Some bad) None e = refl
 in_order kind None (Some row) e = absurd (cc)

@@ -10,7 +10,7 @@ use Rattle.timetable_arcs.specs.TripRules.{calls_of}
 use Rattle.timetable_arcs.specs.Trips.{TripLists}
 use Rattle.opl_reader.specs.declared.objects.OsmNode.{OsmNode}
 use Rattle.opl_reader.specs.ObjectLists.{AreObjects, ObjectLists}
-use Rattle.road_profile.specs.Legs.{legs_of, place_at}
+use Rattle.road_profile.specs.Legs.{legs_of, place_of_node}
 use Rattle.road_profile.specs.declared.rows.RoadRow.{RoadRow}
 use Rattle.gtfs_tables.specs.FeedLists.{FeedLists}
 use Rattle.gtfs_tables.specs.Sound.{IsFeed}
@@ -26,7 +26,7 @@ use Rattle.region_build.specs.Ends.{AreEnds, End}
 use Rattle.region_build.specs.Links.{FindsNearest, stop_links, switch_links}
 use Rattle.region_build.specs.Roads.{arcs_of, road_nodes}
 use Rattle.region_build.specs.Sources.{SourceLists}
-use Rattle.region_build.specs.StopNames.{entries_from, stop_nodes, stop_number}
+use Rattle.region_build.specs.StopNames.{entries_from, stop_entry_nodes, stop_number}
 use Rattle.region_build.specs.Switches.{switch_node}
 use Rattle.promises.specs.Compiled.{CompiledIsUnique, IsBuilt}
 use Rattle.promises.proofs.DraftLemmas.{ends_once, named_apart_once, names_differ, rows_once, stop_links_once, switch_links_once, switches_once}
@@ -53,10 +53,10 @@ module _ (objects : ObjectLists) (sound : AreObjects objects) (feed : FeedLists)
       (subst (λ (rows : List RoadRow). AreEnds rows one.lists.ends) same_rows one.lists.roads_are.ends_are) other.lists.roads_are.ends_are
 
   same_roads : n.roads ≡ m.roads
-  same_roads = one.lists.roads_are.nodes_are ∙ ap (road_nodes (place_at objects.nodes)) same_ends ∙ sym other.lists.roads_are.nodes_are
+  same_roads = one.lists.roads_are.nodes_are ∙ ap (road_nodes (place_of_node objects.nodes)) same_ends ∙ sym other.lists.roads_are.nodes_are
 
   same_stops : n.stops ≡ m.stops
-  same_stops = one.lists.stops_are ∙ ap (stop_nodes 0) same_entries ∙ sym other.lists.stops_are
+  same_stops = one.lists.stops_are ∙ ap (stop_entry_nodes 0) same_entries ∙ sym other.lists.stops_are
 
   same_names : n.stop_names ≡ m.stop_names
   same_names = one.names ∙ ap (λ entries. map (λ entry. entry.name) entries) same_entries ∙ sym other.names

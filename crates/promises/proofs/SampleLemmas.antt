@@ -3,8 +3,8 @@ use Rattle.std.proofs.Common.{◌≡◌, ℕ, ◌-◌, ◌++◌, inl, inr, List,
 use Rattle.mode_network.specs.NetworkLists.{NetworkLists}
 use Rattle.mode_network.specs.Journeys.{Route}
 use Rattle.journey.specs.Best.{Asked, IsBest}
-use Rattle.sample_command.specs.Queries.{query_lines}
-use Rattle.sample_command.specs.Times.{AreTimes, IsTime}
+use Rattle.sample_command.specs.Queries.{sampled_queries}
+use Rattle.sample_command.specs.Times.{AreTimes, IsTravelTime}
 use Rattle.sample_command.specs.Texts.{city_text, times_text}
 use Rattle.promises.specs.Samples.{SampleCityIsUnique, SummariesAreAlike}
 use Rattle.promises.proofs.CityLemmas.{city_once}
@@ -22,7 +22,7 @@ module _ (n : NetworkLists) where
       omega arith
 
   -- and take one time
-  time_once : (line : List ℕ) (a b : Option ℕ) → IsTime n line a → IsTime n line b → a ≡ b
+  time_once : (line : List ℕ) (a b : Option ℕ) → IsTravelTime n line a → IsTravelTime n line b → a ≡ b
   time_once line None None p q = refl
   time_once line (Some a) None p (inl (asked, asks, none)) =
       let same = same_asked n line p.asked asked p.asks asks in
@@ -51,7 +51,7 @@ module _ (n : NetworkLists) where
 pub summaries_are_alike : SummariesAreAlike
 summaries_are_alike n one other p q =
     let city = city_once n p.city q.city p.rules q.rules p.is q.is in
-    let times = times_once q.city (query_lines n) p.plain q.plain (subst (λ (c : NetworkLists). AreTimes c (query_lines n) p.plain) city p.times) q.times in
+    let times = times_once q.city (sampled_queries n) p.plain q.plain (subst (λ (c : NetworkLists). AreTimes c (sampled_queries n) p.plain) city p.times) q.times in
     let first : one ≡ city_text n q.city ++ times_text q.plain q.plain p.settled =
     p.text ∙ ap (λ (c : NetworkLists). city_text n c ++ times_text p.plain p.over p.settled) city
     ∙ ap₂ (λ ts over. city_text n q.city ++ times_text ts over p.settled) times (p.same ∙ times) in

@@ -20,7 +20,7 @@ use Rattle.gtfs_tables.specs.declared.frequencies.FrequencyRow.{FrequencyRow}
 use Rattle.gtfs_tables.specs.declared.trips.TripRow.{TripRow}
 use Rattle.region_build.specs.Groups.{is_of, trip_of_call, trip_of_frequency}
 use Rattle.region_build.specs.Services.{AreDaysOf}
-use Rattle.region_build.specs.Sources.{AreCallsInOrder, AreFrequenciesInOrder, AreSources, AreSourcesFrom, IsSource, SourceLists}
+use Rattle.region_build.specs.Sources.{AreCallsInOrder, AreFrequenciesInOrder, AreSourcesFrom, AreTripSources, IsSource, SourceLists}
 use Rattle.promises.proofs.HeadwayLemmas.{is_same_headway}
 use Rattle.promises.proofs.OrderLemmas.{distinct_once}
 
@@ -116,7 +116,7 @@ module _ (feed : FeedLists) (days : DaysMeaning) where
         ap₂ (λ (s : SourceLists) (ss : List SourceLists). s ∷ ss) (source_once (filter (is_of trip_of_call k) calls) (filter (is_of trip_of_frequency k) headways) trip x y p q) (sources_from (k + 1) trips xs ys ps qs)
 
   -- one list of what is said of all trips
-  pub sources_once : IsFeed feed → IsDistinct is_same_headway feed.frequencies → (xs ys : List SourceLists) → AreSources feed days xs → AreSources feed days ys → xs ≡ ys
+  pub sources_once : IsFeed feed → IsDistinct is_same_headway feed.frequencies → (xs ys : List SourceLists) → AreTripSources feed days xs → AreTripSources feed days ys → xs ≡ ys
   sources_once rules apart xs ys one other =
       let calls = calls_once feed rules apart one.calls other.calls one.calls_are other.calls_are in
       let headways = headways_once feed rules apart one.frequencies other.frequencies one.frequencies_are other.frequencies_are in

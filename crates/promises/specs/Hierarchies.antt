@@ -3,10 +3,10 @@ use Rattle.std.specs.Prelude.{◌≡◌}
 use Rattle.mode_network.specs.NetworkLists.{NetworkLists}
 use Rattle.hierarchy.specs.declared.verdict.Verdict.{Verdict}
 use Rattle.hierarchy.specs.Lists.{HierarchyLists}
-use Rattle.hierarchy.specs.FirstBroken.{IsVerdict}
+use Rattle.hierarchy.specs.FirstBroken.{IsSoundnessVerdict}
 
 -- Two verdicts that may be given of one region and one hierarchy are the same: it is sound, or one clause is
 -- the first that fails, at one place.
 abbrev pub CheckVerdictIsUnique : Type 0
 CheckVerdictIsUnique = (n : NetworkLists) (h : HierarchyLists) (one other : Verdict)
-    → IsVerdict n h one → IsVerdict n h other → one ≡ other
+    → IsSoundnessVerdict n h one → IsSoundnessVerdict n h other → one ≡ other

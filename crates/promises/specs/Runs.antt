@@ -24,7 +24,7 @@ Succeeds S files = (old new : Scene ⊤) (outcome : Outcome)
 
 -- Later the region stands as it did, and this name holds what was written, which is no longer than a file
 -- that is read whole may be.
-pub record IsKept (files later : Files) (region name out : List ℕ) : Type 0 where
+pub record IsStored (files later : Files) (region name out : List ℕ) : Type 0 where
   pub region_stays : later region ≡ files region
   pub held : later name ≡ Some out
   pub within : length out ≤ most_bytes

@@ -16,12 +16,12 @@ use Rattle.road_profile.specs.Arcs.{JoinsPlaces, row_cmp}
 use Rattle.road_profile.specs.declared.rows.RoadRow.{RoadRow}
 use Rattle.road_profile.proofs.EndLaws.{arcs_joined}
 use Rattle.mode_network.specs.NetworkLists.{mode_at}
-use Rattle.mode_network.specs.Rules.{arc_cmp, first_unsorted, is_same_mode, joins_modes, row_fault}
+use Rattle.mode_network.specs.Rules.{arc_cmp, end_or_order_fault, first_unsorted, is_same_mode, joins_modes}
 use Rattle.mode_network.specs.declared.nodes.Arc.{Arc}
 use Rattle.mode_network.specs.declared.nodes.Node.{Node}
 use Rattle.region_build.specs.Compiled.{AreRoads}
-use Rattle.region_build.specs.Ends.{End, number_of}
-use Rattle.region_build.specs.Roads.{arc_between, arc_of, arcs_of}
+use Rattle.region_build.specs.Ends.{End, number_of_end}
+use Rattle.region_build.specs.Roads.{arc_between, arc_by_row, arcs_of}
 use Rattle.region_build.proofs.EndLaws.{mode_of_number, number_same}
 use Rattle.region_build.proofs.OrderLaws.{None_of, Once, none_cons, once_cons, once_nil, once_permutation, rises_from_sorted, rises_sorted, same_key}
 use Rattle.region_build.proofs.PartLaws.{flat_map-if}
@@ -53,11 +53,11 @@ arc_ends (Some from) (Some to) ms arc e =
 
 module _ (ends : List End) where
   -- rows of which one is below the other have different arcs
-  differ : (row other : RoadRow) (q arc : Arc) → row_cmp row other ≡ Less → arc_of ends row ≡ Some q → arc_of ends other ≡ Some arc → (q.from ≡ arc.from) × (q.to ≡ arc.to) → ⊥
-  unfolding arc_of
+  differ : (row other : RoadRow) (q arc : Arc) → row_cmp row other ≡ Less → arc_by_row ends row ≡ Some q → arc_by_row ends other ≡ Some arc → (q.from ≡ arc.from) × (q.to ≡ arc.to) → ⊥
+  unfolding arc_by_row
   differ row other q arc below one two same =
-      let here = arc_ends (number_of ends (row.from, row.mode)) (number_of ends (row.to, row.mode)) row.ms q one in
-      let there = arc_ends (number_of ends (other.from, other.mode)) (number_of ends (other.to, other.mode)) other.ms arc two in
+      let here = arc_ends (number_of_end ends (row.from, row.mode)) (number_of_end ends (row.to, row.mode)) row.ms q one in
+      let there = arc_ends (number_of_end ends (other.from, other.mode)) (number_of_end ends (other.to, other.mode)) other.ms arc two in
       let from = number_same ends (row.from, row.mode) (other.from, other.mode) q.from here.0 (there.0 ∙ ap Some (sym same.0)) in
       let to = number_same ends (row.to, row.mode) (other.to, other.mode) q.to here.1 (there.1 ∙ ap Some (sym same.1)) in
       equal_is_not_below row other from.0 to.0 from.1 below
@@ -70,38 +70,38 @@ module _ (ends : List End) where
           not_both : Less ≡ Equal → ⊥
           not_both e = cc
 
-  none_later : (q : Arc) (row : RoadRow) → arc_of ends row ≡ Some q → (q2 : Arc) → same_key arc_cmp q2 q ≡ true → (rows : List RoadRow) → All (λ other. row_cmp row other ≡ Less) rows → None_of (same_key arc_cmp) q2 (arcs_of ends rows)
+  none_later : (q : Arc) (row : RoadRow) → arc_by_row ends row ≡ Some q → (q2 : Arc) → same_key arc_cmp q2 q ≡ true → (rows : List RoadRow) → All (λ other. row_cmp row other ≡ Less) rows → None_of (same_key arc_cmp) q2 (arcs_of ends rows)
   none_later q row is q2 same [] all = refl
-  none_later q row is q2 same (other ∷ rows) all = by_arc (none_later q row is q2 same rows (All-tail (λ other. row_cmp row other ≡ Less) other rows all)) (arc_of ends other) refl
+  none_later q row is q2 same (other ∷ rows) all = by_arc (none_later q row is q2 same rows (All-tail (λ other. row_cmp row other ≡ Less) other rows all)) (arc_by_row ends other) refl
     where
-      by_test : (arc : Arc) → arc_of ends other ≡ Some arc → (t : Bool) → same_key arc_cmp q2 arc ≡ t → same_key arc_cmp q2 arc ≡ false
+      by_test : (arc : Arc) → arc_by_row ends other ≡ Some arc → (t : Bool) → same_key arc_cmp q2 arc ≡ t → same_key arc_cmp q2 arc ≡ false
       by_test arc e false t = t
       by_test arc e true t =
           let here = same_arc q2 q same in
           let there = same_arc q2 arc t in
           absurd (differ row other q arc (All-head (λ other. row_cmp row other ≡ Less) other rows all) is e (sym here.0 ∙ there.0, sym here.1 ∙ there.1))
 
-      by_arc : None_of (same_key arc_cmp) q2 (arcs_of ends rows) → (arc : Option Arc) → arc_of ends other ≡ arc → None_of (same_key arc_cmp) q2 (option_to_list arc ++ arcs_of ends rows)
+      by_arc : None_of (same_key arc_cmp) q2 (arcs_of ends rows) → (arc : Option Arc) → arc_by_row ends other ≡ arc → None_of (same_key arc_cmp) q2 (option_to_list arc ++ arcs_of ends rows)
       by_arc later None e = later
       by_arc later (Some arc) e = none_cons (same_key arc_cmp) q2 arc (arcs_of ends rows) (by_test arc e (same_key arc_cmp q2 arc) refl) later
 
   once_each : (rows : List RoadRow) → AllPairs (λ a b. row_cmp a b ≡ Less) rows → Once (same_key arc_cmp) (arcs_of ends rows)
   once_each [] pairs = once_nil (same_key arc_cmp)
-  once_each (row ∷ rows) pairs = by_arc (once_each rows (λ i j d below within. pairs (suc i) (suc j) d (omega arith) (omega arith))) (arc_of ends row) refl
+  once_each (row ∷ rows) pairs = by_arc (once_each rows (λ i j d below within. pairs (suc i) (suc j) d (omega arith) (omega arith))) (arc_by_row ends row) refl
     where
       below_all : All (λ other. row_cmp row other ≡ Less) rows
       below_all k d within = pairs 0 (suc k) d (omega arith) (omega arith)
 
-      by_arc : Once (same_key arc_cmp) (arcs_of ends rows) → (arc : Option Arc) → arc_of ends row ≡ arc → Once (same_key arc_cmp) (option_to_list arc ++ arcs_of ends rows)
+      by_arc : Once (same_key arc_cmp) (arcs_of ends rows) → (arc : Option Arc) → arc_by_row ends row ≡ arc → Once (same_key arc_cmp) (option_to_list arc ++ arcs_of ends rows)
       by_arc others None e = others
       by_arc others (Some arc) e = once_cons (same_key arc_cmp) arc (arcs_of ends rows) (λ q same. none_later arc row e q same rows below_all) others
 
 module _ (objects : ObjectLists) (ends : List End) (nodes : List Node) (arcs : List Arc) (are : AreRoads objects ends nodes arcs) where
-  row_joins : (row : RoadRow) → JoinsPlaces objects.nodes row → All (λ arc. joins_modes nodes arc ≡ true) (option_to_list (arc_of ends row))
-  unfolding arc_of
-  row_joins row joins = by_numbers (number_of ends (row.from, row.mode)) (number_of ends (row.to, row.mode)) refl refl
+  row_joins : (row : RoadRow) → JoinsPlaces objects.nodes row → All (λ arc. joins_modes nodes arc ≡ true) (option_to_list (arc_by_row ends row))
+  unfolding arc_by_row
+  row_joins row joins = by_numbers (number_of_end ends (row.from, row.mode)) (number_of_end ends (row.to, row.mode)) refl refl
     where
-      by_numbers : (from to : Option ℕ) → number_of ends (row.from, row.mode) ≡ from → number_of ends (row.to, row.mode) ≡ to → All (λ arc. joins_modes nodes arc ≡ true) (option_to_list (arc_between from to row.ms))
+      by_numbers : (from to : Option ℕ) → number_of_end ends (row.from, row.mode) ≡ from → number_of_end ends (row.to, row.mode) ≡ to → All (λ arc. joins_modes nodes arc ≡ true) (option_to_list (arc_between from to row.ms))
       by_numbers None to p q = All-nil (λ arc. joins_modes nodes arc ≡ true)
       by_numbers (Some from) None p q = All-nil (λ arc. joins_modes nodes arc ≡ true)
       by_numbers (Some from) (Some to) p q =
@@ -118,9 +118,9 @@ module _ (objects : ObjectLists) (ends : List End) (nodes : List Node) (arcs : L
               let one : from ≡ to = grind (arith, nat_tests, e) in
               absurd (joins.differ (number_same ends (row.from, row.mode) (row.to, row.mode) from p (q ∙ ap Some (sym one))).0)
 
-  pub arcs_right : row_fault Arcs (position (λ arc. not (joins_modes nodes arc)) arcs) (first_unsorted arc_cmp 0 arcs) ≡ None
+  pub arcs_right : end_or_order_fault Arcs (position (λ arc. not (joins_modes nodes arc)) arcs) (first_unsorted arc_cmp 0 arcs) ≡ None
   arcs_right =
-      let given = flat_map-if (λ arc. joins_modes nodes arc ≡ true) (JoinsPlaces objects.nodes) (λ row. option_to_list (arc_of ends row)) row_joins are.rows (arcs_joined objects are.rows are.rows_are) in
+      let given = flat_map-if (λ arc. joins_modes nodes arc ≡ true) (JoinsPlaces objects.nodes) (λ row. option_to_list (arc_by_row ends row)) row_joins are.rows (arcs_joined objects are.rows are.rows_are) in
       let joined = All-permutation (λ arc. joins_modes nodes arc ≡ true) (arcs_of ends are.rows) arcs are.arcs_are.same given in
       let once = once_permutation (same_key arc_cmp) (arcs_of ends are.rows) arcs are.arcs_are.same (once_each ends are.rows are.rows_are.ascending) in
       let bad : position (λ arc. not (joins_modes nodes arc)) arcs ≡ None = position_none (joins_modes nodes) arcs joined in

@@ -15,9 +15,9 @@ use Rattle.mode_network.specs.declared.nodes.Node.{Node}
 use Rattle.region_build.specs.Answers.{HasFault, IsCompiled, IsFaultOf, draft_fault, fault_by}
 use Rattle.region_build.specs.Compiled.{AreLists, IsDraft}
 use Rattle.region_build.specs.Copies.{expanded}
-use Rattle.region_build.specs.Sources.{AreCallsInOrder, AreFrequenciesInOrder, AreSources, AreSourcesFrom, SourceLists}
+use Rattle.region_build.specs.Sources.{AreCallsInOrder, AreFrequenciesInOrder, AreSourcesFrom, AreTripSources, SourceLists}
 use Rattle.region_build.specs.StopNames.{stop_number}
-use Rattle.region_build.specs.Tallies.{IsTally, counts_of}
+use Rattle.region_build.specs.Tallies.{IsTally, tallies_of}
 use Rattle.region_build.specs.declared.faults.BuildFault.{BuildFault}
 use Rattle.region_build.specs.declared.faults.BuildFault.TheVariants.{TimeGoesBack, TooMany, OutOfMemory}
 use Rattle.region_build.specs.declared.stops.StopEntry.{StopEntry}
@@ -30,7 +30,7 @@ use Rattle.region_build.proofs.TallyLaws.{calls_counted, trips_counted}
 -- what is said of trips is read from rows that were put in order
 pub sources_said : (feed : FeedLists) (days : DaysMeaning) (given calls calls_now : List CallRow) (given_rows rows rows_now : List FrequencyRow) (sources : List SourceLists)
     → given ≡ feed.calls → AreCallsInOrder given calls → calls_now ≡ calls → given_rows ≡ feed.frequencies → AreFrequenciesInOrder given_rows rows → rows_now ≡ rows
-    → AreSourcesFrom feed days calls_now rows_now 0 feed.trips sources → AreSources feed days sources
+    → AreSourcesFrom feed days calls_now rows_now 0 feed.trips sources → AreTripSources feed days sources
 sources_said feed days given calls calls_now given_rows rows rows_now sources of_calls calls_are calls_same of_rows rows_are rows_same each = record {
   calls = calls_now;
   calls_are = subst (AreCallsInOrder feed.calls) (sym calls_same) (subst (λ (given : List CallRow). AreCallsInOrder given calls) of_calls calls_are);
@@ -40,7 +40,7 @@ sources_said feed days given calls calls_now given_rows rows rows_now sources of
 }
 
 module _ (caps : Caps) {objects : ObjectLists} {feed : FeedLists} {days : DaysMeaning} {entries : List StopEntry} {sources : List SourceLists} {roads stops switches : List Node} {arcs links : List Arc} {tally : Tally}
-    (lists : AreLists objects feed entries roads stops switches arcs links) (said : AreSources feed days sources) (is : IsTally sources tally) where
+    (lists : AreLists objects feed entries roads stops switches arcs links) (said : AreTripSources feed days sources) (is : IsTally sources tally) where
   abbrev drafted : NetworkLists
   drafted = record {
     days = days;
@@ -66,14 +66,14 @@ module _ (caps : Caps) {objects : ObjectLists} {feed : FeedLists} {days : DaysMe
     calls = tally.calls;
   }
 
-  counted : counts ≡ counts_of drafted
+  counted : counts ≡ tallies_of drafted
   counted =
       ap {B = Counts} (λ trips. record { nodes = length (roads ++ stops ++ switches); stops = length stops; arcs = length arcs; links = length links; trips = trips; calls = tally.calls }) (is.trips ∙ sym (trips_counted (stop_number entries) sources))
       ∙ ap {B = Counts} (λ calls. record { nodes = length (roads ++ stops ++ switches); stops = length stops; arcs = length arcs; links = length links; trips = length (expanded (stop_number entries) sources); calls = calls })
       (is.calls ∙ sym (calls_counted (stop_number entries) sources))
 
   same : draft_fault caps sources drafted ≡ fault_by caps counts tally.back
-  same = ap (fault_by caps (counts_of drafted)) (sym is.back) ∙ ap (λ counts. fault_by caps counts tally.back) (sym counted)
+  same = ap (fault_by caps (tallies_of drafted)) (sym is.back) ∙ ap (λ counts. fault_by caps counts tally.back) (sym counted)
 
   found : (fault : BuildFault) → fault_by caps counts tally.back ≡ Some fault → HasFault caps objects feed days fault
   found fault h = record { lists = drafted; entries = entries; sources = sources; draft = draft; first = same ∙ h }

@@ -19,7 +19,7 @@ use Rattle.std.proofs.lemmas.Option.{slice_get-get_or, slice_get-map}
 use Rattle.plan_base.specs.declared.places.Place.{Place}
 use Rattle.opl_reader.specs.ObjectLists.{ObjectLists}
 use Rattle.road_profile.specs.Arcs.{JoinsPlaces}
-use Rattle.road_profile.specs.Legs.{place_at}
+use Rattle.road_profile.specs.Legs.{place_of_node}
 use Rattle.road_profile.proofs.EndLaws.{arcs_joined}
 use Rattle.mode_network.specs.NetworkLists.{mode_at, mode_of}
 use Rattle.mode_network.specs.Rules.{first_unsorted, node_cmp, rank_of}
@@ -28,7 +28,7 @@ use Rattle.mode_network.specs.declared.nodes.Node.{Node}
 use Rattle.mode_network.specs.declared.nodes.NodeKey.{NodeKey}
 use Rattle.mode_network.specs.declared.nodes.NodeKey.TheVariants.{Road}
 use Rattle.region_build.specs.Compiled.{AreRoads}
-use Rattle.region_build.specs.Ends.{End, end_cmp, ends_at, is_end, number_of, once_behind}
+use Rattle.region_build.specs.Ends.{End, end_cmp, ends_at, is_same_end, number_of_end, once_behind}
 use Rattle.region_build.specs.Roads.{road_node, road_nodes}
 use Rattle.region_build.proofs.OrderLaws.{Rises, rises_by, rises_map, rises_push, rises_sorted}
 use Rattle.region_build.proofs.PartLaws.{flat_map-if, once_keeps}
@@ -36,14 +36,14 @@ use Rattle.region_build.proofs.PartLaws.{flat_map-if, once_keeps}
 end_total : IsTotalOrder end_cmp
 end_total = then_total (on_total (λ (end : End). end.0) int_cmp_total) (on_total (λ (end : End). end.1) nat_cmp_total)
 
-same_end : (a b : End) → is_end a b ≡ true → (a.0 ≡ b.0) × (a.1 ≡ b.1)
+same_end : (a b : End) → is_same_end a b ≡ true → (a.0 ≡ b.0) × (a.1 ≡ b.1)
 same_end a b e =
     let parts = and_parts (int_eq a.0 b.0) (nat_eq a.1 b.1) e in
     let modes : a.1 ≡ b.1 = grind (arith, nat_tests, parts.1) in
     ((Decides-int_eq a.0 b.0).0 parts.0, modes)
 
 -- an end that is another's, and not below it, is above it
-is_above : (x e : End) → is_end e x ≡ false → is_lt (end_cmp e x) ≡ false → is_lt (end_cmp x e) ≡ true
+is_above : (x e : End) → is_same_end e x ≡ false → is_lt (end_cmp e x) ≡ false → is_lt (end_cmp x e) ≡ true
 is_above x e differs not_below = by_order (end_cmp x e) refl
   where
     by_order : (o : Ordering) → end_cmp x e ≡ o → is_lt (end_cmp x e) ≡ true
@@ -51,8 +51,8 @@ is_above x e differs not_below = by_order (end_cmp x e) refl
     by_order Equal is =
         let one : x ≡ e = exact_pairs int_cmp nat_cmp exact_signed exact_unsigned x e is in
         let modes : nat_eq e.1 e.1 ≡ true = grind (arith, nat_tests) in
-        let itself : is_end e e ≡ true = and_from (int_eq e.0 e.0) (nat_eq e.1 e.1) ((Decides-int_eq e.0 e.0).1 refl) modes in
-        absurd (false≢true (sym differs ∙ ap (is_end e) one ∙ itself))
+        let itself : is_same_end e e ≡ true = and_from (int_eq e.0 e.0) (nat_eq e.1 e.1) ((Decides-int_eq e.0 e.0).1 refl) modes in
+        absurd (false≢true (sym differs ∙ ap (is_same_end e) one ∙ itself))
     by_order Greater is = absurd (false≢true (sym not_below ∙ ap is_lt (end_total.antisymm e x ∙ ap ordering_reverse is)))
 
 -- no later one is below an earlier one
@@ -70,10 +70,10 @@ upward (e ∷ es) sorted = (
       rw next at (sorted (suc k) d (omega arith) (omega arith))),
 )
 
-above_all : (e : End) (seen : List End) → list_any (is_end e) seen ≡ false → All (λ x. is_lt (end_cmp e x) ≡ false) seen → All (λ x. is_lt (end_cmp x e) ≡ true) seen
+above_all : (e : End) (seen : List End) → list_any (is_same_end e) seen ≡ false → All (λ x. is_lt (end_cmp e x) ≡ false) seen → All (λ x. is_lt (end_cmp x e) ≡ true) seen
 above_all e [] new low = All-nil (λ x. is_lt (end_cmp x e) ≡ true)
 above_all e (x ∷ seen) new low =
-    let parts = neither (is_end e x) (list_any (is_end e) seen) new in
+    let parts = neither (is_same_end e x) (list_any (is_same_end e) seen) new in
     All-cons (λ x. is_lt (end_cmp x e) ≡ true) x seen (is_above x e parts.0 (All-head (λ x. is_lt (end_cmp e x) ≡ false) x seen low))
     (above_all e seen parts.1 (All-tail (λ x. is_lt (end_cmp e x) ≡ false) x seen low))
   where
@@ -83,7 +83,7 @@ above_all e (x ∷ seen) new low =
 
 once_rises : (seen es : List End) → Rises end_cmp seen → Upward es → All (λ x. All (λ y. is_lt (end_cmp y x) ≡ false) es) seen → Rises end_cmp (once_behind seen es)
 once_rises seen [] rises up low = rises
-once_rises seen (e ∷ es) rises up low = by_test (λ seen rises low. once_rises seen es rises up.1 low) (list_any (is_end e) seen) refl
+once_rises seen (e ∷ es) rises up low = by_test (λ seen rises low. once_rises seen es rises up.1 low) (list_any (is_same_end e) seen) refl
   where
     later : All (λ x. All (λ y. is_lt (end_cmp y x) ≡ false) es) seen
     later k d below = All-tail (λ y. is_lt (end_cmp y (get_or seen k d)) ≡ false) e es (low k d below)
@@ -92,7 +92,7 @@ once_rises seen (e ∷ es) rises up low = by_test (λ seen rises low. once_rises
     now_low k d below = All-head (λ y. is_lt (end_cmp y (get_or seen k d)) ≡ false) e es (low k d below)
 
     by_test : ((seen : List End) → Rises end_cmp seen → All (λ x. All (λ y. is_lt (end_cmp y x) ≡ false) es) seen → Rises end_cmp (once_behind seen es))
-        → (known : Bool) → list_any (is_end e) seen ≡ known → Rises end_cmp (once_behind (if known then seen else seen ++ e ∷ []) es)
+        → (known : Bool) → list_any (is_same_end e) seen ≡ known → Rises end_cmp (once_behind (if known then seen else seen ++ e ∷ []) es)
     by_test rest true is = rest seen rises later
     by_test rest false is =
         rest (seen ++ e ∷ []) (rises_push end_cmp seen e rises (above_all e seen is now_low))
@@ -100,13 +100,13 @@ once_rises seen (e ∷ es) rises up low = by_test (λ seen rises low. once_rises
         (All-cons (λ x. All (λ y. is_lt (end_cmp y x) ≡ false) es) e [] up.0 (All-nil (λ x. All (λ y. is_lt (end_cmp y x) ≡ false) es))))
 
 -- the end that has a number
-pub number_is : (ends : List End) (end : End) (k : ℕ) (d : End) → number_of ends end ≡ Some k → (k < length ends) × ((end.0 ≡ (get_or ends k d).0) × (end.1 ≡ (get_or ends k d).1))
-unfolding number_of
+pub number_is : (ends : List End) (end : End) (k : ℕ) (d : End) → number_of_end ends end ≡ Some k → (k < length ends) × ((end.0 ≡ (get_or ends k d).0) × (end.1 ≡ (get_or ends k d).1))
+unfolding number_of_end
 number_is ends end k d e =
-    let found = position-Some (is_end end) ends k d e in
+    let found = position-Some (is_same_end end) ends k d e in
     (found.0, same_end end (get_or ends k d) found.1)
 
-pub number_same : (ends : List End) (a b : End) (k : ℕ) → number_of ends a ≡ Some k → number_of ends b ≡ Some k → (a.0 ≡ b.0) × (a.1 ≡ b.1)
+pub number_same : (ends : List End) (a b : End) (k : ℕ) → number_of_end ends a ≡ Some k → number_of_end ends b ≡ Some k → (a.0 ≡ b.0) × (a.1 ≡ b.1)
 number_same ends a b k p q =
     let here = number_is ends a k a p in
     let there = number_is ends b k a q in
@@ -121,7 +121,7 @@ key_cmp a b = ordering_then (int_cmp (rank_of a).0 (rank_of b).0) (nat_cmp (rank
 
 module _ (objects : ObjectLists) (ends : List End) (nodes : List Node) (arcs : List Arc) (are : AreRoads objects ends nodes arcs) where
   abbrev IsPlaced : End → Type 0
-  IsPlaced end = is_some (place_at objects.nodes end.0) ≡ true
+  IsPlaced end = is_some (place_of_node objects.nodes end.0) ≡ true
 
   placed : All IsPlaced ends
   placed =
@@ -131,13 +131,13 @@ module _ (objects : ObjectLists) (ends : List End) (nodes : List Node) (arcs : L
       let sorted = All-permutation IsPlaced (flat_map ends_at are.rows) are.ends_are.sorted are.ends_are.same given in
       subst (All IsPlaced) (sym are.ends_are.once) (once_keeps IsPlaced [] are.ends_are.sorted (All-nil IsPlaced) sorted)
 
-  keys_of_ends : (es : List End) → All IsPlaced es → map (λ (node : Node). node.key) (road_nodes (place_at objects.nodes) es) ≡ map key_of es
+  keys_of_ends : (es : List End) → All IsPlaced es → map (λ (node : Node). node.key) (road_nodes (place_of_node objects.nodes) es) ≡ map key_of es
   unfolding road_node
   keys_of_ends [] all = refl
-  keys_of_ends (e ∷ es) all = by_place (keys_of_ends es (All-tail IsPlaced e es all)) (place_at objects.nodes e.0) (All-head IsPlaced e es all)
+  keys_of_ends (e ∷ es) all = by_place (keys_of_ends es (All-tail IsPlaced e es all)) (place_of_node objects.nodes e.0) (All-head IsPlaced e es all)
     where
-      by_place : map (λ (node : Node). node.key) (road_nodes (place_at objects.nodes) es) ≡ map key_of es → (there : Option Place) → is_some there ≡ true
-          → map (λ (node : Node). node.key) (option_to_list (option_map (λ (place : Place). record { key = Road e.1 e.0; place = place }) there) ++ road_nodes (place_at objects.nodes) es) ≡ key_of e ∷ map key_of es
+      by_place : map (λ (node : Node). node.key) (road_nodes (place_of_node objects.nodes) es) ≡ map key_of es → (there : Option Place) → is_some there ≡ true
+          → map (λ (node : Node). node.key) (option_to_list (option_map (λ (place : Place). record { key = Road e.1 e.0; place = place }) there) ++ road_nodes (place_of_node objects.nodes) es) ≡ key_of e ∷ map key_of es
       by_place rest None some = absurd (false≢true some)
       by_place rest (Some there) some = ap (λ keys. key_of e ∷ keys) rest
 
@@ -148,7 +148,7 @@ module _ (objects : ObjectLists) (ends : List End) (nodes : List Node) (arcs : L
   roads_long = sym (length-map nodes (λ (node : Node). node.key)) ∙ ap length keys_are ∙ length-map ends key_of
 
   -- the node with the number of an end is of its mode
-  pub mode_of_number : (end : End) (k : ℕ) → number_of ends end ≡ Some k → mode_at nodes k ≡ Some end.1
+  pub mode_of_number : (end : End) (k : ℕ) → number_of_end ends end ≡ Some k → mode_at nodes k ≡ Some end.1
   mode_of_number end k e =
       let found = number_is ends end k end e in
       by_key (slice_get nodes k)

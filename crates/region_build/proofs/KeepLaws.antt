@@ -19,7 +19,7 @@ use Rattle.region_build.specs.Compiled.{IsDraft, kind_over}
 use Rattle.region_build.specs.Copies.{first_back}
 use Rattle.region_build.specs.Sources.{SourceLists}
 use Rattle.region_build.specs.Switches.{switch_node}
-use Rattle.region_build.specs.Tallies.{counts_of}
+use Rattle.region_build.specs.Tallies.{tallies_of}
 use Rattle.region_build.specs.declared.faults.BuildFault.TheVariants.{TimeGoesBack, TooMany}
 use Rattle.region_build.specs.declared.stops.StopEntry.{StopEntry}
 use Rattle.region_build.proofs.ArcLaws.{arcs_right}
@@ -58,7 +58,7 @@ neither (Some kind) back h = absurd (none-some (TooMany kind) (sym h))
 module _ (caps : Caps) (objects : ObjectLists) (feed : FeedLists) (days : DaysMeaning) (entries : List StopEntry) (sources : List SourceLists) (n : NetworkLists)
     (sound : AreObjects objects) (right : IsFeed feed) (days_sound : AreDays days) (draft : IsDraft objects feed days entries sources n) (none : draft_fault caps sources n ≡ None) where
   caps_hold : AllWithin (nat_lt caps.nodes (length (nodes_of n))) (nat_lt caps.stops (length n.stops)) (nat_lt caps.arcs (length n.arcs)) (nat_lt caps.links (length n.links)) (nat_lt caps.trips (length n.trips)) (nat_lt caps.calls (calls_of n.trips))
-  caps_hold = within _ _ _ _ _ _ (neither (kind_over caps (counts_of n)) (first_back sources) none).0
+  caps_hold = within _ _ _ _ _ _ (neither (kind_over caps (tallies_of n)) (first_back sources) none).0
 
   counts_right : count_fault caps n ≡ None
   counts_right = rw (caps_hold.nodes, caps_hold.stops, caps_hold.arcs, caps_hold.links) refl
@@ -88,7 +88,7 @@ module _ (caps : Caps) (objects : ObjectLists) (feed : FeedLists) (days : DaysMe
 
   trips_are_right : trips_fault caps n ≡ None
   trips_are_right =
-      let kept = trips_right feed days entries sources right days_sound draft.lists.entries_are draft.said (neither (kind_over caps (counts_of n)) (first_back sources) none).1 in
+      let kept = trips_right feed days entries sources right days_sound draft.lists.entries_are draft.said (neither (kind_over caps (tallies_of n)) (first_back sources) none).1 in
       rw (caps_hold.trips, caps_hold.calls, draft.days_are, stops_long, draft.trips) kept
 
   pub draft_keeps : first_fault caps n ≡ None

@@ -3,13 +3,13 @@ use Rattle.std.proofs.Common.{ℕ, ℤ, zero, suc, ◌≤◌, List, [], ◌∷�
 use Rattle.std.specs.Prelude.{fold}
 use Rattle.std.proofs.lemmas.List.Elements.{All-nil}
 use Rattle.plan_base.specs.declared.places.Place.{Place}
-use Rattle.geo_length.specs.Nearest.{Point, IsNearest, TakesIn, length_to, nearer_of}
+use Rattle.geo_length.specs.Nearest.{Point, IsNearest, ExtendsNearest, length_to, nearer_of}
 use Rattle.geo_length.proofs.NearestLaws.{takes_append, takes_none, takes_point}
 use Rattle.mode_network.specs.declared.nodes.Node.{Node}
 use Rattle.region_build.specs.Layers.{near_of, nearest_of}
 use Rattle.region_build.specs.Links.{FindsNearest, layer}
 
-takes_all : (place : Place) (points : List Point) (best : Option (ℤ × ℕ)) → TakesIn points place 500000 best (fold (λ (best : Option (ℤ × ℕ)) (point : Point). nearer_of 500000 best point.0 (length_to place point)) best points)
+takes_all : (place : Place) (points : List Point) (best : Option (ℤ × ℕ)) → ExtendsNearest points place 500000 best (fold (λ (best : Option (ℤ × ℕ)) (point : Point). nearer_of 500000 best point.0 (length_to place point)) best points)
 takes_all place [] best = takes_none place 500000 best
 takes_all place (point ∷ points) best =
     takes_append place 500000 (point ∷ []) points best (nearer_of 500000 best point.0 (length_to place point)) _ (takes_point place 500000 best point)

@@ -13,7 +13,7 @@ use Rattle.std.proofs.lemmas.List.Sums.{length-filter, sum_by-append, sum_by-con
 use Rattle.std.proofs.lemmas.Nat.{mul-le}
 use Rattle.gtfs_tables.specs.declared.calls.CallRow.{CallRow}
 use Rattle.gtfs_tables.specs.declared.frequencies.FrequencyRow.{FrequencyRow}
-use Rattle.region_build.specs.Copies.{departing, departures_by, departures_of, first_departure, is_early, is_kept, leaves_of, runs}
+use Rattle.region_build.specs.Copies.{departing, departures_by, departures_of, first_departure, is_copy_early, is_kept, leaves_of, runs}
 use Rattle.region_build.specs.Leaving.{kept_before, kept_by, late_by, latest_of, leaves_by}
 use Rattle.region_build.specs.Left.{late_copies}
 use Rattle.region_build.specs.Sources.{SourceLists}
@@ -109,23 +109,23 @@ early_step : (m leave first arr dep : ℕ)
 early_step m leave first arr dep = grind (arith, nat_tests)
 
 early_all : (first leave m : ℕ) (calls : List CallRow)
-    → (nat_lt (m + leave) (604800 + first) && list_all (is_early first leave) calls) ≡ nat_lt (latest_of m calls + leave) (604800 + first)
+    → (nat_lt (m + leave) (604800 + first) && list_all (is_copy_early first leave) calls) ≡ nat_lt (latest_of m calls + leave) (604800 + first)
 early_all first leave m [] = and_true (nat_lt (m + leave) (604800 + first))
   where
     and_true : (a : Bool) → (a && true) ≡ a
     and_true true = refl
     and_true false = refl
 early_all first leave m (call ∷ calls) =
-    and_rejoins (nat_lt (m + leave) (604800 + first)) (is_early first leave call) (list_all (is_early first leave) calls) _ (early_step m leave first call.arr call.dep)
+    and_rejoins (nat_lt (m + leave) (604800 + first)) (is_copy_early first leave call) (list_all (is_copy_early first leave) calls) _ (early_step m leave first call.arr call.dep)
     ∙ early_all first leave (max m (max call.arr call.dep)) calls
 
 first_early : (leave arr dep : ℕ) → (nat_lt (0 + leave) (604800 + dep) && (nat_le (arr + leave - dep) 604799 && nat_le (dep + leave - dep) 604799)) ≡ (nat_le (arr + leave - dep) 604799 && nat_le (dep + leave - dep) 604799)
 first_early leave arr dep = grind (arith, nat_tests)
 
-kept_if_before : (leave : ℕ) (calls : List CallRow) → 0 < length calls → list_all (is_early (first_departure calls) leave) calls ≡ nat_lt leave (kept_before calls)
+kept_if_before : (leave : ℕ) (calls : List CallRow) → 0 < length calls → list_all (is_copy_early (first_departure calls) leave) calls ≡ nat_lt leave (kept_before calls)
 kept_if_before leave [] some = absurd (omega arith)
 kept_if_before leave (call ∷ calls) some =
-    sym (and_rejoins (nat_lt (0 + leave) (604800 + call.dep)) (is_early call.dep leave call) (list_all (is_early call.dep leave) calls) (is_early call.dep leave call) (first_early leave call.arr call.dep))
+    sym (and_rejoins (nat_lt (0 + leave) (604800 + call.dep)) (is_copy_early call.dep leave call) (list_all (is_copy_early call.dep leave) calls) (is_copy_early call.dep leave call) (first_early leave call.arr call.dep))
     ∙ early_all call.dep leave 0 (call ∷ calls) ∙ moved_over (latest_of 0 (call ∷ calls)) (604800 + call.dep)
   where
     moved_over : (latest end : ℕ) → nat_lt (latest + leave) end ≡ nat_lt leave (end - latest)

@@ -11,10 +11,10 @@ use Rattle.geo_length.specs.Durations.{duration_of}
 use Rattle.opl_reader.specs.declared.objects.Amenity.{Amenity}
 use Rattle.opl_reader.specs.declared.objects.Amenity.TheVariants.{Nothing, Parking, BicycleParking, BicycleRental}
 use Rattle.opl_reader.specs.declared.objects.OsmNode.{OsmNode}
-use Rattle.mode_network.specs.Rules.{arc_cmp, first_unsorted, joins_layers, row_fault}
+use Rattle.mode_network.specs.Rules.{arc_cmp, end_or_order_fault, first_unsorted, joins_layers}
 use Rattle.mode_network.specs.declared.nodes.Arc.{Arc}
 use Rattle.mode_network.specs.declared.nodes.Node.{Node}
-use Rattle.region_build.specs.Ends.{End, number_of}
+use Rattle.region_build.specs.Ends.{End, number_of_end}
 use Rattle.region_build.specs.Links.{AreLinks, join_links, linked, linked_to, links_at, stop_joins, stop_links, switch_joins, switch_links}
 use Rattle.region_build.specs.declared.links.Join.{Join}
 use Rattle.region_build.specs.declared.stops.StopEntry.{StopEntry}
@@ -27,7 +27,7 @@ module _ (ends : List End) (near : ℕ → Place → Option (ℤ × ℕ)) where
   record IsLinkBy (place mode : ℕ) (link : Arc) : Type 0 where
     road : ℕ
     id : ℤ
-    number : number_of ends (id, mode) ≡ Some road
+    number : number_of_end ends (id, mode) ≡ Some road
     shape : ((link.from ≡ road) × (link.to ≡ place)) ⊎ ((link.from ≡ place) × (link.to ≡ road))
 
   -- between a place whose number is low or more, and below high, and a road node
@@ -64,7 +64,7 @@ module _ (ends : List End) (near : ℕ → Place → Option (ℤ × ℕ)) where
       (sym here.0 ∙ there.0, sym here.1 ∙ there.1)
 
   -- the links of one join
-  one_join : (number : ℕ) (join : Join) (road : ℕ) (id : ℤ) (ms : Option ℕ) → number_of ends (id, join.mode) ≡ Some road
+  one_join : (number : ℕ) (join : Join) (road : ℕ) (id : ℤ) (ms : Option ℕ) → number_of_end ends (id, join.mode) ≡ Some road
       → All (IsLinkBy number join.mode) (linked join number (Some road) ms)
   one_join number join road id None is = All-nil (IsLinkBy number join.mode)
   one_join number join road id (Some ms) is =
@@ -78,9 +78,9 @@ module _ (ends : List End) (near : ℕ → Place → Option (ℤ × ℕ)) where
 
   join_is : (number : ℕ) (join : Join) (nearest : Option (ℤ × ℕ)) → All (IsLinkBy number join.mode) (linked_to ends join number nearest)
   join_is number join None = All-nil (IsLinkBy number join.mode)
-  join_is number join (Some nearest) = by_number (number_of ends (nearest.0, join.mode)) refl
+  join_is number join (Some nearest) = by_number (number_of_end ends (nearest.0, join.mode)) refl
     where
-      by_number : (road : Option ℕ) → number_of ends (nearest.0, join.mode) ≡ road → All (IsLinkBy number join.mode) (linked join number road (duration_of nearest.1 1400))
+      by_number : (road : Option ℕ) → number_of_end ends (nearest.0, join.mode) ≡ road → All (IsLinkBy number join.mode) (linked join number road (duration_of nearest.1 1400))
       by_number None is = All-nil (IsLinkBy number join.mode)
       by_number (Some road) is = one_join number join road nearest.0 (duration_of nearest.1 1400) is
 
@@ -103,9 +103,9 @@ module _ (ends : List End) (near : ℕ → Place → Option (ℤ × ℕ)) where
 
   once_join : (number : ℕ) (join : Join) (nearest : Option (ℤ × ℕ)) → length ends ≤ number → Once (same_key arc_cmp) (linked_to ends join number nearest)
   once_join number join None high = once_nil (same_key arc_cmp)
-  once_join number join (Some nearest) high = by_number (number_of ends (nearest.0, join.mode)) refl (duration_of nearest.1 1400)
+  once_join number join (Some nearest) high = by_number (number_of_end ends (nearest.0, join.mode)) refl (duration_of nearest.1 1400)
     where
-      by_number : (road : Option ℕ) → number_of ends (nearest.0, join.mode) ≡ road → (ms : Option ℕ) → Once (same_key arc_cmp) (linked join number road ms)
+      by_number : (road : Option ℕ) → number_of_end ends (nearest.0, join.mode) ≡ road → (ms : Option ℕ) → Once (same_key arc_cmp) (linked join number road ms)
       by_number None is ms = once_nil (same_key arc_cmp)
       by_number (Some road) is None = once_nil (same_key arc_cmp)
       by_number (Some road) is (Some ms) =
@@ -225,7 +225,7 @@ module _ (ends : List End) (near : ℕ → Place → Option (ℤ × ℕ)) where
 
 pub links_right : (roads : List Node) (ends : List End) (entries : List StopEntry) (switches : List OsmNode) (links : List Arc) (nodes : ℕ)
     → length roads ≡ length ends → nodes ≡ length roads + length entries + length switches → AreLinks roads ends entries switches links
-    → row_fault Links (position (λ link. not (joins_layers (length roads) nodes link)) links) (first_unsorted arc_cmp 0 links) ≡ None
+    → end_or_order_fault Links (position (λ link. not (joins_layers (length roads) nodes link)) links) (first_unsorted arc_cmp 0 links) ≡ None
 links_right roads ends entries switches links nodes long all are =
     let given = stop_links are.near ends (length roads) entries ++ switch_links are.near ends (length roads + length entries) switches in
     let low : length ends ≤ length roads = omega (arith, long) in

@@ -13,7 +13,7 @@ use Rattle.geo_length.specs.Durations.{duration_of}
 use Rattle.opl_reader.specs.ObjectLists.{AreObjects, IsOsmId, ObjectLists}
 use Rattle.opl_reader.specs.declared.objects.OsmNode.{OsmNode}
 use Rattle.road_profile.specs.Arcs.{IsTimed, JoinsPlaces}
-use Rattle.road_profile.specs.Legs.{place_at}
+use Rattle.road_profile.specs.Legs.{place_of_node}
 use Rattle.road_profile.specs.declared.rows.RoadRow.{RoadRow}
 use Rattle.road_profile.proofs.EndLaws.{arcs_joined}
 use Rattle.road_profile.proofs.TimedLaws.{All-flat_map, arcs_timed, duration_of-ge}
@@ -24,10 +24,10 @@ use Rattle.mode_network.specs.declared.nodes.Arc.{Arc}
 use Rattle.mode_network.specs.declared.nodes.Node.{Node}
 use Rattle.mode_network.specs.declared.nodes.NodeKey.TheVariants.{Road}
 use Rattle.region_build.specs.Compiled.{AreLists, AreRoads}
-use Rattle.region_build.specs.Ends.{End, ends_at, is_end, number_of, once_behind}
+use Rattle.region_build.specs.Ends.{End, ends_at, is_same_end, number_of_end, once_behind}
 use Rattle.region_build.specs.Links.{AreLinks, join_links, linked, linked_to, links_at, stop_links, switch_links, stop_joins, switch_joins}
-use Rattle.region_build.specs.Roads.{arc_between, arc_of, arcs_of, road_node}
-use Rattle.region_build.specs.StopNames.{stop_nodes}
+use Rattle.region_build.specs.Roads.{arc_between, arc_by_row, arcs_of, road_node}
+use Rattle.region_build.specs.StopNames.{stop_entry_nodes}
 use Rattle.region_build.specs.Switches.{AreSwitches, is_switch, switch_at, switch_node}
 use Rattle.region_build.specs.declared.links.Join.{Join}
 use Rattle.region_build.specs.declared.stops.StopEntry.{StopEntry}
@@ -42,17 +42,17 @@ record IsGoodEnd (end : End) : Type 0 where
   mode : end.1 < 3
   id : IsId end.0
 
-placed_id : (nodes : List OsmNode) (id : ℤ) → AllByRecursion (λ (node : OsmNode). IsOsmId node.id) nodes → is_some (place_at nodes id) ≡ true → IsId id
+placed_id : (nodes : List OsmNode) (id : ℤ) → AllByRecursion (λ (node : OsmNode). IsOsmId node.id) nodes → is_some (place_of_node nodes id) ≡ true → IsId id
 placed_id [] id ids e = absurd cc
 placed_id (node ∷ nodes) id ids e = by_test (int_eq node.id id) refl (placed_id nodes id ids.1) e
   where
-    by_test : (same : Bool) → int_eq node.id id ≡ same → (is_some (place_at nodes id) ≡ true → IsId id) → is_some (if same then Some node.place else place_at nodes id) ≡ true → IsId id
+    by_test : (same : Bool) → int_eq node.id id ≡ same → (is_some (place_of_node nodes id) ≡ true → IsId id) → is_some (if same then Some node.place else place_of_node nodes id) ≡ true → IsId id
     by_test true same others e = subst IsId ((Decides-int_eq node.id id).0 same) ids.0
     by_test false same others e = others e
 
 pub once_keeps : (P : End → Type 0) (seen ends : List End) → All P seen → All P ends → All P (once_behind seen ends)
 once_keeps P seen [] here there = here
-once_keeps P seen (end ∷ ends) here there = once_keeps P (if list_any (is_end end) seen then seen else seen ++ end ∷ []) ends (by_test (list_any (is_end end) seen)) (All-tail P end ends there)
+once_keeps P seen (end ∷ ends) here there = once_keeps P (if list_any (is_same_end end) seen then seen else seen ++ end ∷ []) ends (by_test (list_any (is_same_end end) seen)) (All-tail P end ends there)
   where
     by_test : (known : Bool) → All P (if known then seen else seen ++ end ∷ [])
     by_test true = here
@@ -85,17 +85,17 @@ module _ (objects : ObjectLists) (sound : AreObjects objects) (ends : List End) 
   unfolding road_node
   roads_keep =
       subst (All (λ (node : Node). IsRoad node.key)) (sym are.nodes_are)
-      (flat_map-if (λ (node : Node). IsRoad node.key) IsGoodEnd (λ end. option_to_list (road_node (place_at objects.nodes) end)) (λ end good. at_place end good (place_at objects.nodes end.0)) ends good_ends)
+      (flat_map-if (λ (node : Node). IsRoad node.key) IsGoodEnd (λ end. option_to_list (road_node (place_of_node objects.nodes) end)) (λ end good. at_place end good (place_of_node objects.nodes end.0)) ends good_ends)
     where
       at_place : (end : End) → IsGoodEnd end → (place : Option Place) → All (λ (node : Node). IsRoad node.key) (option_to_list (option_map (λ place. record { key = Road end.1 end.0; place = place }) place))
       at_place end good None = All-nil (λ (node : Node). IsRoad node.key)
       at_place end good (Some place) = All-cons (λ (node : Node). IsRoad node.key) (record { key = Road end.1 end.0; place = place }) [] (good.mode, good.id) (All-nil (λ (node : Node). IsRoad node.key))
 
   pub arcs_last : All (λ (arc : Arc). 0 < arc.ms) arcs
-  unfolding arc_of
+  unfolding arc_by_row
   arcs_last =
       All-permutation (λ (arc : Arc). 0 < arc.ms) (arcs_of ends are.rows) arcs are.arcs_are.same
-      (flat_map-if (λ (arc : Arc). 0 < arc.ms) (IsGoodRow objects.nodes) (λ row. option_to_list (arc_of ends row)) (λ row good. between row.ms good.timed.time (number_of ends (row.from, row.mode)) (number_of ends (row.to, row.mode))) are.rows good_rows)
+      (flat_map-if (λ (arc : Arc). 0 < arc.ms) (IsGoodRow objects.nodes) (λ row. option_to_list (arc_by_row ends row)) (λ row good. between row.ms good.timed.time (number_of_end ends (row.from, row.mode)) (number_of_end ends (row.to, row.mode))) are.rows good_rows)
     where
       between : (ms : ℕ) → 1 ≤ ms → (from to : Option ℕ) → All (λ (arc : Arc). 0 < arc.ms) (option_to_list (arc_between from to ms))
       between ms some None to = All-nil (λ (arc : Arc). 0 < arc.ms)
@@ -119,7 +119,7 @@ linked_last join place (Some road) mm (Some ms) e =
 
 linked_to_last : (ends : List End) (join : Join) (place : ℕ) (nearest : Option (ℤ × ℕ)) → All Lasts (linked_to ends join place nearest)
 linked_to_last ends join place None = All-nil Lasts
-linked_to_last ends join place (Some nearest) = linked_last join place (number_of ends (nearest.0, join.mode)) nearest.1 (duration_of nearest.1 1400) refl
+linked_to_last ends join place (Some nearest) = linked_last join place (number_of_end ends (nearest.0, join.mode)) nearest.1 (duration_of nearest.1 1400) refl
 
 links_at_last : (near : ℕ → Place → Option (ℤ × ℕ)) (ends : List End) (number : ℕ) (place : Place) (joins : List Join) → All Lasts (links_at near ends number place joins)
 unfolding links_at join_links
@@ -139,15 +139,15 @@ links_last roads ends entries switches links are =
     (All-append Lasts _ _ (stop_links_last are.near ends (length roads) entries) (switch_links_last are.near ends (length roads + length entries) switches))
 
 -- the keys of stops and switches
-stop_nodes_keep : (j : ℕ) (entries : List StopEntry) (k : ℕ) (d : Node) → k < length (stop_nodes j entries) → IsStop (j + k) (get_or (stop_nodes j entries) k d).key
+stop_nodes_keep : (j : ℕ) (entries : List StopEntry) (k : ℕ) (d : Node) → k < length (stop_entry_nodes j entries) → IsStop (j + k) (get_or (stop_entry_nodes j entries) k d).key
 stop_nodes_keep j [] k d below = absurd (omega arith)
 stop_nodes_keep j (entry ∷ entries) zero d below = sym (add-zero j)
 stop_nodes_keep j (entry ∷ entries) (suc k) d below =
     let rest = stop_nodes_keep (j + 1) entries k d (omega arith) in
     let same : j + 1 + k ≡ j + suc k = omega arith in
-    subst (λ n. IsStop n (get_or (stop_nodes (j + 1) entries) k d).key) same rest
+    subst (λ n. IsStop n (get_or (stop_entry_nodes (j + 1) entries) k d).key) same rest
 
-pub stop_nodes_long : (j : ℕ) (entries : List StopEntry) → length (stop_nodes j entries) ≡ length entries
+pub stop_nodes_long : (j : ℕ) (entries : List StopEntry) → length (stop_entry_nodes j entries) ≡ length entries
 stop_nodes_long j [] = refl
 stop_nodes_long j (entry ∷ entries) = ap suc (stop_nodes_long (j + 1) entries)
 

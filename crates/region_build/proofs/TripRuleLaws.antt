@@ -26,10 +26,10 @@ use Rattle.gtfs_tables.specs.declared.trips.TripRow.{TripRow}
 use Rattle.timetable_arcs.specs.TripRules as rules_of
 use Rattle.timetable_arcs.specs.Trips.{TripLists}
 use Rattle.timetable_arcs.specs.declared.trips.Call.{Call}
-use Rattle.region_build.specs.Copies.{back_of, call_at, copies_of, copy_at, expanded, first_back, first_departure, goes_on, is_early, is_kept, leaves_of, moved, runs}
+use Rattle.region_build.specs.Copies.{back_of, call_at, copies_of, copy_at, expanded, first_back, first_departure, is_copy_early, is_kept, leaves_of, moved, rows_go_on, runs}
 use Rattle.region_build.specs.Groups.{is_of, trip_of_call, trip_of_frequency}
 use Rattle.region_build.specs.Services.{AreDaysOf}
-use Rattle.region_build.specs.Sources.{AreSources, AreSourcesFrom, SourceLists, letter_of, lists_of}
+use Rattle.region_build.specs.Sources.{AreSourcesFrom, AreTripSources, SourceLists, letter_of, lists_of}
 use Rattle.region_build.specs.StopNames.{AreEntries, entries_from, number_from, stop_number}
 use Rattle.region_build.specs.declared.sources.Source.{Source}
 use Rattle.region_build.specs.declared.stops.StopEntry.{StopEntry}
@@ -43,7 +43,7 @@ record IsRightSource (numbers stops : ℕ) (source : SourceLists) : Type 0 where
   letter : (3 ≤ source.letter) × (source.letter ≤ 13)
   days : source.days.0 < 2 ^ numbers
   calls : All (λ (call : CallRow). call.stop < stops) source.calls
-  back : 0 < length (leaves_of source) → goes_on 0 source.calls ≡ true
+  back : 0 < length (leaves_of source) → rows_go_on 0 source.calls ≡ true
 
 -- a set that has no day from a number on is below a power of two
 zero_of : (bit : ℕ) → bit < 2 → bit ≢ 1 → bit ≡ 0
@@ -102,7 +102,7 @@ right_sources feed days calls frequencies k (trip ∷ rest) (source ∷ sources)
       calls = subst (All (λ (call : CallRow). call.stop < length feed.stops)) (sym are.0.calls_are)
           (All-filter (is_of trip_of_call k) (λ (call : CallRow). call.stop < length feed.stops) calls
           (All-weaker (IsCall (length feed.trips) (length feed.stops)) (λ (call : CallRow). call.stop < length feed.stops) (λ call is. is.stop) calls called));
-      back = λ some. on_if_none (nat_lt 0 (length (leaves_of source))) (goes_on 0 source.calls) source.row backs.0 (lt-ltb 0 (length (leaves_of source)) some);
+      back = λ some. on_if_none (nat_lt 0 (length (leaves_of source))) (rows_go_on 0 source.calls) source.row backs.0 (lt-ltb 0 (length (leaves_of source)) some);
     })
     (right_sources feed days calls frequencies (k + 1) rest sources sound routes called trips.1 are.1 backs.1)
 
@@ -133,24 +133,24 @@ record IsRightTrip (numbers stops : ℕ) (trip : TripLists) : Type 0 where
   on : rules_of.goes_on 0 trip.calls ≡ true
 
 module _ (number : ℕ → Option ℕ) (first leave : ℕ) where
-  early_calls : (calls : List CallRow) → list_all rules_of.is_early (map (call_at number first leave) calls) ≡ list_all (is_early first leave) calls
+  early_calls : (calls : List CallRow) → list_all rules_of.is_early (map (call_at number first leave) calls) ≡ list_all (is_copy_early first leave) calls
   unfolding call_at
   early_calls [] = refl
-  early_calls (call ∷ calls) = ap (λ later. is_early first leave call && later) (early_calls calls)
+  early_calls (call ∷ calls) = ap (λ later. is_copy_early first leave call && later) (early_calls calls)
 
   -- times that are moved together go on where they did
-  moved_on : (t u : ℕ) (calls : List CallRow) → u ≤ moved first leave t → goes_on t calls ≡ true → rules_of.goes_on u (map (call_at number first leave) calls) ≡ true
+  moved_on : (t u : ℕ) (calls : List CallRow) → u ≤ moved first leave t → rows_go_on t calls ≡ true → rules_of.goes_on u (map (call_at number first leave) calls) ≡ true
   unfolding call_at
   moved_on t u [] low e = refl
   moved_on t u (call ∷ calls) low e =
-      let parts = and_parts (nat_le t call.arr && nat_le call.arr call.dep) (goes_on call.dep calls) e in
+      let parts = and_parts (nat_le t call.arr && nat_le call.arr call.dep) (rows_go_on call.dep calls) e in
       let both = and_parts (nat_le t call.arr) (nat_le call.arr call.dep) parts.0 in
       let arrives : nat_le u (moved first leave call.arr) ≡ true = grind (arith, nat_tests, low, both.0) in
       let departs : nat_le (moved first leave call.arr) (moved first leave call.dep) ≡ true = grind (arith, nat_tests, both.1) in
       and_from _ _ (and_from _ _ arrives departs) (moved_on call.dep (moved first leave call.dep) calls (omega arith) parts.1)
 
 right_copy : (number : ℕ → Option ℕ) (numbers stops known : ℕ) (source : SourceLists) (leave : ℕ) → ((stop : ℕ) → stop < stops → unwrap_or (number stop) 0 < known)
-    → IsRightSource numbers stops source → runs source ≡ true → is_kept source leave ≡ true → goes_on 0 source.calls ≡ true → IsRightTrip numbers known (copy_at number source leave)
+    → IsRightSource numbers stops source → runs source ≡ true → is_kept source leave ≡ true → rows_go_on 0 source.calls ≡ true → IsRightTrip numbers known (copy_at number source leave)
 unfolding copy_at call_at
 right_copy number numbers stops known source leave knows right goes kept on =
     let parts = and_parts (nat_le 2 (length source.calls)) (nat_lt 0 source.days.0) goes in
@@ -208,7 +208,7 @@ entries_long k [] = refl
 entries_long k (stop ∷ stops) = ap suc (entries_long (k + 1) stops)
 
 -- the trips of a feed that do not go back keep the rules
-pub trips_right : (feed : FeedLists) (days : DaysMeaning) (entries : List StopEntry) (sources : List SourceLists) → IsFeed feed → AreDays days → AreEntries feed.stops entries → AreSources feed days sources
+pub trips_right : (feed : FeedLists) (days : DaysMeaning) (entries : List StopEntry) (sources : List SourceLists) → IsFeed feed → AreDays days → AreEntries feed.stops entries → AreTripSources feed days sources
     → first_back sources ≡ None → rules_of.trips_fault (length days.bases) (length entries) 0 (expanded (stop_number entries) sources) ≡ None
 unfolding expanded
 trips_right feed days entries sources sound days_sound are said back =

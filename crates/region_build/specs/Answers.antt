@@ -9,7 +9,7 @@ use Rattle.mode_network.specs.NetworkLists.{NetworkLists}
 use Rattle.region_build.specs.Compiled.{IsDraft, kind_over}
 use Rattle.region_build.specs.Copies.{first_back}
 use Rattle.region_build.specs.Sources.{SourceLists}
-use Rattle.region_build.specs.Tallies.{counts_of}
+use Rattle.region_build.specs.Tallies.{tallies_of}
 use Rattle.region_build.specs.declared.faults.BuildFault.{BuildFault}
 use Rattle.region_build.specs.declared.faults.BuildFault.TheVariants.{TimeGoesBack, TooMany, OutOfMemory}
 use Rattle.region_build.specs.declared.stops.StopEntry.{StopEntry}
@@ -26,7 +26,7 @@ fault_by caps counts back = or_else (option_map TooMany (kind_over caps counts))
 
 -- the first fault of what was drafted
 abbrev pub draft_fault : Caps → List SourceLists → NetworkLists → Option BuildFault
-draft_fault caps sources n = fault_by caps (counts_of n) (first_back sources)
+draft_fault caps sources n = fault_by caps (tallies_of n) (first_back sources)
 
 -- the network of a map and a feed over some days, which has no fault
 pub record IsCompiled (caps : Caps) (objects : ObjectLists) (feed : FeedLists) (days : DaysMeaning) (n : NetworkLists) : Type 0 where

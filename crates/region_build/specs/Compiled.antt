@@ -8,7 +8,7 @@ use Rattle.timetable_arcs.specs.Trips.{TripLists}
 use Rattle.opl_reader.specs.declared.objects.OsmNode.{OsmNode}
 use Rattle.opl_reader.specs.ObjectLists.{ObjectLists}
 use Rattle.road_profile.specs.Arcs.{AreRoadArcs}
-use Rattle.road_profile.specs.Legs.{place_at}
+use Rattle.road_profile.specs.Legs.{place_of_node}
 use Rattle.road_profile.specs.declared.rows.RoadRow.{RoadRow}
 use Rattle.gtfs_tables.specs.FeedLists.{FeedLists}
 use Rattle.mode_network.specs.NetworkLists.{NetworkLists}
@@ -19,8 +19,8 @@ use Rattle.region_build.specs.Copies.{expanded}
 use Rattle.region_build.specs.Ends.{AreEnds, End}
 use Rattle.region_build.specs.Links.{AreLinks}
 use Rattle.region_build.specs.Roads.{arcs_of, road_nodes}
-use Rattle.region_build.specs.Sources.{AreSources, SourceLists}
-use Rattle.region_build.specs.StopNames.{AreEntries, stop_nodes, stop_number}
+use Rattle.region_build.specs.Sources.{AreTripSources, SourceLists}
+use Rattle.region_build.specs.StopNames.{AreEntries, stop_entry_nodes, stop_number}
 use Rattle.region_build.specs.Switches.{AreSwitches, switch_node}
 use Rattle.region_build.specs.declared.building.Lists.{Lists}
 use Rattle.region_build.specs.declared.stops.StopEntry.{StopEntry}
@@ -31,7 +31,7 @@ pub record AreRoads (objects : ObjectLists) (ends : List End) (nodes : List Node
   pub rows : List RoadRow
   pub rows_are : AreRoadArcs objects rows
   pub ends_are : AreEnds rows ends
-  pub nodes_are : nodes ≡ road_nodes (place_at objects.nodes) ends
+  pub nodes_are : nodes ≡ road_nodes (place_of_node objects.nodes) ends
   pub arcs_are : AreInOrder (arcs_of ends rows) arcs
 
 -- The nodes, the road arcs and the links that a map and a feed give: the stops stand in the order of their names, and
@@ -40,7 +40,7 @@ pub record AreLists (objects : ObjectLists) (feed : FeedLists) (entries : List S
   pub ends : List End
   pub roads_are : AreRoads objects ends roads arcs
   pub entries_are : AreEntries feed.stops entries
-  pub stops_are : stops ≡ stop_nodes 0 entries
+  pub stops_are : stops ≡ stop_entry_nodes 0 entries
   pub places : List OsmNode
   pub places_are : AreSwitches objects.nodes places
   pub switches_are : switches ≡ map switch_node places
@@ -69,7 +69,7 @@ pub record IsDraft (objects : ObjectLists) (feed : FeedLists) (days : DaysMeanin
   pub days_are : n.days ≡ days
   pub lists : AreLists objects feed entries n.roads n.stops n.switches n.arcs n.links
   pub names : n.stop_names ≡ map (λ entry. entry.name) entries
-  pub said : AreSources feed days sources
+  pub said : AreTripSources feed days sources
   pub trips : n.trips ≡ expanded (stop_number entries) sources
 
 -- what there is too much of, tried in this order

@@ -33,8 +33,8 @@ abbrev pub moved : ℕ → ℕ → ℕ → ℕ
 moved first leave time = time + leave - first
 
 -- a copy's times are below 168 hours
-abbrev pub is_early : ℕ → ℕ → CallRow → Bool
-is_early first leave call = nat_le (moved first leave call.arr) 604799 && nat_le (moved first leave call.dep) 604799
+abbrev pub is_copy_early : ℕ → ℕ → CallRow → Bool
+is_copy_early first leave call = nat_le (moved first leave call.arr) 604799 && nat_le (moved first leave call.dep) 604799
 
 unfoldable pub call_at : (ℕ → Option ℕ) → ℕ → ℕ → CallRow → Call
 call_at number first leave call = record {
@@ -56,7 +56,7 @@ copy_at number source leave = record {
 
 -- a copy is kept whose times are all below 168 hours
 abbrev pub is_kept : SourceLists → ℕ → Bool
-is_kept source leave = list_all (is_early (first_departure source.calls) leave) source.calls
+is_kept source leave = list_all (is_copy_early (first_departure source.calls) leave) source.calls
 
 -- a trip runs that has two calls or more, and some day
 abbrev pub runs : SourceLists → Bool
@@ -75,13 +75,13 @@ expanded number sources = flat_map (copies_of number) sources
 
 -- A trip's times go back where a call arrives before the one before it departs, or departs before it arrives. Those of
 -- its copies go back exactly where its own do: they are moved together, and one that would fall below 0 goes back.
-abbrev pub goes_on : ℕ → List CallRow → Bool
-goes_on t [] = true
-goes_on t (call ∷ calls) = nat_le t call.arr && nat_le call.arr call.dep && goes_on call.dep calls
+abbrev pub rows_go_on : ℕ → List CallRow → Bool
+rows_go_on t [] = true
+rows_go_on t (call ∷ calls) = nat_le t call.arr && nat_le call.arr call.dep && rows_go_on call.dep calls
 
 -- the row in trips.txt of a trip that has a copy and whose times go back
 abbrev pub back_of : ℕ → SourceLists → Option ℕ
-back_of copies source = if nat_lt 0 copies && not (goes_on 0 source.calls) then Some source.row else None
+back_of copies source = if nat_lt 0 copies && not (rows_go_on 0 source.calls) then Some source.row else None
 
 -- that of the first such trip
 abbrev pub first_back : List SourceLists → Option ℕ

@@ -17,13 +17,13 @@ ends_at row = (row.from, row.mode) ∷ (row.to, row.mode) ∷ []
 abbrev pub end_cmp : End → End → Ordering
 end_cmp a b = ordering_then (int_cmp a.0 b.0) (nat_cmp a.1 b.1)
 
-abbrev pub is_end : End → End → Bool
-is_end a b = int_eq a.0 b.0 && nat_eq a.1 b.1
+abbrev pub is_same_end : End → End → Bool
+is_same_end a b = int_eq a.0 b.0 && nat_eq a.1 b.1
 
 -- those seen, and each other end once, in the order of first sight
 abbrev pub once_behind : List End → List End → List End
 once_behind seen [] = seen
-once_behind seen (end ∷ ends) = once_behind (if list_any (is_end end) seen then seen else seen ++ end ∷ []) ends
+once_behind seen (end ∷ ends) = once_behind (if list_any (is_same_end end) seen then seen else seen ++ end ∷ []) ends
 
 -- the ends of all arcs in their order, each once
 pub record AreEnds (rows : List RoadRow) (ends : List End) : Type 0 where
@@ -33,5 +33,5 @@ pub record AreEnds (rows : List RoadRow) (ends : List End) : Type 0 where
   pub once : ends ≡ once_behind [] sorted
 
 -- the number of a road node is the place of its end
-unfoldable pub number_of : List End → End → Option ℕ
-number_of ends end = position (is_end end) ends
+unfoldable pub number_of_end : List End → End → Option ℕ
+number_of_end ends end = position (is_same_end end) ends

@@ -4,7 +4,7 @@ use Rattle.std.specs.List.{list_all}
 use Rattle.service_days.specs.DaysMeaning.{DaysMeaning}
 use Rattle.gtfs_tables.specs.FeedLists.{FeedLists}
 use Rattle.region_build.specs.Copies.{departures_of, is_kept, runs}
-use Rattle.region_build.specs.Sources.{AreSources, SourceLists}
+use Rattle.region_build.specs.Sources.{AreTripSources, SourceLists}
 use Rattle.region_build.specs.declared.left.LeftOut.{LeftOut}
 
 -- fewer than two calls
@@ -32,5 +32,5 @@ pub record AreLeft (sources : List SourceLists) (left : LeftOut) : Type 0 where
 -- of the trips of a feed over some days
 pub record AreLeftOut (feed : FeedLists) (days : DaysMeaning) (left : LeftOut) : Type 0 where
   pub sources : List SourceLists
-  pub said : AreSources feed days sources
+  pub said : AreTripSources feed days sources
   pub are : AreLeft sources left

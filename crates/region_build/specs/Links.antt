@@ -11,7 +11,7 @@ use Rattle.mode_network.specs.declared.nodes.Arc.{Arc}
 use Rattle.mode_network.specs.declared.nodes.Node.{Node}
 use Rattle.mode_network.specs.declared.nodes.NodeKey.{NodeKey}
 use Rattle.mode_network.specs.declared.nodes.NodeKey.TheVariants.{Road, Stop, Switch}
-use Rattle.region_build.specs.Ends.{End, number_of}
+use Rattle.region_build.specs.Ends.{End, number_of_end}
 use Rattle.mode_network.specs.Rules.{AreInOrder}
 use Rattle.region_build.specs.declared.links.Join.{Join}
 use Rattle.region_build.specs.declared.stops.StopEntry.{StopEntry}
@@ -51,7 +51,7 @@ linked join place (Some road) (Some ms) =
 -- to the nearest node of the layer, on foot
 abbrev pub linked_to : List End → Join → ℕ → Option (ℤ × ℕ) → List Arc
 linked_to ends join place None = []
-linked_to ends join place (Some nearest) = linked join place (number_of ends (nearest.0, join.mode)) (duration_of nearest.1 1400)
+linked_to ends join place (Some nearest) = linked join place (number_of_end ends (nearest.0, join.mode)) (duration_of nearest.1 1400)
 
 -- the links of a place, where `near` gives the nearest node of a layer
 unfoldable pub join_links : (ℕ → Place → Option (ℤ × ℕ)) → List End → ℕ → Place → Join → List Arc

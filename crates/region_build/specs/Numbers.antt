@@ -5,8 +5,3 @@ use Rattle.std.specs.Prelude.{ℕ, nat_eq, Option, None, Some, if◌then◌else�
 abbrev pub number_with : Option ℕ → ℕ → ℕ → ℕ → Option ℕ
 number_with (Some number) key new other = Some number
 number_with None key new other = if nat_eq key other then Some new else None
-
--- this number, or else the other
-abbrev pub or_number : Option ℕ → Option ℕ → Option ℕ
-or_number (Some number) other = Some number
-or_number None other = other

@@ -6,7 +6,7 @@ use Rattle.mode_network.specs.declared.nodes.Arc.{Arc}
 use Rattle.mode_network.specs.declared.nodes.Node.{Node}
 use Rattle.mode_network.specs.declared.nodes.NodeKey.TheVariants.{Road}
 use Rattle.road_profile.specs.declared.rows.RoadRow.{RoadRow}
-use Rattle.region_build.specs.Ends.{End, number_of}
+use Rattle.region_build.specs.Ends.{End, number_of_end}
 
 -- an end with the place of its node
 unfoldable pub road_node : (ℤ → Option Place) → End → Option Node
@@ -19,8 +19,8 @@ road_nodes places ends = flat_map (λ end. option_to_list (road_node places end)
 abbrev pub arc_between : Option ℕ → Option ℕ → ℕ → Option Arc
 arc_between from to ms = option_and_then (λ from. option_map (λ to. record { from = from; to = to; ms = ms }) to) from
 
-unfoldable pub arc_of : List End → RoadRow → Option Arc
-arc_of ends row = arc_between (number_of ends (row.from, row.mode)) (number_of ends (row.to, row.mode)) row.ms
+unfoldable pub arc_by_row : List End → RoadRow → Option Arc
+arc_by_row ends row = arc_between (number_of_end ends (row.from, row.mode)) (number_of_end ends (row.to, row.mode)) row.ms
 
 abbrev pub arcs_of : List End → List RoadRow → List Arc
-arcs_of ends rows = flat_map (λ row. option_to_list (arc_of ends row)) rows
+arcs_of ends rows = flat_map (λ row. option_to_list (arc_by_row ends row)) rows

@@ -66,7 +66,7 @@ AreSourcesFrom feed days calls frequencies k (trip ∷ trips) (source ∷ source
     × AreSourcesFrom feed days calls frequencies (k + 1) trips sources
 
 -- of all trips of a feed
-pub record AreSources (feed : FeedLists) (days : DaysMeaning) (sources : List SourceLists) : Type 0 where
+pub record AreTripSources (feed : FeedLists) (days : DaysMeaning) (sources : List SourceLists) : Type 0 where
   pub calls : List CallRow
   pub calls_are : AreCallsInOrder feed.calls calls
   pub frequencies : List FrequencyRow

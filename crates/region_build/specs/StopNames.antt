@@ -19,9 +19,9 @@ pub record AreEntries (stops : List StopRow) (entries : List StopEntry) : Type 0
   pub ascend : IsSorted (λ a b. name_cmp a.name b.name) entries
 
 -- their nodes, counted from k
-abbrev pub stop_nodes : ℕ → List StopEntry → List Node
-stop_nodes k [] = []
-stop_nodes k (entry ∷ entries) = record { key = Stop k; place = entry.place } ∷ stop_nodes (k + 1) entries
+abbrev pub stop_entry_nodes : ℕ → List StopEntry → List Node
+stop_entry_nodes k [] = []
+stop_entry_nodes k (entry ∷ entries) = record { key = Stop k; place = entry.place } ∷ stop_entry_nodes (k + 1) entries
 
 -- the number of the stop that has this place in the feed's list; the numbers are counted from k
 abbrev pub number_from : ℕ → List StopEntry → ℕ → Option ℕ

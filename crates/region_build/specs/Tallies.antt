@@ -15,8 +15,8 @@ pub record IsTally (sources : List SourceLists) (tally : Tally) : Type 0 where
   pub back : tally.back ≡ first_back sources
   pub left : AreLeft sources tally.left_out
 
-abbrev pub counts_of : NetworkLists → Counts
-counts_of n = record {
+abbrev pub tallies_of : NetworkLists → Counts
+tallies_of n = record {
   nodes = length (nodes_of n);
   stops = length n.stops;
   arcs = length n.arcs;

@@ -3,7 +3,7 @@
 ghost use Rattle.std.specs.Prelude.{◌≡◌, ◌≤◌, ◌<◌, ◌^◌, length, map, None, IfErr, IfOk, OnOk};
 ghost use Rattle.std.specs.List.{AllByRecursion};
 ghost use Rattle.opl_reader.specs.ObjectLists.{AreObjects, ObjectLists};
-ghost use Rattle.gtfs_tables.specs.Sound.{IsFeed, IsId};
+ghost use Rattle.gtfs_tables.specs.Sound.{IsFeed, IsFeedId};
 ghost use Rattle.mode_network.specs.Rules.{AreParts, first_fault};
 ghost use Rattle.region_build.specs.Answers.{IsCompiled, IsFaultOf, fault_by};
 ghost use Rattle.region_build.specs.Compiled.{AreLists, AreListsOf, AreRoads, network_lists};
@@ -85,7 +85,8 @@ fn numbered_links(
     places: &[OsmNode],
 ) -> Result<Vec<Arc>, AllocError>
     requires { length roads.now.ends < 2 ^ 32 }
-    ensures { IfOk result (λ links. AreLinks roads.now.nodes.items roads.now.ends entries.now places.now links.items) }
+    ensures { IfOk result (λ links. AreLinks roads.now.nodes.items roads.now.ends entries.now places.now
+        links.items) }
 {
     let count = roads.nodes.len();
     has_numbers(count)?;
@@ -97,7 +98,8 @@ fn numbered_links(
 fn lists_of(alloc: Global, objects: &Objects, feed: &Feed) -> Result<Lists, AllocError>
     requires objects { AreObjects objects.now }
     requires feed { IsFeed feed.now }
-    ensures are { IfOk result (λ lists. AreLists objects.now feed.now lists.entries.items lists.roads.items lists.stops.items lists.switches.items lists.arcs.items lists.links.items) }
+    ensures are { IfOk result (λ lists. AreLists objects.now feed.now lists.entries.items lists.roads.items
+        lists.stops.items lists.switches.items lists.arcs.items lists.links.items) }
     ensures few { IfOk result (λ lists. length lists.entries.items < 2 ^ 32) }
 {
     has_numbers(feed.stops.len())?;
@@ -217,8 +219,9 @@ fn numbered_trips(
     sources: &[Source<'_>],
 ) -> Result<Vec<Trip>, AllocError>
     requires few { length entries.now < 2 ^ 32 }
-    requires ids { AllByRecursion (λ source. IsId source.id.now) sources.now }
-    ensures { IfOk result (λ trips. trips.items ≡ expanded (stop_number entries.now) (map lists_of sources.now)) }
+    requires ids { AllByRecursion (λ source. IsFeedId source.id.now) sources.now }
+    ensures { IfOk result (λ trips. trips.items ≡ expanded (stop_number entries.now)
+        (map lists_of sources.now)) }
 {
     let numbers = numbers_of(alloc, entries)?;
     expanded(alloc, &numbers, sources)
@@ -235,9 +238,11 @@ fn trips_of(
 ) -> Result<(Vec<Trip>, LeftOut), BuildFault>
     requires feed { IsFeed feed.now }
     requires few { length lists.now.entries.items < 2 ^ 32 }
-    ensures compiled { IfOk result (λ given. (objects : ObjectLists) → AreListsOf objects feed.now lists.now → IsCompiled caps.now objects feed.now days.now (network_lists days.now lists.now given.0.items)) }
+    ensures compiled { IfOk result (λ given. (objects : ObjectLists) → AreListsOf objects feed.now lists.now
+        → IsCompiled caps.now objects feed.now days.now (network_lists days.now lists.now given.0.items)) }
     ensures left_out { IfOk result (λ given. AreLeftOut feed.now days.now given.1) }
-    ensures fault { IfErr result (λ fault. (objects : ObjectLists) → AreListsOf objects feed.now lists.now → IsFaultOf caps.now objects feed.now days.now fault) }
+    ensures fault { IfErr result (λ fault. (objects : ObjectLists) → AreListsOf objects feed.now lists.now
+        → IsFaultOf caps.now objects feed.now days.now fault) }
 {
     has_numbers(feed.trips.len())?;
     let calls = calls_in_order(alloc, &feed.calls)?;

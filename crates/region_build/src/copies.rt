@@ -3,7 +3,7 @@
 ghost use Rattle.std.specs.Prelude.{◌≡◌, ◌++◌, All, length, map, nat_eq, true, IfOk, OnOk};
 ghost use Rattle.std.specs.HashMap.{get};
 ghost use Rattle.std.specs.List.{AllByRecursion, list_all};
-ghost use Rattle.gtfs_tables.specs.Sound.{IsId};
+ghost use Rattle.gtfs_tables.specs.Sound.{IsFeedId};
 ghost use Rattle.region_build.specs.Copies as spec;
 ghost use Rattle.region_build.specs.Sources.{lists_of};
 
@@ -23,7 +23,7 @@ fn moved(first: u32, leave: u64, time: u32) -> u128
 
 #[tactic(auto, unfolding(crate::specs::Copies::call_at))]
 fn call_at(numbers: &StopNumbers, first: u32, leave: u64, call: &CallRow) -> Call
-    requires { spec.is_early first leave call.now ≡ true }
+    requires { spec.is_copy_early first leave call.now ≡ true }
     ensures { result ≡ spec.call_at (get nat_eq numbers.now.by_stop) first leave call.now }
 {
     Call {
@@ -42,8 +42,9 @@ fn calls_at(
     leave: u64,
     calls: &[CallRow],
 ) -> Result<Vec<Call>, AllocError>
-    requires { list_all (spec.is_early first leave) calls.now ≡ true }
-    ensures { IfOk result (λ copy. copy.items ≡ map (spec.call_at (get nat_eq numbers.now.by_stop) first leave) calls.now) }
+    requires { list_all (spec.is_copy_early first leave) calls.now ≡ true }
+    ensures { IfOk result (λ copy. copy.items ≡ map (spec.call_at (get nat_eq numbers.now.by_stop) first
+        leave) calls.now) }
 {
     let mut copy = Vec::with_capacity(alloc, calls.len())?;
     let mut rest = calls;
@@ -62,8 +63,9 @@ fn copy_at(
     leave: u64,
 ) -> Result<Trip, AllocError>
     requires kept { spec.is_kept (lists_of source.now) leave ≡ true }
-    requires id { IsId source.now.id.now }
-    ensures { IfOk result (λ trip. trip ≡ spec.copy_at (get nat_eq numbers.now.by_stop) (lists_of source.now) leave) }
+    requires id { IsFeedId source.now.id.now }
+    ensures { IfOk result (λ trip. trip ≡ spec.copy_at (get nat_eq numbers.now.by_stop)
+        (lists_of source.now) leave) }
 {
     let first = first_departure(source.calls);
     Ok(Trip {
@@ -82,8 +84,9 @@ fn push_each(
     source: &Source<'_>,
 ) -> Result<(), AllocError>
     requires kept { All (λ leave. spec.is_kept (lists_of source.now) leave ≡ true) times.now }
-    requires id { IsId source.now.id.now }
-    ensures { OnOk result (trips.new.items ≡ trips.old.items ++ map (spec.copy_at (get nat_eq numbers.now.by_stop) (lists_of source.now)) times.now) }
+    requires id { IsFeedId source.now.id.now }
+    ensures { OnOk result (trips.new.items ≡ trips.old.items ++ map
+        (spec.copy_at (get nat_eq numbers.now.by_stop) (lists_of source.now)) times.now) }
 {
     for leave in times {
         trips.push(copy_at(alloc, numbers, source, *leave)?)?;
@@ -99,8 +102,9 @@ fn push_copies(
     numbers: &StopNumbers,
     source: &Source<'_>,
 ) -> Result<(), AllocError>
-    requires { IsId source.now.id.now }
-    ensures { OnOk result (trips.new.items ≡ trips.old.items ++ spec.copies_of (get nat_eq numbers.now.by_stop) (lists_of source.now)) }
+    requires { IsFeedId source.now.id.now }
+    ensures { OnOk result (trips.new.items ≡ trips.old.items ++ spec.copies_of
+        (get nat_eq numbers.now.by_stop) (lists_of source.now)) }
 {
     leaves_into(times, source)?;
     push_each(alloc, trips, times, numbers, source)
@@ -113,8 +117,9 @@ pub(crate) fn expanded(
     numbers: &StopNumbers,
     sources: &[Source<'_>],
 ) -> Result<Vec<Trip>, AllocError>
-    requires { AllByRecursion (λ source. IsId source.id.now) sources.now }
-    ensures { IfOk result (λ trips. trips.items ≡ spec.expanded (get nat_eq numbers.now.by_stop) (map lists_of sources.now)) }
+    requires { AllByRecursion (λ source. IsFeedId source.id.now) sources.now }
+    ensures { IfOk result (λ trips. trips.items ≡ spec.expanded (get nat_eq numbers.now.by_stop)
+        (map lists_of sources.now)) }
 {
     let (mut trips, mut times) = (Vec::new(alloc), Vec::new(alloc));
     let mut rest = sources;

@@ -3,7 +3,7 @@
 ghost use Rattle.std.specs.Prelude.{◌≡◌, ◌++◌, IfOk, OnOk};
 ghost use Rattle.std.specs.List.{flat_map};
 ghost use Rattle.std.specs.List.Sorted.{IsPermutation, IsSorted};
-ghost use Rattle.region_build.specs.Ends.{AreEnds, ends_at, end_cmp, number_of, once_behind};
+ghost use Rattle.region_build.specs.Ends.{AreEnds, ends_at, end_cmp, number_of_end, once_behind};
 
 use indexmap::IndexSet;
 use road_profile::RoadRow;
@@ -83,7 +83,7 @@ impl Ends {
 
     /// The number of an end; `None` exactly where it is none of these.
     pub(crate) fn number(&self, id: i64, mode: u8) -> Option<usize>
-        ensures value { result ≡ number_of self.now (id, mode) }
+        ensures value { result ≡ number_of_end self.now (id, mode) }
         ensures within { IfSome result (λ number. number < length self.now) }
     {
         self.numbers.get_index_of(&(id, mode))

@@ -140,7 +140,8 @@ impl CopyCounts {
 
     /// Both together; `None` where a count is past 64 bits.
     fn and(self, other: CopyCounts) -> Option<CopyCounts>
-        ensures { IfSome result (λ sum. (sum.kept ≡ self.kept + other.kept) × (sum.late ≡ self.late + other.late)) }
+        ensures { IfSome result (λ sum. (sum.kept ≡ self.kept + other.kept)
+            × (sum.late ≡ self.late + other.late)) }
     {
         Some(CopyCounts {
             kept: self.kept.checked_add(other.kept)?,

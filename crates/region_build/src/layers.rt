@@ -55,7 +55,8 @@ fn points_of(alloc: Global, mode: u8, roads: &[Node]) -> Result<Vec<(i64, Place)
 }
 
 fn layer_of(alloc: Global, mode: u8, roads: &[Node]) -> Result<Grid, AllocError>
-    ensures { IfOk result (λ grid. (place : Place) (within : ℕ) (best : Option (ℤ × ℕ)) → IsNearest grid place within best → IsNearest (spec.layer mode roads.now) place within best) }
+    ensures { IfOk result (λ grid. (place : Place) (within : ℕ) (best : Option (ℤ × ℕ))
+        → IsNearest grid place within best → IsNearest (spec.layer mode roads.now) place within best) }
 {
     let points = points_of(alloc, mode, roads)?;
     Grid::of(alloc, points)
@@ -68,7 +69,8 @@ impl Layers {
 
     /// The layers of these road nodes.
     pub(crate) fn of(alloc: Global, roads: &[Node]) -> Result<Layers, AllocError>
-        ensures { IfOk result (λ layers. FindsNearest roads.now (near_of layers.foot layers.bike layers.car)) }
+        ensures { IfOk result (λ layers. FindsNearest roads.now
+            (near_of layers.foot layers.bike layers.car)) }
     {
         let foot = layer_of(alloc, 0, roads)?;
         let bike = layer_of(alloc, 1, roads)?;

@@ -64,7 +64,8 @@ impl LeftOut {
     /// The counts with a trip more, of which so many copies are late; `None` where one is past 64 bits.
     pub(crate) fn with(self, source: &Source<'_>, late: u64) -> Option<LeftOut>
         requires { late ≡ spec.late_copies (lists_of source.now) }
-        ensures { IfSome result (λ more. (sources : List SourceLists) → spec.AreLeft sources self → spec.AreLeft (sources ++ lists_of source.now ∷ []) more) }
+        ensures { IfSome result (λ more. (sources : List SourceLists) → spec.AreLeft sources self
+            → spec.AreLeft (sources ++ lists_of source.now ∷ []) more) }
     {
         Some(LeftOut {
             short: with_one(self.short, is_short(source))?,

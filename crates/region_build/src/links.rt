@@ -2,7 +2,7 @@
 
 ghost use Rattle.std.specs.Prelude.{◌≡◌, ◌+◌, ◌≤◌, ◌<◌, ◌^◌, ◌++◌, ◌∷◌, [], length, true, false, if◌then◌else◌, IfOk, OnOk};
 ghost use Rattle.region_build.specs.Links as spec;
-ghost use Rattle.region_build.specs.Ends.{number_of};
+ghost use Rattle.region_build.specs.Ends.{number_of_end};
 ghost use Rattle.region_build.specs.Layers.{near_of};
 
 use crate::ends::Ends;
@@ -78,7 +78,8 @@ fn push_linked(
 }
 
 fn push_if(there: bool, links: &mut Vec<Arc>, from: u32, to: u32, ms: u32) -> Result<(), AllocError>
-    ensures { OnOk result (links.new.items ≡ links.old.items ++ (if there then record { from = from; to = to; ms = ms } ∷ [] else [])) }
+    ensures { OnOk result (links.new.items ≡ links.old.items ++
+        (if there then record { from = from; to = to; ms = ms } ∷ [] else [])) }
 {
     if there {
         links.push(Arc { from, to, ms })?;
@@ -88,7 +89,7 @@ fn push_if(there: bool, links: &mut Vec<Arc>, from: u32, to: u32, ms: u32) -> Re
 
 fn road_number(ends: &Ends, id: i64, mode: u8) -> Option<u32>
     requires { length ends.now < 2 ^ 32 }
-    ensures { result ≡ number_of ends.now (id, mode) }
+    ensures { result ≡ number_of_end ends.now (id, mode) }
 {
     let number = ends.number(id, mode)?;
     Some(number as u32)
@@ -105,7 +106,8 @@ fn push_join(
 ) -> Result<(), AllocError>
     requires few { length ends.now < 2 ^ 32 }
     requires mode { join.mode ≤ 2 }
-    ensures { OnOk result (links.new.items ≡ links.old.items ++ spec.join_links (near_of layers.now.foot layers.now.bike layers.now.car) ends.now number place join) }
+    ensures { OnOk result (links.new.items ≡ links.old.items ++ spec.join_links
+        (near_of layers.now.foot layers.now.bike layers.now.car) ends.now number place join) }
 {
     match layers.nearest(join.mode, place) {
         None => Ok(()),
@@ -128,7 +130,8 @@ fn push_stop(
     place: Place,
 ) -> Result<(), AllocError>
     requires { length ends.now < 2 ^ 32 }
-    ensures { OnOk result (links.new.items ≡ links.old.items ++ spec.links_at (near_of layers.now.foot layers.now.bike layers.now.car) ends.now number place spec.stop_joins) }
+    ensures { OnOk result (links.new.items ≡ links.old.items ++ spec.links_at
+        (near_of layers.now.foot layers.now.bike layers.now.car) ends.now number place spec.stop_joins) }
 {
     push_join(links, layers, ends, number, place, both_ways(0))
 }
@@ -143,7 +146,9 @@ fn push_switch(
     amenity: Amenity,
 ) -> Result<(), AllocError>
     requires { length ends.now < 2 ^ 32 }
-    ensures { OnOk result (links.new.items ≡ links.old.items ++ spec.links_at (near_of layers.now.foot layers.now.bike layers.now.car) ends.now number place (spec.switch_joins amenity)) }
+    ensures { OnOk result (links.new.items ≡ links.old.items ++ spec.links_at
+        (near_of layers.now.foot layers.now.bike layers.now.car) ends.now number place
+        (spec.switch_joins amenity)) }
 {
     let (first, second) = match amenity {
         Amenity::Nothing => return Ok(()),
@@ -164,7 +169,8 @@ fn push_stops(
 ) -> Result<(), AllocError>
     requires few { length ends.now < 2 ^ 32 }
     requires numbers { first + length entries.now < 2 ^ 32 }
-    ensures { OnOk result (links.new.items ≡ links.old.items ++ spec.stop_links (near_of layers.now.foot layers.now.bike layers.now.car) ends.now first entries.now) }
+    ensures { OnOk result (links.new.items ≡ links.old.items ++ spec.stop_links
+        (near_of layers.now.foot layers.now.bike layers.now.car) ends.now first entries.now) }
 {
     let mut number = first;
     let mut rest = entries;
@@ -185,7 +191,8 @@ fn push_switches(
 ) -> Result<(), AllocError>
     requires few { length ends.now < 2 ^ 32 }
     requires numbers { first + length switches.now < 2 ^ 32 }
-    ensures { OnOk result (links.new.items ≡ links.old.items ++ spec.switch_links (near_of layers.now.foot layers.now.bike layers.now.car) ends.now first switches.now) }
+    ensures { OnOk result (links.new.items ≡ links.old.items ++ spec.switch_links
+        (near_of layers.now.foot layers.now.bike layers.now.car) ends.now first switches.now) }
 {
     let mut number = first;
     let mut rest = switches;

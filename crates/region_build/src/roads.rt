@@ -57,10 +57,10 @@ pub(crate) fn road_nodes(
     Ok(nodes)
 }
 
-#[tactic(auto, unfolding(crate::specs::Roads::arc_of))]
+#[tactic(auto, unfolding(crate::specs::Roads::arc_by_row))]
 fn arc_of(ends: &Ends, row: &RoadRow) -> Option<Arc>
     requires { length ends.now < 2 ^ 32 }
-    ensures { result ≡ spec.arc_of ends.now row.now }
+    ensures { result ≡ spec.arc_by_row ends.now row.now }
 {
     let from = ends.number(row.from, row.mode)?;
     let to = ends.number(row.to, row.mode)?;

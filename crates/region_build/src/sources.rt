@@ -81,7 +81,8 @@ fn split_calls(calls: &[CallRow], trip: u32) -> (&[CallRow], &[CallRow])
     requires { Ascend trip_of_call trip calls.now }
     ensures own { result.0.now ≡ filter (is_of trip_of_call trip) calls.now }
     ensures ascend { Ascend trip_of_call (trip + 1) result.1.now }
-    ensures later { (k : ℕ) → trip + 1 ≤ k → filter (is_of trip_of_call k) result.1.now ≡ filter (is_of trip_of_call k) calls.now }
+    ensures later { (k : ℕ) → trip + 1 ≤ k → filter (is_of trip_of_call k) result.1.now ≡ filter
+        (is_of trip_of_call k) calls.now }
 {
     calls.split_at(count_calls(calls, trip))
 }
@@ -90,7 +91,8 @@ fn split_frequencies(frequencies: &[FrequencyRow], trip: u32) -> (&[FrequencyRow
     requires { Ascend trip_of_frequency trip frequencies.now }
     ensures own { result.0.now ≡ filter (is_of trip_of_frequency trip) frequencies.now }
     ensures ascend { Ascend trip_of_frequency (trip + 1) result.1.now }
-    ensures later { (k : ℕ) → trip + 1 ≤ k → filter (is_of trip_of_frequency k) result.1.now ≡ filter (is_of trip_of_frequency k) frequencies.now }
+    ensures later { (k : ℕ) → trip + 1 ≤ k → filter (is_of trip_of_frequency k) result.1.now ≡ filter
+        (is_of trip_of_frequency k) frequencies.now }
 {
     frequencies.split_at(count_frequencies(frequencies, trip))
 }
@@ -126,7 +128,8 @@ pub(crate) fn sources_of<'a>(
     requires few { length feed.now.trips < 2 ^ 32 }
     requires calls { Ascend trip_of_call 0 calls.now }
     requires frequencies { Ascend trip_of_frequency 0 frequencies.now }
-    ensures { IfOk result (λ sources. spec.AreSourcesFrom feed.now days.now calls.now frequencies.now 0 feed.now.trips (map spec.lists_of sources.items)) }
+    ensures { IfOk result (λ sources. spec.AreSourcesFrom feed.now days.now calls.now frequencies.now 0
+        feed.now.trips (map spec.lists_of sources.items)) }
 {
     let services = Services::of(alloc, feed)?;
     let mut known = HashMap::new(alloc);

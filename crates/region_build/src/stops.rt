@@ -5,7 +5,7 @@ ghost use Rattle.std.specs.HashMap.{get};
 ghost use Rattle.std.specs.List.{AllByRecursion};
 ghost use Rattle.std.specs.List.Sorted.{IsPermutation, IsSorted};
 ghost use Rattle.plain_texts.specs.Escape.{escaped};
-ghost use Rattle.gtfs_tables.specs.Sound.{IsId};
+ghost use Rattle.gtfs_tables.specs.Sound.{IsFeedId};
 ghost use Rattle.mode_network.specs.Rules.{name_cmp};
 ghost use Rattle.region_build.specs.StopNames as spec;
 ghost use Rattle.region_build.specs.Numbers.{number_with};
@@ -26,8 +26,13 @@ pub(crate) struct StopEntry {
 }
 
 fn entry_of(alloc: Global, place: u32, stop: &StopRow) -> Result<StopEntry, AllocError>
-    requires { IsId stop.now.id }
-    ensures { IfOk result (λ entry. entry ≡ record { name = escaped stop.now.id; stop = place; place = stop.now.place }) }
+    requires { IsFeedId stop.now.id }
+    ensures { IfOk result (λ entry. entry ≡ record {
+      name = escaped stop.now.id;
+      stop = place;
+      place =
+          stop.now.place;
+    }) }
 {
     let name = name_of_id(alloc, stop.id.as_bytes())?;
     Ok(StopEntry {
@@ -38,7 +43,7 @@ fn entry_of(alloc: Global, place: u32, stop: &StopRow) -> Result<StopEntry, Allo
 }
 
 fn all_entries(alloc: Global, stops: &[StopRow]) -> Result<Vec<StopEntry>, AllocError>
-    requires ids { AllByRecursion (λ stop. IsId stop.id) stops.now }
+    requires ids { AllByRecursion (λ stop. IsFeedId stop.id) stops.now }
     requires few { length stops.now < 2 ^ 32 }
     ensures { IfOk result (λ entries. entries.items ≡ spec.entries_from 0 stops.now) }
 {
@@ -63,7 +68,7 @@ fn in_order(mut entries: Vec<StopEntry>) -> Result<Vec<StopEntry>, AllocError>
 
 /// The stops of a feed in the order of their names.
 pub(crate) fn entries_of(alloc: Global, stops: &[StopRow]) -> Result<Vec<StopEntry>, AllocError>
-    requires ids { AllByRecursion (λ stop. IsId stop.id) stops.now }
+    requires ids { AllByRecursion (λ stop. IsFeedId stop.id) stops.now }
     requires few { length stops.now < 2 ^ 32 }
     ensures { IfOk result (λ entries. spec.AreEntries stops.now entries.items) }
 {
@@ -74,7 +79,7 @@ pub(crate) fn entries_of(alloc: Global, stops: &[StopRow]) -> Result<Vec<StopEnt
 /// The nodes of these stops.
 pub(crate) fn stop_nodes(alloc: Global, entries: &[StopEntry]) -> Result<Vec<Node>, AllocError>
     requires { length entries.now < 2 ^ 32 }
-    ensures { IfOk result (λ nodes. nodes.items ≡ spec.stop_nodes 0 entries.now) }
+    ensures { IfOk result (λ nodes. nodes.items ≡ spec.stop_entry_nodes 0 entries.now) }
 {
     let mut nodes = Vec::new(alloc);
     let mut number = 0;
@@ -109,7 +114,8 @@ pub(crate) struct StopNumbers {
 
 // Notes the number of a stop, unless it has one.
 fn note(by_stop: &mut HashMap<u32, u32>, stop: u32, number: u32) -> Result<(), AllocError>
-    ensures { OnOk result ((other : ℕ) → get nat_eq by_stop.new other ≡ number_with (get nat_eq by_stop.old other) stop number other) }
+    ensures { OnOk result ((other : ℕ) → get nat_eq by_stop.new other ≡ number_with
+        (get nat_eq by_stop.old other) stop number other) }
 {
     by_stop.entry(stop)?.or_insert(number);
     Ok(())
@@ -118,7 +124,8 @@ fn note(by_stop: &mut HashMap<u32, u32>, stop: u32, number: u32) -> Result<(), A
 /// The numbers of these stops.
 pub(crate) fn numbers_of(alloc: Global, entries: &[StopEntry]) -> Result<StopNumbers, AllocError>
     requires { length entries.now < 2 ^ 32 }
-    ensures { IfOk result (λ numbers. (stop : ℕ) → get nat_eq numbers.by_stop stop ≡ spec.stop_number entries.now stop) }
+    ensures { IfOk result (λ numbers. (stop : ℕ) → get nat_eq numbers.by_stop stop ≡ spec.stop_number
+        entries.now stop) }
 {
     let mut by_stop = HashMap::new(alloc);
     let mut number = 0;

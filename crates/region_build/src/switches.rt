@@ -29,7 +29,8 @@ fn push_switch(switches: &mut Vec<OsmNode>, node: OsmNode) -> Result<(), AllocEr
 }
 
 fn all_switches(alloc: Global, nodes: &[OsmNode]) -> Result<Vec<OsmNode>, AllocError>
-    ensures { IfOk result (λ switches. switches.items ≡ flat_map (λ node. option_to_list (spec.switch_at node)) nodes.now) }
+    ensures { IfOk result (λ switches. switches.items ≡ flat_map
+        (λ node. option_to_list (spec.switch_at node)) nodes.now) }
 {
     let mut switches = Vec::new(alloc);
     for node in nodes {

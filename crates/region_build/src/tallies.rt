@@ -58,7 +58,7 @@ pub(crate) struct Tally {
 
 /// Whether a trip's times never go back.
 fn goes_on(calls: &[CallRow]) -> bool
-    ensures { result ≡ spec.goes_on 0 calls.now }
+    ensures { result ≡ spec.rows_go_on 0 calls.now }
 {
     let mut time = 0;
     let mut rest = calls;
@@ -102,7 +102,8 @@ impl Tally {
     fn with(self, source: &Source<'_>, counted: CopyCounts) -> Option<Tally>
         requires kept { counted.kept ≡ length (leaves_of (lists_of source.now)) }
         requires late { counted.late ≡ late_copies (lists_of source.now) }
-        ensures { IfSome result (λ more. (sources : List SourceLists) → IsTally sources self → IsTally (sources ++ lists_of source.now ∷ []) more) }
+        ensures { IfSome result (λ more. (sources : List SourceLists) → IsTally sources self
+            → IsTally (sources ++ lists_of source.now ∷ []) more) }
     {
         let CopyCounts { kept, late } = counted;
         let calls = u128::from(kept).checked_mul(source.calls.len() as u128)?;
@@ -116,7 +117,8 @@ impl Tally {
 }
 
 fn tallied(sources: &[Source<'_>]) -> Option<Tally>
-    requires { AllByRecursion (λ source. AllByRecursion (λ row. 1 ≤ row.headway) source.frequencies.now) sources.now }
+    requires { AllByRecursion (λ source. AllByRecursion (λ row. 1 ≤ row.headway) source.frequencies.now)
+        sources.now }
     ensures { IfSome result (IsTally (map lists_of sources.now)) }
 {
     let mut tally = Tally::NONE;
@@ -131,7 +133,8 @@ fn tallied(sources: &[Source<'_>]) -> Option<Tally>
 
 /// What the trips of these sources come to. A count that is past its bits is one of more rows than memory holds.
 pub(crate) fn tally_of(sources: &[Source<'_>]) -> Result<Tally, AllocError>
-    requires { AllByRecursion (λ source. AllByRecursion (λ row. 1 ≤ row.headway) source.frequencies.now) sources.now }
+    requires { AllByRecursion (λ source. AllByRecursion (λ row. 1 ≤ row.headway) source.frequencies.now)
+        sources.now }
     ensures { IfOk result (IsTally (map lists_of sources.now)) }
 {
     match tallied(sources) {

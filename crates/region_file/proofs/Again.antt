@@ -22,7 +22,7 @@ use Rattle.region_file.specs.declared.section.Progress.{Progress}
 use Rattle.region_file.specs.declared.section.Section.{Section}
 use Rattle.region_file.specs.declared.section.Section.TheVariants as section
 use Rattle.region_file.specs.Lines.{key_line, node_line, stop_line, trip_lines, region_lines}
-use Rattle.region_file.specs.Sections.{behind, due_behind, is_due, may_follow, may_stand, progress_after, rank, section_of, start}
+use Rattle.region_file.specs.Sections.{behind, calls_due_behind, is_due, may_follow, may_stand, progress_after, rank, section_of, start}
 use Rattle.region_file.specs.Regions.{nothing, put}
 use Rattle.region_file.proofs.LastTrip.{call_last, with_one}
 
@@ -43,7 +43,7 @@ may_come a b some order later going = grind (arith, nat_tests)
 record StandsIn (s : Section) (l : Line) : Type 0 where
   is : section_of l ≡ s
   due : is_due 0 l ≡ true
-  rests : due_behind 0 l ≡ 0
+  rests : calls_due_behind 0 l ≡ 0
 
 stands_after : (p s : Section) (l : Line) → StandsIn s l → 0 < rank p → rank p ≤ rank s → 1 < rank s → rank p < 8 → progress_after (at_rest p) l ≡ Some (at_rest s)
 stands_after p s l h some order later going =

@@ -17,7 +17,7 @@ use Rattle.region_file.specs.Bytes.{record_bytes}
 use Rattle.region_file.specs.Due.{announce, due_of, record_after}
 use Rattle.region_file.specs.Fronts.{arc_front, road_front, stop_front, switch_front}
 use Rattle.region_file.specs.Lines.{FitsArc, FitsLine, node_line}
-use Rattle.region_file.specs.Records.{many, one, records_of, stop_nodes, stops_read, trip_read}
+use Rattle.region_file.specs.Records.{many, network_records, one, stop_nodes, stops_read, trip_read}
 use Rattle.region_file.proofs.Fits.{road_fits, switch_fits}
 use Rattle.region_file.proofs.FrontLaws.{IsBytes}
 use Rattle.region_file.proofs.ManyLaws.{bind_err, bind_ok, ok_is}
@@ -54,8 +54,8 @@ module _ (days : DaysMeaning) (c : Counts) (left : ℕ) where
   abbrev from_stops : List Section
   from_stops = announce c.stops section.Stops from_switches
 
-  pub records_bad : (bytes : List ℕ) → IsBytes bytes → records_of days c bytes ≡ Err left → IsBadBehind (due_of c) bytes left
-  unfolding records_of stops_read
+  pub records_bad : (bytes : List ℕ) → IsBytes bytes → network_records days c bytes ≡ Err left → IsBadBehind (due_of c) bytes left
+  unfolding network_records stops_read
   records_bad bytes fits e =
       by_roads _ (λ roads e fits.
       by_stops roads.1 _ (λ stops e fits.

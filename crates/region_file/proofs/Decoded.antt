@@ -1,5 +1,5 @@
 -- What the bytes of a region spell: the laws of the whole.
-use Rattle.std.proofs.Common.{◌≡◌, ℕ, List, [], ◌∷◌, ◌++◌, length, map, take, drop, refl, ap, sym, ◌∙◌, subst, inl, inr, ◌⊎◌}
+use Rattle.std.proofs.Common.{◌≡◌, ℕ, List, [], ◌∷◌, ◌++◌, length, map, take, drop, refl, ap, sym, ◌∙◌, subst, inl, inr}
 use Rattle.std.specs.Prelude.{Option, Some, None, Result, Ok, Err, fold, IfOk, IfErr}
 use Rattle.std.specs.Str.{bytes_eq}
 use Rattle.std.specs.List.{AllByRecursion}
@@ -20,7 +20,7 @@ use Rattle.region_file.specs.declared.fault.RegionFault.TheVariants.{BadHead, Ba
 use Rattle.region_file.specs.declared.lines.Line.{Line}
 use Rattle.region_file.specs.Lines.{FitsLine, IsRegion, head_line, region_lines, region_text, spelled}
 use Rattle.region_file.specs.Sections.{is_end, line_at, progress_after, start}
-use Rattle.region_file.specs.Regions.{AreSpelling, Gives, HasCause, IsDecoded, IsNoRegion, SpellNone, behind_head, lists_by, lists_in_text, network_of, nothing, or_fault, put, put_all, region_of}
+use Rattle.region_file.specs.Regions.{AreSpelling, Gives, HasCause, IsDecoded, IsNoRegion, IsRefusedRegion, SpellNone, behind_head, lists_by, lists_in_text, network_of, nothing, or_fault, put, put_all, region_of}
 use Rattle.region_file.specs.Bytes.{region_bytes}
 use Rattle.region_file.proofs.FrontLaws.{IsBytes}
 use Rattle.region_file.proofs.RecordsDecoded.{lists_in_again, not_text, records_cause, records_found}
@@ -189,10 +189,10 @@ gives_cause caps bytes fits (Err (Trailing at)) e = region_cause caps bytes fits
 gives_cause caps bytes fits (Err OutOfMemory) e = tt
 
 pub gives_none : (caps : Caps) (bytes : List ℕ) → IsBytes bytes → (r : Result NetworkLists RegionFault) → Gives r (region_of caps bytes)
-    → IfErr r (λ fault. (fault ≡ OutOfMemory) ⊎ IsNoRegion caps bytes fault)
+    → IfErr r (IsRefusedRegion caps bytes)
 gives_none caps bytes fits (Ok n) e = tt
-gives_none caps bytes fits (Err OutOfMemory) e = inl refl
-gives_none caps bytes fits (Err BadHead) e = inr (spell_none caps bytes BadHead e, region_cause caps bytes fits BadHead e)
-gives_none caps bytes fits (Err (BadRecord at)) e = inr (spell_none caps bytes (BadRecord at) e, region_cause caps bytes fits (BadRecord at) e)
-gives_none caps bytes fits (Err (Network broken)) e = inr (spell_none caps bytes (Network broken) e, region_cause caps bytes fits (Network broken) e)
-gives_none caps bytes fits (Err (Trailing at)) e = inr (spell_none caps bytes (Trailing at) e, region_cause caps bytes fits (Trailing at) e)
+gives_none caps bytes fits (Err OutOfMemory) e = tt
+gives_none caps bytes fits (Err BadHead) e = (spell_none caps bytes BadHead e, region_cause caps bytes fits BadHead e)
+gives_none caps bytes fits (Err (BadRecord at)) e = (spell_none caps bytes (BadRecord at) e, region_cause caps bytes fits (BadRecord at) e)
+gives_none caps bytes fits (Err (Network broken)) e = (spell_none caps bytes (Network broken) e, region_cause caps bytes fits (Network broken) e)
+gives_none caps bytes fits (Err (Trailing at)) e = (spell_none caps bytes (Trailing at) e, region_cause caps bytes fits (Trailing at) e)

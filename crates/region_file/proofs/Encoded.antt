@@ -20,7 +20,7 @@ use Rattle.region_file.specs.declared.lines.Line.{Line}
 use Rattle.region_file.specs.declared.lines.Line.TheVariants as line
 use Rattle.region_file.specs.Bytes.{arc_bytes, counts_of, head_bytes, record_bytes, region_bytes}
 use Rattle.region_file.specs.Lines.{head_line, key_line, node_line, region_lines, region_text, spelled, stop_line, trip_lines}
-use Rattle.region_file.specs.Texts.{line_text, name_at, named_line, node_record, node_text, trip_records, trip_text}
+use Rattle.region_file.specs.Texts.{line_text, name_at, named_line, node_line_text, node_record, trip_records, trip_text}
 
 -- One element more of a list.
 module _ {X : Type 0} (xs : List X) (k : ℕ) (x : X) (within : k < length xs) (is : get_or xs k x ≡ x) where
@@ -117,7 +117,7 @@ module _ (text : Line → List ℕ) (n : NetworkLists) (parts : AreParts n) wher
 
 module _ (n : NetworkLists) (parts : AreParts n) where
   -- The text of the lists, one behind the other.
-  pub written : (((((head_line ++ line_text (line.Days n.days)) ++ flat_map (node_text n.stop_names) (nodes_of n)) ++ flat_map (λ arc. line_text (line.Arc arc)) n.arcs) ++ flat_map (λ link. line_text (line.Link link)) n.links) ++ flat_map trip_text n.trips) ++ codes "end\n" ≡ region_text n
+  pub written : (((((head_line ++ line_text (line.Days n.days)) ++ flat_map (node_line_text n.stop_names) (nodes_of n)) ++ flat_map (λ arc. line_text (line.Arc arc)) n.arcs) ++ flat_map (λ link. line_text (line.Link link)) n.links) ++ flat_map trip_text n.trips) ++ codes "end\n" ≡ region_text n
   unfolding region_text region_lines spaced
   written =
       let roads = flat_map line_text (map node_line n.roads) in

@@ -18,7 +18,7 @@ use Rattle.region_file.specs.declared.lines.Line.TheVariants as line
 use Rattle.region_file.specs.declared.section.Progress.{Progress}
 use Rattle.region_file.specs.declared.section.Section.TheVariants as section
 use Rattle.region_file.specs.Lines.{node_line, stop_line, trip_lines, region_lines}
-use Rattle.region_file.specs.Sections.{behind, behind_days, due_behind, is_due, is_end, may_follow, may_stand, progress_after, rank, section_of, start}
+use Rattle.region_file.specs.Sections.{behind, behind_days, calls_due_behind, is_due, is_end, may_follow, may_stand, progress_after, rank, section_of, start}
 use Rattle.region_file.specs.Regions.{nothing, put, with_last_call}
 use Rattle.region_file.proofs.LastTrip.{length-with_last_call}
 use Rattle.region_file.proofs.SectionLaws.{stops}
@@ -142,7 +142,7 @@ no_stops n names nodes = ap₂ (λ a b. map stop_line (zip a b)) names nodes
 
 -- the lines of the lists with one line more are the lines before, and this one
 abbrev Puts : Progress → NetworkLists → Line → Type 0
-Puts p n l = (so_far (due_behind p.calls_due l) (put n l) ≡ so_far p.calls_due n ++ l ∷ []) × IsAt (behind p l) (put n l)
+Puts p n l = (so_far (calls_due_behind p.calls_due l) (put n l) ≡ so_far p.calls_due n ++ l ∷ []) × IsAt (behind p l) (put n l)
 
 where_none_due : (p : Progress) (n : NetworkLists) (l : Line) → nat_eq p.calls_due 0 ≡ true → so_far 0 (put n l) ≡ so_far 0 n ++ l ∷ [] → so_far 0 (put n l) ≡ so_far p.calls_due n ++ l ∷ []
 where_none_due p n l none e = e ∙ ap (λ due. so_far due n ++ l ∷ []) (sym (is_zero p.calls_due none))

@@ -12,7 +12,7 @@ use Rattle.service_days.specs.Zones.{days_made, is_rule_text}
 use Rattle.region_file.specs.declared.counts.Counts.{Counts}
 use Rattle.region_file.specs.Bytes.{FitCounts, counts_bytes, head_bytes, magic_of, plain_magic, rule_bytes, word_bytes, zoned_magic}
 use Rattle.region_file.specs.Fronts.{counted_front, counts_front, head_front, magic_front, number_front, rule_front}
-use Rattle.region_file.specs.Kinds.{made}
+use Rattle.region_file.specs.Kinds.{days_if_made}
 use Rattle.region_file.specs.Lines.{FitsDays}
 use Rattle.region_file.proofs.FrontLaws.{IsBytes, IsBytes-drop, Takes, Takes-then, and_then, counted_again, counted_takes, word_again, word_takes}
 use Rattle.region_file.proofs.KindLaws.{fits_days, made_by, made_in, made_takes, mapped}
@@ -124,7 +124,7 @@ head_takes bytes x fits e =
     option_and_then_some _ (number_front w32 first.1) x e (λ count is2 e.
     option_and_then_some _ (counts_front count.1) x e (λ counts is3 e.
     option_and_then_some _ (rule_front zoned.0 counts.1) x e (λ rule is4 e.
-    option_and_then_some _ (made (days_made first.0 count.0 rule.0)) x e (λ days is5 e.
+    option_and_then_some _ (days_if_made (days_made first.0 count.0 rule.0)) x e (λ days is5 e.
     let t0 = magic_takes bytes zoned fits is0 in
     let t1 = word_takes zoned.1 first t0.rest_fits is1 in
     let t2 = word_takes first.1 count t1.0.rest_fits is2 in
@@ -160,4 +160,4 @@ head_again days c rest dated counted =
     (and_then (number_front w32 after2) _ (days.count, after3) (Some ((days, c), rest)) (word_again days.count after3 dated.count)
     (and_then (counts_front after3) _ (c, after4) (Some ((days, c), rest)) (counts_again c after4 counted)
     (and_then (rule_front rule.0 after4) _ (days.zone, rest) (Some ((days, c), rest)) rule.2
-    (ap (λ m. option_map (λ (d : DaysMeaning). ((d, c), rest)) (made m)) dated.made)))))
+    (ap (λ m. option_map (λ (d : DaysMeaning). ((d, c), rest)) (days_if_made m)) dated.made)))))

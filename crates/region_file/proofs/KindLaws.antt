@@ -36,7 +36,7 @@ use Rattle.region_file.specs.declared.lines.Line.TheVariants as line
 use Rattle.plan_base.specs.LetterNames.{transit_names}
 use Rattle.region_file.specs.Letters.{letter_at, letter_name}
 use Rattle.region_file.specs.Lines.{FitsArc, FitsCall, FitsDays, FitsLine, FitsTrip, arc_words, call_words, flags_of, mode_name, place_words, rule_words, spelled, words}
-use Rattle.region_file.specs.Kinds.{arc_of_words, call_of_words, days_of_words, end_of_words, line_of_kind, line_of, line_of_words, made, mode_of_word, place_of_words, road_of_words, rule_of_words, stop_of_words, switch_of_words, trip_of_words, number_of_word}
+use Rattle.region_file.specs.Kinds.{arc_of_words, call_of_words, days_of_words, end_of_words, line_of_kind, line_of, line_of_words, days_if_made, mode_of_word, place_of_words, road_of_words, rule_of_words, stop_of_words, switch_of_words, trip_of_words, number_of_word}
 
 pub mapped : {A B : Type 0} (f : A → B) (o : Option A) (y : B) → option_map f o ≡ Some y → (x : A) × (o ≡ Some x) × (f x ≡ y)
 mapped f None y e = absurd (none-some y e)
@@ -276,7 +276,7 @@ switch_takes (a ∷ b ∷ c ∷ []) l e =
     subst (λ x. (words x ≡ codes "switch" ∷ a ∷ b ∷ c ∷ []) × FitsLine x) (same_Some (line.Switch id place) l e) (same, key.0)))
 
 -- the line of days
-pub made_takes : (r : Result DaysMeaning RangeFault) (days : DaysMeaning) → made r ≡ Some days → r ≡ Ok days
+pub made_takes : (r : Result DaysMeaning RangeFault) (days : DaysMeaning) → days_if_made r ≡ Some days → r ≡ Ok days
 made_takes (Ok d) days e = ap Ok (same_Some d days e)
 made_takes (Err fault) days e = absurd (none-some days e)
 
@@ -343,7 +343,7 @@ days_takes (a ∷ b ∷ rule) l e =
     option_and_then_some _ (number_of_word a) l e (λ first is_first e.
     option_and_then_some _ (number_of_word b) l e (λ count is_count e.
     option_and_then_some _ (rule_of_words rule) l e (λ zone is_zone e.
-    let found = mapped line.Days (made (days_made first count zone)) l e in
+    let found = mapped line.Days (days_if_made (days_made first count zone)) l e in
     let days = found.0 in
     let new = made_takes (days_made first count zone) days found.1 in
     let of = made_by first count zone days new in

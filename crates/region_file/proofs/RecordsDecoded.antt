@@ -14,8 +14,8 @@ use Rattle.region_file.specs.declared.fault.RegionFault.TheVariants.{BadHead, Ba
 use Rattle.region_file.specs.Bytes.{FitCounts, counts_of, head_bytes, magic_of, record_bytes, region_bytes}
 use Rattle.region_file.specs.Fronts.{head_front}
 use Rattle.region_file.specs.Lines.{IsRegion, region_lines}
-use Rattle.region_file.specs.Records.{behind, ended, lists_in, records_of}
-use Rattle.region_file.specs.Regions.{BeginsWith, HasCause, HasHead, IsBadRecord, IsInBytes, behind_head}
+use Rattle.region_file.specs.Records.{lists_in, network_behind, network_records, whole_network}
+use Rattle.region_file.specs.Regions.{BeginsWith, HasCause, HasHeadLine, IsBadRecord, IsInBytes, behind_head}
 use Rattle.region_file.proofs.CauseLaws.{records_bad}
 use Rattle.region_file.proofs.FrontLaws.{IsBytes}
 use Rattle.region_file.proofs.HeadLaws.{head_again, head_takes}
@@ -42,7 +42,7 @@ module _ (bytes : List ℕ) (fits : IsBytes bytes) where
   unfolding lists_in
   records_found n e = by_head (head_front bytes) refl e
     where
-      by_read : (head : (DaysMeaning × Counts) × List ℕ) → head_front bytes ≡ Some head → (r : Result (NetworkLists × List ℕ) ℕ) → records_of head.0.0 head.0.1 head.1 ≡ r → ended (length bytes) r ≡ Ok n → IsRegion n × IsInBytes bytes n
+      by_read : (head : (DaysMeaning × Counts) × List ℕ) → head_front bytes ≡ Some head → (r : Result (NetworkLists × List ℕ) ℕ) → network_records head.0.0 head.0.1 head.1 ≡ r → whole_network (length bytes) r ≡ Ok n → IsRegion n × IsInBytes bytes n
       by_read head is (Err left) read e = absurd cc
       by_read head is (Ok x) read e = by_end (eqb (length x.1) 0) refl e
         where
@@ -56,14 +56,14 @@ module _ (bytes : List ℕ) (fits : IsBytes bytes) where
               let all : bytes ≡ region_bytes x.0 = text ∙ ap (λ t. region_bytes x.0 ++ t) nothing ∙ append-nil (region_bytes x.0) in
               subst (λ m. IsRegion m × IsInBytes bytes m) (lists_are x.0 n e) (r.region, record { counts = subst FitCounts (sym r.counted) t.2; spelled = all })
 
-      by_head : (o : Option ((DaysMeaning × Counts) × List ℕ)) → head_front bytes ≡ o → behind (length bytes) o ≡ Ok n → IsRegion n × IsInBytes bytes n
+      by_head : (o : Option ((DaysMeaning × Counts) × List ℕ)) → head_front bytes ≡ o → network_behind (length bytes) o ≡ Ok n → IsRegion n × IsInBytes bytes n
       by_head None is e = absurd cc
-      by_head (Some head) is e = by_read head is (records_of head.0.0 head.0.1 head.1) refl e
+      by_head (Some head) is e = by_read head is (network_records head.0.0 head.0.1 head.1) refl e
 
   no_head : head_front bytes ≡ None → (days : DaysMeaning) (c : Counts) (rest : List ℕ) → BeginsWith bytes days c rest → ⊥
   no_head none days c rest h = none-some ((days, c), rest) (sym none ∙ ap head_front h.are ∙ head_again days c rest h.days_fit h.counts_fit)
 
-  bad_record : (head : (DaysMeaning × Counts) × List ℕ) → head_front bytes ≡ Some head → (left : ℕ) → records_of head.0.0 head.0.1 head.1 ≡ Err left → IsBadRecord bytes (length bytes - left)
+  bad_record : (head : (DaysMeaning × Counts) × List ℕ) → head_front bytes ≡ Some head → (left : ℕ) → network_records head.0.0 head.0.1 head.1 ≡ Err left → IsBadRecord bytes (length bytes - left)
   bad_record head is left read =
       let t = head_takes bytes head fits is in
       let h = records_bad head.0.0 head.0.1 left head.1 t.0.rest_fits read in
@@ -85,11 +85,11 @@ module _ (bytes : List ℕ) (fits : IsBytes bytes) where
       }
 
   -- A refusal has its cause.
-  pub records_cause : (caps : Caps) (fault : RegionFault) → ((text : List ℕ) → HasHead bytes text → ⊥) → lists_in bytes ≡ Err fault → HasCause caps bytes fault
+  pub records_cause : (caps : Caps) (fault : RegionFault) → ((text : List ℕ) → HasHeadLine bytes text → ⊥) → lists_in bytes ≡ Err fault → HasCause caps bytes fault
   unfolding lists_in
   records_cause caps fault no_text e = by_head (head_front bytes) refl e
     where
-      by_read : (head : (DaysMeaning × Counts) × List ℕ) → head_front bytes ≡ Some head → (r : Result (NetworkLists × List ℕ) ℕ) → records_of head.0.0 head.0.1 head.1 ≡ r → ended (length bytes) r ≡ Err fault → HasCause caps bytes fault
+      by_read : (head : (DaysMeaning × Counts) × List ℕ) → head_front bytes ≡ Some head → (r : Result (NetworkLists × List ℕ) ℕ) → network_records head.0.0 head.0.1 head.1 ≡ r → whole_network (length bytes) r ≡ Err fault → HasCause caps bytes fault
       by_read head is (Err left) read e = subst (HasCause caps bytes) (fault_is (BadRecord (length bytes - left)) fault e) (inr (bad_record head is left read))
       by_read head is (Ok x) read e = by_end (eqb (length x.1) 0) refl e
         where
@@ -104,18 +104,18 @@ module _ (bytes : List ℕ) (fits : IsBytes bytes) where
               subst (HasCause caps bytes) (fault_is (Trailing (length bytes - length x.1)) fault e)
               (inr (record { network = x.0; rest = x.1; region = r.region; counts = subst FitCounts (sym r.counted) t.2; are = text; some = omega (arith, apart); place = omega (arith, long) }))
 
-      by_head : (o : Option ((DaysMeaning × Counts) × List ℕ)) → head_front bytes ≡ o → behind (length bytes) o ≡ Err fault → HasCause caps bytes fault
+      by_head : (o : Option ((DaysMeaning × Counts) × List ℕ)) → head_front bytes ≡ o → network_behind (length bytes) o ≡ Err fault → HasCause caps bytes fault
       by_head None is e = subst (HasCause caps bytes) (fault_is BadHead fault e) (no_text, no_head is)
-      by_head (Some head) is e = by_read head is (records_of head.0.0 head.0.1 head.1) refl e
+      by_head (Some head) is e = by_read head is (network_records head.0.0 head.0.1 head.1) refl e
 
 -- What is spelled so is read.
 pub lists_in_again : (n : NetworkLists) → IsRegion n → FitCounts (counts_of n) → lists_in (region_bytes n) ≡ Ok n
 unfolding lists_in region_bytes region_lines
 lists_in_again n region counts =
     let rest = flat_map record_bytes (region_lines n) in
-    let read : records_of n.days (counts_of n) rest ≡ Ok (n, []) = ap (records_of n.days (counts_of n)) (sym (append-nil rest)) ∙ records_again n [] region in
-    ap (behind (length (region_bytes n))) (head_again n.days (counts_of n) rest region.fits.0 counts)
-    ∙ ap (ended (length (region_bytes n))) read
+    let read : network_records n.days (counts_of n) rest ≡ Ok (n, []) = ap (network_records n.days (counts_of n)) (sym (append-nil rest)) ∙ records_again n [] region in
+    ap (network_behind (length (region_bytes n))) (head_again n.days (counts_of n) rest region.fits.0 counts)
+    ∙ ap (whole_network (length (region_bytes n))) read
 
 -- Records are no text.
 pub not_text : (n : NetworkLists) → behind_head (region_bytes n) ≡ None

@@ -11,7 +11,7 @@ use Rattle.region_file.specs.declared.lines.Line.TheVariants as line
 use Rattle.region_file.specs.declared.section.Progress.{Progress}
 use Rattle.region_file.specs.Kinds.{line_of}
 use Rattle.region_file.specs.Lines.{FitsLine, spelled}
-use Rattle.region_file.specs.Sections.{behind, behind_days, is_due, is_end, line_at, may_stand, placed, progress_after, rank, section_of, start}
+use Rattle.region_file.specs.Sections.{behind, behind_days, is_due, is_end, line_at, may_stand, placed_line, progress_after, rank, section_of, start}
 use Rattle.region_file.proofs.KindLaws.{line_takes, line_again}
 
 -- what was read here
@@ -22,7 +22,7 @@ pub record Stands (before : Progress) (text : List ℕ) (l : Line) (next : Progr
 
 pub stands : (before : Progress) (text : List ℕ) (l : Line) (next : Progress) → line_at before text ≡ Some (l, next) → Stands before text l next
 unfolding line_at
-stands before text l next e = option_and_then_some (placed before) (line_of text) (l, next) e (λ m is e.
+stands before text l next e = option_and_then_some (placed_line before) (line_of text) (l, next) e (λ m is e.
     let found = cond_some (may_stand before m) (m, behind before m) (l, next) e in
     let same : m ≡ l = ap (λ x. x.0) found.1 in
     record { read = is ∙ ap Some same; may = subst (λ x. may_stand before x ≡ true) same found.0; leads = ap (behind before) (sym same) ∙ ap (λ x. x.1) found.1 })
@@ -40,7 +40,7 @@ again : (before : Progress) (l : Line) (next : Progress) → FitsLine l → prog
 unfolding line_at
 again before l next fits e =
     let found = cond_some (may_stand before l) (behind before l) next e in
-    ap (option_and_then (placed before)) (line_again l fits) ∙ ap (λ t. cond t (Some (l, behind before l)) None) found.0 ∙ ap (λ p. Some (l, p)) found.1
+    ap (option_and_then (placed_line before)) (line_again l fits) ∙ ap (λ t. cond t (Some (l, behind before l)) None) found.0 ∙ ap (λ p. Some (l, p)) found.1
 
 -- no line comes behind the end
 none_come : (a b : ℕ) → nat_eq a 8 ≡ true → cond (nat_eq a 0) (nat_eq b 1) (nat_lt 1 b && nat_le a b && nat_lt a 8) ≡ false

@@ -22,7 +22,7 @@ use Rattle.region_file.specs.Bytes.{arc_bytes, counts_of, record_bytes}
 use Rattle.region_file.specs.Fronts.{arc_front, road_front, stop_front, switch_front}
 use Rattle.region_file.specs.Lines.{FitsArc, FitsCall, FitsDays, FitsLine, IsRegion, node_line, region_lines, stop_line, trip_lines}
 use Rattle.region_file.specs.Texts.{trip_records}
-use Rattle.region_file.specs.Records.{many, one, records_of, stop_nodes, stops_read, trip_read}
+use Rattle.region_file.specs.Records.{many, network_records, one, stop_nodes, stops_read, trip_read}
 use Rattle.region_file.proofs.Fits.{both_fit, road_fits, switch_fits}
 use Rattle.region_file.proofs.FrontLaws.{IsBytes, Takes, Takes-then}
 use Rattle.region_file.proofs.ManyLaws.{FitsRow, OneStop, StopsAt, TripStop, bind_is, bind_ok, many_again, many_stops, many_takes, ok_is, one_again, one_stops, one_takes, row_again, row_stops, row_takes}
@@ -207,8 +207,8 @@ same_counts : (a b : Counts) → a.roads ≡ b.roads → a.stops ≡ b.stops →
 same_counts a b roads stops switches arcs links trips = λ i. record { roads = roads i; stops = stops i; switches = switches i; arcs = arcs i; links = links i; trips = trips i }
 
 -- What is read is spelled so.
-pub records_take : (days : DaysMeaning) (c : Counts) (bytes : List ℕ) (y : NetworkLists × List ℕ) → FitsDays days → IsBytes bytes → records_of days c bytes ≡ Ok y → AreRead days c bytes y
-unfolding records_of stops_read
+pub records_take : (days : DaysMeaning) (c : Counts) (bytes : List ℕ) (y : NetworkLists × List ℕ) → FitsDays days → IsBytes bytes → network_records days c bytes ≡ Ok y → AreRead days c bytes y
+unfolding network_records stops_read
 records_take days c bytes y dated fits e =
     let roads = bind_ok (many (one road_front) c.roads bytes) _ y e in
     let stops = bind_ok (stops_read c.stops roads.0.1) _ y roads.2 in
@@ -283,8 +283,8 @@ names_fit (name ∷ names) (node ∷ nodes) h = (h.0, names_fit names nodes h.1)
 assoc6 : (a b c d e f rest : List ℕ) → (a ++ (b ++ (c ++ (d ++ (e ++ f))))) ++ rest ≡ a ++ (b ++ (c ++ (d ++ (e ++ (f ++ rest)))))
 assoc6 a b c d e f rest = simp append_assoc
 
-pub records_again : (n : NetworkLists) (rest : List ℕ) → IsRegion n → records_of n.days (counts_of n) (flat_map record_bytes (region_lines n) ++ rest) ≡ Ok (n, rest)
-unfolding records_of stops_read region_lines
+pub records_again : (n : NetworkLists) (rest : List ℕ) → IsRegion n → network_records n.days (counts_of n) (flat_map record_bytes (region_lines n) ++ rest) ≡ Ok (n, rest)
+unfolding network_records stops_read region_lines
 records_again n rest region =
     let parts = region.parts in
     let rows = rows_back n.stop_names n.stops 0 parts.one_name_each (λ k d lt. subst (λ i. IsStop i (get_or n.stops k d).key) (sym (zero-add k)) (parts.stops_are k d lt)) in
@@ -308,7 +308,7 @@ records_again n rest region =
     ap (λ k. stops_read k after1) (sym rows.long)
     ∙ bind_is (many (one stop_front) (length stops) after1) _ (stops, after2) (Ok ((n.stop_names, n.stops), after2)) (stops_again stops after2 (names_fit n.stop_names n.stops f2.0))
     (ap₂ (λ a b. Ok ((a, b), after2)) rows.names_are rows.nodes_are) in
-    ap (records_of n.days (counts_of n)) text
+    ap (network_records n.days (counts_of n)) text
     ∙ bind_is (many (one road_front) (length n.roads) (flat_map node_bytes n.roads ++ after1)) _ (n.roads, after1) (Ok (n, rest)) (roads_again n.roads after1 (recursion_from_All IsRoadNode n.roads parts.roads_are))
     (bind_is (stops_read (length n.stops) after1) _ ((n.stop_names, n.stops), after2) (Ok (n, rest)) stops_is
     (bind_is (many (one switch_front) (length n.switches) after2) _ (n.switches, after3) (Ok (n, rest)) (switches_again n.switches after3 (recursion_from_All IsSwitchNode n.switches parts.switches_are))

@@ -1,7 +1,7 @@
 -- Which record may stand where in a region in bytes: as many of each kind as the head counts, in the order of the sections, and
 -- behind each trip its calls.
 use Rattle.std.specs.Prelude.{ℕ, zero, suc, ◌-◌, List, [], ◌∷◌, Option, Some, None, nat_eq, nat_lt, if◌then◌else◌}
-use Rattle.region_file.specs.Sections.{due_behind, rank, section_of}
+use Rattle.region_file.specs.Sections.{calls_due_behind, rank, section_of}
 use Rattle.region_file.specs.declared.counts.Counts.{Counts}
 use Rattle.region_file.specs.declared.lines.Line.{Line}
 use Rattle.region_file.specs.declared.lines.Line.TheVariants as line
@@ -30,7 +30,7 @@ due_of c = record { calls = 0; sections = announced c }
 -- what is due behind a record that is not a call
 abbrev pub next_behind : List Section → Line → Option Due
 next_behind [] l = None
-next_behind (s ∷ more) l = if nat_eq (rank s) (rank (section_of l)) then Some (record { calls = due_behind 0 l; sections = more }) else None
+next_behind (s ∷ more) l = if nat_eq (rank s) (rank (section_of l)) then Some (record { calls = calls_due_behind 0 l; sections = more }) else None
 
 -- what is due behind a record, if it may stand there
 abbrev pub record_after : Due → Line → Option Due

@@ -15,7 +15,7 @@ use Rattle.mode_network.specs.declared.nodes.Arc.{Arc}
 use Rattle.mode_network.specs.declared.nodes.Node.{Node}
 use Rattle.mode_network.specs.declared.nodes.NodeKey.TheVariants.{Road, Switch}
 use Rattle.region_file.specs.Bytes.{plain_magic, zoned_magic}
-use Rattle.region_file.specs.Kinds.{◌>>=◌, made}
+use Rattle.region_file.specs.Kinds.{◌>>=◌, days_if_made}
 use Rattle.region_file.specs.declared.counts.Counts.{Counts}
 
 abbrev pub number_front : Width → List ℕ → Option (ℕ × List ℕ)
@@ -142,5 +142,5 @@ head_front bytes = do
   count ← number_front w32 first.1
   counts ← counts_front count.1
   rule ← rule_front zoned.0 counts.1
-  days ← made (days_made first.0 count.0 rule.0)
+  days ← days_if_made (days_made first.0 count.0 rule.0)
   Some ((days, counts.0), rule.1)

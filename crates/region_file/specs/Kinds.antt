@@ -37,9 +37,9 @@ place_of_words lat lon = do
   east ← signed_at (2 * 10 ^ 9) lon
   place_of north east
 
-abbrev pub made : Result DaysMeaning RangeFault → Option DaysMeaning
-made (Ok days) = Some days
-made (Err fault) = None
+abbrev pub days_if_made : Result DaysMeaning RangeFault → Option DaysMeaning
+days_if_made (Ok days) = Some days
+days_if_made (Err fault) = None
 
 -- no word of a zone rule, or one
 abbrev pub rule_of_words : List (List ℕ) → Option (Option (List ℕ))
@@ -52,7 +52,7 @@ days_of_words (first ∷ count ∷ rule) = do
   date ← number_of_word first
   days ← number_of_word count
   zone ← rule_of_words rule
-  option_map line.Days (made (days_made date days zone))
+  option_map line.Days (days_if_made (days_made date days zone))
 days_of_words _ = None
 
 unfoldable pub road_of_words : List (List ℕ) → Option Line

@@ -55,8 +55,8 @@ stops_read count bytes = do
   Ok ((map (λ stop. stop.0) stops.0, stop_nodes 0 stops.0), stops.1)
 
 -- the lists of a network, and the bytes behind its records
-unfoldable pub records_of : DaysMeaning → Counts → List ℕ → Result (NetworkLists × List ℕ) ℕ
-records_of days counts bytes = do
+unfoldable pub network_records : DaysMeaning → Counts → List ℕ → Result (NetworkLists × List ℕ) ℕ
+network_records days counts bytes = do
   roads ← many (one road_front) counts.roads bytes
   stops ← stops_read counts.stops roads.1
   switches ← many (one switch_front) counts.switches stops.1
@@ -78,17 +78,17 @@ records_of days counts bytes = do
   )
 
 -- In so many bytes: the lists, where nothing follows them. A record, or what follows the last one, is named by its place.
-abbrev pub ended : ℕ → Result (NetworkLists × List ℕ) ℕ → Result NetworkLists RegionFault
-ended len (Ok x) = if length x.1 == 0 then Ok x.0 else Err (Trailing (len - length x.1))
-ended len (Err left) = Err (BadRecord (len - left))
+abbrev pub whole_network : ℕ → Result (NetworkLists × List ℕ) ℕ → Result NetworkLists RegionFault
+whole_network len (Ok x) = if length x.1 == 0 then Ok x.0 else Err (Trailing (len - length x.1))
+whole_network len (Err left) = Err (BadRecord (len - left))
 
-abbrev pub behind : ℕ → Option ((DaysMeaning × Counts) × List ℕ) → Result NetworkLists RegionFault
-behind len None = Err BadHead
-behind len (Some head) = ended len (records_of head.0.0 head.0.1 head.1)
+abbrev pub network_behind : ℕ → Option ((DaysMeaning × Counts) × List ℕ) → Result NetworkLists RegionFault
+network_behind len None = Err BadHead
+network_behind len (Some head) = whole_network len (network_records head.0.0 head.0.1 head.1)
 
 -- the lists that bytes spell, or what is wrong with them
 unfoldable pub lists_in : List ℕ → Result NetworkLists RegionFault
-lists_in bytes = behind (length bytes) (head_front bytes)
+lists_in bytes = network_behind (length bytes) (head_front bytes)
 
 -- Why the reading of a function stopped is why reading does, unless memory ran out.
 abbrev pub HaltsAs : {Y : Type 0} → Halt → Result Y ℕ → Type 0

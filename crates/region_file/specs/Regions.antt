@@ -119,7 +119,7 @@ pub record IsDecoded (caps : Caps) (bytes : List ℕ) (n : NetworkLists) : Type 
   pub faultless : first_fault caps n ≡ None
 
 -- a text behind the head line
-pub record HasHead (bytes text : List ℕ) : Type 0 where
+pub record HasHeadLine (bytes text : List ℕ) : Type 0 where
   pub is : bytes ≡ head_line ++ text
 
 -- Bytes begin with the head of these days and counts.
@@ -130,7 +130,7 @@ pub record BeginsWith (bytes : List ℕ) (days : DaysMeaning) (counts : Counts) 
 
 -- Some line of a text is the first that may not stand where it does.
 abbrev pub IsBadLine : List ℕ → ℕ → Type 0
-IsBadLine bytes at = (text : List ℕ) × HasHead bytes text × IsFirstBad spelled FitsLine progress_after is_end start 2 (pieces text) at
+IsBadLine bytes at = (text : List ℕ) × HasHeadLine bytes text × IsFirstBad spelled FitsLine progress_after is_end start 2 (pieces text) at
 
 -- Behind some records that may stand where they do, more are due, and no record that may come next stands in the bytes at this
 -- place.
@@ -149,7 +149,7 @@ pub record IsBadRecord (bytes : List ℕ) (at : ℕ) : Type 0 where
 
 -- Bytes follow the end of a text, and this is the line where they begin.
 abbrev pub IsTrailingLine : List ℕ → ℕ → Type 0
-IsTrailingLine bytes at = (text : List ℕ) × HasHead bytes text × IsTrailing spelled FitsLine progress_after is_end start 2 (pieces text) at
+IsTrailingLine bytes at = (text : List ℕ) × HasHeadLine bytes text × IsTrailing spelled FitsLine progress_after is_end start 2 (pieces text) at
 
 -- Bytes follow all records, and begin at this place.
 pub record FollowRecords (bytes : List ℕ) (at : ℕ) : Type 0 where
@@ -165,7 +165,7 @@ pub record FollowRecords (bytes : List ℕ) (at : ℕ) : Type 0 where
 -- bytes follow the end; or they spell a network that breaks a rule, the first of which is named. That memory ran out has no
 -- cause.
 abbrev pub HasCause : Caps → List ℕ → RegionFault → Type 0
-HasCause caps bytes BadHead = ((text : List ℕ) → HasHead bytes text → ⊥) × ((days : DaysMeaning) (counts : Counts) (rest : List ℕ) → BeginsWith bytes days counts rest → ⊥)
+HasCause caps bytes BadHead = ((text : List ℕ) → HasHeadLine bytes text → ⊥) × ((days : DaysMeaning) (counts : Counts) (rest : List ℕ) → BeginsWith bytes days counts rest → ⊥)
 HasCause caps bytes (BadRecord at) = IsBadLine bytes at ⊎ IsBadRecord bytes at
 HasCause caps bytes (Trailing at) = IsTrailingLine bytes at ⊎ FollowRecords bytes at
 HasCause caps bytes (Network fault) = (n : NetworkLists) × IsRegion n × AreSpelling bytes n × (first_fault caps n ≡ Some fault)
@@ -182,3 +182,11 @@ IsNoRegion caps bytes BadHead = SpellNone caps bytes × HasCause caps bytes BadH
 IsNoRegion caps bytes (BadRecord at) = SpellNone caps bytes × HasCause caps bytes (BadRecord at)
 IsNoRegion caps bytes (Network fault) = SpellNone caps bytes × HasCause caps bytes (Network fault)
 IsNoRegion caps bytes (Trailing at) = SpellNone caps bytes × HasCause caps bytes (Trailing at)
+
+-- what a refusal says of the bytes; want of memory says nothing
+abbrev pub IsRefusedRegion : Caps → List ℕ → RegionFault → Type 0
+IsRefusedRegion caps bytes OutOfMemory = Unit {0}
+IsRefusedRegion caps bytes BadHead = IsNoRegion caps bytes BadHead
+IsRefusedRegion caps bytes (BadRecord at) = IsNoRegion caps bytes (BadRecord at)
+IsRefusedRegion caps bytes (Network fault) = IsNoRegion caps bytes (Network fault)
+IsRefusedRegion caps bytes (Trailing at) = IsNoRegion caps bytes (Trailing at)

@@ -41,16 +41,16 @@ is_due calls (line.Call call) = nat_lt 0 calls
 is_due calls _ = nat_eq calls 0
 
 -- how many calls are due behind a line, where so many were due before it
-abbrev pub due_behind : ℕ → Line → ℕ
-due_behind calls (line.Trip letter days count name) = count
-due_behind calls (line.Call call) = calls - 1
-due_behind calls _ = 0
+abbrev pub calls_due_behind : ℕ → Line → ℕ
+calls_due_behind calls (line.Trip letter days count name) = count
+calls_due_behind calls (line.Call call) = calls - 1
+calls_due_behind calls _ = 0
 
 abbrev pub may_stand : Progress → Line → Bool
 may_stand before l = may_follow before.section (section_of l) && is_due before.calls_due l
 
 abbrev pub behind : Progress → Line → Progress
-behind before l = record { section = section_of l; calls_due = due_behind before.calls_due l }
+behind before l = record { section = section_of l; calls_due = calls_due_behind before.calls_due l }
 
 -- the place behind a line, if the line may stand there
 abbrev pub progress_after : Progress → Line → Option Progress
@@ -67,9 +67,9 @@ behind_days = record { section = section.Days; calls_due = 0 }
 abbrev pub is_end : Progress → Bool
 is_end before = nat_eq (rank before.section) 8
 
-abbrev pub placed : Progress → Line → Option (Line × Progress)
-placed before l = if may_stand before l then Some (l, behind before l) else None
+abbrev pub placed_line : Progress → Line → Option (Line × Progress)
+placed_line before l = if may_stand before l then Some (l, behind before l) else None
 
 -- the line that a text spells, if it may stand here, and the place behind it
 unfoldable pub line_at : Progress → List ℕ → Option (Line × Progress)
-line_at before text = option_and_then (placed before) (line_of text)
+line_at before text = option_and_then (placed_line before) (line_of text)

@@ -27,8 +27,8 @@ named_line names (Road mode id) place = line.Road mode id place
 named_line names (Stop stop) place = line.Stop (name_at names stop) place
 named_line names (Switch id) place = line.Switch id place
 
-abbrev pub node_text : List (List ℕ) → Node → List ℕ
-node_text names node = line_text (named_line names node.key node.place)
+abbrev pub node_line_text : List (List ℕ) → Node → List ℕ
+node_line_text names node = line_text (named_line names node.key node.place)
 
 abbrev pub call_text : Call → List ℕ
 call_text call = line_text (line.Call call)
@@ -47,7 +47,7 @@ abbrev pub trip_records : TripLists → List ℕ
 trip_records trip = trip_bytes trip.letter trip.days (length trip.calls) trip.name ++ flat_map call_bytes trip.calls
 
 -- a stop is one of those that have a name
-abbrev pub IsListed : List (List ℕ) → NodeKey → Type 0
-IsListed names (Road mode id) = Unit {0}
-IsListed names (Stop stop) = stop < length names
-IsListed names (Switch id) = Unit {0}
+abbrev pub IsNamedKey : List (List ℕ) → NodeKey → Type 0
+IsNamedKey names (Road mode id) = Unit {0}
+IsNamedKey names (Stop stop) = stop < length names
+IsNamedKey names (Switch id) = Unit {0}

@@ -1,15 +1,14 @@
 //! From bytes to a network.
 
-ghost use Rattle.std.specs.Prelude.{◌≡◌, ◌⊎◌, option_map, IfOk, IfErr};
+ghost use Rattle.std.specs.Prelude.{◌≡◌, option_map, IfOk, IfErr};
 ghost use Rattle.std.specs.Result.{result_map_both};
 ghost use Rattle.plain_texts.specs.Course.{lines_from};
 ghost use Rattle.plain_texts.specs.Lines.{pieces};
 ghost use Rattle.mode_network.specs.NetworkLists.{NetworkLists};
 ghost use Rattle.mode_network.specs.Rules.{AreParts, first_fault};
 ghost use Rattle.region_file.specs.Sections.{behind_days, is_end, line_at, start};
-ghost use Rattle.region_file.specs.Regions.{Gives, HasCause, IsDecoded, IsNoRegion, behind_head, lists_by, lists_in_text, or_fault, put_all, region_of};
+ghost use Rattle.region_file.specs.Regions.{Gives, HasCause, IsDecoded, IsRefusedRegion, behind_head, lists_by, lists_in_text, or_fault, put_all, region_of};
 ghost use Rattle.region_file.specs.Records.{lists_in};
-ghost use Rattle.region_file.specs.declared.fault.RegionFault.TheVariants.{OutOfMemory};
 ghost use Rattle.region_file.specs.declared.lines.Line.TheVariants as line;
 
 use crate::fault::{Halt, RegionFault};
@@ -57,7 +56,8 @@ fn read_lines<'a>(
     mut progress: Progress,
     mut rest: &'a [u8],
 ) -> Result<(), RegionFault>
-    ensures { Gives (result_map_both (λ _. parts.new) (λ fault. fault) result) (put_all parts.old (lines_from line_at is_end progress 3 (pieces rest.now))) }
+    ensures { Gives (result_map_both (λ _. parts.new) (λ fault. fault) result)
+        (put_all parts.old (lines_from line_at is_end progress 3 (pieces rest.now))) }
 {
     let mut at = 3;
     loop {
@@ -86,7 +86,8 @@ fn first_line<'a>(
     words: &mut Vec<&'a [u8]>,
     text: &'a [u8],
 ) -> Result<Option<Days>, AllocError>
-    ensures { IfOk result (λ read. option_map (λ days. (line.Days days, behind_days)) read ≡ line_at start text.now) }
+    ensures { IfOk result (λ read. option_map (λ days. (line.Days days, behind_days)) read ≡ line_at start
+        text.now) }
 {
     match line_behind(alloc, words, Progress::start(), text)? {
         Some((line, _)) => match line {
@@ -206,7 +207,7 @@ pub fn decode(alloc: Global, bytes: &[u8], caps: &Caps) -> Result<Network, Regio
     // Each refusal has its cause.
     ensures cause { IfErr result (HasCause caps.now bytes.now) }
     // And where there is one, no network within the limits is spelled so.
-    ensures none { IfErr result (λ fault. (fault ≡ OutOfMemory) ⊎ IsNoRegion caps.now bytes.now fault) }
+    ensures none { IfErr result (IsRefusedRegion caps.now bytes.now) }
     // Which one comes first.
     ensures exact { Gives result (region_of caps.now bytes.now) }
 {

@@ -7,7 +7,7 @@ ghost use Rattle.mode_network.specs.NetworkLists.{nodes_of};
 ghost use Rattle.mode_network.specs.Rules.{first_fault};
 ghost use Rattle.region_file.specs.Bytes.{arc_bytes, call_bytes, counts_of, region_bytes};
 ghost use Rattle.region_file.specs.Regions.{IsDecoded, spelling};
-ghost use Rattle.region_file.specs.Texts.{IsListed, node_record, trip_records};
+ghost use Rattle.region_file.specs.Texts.{IsNamedKey, node_record, trip_records};
 
 use crate::counts::Counts;
 use crate::format::Format;
@@ -63,7 +63,7 @@ fn counts_of(network: &Network) -> Counts
 
 /// The record of a node.
 fn push_node(out: &mut Vec<u8>, network: &Network, node: Node) -> Result<(), AllocError>
-    requires { IsListed network.now.stop_names node.key }
+    requires { IsNamedKey network.now.stop_names node.key }
     ensures { OnOk result (out.new.items ≡ out.old.items ++ node_record network.now.stop_names node) }
 {
     match node.key {
@@ -75,7 +75,8 @@ fn push_node(out: &mut Vec<u8>, network: &Network, node: Node) -> Result<(), All
 
 /// The records of the nodes.
 fn push_nodes(out: &mut Vec<u8>, network: &Network) -> Result<(), AllocError>
-    ensures { OnOk result (out.new.items ≡ out.old.items ++ flat_map (node_record network.now.stop_names) (nodes_of network.now)) }
+    ensures { OnOk result (out.new.items ≡ out.old.items ++ flat_map (node_record network.now.stop_names)
+        (nodes_of network.now)) }
 {
     network.known();
     for v in 0..network.nodes() {

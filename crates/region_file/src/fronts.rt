@@ -154,7 +154,8 @@ pub fn switch_front(bytes: &[u8]) -> Option<(Node, &[u8])>
 /// The name of a stop, and its place.
 #[tactic(auto, unfolding(crate::specs::Fronts::stop_front))]
 pub fn stop_front(alloc: Global, bytes: &[u8]) -> Result<Option<((Name, Place), &[u8])>, AllocError>
-    ensures { IfOk result (λ front. option_map (λ x. ((x.0.0, x.0.1), x.1.now)) front ≡ spec.stop_front bytes.now) }
+    ensures { IfOk result (λ front. option_map (λ x. ((x.0.0, x.0.1), x.1.now)) front ≡ spec.stop_front
+        bytes.now) }
 {
     let Some((name, rest)) = name_front(alloc, bytes)? else {
         return Ok(None);
@@ -229,7 +230,8 @@ fn set_front(bytes: &[u8]) -> Option<(u128, &[u8])>
 /// A trip that has no calls yet, and how many of them its record counts.
 #[tactic(auto, unfolding(crate::specs::Fronts::trip_front))]
 pub fn trip_front(alloc: Global, bytes: &[u8]) -> Result<Option<((Trip, u32), &[u8])>, AllocError>
-    ensures { IfOk result (λ front. option_map (λ x. ((x.0.0, x.0.1), x.1.now)) front ≡ spec.trip_front bytes.now) }
+    ensures { IfOk result (λ front. option_map (λ x. ((x.0.0, x.0.1), x.1.now)) front ≡ spec.trip_front
+        bytes.now) }
 {
     let Some((letter, rest)) = letter_front(bytes) else {
         return Ok(None);
@@ -277,7 +279,8 @@ fn counts_front(bytes: &[u8]) -> Option<(Counts, &[u8])>
 
 /// The zone rule, where there is one.
 fn rule_front(zoned: bool, bytes: &[u8]) -> Option<(Option<&[u8]>, &[u8])>
-    ensures { option_map (λ x. (option_map (λ r. r.now) x.0, x.1.now)) result ≡ spec.rule_front zoned bytes.now }
+    ensures { option_map (λ x. (option_map (λ r. r.now) x.0, x.1.now)) result ≡ spec.rule_front zoned
+        bytes.now }
 {
     if zoned {
         match counted_front(bytes) {
@@ -309,7 +312,8 @@ pub fn head_front(
     alloc: Global,
     bytes: &[u8],
 ) -> Result<Option<((Days, Counts), &[u8])>, AllocError>
-    ensures { IfOk result (λ front. option_map (λ x. ((x.0.0, x.0.1), x.1.now)) front ≡ spec.head_front bytes.now) }
+    ensures { IfOk result (λ front. option_map (λ x. ((x.0.0, x.0.1), x.1.now)) front ≡ spec.head_front
+        bytes.now) }
 {
     let Some((zoned, rest)) = magic_front(bytes) else {
         return Ok(None);

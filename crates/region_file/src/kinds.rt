@@ -184,7 +184,8 @@ pub fn made_days(
     count: u32,
     rule: Option<&[u8]>,
 ) -> Result<Option<Days>, AllocError>
-    ensures { IfOk result (λ days. days ≡ spec.made (days_made first count (option_map (λ r. r.now) rule.entry))) }
+    ensures { IfOk result (λ days. days ≡ spec.days_if_made
+        (days_made first count (option_map (λ r. r.now) rule.entry))) }
 {
     let made = match rule {
         Some(rule) => Days::in_zone(alloc, first, count, rule),

@@ -168,7 +168,8 @@ fn push_day_set(out: &mut Vec<u8>, days: DaySet) -> Result<(), AllocError>
 /// The line of a trip.
 #[tactic(auto, unfolding(plain_texts::specs::Lines::spaced))]
 pub fn push_trip_line(out: &mut Vec<u8>, trip: &Trip) -> Result<(), AllocError>
-    ensures { OnOk result (out.new.items ≡ out.old.items ++ line_text (line.Trip trip.now.letter trip.now.days (length trip.now.calls) trip.now.name)) }
+    ensures { OnOk result (out.new.items ≡ out.old.items ++ line_text
+        (line.Trip trip.now.letter trip.now.days (length trip.now.calls) trip.now.name)) }
 {
     out.extend_from_slice(b"trip")?;
     push_word(out, letter_name(trip.letter))?;

@@ -3,7 +3,7 @@
 ghost use Rattle.std.specs.Prelude.{◌≡◌, ◌++◌, ◌∷◌, [], OnOk};
 ghost use Rattle.mode_network.specs.declared.nodes.NodeKey.TheVariants.{Stop};
 ghost use Rattle.region_file.specs.Fronts.{arc_front, call_front, road_front, switch_front};
-ghost use Rattle.region_file.specs.Records.{GivesRead, many, one, records_of, stops_read, trip_read};
+ghost use Rattle.region_file.specs.Records.{GivesRead, many, network_records, one, stops_read, trip_read};
 
 use crate::counts::Counts;
 use crate::fault::Halt;
@@ -120,7 +120,8 @@ struct Stops {
 /// Puts a stop of this number behind the others.
 fn push_stop(stops: &mut Stops, number: u32, stop: (Name, Place)) -> Result<(), AllocError>
     ensures names { OnOk result (stops.new.names.items ≡ stops.old.names.items ++ stop.0 ∷ []) }
-    ensures nodes { OnOk result (stops.new.nodes.items ≡ stops.old.nodes.items ++ record { key = Stop number; place = stop.1 } ∷ []) }
+    ensures nodes { OnOk result (stops.new.nodes.items ≡ stops.old.nodes.items ++ record
+        { key = Stop number; place = stop.1 } ∷ []) }
 {
     let (name, place) = stop;
     let key = NodeKey::Stop(number);
@@ -131,7 +132,8 @@ fn push_stop(stops: &mut Stops, number: u32, stop: (Name, Place)) -> Result<(), 
 
 /// So many stops.
 fn stops_of(alloc: Global, count: u32, bytes: &[u8]) -> Result<(Stops, &[u8]), Halt>
-    ensures { GivesRead (λ x. ((x.0.names.items, x.0.nodes.items), x.1.now)) result (stops_read count bytes.now) }
+    ensures { GivesRead (λ x. ((x.0.names.items, x.0.nodes.items), x.1.now)) result
+        (stops_read count bytes.now) }
 {
     let mut stops = Stops {
         names: Vec::new(alloc),
@@ -149,14 +151,14 @@ fn stops_of(alloc: Global, count: u32, bytes: &[u8]) -> Result<(Stops, &[u8]), H
 }
 
 /// The parts of a network of these days, which so many records spell, and the bytes behind the records.
-#[tactic(auto, unfolding(crate::specs::Records::records_of))]
+#[tactic(auto, unfolding(crate::specs::Records::network_records))]
 pub fn parts_of(
     alloc: Global,
     days: Days,
     counts: Counts,
     bytes: &[u8],
 ) -> Result<(Parts, &[u8]), Halt>
-    ensures { GivesRead (λ x. (x.0, x.1.now)) result (records_of days counts bytes.now) }
+    ensures { GivesRead (λ x. (x.0, x.1.now)) result (network_records days counts bytes.now) }
 {
     let (roads, rest) = roads_of(alloc, counts.roads, bytes)?;
     let (stops, rest) = stops_of(alloc, counts.stops, rest)?;

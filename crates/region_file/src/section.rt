@@ -1,7 +1,7 @@
 //! Where a line may stand.
 
 ghost use Rattle.std.specs.Prelude.{◌≡◌};
-ghost use Rattle.region_file.specs.Sections.{behind, behind_days, due_behind, is_due, is_end, may_follow, may_stand, rank, section_of, start};
+ghost use Rattle.region_file.specs.Sections.{behind, behind_days, calls_due_behind, is_due, is_end, may_follow, may_stand, rank, section_of, start};
 
 use crate::lines::Line;
 
@@ -109,7 +109,7 @@ impl Progress {
 
     /// How many calls are to come behind a line that is due here.
     fn due_behind(self, line: &Line) -> u32
-        ensures { result ≡ due_behind self.calls_due line.now }
+        ensures { result ≡ calls_due_behind self.calls_due line.now }
     {
         match line {
             Line::Trip { calls, .. } => *calls,

@@ -7,7 +7,7 @@ ghost use Rattle.mode_network.specs.NetworkLists.{nodes_of};
 ghost use Rattle.mode_network.specs.Rules.{first_fault};
 ghost use Rattle.region_file.specs.Lines.{region_text};
 ghost use Rattle.region_file.specs.Regions.{IsDecoded};
-ghost use Rattle.region_file.specs.Texts.{IsListed, call_text, line_text, node_text, trip_text};
+ghost use Rattle.region_file.specs.Texts.{IsNamedKey, call_text, line_text, node_line_text, trip_text};
 ghost use Rattle.region_file.specs.declared.lines.Line.TheVariants as line;
 
 use crate::lines::HEAD;
@@ -20,8 +20,8 @@ use timetable_arcs::{Call, Trip};
 
 /// The line of a node.
 fn push_node(out: &mut Vec<u8>, network: &Network, node: Node) -> Result<(), AllocError>
-    requires { IsListed network.now.stop_names node.key }
-    ensures { OnOk result (out.new.items ≡ out.old.items ++ node_text network.now.stop_names node) }
+    requires { IsNamedKey network.now.stop_names node.key }
+    ensures { OnOk result (out.new.items ≡ out.old.items ++ node_line_text network.now.stop_names node) }
 {
     match node.key {
         NodeKey::Road(mode, id) => push_road(out, mode, id, node.place),
@@ -32,7 +32,8 @@ fn push_node(out: &mut Vec<u8>, network: &Network, node: Node) -> Result<(), All
 
 /// The lines of the nodes.
 fn push_nodes(out: &mut Vec<u8>, network: &Network) -> Result<(), AllocError>
-    ensures { OnOk result (out.new.items ≡ out.old.items ++ flat_map (node_text network.now.stop_names) (nodes_of network.now)) }
+    ensures { OnOk result (out.new.items ≡ out.old.items ++ flat_map (node_line_text network.now.stop_names)
+        (nodes_of network.now)) }
 {
     network.known();
     for v in 0..network.nodes() {
@@ -43,7 +44,8 @@ fn push_nodes(out: &mut Vec<u8>, network: &Network) -> Result<(), AllocError>
 
 /// The lines of the road arcs.
 fn push_arcs(out: &mut Vec<u8>, arcs: &[Arc]) -> Result<(), AllocError>
-    ensures { OnOk result (out.new.items ≡ out.old.items ++ flat_map (λ arc. line_text (line.Arc arc)) arcs.now) }
+    ensures { OnOk result (out.new.items ≡ out.old.items ++ flat_map (λ arc. line_text (line.Arc arc))
+        arcs.now) }
 {
     for arc in arcs {
         push_arc(out, *arc)?;
@@ -53,7 +55,8 @@ fn push_arcs(out: &mut Vec<u8>, arcs: &[Arc]) -> Result<(), AllocError>
 
 /// The lines of the links.
 fn push_links(out: &mut Vec<u8>, links: &[Arc]) -> Result<(), AllocError>
-    ensures { OnOk result (out.new.items ≡ out.old.items ++ flat_map (λ link. line_text (line.Link link)) links.now) }
+    ensures { OnOk result (out.new.items ≡ out.old.items ++ flat_map (λ link. line_text (line.Link link))
+        links.now) }
 {
     for link in links {
         push_link(out, *link)?;

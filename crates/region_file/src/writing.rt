@@ -134,7 +134,8 @@ fn push_day_set(out: &mut Vec<u8>, days: DaySet) -> Result<(), AllocError>
 /// The record of a trip, which says how many calls it has.
 pub fn push_trip_head(out: &mut Vec<u8>, trip: &Trip) -> Result<(), AllocError>
     requires { length trip.now.calls < 2 ^ 32 }
-    ensures { OnOk result (out.new.items ≡ out.old.items ++ spec.trip_bytes trip.now.letter trip.now.days (length trip.now.calls) trip.now.name) }
+    ensures { OnOk result (out.new.items ≡ out.old.items ++ spec.trip_bytes trip.now.letter trip.now.days
+        (length trip.now.calls) trip.now.name) }
 {
     out.push(trip.letter)?;
     push_day_set(out, trip.days)?;
@@ -166,7 +167,8 @@ fn magic_of(zone: Option<&[u8]>) -> &'static [u8]
 /// The zone rule behind its length, if there is one.
 fn push_rule(out: &mut Vec<u8>, zone: Option<&[u8]>) -> Result<(), AllocError>
     requires { IfSome zone (λ rule. length rule.now < 2 ^ 32) }
-    ensures { OnOk result (out.new.items ≡ out.old.items ++ spec.rule_bytes (option_map (λ rule. rule.now) zone.entry)) }
+    ensures { OnOk result (out.new.items ≡ out.old.items ++ spec.rule_bytes
+        (option_map (λ rule. rule.now) zone.entry)) }
 {
     match zone {
         None => Ok(()),
@@ -183,7 +185,8 @@ fn push_head_of(
     counts: Counts,
 ) -> Result<(), AllocError>
     requires { IfSome zone (λ rule. length rule.now < 2 ^ 32) }
-    ensures { OnOk result (out.new.items ≡ out.old.items ++ spec.head_by first count (option_map (λ rule. rule.now) zone.entry) counts) }
+    ensures { OnOk result (out.new.items ≡ out.old.items ++ spec.head_by first count
+        (option_map (λ rule. rule.now) zone.entry) counts) }
 {
     out.extend_from_slice(magic_of(zone))?;
     push_u32(out, first)?;

@@ -37,8 +37,8 @@ asked_for (name, words) =
     if bytes_eq name (codes "profile") then windowed words else option_map (λ command. (command, words)) (command_named name)
 
 -- the command that a line names before its first space, and the query line for it
-unfoldable pub asked_by : List ℕ → Option (LineCommand × List ℕ)
-asked_by line = option_and_then asked_for (at_space line)
+unfoldable pub asked_on_line : List ℕ → Option (LineCommand × List ℕ)
+asked_on_line line = option_and_then asked_for (at_space line)
 
 -- what the command writes for the query line, over the hierarchy where one is given, where its search may have so many labels
 abbrev pub IsReplyWithin : NetworkLists → Option HierarchyLists → (labels : Option ℕ) → LineCommand → List ℕ → List ℕ → Type 0
@@ -60,4 +60,4 @@ IsReplyTo n h limits line (Some asked) reply = IsReplyOf n h limits asked.0 aske
 
 -- the right reply to a line
 abbrev pub IsReply : NetworkLists → Option HierarchyLists → Limits → List ℕ → List ℕ → Type 0
-IsReply n h limits line reply = IsReplyTo n h limits line (asked_by line) reply
+IsReply n h limits line reply = IsReplyTo n h limits line (asked_on_line line) reply

@@ -3,7 +3,7 @@
 ghost use Rattle.std.specs.Prelude.{◌≡◌, option_map, position};
 ghost use Rattle.plain_texts.specs.Lines.{is_space};
 ghost use Rattle.journey.specs.Shapes.{at_space};
-ghost use Rattle.request_commands.specs.Requests.{asked_by, command_named, windowed};
+ghost use Rattle.request_commands.specs.Requests.{asked_on_line, command_named, windowed};
 
 use command_words::read_window;
 use memchr::memchr;
@@ -21,9 +21,9 @@ pub enum LineCommand {
 }
 
 /// The command that a line names, and the words for it.
-#[tactic(auto, unfolding(crate::specs::Requests::asked_by))]
+#[tactic(auto, unfolding(crate::specs::Requests::asked_on_line))]
 pub(crate) fn asked_by(line: &[u8]) -> Option<(LineCommand, &[u8])>
-    ensures { option_map (λ it. (it.0, it.1.now)) result ≡ asked_by line.now }
+    ensures { option_map (λ it. (it.0, it.1.now)) result ≡ asked_on_line line.now }
 {
     let (name, words) = at_space(line)?;
     if name == b"profile".as_slice() {

@@ -109,7 +109,8 @@ impl Replies<'_> {
         requires same { self.now.backwards.now.network ≡ self.now.network.now }
         requires least { self.now.least.now.plain.network.now ≡ self.now.network.now }
         ensures { IfOk result (λ reply. IsReplyWithin self.now.network.now
-            (option_map (λ h. h.now) self.now.hierarchy) self.now.limits.labels command query.now reply.items) }
+            (option_map (λ h. h.now) self.now.hierarchy) self.now.limits.labels command query.now
+            reply.items) }
     {
         let (network, hierarchy) = (self.network, self.hierarchy);
         let labels = self.limits.labels;

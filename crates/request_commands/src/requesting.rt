@@ -47,8 +47,8 @@ fn reply_over<F: Shelf, O: Sink, E: Sink>(
     path: &str,
 ) -> Result<(), Outcome>
     requires { IfSome hierarchy (λ h. IsSound network.now h.now) }
-    ensures { AnswersFile Requests path.now (IsReply network.now (option_map (λ h. h.now) hierarchy.entry) limits)
-        (scene (F.meaning ports.old.shelf) (O.meaning ports.old.out))
+    ensures { AnswersFile Requests path.now (IsReply network.now (option_map (λ h. h.now) hierarchy.entry)
+        limits) (scene (F.meaning ports.old.shelf) (O.meaning ports.old.out))
         (scene (F.meaning ports.new.shelf) (O.meaning ports.new.out)) (end_of result) }
 {
     let Ok(backwards) = Backwards::new(ports.alloc, network) else {

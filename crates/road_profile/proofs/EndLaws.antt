@@ -19,7 +19,7 @@ use Rattle.road_profile.specs.declared.passages.Passages.{Passages}
 use Rattle.road_profile.specs.declared.rows.RoadRow.{RoadRow}
 use Rattle.road_profile.specs.Passages.{passages_of}
 use Rattle.road_profile.specs.Arcs.{AreRoadArcs, JoinsPlaces}
-use Rattle.road_profile.specs.Legs.{directed, legs_of, mode_legs, neighbours, pair_legs, piece_legs, place_at, placed_legs, row, step_legs, timed, way_legs}
+use Rattle.road_profile.specs.Legs.{directed, legs_of, mode_legs, neighbours, pair_legs, piece_legs, place_of_node, placed_legs, row, step_legs, timed, way_legs}
 use Rattle.road_profile.proofs.TimedLaws.{All-flat_map}
 
 -- what holds of the rows both ways between two nodes, of each mode and time
@@ -46,13 +46,13 @@ unfolding pair_legs
 pair_legs-all P passages a b mm h =
     All-append P _ _ (mode_legs-all P 0 a b mm passages.foot h) (All-append P _ _ (mode_legs-all P 1 a b mm passages.bike h) (mode_legs-all P 2 a b mm passages.car h))
 
-joins : (nodes : List OsmNode) (a b : ℤ) → (a ≡ b → ⊥) → is_some (place_at nodes a) ≡ true → is_some (place_at nodes b) ≡ true → BothWays (JoinsPlaces nodes) a b
+joins : (nodes : List OsmNode) (a b : ℤ) → (a ≡ b → ⊥) → is_some (place_of_node nodes a) ≡ true → is_some (place_of_node nodes b) ≡ true → BothWays (JoinsPlaces nodes) a b
 joins nodes a b differ from to = record {
   there = λ mode ms. record { differ = differ; from = from; to = to };
   back = λ mode ms. record { differ = λ e. differ (sym e); from = to; to = from };
 }
 
-placed-joined : (nodes : List OsmNode) (passages : Passages) (a b : ℤ) (from to : Option Place) → place_at nodes a ≡ from → place_at nodes b ≡ to → (a ≡ b → ⊥) → All (JoinsPlaces nodes) (placed_legs passages a b from to)
+placed-joined : (nodes : List OsmNode) (passages : Passages) (a b : ℤ) (from to : Option Place) → place_of_node nodes a ≡ from → place_of_node nodes b ≡ to → (a ≡ b → ⊥) → All (JoinsPlaces nodes) (placed_legs passages a b from to)
 placed-joined nodes passages a b (Some from) (Some to) p q differ =
     pair_legs-all (JoinsPlaces nodes) passages a b (length_between from to) (joins nodes a b differ (ap is_some p) (ap is_some q))
 placed-joined nodes passages a b (Some from) None p q differ = All-nil (JoinsPlaces nodes)
@@ -61,25 +61,25 @@ placed-joined nodes passages a b None to p q differ = All-nil (JoinsPlaces nodes
 differ_if : (a b : ℤ) → int_eq a b ≡ false → a ≡ b → ⊥
 differ_if a b e = grind (arith, Decides-int_eq)
 
-step_legs-joined : (nodes : List OsmNode) (passages : Passages) (step : ℤ × ℤ) → All (JoinsPlaces nodes) (step_legs (place_at nodes) passages step)
+step_legs-joined : (nodes : List OsmNode) (passages : Passages) (step : ℤ × ℤ) → All (JoinsPlaces nodes) (step_legs (place_of_node nodes) passages step)
 unfolding step_legs
 step_legs-joined nodes passages (a, b) = by_test (int_eq a b) refl
   where
-    by_test : (same : Bool) → int_eq a b ≡ same → All (JoinsPlaces nodes) (if same then [] else placed_legs passages a b (place_at nodes a) (place_at nodes b))
+    by_test : (same : Bool) → int_eq a b ≡ same → All (JoinsPlaces nodes) (if same then [] else placed_legs passages a b (place_of_node nodes a) (place_of_node nodes b))
     by_test true e = All-nil (JoinsPlaces nodes)
-    by_test false e = placed-joined nodes passages a b (place_at nodes a) (place_at nodes b) refl refl (differ_if a b e)
+    by_test false e = placed-joined nodes passages a b (place_of_node nodes a) (place_of_node nodes b) refl refl (differ_if a b e)
 
-piece_legs-joined : (nodes : List OsmNode) (passages : Passages) (piece : List ℤ) → All (JoinsPlaces nodes) (piece_legs (place_at nodes) passages piece)
+piece_legs-joined : (nodes : List OsmNode) (passages : Passages) (piece : List ℤ) → All (JoinsPlaces nodes) (piece_legs (place_of_node nodes) passages piece)
 unfolding piece_legs
-piece_legs-joined nodes passages piece = All-flat_map (JoinsPlaces nodes) (step_legs (place_at nodes) passages) (step_legs-joined nodes passages) (neighbours piece)
+piece_legs-joined nodes passages piece = All-flat_map (JoinsPlaces nodes) (step_legs (place_of_node nodes) passages) (step_legs-joined nodes passages) (neighbours piece)
 
-way_legs-joined : (nodes : List OsmNode) (way : OsmWay) → All (JoinsPlaces nodes) (way_legs (place_at nodes) way)
+way_legs-joined : (nodes : List OsmNode) (way : OsmWay) → All (JoinsPlaces nodes) (way_legs (place_of_node nodes) way)
 unfolding way_legs
-way_legs-joined nodes way = All-flat_map (JoinsPlaces nodes) (piece_legs (place_at nodes) (passages_of way.tags)) (piece_legs-joined nodes (passages_of way.tags)) way.pieces
+way_legs-joined nodes way = All-flat_map (JoinsPlaces nodes) (piece_legs (place_of_node nodes) (passages_of way.tags)) (piece_legs-joined nodes (passages_of way.tags)) way.pieces
 
 legs_of-joined : (objects : ObjectLists) → All (JoinsPlaces objects.nodes) (legs_of objects)
 unfolding legs_of
-legs_of-joined objects = All-flat_map (JoinsPlaces objects.nodes) (way_legs (place_at objects.nodes)) (way_legs-joined objects.nodes) objects.ways
+legs_of-joined objects = All-flat_map (JoinsPlaces objects.nodes) (way_legs (place_of_node objects.nodes)) (way_legs-joined objects.nodes) objects.ways
 
 -- each arc is a leg
 pub arcs_joined : (objects : ObjectLists) (rows : List RoadRow) → AreRoadArcs objects rows → All (JoinsPlaces objects.nodes) rows

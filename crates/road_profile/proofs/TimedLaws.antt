@@ -19,7 +19,7 @@ use Rattle.road_profile.specs.declared.passages.Passages.{Passages}
 use Rattle.road_profile.specs.declared.rows.RoadRow.{RoadRow}
 use Rattle.road_profile.specs.Passages.{passages_of}
 use Rattle.road_profile.specs.Arcs.{AreRoadArcs, IsTimed}
-use Rattle.road_profile.specs.Legs.{directed, legs_of, mode_legs, neighbours, pair_legs, piece_legs, place_at, placed_legs, row, step_legs, timed, way_legs}
+use Rattle.road_profile.specs.Legs.{directed, legs_of, mode_legs, neighbours, pair_legs, piece_legs, place_of_node, placed_legs, row, step_legs, timed, way_legs}
 
 -- what holds of all that each element gives
 pub All-flat_map : {X Y : Type 0} (P : Y → Type 0) (f : X → List Y) → ((x : X) → All P (f x)) → (xs : List X) → All P (flat_map f xs)
@@ -79,7 +79,7 @@ way_legs-timed places way =
 
 pub legs_of-timed : (objects : ObjectLists) → All IsTimed (legs_of objects)
 unfolding legs_of
-legs_of-timed objects = All-flat_map IsTimed (way_legs (place_at objects.nodes)) (way_legs-timed (place_at objects.nodes)) objects.ways
+legs_of-timed objects = All-flat_map IsTimed (way_legs (place_of_node objects.nodes)) (way_legs-timed (place_of_node objects.nodes)) objects.ways
 
 -- each arc is a leg
 pub arcs_timed : (objects : ObjectLists) (rows : List RoadRow) → AreRoadArcs objects rows → All IsTimed rows

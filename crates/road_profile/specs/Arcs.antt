@@ -6,7 +6,7 @@ use Rattle.std.specs.declared.cmp.Ordering.TheVariants.{Less}
 use Rattle.opl_reader.specs.declared.objects.OsmNode.{OsmNode}
 use Rattle.opl_reader.specs.ObjectLists.{ObjectLists}
 use Rattle.road_profile.specs.declared.rows.RoadRow.{RoadRow}
-use Rattle.road_profile.specs.Legs.{legs_of, place_at}
+use Rattle.road_profile.specs.Legs.{legs_of, place_of_node}
 
 -- two rows have the same ends and the same mode
 pub record AreParallel (a b : RoadRow) : Type 0 where
@@ -22,8 +22,8 @@ pub record IsTimed (row : RoadRow) : Type 0 where
 -- the ends of a row are two nodes, and these nodes have places
 pub record JoinsPlaces (nodes : List OsmNode) (row : RoadRow) : Type 0 where
   pub differ : row.from ≡ row.to → ⊥
-  pub from : is_some (place_at nodes row.from) ≡ true
-  pub to : is_some (place_at nodes row.to) ≡ true
+  pub from : is_some (place_of_node nodes row.from) ≡ true
+  pub to : is_some (place_of_node nodes row.to) ≡ true
 
 -- A leg is an arc where no leg that is parallel to it takes less time.
 pub record IsArcOf (legs : List RoadRow) (row : RoadRow) : Type 0 where

@@ -16,9 +16,9 @@ use Rattle.road_profile.specs.declared.rows.RoadRow.{RoadRow}
 use Rattle.road_profile.specs.Passages.{passages_of}
 
 -- the place of the node with this id
-abbrev pub place_at : List OsmNode → ℤ → Option Place
-place_at [] id = None
-place_at (node ∷ nodes) id = if int_eq node.id id then Some node.place else place_at nodes id
+abbrev pub place_of_node : List OsmNode → ℤ → Option Place
+place_of_node [] id = None
+place_of_node (node ∷ nodes) id = if int_eq node.id id then Some node.place else place_of_node nodes id
 
 -- a place that was found, or else that of one more node
 abbrev pub place_with : Option Place → OsmNode → ℤ → Option Place
@@ -74,4 +74,4 @@ way_legs places way = flat_map (piece_legs places (passages_of way.tags)) way.pi
 
 -- the legs of all ways
 unfoldable pub legs_of : ObjectLists → List RoadRow
-legs_of objects = flat_map (way_legs (place_at objects.nodes)) objects.ways
+legs_of objects = flat_map (way_legs (place_of_node objects.nodes)) objects.ways

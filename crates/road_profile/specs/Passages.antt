@@ -49,7 +49,7 @@ passages_of tags =
     if is_area (value_of tags (codes "area")) then closed else passages_on tags (value_of tags (codes "highway"))
 
 -- each mode that may use the way moves on it
-pub record AreMoving (passages : Passages) : Type 0 where
+pub record HaveSpeeds (passages : Passages) : Type 0 where
   pub foot : IfSome passages.foot (λ passage. 1 ≤ passage.speed)
   pub bike : IfSome passages.bike (λ passage. 1 ≤ passage.speed)
   pub car : IfSome passages.car (λ passage. 1 ≤ passage.speed)

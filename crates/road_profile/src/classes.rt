@@ -203,7 +203,8 @@ static CLASSES: [(&str, Class); 23] = [
 ];
 
 fn class_in(table: &[(&'static str, Class)], highway: &[u8]) -> Option<Class>
-    ensures { result ≡ lookup (λ name. bytes_eq name highway.now) (map (λ row. (row.0.now, row.1)) table.now) }
+    ensures { result ≡ lookup (λ name. bytes_eq name highway.now)
+        (map (λ row. (row.0.now, row.1)) table.now) }
 {
     for row in table {
         if row.0.as_bytes() == highway {

@@ -5,7 +5,7 @@ ghost use Rattle.std.specs.List.{flat_map};
 ghost use Rattle.std.specs.HashMap.{get};
 ghost use Rattle.std.specs.Ordering.{int_eq};
 ghost use Rattle.road_profile.specs.Legs as spec;
-ghost use Rattle.road_profile.specs.Passages.{AreMoving, closed};
+ghost use Rattle.road_profile.specs.Passages.{HaveSpeeds, closed};
 
 use crate::passages::{Passage, Passages, passages_of};
 use crate::places::{Places, place_of};
@@ -21,7 +21,8 @@ fn push_directed(
     row: RoadRow,
     direction: Direction,
 ) -> Result<(), AllocError>
-    ensures { OnOk result (rows.new.items ≡ rows.old.items ++ spec.directed row.mode row.from row.to row.ms direction) }
+    ensures { OnOk result (rows.new.items ≡ rows.old.items ++ spec.directed row.mode row.from row.to row.ms
+        direction) }
 {
     let back = RoadRow {
         from: row.to,
@@ -70,7 +71,7 @@ fn push_pair(
     to: i64,
     mm: u64,
 ) -> Result<(), AllocError>
-    requires moving { AreMoving passages.now }
+    requires moving { HaveSpeeds passages.now }
     requires length_within { mm < 2 ^ 40 }
     ensures { OnOk result (rows.new.items ≡ rows.old.items ++ spec.pair_legs passages.now from to mm) }
 {
@@ -86,8 +87,9 @@ fn push_placed(
     to: i64,
     ends: (Option<Place>, Option<Place>),
 ) -> Result<(), AllocError>
-    requires { AreMoving passages.now }
-    ensures { OnOk result (rows.new.items ≡ rows.old.items ++ spec.placed_legs passages.now from to ends.0 ends.1) }
+    requires { HaveSpeeds passages.now }
+    ensures { OnOk result (rows.new.items ≡ rows.old.items ++ spec.placed_legs passages.now from to
+        ends.0 ends.1) }
 {
     match ends {
         (Some(a), Some(b)) => push_pair(rows, passages, from, to, length_mm(a, b)),
@@ -104,8 +106,9 @@ fn push_step(
     from: i64,
     to: i64,
 ) -> Result<(), AllocError>
-    requires { AreMoving passages.now }
-    ensures { OnOk result (rows.new.items ≡ rows.old.items ++ spec.step_legs (get int_eq places.now.by_id) passages.now (from, to)) }
+    requires { HaveSpeeds passages.now }
+    ensures { OnOk result (rows.new.items ≡ rows.old.items ++ spec.step_legs (get int_eq places.now.by_id)
+        passages.now (from, to)) }
 {
     if from == to {
         return Ok(());
@@ -121,9 +124,9 @@ fn push_behind(
     first: i64,
     rest: &[i64],
 ) -> Result<(), AllocError>
-    requires { AreMoving passages.now }
-    ensures { OnOk result (rows.new.items
-        ≡ rows.old.items ++ flat_map (spec.step_legs (get int_eq places.now.by_id) passages.now) (spec.neighbours_behind first rest.now)) }
+    requires { HaveSpeeds passages.now }
+    ensures { OnOk result (rows.new.items ≡ rows.old.items ++ flat_map
+        (spec.step_legs (get int_eq places.now.by_id) passages.now) (spec.neighbours_behind first rest.now)) }
 {
     let mut from = first;
     for to in rest {
@@ -140,8 +143,9 @@ fn push_piece(
     passages: &Passages,
     piece: &[i64],
 ) -> Result<(), AllocError>
-    requires { AreMoving passages.now }
-    ensures { OnOk result (rows.new.items ≡ rows.old.items ++ spec.piece_legs (get int_eq places.now.by_id) passages.now piece.now) }
+    requires { HaveSpeeds passages.now }
+    ensures { OnOk result (rows.new.items ≡ rows.old.items ++ spec.piece_legs (get int_eq places.now.by_id)
+        passages.now piece.now) }
 {
     match piece {
         [] => Ok(()),
@@ -155,8 +159,9 @@ fn push_pieces(
     passages: &Passages,
     pieces: &[Items<i64>],
 ) -> Result<(), AllocError>
-    requires { AreMoving passages.now }
-    ensures { OnOk result (rows.new.items ≡ rows.old.items ++ flat_map (spec.piece_legs (get int_eq places.now.by_id) passages.now) pieces.now) }
+    requires { HaveSpeeds passages.now }
+    ensures { OnOk result (rows.new.items ≡ rows.old.items ++ flat_map
+        (spec.piece_legs (get int_eq places.now.by_id) passages.now) pieces.now) }
 {
     for piece in pieces {
         push_piece(rows, places, passages, piece.as_slice())?;
@@ -173,7 +178,8 @@ fn is_closed(passages: &Passages) -> bool
 
 #[tactic(auto, unfolding(crate::specs::Legs::way_legs))]
 fn push_way(rows: &mut Vec<RoadRow>, places: &Places, way: &OsmWay) -> Result<(), AllocError>
-    ensures { OnOk result (rows.new.items ≡ rows.old.items ++ spec.way_legs (get int_eq places.now.by_id) way.now) }
+    ensures { OnOk result (rows.new.items ≡ rows.old.items ++ spec.way_legs
+        (get int_eq places.now.by_id) way.now) }
 {
     let passages = passages_of(way.tags.as_slice());
     if is_closed(&passages) {
@@ -188,7 +194,8 @@ pub fn legs_of_ways(
     places: &Places,
     ways: &[OsmWay],
 ) -> Result<Vec<RoadRow>, AllocError>
-    ensures { IfOk result (λ rows. rows.items ≡ flat_map (spec.way_legs (get int_eq places.now.by_id)) ways.now) }
+    ensures { IfOk result (λ rows. rows.items ≡ flat_map (spec.way_legs (get int_eq places.now.by_id))
+        ways.now) }
 {
     let mut rows = Vec::new(alloc);
     for way in ways {

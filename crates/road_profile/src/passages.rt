@@ -2,7 +2,7 @@
 
 ghost use Rattle.std.specs.Prelude.{◌≡◌, ◌≤◌, Some, IfSome, option_map};
 ghost use Rattle.road_profile.specs.Passages as spec;
-ghost use Rattle.road_profile.specs.Passages.{AreMoving};
+ghost use Rattle.road_profile.specs.Passages.{HaveSpeeds};
 
 use crate::classes::{Class, class_of};
 use crate::rules::{Direction, bike_direction, car_direction, speed_by};
@@ -58,7 +58,7 @@ fn with_speed(direction: Direction, speed: Option<u32>) -> Option<Passage>
 #[tactic(auto, unfolding(crate::specs::Passages::passages_by))]
 fn passages_by(tags: &[(Bytes, Bytes)], highway: &[u8], class: Class) -> Passages
     requires { IfSome class.car (λ speed. 1 ≤ speed) }
-    ensures moving { AreMoving result }
+    ensures moving { HaveSpeeds result }
     ensures value { result ≡ spec.passages_by tags.now highway.now (Some class) }
 {
     let access = value_of(tags, "access");
@@ -95,7 +95,7 @@ fn passages_by(tags: &[(Bytes, Bytes)], highway: &[u8], class: Class) -> Passage
 
 #[tactic(auto, unfolding(crate::specs::Passages::passages_on, crate::specs::Passages::passages_by))]
 fn passages_on(tags: &[(Bytes, Bytes)], highway: Option<&[u8]>) -> Passages
-    ensures moving { AreMoving result }
+    ensures moving { HaveSpeeds result }
     ensures value { result ≡ spec.passages_on tags.now (option_map (λ value. value.now) highway.entry) }
 {
     match highway {
@@ -118,7 +118,7 @@ fn is_area(area: Option<&[u8]>) -> bool
 /// `highway` is none of those in the table.
 #[tactic(auto, unfolding(crate::specs::Passages::passages_of))]
 pub fn passages_of(tags: &[(Bytes, Bytes)]) -> Passages
-    ensures moving { AreMoving result }
+    ensures moving { HaveSpeeds result }
     ensures value { result ≡ spec.passages_of tags.now }
 {
     if is_area(value_of(tags, "area")) {

@@ -3,7 +3,7 @@
 ghost use Rattle.std.specs.Prelude.{◌≡◌, ℕ, ℤ, IfOk, OnOk};
 ghost use Rattle.std.specs.HashMap.{get};
 ghost use Rattle.std.specs.Ordering.{int_eq};
-ghost use Rattle.road_profile.specs.Legs.{place_at, place_with};
+ghost use Rattle.road_profile.specs.Legs.{place_of_node, place_with};
 
 use opl_reader::OsmNode;
 use plan_base::Place;
@@ -18,7 +18,8 @@ pub struct Places {
 
 // Keeps the place of a node, unless an earlier node has its id.
 fn add_place(by_id: &mut HashMap<i64, Place>, node: &OsmNode) -> Result<(), AllocError>
-    ensures { OnOk result ((id : ℤ) → get int_eq by_id.new id ≡ place_with (get int_eq by_id.old id) node.now id) }
+    ensures { OnOk result ((id : ℤ) → get int_eq by_id.new id ≡ place_with (get int_eq by_id.old id)
+        node.now id) }
 {
     by_id.entry(node.id)?.or_insert(node.place);
     Ok(())
@@ -26,7 +27,7 @@ fn add_place(by_id: &mut HashMap<i64, Place>, node: &OsmNode) -> Result<(), Allo
 
 /// The place of each of these nodes.
 pub fn places_of(alloc: Global, nodes: &[OsmNode]) -> Result<Places, AllocError>
-    ensures { IfOk result (λ places. (id : ℤ) → get int_eq places.by_id id ≡ place_at nodes.now id) }
+    ensures { IfOk result (λ places. (id : ℤ) → get int_eq places.by_id id ≡ place_of_node nodes.now id) }
 {
     let mut by_id = HashMap::new(alloc);
     for node in nodes {

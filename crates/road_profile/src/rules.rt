@@ -51,7 +51,8 @@ pub fn speed_by(
     requires class_speed { IfSome by_class (λ speed. 1 ≤ speed) }
     requires other_speed { 1 ≤ otherwise }
     ensures moving { IfSome result (λ speed. 1 ≤ speed) }
-    ensures value { result ≡ spec.speed_by (option_map (λ value. value.now) own.entry) (option_map (λ value. value.now) access.entry) by_class otherwise }
+    ensures value { result ≡ spec.speed_by (option_map (λ value. value.now) own.entry)
+        (option_map (λ value. value.now) access.entry) by_class otherwise }
 {
     if grants(own) {
         Some(by_class.unwrap_or(otherwise))
@@ -93,7 +94,8 @@ fn is_roundabout(junction: Option<&[u8]>) -> bool
 /// The directions of cars, by the values of `highway`, `oneway` and `junction`.
 #[tactic(auto, unfolding(crate::specs::Rules::car_direction))]
 pub fn car_direction(highway: &[u8], oneway: Option<&[u8]>, junction: Option<&[u8]>) -> Direction
-    ensures { result ≡ spec.car_direction highway.now (option_map (λ value. value.now) oneway.entry) (option_map (λ value. value.now) junction.entry) }
+    ensures { result ≡ spec.car_direction highway.now (option_map (λ value. value.now) oneway.entry)
+        (option_map (λ value. value.now) junction.entry) }
 {
     if says_forward(oneway) {
         Direction::Forward

@@ -27,7 +27,8 @@ fn is_one_of(value: &[u8], words: &[&str]) -> bool
 
 /// Whether there is a value, and it is one of these words.
 pub fn is_among(value: Option<&[u8]>, words: &[&str]) -> bool
-    ensures { result ≡ is_among (map (λ word. word.now) words.now) (option_map (λ value. value.now) value.entry) }
+    ensures { result ≡ is_among (map (λ word. word.now) words.now)
+        (option_map (λ value. value.now) value.entry) }
 {
     match value {
         Some(value) => is_one_of(value, words),

@@ -20,7 +20,12 @@ impl Shelf for Pieces {
     ghost use Rattle.std.specs.Prelude.{None};
     ghost use Rattle.plan_base.specs.MemoryStates.{shelf_meaning};
 
-    ghost meaning = { λ s. record { files = None; misses = (shelf_meaning s.shelf).misses; faults = (shelf_meaning s.shelf).faults } };
+    ghost meaning = { λ s. record {
+      files = None;
+      misses = (shelf_meaning s.shelf).misses;
+      faults =
+          (shelf_meaning s.shelf).faults;
+    } };
 
     fn read(&mut self, name: &str, from: u64, into: &mut [u8]) -> Result<usize, ShelfError> {
         let most = into.len().min(self.most.max(1));

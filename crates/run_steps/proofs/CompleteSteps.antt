@@ -1,13 +1,11 @@
 -- A run whose files are there and without fault ends with its work done, step by step.
 use Rattle.std.proofs.Common.{◌≡◌, ℕ, ◌<◌, ◌∙◌, inl, inr, List, Option, Some, None, subst, arith}
-use Rattle.std.specs.Prelude.{⊤, Result, length, IfSome, IsSomeAnd}
+use Rattle.std.specs.Prelude.{⊤, length, IfSome, IsSomeAnd}
 use Rattle.plan_base.specs.Counts.{Rose}
 use Rattle.plan_base.specs.Shelves.{IsLater, ShelfMeaning, Told}
 use Rattle.plan_base.specs.declared.limits.Caps.{Caps}
 use Rattle.mode_network.specs.NetworkLists.{NetworkLists}
 use Rattle.mode_network.specs.Rules.{IsNetwork}
-use Rattle.region_file.specs.declared.fault.RegionFault.{RegionFault}
-use Rattle.region_file.specs.Regions.{IsDecoded}
 use Rattle.region_file.proofs.Decoded.{no_region, spell_one}
 use Rattle.run_steps.specs.declared.outcome.FileRole.{FileRole}
 use Rattle.run_steps.specs.declared.outcome.Outcome.{Outcome}

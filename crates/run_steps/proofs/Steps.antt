@@ -1,20 +1,17 @@
 -- What the steps of a run answer, put together to what the run says.
-use Rattle.std.proofs.Common.{◌≡◌, ℕ, ◌<◌, ◌≤◌, ◌∙◌, inl, inr, List, Option, Some, None, Ok, Err, take, refl, sym, subst, arith, rules}
+use Rattle.std.proofs.Common.{◌≡◌, ℕ, ◌<◌, ◌≤◌, ◌∙◌, inl, inr, List, Option, None, Ok, Err, take, refl, subst, arith, rules}
 use Rattle.std.specs.Prelude.{⊤, Result, IfErr, IfSome, IsSomeAnd, OnOk, length}
 use Rattle.plan_base.specs.Counts.{Rose}
 use Rattle.plan_base.specs.Shelves.{ShelfMeaning, IsLater, Told}
 use Rattle.plan_base.specs.Sinks.{SinkMeaning, Appended, Stays}
 use Rattle.plan_base.specs.declared.limits.Caps.{Caps}
 use Rattle.mode_network.specs.NetworkLists.{NetworkLists}
-use Rattle.mode_network.specs.Rules.{first_fault}
-use Rattle.mode_network.specs.declared.faults.NetFault.{NetFault}
-use Rattle.region_file.specs.declared.fault.RegionFault.{RegionFault}
 use Rattle.run_steps.specs.declared.outcome.Outcome.{Outcome}
 use Rattle.run_steps.specs.declared.outcome.Outcome.TheVariants.{Done, Usage, Missing, ReadFault, TooLong, WriteFault, BadRegion, BadFeed, Invalid, BadCertificate, BadHierarchy, Unsound, OutOfMemory}
 use Rattle.run_steps.specs.declared.outcome.FileRole.{FileRole}
 use Rattle.run_steps.specs.Scene.{scene}
 use Rattle.run_steps.specs.Sayings.{Saying, IsUnread, IsUnreadable, WritesText, end_of, most_bytes}
-use Rattle.run_steps.specs.Regions.{OnNetwork, OnRegion}
+use Rattle.run_steps.specs.Regions.{OnRegion}
 use Rattle.run_steps.specs.Working.{HasRegion, IsRegionOutcome, IsTextOutcome}
 
 -- a count that rose in the second of two calls rose over both

@@ -9,14 +9,14 @@ use Rattle.run_steps.specs.declared.outcome.Outcome.{Outcome}
 use Rattle.run_steps.specs.declared.outcome.Outcome.TheVariants.{Done, Usage, Missing, ReadFault, TooLong, WriteFault, BadRegion, BadFeed, Invalid, BadCertificate, BadHierarchy, Unsound, OutOfMemory}
 use Rattle.run_steps.specs.Sayings.{Saying, Ends}
 use Rattle.run_steps.specs.Blocks.{BlockRule}
-use Rattle.run_steps.specs.InTurn.{AnswersFile, InTurn, IsEndless, IsReadTo, IsShort, StopsInTurn, most_places}
+use Rattle.run_steps.specs.InTurn.{AnswersFile, InTurn, IsEndless, IsReadTo, IsShort, StopsInTurn, most_file_places}
 use Rattle.run_steps.specs.Complete.{Files, AreLinesHeld, Completes, IsDoneOrMemory}
 use Rattle.run_steps.proofs.CompleteSteps.{told_held}
 use Rattle.run_steps.proofs.Steps.{rose_over}
 use Rattle.run_steps.proofs.LineLemmas.{first_long, lines_before}
 
 -- no line of such a file is too long, and the file is not
-not_endless : (bytes : List ℕ) → All IsShort (lines_of bytes) → length bytes < most_places → (lines : List (List ℕ)) (rest : List ℕ) → IsReadTo bytes lines rest → IsEndless lines rest → ⊥
+not_endless : (bytes : List ℕ) → All IsShort (lines_of bytes) → length bytes < most_file_places → (lines : List (List ℕ)) (rest : List ℕ) → IsReadTo bytes lines rest → IsEndless lines rest → ⊥
 not_endless bytes short few lines rest read (inr many) =
     let long = ap length read.text_is in
     omega (arith, many, few, long, length-append (lines_text lines ++ rest) read.more)

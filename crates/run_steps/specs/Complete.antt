@@ -9,7 +9,7 @@ use Rattle.run_steps.specs.declared.outcome.Outcome.{Outcome}
 use Rattle.run_steps.specs.declared.outcome.Outcome.TheVariants.{Done, OutOfMemory}
 use Rattle.run_steps.specs.Scene.{Scene}
 use Rattle.run_steps.specs.Sayings.{Saying, most_bytes}
-use Rattle.run_steps.specs.InTurn.{IsShort, most_places}
+use Rattle.run_steps.specs.InTurn.{IsShort, most_file_places}
 
 -- what a shelf that tells holds under each name
 abbrev pub Files : Type 0
@@ -27,7 +27,7 @@ pub record AreLinesHeld (files : Files) (name : List ℕ) : Type 0 where
   pub bytes : List ℕ
   pub held : files name ≡ Some bytes
   pub short : All IsShort (lines_of bytes)
-  pub counted : length bytes < most_places
+  pub counted : length bytes < most_file_places
 
 -- the bytes spell a network within the limits that has P
 abbrev pub SpellsNetwork : Caps → (NetworkLists → Type 0) → List ℕ → Type 0

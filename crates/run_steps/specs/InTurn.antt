@@ -47,12 +47,12 @@ pub record WroteFor (AreRead : List (List ℕ) → Type 0) (IsOut : List (List �
 -- ---- how it ends
 
 -- a file has fewer bytes
-abbrev pub most_places : ℕ
-most_places = 2 ^ 63
+abbrev pub most_file_places : ℕ
+most_file_places = 2 ^ 63
 
 -- the line that begins behind these has too many bytes, or so many bytes have been read as no file has
 abbrev pub IsEndless : List (List ℕ) → List ℕ → Type 0
-IsEndless lines rest = (most_bytes < length rest) ⊎ (most_places ≤ length (lines_text lines ++ rest))
+IsEndless lines rest = (most_bytes < length rest) ⊎ (most_file_places ≤ length (lines_text lines ++ rest))
 
 -- a read failed; or one of a shelf that does not tell missed the file, behind what had been read of it
 abbrev pub IsLost : ShelfMeaning → ShelfMeaning → Type 0

@@ -44,7 +44,8 @@ pub fn read_file_if_there<F: Shelf, E: Sink>(
     notes: &mut E,
 ) -> Result<Option<Vec<u8>>, Outcome>
     ensures later { IsLater (F.meaning shelf.old) (F.meaning shelf.new) }
-    ensures ok { IfOk result (λ found. IsFound (F.meaning shelf.old) (F.meaning shelf.new) name.now (option_map (λ bytes. bytes.items) found)) }
+    ensures ok { IfOk result (λ found. IsFound (F.meaning shelf.old) (F.meaning shelf.new) name.now
+        (option_map (λ bytes. bytes.items) found)) }
     ensures err { IfErr result (IsUnreadable (F.meaning shelf.old) (F.meaning shelf.new) name.now file) }
 {
     match read_whole(alloc, shelf, name, MOST_BYTES) {
@@ -114,7 +115,8 @@ pub fn read_region<F: Shelf, E: Sink>(
 ) -> Result<Network, Outcome>
     ensures later { IsLater (F.meaning shelf.old) (F.meaning shelf.new) }
     ensures ok { IfOk result (HasRegion caps.now (F.meaning shelf.old) name.now) }
-    ensures err { IfErr result (IsRegionOutcome caps.now (F.meaning shelf.old) (F.meaning shelf.new) name.now) }
+    ensures err { IfErr result (IsRegionOutcome caps.now (F.meaning shelf.old) (F.meaning shelf.new)
+        name.now) }
 {
     let bytes = read_file(alloc, shelf, name, FileRole::Region, notes)?;
     match decode(alloc, &bytes, caps) {

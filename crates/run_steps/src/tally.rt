@@ -116,7 +116,7 @@ fn first_refused(
 /// What a refusal means, to people.
 fn reason(refusal: &[u8]) -> &'static str {
     if refusal.starts_with(b"refused shape") {
-        "a query is FROM TO DATE TIME EXPRESSION with one space between them, where FROM and TO are n and an id, s and a stop's name, or @LAT,LON"
+        "a query is FROM TO DATE TIME EXPRESSION with one space between them, where FROM and TO are n and an id, s and a stop's name, or @LAT,LON, also behind foot, bike or car"
     } else if refusal.starts_with(b"refused clock") {
         "DATE is a date of 8 digits, such as 20240304, and TIME is HH:MM:SS or HH:MM:SS.mmm"
     } else if refusal.starts_with(b"refused range") {

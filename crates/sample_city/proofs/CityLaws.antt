@@ -11,10 +11,10 @@ use Rattle.mode_network.specs.NetworkLists.{NetworkLists}
 use Rattle.mode_network.specs.Rules.{AreParts, IsRoad, IsStop, IsSwitch}
 use Rattle.mode_network.specs.declared.nodes.Arc.{Arc}
 use Rattle.mode_network.specs.declared.nodes.Node.{Node}
-use Rattle.sample_city.specs.Corners.{corner, corners, has_cars, is_car_line, lines, place_at}
-use Rattle.sample_city.specs.Roads.{End, along_column, along_row, arc_between, arcs_at, city_arcs, node_in, nodes_at, road_number, street, streets, time_between}
+use Rattle.sample_city.specs.Corners.{corner, corner_place, corners, has_cars, is_car_line, lines}
+use Rattle.sample_city.specs.Roads.{RoadNodeKey, along_column, along_row, city_arcs, corner_arcs, node_in, nodes_at, road_between, road_number, street, streets, time_between}
 use Rattle.sample_city.specs.SampleCity.{IsSampleCity}
-use Rattle.sample_city.specs.Stops.{city_links, city_switches, first_corner, last_corner, link_both, link_into, link_out, stop_links, stop_nodes, switch_in, switch_links}
+use Rattle.sample_city.specs.Stops.{city_links, city_stop_links, city_stop_nodes, city_switch_links, city_switches, first_corner, last_corner, link_both, link_into, link_out, switch_in}
 use Rattle.sample_city.specs.declared.corners.Corner.{Corner}
 use Rattle.sample_city.specs.declared.stops.CityStop.{CityStop}
 use Rattle.sample_city.proofs.RangeLaws.{below_end}
@@ -50,12 +50,12 @@ road_in (Some place) at mode small low = All-cons IsRoadNode _ [] (low, small) (
 
 roads_at : (at : Corner) → IsSmall at → All IsRoadNode (nodes_at at)
 roads_at at small =
-    All-append IsRoadNode (option_to_list (node_in (place_at at) at 0) ++ option_to_list (node_in (place_at at) at 1)) (if has_cars at then option_to_list (node_in (place_at at) at 2) else [])
-    (All-append IsRoadNode (option_to_list (node_in (place_at at) at 0)) (option_to_list (node_in (place_at at) at 1)) (road_in (place_at at) at 0 small (omega arith)) (road_in (place_at at) at 1 small (omega arith)))
+    All-append IsRoadNode (option_to_list (node_in (corner_place at) at 0) ++ option_to_list (node_in (corner_place at) at 1)) (if has_cars at then option_to_list (node_in (corner_place at) at 2) else [])
+    (All-append IsRoadNode (option_to_list (node_in (corner_place at) at 0)) (option_to_list (node_in (corner_place at) at 1)) (road_in (corner_place at) at 0 small (omega arith)) (road_in (corner_place at) at 1 small (omega arith)))
     (by_test (has_cars at))
   where
-    by_test : (cars : Bool) → All IsRoadNode (if cars then option_to_list (node_in (place_at at) at 2) else [])
-    by_test true = road_in (place_at at) at 2 small (omega arith)
+    by_test : (cars : Bool) → All IsRoadNode (if cars then option_to_list (node_in (corner_place at) at 2) else [])
+    by_test true = road_in (corner_place at) at 2 small (omega arith)
     by_test false = All-nil IsRoadNode
 
 abbrev IsSwitchNode : Node → Type 0
@@ -67,17 +67,17 @@ switch_is (Some place) id small = All-cons IsSwitchNode _ [] small (All-nil IsSw
 
 switches_are : (n : ℕ) → All IsSwitchNode (city_switches n)
 switches_are n =
-    All-append IsSwitchNode (option_to_list (switch_in (place_at (first_corner n)) (pos 1000000))) (option_to_list (switch_in (place_at (last_corner n)) (pos 1000001)))
-    (switch_is (place_at (first_corner n)) 1000000 (omega arith)) (switch_is (place_at (last_corner n)) 1000001 (omega arith))
+    All-append IsSwitchNode (option_to_list (switch_in (corner_place (first_corner n)) (pos 1000000))) (option_to_list (switch_in (corner_place (last_corner n)) (pos 1000001)))
+    (switch_is (corner_place (first_corner n)) 1000000 (omega arith)) (switch_is (corner_place (last_corner n)) 1000001 (omega arith))
 
-stop_nodes_keep : (j : ℕ) (stops : List CityStop) (k : ℕ) (d : Node) → k < length (stop_nodes j stops) → IsStop (j + k) (get_or (stop_nodes j stops) k d).key
+stop_nodes_keep : (j : ℕ) (stops : List CityStop) (k : ℕ) (d : Node) → k < length (city_stop_nodes j stops) → IsStop (j + k) (get_or (city_stop_nodes j stops) k d).key
 stop_nodes_keep j [] k d below = absurd (omega arith)
 stop_nodes_keep j (stop ∷ stops) zero d below = sym (add-zero j)
 stop_nodes_keep j (stop ∷ stops) (suc k) d below =
     let same : j + 1 + k ≡ j + suc k = omega arith in
-    subst (λ place. IsStop place (get_or (stop_nodes (j + 1) stops) k d).key) same (stop_nodes_keep (j + 1) stops k d (omega arith))
+    subst (λ place. IsStop place (get_or (city_stop_nodes (j + 1) stops) k d).key) same (stop_nodes_keep (j + 1) stops k d (omega arith))
 
-stop_nodes_long : (j : ℕ) (stops : List CityStop) → length (stop_nodes j stops) ≡ length stops
+stop_nodes_long : (j : ℕ) (stops : List CityStop) → length (city_stop_nodes j stops) ≡ length stops
 stop_nodes_long j [] = refl
 stop_nodes_long j (stop ∷ stops) = ap suc (stop_nodes_long (j + 1) stops)
 
@@ -86,8 +86,8 @@ stop_nodes_long j (stop ∷ stops) = ap suc (stop_nodes_long (j + 1) stops)
 abbrev Lasts : Arc → Type 0
 Lasts arc = 0 < arc.ms
 
-module _ (number : End → Option ℕ) where
-  arc_lasts : (mode base from to : ℕ) → 0 < base → All Lasts (option_to_list (arc_between number mode base from to))
+module _ (number : RoadNodeKey → Option ℕ) where
+  arc_lasts : (mode base from to : ℕ) → 0 < base → All Lasts (option_to_list (road_between number mode base from to))
   arc_lasts mode base from to some = by_ends (number (pos from, mode)) (number (pos to, mode))
     where
       arc : ℕ → ℕ → Arc
@@ -100,7 +100,7 @@ module _ (number : End → Option ℕ) where
 
   street_lasts : (mode base a b : ℕ) → 0 < base → All Lasts (street number mode base a b)
   street_lasts mode base a b some =
-      All-append Lasts (option_to_list (arc_between number mode base a b)) (option_to_list (arc_between number mode base b a)) (arc_lasts mode base a b some) (arc_lasts mode base b a some)
+      All-append Lasts (option_to_list (road_between number mode base a b)) (option_to_list (road_between number mode base b a)) (arc_lasts mode base a b some) (arc_lasts mode base b a some)
 
   streets_last : (foot bike car : ℕ) (cars : Bool) (a b : ℕ) → 0 < foot → 0 < bike → 0 < car → All Lasts (streets number foot bike car cars a b)
   streets_last foot bike car cars a b f k c =
@@ -116,7 +116,7 @@ module _ (number : End → Option ℕ) where
   if_last true arcs all = all
   if_last false arcs all = All-nil Lasts
 
-  arcs_last_at : (n : ℕ) (at : Corner) → All Lasts (arcs_at n number at)
+  arcs_last_at : (n : ℕ) (at : Corner) → All Lasts (corner_arcs n number at)
   arcs_last_at n at =
       All-append Lasts (along_row n number at) (along_column n number at)
       (if_last (nat_lt (at.column + 1) n) (streets number 53203 17735 8939 (is_car_line at.row) at.id (at.id + 1)) (streets_last 53203 17735 8939 (is_car_line at.row) at.id (at.id + 1) (omega arith) (omega arith) (omega arith)))
@@ -133,12 +133,12 @@ module _ (number : End → Option ℕ) where
   both_last : (ms place : ℕ) (road : Option ℕ) → 0 < ms → All Lasts (link_both ms place road)
   both_last ms place road some = All-append Lasts (link_into ms place road) (link_out ms place road) (into_lasts ms place road some) (out_lasts ms place road some)
 
-  stop_links_last : (k : ℕ) (stops : List CityStop) → All Lasts (stop_links number k stops)
+  stop_links_last : (k : ℕ) (stops : List CityStop) → All Lasts (city_stop_links number k stops)
   stop_links_last k [] = All-nil Lasts
   stop_links_last k (stop ∷ stops) =
-      All-append Lasts (link_both 60000 k (number (pos stop.id, 0))) (stop_links number (k + 1) stops) (both_last 60000 k (number (pos stop.id, 0)) (omega arith)) (stop_links_last (k + 1) stops)
+      All-append Lasts (link_both 60000 k (number (pos stop.id, 0))) (city_stop_links number (k + 1) stops) (both_last 60000 k (number (pos stop.id, 0)) (omega arith)) (stop_links_last (k + 1) stops)
 
-  switch_links_last : (n k : ℕ) → All Lasts (switch_links n number k)
+  switch_links_last : (n k : ℕ) → All Lasts (city_switch_links n number k)
   switch_links_last n k =
       All-append Lasts _ _
       (All-append Lasts _ _
@@ -147,7 +147,7 @@ module _ (number : End → Option ℕ) where
       (out_lasts 30000 (k + 1) (number (pos (last_corner n).id, 0)) (omega arith))
 
   links_last_all : (n roads : ℕ) (stops : List CityStop) → All Lasts (city_links n number roads stops)
-  links_last_all n roads stops = All-append Lasts (stop_links number roads stops) (switch_links n number (roads + length stops)) (stop_links_last roads stops) (switch_links_last n (roads + length stops))
+  links_last_all n roads stops = All-append Lasts (city_stop_links number roads stops) (city_switch_links n number (roads + length stops)) (stop_links_last roads stops) (switch_links_last n (roads + length stops))
 
 pub city_parts : (n : ℕ) (network : NetworkLists) → n ≤ 300 → IsSampleCity n network → AreParts network
 city_parts n network size is = record {
@@ -155,6 +155,6 @@ city_parts n network size is = record {
   stops_are = λ k d below. subst (λ (stops : List Node). k < length stops → IsStop k (get_or stops k d).key) (sym is.stops) (λ there. rw (zero-add k) at (stop_nodes_keep 0 is.city k d there)) below;
   switches_are = subst (All IsSwitchNode) (sym is.switches) (switches_are n);
   one_name_each = ap length is.names ∙ length-map is.city (λ (stop : CityStop). stop.name) ∙ sym (ap length is.stops ∙ stop_nodes_long 0 is.city);
-  arcs_last = All-permutation Lasts (city_arcs n (road_number network.roads)) network.arcs is.arcs.same (flat_map-all Lasts (arcs_at n (road_number network.roads)) (arcs_last_at (road_number network.roads) n) (corners n));
+  arcs_last = All-permutation Lasts (city_arcs n (road_number network.roads)) network.arcs is.arcs.same (flat_map-all Lasts (corner_arcs n (road_number network.roads)) (arcs_last_at (road_number network.roads) n) (corners n));
   links_last = All-permutation Lasts (city_links n (road_number network.roads) (length network.roads) is.city) network.links is.links.same (links_last_all (road_number network.roads) n (length network.roads) is.city);
 }

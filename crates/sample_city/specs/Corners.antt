@@ -17,8 +17,8 @@ corner n row column = record { row = row; column = column; id = 1 + row * n + co
 abbrev pub corners : ℕ → List Corner
 corners n = flat_map (λ row. map (corner n row) (lines n)) (lines n)
 
-abbrev pub place_at : Corner → Option Place
-place_at at = place_of (pos (480000000 + 10000 * at.row)) (pos (110000000 + 10000 * at.column))
+abbrev pub corner_place : Corner → Option Place
+corner_place at = place_of (pos (480000000 + 10000 * at.row)) (pos (110000000 + 10000 * at.column))
 
 -- cars drive along each third line
 abbrev pub is_car_line : ℕ → Bool

@@ -7,7 +7,7 @@ use Rattle.mode_network.specs.declared.nodes.Arc.{Arc}
 use Rattle.mode_network.specs.declared.nodes.Node.{Node}
 use Rattle.mode_network.specs.declared.nodes.NodeKey.{NodeKey}
 use Rattle.mode_network.specs.declared.nodes.NodeKey.TheVariants.{Road, Stop, Switch}
-use Rattle.sample_city.specs.Corners.{corners, has_cars, is_car_line, place_at}
+use Rattle.sample_city.specs.Corners.{corner_place, corners, has_cars, is_car_line}
 use Rattle.sample_city.specs.declared.corners.Corner.{Corner}
 
 -- ---- nodes
@@ -18,57 +18,57 @@ node_in place at mode = option_map (λ place. record { key = Road mode (pos at.i
 -- for walkers and for bikes, and for cars where they drive along
 abbrev pub nodes_at : Corner → List Node
 nodes_at at =
-    option_to_list (node_in (place_at at) at 0) ++ option_to_list (node_in (place_at at) at 1)
-    ++ (if has_cars at then option_to_list (node_in (place_at at) at 2) else [])
+    option_to_list (node_in (corner_place at) at 0) ++ option_to_list (node_in (corner_place at) at 1)
+    ++ (if has_cars at then option_to_list (node_in (corner_place at) at 2) else [])
 
 abbrev pub city_roads : ℕ → List Node
 city_roads n = flat_map nodes_at (corners n)
 
 -- an OSM id, and a mode
-abbrev pub End : Type 0
-End = ℤ × ℕ
+abbrev pub RoadNodeKey : Type 0
+RoadNodeKey = ℤ × ℕ
 
-abbrev pub is_end : End → End → Bool
-is_end a b = int_eq a.0 b.0 && nat_eq a.1 b.1
+abbrev pub is_same_road_key : RoadNodeKey → RoadNodeKey → Bool
+is_same_road_key a b = int_eq a.0 b.0 && nat_eq a.1 b.1
 
-abbrev pub is_key_of : End → NodeKey → Bool
-is_key_of end (Road mode id) = is_end (id, mode) end
+abbrev pub is_key_of : RoadNodeKey → NodeKey → Bool
+is_key_of end (Road mode id) = is_same_road_key (id, mode) end
 is_key_of end (Stop stop) = false
 is_key_of end (Switch id) = false
 
 -- the number of a road node is its place among the road nodes
-abbrev pub number_from : ℕ → List Node → End → Option ℕ
-number_from k nodes end = position_from (λ (node : Node). is_key_of end node.key) k nodes
+abbrev pub road_number_from : ℕ → List Node → RoadNodeKey → Option ℕ
+road_number_from k nodes end = position_from (λ (node : Node). is_key_of end node.key) k nodes
 
-unfoldable pub road_number : List Node → End → Option ℕ
-road_number nodes end = number_from 0 nodes end
+unfoldable pub road_number : List Node → RoadNodeKey → Option ℕ
+road_number nodes end = road_number_from 0 nodes end
 
 -- ---- arcs, between the numbers of nodes
 
 abbrev pub time_between : ℕ → ℕ → ℕ → ℕ
 time_between base from to = base + (37 * from + 11 * to) % 1000
 
-abbrev pub arc_between : (End → Option ℕ) → ℕ → ℕ → ℕ → ℕ → Option Arc
-arc_between number mode base from to =
+abbrev pub road_between : (RoadNodeKey → Option ℕ) → ℕ → ℕ → ℕ → ℕ → Option Arc
+road_between number mode base from to =
     option_and_then (λ start. option_map (λ end. record { from = start; to = end; ms = time_between base from to }) (number (pos to, mode))) (number (pos from, mode))
 
 -- both ways between the nodes of two ids
-abbrev pub street : (End → Option ℕ) → ℕ → ℕ → ℕ → ℕ → List Arc
-street number mode base a b = option_to_list (arc_between number mode base a b) ++ option_to_list (arc_between number mode base b a)
+abbrev pub street : (RoadNodeKey → Option ℕ) → ℕ → ℕ → ℕ → ℕ → List Arc
+street number mode base a b = option_to_list (road_between number mode base a b) ++ option_to_list (road_between number mode base b a)
 
 -- with the base times of walkers, bikes and cars
-abbrev pub streets : (End → Option ℕ) → ℕ → ℕ → ℕ → Bool → ℕ → ℕ → List Arc
+abbrev pub streets : (RoadNodeKey → Option ℕ) → ℕ → ℕ → ℕ → Bool → ℕ → ℕ → List Arc
 streets number foot bike car cars a b = street number 0 foot a b ++ street number 1 bike a b ++ (if cars then street number 2 car a b else [])
 
 -- To the next corner of the row, whose id is greater by 1, and to that of the column, whose id is greater by n.
-abbrev pub along_row : ℕ → (End → Option ℕ) → Corner → List Arc
+abbrev pub along_row : ℕ → (RoadNodeKey → Option ℕ) → Corner → List Arc
 along_row n number at = if nat_lt (at.column + 1) n then streets number 53203 17735 8939 (is_car_line at.row) at.id (at.id + 1) else []
 
-abbrev pub along_column : ℕ → (End → Option ℕ) → Corner → List Arc
+abbrev pub along_column : ℕ → (RoadNodeKey → Option ℕ) → Corner → List Arc
 along_column n number at = if nat_lt (at.row + 1) n then streets number 79515 26505 13359 (is_car_line at.column) at.id (at.id + n) else []
 
-abbrev pub arcs_at : ℕ → (End → Option ℕ) → Corner → List Arc
-arcs_at n number at = along_row n number at ++ along_column n number at
+abbrev pub corner_arcs : ℕ → (RoadNodeKey → Option ℕ) → Corner → List Arc
+corner_arcs n number at = along_row n number at ++ along_column n number at
 
-abbrev pub city_arcs : ℕ → (End → Option ℕ) → List Arc
-city_arcs n number = flat_map (arcs_at n number) (corners n)
+abbrev pub city_arcs : ℕ → (RoadNodeKey → Option ℕ) → List Arc
+city_arcs n number = flat_map (corner_arcs n number) (corners n)

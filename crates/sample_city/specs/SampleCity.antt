@@ -8,7 +8,7 @@ use Rattle.mode_network.specs.Rules.{AreInOrder, IsFaultOf, name_cmp}
 use Rattle.mode_network.specs.declared.faults.NetFault.{NetFault}
 use Rattle.mode_network.specs.declared.faults.NetFault.TheVariants.{OutOfMemory}
 use Rattle.sample_city.specs.Roads.{city_arcs, city_roads, road_number}
-use Rattle.sample_city.specs.Stops.{city_links, city_stops, city_switches, stop_nodes}
+use Rattle.sample_city.specs.Stops.{city_links, city_stop_nodes, city_stops, city_switches}
 use Rattle.sample_city.specs.Trips.{city_trips}
 use Rattle.sample_city.specs.declared.stops.CityStop.{CityStop}
 
@@ -20,13 +20,13 @@ pub record IsSampleCity (n : ℕ) (network : NetworkLists) : Type 0 where
   pub days : network.days ≡ plain_days 20240304 3
   pub roads : network.roads ≡ city_roads n
   pub names : network.stop_names ≡ map (λ (stop : CityStop). stop.name) city
-  pub stops : network.stops ≡ stop_nodes 0 city
+  pub stops : network.stops ≡ city_stop_nodes 0 city
   pub switches : network.switches ≡ city_switches n
   pub arcs : AreInOrder (city_arcs n (road_number network.roads)) network.arcs
   pub links : AreInOrder (city_links n (road_number network.roads) (length network.roads) city) network.links
   pub trips : network.trips ≡ city_trips n city
 
 -- why there is no such network within these limits
-abbrev pub IsRefusal : ℕ → Caps → NetFault → Type 0
-IsRefusal n caps OutOfMemory = Unit {0}
-IsRefusal n caps fault = (city : NetworkLists) × IsSampleCity n city × IsFaultOf caps city fault
+abbrev pub IsCityRefusal : ℕ → Caps → NetFault → Type 0
+IsCityRefusal n caps OutOfMemory = Unit {0}
+IsCityRefusal n caps fault = (city : NetworkLists) × IsSampleCity n city × IsFaultOf caps city fault

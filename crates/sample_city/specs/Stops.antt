@@ -6,8 +6,8 @@ use Rattle.plan_base.specs.declared.places.Place.{Place}
 use Rattle.mode_network.specs.declared.nodes.Arc.{Arc}
 use Rattle.mode_network.specs.declared.nodes.Node.{Node}
 use Rattle.mode_network.specs.declared.nodes.NodeKey.TheVariants.{Stop, Switch}
-use Rattle.sample_city.specs.Corners.{corner, corners, is_stop_line, place_at}
-use Rattle.sample_city.specs.Roads.{End}
+use Rattle.sample_city.specs.Corners.{corner, corner_place, corners, is_stop_line}
+use Rattle.sample_city.specs.Roads.{RoadNodeKey}
 use Rattle.sample_city.specs.declared.corners.Corner.{Corner}
 use Rattle.sample_city.specs.declared.stops.CityStop.{CityStop}
 
@@ -17,23 +17,23 @@ abbrev pub has_stop : Corner → Bool
 has_stop at = is_stop_line at.row && is_stop_line at.column
 
 -- a letter, a number, an underscore, and another number
-abbrev pub text_of : ℕ → ℕ → ℕ → List ℕ
-text_of letter line other = letter ∷ [] ++ decimal line ++ codes "_" ++ decimal other
+abbrev pub corner_text : ℕ → ℕ → ℕ → List ℕ
+corner_text letter line other = letter ∷ [] ++ decimal line ++ codes "_" ++ decimal other
 
 abbrev pub stop_in : Option (List ℕ) → Option Place → Corner → Option CityStop
 stop_in name place at = option_and_then (λ name. option_map (λ place. record { name = name; id = at.id; place = place }) place) name
 
 -- byte 83 is S
-abbrev pub stop_at : Corner → Option CityStop
-stop_at at = if has_stop at then stop_in (name_of (text_of 83 at.row at.column)) (place_at at) at else None
+abbrev pub corner_stop : Corner → Option CityStop
+corner_stop at = if has_stop at then stop_in (name_of (corner_text 83 at.row at.column)) (corner_place at) at else None
 
 abbrev pub city_stops : ℕ → List CityStop
-city_stops n = flat_map (λ at. option_to_list (stop_at at)) (corners n)
+city_stops n = flat_map (λ at. option_to_list (corner_stop at)) (corners n)
 
 -- their nodes, counted from k
-abbrev pub stop_nodes : ℕ → List CityStop → List Node
-stop_nodes k [] = []
-stop_nodes k (stop ∷ stops) = record { key = Stop k; place = stop.place } ∷ stop_nodes (k + 1) stops
+abbrev pub city_stop_nodes : ℕ → List CityStop → List Node
+city_stop_nodes k [] = []
+city_stop_nodes k (stop ∷ stops) = record { key = Stop k; place = stop.place } ∷ city_stop_nodes (k + 1) stops
 
 -- ---- switches
 
@@ -48,7 +48,7 @@ last_corner n = corner n (n - 1) (n - 1)
 
 -- bicycles are hired at the first corner, and parked at the last
 abbrev pub city_switches : ℕ → List Node
-city_switches n = option_to_list (switch_in (place_at (first_corner n)) (pos 1000000)) ++ option_to_list (switch_in (place_at (last_corner n)) (pos 1000001))
+city_switches n = option_to_list (switch_in (corner_place (first_corner n)) (pos 1000000)) ++ option_to_list (switch_in (corner_place (last_corner n)) (pos 1000001))
 
 -- ---- links
 
@@ -63,16 +63,16 @@ abbrev pub link_both : ℕ → ℕ → Option ℕ → List Arc
 link_both ms place road = link_into ms place road ++ link_out ms place road
 
 -- each stop, whose nodes are counted from k, with walkers
-abbrev pub stop_links : (End → Option ℕ) → ℕ → List CityStop → List Arc
-stop_links number k [] = []
-stop_links number k (stop ∷ stops) = link_both 60000 k (number (pos stop.id, 0)) ++ stop_links number (k + 1) stops
+abbrev pub city_stop_links : (RoadNodeKey → Option ℕ) → ℕ → List CityStop → List Arc
+city_stop_links number k [] = []
+city_stop_links number k (stop ∷ stops) = link_both 60000 k (number (pos stop.id, 0)) ++ city_stop_links number (k + 1) stops
 
 -- Of the switches k and k + 1, the first with walkers and bikes; the last may be reached by bike, and left on foot.
-abbrev pub switch_links : ℕ → (End → Option ℕ) → ℕ → List Arc
-switch_links n number k =
+abbrev pub city_switch_links : ℕ → (RoadNodeKey → Option ℕ) → ℕ → List Arc
+city_switch_links n number k =
     link_both 30000 k (number (pos (first_corner n).id, 0)) ++ link_both 30000 k (number (pos (first_corner n).id, 1))
     ++ link_into 30000 (k + 1) (number (pos (last_corner n).id, 1)) ++ link_out 30000 (k + 1) (number (pos (last_corner n).id, 0))
 
 -- the stops stand behind so many road nodes, and the switches behind the stops
-abbrev pub city_links : ℕ → (End → Option ℕ) → ℕ → List CityStop → List Arc
-city_links n number roads stops = stop_links number roads stops ++ switch_links n number (roads + length stops)
+abbrev pub city_links : ℕ → (RoadNodeKey → Option ℕ) → ℕ → List CityStop → List Arc
+city_links n number roads stops = city_stop_links number roads stops ++ city_switch_links n number (roads + length stops)

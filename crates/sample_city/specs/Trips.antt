@@ -5,7 +5,7 @@ use Rattle.plain_texts.specs.Names.{name_of}
 use Rattle.timetable_arcs.specs.Trips.{TripLists}
 use Rattle.timetable_arcs.specs.declared.trips.Call.{Call}
 use Rattle.sample_city.specs.Corners.{corner, lines, stop_lines}
-use Rattle.sample_city.specs.Stops.{text_of}
+use Rattle.sample_city.specs.Stops.{corner_text}
 use Rattle.sample_city.specs.declared.corners.Corner.{Corner}
 use Rattle.sample_city.specs.declared.stops.CityStop.{CityStop}
 
@@ -13,8 +13,8 @@ use Rattle.sample_city.specs.declared.stops.CityStop.{CityStop}
 abbrev pub stop_place : List CityStop → Corner → Option ℕ
 stop_place stops at = position (λ (stop : CityStop). nat_eq stop.id at.id) stops
 
-abbrev pub stop_number : List CityStop → Corner → ℕ
-stop_number stops at = unwrap_or (stop_place stops at) 0
+abbrev pub corner_stop_number : List CityStop → Corner → ℕ
+corner_stop_number stops at = unwrap_or (stop_place stops at) 0
 
 -- at stop after stop, from this second on, 140 seconds apart, of which 20 are spent standing
 abbrev pub calls_along : ℕ → List ℕ → List Call
@@ -27,14 +27,14 @@ trip_in letter time stops name = option_map (λ name. record { letter = letter; 
 
 -- the trip number j along a line: its letter, the head of its name, the line, and the seconds from one trip to the next
 abbrev pub trip_along : ℕ → ℕ → ℕ → ℕ → List ℕ → ℕ → List TripLists
-trip_along letter head line every stops j = option_to_list (trip_in letter (18000 + every * j) stops (name_of (text_of head line j)))
+trip_along letter head line every stops j = option_to_list (trip_in letter (18000 + every * j) stops (name_of (corner_text head line j)))
 
 -- Letter 6 is the bus, and 3 is the tram; byte 66 is B, and 84 is T.
 abbrev pub buses : ℕ → List CityStop → ℕ → List TripLists
-buses n stops row = flat_map (trip_along 6 66 row 600 (map (λ column. stop_number stops (corner n row column)) (stop_lines n))) (lines 108)
+buses n stops row = flat_map (trip_along 6 66 row 600 (map (λ column. corner_stop_number stops (corner n row column)) (stop_lines n))) (lines 108)
 
 abbrev pub trams : ℕ → List CityStop → ℕ → List TripLists
-trams n stops column = flat_map (trip_along 3 84 column 900 (map (λ row. stop_number stops (corner n row column)) (stop_lines n))) (lines 72)
+trams n stops column = flat_map (trip_along 3 84 column 900 (map (λ row. corner_stop_number stops (corner n row column)) (stop_lines n))) (lines 72)
 
 -- along the lines of stops, where they have two or more
 abbrev pub city_trips : ℕ → List CityStop → List TripLists

@@ -4,9 +4,9 @@ ghost use Rattle.std.specs.Prelude.{◌≡◌, ◌<◌, ◌≤◌, ◌^◌, None
 ghost use Rattle.std.specs.List.{flat_map};
 ghost use Rattle.service_days.specs.Days.{plain_days};
 ghost use Rattle.mode_network.specs.Rules.{AreInOrder, AreParts, first_fault};
-ghost use Rattle.sample_city.specs.Roads.{arcs_at, road_number};
+ghost use Rattle.sample_city.specs.Roads.{corner_arcs, road_number};
 ghost use Rattle.sample_city.specs.Stops.{city_links};
-ghost use Rattle.sample_city.specs.SampleCity.{IsRefusal, IsSampleCity};
+ghost use Rattle.sample_city.specs.SampleCity.{IsCityRefusal, IsSampleCity};
 ghost use Rattle.sample_city.specs.Trips.{city_trips};
 
 use crate::corners::{Corner, all_corners, stop_lines};
@@ -58,8 +58,10 @@ fn city_ways(
     requires size { n ≤ 300 }
     requires few_roads { length roads.now < 2 ^ 31 }
     requires few_stops { length city.now < 2 ^ 31 }
-    ensures arcs { IfOk result (λ ways. AreInOrder (flat_map (arcs_at n (road_number roads.now)) corners.now) ways.arcs.items) }
-    ensures links { IfOk result (λ ways. AreInOrder (city_links n (road_number roads.now) (length roads.now) city.now) ways.links.items) }
+    ensures arcs { IfOk result (λ ways. AreInOrder (flat_map (corner_arcs n (road_number roads.now))
+        corners.now) ways.arcs.items) }
+    ensures links { IfOk result (λ ways. AreInOrder (city_links n (road_number roads.now) (length roads.now)
+        city.now) ways.links.items) }
 {
     let numbers = road_numbers(alloc, roads)?;
     let arcs = city_arcs(alloc, &numbers, n, corners)?;
@@ -118,7 +120,7 @@ pub fn sample(alloc: Global, n: u32, caps: &Caps) -> Result<Network, NetFault>
     requires size { n ≤ 300 }
     ensures city { IfOk result (IsSampleCity n) }
     ensures faultless { IfOk result (λ network. first_fault caps.now network ≡ None) }
-    ensures fault { IfErr result (IsRefusal n caps.now) }
+    ensures fault { IfErr result (IsCityRefusal n caps.now) }
 {
     let parts = parts_of(alloc, n)?;
     match Network::build(alloc, parts, caps) {

@@ -91,7 +91,8 @@ pub(crate) fn all_corners(alloc: Global, n: u32) -> Result<Vec<Corner>, AllocErr
 fn corners(alloc: Global, n: u32, lines: &[u32]) -> Result<Vec<Corner>, AllocError>
     requires size { n ≤ 300 }
     requires lines { All (λ line. line < 300) lines.now }
-    ensures { IfOk result (λ corners. corners.items ≡ flat_map (λ row. map (spec.corner n row) lines.now) lines.now) }
+    ensures { IfOk result (λ corners. corners.items ≡ flat_map (λ row. map (spec.corner n row) lines.now)
+        lines.now) }
 {
     let mut corners = Vec::new(alloc);
     for row in lines {
@@ -120,7 +121,7 @@ pub(crate) fn has_cars(at: Corner) -> bool
 
 /// Where a corner lies.
 pub(crate) fn place_at(at: Corner) -> Option<Place>
-    ensures { result ≡ spec.place_at at }
+    ensures { result ≡ spec.corner_place at }
 {
     let lat = 480_000_000 + 10_000 * u64::from(at.row);
     let lon = 110_000_000 + 10_000 * u64::from(at.column);

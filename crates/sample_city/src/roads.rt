@@ -4,7 +4,7 @@ ghost use Rattle.std.specs.Prelude.{◌≡◌, ◌+◌, ◌<◌, ◌^◌, ◌++�
 ghost use Rattle.std.specs.HashMap.{get};
 ghost use Rattle.std.specs.List.{flat_map};
 ghost use Rattle.sample_city.specs.Roads as spec;
-ghost use Rattle.sample_city.specs.Numbers.{number_with};
+ghost use Rattle.sample_city.specs.Numbers.{number_if_here};
 
 use crate::corners::{Corner, has_cars, place_at};
 use mode_network::{Node, NodeKey};
@@ -63,7 +63,8 @@ pub(crate) struct RoadNumbers {
 
 // Notes the number of an end, unless it has one.
 fn note(by_end: &mut HashMap<(i64, u8), u32>, key: (i64, u8), number: u32) -> Result<(), AllocError>
-    ensures { OnOk result ((end : spec.End) → get spec.is_end by_end.new end ≡ number_with (get spec.is_end by_end.old end) (spec.is_end key end) number) }
+    ensures { OnOk result ((end : spec.RoadNodeKey) → get spec.is_same_road_key by_end.new end
+        ≡ number_if_here (get spec.is_same_road_key by_end.old end) (spec.is_same_road_key key end) number) }
 {
     if by_end.contains_key(&key) {
         return Ok(());
@@ -78,7 +79,8 @@ fn note_node(
     key: NodeKey,
     number: u32,
 ) -> Result<(), AllocError>
-    ensures { OnOk result ((end : spec.End) → get spec.is_end by_end.new end ≡ number_with (get spec.is_end by_end.old end) (spec.is_key_of end key) number) }
+    ensures { OnOk result ((end : spec.RoadNodeKey) → get spec.is_same_road_key by_end.new end
+        ≡ number_if_here (get spec.is_same_road_key by_end.old end) (spec.is_key_of end key) number) }
 {
     match key {
         NodeKey::Road(mode, id) => note(by_end, (id, mode), number),
@@ -90,7 +92,7 @@ fn note_node(
 /// The numbers of these road nodes.
 pub(crate) fn road_numbers(alloc: Global, nodes: &[Node]) -> Result<RoadNumbers, AllocError>
     requires { length nodes.now < 2 ^ 32 }
-    ensures { IfOk result (λ numbers. get spec.is_end numbers.by_end ≡ spec.road_number nodes.now) }
+    ensures { IfOk result (λ numbers. get spec.is_same_road_key numbers.by_end ≡ spec.road_number nodes.now) }
 {
     let mut by_end = HashMap::new(alloc);
     let mut number = 0;
@@ -106,12 +108,12 @@ pub(crate) fn road_numbers(alloc: Global, nodes: &[Node]) -> Result<RoadNumbers,
 impl RoadNumbers {
     ghost use Rattle.std.specs.Prelude.{◌≡◌, ◌<◌, ◌^◌, pos};
     ghost use Rattle.std.specs.HashMap.{get};
-    ghost use Rattle.sample_city.specs.Roads.{is_end};
+    ghost use Rattle.sample_city.specs.Roads.{is_same_road_key};
 
     /// The number of a road node; `None` exactly where none is noted.
     pub(crate) fn of(&self, id: u64, mode: u8) -> Option<u32>
         requires { id < 2 ^ 33 }
-        ensures { result ≡ get is_end self.now.by_end (pos id, mode) }
+        ensures { result ≡ get is_same_road_key self.now.by_end (pos id, mode) }
     {
         self.by_end.get(&(id as i64, mode)).copied()
     }

@@ -5,7 +5,7 @@ ghost use Rattle.std.specs.HashMap.{get};
 ghost use Rattle.std.specs.List.{flat_map};
 ghost use Rattle.std.specs.List.Sorted.{IsPermutation, IsSorted};
 ghost use Rattle.mode_network.specs.Rules.{AreInOrder, name_cmp};
-ghost use Rattle.sample_city.specs.Roads.{is_end};
+ghost use Rattle.sample_city.specs.Roads.{is_same_road_key};
 ghost use Rattle.sample_city.specs.Stops as spec;
 
 use crate::corners::{Corner, corner_at, is_stop_line, place_at};
@@ -37,7 +37,7 @@ pub(crate) fn text_of(
     line: u32,
     other: u32,
 ) -> Result<Vec<u8>, AllocError>
-    ensures { IfOk result (λ text. text.items ≡ spec.text_of letter line other) }
+    ensures { IfOk result (λ text. text.items ≡ spec.corner_text letter line other) }
 {
     let mut text = Vec::new(alloc);
     text.push(letter)?;
@@ -60,7 +60,7 @@ fn stop_in(name: Option<Name>, place: Option<Place>, at: Corner) -> Option<CityS
 }
 
 fn push_stop(alloc: Global, stops: &mut Vec<CityStop>, at: Corner) -> Result<(), AllocError>
-    ensures { OnOk result (stops.new.items ≡ stops.old.items ++ option_to_list (spec.stop_at at)) }
+    ensures { OnOk result (stops.new.items ≡ stops.old.items ++ option_to_list (spec.corner_stop at)) }
 {
     if has_stop(at) {
         let name = Name::new(text_of(alloc, b'S', at.row, at.column)?);
@@ -72,7 +72,8 @@ fn push_stop(alloc: Global, stops: &mut Vec<CityStop>, at: Corner) -> Result<(),
 }
 
 fn all_stops(alloc: Global, corners: &[Corner]) -> Result<Vec<CityStop>, AllocError>
-    ensures { IfOk result (λ stops. stops.items ≡ flat_map (λ at. option_to_list (spec.stop_at at)) corners.now) }
+    ensures { IfOk result (λ stops. stops.items ≡ flat_map (λ at. option_to_list (spec.corner_stop at))
+        corners.now) }
 {
     let mut stops = Vec::new(alloc);
     for at in corners {
@@ -91,7 +92,8 @@ fn in_order(mut stops: Vec<CityStop>) -> Result<Vec<CityStop>, AllocError>
 
 /// The stops of all corners, in the order of their names.
 pub(crate) fn city_stops(alloc: Global, corners: &[Corner]) -> Result<Vec<CityStop>, AllocError>
-    ensures are { IfOk result (λ stops. IsPermutation (flat_map (λ at. option_to_list (spec.stop_at at)) corners.now) stops.items) }
+    ensures are { IfOk result (λ stops. IsPermutation (flat_map (λ at. option_to_list (spec.corner_stop at))
+        corners.now) stops.items) }
     ensures ascend { IfOk result (λ stops. IsSorted (λ a b. name_cmp a.name b.name) stops.items) }
 {
     let stops = all_stops(alloc, corners)?;
@@ -101,7 +103,7 @@ pub(crate) fn city_stops(alloc: Global, corners: &[Corner]) -> Result<Vec<CitySt
 /// The nodes of these stops.
 pub(crate) fn stop_nodes(alloc: Global, stops: &[CityStop]) -> Result<Vec<Node>, AllocError>
     requires { length stops.now < 2 ^ 32 }
-    ensures { IfOk result (λ nodes. nodes.items ≡ spec.stop_nodes 0 stops.now) }
+    ensures { IfOk result (λ nodes. nodes.items ≡ spec.city_stop_nodes 0 stops.now) }
 {
     let mut nodes = Vec::new(alloc);
     let mut number = 0;
@@ -206,7 +208,8 @@ fn push_stop_links(
     stops: &[CityStop],
 ) -> Result<(), AllocError>
     requires { first + length stops.now < 2 ^ 32 }
-    ensures { OnOk result (links.new.items ≡ links.old.items ++ spec.stop_links (get is_end numbers.now.by_end) first stops.now) }
+    ensures { OnOk result (links.new.items ≡ links.old.items ++ spec.city_stop_links
+        (get is_same_road_key numbers.now.by_end) first stops.now) }
 {
     let mut number = first;
     let mut rest = stops;
@@ -227,7 +230,8 @@ fn push_switch_links(
     requires some { 1 ≤ n }
     requires size { n ≤ 300 }
     requires place { place + 1 < 2 ^ 32 }
-    ensures { OnOk result (links.new.items ≡ links.old.items ++ spec.switch_links n (get is_end numbers.now.by_end) place) }
+    ensures { OnOk result (links.new.items ≡ links.old.items ++ spec.city_switch_links n
+        (get is_same_road_key numbers.now.by_end) place) }
 {
     let first = u64::from(corner_at(n, 0, 0).id);
     let last = u64::from(corner_at(n, n - 1, n - 1).id);
@@ -248,7 +252,8 @@ pub(crate) fn city_links(
     requires some { 1 ≤ n }
     requires size { n ≤ 300 }
     requires few { roads + length stops.now + 1 < 2 ^ 32 }
-    ensures { IfOk result (λ links. AreInOrder (spec.city_links n (get is_end numbers.now.by_end) roads stops.now) links.items) }
+    ensures { IfOk result (λ links. AreInOrder (spec.city_links n (get is_same_road_key numbers.now.by_end)
+        roads stops.now) links.items) }
 {
     let mut links = Vec::new(alloc);
     push_stop_links(&mut links, numbers, roads, stops)?;

@@ -62,7 +62,7 @@ fn arc_between(numbers: &RoadNumbers, mode: u8, base: u32, from: u64, to: u64) -
     requires base { base < 100000 }
     requires from { from < 2 ^ 33 }
     requires to { to < 2 ^ 33 }
-    ensures { result ≡ spec.arc_between (get spec.is_end numbers.now.by_end) mode base from to }
+    ensures { result ≡ spec.road_between (get spec.is_same_road_key numbers.now.by_end) mode base from to }
 {
     let start = numbers.of(from, mode)?;
     let end = numbers.of(to, mode)?;
@@ -84,7 +84,8 @@ fn push_street(
     requires base { base < 100000 }
     requires a { a < 2 ^ 33 }
     requires b { b < 2 ^ 33 }
-    ensures { OnOk result (arcs.new.items ≡ arcs.old.items ++ spec.street (get spec.is_end numbers.now.by_end) mode base a b) }
+    ensures { OnOk result (arcs.new.items ≡ arcs.old.items ++ spec.street
+        (get spec.is_same_road_key numbers.now.by_end) mode base a b) }
 {
     push_arc(arcs, arc_between(numbers, mode, base, a, b))?;
     push_arc(arcs, arc_between(numbers, mode, base, b, a))
@@ -103,7 +104,8 @@ fn push_streets(
     requires foot { bases.foot < 100000 }
     requires bike { bases.bike < 100000 }
     requires car { bases.car < 100000 }
-    ensures { OnOk result (arcs.new.items ≡ arcs.old.items ++ spec.streets (get spec.is_end numbers.now.by_end) bases.foot bases.bike bases.car cars a b) }
+    ensures { OnOk result (arcs.new.items ≡ arcs.old.items ++ spec.streets
+        (get spec.is_same_road_key numbers.now.by_end) bases.foot bases.bike bases.car cars a b) }
 {
     push_street(arcs, numbers, 0, bases.foot, a, b)?;
     push_street(arcs, numbers, 1, bases.bike, a, b)?;
@@ -119,7 +121,8 @@ fn push_along_row(
     n: u32,
     at: Corner,
 ) -> Result<(), AllocError>
-    ensures { OnOk result (arcs.new.items ≡ arcs.old.items ++ spec.along_row n (get spec.is_end numbers.now.by_end) at) }
+    ensures { OnOk result (arcs.new.items ≡ arcs.old.items ++ spec.along_row n
+        (get spec.is_same_road_key numbers.now.by_end) at) }
 {
     if u64::from(at.column) + 1 < u64::from(n) {
         let id = u64::from(at.id);
@@ -134,7 +137,8 @@ fn push_along_column(
     n: u32,
     at: Corner,
 ) -> Result<(), AllocError>
-    ensures { OnOk result (arcs.new.items ≡ arcs.old.items ++ spec.along_column n (get spec.is_end numbers.now.by_end) at) }
+    ensures { OnOk result (arcs.new.items ≡ arcs.old.items ++ spec.along_column n
+        (get spec.is_same_road_key numbers.now.by_end) at) }
 {
     if u64::from(at.row) + 1 < u64::from(n) {
         let id = u64::from(at.id);
@@ -157,7 +161,8 @@ fn push_arcs(
     n: u32,
     at: Corner,
 ) -> Result<(), AllocError>
-    ensures { OnOk result (arcs.new.items ≡ arcs.old.items ++ spec.arcs_at n (get spec.is_end numbers.now.by_end) at) }
+    ensures { OnOk result (arcs.new.items ≡ arcs.old.items ++ spec.corner_arcs n
+        (get spec.is_same_road_key numbers.now.by_end) at) }
 {
     push_along_row(arcs, numbers, n, at)?;
     push_along_column(arcs, numbers, n, at)
@@ -169,7 +174,8 @@ fn all_arcs(
     n: u32,
     corners: &[Corner],
 ) -> Result<Vec<Arc>, AllocError>
-    ensures { IfOk result (λ arcs. arcs.items ≡ flat_map (spec.arcs_at n (get spec.is_end numbers.now.by_end)) corners.now) }
+    ensures { IfOk result (λ arcs. arcs.items ≡ flat_map (spec.corner_arcs n
+        (get spec.is_same_road_key numbers.now.by_end)) corners.now) }
 {
     let mut arcs = Vec::new(alloc);
     for at in corners {
@@ -185,7 +191,8 @@ pub(crate) fn city_arcs(
     n: u32,
     corners: &[Corner],
 ) -> Result<Vec<Arc>, AllocError>
-    ensures { IfOk result (λ arcs. AreInOrder (flat_map (spec.arcs_at n (get spec.is_end numbers.now.by_end)) corners.now) arcs.items) }
+    ensures { IfOk result (λ arcs. AreInOrder (flat_map (spec.corner_arcs n
+        (get spec.is_same_road_key numbers.now.by_end)) corners.now) arcs.items) }
 {
     let arcs = all_arcs(alloc, numbers, n, corners)?;
     in_order(arcs)

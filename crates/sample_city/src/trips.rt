@@ -23,7 +23,7 @@ fn stop_place(stops: &[CityStop], at: Corner) -> Option<usize>
 /// The number of the stop at a corner.
 fn stop_number(stops: &[CityStop], at: Corner) -> u32
     requires { length stops.now < 2 ^ 32 }
-    ensures { result ≡ spec.stop_number stops.now at }
+    ensures { result ≡ spec.corner_stop_number stops.now at }
 {
     match stop_place(stops, at) {
         Some(place) => place as u32,
@@ -69,7 +69,8 @@ fn push_trip(alloc: Global, trips: &mut Vec<Trip>, line: Line<'_>, j: u32) -> Re
     requires every { line.every ≤ 900 }
     requires few { j < 110 }
     requires stops { length line.stops.now ≤ 300 }
-    ensures { OnOk result (trips.new.items ≡ trips.old.items ++ spec.trip_along line.entry.letter line.entry.head line.entry.line line.entry.every line.entry.stops.now j) }
+    ensures { OnOk result (trips.new.items ≡ trips.old.items ++ spec.trip_along line.entry.letter
+        line.entry.head line.entry.line line.entry.every line.entry.stops.now j) }
 {
     let name = Name::new(text_of(alloc, line.head, line.line, j)?);
     if let Some(name) = name {
@@ -93,7 +94,9 @@ fn push_line(
     requires every { line.every ≤ 900 }
     requires few { All (λ j. j < 110) times.now }
     requires stops { length line.stops.now ≤ 300 }
-    ensures { OnOk result (trips.new.items ≡ trips.old.items ++ flat_map (spec.trip_along line.entry.letter line.entry.head line.entry.line line.entry.every line.entry.stops.now) times.now) }
+    ensures { OnOk result (trips.new.items ≡ trips.old.items ++ flat_map
+        (spec.trip_along line.entry.letter line.entry.head line.entry.line line.entry.every
+        line.entry.stops.now) times.now) }
 {
     for j in times {
         push_trip(alloc, trips, line, *j)?;
@@ -113,7 +116,8 @@ fn bus_stops(
     requires size { n ≤ 300 }
     requires row { row < 300 }
     requires columns { All (λ column. column < 300) columns.now }
-    ensures { IfOk result (λ numbers. numbers.items ≡ map (λ column. spec.stop_number stops.now (corner n row column)) columns.now) }
+    ensures { IfOk result (λ numbers. numbers.items ≡ map (λ column. spec.corner_stop_number stops.now
+        (corner n row column)) columns.now) }
 {
     let mut numbers = Vec::new(alloc);
     for column in columns {
@@ -134,7 +138,8 @@ fn tram_stops(
     requires size { n ≤ 300 }
     requires column { column < 300 }
     requires rows { All (λ row. row < 300) rows.now }
-    ensures { IfOk result (λ numbers. numbers.items ≡ map (λ row. spec.stop_number stops.now (corner n row column)) rows.now) }
+    ensures { IfOk result (λ numbers. numbers.items ≡ map (λ row. spec.corner_stop_number stops.now
+        (corner n row column)) rows.now) }
 {
     let mut numbers = Vec::new(alloc);
     for row in rows {
@@ -156,7 +161,9 @@ fn push_buses(
     requires lines { All (λ line. line < 300) lines.now }
     requires few { length lines.now ≤ 300 }
     requires times { All (λ j. j < 110) times.now }
-    ensures { OnOk result (trips.new.items ≡ trips.old.items ++ flat_map (λ row. flat_map (spec.trip_along 6 66 row 600 (map (λ column. spec.stop_number stops.now (corner n row column)) lines.now)) times.now) lines.now) }
+    ensures { OnOk result (trips.new.items ≡ trips.old.items ++ flat_map
+        (λ row. flat_map (spec.trip_along 6 66 row 600 (map (λ column. spec.corner_stop_number stops.now
+        (corner n row column)) lines.now)) times.now) lines.now) }
 {
     for row in lines {
         let stops = bus_stops(alloc, stops, n, *row, lines)?;
@@ -185,7 +192,9 @@ fn push_trams(
     requires lines { All (λ line. line < 300) lines.now }
     requires few { length lines.now ≤ 300 }
     requires times { All (λ j. j < 110) times.now }
-    ensures { OnOk result (trips.new.items ≡ trips.old.items ++ flat_map (λ column. flat_map (spec.trip_along 3 84 column 900 (map (λ row. spec.stop_number stops.now (corner n row column)) lines.now)) times.now) lines.now) }
+    ensures { OnOk result (trips.new.items ≡ trips.old.items ++ flat_map
+        (λ column. flat_map (spec.trip_along 3 84 column 900 (map
+        (λ row. spec.corner_stop_number stops.now (corner n row column)) lines.now)) times.now) lines.now) }
 {
     for column in lines {
         let stops = tram_stops(alloc, stops, n, *column, lines)?;
@@ -212,7 +221,8 @@ fn buses_and_trams(
     requires lines { lines.now ≡ stop_lines n }
     requires below { All (λ line. line < 300) lines.now }
     requires few { length lines.now ≤ 300 }
-    ensures { IfOk result (λ trips. trips.items ≡ flat_map (spec.buses n stops.now) (stop_lines n) ++ flat_map (spec.trams n stops.now) (stop_lines n)) }
+    ensures { IfOk result (λ trips. trips.items ≡ flat_map (spec.buses n stops.now) (stop_lines n) ++ flat_map
+        (spec.trams n stops.now) (stop_lines n)) }
 {
     let mut trips = Vec::new(alloc);
     let times = lines_to(alloc, 108)?;

@@ -15,10 +15,10 @@ use Rattle.journey.specs.Queries.{IsQuery}
 use Rattle.journey.proofs.ReadingLemmas.{reading_is_unique}
 use Rattle.certificate.specs.Valid.{IsBestResult}
 use Rattle.planning.specs.Plans.{AreTheLabels, IsCertifiable, IsPlan, route_of}
-use Rattle.planning.specs.Settled.{IsLabelCount, IsSettledBy, Settled}
+use Rattle.planning.specs.Settled.{IsLabelCount, IsSettledCount, Settled}
 use Rattle.planning.proofs.PlanLemmas.{plan_proves}
 use Rattle.sample_command.specs.Queries.{lines_before, query_line}
-use Rattle.sample_command.specs.Times.{AreTimes, IsTime, Takes, counted, time_from, total}
+use Rattle.sample_command.specs.Times.{AreTimes, IsTravelTime, Takes, labels_counted, time_from, total_time}
 
 -- ---- one line more
 
@@ -31,14 +31,14 @@ unfolding lines_before
 lines_more n k = map-range_with_len_more (query_line n) 0 k k (omega arith)
 
 pub times_more : (n : NetworkLists) (lines : List (List ℕ)) (times : List (Option ℕ)) (line : List ℕ) (time : Option ℕ)
-    → AreTimes n lines times → IsTime n line time → AreTimes n (lines ++ line ∷ []) (times ++ time ∷ [])
+    → AreTimes n lines times → IsTravelTime n line time → AreTimes n (lines ++ line ∷ []) (times ++ time ∷ [])
 times_more n [] [] line time are is = (is, tt)
 times_more n [] (other ∷ times) line time are is = absurd are
 times_more n (first ∷ lines) [] line time are is = absurd are
 times_more n (first ∷ lines) (other ∷ times) line time are is = (are.0, times_more n lines times line time are.1 is)
 
 pub settled_more : (n : NetworkLists) (h : Option HierarchyLists) (lines : List (List ℕ)) (sum : ℕ) (line : List ℕ) (count : ℕ)
-    → Settled n h lines sum → IsSettledBy n h line count → Settled n h (lines ++ line ∷ []) (sum + count)
+    → Settled n h lines sum → IsSettledCount n h line count → Settled n h (lines ++ line ∷ []) (sum + count)
 settled_more n h [] sum line count are is = (count, 0, is, refl, omega arith)
 settled_more n h (first ∷ lines) sum line count are is =
     (are.0, are.1 + count, are.2, settled_more n h lines are.1 line count are.3 is, omega (arith, are.4))
@@ -47,9 +47,9 @@ pub time_below : (time : Option ℕ) → IfSome time (λ ms. ms < 10 ^ 30) → u
 time_below None below = omega arith
 time_below (Some ms) below = omega arith
 
-pub total_more : (times : List (Option ℕ)) (time : Option ℕ) → total (times ++ time ∷ []) ≡ total times + unwrap_or time 0
+pub total_more : (times : List (Option ℕ)) (time : Option ℕ) → total_time (times ++ time ∷ []) ≡ total_time times + unwrap_or time 0
 total_more times time =
-    let split : total (times ++ time ∷ []) ≡ total times + total (time ∷ []) = sum_by-append (λ (time : Option ℕ). unwrap_or time 0) times (time ∷ []) in
+    let split : total_time (times ++ time ∷ []) ≡ total_time times + total_time (time ∷ []) = sum_by-append (λ (time : Option ℕ). unwrap_or time 0) times (time ∷ []) in
     omega (arith, split)
 
 -- ---- one time at most
@@ -74,11 +74,11 @@ module _ (n : NetworkLists) (line : List ℕ) where
       let leave : p.asked.depart ≡ q.asked.depart = ap (λ (asked : Asked). asked.depart) same in
       omega (arith, p.ms_is, q.ms_is, arrive, leave)
 
-  takes_not : (a : ℕ) → Takes n line a → IsTime n line None → ⊥
+  takes_not : (a : ℕ) → Takes n line a → IsTravelTime n line None → ⊥
   takes_not a p (inl (asked, asks, none)) = subst (HasNone n) (asks_same asked p.asked asks p.asks) none p.journey p.best.arrival p.best.answers
   takes_not a p (inr (fault, refused)) = let same = reading_is_unique n line (Ok p.asked) (Err fault) p.asks refused in absurd cc
 
-  same_time : (a b : Option ℕ) → IsTime n line a → IsTime n line b → a ≡ b
+  same_time : (a b : Option ℕ) → IsTravelTime n line a → IsTravelTime n line b → a ≡ b
   same_time (Some a) (Some b) p q = ap Some (same_takes a b p q)
   same_time (Some a) None p q = absurd (takes_not a p q)
   same_time None (Some b) p q = absurd (takes_not b q p)
@@ -96,7 +96,7 @@ same_times n (line ∷ lines) (time ∷ times) (other ∷ others) p q =
 -- ---- what is found
 
 module _ (n : NetworkLists) (network : IsNetwork n) (h : Option HierarchyLists) (q : Query) (asks : IsQuery n q.line q.from q.to q.depart (form_of q.expr)) where
-  takes : (found : Option (ℕ × Route)) → IsBestResult n (asked_by q) found → IsTime n q.line (time_from q.depart found)
+  takes : (found : Option (ℕ × Route)) → IsBestResult n (asked_by q) found → IsTravelTime n q.line (time_from q.depart found)
   takes None none = inl (asked_by q, asks, none)
   takes (Some claimed) (best, arrives) = record {
     asked = asked_by q;
@@ -108,15 +108,15 @@ module _ (n : NetworkLists) (network : IsNetwork n) (h : Option HierarchyLists) 
 
   -- a best journey that was found with its arrival takes so long
   pub time_found : (found : Option (ℕ × Route)) (labels : List Label) → IsPlan n (asked_by q) (route_of found) → IsCertifiable n h q found labels
-      → IsTime n q.line (time_from q.depart found)
+      → IsTravelTime n q.line (time_from q.depart found)
   time_found found labels plan fits =
       let proves = plan_proves n network h q asks found labels plan fits in
       takes found (subst (λ (asked : Asked). IsBestResult n asked found) (asks_same n q.line proves.asked (asked_by q) proves.asks asks) proves.best)
 
   -- and its labels are counted
-  pub labels_found : (labels : List Label) → AreTheLabels n h (asked_by q) labels → IsSettledBy n h q.line (counted h (length labels))
+  pub labels_found : (labels : List Label) → AreTheLabels n h (asked_by q) labels → IsSettledCount n h q.line (labels_counted h (length labels))
   labels_found labels are = inr (asked_by q, asks, count h are)
     where
-      count : (h : Option HierarchyLists) → AreTheLabels n h (asked_by q) labels → IsLabelCount n h (asked_by q) (counted h (length labels))
+      count : (h : Option HierarchyLists) → AreTheLabels n h (asked_by q) labels → IsLabelCount n h (asked_by q) (labels_counted h (length labels))
       count None are = refl
       count (Some h) are = (labels, are, refl)

@@ -3,19 +3,19 @@ use Rattle.std.specs.Prelude.{◌≡◌, ℕ, List, ◌++◌, Option, Some}
 use Rattle.mode_network.specs.NetworkLists.{NetworkLists}
 use Rattle.mode_network.specs.Rules.{IsNetwork}
 use Rattle.hierarchy.specs.Lists.{HierarchyLists}
-use Rattle.contractor.specs.Contracted.{IsContracted}
+use Rattle.contractor.specs.Contracted.{IsContractedTo}
 use Rattle.sample_city.specs.SampleCity.{IsSampleCity}
 use Rattle.planning.specs.Settled.{Settled}
 use Rattle.run_steps.specs.Sayings.{Saying, WritesText}
-use Rattle.sample_command.specs.Queries.{query_lines}
+use Rattle.sample_command.specs.Queries.{sampled_queries}
 use Rattle.sample_command.specs.Texts.{city_text, times_text}
 use Rattle.sample_command.specs.Times.{AreTimes}
 
 -- so many labels the searches for the queries have together, over a hierarchy that contraction makes of the whole of the city
 pub record HasLabels (n : ℕ) (city : NetworkLists) (count : ℕ) : Type 0 where
   pub hierarchy : HierarchyLists
-  pub contracted : IsContracted city 0 hierarchy
-  pub labels : Settled city (Some hierarchy) (query_lines n) count
+  pub contracted : IsContractedTo city 0 hierarchy
+  pub labels : Settled city (Some hierarchy) (sampled_queries n) count
 
 -- Written are the counts of the sample city, how long the best journeys of its fifty queries take, which is the same over a
 -- hierarchy, and how many labels the searches have over it.
@@ -24,7 +24,7 @@ pub record IsSummary (n : ℕ) (out : List ℕ) : Type 0 where
   pub rules : IsNetwork city
   pub is : IsSampleCity n city
   pub plain : List (Option ℕ)
-  pub times : AreTimes city (query_lines n) plain
+  pub times : AreTimes city (sampled_queries n) plain
   pub over : List (Option ℕ)
   pub same : over ≡ plain
   pub settled : ℕ

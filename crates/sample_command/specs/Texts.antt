@@ -2,7 +2,7 @@
 use Rattle.std.specs.Prelude.{decimal, ℕ, List, ◌++◌, length, codes, Option}
 use Rattle.plain_texts.specs.Lines.{with_feed}
 use Rattle.mode_network.specs.NetworkLists.{NetworkLists, nodes_of}
-use Rattle.sample_command.specs.Times.{equal, journeys, total, without}
+use Rattle.sample_command.specs.Times.{equal, journeys, total_time, without}
 
 -- a line with a word and a number
 unfoldable pub told : List ℕ → ℕ → List ℕ
@@ -17,5 +17,5 @@ city_text n city =
 -- what the queries take, without a hierarchy and over one
 abbrev pub times_text : List (Option ℕ) → List (Option ℕ) → ℕ → List ℕ
 times_text plain over settled =
-    told (codes "queries") (length plain) ++ told (codes "journeys") (journeys plain) ++ told (codes "none") (without plain) ++ told (codes "total") (total plain)
+    told (codes "queries") (length plain) ++ told (codes "journeys") (journeys plain) ++ told (codes "none") (without plain) ++ told (codes "total") (total_time plain)
     ++ told (codes "equal") (equal plain over) ++ told (codes "settled") settled ++ with_feed (codes "end")

@@ -18,25 +18,25 @@ pub record Takes (n : NetworkLists) (line : List ℕ) (ms : ℕ) : Type 0 where
   pub ms_is : ms ≡ best.arrival - asked.depart
 
 -- how long; None where no journey answers the line
-abbrev pub IsTime : NetworkLists → List ℕ → Option ℕ → Type 0
-IsTime n line (Some ms) = Takes n line ms
-IsTime n line None = ((asked : Asked) × Asks n line asked × HasNone n asked) ⊎ ((fault : QueryFault) × IsRefused n line fault)
+abbrev pub IsTravelTime : NetworkLists → List ℕ → Option ℕ → Type 0
+IsTravelTime n line (Some ms) = Takes n line ms
+IsTravelTime n line None = ((asked : Asked) × Asks n line asked × HasNone n asked) ⊎ ((fault : QueryFault) × IsRefused n line fault)
 
 -- the times of these lines, in order
 abbrev pub AreTimes : NetworkLists → List (List ℕ) → List (Option ℕ) → Type 0
 AreTimes n [] [] = Unit {0}
 AreTimes n [] (time ∷ times) = ⊥
 AreTimes n (line ∷ lines) [] = ⊥
-AreTimes n (line ∷ lines) (time ∷ times) = IsTime n line time × AreTimes n lines times
+AreTimes n (line ∷ lines) (time ∷ times) = IsTravelTime n line time × AreTimes n lines times
 
 -- how long a journey takes that was found with its arrival, if one was
 abbrev pub time_from : ℕ → Option (ℕ × Route) → Option ℕ
 time_from depart found = option_map (λ best. best.0 - depart) found
 
 -- how many of a search's labels are counted: all where it was over a hierarchy, and else none
-abbrev pub counted : Option HierarchyLists → ℕ → ℕ
-counted (Some h) labels = labels
-counted None labels = 0
+abbrev pub labels_counted : Option HierarchyLists → ℕ → ℕ
+labels_counted (Some h) labels = labels
+labels_counted None labels = 0
 
 -- ---- counts of times
 
@@ -46,14 +46,14 @@ journeys times = count_by is_some times
 abbrev pub without : List (Option ℕ) → ℕ
 without times = count_by is_none times
 
-abbrev pub total : List (Option ℕ) → ℕ
-total times = sum_by (λ time. unwrap_or time 0) times
+abbrev pub total_time : List (Option ℕ) → ℕ
+total_time times = sum_by (λ time. unwrap_or time 0) times
 
-abbrev pub is_same : Option ℕ → Option ℕ → Bool
-is_same (Some a) (Some b) = nat_eq a b
-is_same (Some a) None = false
-is_same None (Some b) = false
-is_same None None = true
+abbrev pub is_same_time : Option ℕ → Option ℕ → Bool
+is_same_time (Some a) (Some b) = nat_eq a b
+is_same_time (Some a) None = false
+is_same_time None (Some b) = false
+is_same_time None None = true
 
 abbrev pub equal : List (Option ℕ) → List (Option ℕ) → ℕ
-equal times others = count_by (λ both. is_same both.0 both.1) (zip times others)
+equal times others = count_by (λ both. is_same_time both.0 both.1) (zip times others)

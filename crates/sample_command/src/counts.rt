@@ -47,14 +47,14 @@ pub(crate) fn without(times: &[Option<Time>]) -> usize
 
 /// How long all journeys take together, in milliseconds.
 pub(crate) fn total(times: &[Option<Time>]) -> Time
-    requires { spec.total times.now < 2 ^ 128 }
-    ensures { result ≡ spec.total times.now }
+    requires { spec.total_time times.now < 2 ^ 128 }
+    ensures { result ≡ spec.total_time times.now }
 {
     times.iter().map(|time| time.unwrap_or(0)).sum()
 }
 
 fn is_same(a: Option<Time>, b: Option<Time>) -> bool
-    ensures { result ≡ spec.is_same a b }
+    ensures { result ≡ spec.is_same_time a b }
 {
     match (a, b) {
         (Some(a), Some(b)) => a == b,

@@ -28,7 +28,7 @@ fn from_of(n: u32, k: u32) -> u32
     requires some { 1 ≤ n }
     requires size { n ≤ 300 }
     requires few { k < 50 }
-    ensures { result ≡ spec.from_of n k }
+    ensures { result ≡ spec.origin_id n k }
 {
     1 + (13 * k * k + 5 * k) % (n * n)
 }
@@ -37,7 +37,7 @@ fn to_of(n: u32, k: u32) -> u32
     requires some { 1 ≤ n }
     requires size { n ≤ 300 }
     requires few { k < 50 }
-    ensures { result ≡ spec.to_of n k }
+    ensures { result ≡ spec.destination_id n k }
 {
     1 + (29 * k + 7) % (n * n)
 }

@@ -3,11 +3,11 @@
 ghost use Rattle.std.specs.Prelude.{◌≤◌, IfOk};
 ghost use Rattle.plan_base.specs.Shelves.{ShelfMeaning};
 ghost use Rattle.hierarchy.specs.Soundness.{IsSound};
-ghost use Rattle.contractor.specs.Contracted.{IsContracted};
+ghost use Rattle.contractor.specs.Contracted.{IsContractedTo};
 ghost use Rattle.run_steps.specs.Scene.{scene};
 ghost use Rattle.run_steps.specs.Sayings.{end_of};
 ghost use Rattle.sample_city.specs.SampleCity.{IsSampleCity};
-ghost use Rattle.sample_command.specs.Queries.{query_lines};
+ghost use Rattle.sample_command.specs.Queries.{sampled_queries};
 ghost use Rattle.sample_command.specs.Times.{AreTimes};
 ghost use Rattle.sample_command.specs.Summary as spec;
 
@@ -35,7 +35,8 @@ pub fn sample<O: Sink, E: Sink>(
 ) -> Result<(), Outcome>
     requires some { 1 ≤ n }
     requires size { n ≤ 300 }
-    ensures { (old new : ShelfMeaning) → spec.SaysSample n (scene old (O.meaning out.old)) (scene new (O.meaning out.new)) (end_of result) }
+    ensures { (old new : ShelfMeaning) → spec.SaysSample n (scene old (O.meaning out.old))
+        (scene new (O.meaning out.new)) (end_of result) }
 {
     let Ok(text) = summary(alloc, n, notes, caps) else {
         return Err(Outcome::OutOfMemory);
@@ -89,7 +90,7 @@ fn times_over<E: Sink>(
 ) -> Result<(Vec<Option<Time>>, u128), AllocError>
     requires some { 1 ≤ n }
     requires size { n ≤ 300 }
-    ensures times { IfOk result (λ it. AreTimes city.now (query_lines n) it.0.items) }
+    ensures times { IfOk result (λ it. AreTimes city.now (sampled_queries n) it.0.items) }
     ensures labels { IfOk result (λ it. spec.HasLabels n city.now it.1) }
 {
     let hierarchy = contracted(alloc, city, notes)?;
@@ -108,7 +109,7 @@ fn contracted<E: Sink>(
     city: &Network,
     notes: &mut E,
 ) -> Result<Hierarchy, AllocError>
-    ensures contracted { IfOk result (IsContracted city.now 0) }
+    ensures contracted { IfOk result (IsContractedTo city.now 0) }
     ensures sound { IfOk result (IsSound city.now) }
 {
     let mut told = ContractionNotes::new(alloc, notes);

@@ -2,7 +2,7 @@
 
 ghost use Rattle.std.specs.Prelude.{◌≡◌, ◌<◌, ◌^◌, ◌++◌, IfOk, OnOk};
 ghost use Rattle.sample_command.specs.Texts as spec;
-ghost use Rattle.sample_command.specs.Times.{total};
+ghost use Rattle.sample_command.specs.Times.{total_time};
 
 use crate::counts;
 use mode_network::Network;
@@ -19,8 +19,9 @@ pub(crate) fn text_of(
     over: &[Option<Time>],
     settled: u128,
 ) -> Result<Vec<u8>, AllocError>
-    requires { total plain.now < 2 ^ 128 }
-    ensures { IfOk result (λ text. text.items ≡ spec.city_text n city.now ++ spec.times_text plain.now over.now settled) }
+    requires { total_time plain.now < 2 ^ 128 }
+    ensures { IfOk result (λ text. text.items ≡ spec.city_text n city.now ++ spec.times_text plain.now
+        over.now settled) }
 {
     let mut text = Vec::new(alloc);
     push_city(&mut text, n, city)?;
@@ -60,7 +61,7 @@ fn push_times(
     over: &[Option<Time>],
     settled: u128,
 ) -> Result<(), AllocError>
-    requires { total plain.now < 2 ^ 128 }
+    requires { total_time plain.now < 2 ^ 128 }
     ensures { OnOk result (text.new.items ≡ text.old.items ++ spec.times_text plain.now over.now settled) }
 {
     push_told(text, "queries", plain.len() as u128)?;

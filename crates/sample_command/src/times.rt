@@ -2,8 +2,8 @@
 
 ghost use Rattle.std.specs.Prelude.{◌≡◌, ◌<◌, ◌≤◌, ◌^◌, ◌*◌, IfOk, IfSome, length, option_map};
 ghost use Rattle.hierarchy.specs.Soundness.{IsSound};
-ghost use Rattle.planning.specs.Settled.{IsSettledBy, Settled};
-ghost use Rattle.sample_command.specs.Queries.{query_lines};
+ghost use Rattle.planning.specs.Settled.{IsSettledCount, Settled};
+ghost use Rattle.sample_command.specs.Queries.{sampled_queries};
 ghost use Rattle.sample_command.specs.Times as spec;
 
 use crate::queries::query_line;
@@ -27,7 +27,7 @@ fn time_from(depart: Time, found: &Option<(Time, Journey)>) -> Option<Time>
 
 /// How many of a search's labels are counted: all where it was over a hierarchy, and else none.
 fn counted(hierarchy: Option<&Hierarchy>, labels: &[Label]) -> u64
-    ensures { result ≡ spec.counted (option_map (λ h. h.now) hierarchy.entry) (length labels.now) }
+    ensures { result ≡ spec.labels_counted (option_map (λ h. h.now) hierarchy.entry) (length labels.now) }
 {
     match hierarchy {
         Some(_) => labels.len() as u64,
@@ -44,9 +44,10 @@ fn time_of(
     line: &[u8],
 ) -> Result<(Option<Time>, u64), AllocError>
     requires { IfSome hierarchy (λ h. IsSound network.now h.now) }
-    ensures time { IfOk result (λ it. spec.IsTime network.now line.now it.0) }
+    ensures time { IfOk result (λ it. spec.IsTravelTime network.now line.now it.0) }
     ensures below { IfOk result (λ it. IfSome it.0 (λ ms. ms < 10 ^ 30)) }
-    ensures settled { IfOk result (λ it. IsSettledBy network.now (option_map (λ h. h.now) hierarchy.entry) line.now it.1) }
+    ensures settled { IfOk result (λ it. IsSettledCount network.now (option_map (λ h. h.now) hierarchy.entry)
+        line.now it.1) }
 {
     network.known();
     let query = match read_query(alloc, network, line) {
@@ -71,9 +72,10 @@ pub(crate) fn times_of(
     requires some { 1 ≤ n }
     requires size { n ≤ 300 }
     requires sound { IfSome hierarchy (λ h. IsSound network.now h.now) }
-    ensures times { IfOk result (λ it. spec.AreTimes network.now (query_lines n) it.0.items) }
-    ensures below { IfOk result (λ it. spec.total it.0.items ≤ 50 * 10 ^ 30) }
-    ensures settled { IfOk result (λ it. Settled network.now (option_map (λ h. h.now) hierarchy.entry) (query_lines n) it.1) }
+    ensures times { IfOk result (λ it. spec.AreTimes network.now (sampled_queries n) it.0.items) }
+    ensures below { IfOk result (λ it. spec.total_time it.0.items ≤ 50 * 10 ^ 30) }
+    ensures settled { IfOk result (λ it. Settled network.now (option_map (λ h. h.now) hierarchy.entry)
+        (sampled_queries n) it.1) }
 {
     let mut times = Vec::new(alloc);
     let mut settled: u128 = 0;

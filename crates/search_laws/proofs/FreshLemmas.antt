@@ -11,7 +11,7 @@ use Rattle.search_laws.specs.declared.graph.GraphArc.{GraphArc}
 use Rattle.search_laws.specs.declared.graph.Way.{Way}
 use Rattle.search_laws.specs.declared.given.GivenRun.{GivenRun}
 use Rattle.search_laws.specs.declared.given.GivenRuns.{GivenRuns}
-use Rattle.search_laws.specs.Fresh.{IsNoted, IsAsGood, HasAsGood, RunRides, WasGiven, IsCovered, AreFresh, AddsFresh, StandsStill, AreMoving, AddsMoving}
+use Rattle.search_laws.specs.Fresh.{IsRunNoted, IsAsGood, HasAsGood, RunRides, WasGiven, HasAsGoodOrGiven, AreFresh, AddsFresh, StandsStill, AreMoving, AddsMoving}
 
 -- ---- as good
 
@@ -38,7 +38,7 @@ module _ (rides : RunRides) (state : ℕ) where
   pub fresh_all : (given : GivenRuns) (ways : List Way) → AreFresh rides state given given ways ways
   fresh_all given ways = record {
     are = All-contains_itself ways;
-    rest = all_from (IsCovered rides state given ways) ways (λ way has. inl (as_good_itself ways way has));
+    rest = all_from (HasAsGoodOrGiven rides state given ways) ways (λ way has. inl (as_good_itself ways way has));
     noted = λ other way was. inl was;
   }
 
@@ -46,18 +46,18 @@ module _ (rides : RunRides) (state : ℕ) where
   pub fresh_none : (given : GivenRuns) (ways : List Way) → ((way : Way) → Contains ways way → WasGiven rides given state way) → AreFresh rides state given given ways []
   fresh_none given ways was = record {
     are = All-nil (Contains ways);
-    rest = all_from (IsCovered rides state given []) ways (λ way has. inr (was way has));
+    rest = all_from (HasAsGoodOrGiven rides state given []) ways (λ way has. inr (was way has));
     noted = λ other way known. inl known;
   }
 
   -- some of them, where the state was given as good ones for the others; of a run that is noted they have all rides, or the state was given as good ones
-  pub fresh_noted : (old new : GivenRuns) (run : GivenRun) (ways fresh : List Way) → IsNoted old new run → run.state ≡ state → All (Contains ways) fresh
-      → ((way : Way) → Contains ways way → IsCovered rides state old fresh way)
-      → ((way : Way) → Contains (rides run.line run.run run.call) way → IsCovered rides state old fresh way)
+  pub fresh_noted : (old new : GivenRuns) (run : GivenRun) (ways fresh : List Way) → IsRunNoted old new run → run.state ≡ state → All (Contains ways) fresh
+      → ((way : Way) → Contains ways way → HasAsGoodOrGiven rides state old fresh way)
+      → ((way : Way) → Contains (rides run.line run.run run.call) way → HasAsGoodOrGiven rides state old fresh way)
       → AreFresh rides state old new ways fresh
   fresh_noted old new run ways fresh noted here are rest all = record {
     are = are;
-    rest = all_from (IsCovered rides state old fresh) ways rest;
+    rest = all_from (HasAsGoodOrGiven rides state old fresh) ways rest;
     noted = λ other way was. elim (noted was.run was.known) [
       | inl known ↦ inl (record { run = was.run; known = known; to_state = was.to_state; as_good = was.as_good })
       | inr same ↦ (let (x, has, good) = subst (λ (r : GivenRun). HasAsGood (rides r.line r.run r.call) way) same was.as_good in
@@ -76,12 +76,12 @@ module _ (rides : RunRides) (state : ℕ) where
     are = All-append (Contains (xs ++ ys)) fresh more
         (all_from (Contains (xs ++ ys)) fresh (λ way has. Contains-append_left xs ys way (All-contains (Contains xs) fresh way first.are has)))
         (all_from (Contains (xs ++ ys)) more (λ way has. Contains-append_right xs ys way (All-contains (Contains ys) more way second.are has)));
-    rest = all_from (IsCovered rides state old (fresh ++ more)) (xs ++ ys) (λ way has. elim (Contains-append_cases xs ys way has) [
-      | inl here ↦ (elim (All-contains (IsCovered rides state old fresh) xs way first.rest here) [
+    rest = all_from (HasAsGoodOrGiven rides state old (fresh ++ more)) (xs ++ ys) (λ way has. elim (Contains-append_cases xs ys way has) [
+      | inl here ↦ (elim (All-contains (HasAsGoodOrGiven rides state old fresh) xs way first.rest here) [
         | inl found ↦ inl (as_good_left fresh more way found)
         | inr was ↦ inr was
       ])
-      | inr here ↦ (elim (All-contains (IsCovered rides state mid more) ys way second.rest here) [
+      | inr here ↦ (elim (All-contains (HasAsGoodOrGiven rides state mid more) ys way second.rest here) [
         | inl found ↦ inl (as_good_right fresh more way found)
         | inr was ↦ (elim (first.noted state way was) [
           | inl before ↦ inr before
@@ -224,8 +224,8 @@ module _ (to : GraphArc → GraphArc) (f h : Way → Way) (by_f : LeadsElsewhere
   pub fresh_elsewhere : (state : ℕ) (old new : GivenRuns) (ways fresh : List Way) → AreFresh rides state old new ways fresh → AreFresh rides_elsewhere state old new (map f ways) (map f fresh)
   fresh_elsewhere state old new ways fresh are = record {
     are = All-map (Contains (map f ways)) f fresh (all_from (λ way. Contains (map f ways) (f way)) fresh (λ way has. mapped_to f ways way (All-contains (Contains ways) fresh way are.are has)));
-    rest = All-map (IsCovered rides_elsewhere state old (map f fresh)) f ways (all_from (λ way. IsCovered rides_elsewhere state old (map f fresh) (f way)) ways (λ way has.
-        elim (All-contains (IsCovered rides state old fresh) ways way are.rest has) [
+    rest = All-map (HasAsGoodOrGiven rides_elsewhere state old (map f fresh)) f ways (all_from (λ way. HasAsGoodOrGiven rides_elsewhere state old (map f fresh) (f way)) ways (λ way has.
+        elim (All-contains (HasAsGoodOrGiven rides state old fresh) ways way are.rest has) [
           | inl found ↦ inl (as_good_elsewhere to f f by_f by_f fresh way found)
           | inr was ↦ inr (given_elsewhere old state way was)
         ]));

@@ -6,18 +6,18 @@ use Rattle.search_laws.specs.declared.given.GivenRuns.{GivenRuns}
 
 -- ---- runs that were given
 
-abbrev pub Knows : GivenRuns → GivenRun → Type 0
-Knows given run = Contains given.cells.items (Some run)
+abbrev pub HoldsRun : GivenRuns → GivenRun → Type 0
+HoldsRun given run = Contains given.cells.items (Some run)
 
 -- rides to the calls behind this one were given to the state, by this run of the line or one before it
 pub record KnowsBy (given : GivenRuns) (state line run call : ℕ) : Type 0 where
   pub place : ℕ
   pub no_later : place ≤ run
-  pub known : Knows given (record { state = state; line = line; run = place; call = call })
+  pub known : HoldsRun given (record { state = state; line = line; run = place; call = call })
 
 -- nothing is known now but what was, and this run
-abbrev pub IsNoted : GivenRuns → GivenRuns → GivenRun → Type 0
-IsNoted old new run = (other : GivenRun) → Knows new other → Knows old other ⊎ (other ≡ run)
+abbrev pub IsRunNoted : GivenRuns → GivenRuns → GivenRun → Type 0
+IsRunNoted old new run = (other : GivenRun) → HoldsRun new other → HoldsRun old other ⊎ (other ≡ run)
 
 -- ---- ways
 
@@ -36,18 +36,18 @@ RunRides = ℕ → ℕ → ℕ → List Way
 -- the state was given a way as good, by a run that is known
 pub record WasGiven (rides : RunRides) (given : GivenRuns) (state : ℕ) (way : Way) : Type 0 where
   pub run : GivenRun
-  pub known : Knows given run
+  pub known : HoldsRun given run
   pub to_state : run.state ≡ state
   pub as_good : HasAsGood (rides run.line run.run run.call) way
 
 -- one of these is as good, or one that the state was given
-abbrev pub IsCovered : RunRides → ℕ → GivenRuns → List Way → Way → Type 0
-IsCovered rides state given fresh way = HasAsGood fresh way ⊎ WasGiven rides given state way
+abbrev pub HasAsGoodOrGiven : RunRides → ℕ → GivenRuns → List Way → Way → Type 0
+HasAsGoodOrGiven rides state given fresh way = HasAsGood fresh way ⊎ WasGiven rides given state way
 
 -- some of these ways, which lack none but for what the state was given; and of these alone runs are noted
 pub record AreFresh (rides : RunRides) (state : ℕ) (old new : GivenRuns) (ways fresh : List Way) : Type 0 where
   pub are : All (Contains ways) fresh
-  pub rest : All (IsCovered rides state old fresh) ways
+  pub rest : All (HasAsGoodOrGiven rides state old fresh) ways
   pub noted : (other : ℕ) (way : Way) → WasGiven rides new other way → WasGiven rides old other way ⊎ ((other ≡ state) × HasAsGood fresh way)
 
 -- a list goes on with them

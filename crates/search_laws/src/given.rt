@@ -1,7 +1,7 @@
 //! Which runs a search was given, so that their rides need not be given again.
 
 ghost use Rattle.std.specs.Prelude.{◌≡◌, ◌⊎◌, Contains, Some, IfSome, IfOk, OnOk};
-ghost use Rattle.search_laws.specs.Fresh.{Knows, KnowsBy, IsNoted};
+ghost use Rattle.search_laws.specs.Fresh.{HoldsRun, KnowsBy, IsRunNoted};
 
 use std::alloc::{AllocError, Global};
 
@@ -34,7 +34,7 @@ pub struct GivenRuns {
 impl GivenRuns {
     /// No runs. Takes no memory.
     pub fn new(alloc: Global) -> GivenRuns
-        ensures { (run : GivenRun) → Knows result run → ⊥ }
+        ensures { (run : GivenRun) → HoldsRun result run → ⊥ }
     {
         GivenRuns {
             cells: Vec::new(alloc),
@@ -81,14 +81,14 @@ impl GivenRuns {
     /// The run in a place, if there is one.
     #[inline(always)]
     fn run_in(&self, place: usize) -> Option<GivenRun>
-        ensures { IfSome result (Knows self.now) }
+        ensures { IfSome result (HoldsRun self.now) }
     {
         *self.cells.get(place)?
     }
 
     /// Notes a run. Fails where memory runs out.
     pub fn note(&mut self, run: GivenRun) -> Result<(), AllocError>
-        ensures { OnOk result (IsNoted self.old self.new run) }
+        ensures { OnOk result (IsRunNoted self.old self.new run) }
     {
         self.make_room()?;
         let is_lost = put(&mut self.cells, run);
@@ -98,7 +98,7 @@ impl GivenRuns {
 
     /// Makes more places, if there are none or an eighth of them was lost to other lines.
     fn make_room(&mut self) -> Result<(), AllocError>
-        ensures { OnOk result ((run : GivenRun) → Knows self.new run → Knows self.old run) }
+        ensures { OnOk result ((run : GivenRun) → HoldsRun self.new run → HoldsRun self.old run) }
     {
         let places = self.cells.len();
         if self.lost >= places / 8 && places < MOST_PLACES {
@@ -127,7 +127,8 @@ fn no_runs(alloc: Global, places: usize) -> Result<Vec<Option<GivenRun>>, AllocE
 
 /// Puts runs in their places.
 fn put_all(cells: &mut Vec<Option<GivenRun>>, runs: &[Option<GivenRun>])
-    ensures { (run : GivenRun) → Contains cells.new.items (Some run) → Contains cells.old.items (Some run) ⊎ Contains runs.now (Some run) }
+    ensures { (run : GivenRun) → Contains cells.new.items (Some run) → Contains cells.old.items (Some run)
+        ⊎ Contains runs.now (Some run) }
 {
     for run in runs {
         if let Some(it) = *run {
@@ -139,7 +140,8 @@ fn put_all(cells: &mut Vec<Option<GivenRun>>, runs: &[Option<GivenRun>])
 /// Puts a run in one of the places of its line, if there are places. Whether another line lost it.
 #[inline(always)]
 fn put(cells: &mut Vec<Option<GivenRun>>, run: GivenRun) -> bool
-    ensures { (other : GivenRun) → Contains cells.new.items (Some other) → Contains cells.old.items (Some other) ⊎ (other ≡ run) }
+    ensures { (other : GivenRun) → Contains cells.new.items (Some other)
+        → Contains cells.old.items (Some other) ⊎ (other ≡ run) }
 {
     let place = place_for(cells, run);
     let is_lost = is_of_another_line(cells, place, run);

@@ -122,7 +122,8 @@ pub trait Graph {
         requires arc { i < (meaning self.now).arcs v }
         ensures later { i < result }
         ensures within { result ≤ (meaning self.now).arcs v }
-        ensures same { (k : ℕ) → i ≤ k → k < result → ((meaning self.now).arc_at v k).letter ≡ ((meaning self.now).arc_at v i).letter }
+        ensures same { (k : ℕ) → i ≤ k → k < result → ((meaning self.now).arc_at v k).letter
+            ≡ ((meaning self.now).arc_at v i).letter }
     {
         self.arcs(v).min(i + 1)
     }
@@ -135,7 +136,8 @@ pub trait Graph {
         requires { v < (meaning self.now).nodes }
         ensures is { result ≡ steady_of self.now v }
         ensures within { result.count ≤ (meaning self.now).arcs v }
-        ensures letter { (i : ℕ) → i < result.count → ((meaning self.now).arc_at v i).letter ≡ result.letter };
+        ensures letter { (i : ℕ) → i < result.count → ((meaning self.now).arc_at v i).letter
+            ≡ result.letter };
 
     /// The arc at place `i` of those that leave the node `v`, if it is one of the steady arcs of `v`, which are given; None
     /// exactly where `i` is past them.
@@ -167,7 +169,8 @@ pub trait Graph {
         requires node { v < (meaning self.now).nodes }
         requires time { t < 2 ^ 127 }
         ensures { OnOk result (AddsMoving (rides self.now) state v t leaving given.old given.new
-            (ways_past (meaning self.now) v t letters (steady_of self.now v).count) ways.old.items ways.new.items) }
+            (ways_past (meaning self.now) v t letters (steady_of self.now v).count) ways.old.items
+            ways.new.items) }
     {
         let _ = (leaving, state, given.cells.len());
         for i in self.steady(v).count..self.arcs(v) {

@@ -1,6 +1,6 @@
 use Rattle.std.proofs.Common.{◌≡◌, subst, ℕ, zero, suc, ◌+◌, ◌*◌, ◌<◌, ◌≤◌, arith}
 use Rattle.service_days.specs.DaysMeaning.{DaysMeaning}
-use Rattle.service_days.specs.Days.{AreDays, AreInOrder, base_of, date_of}
+use Rattle.service_days.specs.Days.{AreDays, AreRisingDays, base_of, date_of}
 use Rattle.service_days.proofs.PlainDays.{bases_rise, dates_rise}
 use Rattle.service_days.proofs.CivilDates.{IsDateOn, on_day, parts_civil}
 
@@ -14,7 +14,7 @@ base-le days are (suc k) h =
 date_is : (days : DaysMeaning) → AreDays days → (day : ℕ) → day < days.count + 7 → IsDateOn days.first day (date_of days day)
 date_is days are day h = rw (are.on day h) (on_day days.first day are.first_is (omega (arith, h, are.few)))
 
-pub are_in_order : (days : DaysMeaning) → AreDays days → AreInOrder days
+pub are_in_order : (days : DaysMeaning) → AreDays days → AreRisingDays days
 are_in_order days are = record {
   bases_rise = bases_rise days are;
   bases_small = λ day h. omega (arith, base-le days are day h, h, are.few);

@@ -8,7 +8,7 @@ use Rattle.jiff_core.proofs.SignedLemmas.{signed_arith}
 use Rattle.std.proofs.lemmas.List.FromFn.{length-map-range_with_len, take-map-range_with_len}
 use Rattle.service_days.specs.Dates.{is_civil}
 use Rattle.service_days.specs.Days.{AreDays, date_on, is_first_date, is_day_count, plain_days}
-use Rattle.service_days.specs.Days.{IsRefusal}
+use Rattle.service_days.specs.Days.{IsDaysRefusal}
 use Rattle.service_days.specs.declared.range.RangeFault.{RangeFault}
 use Rattle.service_days.specs.declared.range.RangeFault.TheVariants.{BadDate, BadCount, BadZone, OutOfMemory}
 use Rattle.service_days.specs.Zones.{AreKept, RefusesLengths, days_in, days_in_read, is_rule_text, read_zone, zone_days, days_made, Zone, have_day_lengths, is_day_length, noon_in, noon_on, zone_base, zone_of, dates_and_next, days_with_bases}
@@ -170,7 +170,7 @@ rule_cases false read o rule first count e = ap (λ z. days_in_read z rule first
 pub zone_days_is : (first count : ℕ) (rule : List ℕ) (o : Option Zone) → is_first_date first ≡ true → is_day_count count ≡ true → o ≡ cond (is_rule_text rule) (read_zone rule) None → zone_days first count rule ≡ days_in_read o rule first count
 zone_days_is first count rule o date few e = rw (date, few) (rule_cases (is_rule_text rule) (read_zone rule) o rule first count e)
 
-pub days_in_refused : (zone : Zone) (rule : List ℕ) (first count : ℕ) (fault : RangeFault) → RefusesLengths (have_day_lengths zone (dates_and_next first count) (count + 7)) fault → IsRefusal (days_in zone rule first count) fault
+pub days_in_refused : (zone : Zone) (rule : List ℕ) (first count : ℕ) (fault : RangeFault) → RefusesLengths (have_day_lengths zone (dates_and_next first count) (count + 7)) fault → IsDaysRefusal (days_in zone rule first count) fault
 days_in_refused zone rule first count BadDate h = absurd h
 days_in_refused zone rule first count BadCount h = absurd h
 days_in_refused zone rule first count BadZone h = rw h refl

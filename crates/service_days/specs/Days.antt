@@ -59,11 +59,11 @@ new_days first count =
     else Err BadDate
 
 -- why days were refused; that memory ran out needs no cause
-abbrev pub IsRefusal : Result DaysMeaning RangeFault → RangeFault → Type 0
-IsRefusal made OutOfMemory = Unit {0}
-IsRefusal made BadDate = made ≡ Err BadDate
-IsRefusal made BadCount = made ≡ Err BadCount
-IsRefusal made BadZone = made ≡ Err BadZone
+abbrev pub IsDaysRefusal : Result DaysMeaning RangeFault → RangeFault → Type 0
+IsDaysRefusal made OutOfMemory = Unit {0}
+IsDaysRefusal made BadDate = made ≡ Err BadDate
+IsDaysRefusal made BadCount = made ≡ Err BadCount
+IsDaysRefusal made BadZone = made ≡ Err BadZone
 
 -- what is true of all days: so much must every day number have
 pub record AreDays (days : DaysMeaning) : Type 0 where
@@ -82,7 +82,7 @@ pub record AreDays (days : DaysMeaning) : Type 0 where
   pub on : (day : ℕ) → day < days.count + 7 → date_of days day ≡ date_on days.first day
 
 -- and what follows for each two days: bases and dates rise, and the dates are the civil dates in a row
-pub record AreInOrder (days : DaysMeaning) : Type 0 where
+pub record AreRisingDays (days : DaysMeaning) : Type 0 where
   pub bases_rise : Rise days.bases
   pub bases_small : (day : ℕ) → day < days.count + 7 → base_of days day < 2 ^ 40
   pub dates_rise : Rise days.dates

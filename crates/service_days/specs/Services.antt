@@ -15,9 +15,9 @@ follows_rule None date = false
 follows_rule (Some rule) date =
     slice_index_or rule.weekdays (weekday_on date) false && (nat_le rule.first date && nat_le date rule.last)
 
-abbrev pub is_among : List ℕ → ℕ → Bool
-is_among dates date = list_any (λ other. other == date) dates
+abbrev pub is_date_among : List ℕ → ℕ → Bool
+is_date_among dates date = list_any (λ other. other == date) dates
 
 -- a service runs on the dates of its rule but the removed ones, and on the added ones
 abbrev pub runs_on : Option ServiceRule → List ℕ → List ℕ → ℕ → Bool
-runs_on rule added removed date = is_among added date || (follows_rule rule date && not (is_among removed date))
+runs_on rule added removed date = is_date_among added date || (follows_rule rule date && not (is_date_among removed date))

@@ -1,7 +1,7 @@
 //! Which first dates and counts of days there may be.
 
 ghost use Rattle.std.specs.Prelude.{◌≡◌, ℕ, List, true, IfErr, OnOk};
-ghost use Rattle.service_days.specs.Days.{IsRefusal, is_first_date, is_day_count, new_days};
+ghost use Rattle.service_days.specs.Days.{IsDaysRefusal, is_first_date, is_day_count, new_days};
 ghost use Rattle.service_days.specs.Zones.{zone_days};
 
 use crate::civil::is_date;
@@ -34,8 +34,9 @@ impl From<AllocError> for RangeFault {
 pub(crate) fn check_range(first: u32, count: u32) -> Result<(), RangeFault>
     ensures date { OnOk result (is_first_date first ≡ true) }
     ensures count { OnOk result (is_day_count count ≡ true) }
-    ensures err { IfErr result (IsRefusal (new_days first count)) }
-    ensures zone { IfErr result (λ fault. (rule : List ℕ) → IsRefusal (zone_days first count rule) fault) }
+    ensures err { IfErr result (IsDaysRefusal (new_days first count)) }
+    ensures zone { IfErr result (λ fault. (rule : List ℕ) → IsDaysRefusal
+        (zone_days first count rule) fault) }
 {
     let year = first / 10_000;
     if !is_date(first) || year < 1900 || year > 2199 {

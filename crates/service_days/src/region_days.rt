@@ -39,14 +39,28 @@ impl Model for Days {
 
     ghost Value = { DaysMeaning };
 
-    ghost view = { λ days. record { first = days.first; count = days.count; bases = days.bases.items; dates = days.dates.items; zone = option_map (λ rule. rule.items) days.zone } };
+    ghost view = { λ days. record {
+      first = days.first;
+      count = days.count;
+      bases = days.bases.items;
+      dates =
+          days.dates.items;
+      zone = option_map (λ rule. rule.items) days.zone;
+    } };
 
-    ghost invariant = { λ days. AreKept (record { first = days.first; count = days.count; bases = days.bases.items; dates = days.dates.items; zone = option_map (λ rule. rule.items) days.zone }) };
+    ghost invariant = { λ days. AreKept (record {
+      first = days.first;
+      count = days.count;
+      bases =
+          days.bases.items;
+      dates = days.dates.items;
+      zone = option_map (λ rule. rule.items) days.zone;
+    }) };
 }
 
 impl Days {
     ghost use Rattle.std.specs.Prelude.{◌≡◌, ◌+◌, ◌*◌, ◌++◌, ◌<◌, ◌≤◌, ◌&&◌, ◌^◌, ℕ, nat_lt, Some, Ok, IfSome, IfOk, IfErr, OnOk, string_bytes};
-    ghost use Rattle.service_days.specs.Days.{AreDays, AreInOrder, IsRefusal, base_of, date_of, day_at, day_with_date, new_days, numbers_of};
+    ghost use Rattle.service_days.specs.Days.{AreDays, AreRisingDays, IsDaysRefusal, base_of, date_of, day_at, day_with_date, new_days, numbers_of};
     ghost use Rattle.std.specs.Option.{option_map};
     ghost use Rattle.service_days.specs.Clock.{clock_text_of};
     ghost use Rattle.service_days.specs.Noons.{CountFromNoons};
@@ -59,7 +73,7 @@ impl Days {
     /// The days from a civil date YYYYMMDD of the years 1900 to 2199 on, so many of them. Each has 24 hours.
     pub fn new(alloc: Global, first: u32, count: u32) -> Result<Days, RangeFault>
         ensures ok { IfOk result (λ days. new_days first count ≡ Ok days) }
-        ensures err { IfErr result (IsRefusal (new_days first count)) }
+        ensures err { IfErr result (IsDaysRefusal (new_days first count)) }
     {
         check_range(first, count)?;
         let numbers = count + 7;
@@ -80,7 +94,7 @@ impl Days {
     pub fn in_zone(alloc: Global, first: u32, count: u32, rule: &[u8]) -> Result<Days, RangeFault>
         ensures ok { IfOk result (λ days. zone_days first count rule.now ≡ Ok days) }
         ensures noons { IfOk result (CountFromNoons rule.now) }
-        ensures err { IfErr result (IsRefusal (zone_days first count rule.now)) }
+        ensures err { IfErr result (IsDaysRefusal (zone_days first count rule.now)) }
     {
         check_range(first, count)?;
         let zone = match parse_rule(rule) {
@@ -117,7 +131,7 @@ impl Days {
     /// `jiff` states for it.
     pub fn facts(&self)
         ensures days { AreDays self.now }
-        ensures order { AreInOrder self.now }
+        ensures order { AreRisingDays self.now }
         ensures made { days_made self.now.first self.now.count self.now.zone ≡ Ok self.now }
         ensures noons { IfSome self.now.zone (λ rule. CountFromNoons rule self.now) }
     {
@@ -179,7 +193,8 @@ impl Days {
     /// The days on which a service runs: those of its weekly rule, less the removed dates, and the added
     /// dates. The lead days are among them.
     pub fn days_of(&self, rule: Option<ServiceRule>, added: &[u32], removed: &[u32]) -> DaySet
-        ensures { (day : ℕ) → contains_day result day ≡ (nat_lt day (numbers_of self.now) && runs_on rule added.now removed.now (date_of self.now day)) }
+        ensures { (day : ℕ) → contains_day result day ≡ (nat_lt day (numbers_of self.now) && runs_on rule
+            added.now removed.now (date_of self.now day)) }
     {
         self.facts();
         let mut days = DaySet::new();

@@ -49,9 +49,12 @@ pub(crate) fn zone_bases(
 ) -> Result<Vec<u64>, RangeFault>
     requires civil { (day : ℕ) → day < length dates.now → is_civil (slice_index dates.now day) ≡ true }
     requires some { 1 ≤ length dates.now }
-    ensures lengths { OnOk result (have_day_lengths (zone_of zone.now) dates.now (length dates.now - 1) ≡ true) }
-    ensures bases { IfOk result (λ bases. bases.items ≡ map (zone_base (zone_of zone.now) dates.now) (range_with_len 0 (length dates.now - 1))) }
-    ensures err { IfErr result (RefusesLengths (have_day_lengths (zone_of zone.now) dates.now (length dates.now - 1))) }
+    ensures lengths { OnOk result (have_day_lengths (zone_of zone.now) dates.now
+        (length dates.now - 1) ≡ true) }
+    ensures bases { IfOk result (λ bases. bases.items ≡ map (zone_base (zone_of zone.now) dates.now)
+        (range_with_len 0 (length dates.now - 1))) }
+    ensures err { IfErr result (RefusesLengths (have_day_lengths (zone_of zone.now) dates.now
+        (length dates.now - 1))) }
 {
     let start = noon(zone, dates[0]);
     let mut here = start;

@@ -21,7 +21,7 @@ use Rattle.timetable_arcs.specs.Sorting.{runs_from, sum_all, IsPattern}
 use Rattle.timetable_arcs.specs.declared.rides.Board.{Board}
 use Rattle.timetable_arcs.specs.declared.rides.Ride.{Ride}
 use Rattle.timetable_arcs.specs.Rides.{rides_along, rides_from, rides_at, boards_along, boards_from}
-use Rattle.timetable_arcs.specs.RideTables.{BoardLists, sorted_table, AreBoards, ArePlaces}
+use Rattle.timetable_arcs.specs.RideTables.{BoardLists, sorted_table, AreBoards, AreAlightPlaces}
 use Rattle.timetable_arcs.specs.Table.{IsTable, AreBases}
 use Rattle.timetable_arcs.proofs.TripLemmas.{trips_kept, trip_well}
 use Rattle.timetable_arcs.proofs.CountLemmas.{some_part, two_parts, sum_no_more, one_at, counted_in, in_from_count, count_is, at_most_one, trip_from_count, count_from_trip, trip_count, calls_of_run, all_calls}
@@ -178,5 +178,5 @@ module _ (bases : List ℕ) (stops : ℕ) (trips : List TripLists) (patterns : L
     rides = λ stop lt. h.rides stop lt ∙ ap length (same_rides stop);
   }
 
-  pub places_in : (places : List (List ℕ)) → ArePlaces (sorted_table 0 trips patterns) places → ArePlaces made places
+  pub places_in : (places : List (List ℕ)) → AreAlightPlaces (sorted_table 0 trips patterns) places → AreAlightPlaces made places
   places_in places h = record { one_each = h.one_each; are = h.are }

@@ -9,7 +9,7 @@ use Rattle.std.proofs.lemmas.List.Quantifiers.{all_pairs_push}
 use Rattle.std.proofs.lemmas.List.Sums.{sum_by-set, sum_by_push}
 use Rattle.timetable_arcs.specs.declared.trips.Instance.{Instance}
 use Rattle.timetable_arcs.specs.Patterns.{TableLists, trip_at, no_run, AreAlike, IsBehind}
-use Rattle.timetable_arcs.specs.Sorting.{IsPattern, Follows, sum_all}
+use Rattle.timetable_arcs.specs.Sorting.{IsPattern, MayJoinPattern, sum_all}
 
 pub alike_itself : (t : TableLists) (place : ℕ) → AreAlike (trip_at t place) (trip_at t place)
 alike_itself t place = record { letter = refl; calls = refl; each = λ k d lt. record { stop = refl; board = refl; alight = refl } }
@@ -28,7 +28,7 @@ behind_both t a b d same first second = record {
   arrives_no_earlier = λ call lt. le_trans (first.arrives_no_earlier call lt) (second.arrives_no_earlier call (omega arith));
 }
 
-pub pushed_pattern : (t : TableLists) (runs : List Instance) (run : Instance) → IsPattern t runs → Follows t runs run → IsPattern t (runs ++ run ∷ [])
+pub pushed_pattern : (t : TableLists) (runs : List Instance) (run : Instance) → IsPattern t runs → MayJoinPattern t runs run → IsPattern t (runs ++ run ∷ [])
 pushed_pattern t runs run are follows = record {
   some = omega (arith, length_push runs run);
   alike = rw (get_or_append_left runs (run ∷ []) no_run 0 are.some)
@@ -64,7 +64,7 @@ sum_pushed weight patterns place run within =
 
 -- the pattern at a place takes a run behind its own
 pub put_behind : (t : TableLists) (patterns : List (List Instance)) (place : ℕ) (runs new : List Instance) (run : Instance) → All (IsPattern t) patterns → place < length patterns
-    → runs ≡ get_or patterns place runs → Follows t (get_or patterns place []) run → new ≡ runs ++ run ∷ [] → All (IsPattern t) (set patterns place new)
+    → runs ≡ get_or patterns place runs → MayJoinPattern t (get_or patterns place []) run → new ≡ runs ++ run ∷ [] → All (IsPattern t) (set patterns place new)
 put_behind t patterns place runs new run are within is follows pushed =
     let here : runs ≡ get_or patterns place [] = is ∙ get_or_default patterns place runs [] within in
     All-set (IsPattern t) patterns place new (rw (pushed, here) (pushed_pattern t (get_or patterns place []) run (are place [] within) follows)) are

@@ -9,7 +9,7 @@ use Rattle.timetable_arcs.specs.Trips.{TripLists}
 use Rattle.timetable_arcs.specs.Patterns.{TableLists, plain_table, runs_of, pattern_trip, next_run, last_run, last_arrived, arrives, departs}
 use Rattle.timetable_arcs.specs.declared.rides.Board.{Board}
 use Rattle.timetable_arcs.specs.Rides.{alights, rides_at, boards_at}
-use Rattle.timetable_arcs.specs.RideTables.{BoardLists, nothing_held, end_of, AreBoards, ArePlaces}
+use Rattle.timetable_arcs.specs.RideTables.{BoardLists, nothing_held, rides_end, AreBoards, AreAlightPlaces}
 use Rattle.timetable_arcs.specs.Table.{IsTable}
 use Rattle.timetable_arcs.proofs.RideLemmas.{IsRideFound, ride_found, ride_to, no_board, boards_rise}
 use Rattle.timetable_arcs.proofs.TableLemmas.{departs_rise, arrives_rise, ride_fits}
@@ -36,14 +36,14 @@ module _ (t : TableLists) (p call time : ℕ) (bases : List ℕ) (trips : List T
 pub record IsReadable (t : TableLists) (places : List (List ℕ)) (stop i place rides : ℕ) (boards : List Board) : Type 0 where
   pub some : 1 ≤ place
   pub within : place - 1 < length boards
-  pub not_past : i ≤ end_of boards rides place
+  pub not_past : i ≤ rides_end boards rides place
   pub pattern : (get_or boards (place - 1) no_board).pattern < length places
-  pub left : end_of boards rides place - i ≤ length (get_or places (get_or boards (place - 1) no_board).pattern [])
-  pub short : length (get_or places (get_or boards (place - 1) no_board).pattern []) - (end_of boards rides place - i) < length (get_or places (get_or boards (place - 1) no_board).pattern [])
+  pub left : rides_end boards rides place - i ≤ length (get_or places (get_or boards (place - 1) no_board).pattern [])
+  pub short : length (get_or places (get_or boards (place - 1) no_board).pattern []) - (rides_end boards rides place - i) < length (get_or places (get_or boards (place - 1) no_board).pattern [])
   pub is : slice_get (rides_at t stop) i ≡ Some (ride_to (get_or boards (place - 1) no_board).pattern (get_or boards (place - 1) no_board).call
-      (get_or (get_or places (get_or boards (place - 1) no_board).pattern []) (length (get_or places (get_or boards (place - 1) no_board).pattern []) - (end_of boards rides place - i)) 0))
+      (get_or (get_or places (get_or boards (place - 1) no_board).pattern []) (length (get_or places (get_or boards (place - 1) no_board).pattern []) - (rides_end boards rides place - i)) 0))
 
-module _ (t : TableLists) (table : IsTable t) (places : List (List ℕ)) (are : ArePlaces t places) (stop i place : ℕ) (inside : i < length (rides_at t stop)) where
+module _ (t : TableLists) (table : IsTable t) (places : List (List ℕ)) (are : AreAlightPlaces t places) (stop i place : ℕ) (inside : i < length (rides_at t stop)) where
   found_readable : IsRideFound t stop i place → IsReadable t places stop i place (length (rides_at t stop)) (boards_at t stop)
   found_readable found =
       let board : Board = get_or (boards_at t stop) (place - 1) no_board in

@@ -16,7 +16,7 @@ use Rattle.timetable_arcs.specs.declared.rides.Board.{Board}
 use Rattle.timetable_arcs.specs.declared.rides.Ride.{Ride}
 use Rattle.timetable_arcs.specs.Patterns.{TableLists, trip_at, runs_of, pattern_trip, no_run, no_call}
 use Rattle.timetable_arcs.specs.Rides.{alights, rides_along, rides_from, rides_at, boards_along, boards_from, boards_at, IsRideAt}
-use Rattle.timetable_arcs.specs.RideTables.{end_at, end_of}
+use Rattle.timetable_arcs.specs.RideTables.{end_at, rides_end}
 use Rattle.timetable_arcs.proofs.BoardLemmas.{length-alights}
 use Rattle.timetable_arcs.proofs.TripLemmas.{both_true}
 
@@ -184,11 +184,11 @@ module _ (t : TableLists) where
   pub record IsRideFound (stop i place : ℕ) : Type 0 where
     pub some : 1 ≤ place
     pub within : place - 1 < length (boards_at t stop)
-    pub not_past : i < end_of (boards_at t stop) (length (rides_at t stop)) place
-    pub left : end_of (boards_at t stop) (length (rides_at t stop)) place - i ≤ length (alights 0 (pattern_trip t (get_or (boards_at t stop) (place - 1) no_board).pattern).calls)
+    pub not_past : i < rides_end (boards_at t stop) (length (rides_at t stop)) place
+    pub left : rides_end (boards_at t stop) (length (rides_at t stop)) place - i ≤ length (alights 0 (pattern_trip t (get_or (boards_at t stop) (place - 1) no_board).pattern).calls)
     pub is : slice_get (rides_at t stop) i ≡ Some (ride_to (get_or (boards_at t stop) (place - 1) no_board).pattern (get_or (boards_at t stop) (place - 1) no_board).call
         (get_or (alights 0 (pattern_trip t (get_or (boards_at t stop) (place - 1) no_board).pattern).calls)
-        (length (alights 0 (pattern_trip t (get_or (boards_at t stop) (place - 1) no_board).pattern).calls) - (end_of (boards_at t stop) (length (rides_at t stop)) place - i)) 0))
+        (length (alights 0 (pattern_trip t (get_or (boards_at t stop) (place - 1) no_board).pattern).calls) - (rides_end (boards_at t stop) (length (rides_at t stop)) place - i)) 0))
 
   module _ (stop i place : ℕ) (inside : i < length (rides_at t stop)) (bounded : place ≤ length (boards_at t stop))
       (point : IsPartitionPoint (λ (b : Board). nat_le b.before i ≡ true) (λ (b : Board). nat_le b.before i ≡ false) (boards_at t stop) place) where
@@ -219,7 +219,7 @@ module _ (t : TableLists) where
     board = get_or (boards_at t stop) (place - 1) no_board
 
     abbrev end : ℕ
-    end = end_of (boards_at t stop) (length (rides_at t stop)) place
+    end = rides_end (boards_at t stop) (length (rides_at t stop)) place
 
     board_within : place - 1 < length (boards_at t stop)
     board_within = omega (arith, some_place, bounded)

@@ -48,6 +48,6 @@ pub record IsFirstFrom {X : Type 0} (n : X → ℕ) (t : ℕ) (xs : List X) (pla
   pub at : (d : X) → place < length xs → t ≤ n (slice_index_or xs place d)
 
 -- a run may stand behind those of a pattern: its trip is alike, and it is behind the last one
-pub record Follows (t : TableLists) (runs : List Instance) (run : Instance) : Type 0 where
+pub record MayJoinPattern (t : TableLists) (runs : List Instance) (run : Instance) : Type 0 where
   pub alike : AreAlike (trip_at t (slice_index_or runs 0 no_run).trip) (trip_at t run.trip)
   pub behind : IsBehind t (slice_index_or runs (length runs - 1) no_run) run

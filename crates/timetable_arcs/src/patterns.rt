@@ -5,7 +5,7 @@ ghost use Rattle.std.specs.Bool.{OnTrue};
 ghost use Rattle.timetable_arcs.specs.declared.trips.Instance.{Instance};
 ghost use Rattle.plan_base.specs.DaySets.{contains_day};
 ghost use Rattle.timetable_arcs.specs.Patterns.{plain_table, trip_at};
-ghost use Rattle.timetable_arcs.specs.Sorting.{AreHeads, IsPattern, Follows, sum_all, runs_from, weight_on};
+ghost use Rattle.timetable_arcs.specs.Sorting.{AreHeads, IsPattern, MayJoinPattern, sum_all, runs_from, weight_on};
 
 use crate::runs::{departs, is_behind, narrowed};
 use crate::sorting::{have_same_head, heads_of, trips_in_order};
@@ -67,7 +67,7 @@ impl Pattern {
 #[tactic(auto, using(crate::proofs::HeadLemmas::heads_alike))]
 fn follows(bases: &[u64], trips: &[Trip], heads: &[u32], runs: &[Instance], run: Instance) -> bool
     requires { AreHeads trips.now heads.now }
-    ensures { OnTrue result (Follows (plain_table bases.now trips.now) runs.now run) }
+    ensures { OnTrue result (MayJoinPattern (plain_table bases.now trips.now) runs.now run) }
 {
     match (runs.first(), runs.last()) {
         (Some(first), Some(last)) => {
@@ -88,7 +88,8 @@ fn find_pattern(
 ) -> Option<usize>
     requires { AreHeads trips.now heads.now }
     ensures within { IfSome result (λ place. place < length patterns.now) }
-    ensures follows { IfSome result (λ place. Follows (plain_table bases.now trips.now) (slice_index_or patterns.now place []) run) }
+    ensures follows { IfSome result (λ place. MayJoinPattern (plain_table bases.now trips.now)
+        (slice_index_or patterns.now place []) run) }
 {
     if first < patterns.len() && follows(bases, trips, heads, patterns[first].runs(), run) {
         return Some(first);
@@ -115,7 +116,8 @@ fn put(
     requires heads { AreHeads trips.now heads.now }
     requires are { All (IsPattern (plain_table bases.now trips.now)) patterns.old.items }
     ensures are { OnOk result (All (IsPattern (plain_table bases.now trips.now)) patterns.new.items) }
-    ensures one_more { OnOk result ((weight : Instance → ℕ) → sum_all weight patterns.new.items ≡ sum_all weight patterns.old.items + weight run) }
+    ensures one_more { OnOk result ((weight : Instance → ℕ)
+        → sum_all weight patterns.new.items ≡ sum_all weight patterns.old.items + weight run) }
 {
     let start = narrowed(departs(bases, trips, run, 0));
     match find_pattern(bases, trips, heads, patterns, first, run) {
@@ -156,7 +158,8 @@ fn put_on(
     requires heads { AreHeads trips.now heads.now }
     requires are { All (IsPattern (plain_table bases.now trips.now)) patterns.old.items }
     ensures are { OnOk result (All (IsPattern (plain_table bases.now trips.now)) patterns.new.items) }
-    ensures one { OnOk result ((weight : Instance → ℕ) → sum_all weight patterns.new.items ≡ sum_all weight patterns.old.items + weight_on weight trips.now day trip) }
+    ensures one { OnOk result ((weight : Instance → ℕ) → sum_all weight patterns.new.items ≡ sum_all weight
+        patterns.old.items + weight_on weight trips.now day trip) }
 {
     if runs_on(trips, trip, day) {
         let run = Instance { trip, day };
@@ -183,7 +186,8 @@ fn put_day(
     requires heads { AreHeads trips.now heads.now }
     requires are { All (IsPattern (plain_table bases.now trips.now)) patterns.old.items }
     ensures are { OnOk result (All (IsPattern (plain_table bases.now trips.now)) patterns.new.items) }
-    ensures day { OnOk result ((weight : Instance → ℕ) → sum_all weight patterns.new.items ≡ sum_all weight patterns.old.items + sum_by (weight_on weight trips.now day) order.now) }
+    ensures day { OnOk result ((weight : Instance → ℕ) → sum_all weight patterns.new.items ≡ sum_all weight
+        patterns.old.items + sum_by (weight_on weight trips.now day) order.now) }
 {
     for trip in order {
         put_on(alloc, bases, trips, heads, *trip, day, patterns, latest)?;
@@ -200,7 +204,8 @@ pub(crate) fn sort_into_patterns(
 ) -> Result<Vec<Pattern>, AllocError>
     requires { length trips.now < 2 ^ 32 }
     ensures are { IfOk result (λ patterns. All (IsPattern (plain_table bases.now trips.now)) patterns.items) }
-    ensures each_once { IfOk result (λ patterns. (weight : Instance → ℕ) → sum_all weight patterns.items ≡ sum_by weight (runs_from days 0 trips.now)) }
+    ensures each_once { IfOk result (λ patterns. (weight : Instance → ℕ)
+        → sum_all weight patterns.items ≡ sum_by weight (runs_from days 0 trips.now)) }
 {
     let order = trips_in_order(alloc, trips)?;
     let heads = heads_of(alloc, trips, &order)?;

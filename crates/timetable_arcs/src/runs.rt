@@ -103,7 +103,8 @@ fn are_alike(a: &Trip, b: &Trip) -> bool
 
 /// Whether the trips at two places have the same letter and alike calls.
 pub(crate) fn have_alike_calls(trips: &[Trip], a: u32, b: u32) -> bool
-    ensures { OnTrue result (AreAlike (trip_at (plain_table [] trips.now) a) (trip_at (plain_table [] trips.now) b)) }
+    ensures { OnTrue result (AreAlike (trip_at (plain_table [] trips.now) a)
+        (trip_at (plain_table [] trips.now) b)) }
 {
     match (trips.get(a as usize), trips.get(b as usize)) {
         (Some(a), Some(b)) => are_alike(a, b),
@@ -153,7 +154,8 @@ fn is_first_from(
     time: Time,
     place: usize,
 ) -> bool
-    ensures { OnTrue result (IsFirstFrom (λ run. departs (plain_table bases.now trips.now) run call) time runs.now place) }
+    ensures { OnTrue result (IsFirstFrom (λ run. departs (plain_table bases.now trips.now) run call) time
+        runs.now place) }
 {
     if place > runs.len() {
         return false;
@@ -178,7 +180,8 @@ pub(crate) fn first_from(
     hint: usize,
 ) -> usize
     requires { IsNonDecreasingBy (λ run. departs (plain_table bases.now trips.now) run call) runs.now }
-    ensures { slice_get runs.now result ≡ find (λ run. nat_le time (departs (plain_table bases.now trips.now) run call)) runs.now }
+    ensures { slice_get runs.now result ≡ find (λ run. nat_le time
+        (departs (plain_table bases.now trips.now) run call)) runs.now }
 {
     if is_first_from(bases, trips, runs, call, time, hint) {
         return hint;
@@ -195,7 +198,8 @@ fn first_by_halves(
     time: Time,
 ) -> usize
     requires { IsNonDecreasingBy (λ run. departs (plain_table bases.now trips.now) run call) runs.now }
-    ensures { slice_get runs.now result ≡ find (λ run. nat_le time (departs (plain_table bases.now trips.now) run call)) runs.now }
+    ensures { slice_get runs.now result ≡ find (λ run. nat_le time
+        (departs (plain_table bases.now trips.now) run call)) runs.now }
 {
     runs.partition_point(|run| departs(bases, trips, *run, call) < time)
 }

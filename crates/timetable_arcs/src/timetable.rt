@@ -247,7 +247,9 @@ fn pattern_letter(trips: &[Trip], runs: &[Instance]) -> u8
 fn sorted_patterns(alloc: Global, bases: &[u64], trips: &[Trip]) -> Result<Vec<Pattern>, AllocError>
     requires { length trips.now < 2 ^ 32 }
     ensures are { IfOk result (λ patterns. All (IsPattern (plain_table bases.now trips.now)) patterns.items) }
-    ensures each_once { IfOk result (λ patterns. (weight : Instance → ℕ) → sum_all weight patterns.items ≡ sum_by weight (runs_from (min (length bases.now) 128) 0 trips.now)) }
+    ensures each_once { IfOk result (λ patterns. (weight : Instance → ℕ)
+        → sum_all weight patterns.items ≡ sum_by weight (runs_from (min (length bases.now) 128) 0
+        trips.now)) }
 {
     let days = bases.len().min(128) as u32;
     sort_into_patterns(alloc, bases, trips, days)

@@ -36,12 +36,12 @@ use Rattle.plain_graph.proofs.Same.{step_at}
 use Rattle.phase_graph.specs.declared.phases.PhaseArc.{PhaseArc}
 use Rattle.phase_graph.specs.declared.phases.PhaseArc.TheVariants.{Other}
 use Rattle.phase_graph.specs.Arcs.{phase_node}
-use Rattle.phase_graph.specs.PhaseArcs.{phase_arc, arc_of, arrival_of as arrives_along, entry_at, node_of, is_down}
+use Rattle.phase_graph.specs.PhaseArcs.{phase_arc, arc_of, phase_arrival as arrives_along, entry_at, node_of, is_down}
 use Rattle.phase_graph.proofs.GraphLemmas.{half}
 use Rattle.phase_graph.proofs.WordLemmas.{same_letter, again}
 use Rattle.journey.specs.Boarded.{AreOnTime}
-use Rattle.unpack.specs.Unpacking.{AreHopsIn, IsSoon, with_wait, end_of, arrival_of, letters_of}
-use Rattle.unpack.specs.PhaseUnpacking.{letters_in, IsUnpacked, GoesOn, GoesOnByArc, road_step, GoesOnByRoads, AreWaiting, weight_of, ArePartsOf}
+use Rattle.unpack.specs.Unpacking.{AreHopsIn, IsSoon, with_wait, node_after, arrival_after, letters_of}
+use Rattle.unpack.specs.PhaseUnpacking.{letters_in, IsUnpacked, GoesOn, GoesOnByArc, road_step, GoesOnByRoads, AreStillPacked, weight_of, ArePartsOf}
 use Rattle.unpack.proofs.UnpackLemmas.{leaves, behind, arc_soon, are_real, plain_letters}
 
 -- ---- what an entry is made of, where it is known that the hierarchy is sound
@@ -137,11 +137,11 @@ module _ (n : NetworkLists) (network : IsNetwork n) (h : HierarchyLists) (rules 
 -- ---- the entries that wait
 
 module _ (entries : List Entry) where
-  top : (stack : List Entry) (e : Entry) (u v : ℕ) → AreWaiting entries u (stack ++ e ∷ []) v → Contains entries e × (u ≡ e.from) × AreWaiting entries e.to stack v
+  top : (stack : List Entry) (e : Entry) (u v : ℕ) → AreStillPacked entries u (stack ++ e ∷ []) v → Contains entries e × (u ≡ e.from) × AreStillPacked entries e.to stack v
   top [] e u v (listed, to, from) = (listed, from, to)
   top (x ∷ stack) e u v (listed, to, more) = let t = top stack e u x.from more in (t.0, t.1, (listed, to, t.2))
 
-  put : (stack : List Entry) (e : Entry) (v : ℕ) → Contains entries e → AreWaiting entries e.to stack v → AreWaiting entries e.from (stack ++ e ∷ []) v
+  put : (stack : List Entry) (e : Entry) (v : ℕ) → Contains entries e → AreStillPacked entries e.to stack v → AreStillPacked entries e.from (stack ++ e ∷ []) v
   put [] e v listed to = (listed, to, refl)
   put (x ∷ stack) e v listed (there, to, more) = (there, to, put stack e x.from listed more)
 
@@ -163,7 +163,7 @@ pub record IsUnpacking (n : NetworkLists) (h : HierarchyLists) (e : Entry) (old 
   pub at : ℕ
   pub roads : List RoadHop
   pub lead : AreHops (Leads n.arcs) e.from roads at
-  pub waiting : AreWaiting h.entries at stack e.to
+  pub waiting : AreStillPacked h.entries at stack e.to
   pub weigh : total roads + weight_of stack ≡ e.weight
   pub list : steps ≡ old ++ map road_step roads
 
@@ -187,7 +187,7 @@ unpacking_ends n h e old steps u = record {
 
 module _ (n : NetworkLists) (network : IsNetwork n) (h : HierarchyLists) (rules : IsHierarchy h) (sound : ∥ IsSound n h ∥₁) (e : Entry) (old steps : List Step) (stack : List Entry) (x : Entry)
     (far : IsUnpacking n h e old steps (stack ++ x ∷ [])) where
-  next : Contains h.entries x × (far.at ≡ x.from) × AreWaiting h.entries x.to stack e.to
+  next : Contains h.entries x × (far.at ≡ x.from) × AreStillPacked h.entries x.to stack e.to
   next = top h.entries stack x far.at e.to far.waiting
 
   pub next_listed : Contains h.entries x
@@ -212,15 +212,15 @@ module _ (n : NetworkLists) (network : IsNetwork n) (h : HierarchyLists) (rules 
   -- two parts wait in place of a shortcut
   pub unpacking_parts : (m : ℕ) (stack2 : List Entry) → ArePartsOf h.entries x m stack stack2 → IsUnpacking n h e old steps stack2
   unpacking_parts m stack2 p =
-      let behind = put h.entries stack p.second e.to p.second_listed (subst (λ u. AreWaiting h.entries u stack e.to) (sym p.second_to) next.2) in
-      let before = put h.entries (stack ++ p.second ∷ []) p.first e.to p.first_listed (subst (λ u. AreWaiting h.entries u (stack ++ p.second ∷ []) e.to) (p.second_from ∙ sym p.first_to) behind) in
+      let behind = put h.entries stack p.second e.to p.second_listed (subst (λ u. AreStillPacked h.entries u stack e.to) (sym p.second_to) next.2) in
+      let before = put h.entries (stack ++ p.second ∷ []) p.first e.to p.first_listed (subst (λ u. AreStillPacked h.entries u (stack ++ p.second ∷ []) e.to) (p.second_from ∙ sym p.first_to) behind) in
       let sum = far.weigh in
       let both = p.weigh in
       record {
         at = far.at;
         roads = far.roads;
         lead = far.lead;
-        waiting = subst (λ u. AreWaiting h.entries u stack2 e.to) (p.first_from ∙ sym next.1) (subst (λ s. AreWaiting h.entries p.first.from s e.to) (sym p.list) before);
+        waiting = subst (λ u. AreStillPacked h.entries u stack2 e.to) (p.first_from ∙ sym next.1) (subst (λ s. AreStillPacked h.entries p.first.from s e.to) (sym p.list) before);
         weigh = subst (λ s. total far.roads + weight_of s ≡ e.weight) (sym p.list)
             (omega (arith, sum, both, weight_push (stack ++ p.second ∷ []) p.first, weight_push stack p.second, weight_push stack x));
         list = far.list;
@@ -395,8 +395,8 @@ pub record IsUnderWay (n : NetworkLists) (g : GraphMeaning) (start at : ℕ) (ho
   pub far : GoesOn n (node_of start) at (node_of p) time done [] steps
   pub rest : AreHopsIn g p time (drop k hops)
   pub told : letters_in g start hops ≡ done ++ letters_in g p (drop k hops)
-  pub ends : end_of p (drop k hops) ≡ end_of start hops
-  pub arrives : arrival_of time (drop k hops) ≡ arrival_of at hops
+  pub ends : node_after p (drop k hops) ≡ node_after start hops
+  pub arrives : arrival_after time (drop k hops) ≡ arrival_after at hops
 
 pub under_way : (n : NetworkLists) (g : GraphMeaning) (start at : ℕ) (hops : List Hop) → AreHopsIn g start at hops → IsUnderWay n g start at hops 0 start at []
 under_way n g start at hops are = record {
@@ -425,17 +425,17 @@ module _ (n : NetworkLists) (g : GraphMeaning) (start at : ℕ) (hops : List Hop
             (subst (λ x. GoesOn n (node_of p) time (node_of x) hop.at letter steps steps2) (sym rest.2) on);
         rest = rest.3;
         told = way.told ∙ ap (λ hs. way.done ++ letters_in g p hs) is ∙ sym (append_assoc way.done letter (letters_in g hop.to (drop (k + 1) hops)));
-        ends = ap (end_of p) (sym is) ∙ way.ends;
-        arrives = ap (arrival_of time) (sym is) ∙ way.arrives;
+        ends = ap (node_after p) (sym is) ∙ way.ends;
+        arrives = ap (arrival_after time) (sym is) ∙ way.arrives;
       }
 
   -- all hops are taken
-  pub arrived : drop k hops ≡ [] → GoesOn n (node_of start) at (node_of (end_of start hops)) (arrival_of at hops) (letters_in g start hops) [] steps
+  pub arrived : drop k hops ≡ [] → GoesOn n (node_of start) at (node_of (node_after start hops)) (arrival_after at hops) (letters_in g start hops) [] steps
   arrived none =
-      let end : p ≡ end_of start hops = sym (ap (end_of p) none) ∙ way.ends in
-      let ended : time ≡ arrival_of at hops = sym (ap (arrival_of time) none) ∙ way.arrives in
+      let end : p ≡ node_after start hops = sym (ap (node_after p) none) ∙ way.ends in
+      let ended : time ≡ arrival_after at hops = sym (ap (arrival_after time) none) ∙ way.arrives in
       let word : way.done ≡ letters_in g start hops = sym (append-nil way.done) ∙ ap (λ hs. way.done ++ letters_in g p hs) (sym none) ∙ sym way.told in
-      subst (λ x. GoesOn n (node_of start) at (node_of x) (arrival_of at hops) (letters_in g start hops) [] steps) end
+      subst (λ x. GoesOn n (node_of start) at (node_of x) (arrival_after at hops) (letters_in g start hops) [] steps) end
       (subst (λ x. GoesOn n (node_of start) at (node_of p) x (letters_in g start hops) [] steps) ended (subst (λ ls. GoesOn n (node_of start) at (node_of p) time ls [] steps) word way.far))
 
 -- the steps of all hops are a journey

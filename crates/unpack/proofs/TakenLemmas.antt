@@ -23,7 +23,7 @@ use Rattle.journey.specs.Boarded.{BoardsOnTime}
 use Rattle.journey.specs.Ends.{HasTime}
 use Rattle.journey.specs.CopyLists.{AreTheCopies}
 use Rattle.journey.proofs.CopyLemmas.{copy_in_range}
-use Rattle.unpack.specs.Unpacking.{IsSoon, end_of, letters_of}
+use Rattle.unpack.specs.Unpacking.{IsSoon, letters_of, node_after}
 use Rattle.unpack.specs.Taken.{IsPlainWalk, TakesHops}
 use Rattle.unpack.proofs.UnpackLemmas.{hops_end, hops_letters, plain_hops}
 
@@ -82,7 +82,7 @@ module _ (n : NetworkLists) (table : TableLists) (q : Asked) (l : LabelsMeaning)
           real = record {
             letters = letters;
             steps = subst (λ x. AreSteps n j.start j.at j.steps x a letters) ends.0
-                (subst (λ y. AreSteps n j.start j.at j.steps (end_of w.node w.hops.items) y letters) ends.1 takes.real);
+                (subst (λ y. AreSteps n j.start j.at j.steps (node_after w.node w.hops.items) y letters) ends.1 takes.real);
             word_is = refl;
           };
           ends_at_copy = (to.are is.end).0 is.ends_there;

@@ -6,7 +6,7 @@ use Rattle.std.proofs.lemmas.Option.{get_or_from_slice_get}
 use Rattle.search_laws.specs.GraphLaws.{GraphMeaning}
 use Rattle.search_laws.specs.LabelLaws.{LabelsMeaning}
 use Rattle.search_laws.specs.Walks.{word_from}
-use Rattle.product_search.specs.Answer.{AreHops}
+use Rattle.product_search.specs.Answer.{AreWalkHops}
 use Rattle.product_search.proofs.HopLemmas.{arcs_of}
 use Rattle.std.proofs.lemmas.List.Elements.{All-cons, All-append}
 use Rattle.timetable_arcs.specs.declared.trips.Instance.{Instance}
@@ -30,7 +30,7 @@ use Rattle.plain_graph.specs.OutArcs.{IsOut, out_of}
 use Rattle.plain_graph.specs.Rides.{alights_within, takes}
 use Rattle.plain_graph.proofs.Same.{step_at}
 use Rattle.unpack.specs.PhaseUnpacking.{letters_in}
-use Rattle.unpack.specs.Unpacking.{AreHopsIn, ArePlainHops, HaveArcs, IsSoon, leaves_at, with_wait, steps_of, end_of, arrival_of, letters_of}
+use Rattle.unpack.specs.Unpacking.{AreHopsIn, ArePlainHops, HaveArcs, IsSoon, leaves_at, with_wait, steps_of, node_after, arrival_after, letters_of}
 
 module _ (n : NetworkLists) (network : IsNetwork n) (table : TableLists) (keeps : IsTable table) (of : IsTimetableOf n table) where
   -- a step leaves at t or later, and can be taken then; where it is a ride, it departs then
@@ -69,13 +69,13 @@ module _ (n : NetworkLists) (network : IsNetwork n) (table : TableLists) (keeps 
           (w, u, letter, rest, subst (λ at. IsStep n v at step w u letter) now at.is, subst (λ at. DepartsAt n at step) now at.departs, more, refl)
 
   pub hops_on_time : (v t : ℕ) (hops : List Hop) → ArePlainHops n table v t hops
-      → AreOnTime n v t (steps_of n table v t hops) (end_of v hops) (arrival_of t hops) (letters_of n table v hops)
+      → AreOnTime n v t (steps_of n table v t hops) (node_after v hops) (arrival_after t hops) (letters_of n table v hops)
   hops_on_time v t [] hop = (refl, refl, refl)
   hops_on_time v t (hop ∷ hops) (has, arrives, to, rest) =
       let a = plain_arc n table v hop.arc in
       let step = step_at n network table keeps of v t hop.at a (out_of n network table keeps v hop.arc has.arc) arrives in
       let first = subst (λ x. IsStep n v t step.0 x hop.at (graph_arc n table v a).letter) (sym to) step.2 in
-      rw step.1 (behind v t step.0 hop.to hop.at (graph_arc n table v a).letter (steps_of n table hop.to hop.at hops) (end_of hop.to hops) (arrival_of hop.at hops)
+      rw step.1 (behind v t step.0 hop.to hop.at (graph_arc n table v a).letter (steps_of n table hop.to hop.at hops) (node_after hop.to hops) (arrival_after hop.at hops)
       (letters_of n table hop.to hops) (leaves v t step.0 hop.to hop.at (graph_arc n table v a).letter first) (hops_on_time hop.to hop.at hops rest))
 
   -- what is on time is real
@@ -132,15 +132,15 @@ module _ (n : NetworkLists) (network : IsNetwork n) (table : TableLists) (keeps 
 
 -- the hops of an answer of a search over a graph
 module _ (g : GraphMeaning) (l : LabelsMeaning) where
-  pub hops_in : (hops : List Hop) (v q t v2 q2 t2 : ℕ) → AreHops g l v q t hops v2 q2 t2 → AreHopsIn g v t hops
+  pub hops_in : (hops : List Hop) (v q t v2 q2 t2 : ℕ) → AreWalkHops g l v q t hops v2 q2 t2 → AreHopsIn g v t hops
   hops_in [] v q t v2 q2 t2 are = tt
   hops_in (hop ∷ hops) v q t v2 q2 t2 (is, rest) = (is.has, is.arrives, is.to, hops_in hops hop.to hop.state hop.at v2 q2 t2 rest)
 
-  pub hops_end_in : (hops : List Hop) (v q t v2 q2 t2 : ℕ) → AreHops g l v q t hops v2 q2 t2 → (end_of v hops ≡ v2) × (arrival_of t hops ≡ t2)
+  pub hops_end_in : (hops : List Hop) (v q t v2 q2 t2 : ℕ) → AreWalkHops g l v q t hops v2 q2 t2 → (node_after v hops ≡ v2) × (arrival_after t hops ≡ t2)
   hops_end_in [] v q t v2 q2 t2 (at, state, now) = (sym at, sym now)
   hops_end_in (hop ∷ hops) v q t v2 q2 t2 (is, rest) = hops_end_in hops hop.to hop.state hop.at v2 q2 t2 rest
 
-  pub hops_letters_in : (hops : List Hop) (v q t v2 q2 t2 : ℕ) → AreHops g l v q t hops v2 q2 t2 → letters_in g v hops ≡ word_from g v (arcs_of hops)
+  pub hops_letters_in : (hops : List Hop) (v q t v2 q2 t2 : ℕ) → AreWalkHops g l v q t hops v2 q2 t2 → letters_in g v hops ≡ word_from g v (arcs_of hops)
   hops_letters_in [] v q t v2 q2 t2 are = refl
   hops_letters_in (hop ∷ hops) v q t v2 q2 t2 (is, rest) =
       ap (λ (x : List ℕ). option_to_list (g.arc_at v hop.arc).letter ++ x) (hops_letters_in hops hop.to hop.state hop.at v2 q2 t2 rest ∙ ap (λ w. word_from g w (arcs_of hops)) is.to)
@@ -151,12 +151,12 @@ plain_letters n table [] v = refl
 plain_letters n table (hop ∷ hops) v = ap (λ (x : List ℕ). option_to_list (graph_arc n table v (plain_arc n table v hop.arc)).letter ++ x) (plain_letters n table hops hop.to)
 
 module _ (n : NetworkLists) (table : TableLists) (l : LabelsMeaning) where
-  pub plain_hops : (hops : List Hop) (v q t v2 q2 t2 : ℕ) → AreHops (plain_meaning n table) l v q t hops v2 q2 t2 → ArePlainHops n table v t hops
+  pub plain_hops : (hops : List Hop) (v q t v2 q2 t2 : ℕ) → AreWalkHops (plain_meaning n table) l v q t hops v2 q2 t2 → ArePlainHops n table v t hops
   plain_hops = hops_in (plain_meaning n table) l
 
-  pub hops_end : (hops : List Hop) (v q t v2 q2 t2 : ℕ) → AreHops (plain_meaning n table) l v q t hops v2 q2 t2 → (end_of v hops ≡ v2) × (arrival_of t hops ≡ t2)
+  pub hops_end : (hops : List Hop) (v q t v2 q2 t2 : ℕ) → AreWalkHops (plain_meaning n table) l v q t hops v2 q2 t2 → (node_after v hops ≡ v2) × (arrival_after t hops ≡ t2)
   hops_end = hops_end_in (plain_meaning n table) l
 
-  pub hops_letters : (hops : List Hop) (v q t v2 q2 t2 : ℕ) → AreHops (plain_meaning n table) l v q t hops v2 q2 t2
+  pub hops_letters : (hops : List Hop) (v q t v2 q2 t2 : ℕ) → AreWalkHops (plain_meaning n table) l v q t hops v2 q2 t2
       → letters_of n table v hops ≡ word_from (plain_meaning n table) v (arcs_of hops)
   hops_letters hops v q t v2 q2 t2 are = plain_letters n table hops v ∙ hops_letters_in (plain_meaning n table) l hops v q t v2 q2 t2 are

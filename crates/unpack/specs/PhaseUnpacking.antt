@@ -55,9 +55,9 @@ pub record GoesOnByRoads (n : NetworkLists) (v w ms : ℕ) (old new : List Step)
   pub list : new ≡ old ++ map road_step roads
 
 -- entries that wait to be unpacked, the next one at the end: they lead from u to v, the last ones first
-abbrev pub AreWaiting : List Entry → ℕ → List Entry → ℕ → Type 0
-AreWaiting entries u [] v = u ≡ v
-AreWaiting entries u (e ∷ above) v = Contains entries e × (e.to ≡ v) × AreWaiting entries u above e.from
+abbrev pub AreStillPacked : List Entry → ℕ → List Entry → ℕ → Type 0
+AreStillPacked entries u [] v = u ≡ v
+AreStillPacked entries u (e ∷ above) v = Contains entries e × (e.to ≡ v) × AreStillPacked entries u above e.from
 
 -- what they weigh together
 abbrev pub weight_of : List Entry → ℕ

@@ -5,7 +5,7 @@ use Rattle.mode_network.specs.NetworkLists.{NetworkLists}
 use Rattle.mode_network.specs.Journeys.{Route, AreSteps}
 use Rattle.product_search.specs.declared.label.Walk.{Walk}
 use Rattle.journey.specs.Boarded.{AreOnTime}
-use Rattle.unpack.specs.Unpacking.{ArePlainHops, IsSoon, end_of, arrival_of, letters_of}
+use Rattle.unpack.specs.Unpacking.{ArePlainHops, IsSoon, node_after, arrival_after, letters_of}
 
 -- a walk that was found, if there is one, is one of the network's graph
 abbrev pub IsPlainWalk : NetworkLists → TableLists → Option Walk → Type 0
@@ -16,6 +16,6 @@ IsPlainWalk n table (Some walk) = ArePlainHops n table walk.node walk.at walk.ho
 pub record TakesHops (n : NetworkLists) (table : TableLists) (walk : Walk) (j : Route) : Type 0 where
   pub start : j.start ≡ walk.node
   pub at : j.at ≡ walk.at
-  pub real : AreSteps n j.start j.at j.steps (end_of walk.node walk.hops.items) (arrival_of walk.at walk.hops.items) (letters_of n table walk.node walk.hops.items)
-  pub boarded : AreOnTime n j.start j.at j.steps (end_of walk.node walk.hops.items) (arrival_of walk.at walk.hops.items) (letters_of n table walk.node walk.hops.items)
+  pub real : AreSteps n j.start j.at j.steps (node_after walk.node walk.hops.items) (arrival_after walk.at walk.hops.items) (letters_of n table walk.node walk.hops.items)
+  pub boarded : AreOnTime n j.start j.at j.steps (node_after walk.node walk.hops.items) (arrival_after walk.at walk.hops.items) (letters_of n table walk.node walk.hops.items)
   pub soon : All IsSoon j.steps

@@ -37,13 +37,13 @@ steps_of n table v t [] = []
 steps_of n table v t (hop ∷ hops) = with_wait table t (step_of table t (plain_arc n table v hop.arc)) ++ steps_of n table hop.to hop.at hops
 
 -- where and when the hops end, and their letters
-abbrev pub end_of : ℕ → List Hop → ℕ
-end_of v [] = v
-end_of v (hop ∷ hops) = end_of hop.to hops
+abbrev pub node_after : ℕ → List Hop → ℕ
+node_after v [] = v
+node_after v (hop ∷ hops) = node_after hop.to hops
 
-abbrev pub arrival_of : ℕ → List Hop → ℕ
-arrival_of t [] = t
-arrival_of t (hop ∷ hops) = arrival_of hop.at hops
+abbrev pub arrival_after : ℕ → List Hop → ℕ
+arrival_after t [] = t
+arrival_after t (hop ∷ hops) = arrival_after hop.at hops
 
 abbrev pub letters_of : NetworkLists → TableLists → ℕ → List Hop → List ℕ
 letters_of n table v [] = []

@@ -3,7 +3,7 @@
 ghost use Rattle.std.specs.Prelude.{◌≡◌, IfOk, All};
 ghost use Rattle.phase_graph.specs.InUse.{node_under};
 ghost use Rattle.phase_graph.specs.InUseGraph.{meaning_in_use, network_in, hierarchy_in};
-ghost use Rattle.unpack.specs.Unpacking.{AreHopsIn, IsSoon, end_of, arrival_of};
+ghost use Rattle.unpack.specs.Unpacking.{AreHopsIn, IsSoon, node_after, arrival_after};
 ghost use Rattle.unpack.specs.PhaseUnpacking.{IsUnpacked, letters_in};
 
 use crate::phase_walk::from_phases;
@@ -20,8 +20,9 @@ pub fn from_graph(alloc: Global, graph: &GraphInUse<'_>, walk: &Walk) -> Result<
     ensures start { IfOk result (λ j. j.start ≡ node_under (hierarchy_in graph.now) walk.now.node) }
     ensures at { IfOk result (λ j. j.at ≡ walk.now.at) }
     ensures unpacked { IfOk result (λ j. IsUnpacked (network_in graph.now) j.start j.at j.steps
-        (node_under (hierarchy_in graph.now) (end_of walk.now.node walk.now.hops.items)) (arrival_of walk.now.at walk.now.hops.items)
-        (letters_in (meaning_in_use graph.now) walk.now.node walk.now.hops.items)) }
+        (node_under (hierarchy_in graph.now) (node_after walk.now.node walk.now.hops.items))
+        (arrival_after walk.now.at walk.now.hops.items) (letters_in (meaning_in_use graph.now) walk.now.node
+        walk.now.hops.items)) }
     ensures soon { IfOk result (λ j. All IsSoon j.steps) }
 {
     match graph {

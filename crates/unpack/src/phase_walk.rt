@@ -4,7 +4,7 @@ ghost use Rattle.std.specs.Prelude.{◌≡◌, ◌≢◌, ◌<◌, [], IfOk, OnO
 ghost use Rattle.search_laws.specs.GraphLaws.{HasArc};
 ghost use Rattle.hierarchy.specs.Soundness.{IsSound};
 ghost use Rattle.phase_graph.specs.PhaseArcs.{phase_meaning, node_of, entry_at};
-ghost use Rattle.unpack.specs.Unpacking.{AreHopsIn, IsSoon, end_of, arrival_of};
+ghost use Rattle.unpack.specs.Unpacking.{AreHopsIn, IsSoon, node_after, arrival_after};
 ghost use Rattle.unpack.specs.PhaseUnpacking.{IsUnpacked, GoesOn, GoesOnByArc, GoesOnByRoads, ArePartsOf, letters_in};
 
 use crate::plain_walk::push_steps;
@@ -54,7 +54,8 @@ fn push_entry(
     requires listed { Contains hierarchy.now.entries entry }
     requires none { stack.old.items ≡ [] }
     ensures none { OnOk result (stack.new.items ≡ []) }
-    ensures roads { OnOk result (GoesOnByRoads network.now entry.from entry.to entry.weight steps.old.items steps.new.items) }
+    ensures roads { OnOk result (GoesOnByRoads network.now entry.from entry.to entry.weight steps.old.items
+        steps.new.items) }
 {
     network.known();
     hierarchy.known();
@@ -78,9 +79,11 @@ fn push_entry_at(
     requires place { place < length phases.now.hierarchy.now.entries }
     requires none { stack.old.items ≡ [] }
     ensures none { OnOk result (stack.new.items ≡ []) }
-    ensures differ { (entry_at phases.now.hierarchy.now place).from ≢ (entry_at phases.now.hierarchy.now place).to }
-    ensures roads { OnOk result (GoesOnByRoads phases.now.plain.network.now (entry_at phases.now.hierarchy.now place).from
-        (entry_at phases.now.hierarchy.now place).to (entry_at phases.now.hierarchy.now place).weight steps.old.items steps.new.items) }
+    ensures differ { (entry_at phases.now.hierarchy.now place).from ≢
+        (entry_at phases.now.hierarchy.now place).to }
+    ensures roads { OnOk result (GoesOnByRoads phases.now.plain.network.now
+        (entry_at phases.now.hierarchy.now place).from (entry_at phases.now.hierarchy.now place).to
+        (entry_at phases.now.hierarchy.now place).weight steps.old.items steps.new.items) }
 {
     let hierarchy = phases.hierarchy();
     hierarchy.known();
@@ -98,10 +101,12 @@ fn push_arc(
     stack: &mut Vec<Entry>,
     steps: &mut Vec<Step>,
 ) -> Result<(), AllocError>
-    requires has { HasArc (phase_meaning phases.now.plain.network.now phases.now.plain.timetable.now phases.now.hierarchy.now phases.now.marks.items) p i }
+    requires has { HasArc (phase_meaning phases.now.plain.network.now phases.now.plain.timetable.now
+        phases.now.hierarchy.now phases.now.marks.items) p i }
     requires none { stack.old.items ≡ [] }
     ensures none { OnOk result (stack.new.items ≡ []) }
-    ensures steps { OnOk result (GoesOnByArc phases.now.plain.network.now phases.now.plain.timetable.now phases.now.hierarchy.now phases.now.marks.items p i t steps.old.items steps.new.items) }
+    ensures steps { OnOk result (GoesOnByArc phases.now.plain.network.now phases.now.plain.timetable.now
+        phases.now.hierarchy.now phases.now.marks.items p i t steps.old.items steps.new.items) }
 {
     match phases.phase_arc(p, i) {
         PhaseArc::Up(place) => push_entry_at(phases, place, stack, steps),
@@ -122,9 +127,12 @@ fn steps(
     at: Time,
     hops: &[Hop],
 ) -> Result<Vec<Step>, AllocError>
-    requires { AreHopsIn (phase_meaning phases.now.plain.network.now phases.now.plain.timetable.now phases.now.hierarchy.now phases.now.marks.items) start at hops.now }
-    ensures { IfOk result (λ steps. GoesOn phases.now.plain.network.now (node_of start) at (node_of (end_of start hops.now)) (arrival_of at hops.now)
-        (letters_in (phase_meaning phases.now.plain.network.now phases.now.plain.timetable.now phases.now.hierarchy.now phases.now.marks.items) start hops.now) [] steps.items) }
+    requires { AreHopsIn (phase_meaning phases.now.plain.network.now phases.now.plain.timetable.now
+        phases.now.hierarchy.now phases.now.marks.items) start at hops.now }
+    ensures { IfOk result (λ steps. GoesOn phases.now.plain.network.now (node_of start) at
+        (node_of (node_after start hops.now)) (arrival_after at hops.now)
+        (letters_in (phase_meaning phases.now.plain.network.now phases.now.plain.timetable.now
+        phases.now.hierarchy.now phases.now.marks.items) start hops.now) [] steps.items) }
 {
     let mut steps = Vec::with_capacity(alloc, hops.len())?;
     let mut stack = Vec::new(alloc);
@@ -140,13 +148,15 @@ fn steps(
 /// length zero. It is real, with the walk's ends in the network, departure and arrival, and its word collapses to the same.
 /// Each ride is boarded when it departs, as in [`from_plain`](crate::from_plain).
 pub fn from_phases(alloc: Global, phases: &Phases<'_>, walk: &Walk) -> Result<Journey, AllocError>
-    requires { AreHopsIn (phase_meaning phases.now.plain.network.now phases.now.plain.timetable.now phases.now.hierarchy.now phases.now.marks.items)
-        walk.now.node walk.now.at walk.now.hops.items }
+    requires { AreHopsIn (phase_meaning phases.now.plain.network.now phases.now.plain.timetable.now
+        phases.now.hierarchy.now phases.now.marks.items) walk.now.node walk.now.at walk.now.hops.items }
     ensures start { IfOk result (λ j. j.start ≡ node_of walk.now.node) }
     ensures at { IfOk result (λ j. j.at ≡ walk.now.at) }
-    ensures unpacked { IfOk result (λ j. IsUnpacked phases.now.plain.network.now j.start j.at j.steps (node_of (end_of walk.now.node walk.now.hops.items))
-        (arrival_of walk.now.at walk.now.hops.items)
-        (letters_in (phase_meaning phases.now.plain.network.now phases.now.plain.timetable.now phases.now.hierarchy.now phases.now.marks.items) walk.now.node walk.now.hops.items)) }
+    ensures unpacked { IfOk result (λ j. IsUnpacked phases.now.plain.network.now j.start j.at j.steps
+        (node_of (node_after walk.now.node walk.now.hops.items))
+        (arrival_after walk.now.at walk.now.hops.items) (letters_in
+        (phase_meaning phases.now.plain.network.now phases.now.plain.timetable.now phases.now.hierarchy.now
+        phases.now.marks.items) walk.now.node walk.now.hops.items)) }
     ensures soon { IfOk result (λ j. All IsSoon j.steps) }
 {
     phases.plain().timetable().known();

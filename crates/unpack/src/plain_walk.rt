@@ -6,7 +6,7 @@ ghost use Rattle.journey.specs.Boarded.{AreOnTime};
 ghost use Rattle.plain_graph.specs.Rides.{IsKnownRide, IsRideOf};
 ghost use Rattle.plain_graph.specs.declared.plain.PlainArc.TheVariants as plain_arc;
 ghost use Rattle.plain_graph.specs.Simulation.{step_of};
-ghost use Rattle.unpack.specs.Unpacking.{ArePlainHops, HaveArcs, IsSoon, steps_of, with_wait, end_of, arrival_of, letters_of};
+ghost use Rattle.unpack.specs.Unpacking.{ArePlainHops, HaveArcs, IsSoon, steps_of, with_wait, node_after, arrival_after, letters_of};
 
 use mode_network::{Journey, Step};
 use plain_graph::{Plain, PlainArc};
@@ -24,7 +24,8 @@ pub(crate) fn push_steps(
     steps: &mut Vec<Step>,
 ) -> Result<(), AllocError>
     requires { IsKnownRide plain.now.timetable.now arc }
-    ensures { OnOk result (steps.new.items ≡ steps.old.items ++ with_wait plain.now.timetable.now t (step_of plain.now.timetable.now t arc)) }
+    ensures { OnOk result (steps.new.items ≡ steps.old.items ++ with_wait plain.now.timetable.now t
+        (step_of plain.now.timetable.now t arc)) }
 {
     let step = match arc {
         PlainArc::Road(arc) => Step::Road { to: arc.to },
@@ -44,7 +45,8 @@ fn push_ride(
     steps: &mut Vec<Step>,
 ) -> Result<(), AllocError>
     requires { IsRideOf plain.now.timetable.now ride }
-    ensures { OnOk result (steps.new.items ≡ steps.old.items ++ with_wait plain.now.timetable.now t (step_of plain.now.timetable.now t (plain_arc.Ride ride))) }
+    ensures { OnOk result (steps.new.items ≡ steps.old.items ++ with_wait plain.now.timetable.now t
+        (step_of plain.now.timetable.now t (plain_arc.Ride ride))) }
 {
     let timetable = plain.timetable();
     if let Some(run) = timetable.next(ride.pattern, ride.board, t) {
@@ -71,7 +73,8 @@ fn steps(
     hops: &[Hop],
 ) -> Result<Vec<Step>, AllocError>
     requires { HaveArcs plain.now.network.now plain.now.timetable.now start hops.now }
-    ensures { IfOk result (λ steps. steps.items ≡ steps_of plain.now.network.now plain.now.timetable.now start at hops.now) }
+    ensures { IfOk result (λ steps. steps.items ≡ steps_of plain.now.network.now plain.now.timetable.now start
+        at hops.now) }
 {
     let mut steps = Vec::with_capacity(alloc, hops.len())?;
     let (mut node, mut time) = (start, at);
@@ -85,13 +88,16 @@ fn steps(
 /// The journey that takes a walk's hops one after the other. It is real, and has the walk's ends, times and
 /// letters. Each ride is boarded when it departs: a wait until then stands before it where one is there earlier.
 pub fn from_plain(alloc: Global, plain: &Plain<'_>, walk: &Walk) -> Result<Journey, AllocError>
-    requires { ArePlainHops plain.now.network.now plain.now.timetable.now walk.now.node walk.now.at walk.now.hops.items }
+    requires { ArePlainHops plain.now.network.now plain.now.timetable.now walk.now.node walk.now.at
+        walk.now.hops.items }
     ensures start { IfOk result (λ j. j.start ≡ walk.now.node) }
     ensures at { IfOk result (λ j. j.at ≡ walk.now.at) }
-    ensures real { IfOk result (λ j. AreSteps plain.now.network.now j.start j.at j.steps (end_of walk.now.node walk.now.hops.items)
-        (arrival_of walk.now.at walk.now.hops.items) (letters_of plain.now.network.now plain.now.timetable.now walk.now.node walk.now.hops.items)) }
-    ensures boarded { IfOk result (λ j. AreOnTime plain.now.network.now j.start j.at j.steps (end_of walk.now.node walk.now.hops.items)
-        (arrival_of walk.now.at walk.now.hops.items) (letters_of plain.now.network.now plain.now.timetable.now walk.now.node walk.now.hops.items)) }
+    ensures real { IfOk result (λ j. AreSteps plain.now.network.now j.start j.at j.steps
+        (node_after walk.now.node walk.now.hops.items) (arrival_after walk.now.at walk.now.hops.items)
+        (letters_of plain.now.network.now plain.now.timetable.now walk.now.node walk.now.hops.items)) }
+    ensures boarded { IfOk result (λ j. AreOnTime plain.now.network.now j.start j.at j.steps
+        (node_after walk.now.node walk.now.hops.items) (arrival_after walk.now.at walk.now.hops.items)
+        (letters_of plain.now.network.now plain.now.timetable.now walk.now.node walk.now.hops.items)) }
     ensures soon { IfOk result (λ j. All IsSoon j.steps) }
 {
     plain.timetable().known();

@@ -7,9 +7,9 @@ use Rattle.std.proofs.lemmas.List.{reverse-append}
 use Rattle.witness.specs.declared.edge.Edge.{Edge}
 use Rattle.witness.specs.declared.place.Place.{Place}
 use Rattle.witness.specs.declared.workspace.Workspace.{Workspace}
-use Rattle.hierarchy.specs.Hops.{Hop, AreHops, total, nodes_of}
-use Rattle.witness.specs.Rows.{HasEdge, AreRows}
-use Rattle.witness.specs.Searching.{IsSearch, NobodyBusy, IsKnown, Knows, Reaches, HasParent}
+use Rattle.hierarchy.specs.Hops.{Hop, AreHops, total, nodes_along}
+use Rattle.witness.specs.Rows.{HasEdge, AreEdgeRows}
+use Rattle.witness.specs.Searching.{IsSearch, NobodyBusy, IsKnownNode, Knows, Reaches, HasParent}
 
 abbrev pub at_in : Option Place → ℕ
 at_in None = 0
@@ -21,11 +21,11 @@ at_of w v = at_in (slice_get w.places.items v)
 
 -- from the node hops lead to the end, within the limit together with what is known of the node; the nodes are those of the hops, from the end on
 pub record IsBack (rows : List (Vec Edge Global)) (limit : ℕ) (w : Workspace) (end node : ℕ) (nodes : List ℕ) : Type 0 where
-  pub known : IsKnown w node
+  pub known : IsKnownNode w node
   pub hops : List Hop
   pub walk : AreHops (HasEdge rows) node hops end
   pub within : at_of w node + total hops ≤ limit
-  pub are : reverse nodes ≡ nodes_of node hops
+  pub are : reverse nodes ≡ nodes_along node hops
 
 at_is : (w : Workspace) (v at parent : ℕ) → Knows w v at parent → at_of w v ≡ at
 at_is w v at parent known = ap at_in known
@@ -40,7 +40,7 @@ back_begins rows limit w v nodes r is = record {
 }
 
 -- one node further back
-module _ (rows : List (Vec Edge Global)) (most limit : ℕ) (w : Workspace) (are : AreRows rows) (s : IsSearch rows most NobodyBusy w) (end node : ℕ) (nodes : List ℕ) (back : IsBack rows limit w end node nodes) (other : node ≢ w.start)
+module _ (rows : List (Vec Edge Global)) (most limit : ℕ) (w : Workspace) (are : AreEdgeRows rows) (s : IsSearch rows most NobodyBusy w) (end node : ℕ) (nodes : List ℕ) (back : IsBack rows limit w end node nodes) (other : node ≢ w.start)
     (place : Place) (is : place ≡ get_or w.places.items node place) where
   parent_is : back.known.1 ≡ place.parent
   parent_is = ap (λ (x : Place). x.parent) (sym (get_or_from_slice_get w.places.items node (record { at = back.known.0; parent = back.known.1; round = w.round }) place back.known.2) ∙ sym is)

@@ -6,7 +6,7 @@ use Rattle.std.proofs.lemmas.Bool.{cases_eq, cases_lt, eq-eqb, eqb-true}
 use Rattle.std.proofs.lemmas.Option.{same_Some, slice_get-get_or}
 use Rattle.std.proofs.lemmas.List.Sums.{sum_by-set}
 use Rattle.witness.specs.declared.place.Place.{Place}
-use Rattle.witness.specs.Places.{Known, IsReachedBy}
+use Rattle.witness.specs.Places.{Known, IsKnownWithin}
 use Rattle.witness.specs.Searching.{left_of}
 
 pub slice_get-set_same : {X : Type 0} (xs : List X) (i : ℕ) (a : X) → i < length xs → slice_get (set xs i a) i ≡ Some a
@@ -43,8 +43,8 @@ module _ (old new : List Place) (round to at parent : ℕ) (there : to < length 
     | inr differ ↦ inl (differ, sym (slice_get-set_other old to v (place_of at parent round) differ) ∙ ap (λ ps. slice_get ps v) (sym is) ∙ now)
   ]
 
-  module _ (heavier : IsReachedBy old round to at → ⊥) where
-    pub lower : (v limit : ℕ) → IsReachedBy old round v limit → IsReachedBy new round v limit
+  module _ (heavier : IsKnownWithin old round to at → ⊥) where
+    pub lower : (v limit : ℕ) → IsKnownWithin old round v limit → IsKnownWithin new round v limit
     lower v limit r = elim (cases_eq v to) [
       | inr differ ↦ record { at = r.at; parent = r.parent; known = known_kept v r.at r.parent differ r.known; within = r.within }
       | inl same ↦ elim (cases_lt at r.at) [

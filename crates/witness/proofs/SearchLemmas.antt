@@ -13,8 +13,8 @@ use Rattle.witness.specs.declared.edge.Edge.{Edge}
 use Rattle.witness.specs.declared.workspace.Workspace.{Workspace}
 use Rattle.hierarchy.specs.Hops.{Hop, AreHops, total}
 use Rattle.witness.specs.Rows.{HasEdge, IsEdgePut, NoWalkWithin, row_at}
-use Rattle.witness.specs.Places.{Known, IsReachedBy}
-use Rattle.witness.specs.Searching.{IsSearch, IsFresh, NobodyBusy, IsBusy, Knows, Reaches, Waits, waiting_of, waiting_cmp, Takes, Leaves, IsOffered, HasParent, IsClosed, AreLower, IsNext, IsSame, IsKnownAt, IsEdgeClosed, NobodyWaitsWithin, left_of, work}
+use Rattle.witness.specs.Places.{Known, IsKnownWithin}
+use Rattle.witness.specs.Searching.{IsSearch, IsFresh, NobodyBusy, IsBusy, Knows, Reaches, WaitsAt, waiting_of, waiting_cmp, TakesWalk, Leaves, IsWalkOffered, HasParent, IsRelaxed, AreLower, IsNext, IsSame, IsKnownAt, IsEdgeClosed, NobodyWaitsWithin, left_of, work}
 use Rattle.witness.proofs.PlaceLemmas.{known_here, known_was, lower, less_left}
 
 pub contains_head : {X : Type 0} (x : X) (xs : List X) → Contains (x ∷ xs) x
@@ -28,17 +28,17 @@ head_or_tail x xs y (zero, lt, is) = inl is
 head_or_tail x xs y (suc k, lt, is) = inr (k, (omega arith), is)
 
 module _ (rows : List (Vec Edge Global)) (limit : ℕ) (busy : ℕ → ℕ → Type 0) (old new : Workspace) (to at parent : ℕ) (there : to < length old.places.items) where
-  module _ (round : new.round ≡ old.round) (takes : Takes old new to at parent) where
+  module _ (round : new.round ≡ old.round) (takes : TakesWalk old new to at parent) where
     knows_was : (v d p : ℕ) → Knows new v d p → ((v ≢ to) × Knows old v d p) ⊎ ((v ≡ to) × (d ≡ at) × (p ≡ parent))
     knows_was v d p now = known_was old.places.items new.places.items old.round to at parent there takes.places v d p (subst (λ r. Known new.places.items r v d p) round now)
 
     takes_lower : AreLower old new
-    takes_lower v l r = subst (λ k. IsReachedBy new.places.items k v l) (sym round) (lower old.places.items new.places.items old.round to at parent there takes.places takes.heavier v l r)
+    takes_lower v l r = subst (λ k. IsKnownWithin new.places.items k v l) (sym round) (lower old.places.items new.places.items old.round to at parent there takes.places takes.heavier v l r)
 
-    still_waits : (v d : ℕ) → Waits old v d → Waits new v d
+    still_waits : (v d : ℕ) → WaitsAt old v d → WaitsAt new v d
     still_waits v d w = Contains-permutation (waiting_of at to ∷ heap_items old.waiting) (heap_items new.waiting) (waiting_of d v) takes.waiting (contains_tail (waiting_of at to) (heap_items old.waiting) (waiting_of d v) w)
 
-    here_waits : Waits new to at
+    here_waits : WaitsAt new to at
     here_waits = Contains-permutation (waiting_of at to ∷ heap_items old.waiting) (heap_items new.waiting) (waiting_of at to) takes.waiting (contains_head (waiting_of at to) (heap_items old.waiting))
 
     parent_kept : (v d p : ℕ) → HasParent rows old v d p → HasParent rows new v d p
@@ -64,7 +64,7 @@ module _ (rows : List (Vec Edge Global)) (limit : ℕ) (busy : ℕ → ℕ → T
             | inr closed ↦ inr (inr (λ z w edge le. takes_lower z (d + w) (closed z w edge le)))
           ]
         ]
-        | inr here ↦ inl (subst (λ x. Waits new x d) (sym here.0) (subst (λ x. Waits new to x) (sym here.1) here_waits))
+        | inr here ↦ inl (subst (λ x. WaitsAt new x d) (sym here.0) (subst (λ x. WaitsAt new to x) (sym here.1) here_waits))
       ];
       ordered = takes.ordered s.ordered;
     }
@@ -77,7 +77,7 @@ module _ (rows : List (Vec Edge Global)) (limit : ℕ) (busy : ℕ → ℕ → T
 
   module _ (round : new.round ≡ old.round) (leaves : Leaves old new to at) where
     leaves_lower : AreLower old new
-    leaves_lower v l r = subst (λ k. IsReachedBy new.places.items k v l) (sym round) (subst (λ ps. IsReachedBy ps old.round v l) (sym leaves.places) r)
+    leaves_lower v l r = subst (λ k. IsKnownWithin new.places.items k v l) (sym round) (subst (λ ps. IsKnownWithin ps old.round v l) (sym leaves.places) r)
 
     knew : (v d p : ℕ) → Knows new v d p → Knows old v d p
     knew v d p now = subst (λ ps. Known ps old.round v d p) leaves.places (subst (λ r. Known new.places.items r v d p) round now)
@@ -104,7 +104,7 @@ module _ (rows : List (Vec Edge Global)) (limit : ℕ) (busy : ℕ → ℕ → T
         (subst (λ ps. heap_len new.waiting + 2 * sum_by (left_of old.round limit) ps ≤ work limit old) (sym leaves.places)
         (subst (λ h. heap_len h + 2 * sum_by (left_of old.round limit) old.places.items ≤ work limit old) (sym leaves.waiting) (omega arith)))
 
-  module _ (offered : IsOffered old new to at parent) where
+  module _ (offered : IsWalkOffered old new to at parent) where
     pub offered_lower : AreLower old new
     offered_lower = elim offered.offered [
       | inl takes ↦ takes_lower offered.same.round takes
@@ -125,13 +125,13 @@ module _ (rows : List (Vec Edge Global)) (limit : ℕ) (busy : ℕ → ℕ → T
 
     pub offered_here : Reaches new to at
     offered_here = elim offered.offered [
-      | inl takes ↦ subst (λ k. IsReachedBy new.places.items k to at) (sym offered.same.round)
+      | inl takes ↦ subst (λ k. IsKnownWithin new.places.items k to at) (sym offered.same.round)
           (record { at = at; parent = parent; known = known_here old.places.items new.places.items old.round to at parent there takes.places; within = omega arith })
       | inr leaves ↦ leaves_lower offered.same.round leaves to at leaves.lighter
     ]
 
 -- where all that is reached within the limit is closed, a walk within it is followed to its end
-module _ (rows : List (Vec Edge Global)) (most limit : ℕ) (w : Workspace) (le : limit ≤ most) (closed : (v at parent : ℕ) → Knows w v at parent → at ≤ limit → IsClosed rows most w v at) where
+module _ (rows : List (Vec Edge Global)) (most limit : ℕ) (w : Workspace) (le : limit ≤ most) (closed : (v at parent : ℕ) → Knows w v at parent → at ≤ limit → IsRelaxed rows most w v at) where
   pub follows : (hops : List Hop) (u v before : ℕ) → AreHops (HasEdge rows) u hops v → before + total hops ≤ limit → Reaches w u before → Reaches w v limit
   follows [] u v before walk within r = subst (λ x. Reaches w x limit) (sym walk) (record { at = r.at; parent = r.parent; known = r.known; within = (let a = r.within in omega arith) })
   follows (hop ∷ hops) u v before (edge, walk) within r =
@@ -148,9 +148,9 @@ module _ (old new : Workspace) (same : IsSame old new) where
   knew_it v d p now = subst (λ ps. Known ps old.round v d p) same.places (subst (λ r. Known new.places.items r v d p) same.same.round now)
 
   same_lower : AreLower old new
-  same_lower v l r = subst (λ k. IsReachedBy new.places.items k v l) (sym same.same.round) (subst (λ ps. IsReachedBy ps old.round v l) (sym same.places) r)
+  same_lower v l r = subst (λ k. IsKnownWithin new.places.items k v l) (sym same.same.round) (subst (λ ps. IsKnownWithin ps old.round v l) (sym same.places) r)
 
-  same_search : (rows : List (Vec Edge Global)) (limit : ℕ) (busy also : ℕ → ℕ → Type 0) → ((v d : ℕ) → Waits old v d → Waits new v d ⊎ also v d) → ((v d : ℕ) → busy v d → also v d)
+  same_search : (rows : List (Vec Edge Global)) (limit : ℕ) (busy also : ℕ → ℕ → Type 0) → ((v d : ℕ) → WaitsAt old v d → WaitsAt new v d ⊎ also v d) → ((v d : ℕ) → busy v d → also v d)
       → IsHeap waiting_cmp (heap_items new.waiting) → IsSearch rows limit busy old → IsSearch rows limit also new
   same_search rows limit busy also waits more ordered s = record {
     count = ap length same.places ∙ s.count;
@@ -170,7 +170,7 @@ module _ (old new : Workspace) (same : IsSame old new) where
 
 pub next_search : (rows : List (Vec Edge Global)) (limit : ℕ) (old new : Workspace) (at node : ℕ) → IsNext old new at node → IsSearch rows limit NobodyBusy old → IsSearch rows limit (IsBusy node at) new
 next_search rows limit old new at node next s = same_search old new next.same rows limit NobodyBusy (IsBusy node at) waits (λ v d it. absurd it) (next.ordered s.ordered) s where
-  waits : (v d : ℕ) → Waits old v d → Waits new v d ⊎ IsBusy node at v d
+  waits : (v d : ℕ) → WaitsAt old v d → WaitsAt new v d ⊎ IsBusy node at v d
   waits v d was = elim (head_or_tail (waiting_of at node) (heap_items new.waiting) (waiting_of d v) (Contains-permutation (heap_items old.waiting) (waiting_of at node ∷ heap_items new.waiting) (waiting_of d v) next.waiting was)) [
     | inr still ↦ inl still
     | inl it ↦ inr (sym (ap (λ (x : Reverse (ℕ × ℕ)). x.0.1) it), sym (ap (λ (x : Reverse (ℕ × ℕ)). x.0.0) it))
@@ -200,7 +200,7 @@ passed_over rows limit w at node stale s = record {
 }
 
 -- once its ways are closed, nobody is busy
-pub closed_now : (rows : List (Vec Edge Global)) (limit : ℕ) (w : Workspace) (at node : ℕ) → IsClosed rows limit w node at → IsSearch rows limit (IsBusy node at) w → IsSearch rows limit NobodyBusy w
+pub closed_now : (rows : List (Vec Edge Global)) (limit : ℕ) (w : Workspace) (at node : ℕ) → IsRelaxed rows limit w node at → IsSearch rows limit (IsBusy node at) w → IsSearch rows limit NobodyBusy w
 closed_now rows limit w at node closed s = record {
   count = s.count;
   begun = s.begun;
@@ -209,7 +209,7 @@ closed_now rows limit w at node closed s = record {
   dealt = λ v d p now. elim (s.dealt v d p now) [
     | inl waits ↦ inl waits
     | inr other ↦ elim other [
-      | inl it ↦ inr (inr (subst (λ x. IsClosed rows limit w x d) (sym it.0) (subst (λ x. IsClosed rows limit w node x) (sym it.1) closed)))
+      | inl it ↦ inr (inr (subst (λ x. IsRelaxed rows limit w x d) (sym it.0) (subst (λ x. IsRelaxed rows limit w node x) (sym it.1) closed)))
       | inr closed ↦ inr (inr closed)
     ]
   ];
@@ -225,7 +225,7 @@ closed_more limit old new at edges i d lt before lower here =
     here
 
 -- and then all that the row has
-pub all_closed : (rows : List (Vec Edge Global)) (limit : ℕ) (w : Workspace) (at node : ℕ) (edges : List Edge) (i : ℕ) → row_at rows node ≡ edges → length edges ≤ i → All (IsEdgeClosed limit w at) (take i edges) → IsClosed rows limit w node at
+pub all_closed : (rows : List (Vec Edge Global)) (limit : ℕ) (w : Workspace) (at node : ℕ) (edges : List Edge) (i : ℕ) → row_at rows node ≡ edges → length edges ≤ i → All (IsEdgeClosed limit w at) (take i edges) → IsRelaxed rows limit w node at
 all_closed rows limit w at node edges i is le all to weight (entry, listed) within =
     let closed = subst (λ es. All (IsEdgeClosed limit w at) es) (take_all i edges le) all in
     All-contains (IsEdgeClosed limit w at) edges (record { to = to; entry = entry; weight = weight }) closed (subst (λ es. Contains es (record { to = to; entry = entry; weight = weight })) is listed) within
@@ -233,7 +233,7 @@ all_closed rows limit w at node edges i is le all to weight (entry, listed) with
 -- ---- the begin
 
 -- the start is offered to a search that knows nothing
-pub begins : (rows : List (Vec Edge Global)) (limit u : ℕ) (old new : Workspace) → u < length rows → IsFresh old (length rows) u limit → IsOffered old new u 0 u → IsSearch rows limit NobodyBusy new
+pub begins : (rows : List (Vec Edge Global)) (limit u : ℕ) (old new : Workspace) → u < length rows → IsFresh old (length rows) u limit → IsWalkOffered old new u 0 u → IsSearch rows limit NobodyBusy new
 begins rows limit u old new there fresh offered = elim offered.offered [
   | inr leaves ↦ (let r = leaves.lighter in absurd (fresh.unknown u r.at r.parent r.known))
   | inl takes ↦ (let inside : u < length old.places.items = omega (arith, fresh.count) in record {
@@ -249,7 +249,7 @@ begins rows limit u old new there fresh offered = elim offered.offered [
     ];
     dealt = λ v d p now. elim (knows_was rows limit NobodyBusy old new u 0 u inside offered.same.round takes v d p now) [
       | inl was ↦ absurd (fresh.unknown v d p was.1)
-      | inr here ↦ inl (subst (λ x. Waits new x d) (sym here.0) (subst (λ x. Waits new u x) (sym here.1) (here_waits rows limit NobodyBusy old new u 0 u inside offered.same.round takes)))
+      | inr here ↦ inl (subst (λ x. WaitsAt new x d) (sym here.0) (subst (λ x. WaitsAt new u x) (sym here.1) (here_waits rows limit NobodyBusy old new u 0 u inside offered.same.round takes)))
     ];
     ordered = takes.ordered fresh.ordered;
   })
@@ -258,7 +258,7 @@ begins rows limit u old new there fresh offered = elim offered.offered [
 -- ---- a way that was put in
 
 -- where no walk to v was within its weight, the search is one over the new rows
-pub put_search : (rows more : List (Vec Edge Global)) (most v weight : ℕ) (old new : Workspace) → v < length rows → weight ≤ most → (Reaches old v weight → ⊥) → IsEdgePut rows more old.start v weight → IsOffered old new v weight old.start
+pub put_search : (rows more : List (Vec Edge Global)) (most v weight : ℕ) (old new : Workspace) → v < length rows → weight ≤ most → (Reaches old v weight → ⊥) → IsEdgePut rows more old.start v weight → IsWalkOffered old new v weight old.start
     → IsSearch rows most NobodyBusy old → IsSearch more most NobodyBusy new
 put_search rows more most v weight old new there le heavier put offered s = elim offered.offered [
   | inr leaves ↦ absurd (heavier leaves.lighter)
@@ -267,7 +267,7 @@ put_search rows more most v weight old new there le heavier put offered s = elim
   inside : v < length old.places.items
   inside = omega (arith, s.count)
 
-  taken : Takes old new v weight old.start → IsSearch more most NobodyBusy new
+  taken : TakesWalk old new v weight old.start → IsSearch more most NobodyBusy new
   taken takes = record {
     count = ap length takes.places ∙ length-set old.places.items v (record { at = weight; parent = old.start; round = old.round }) ∙ s.count ∙ sym put.count;
     begun = begun;
@@ -286,7 +286,7 @@ put_search rows more most v weight old new there le heavier put offered s = elim
         | inl waits ↦ inl (still_waits rows most NobodyBusy old new v weight old.start inside offered.same.round takes z d waits)
         | inr other ↦ elim other [ inl it ↦ absurd it | inr closed ↦ inr (inr (still_closed z d closed)) ]
       ]
-      | inr here ↦ inl (subst (λ x. Waits new x d) (sym here.0) (subst (λ x. Waits new v x) (sym here.1) (here_waits rows most NobodyBusy old new v weight old.start inside offered.same.round takes)))
+      | inr here ↦ inl (subst (λ x. WaitsAt new x d) (sym here.0) (subst (λ x. WaitsAt new v x) (sym here.1) (here_waits rows most NobodyBusy old new v weight old.start inside offered.same.round takes)))
     ];
     ordered = takes.ordered s.ordered;
   } where
@@ -299,7 +299,7 @@ put_search rows more most v weight old new there le heavier put offered s = elim
     begun : Reaches new new.start 0
     begun = subst (λ x. Reaches new x 0) (sym offered.same.start) (lower old.start 0 s.begun)
 
-    still_closed : (z d : ℕ) → IsClosed rows most old z d → IsClosed more most new z d
+    still_closed : (z d : ℕ) → IsRelaxed rows most old z d → IsRelaxed more most new z d
     still_closed z d closed to w edge le = elim (put.made z to w edge) [
       | inl before ↦ lower to (d + w) (closed to w before le)
       | inr it ↦ (let r = offered_here rows most NobodyBusy old new v weight old.start inside offered in
@@ -314,7 +314,7 @@ none_found rows most limit v w le s nobody unreached hops walk = elim (cases_lt 
   | inl more ↦ more
   | inr within ↦ absurd (unreached (follows rows most limit w le closed hops w.start v 0 walk (omega arith) s.begun))
 ] where
-  closed : (x at parent : ℕ) → Knows w x at parent → at ≤ limit → IsClosed rows most w x at
+  closed : (x at parent : ℕ) → Knows w x at parent → at ≤ limit → IsRelaxed rows most w x at
   closed x at parent known near = elim (s.dealt x at parent known) [
     | inl waits ↦ absurd (let far = nobody x at waits in omega arith)
     | inr other ↦ elim other [ inl it ↦ absurd it | inr all ↦ all ]

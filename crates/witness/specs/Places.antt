@@ -11,7 +11,7 @@ abbrev pub Known : List Place → ℕ → ℕ → ℕ → ℕ → Type 0
 Known places round v at parent = slice_get places v ≡ Some (record { at = at; parent = parent; round = round })
 
 -- some walk to v weighs no more
-pub record IsReachedBy (places : List Place) (round v limit : ℕ) : Type 0 where
+pub record IsKnownWithin (places : List Place) (round v limit : ℕ) : Type 0 where
   pub at : ℕ
   pub parent : ℕ
   pub known : Known places round v at parent

@@ -2,7 +2,7 @@
 use Rattle.std.specs.Prelude.{◌≡◌, ℕ, ◌<◌, ◌≤◌, ◌^◌, ◌⊎◌, List, [], Option, None, Some, IfSome, length, slice_get, Contains, Vec}
 use Rattle.std.specs.declared.alloc.Global.{Global}
 use Rattle.witness.specs.declared.edge.Edge.{Edge}
-use Rattle.hierarchy.specs.Hops.{Hop, AreHops, total, nodes_of}
+use Rattle.hierarchy.specs.Hops.{Hop, AreHops, total, nodes_along}
 
 abbrev pub items_of : Option (Vec Edge Global) → List Edge
 items_of None = []
@@ -22,7 +22,7 @@ pub record IsEdgeOf (nodes : ℕ) (edge : Edge) : Type 0 where
   pub light : edge.weight < 2 ^ 56
 
 -- each way leads to a node that has a row, and takes time
-pub record AreRows (rows : List (Vec Edge Global)) : Type 0 where
+pub record AreEdgeRows (rows : List (Vec Edge Global)) : Type 0 where
   pub few : length rows ≤ 2 ^ 24
   pub edges : (u : ℕ) (edge : Edge) → Contains (row_at rows u) edge → IsEdgeOf (length rows) edge
 
@@ -31,7 +31,7 @@ pub record IsWalkWithin (rows : List (Vec Edge Global)) (u v limit : ℕ) (nodes
   pub hops : List Hop
   pub walk : AreHops (HasEdge rows) u hops v
   pub within : total hops ≤ limit
-  pub are : nodes ≡ nodes_of u hops
+  pub are : nodes ≡ nodes_along u hops
 
 -- what was found, if anything, is such a walk
 abbrev pub IsFoundWithin : List (Vec Edge Global) → ℕ → ℕ → ℕ → Option (Vec ℕ Global) → Type 0

@@ -9,7 +9,7 @@ use Rattle.std.specs.declared.alloc.Global.{Global}
 use Rattle.witness.specs.declared.edge.Edge.{Edge}
 use Rattle.witness.specs.declared.place.Place.{Place}
 use Rattle.witness.specs.declared.workspace.Workspace.{Workspace}
-use Rattle.witness.specs.Places.{Known, IsReachedBy}
+use Rattle.witness.specs.Places.{Known, IsKnownWithin}
 use Rattle.witness.specs.Rows.{HasEdge}
 
 abbrev pub waiting_of : ℕ → ℕ → Reverse (ℕ × ℕ)
@@ -23,16 +23,16 @@ abbrev pub Knows : Workspace → ℕ → ℕ → ℕ → Type 0
 Knows w v at parent = Known w.places.items w.round v at parent
 
 abbrev pub Reaches : Workspace → ℕ → ℕ → Type 0
-Reaches w v limit = IsReachedBy w.places.items w.round v limit
+Reaches w v limit = IsKnownWithin w.places.items w.round v limit
 
-abbrev pub IsKnown : Workspace → ℕ → Type 0
-IsKnown w v = (at : ℕ) × (parent : ℕ) × Knows w v at parent
+abbrev pub IsKnownNode : Workspace → ℕ → Type 0
+IsKnownNode w v = (at : ℕ) × (parent : ℕ) × Knows w v at parent
 
 abbrev pub IsKnownAt : Workspace → ℕ → ℕ → Type 0
 IsKnownAt w v at = (parent : ℕ) × Knows w v at parent
 
-abbrev pub Waits : Workspace → ℕ → ℕ → Type 0
-Waits w v at = Contains (heap_items w.waiting) (waiting_of at v)
+abbrev pub WaitsAt : Workspace → ℕ → ℕ → Type 0
+WaitsAt w v at = Contains (heap_items w.waiting) (waiting_of at v)
 
 -- nothing is known yet
 pub record IsFresh (w : Workspace) (nodes first most : ℕ) : Type 0 where
@@ -50,7 +50,7 @@ pub record IsSameRound (old new : Workspace) : Type 0 where
   pub most : new.most ≡ old.most
 
 -- no walk to the node was known, or all were heavier; this one is known now, and waits
-pub record Takes (old new : Workspace) (to at parent : ℕ) : Type 0 where
+pub record TakesWalk (old new : Workspace) (to at parent : ℕ) : Type 0 where
   pub heavier : Reaches old to at → ⊥
   pub places : new.places.items ≡ slice_set old.places.items to (record { at = at; parent = parent; round = old.round })
   pub waiting : IsPermutation (waiting_of at to ∷ heap_items old.waiting) (heap_items new.waiting)
@@ -63,9 +63,9 @@ pub record Leaves (old new : Workspace) (to at : ℕ) : Type 0 where
   pub places : new.places.items ≡ old.places.items
   pub waiting : new.waiting ≡ old.waiting
 
-pub record IsOffered (old new : Workspace) (to at parent : ℕ) : Type 0 where
+pub record IsWalkOffered (old new : Workspace) (to at parent : ℕ) : Type 0 where
   pub same : IsSameRound old new
-  pub offered : Takes old new to at parent ⊎ Leaves old new to at
+  pub offered : TakesWalk old new to at parent ⊎ Leaves old new to at
 
 -- v is reached by way of p
 pub record HasParent (rows : List (Vec Edge Global)) (w : Workspace) (v at p : ℕ) : Type 0 where
@@ -76,8 +76,8 @@ pub record HasParent (rows : List (Vec Edge Global)) (w : Workspace) (v at p : �
   pub sum : before + weight ≡ at
 
 -- what the ways out of v lead to within the search is reached
-abbrev pub IsClosed : List (Vec Edge Global) → ℕ → Workspace → ℕ → ℕ → Type 0
-IsClosed rows most w v at = (to weight : ℕ) → HasEdge rows v to weight → at + weight ≤ most → Reaches w to (at + weight)
+abbrev pub IsRelaxed : List (Vec Edge Global) → ℕ → Workspace → ℕ → ℕ → Type 0
+IsRelaxed rows most w v at = (to weight : ℕ) → HasEdge rows v to weight → at + weight ≤ most → Reaches w to (at + weight)
 
 -- each node that is reached waits, is dealt with now, or is closed
 pub record IsSearch (rows : List (Vec Edge Global)) (most : ℕ) (busy : ℕ → ℕ → Type 0) (w : Workspace) : Type 0 where
@@ -85,7 +85,7 @@ pub record IsSearch (rows : List (Vec Edge Global)) (most : ℕ) (busy : ℕ →
   pub begun : Reaches w w.start 0
   pub within : (v at parent : ℕ) → Knows w v at parent → at ≤ most
   pub parents : (v at parent : ℕ) → Knows w v at parent → v ≢ w.start → HasParent rows w v at parent
-  pub dealt : (v at parent : ℕ) → Knows w v at parent → Waits w v at ⊎ busy v at ⊎ IsClosed rows most w v at
+  pub dealt : (v at parent : ℕ) → Knows w v at parent → WaitsAt w v at ⊎ busy v at ⊎ IsRelaxed rows most w v at
   pub ordered : IsHeap waiting_cmp (heap_items w.waiting)
 
 abbrev pub IsBusy : ℕ → ℕ → ℕ → ℕ → Type 0
@@ -114,7 +114,7 @@ IsEdgeClosed most w at edge = at + edge.weight ≤ most → Reaches w edge.to (a
 
 -- who waits is further away
 abbrev pub NobodyWaitsWithin : Workspace → ℕ → Type 0
-NobodyWaitsWithin w limit = (v at : ℕ) → Waits w v at → limit < at
+NobodyWaitsWithin w limit = (v at : ℕ) → WaitsAt w v at → limit < at
 
 -- what is known is the same
 pub record IsSame (old new : Workspace) : Type 0 where

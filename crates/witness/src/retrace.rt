@@ -1,7 +1,7 @@
 //! The way back to the start of a search.
 
 ghost use Rattle.std.specs.Prelude.{◌<◌, ◌≤◌, ◌^◌, length, IfOk};
-ghost use Rattle.witness.specs.Rows.{AreRows, IsWalkWithin};
+ghost use Rattle.witness.specs.Rows.{AreEdgeRows, IsWalkWithin};
 ghost use Rattle.witness.specs.Searching.{IsSearch, Reaches, NobodyBusy};
 
 use crate::edge::Edge;
@@ -16,7 +16,7 @@ pub(crate) fn retrace(
     v: u32,
     limit: u64,
 ) -> Result<Vec<u32>, AllocError>
-    requires rows { AreRows rows.now }
+    requires rows { AreEdgeRows rows.now }
     requires reached { Reaches workspace.now v limit }
     requires search { IsSearch rows.now workspace.now.most NobodyBusy workspace.now }
     ensures { IfOk result (λ nodes. IsWalkWithin rows.now workspace.now.start v limit nodes.items) }

@@ -1,7 +1,7 @@
 //! The search for a walk.
 
 ghost use Rattle.std.specs.Prelude.{◌≡◌, ◌<◌, ◌≤◌, ◌^◌, length, Contains, IfOk, IfNone, OnOk};
-ghost use Rattle.witness.specs.Rows.{AreRows, IsFoundWithin, NoWalkWithin, row_at};
+ghost use Rattle.witness.specs.Rows.{AreEdgeRows, IsFoundWithin, NoWalkWithin, row_at};
 ghost use Rattle.witness.specs.Searching.{IsSearch, IsSameRound, IsBusy, NobodyBusy, Reaches};
 ghost use Rattle.witness.specs.Searching.{IsNoMoreWork, IsEdgeClosed, AreLower};
 
@@ -20,7 +20,7 @@ pub fn find(
     v: u32,
     limit: u64,
 ) -> Result<Option<Vec<u32>>, AllocError>
-    requires rows { AreRows rows.now }
+    requires rows { AreEdgeRows rows.now }
     requires start { u < length rows.now }
     requires end { v < length rows.now }
     requires limit { limit < 2 ^ 57 }
@@ -64,7 +64,7 @@ pub fn walk_to(
     v: u32,
     limit: u64,
 ) -> Result<Option<Vec<u32>>, AllocError>
-    requires rows { AreRows rows.now }
+    requires rows { AreEdgeRows rows.now }
     requires end { v < length rows.now }
     requires limit { limit ≤ workspace.old.most }
     requires most { workspace.old.most < 2 ^ 57 }
@@ -95,7 +95,7 @@ fn relax(
     node: u32,
     at: u64,
 ) -> Result<(), AllocError>
-    requires rows { AreRows rows.now }
+    requires rows { AreEdgeRows rows.now }
     requires most { workspace.old.most < 2 ^ 57 }
     requires node { node < length rows.now }
     requires at { at ≤ workspace.old.most }
@@ -119,7 +119,7 @@ fn relax_edge(
     at: u64,
     edge: Edge,
 ) -> Result<(), AllocError>
-    requires rows { AreRows rows.now }
+    requires rows { AreEdgeRows rows.now }
     requires most { workspace.old.most < 2 ^ 57 }
     requires edge { Contains (row_at rows.now node) edge }
     requires at { at ≤ workspace.old.most }

@@ -25,7 +25,7 @@ pub struct Workspace {
 }
 
 impl Workspace {
-    ghost use Rattle.witness.specs.Searching.{IsFresh, IsOffered, IsNext, NobodyWaitsWithin};
+    ghost use Rattle.witness.specs.Searching.{IsFresh, IsWalkOffered, IsNext, NobodyWaitsWithin};
     ghost use Rattle.witness.specs.Searching.{Reaches, IsKnownAt, waiting_cmp};
 
     /// Tables without room; the first search makes it.
@@ -73,7 +73,7 @@ impl Workspace {
     /// Takes a walk to a node that weighs so much, if it is the first or lighter than the one that is known.
     pub fn offer(&mut self, to: u32, at: u64, parent: u32) -> Result<(), AllocError>
         requires { to < length self.old.places.items }
-        ensures { OnOk result (IsOffered self.old self.new to at parent) }
+        ensures { OnOk result (IsWalkOffered self.old self.new to at parent) }
     {
         let place = self.places[to as usize];
         if place.round != self.round || at < place.at {

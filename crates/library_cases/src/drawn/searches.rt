@@ -6,7 +6,7 @@ use super::enumerate::{HORIZON, first_arrival, first_labels, reached_by};
 use super::town::Asked;
 use crate::out;
 use case_script::words;
-use product_search::{Found, Hop, Walk, search};
+use product_search::{Found, Hop, Machine, Walk, search};
 use search_laws::{Graph, LETTERS, Labels, Time};
 use std::alloc::Global;
 
@@ -53,15 +53,16 @@ fn is_enumerated(alloc: Global, asked: &Asked, bound: Option<Time>, last: u32) -
 pub fn found_by(alloc: Global, asked: &Asked, bound: Option<Time>) -> Option<Found>
     requires bound { IfSome bound (λ b. 5 ≤ b) }
 {
-    let (town, rules) = (&asked.town, &asked.rules);
+    let town = &asked.town;
     let (starts, targets) = (&asked.starts, &asked.targets);
     if !all_below(starts, town.nodes) || !all_below(targets, town.nodes) {
         return None;
     }
+    let machine = Machine::new(alloc, asked.rules).ok()?;
     search(
         alloc,
         town,
-        rules,
+        &machine,
         starts,
         targets,
         Time::from(asked.dep),

@@ -1,8 +1,8 @@
 use Rattle.std.proofs.Common.{◌≡◌, map}
-use Rattle.automaton.specs.Builds.{row_of}
+use Rattle.automaton.specs.Builds.{draft_row}
 use Rattle.automaton.specs.Sets.{has}
 use Rattle.automaton.specs.States.{moves_upto}
 use Rattle.automaton.proofs.state.make_moves.Given as goal
 
 abbrev pub invariant-loop-index : goal.invariant-loop-index
-invariant-loop-index l = l.moves.items ≡ moves_upto (map row_of l.drafts) (has l.next) l.index
+invariant-loop-index l = l.moves.items ≡ moves_upto (map draft_row l.drafts) (has l.next) l.index

@@ -1,5 +1,5 @@
 use Rattle.std.proofs.Common.{◌≡◌, ◌∷◌, map, take}
-use Rattle.automaton.specs.Builds.{row_of}
+use Rattle.automaton.specs.Builds.{draft_row}
 use Rattle.automaton.specs.Sets.{has}
 use Rattle.automaton.specs.States.{state_for, view_of}
 use Rattle.automaton.proofs.state.make_states.Given as goal
@@ -7,4 +7,4 @@ use Rattle.automaton.proofs.state.make_states.Given as goal
 abbrev pub invariant-loop-draft : goal.invariant-loop-draft
 invariant-loop-draft l =
     map view_of l.states.items
-    ≡ state_for (map row_of l.drafts) (has l.fn.first) ∷ map (λ draft. state_for (map row_of l.drafts) (has draft.next)) (take l.draft-index l.drafts)
+    ≡ state_for (map draft_row l.drafts) (has l.fn.first) ∷ map (λ draft. state_for (map draft_row l.drafts) (has draft.next)) (take l.draft-index l.drafts)

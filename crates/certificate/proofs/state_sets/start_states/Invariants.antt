@@ -1,9 +1,9 @@
 use Rattle.std.proofs.Common.{◌≡◌, ℕ, ◌<◌, ◌↔◌, length, IsTrue}
-use Rattle.certificate.specs.StateSets.{IsIn}
+use Rattle.certificate.specs.StateSets.{IsInSet}
 use Rattle.certificate.proofs.state_sets.start_states.Given as goal
 
 abbrev pub invariant-loop-state : goal.invariant-loop-state
 invariant-loop-state g l = record {
   size : length l.set.items ≡ l.state;
-  are : (q : ℕ) → IsIn l.set.items q ↔ ((q < l.state) × IsTrue ((g.L.Labels.automaton l.labels).is_start q));
+  are : (q : ℕ) → IsInSet l.set.items q ↔ ((q < l.state) × IsTrue ((g.L.Labels.automaton l.labels).is_start q));
 }

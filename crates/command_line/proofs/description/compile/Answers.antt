@@ -1,6 +1,6 @@
 use Rattle.std.proofs.Common.{List, [], ◌∷◌, codes}
 use Rattle.clap.specs.Words.{Shape, Text, new_app}
-use Rattle.command_line.specs.Description.{command_of, one, two, four}
+use Rattle.command_line.specs.Description.{command_of, single_word, two, four}
 use Rattle.command_line.proofs.description.compile.Goals as goal
 
 -- the command with these words and options
@@ -13,7 +13,7 @@ three = codes "first" ∷ codes "second" ∷ codes "third" ∷ []
 pub returns : goal.returns
 returns c =
     let a = c.in_ok-command.ensures (new_app (codes "compile")).top c.named-command.ensures in
-    let b = c.in_ok-command-2.ensures (so_far one []) a in
+    let b = c.in_ok-command-2.ensures (so_far single_word []) a in
     let d = c.in_ok-command-3.ensures (so_far two []) b in
     let e = c.in_ok-command-4.ensures (so_far three []) d in
     let f = c.in_ok-command-5.ensures (so_far four []) e in

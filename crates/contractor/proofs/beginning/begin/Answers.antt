@@ -1,7 +1,7 @@
 use Rattle.std.proofs.Common.{◌≡◌, ◌<◌, ◌≤◌, List, [], None, length, get_or, subst}
 use Rattle.std.proofs.lemmas.List.{get_or_default}
 use Rattle.mode_network.specs.declared.nodes.Arc.{Arc}
-use Rattle.contractor.specs.Layers.{IsPlaced}
+use Rattle.contractor.specs.Layers.{IsEntryPlaced}
 use Rattle.contractor.proofs.PutLemmas.{placeable}
 use Rattle.contractor.proofs.BeginLemmas.{arc_low, arcs_more, begun}
 use Rattle.contractor.proofs.beginning.begin.Goals as goal
@@ -29,7 +29,7 @@ arcs-preserved c =
     let same = c.arcs-arc-items.ensures in
     let lt = subst (λ (xs : List Arc). k < length xs) same c.arcs-test.true in
     let is = λ (e : Arc). subst (λ (xs : List Arc). get_or xs k e ≡ arc) same (get_or_default items k e d c.arcs-test.true) in
-    let placed = subst (λ w. IsPlaced c.arcs.layer c.place.new.layer (record { from = arc.from; to = arc.to; weight = w; via = None })) c.from.ensures c.in_ok-place.ensures in
+    let placed = subst (λ w. IsEntryPlaced c.arcs.layer c.place.new.layer (record { from = arc.from; to = arc.to; weight = w; via = None })) c.from.ensures c.in_ok-place.ensures in
     arcs_more n c.known.ensures k arc lt is c.arcs.layer c.place.new.layer c.arcs.invariant placed
 
 pub returns-clause-state : goal.returns-clause-state

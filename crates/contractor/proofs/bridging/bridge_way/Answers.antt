@@ -3,8 +3,8 @@ use Rattle.std.specs.Prelude.{Vec, Contains}
 use Rattle.std.specs.declared.alloc.Global.{Global}
 use Rattle.std.proofs.lemmas.List.{get_or_default}
 use Rattle.witness.specs.declared.edge.Edge.{Edge}
-use Rattle.witness.specs.Rows.{AreRows, IsEdgePut, IsWalkWithin, NoWalkWithin}
-use Rattle.witness.specs.Searching.{IsOffered, IsSearch, NobodyBusy}
+use Rattle.witness.specs.Rows.{AreEdgeRows, IsEdgePut, IsWalkWithin, NoWalkWithin}
+use Rattle.witness.specs.Searching.{IsSearch, IsWalkOffered, NobodyBusy}
 use Rattle.witness.proofs.SearchLemmas.{put_search}
 use Rattle.contractor.specs.declared.way.Way.{Way}
 use Rattle.contractor.proofs.BridgeLemmas.{rows_are, inside, left_from, left_to, can_put, shortcut_more, witness_more, lighter_more}
@@ -26,7 +26,7 @@ returns-then-is_within-clause-state c =
 
 pub walk_to-requires-clause-rows : goal.walk_to-requires-clause-rows
 walk_to-requires-clause-rows c =
-    subst (λ (rows : List (Vec Edge Global)). AreRows rows) (sym c.deref-2.ensures.value) (rows_are (c.args.layer.now.order.items ++ c.args.x ∷ []) c.args.layer.now c.requires.state.layer)
+    subst (λ (rows : List (Vec Edge Global)). AreEdgeRows rows) (sym c.deref-2.ensures.value) (rows_are (c.args.layer.now.order.items ++ c.args.x ∷ []) c.args.layer.now c.requires.state.layer)
 
 pub put-requires-clause-from : goal.put-requires-clause-from
 put-requires-clause-from c =
@@ -75,5 +75,5 @@ returns-in_ok-offer-in-None-clause-search c =
     (inside c.args.network.now c.args.x c.args.ways.now c.args.k c.args.layer.now c.known.ensures c.requires.state way c.requires.place (λ e. get_or_default c.args.ways.now c.args.k e d c.requires.place)).to r.far
     (rw c.in-None.is at e.unreached)
     (subst (λ u. IsEdgePut c.args.layer.now.rows.items c.put.new.layer.rows.items u way.to way.sum) start c.in_ok-put-in-None.ensures.rows)
-    (subst (λ u. IsOffered now c.offer.new.self way.to way.sum u) start c.in_ok-offer-in-None.ensures)
+    (subst (λ u. IsWalkOffered now c.offer.new.self way.to way.sum u) start c.in_ok-offer-in-None.ensures)
     (subst (λ (rows : List (Vec Edge Global)). IsSearch rows c.args.workspace.now.most NobodyBusy now) c.deref-2.ensures.value e.search)

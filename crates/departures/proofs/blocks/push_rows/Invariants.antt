@@ -1,7 +1,7 @@
 use Rattle.std.proofs.Common.{take}
 use Rattle.journey.specs.Blocks.{AddsText}
-use Rattle.departures.specs.Blocks.{AreTold}
+use Rattle.departures.specs.Blocks.{AreRowsTold}
 use Rattle.departures.proofs.blocks.push_rows.Given as goal
 
 abbrev pub invariant-loop-row : goal.invariant-loop-row
-invariant-loop-row l = AddsText (AreTold l.network (take l.row-index l.rows)) l.initial.out.items l.out.items
+invariant-loop-row l = AddsText (AreRowsTold l.network (take l.row-index l.rows)) l.initial.out.items l.out.items

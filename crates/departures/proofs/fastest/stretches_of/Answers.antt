@@ -7,7 +7,7 @@ use Rattle.timetable_arcs.proofs.TableLemmas.{trip_of_pattern, departs_small}
 use Rattle.timetable_arcs.proofs.TripLemmas.{trip_well}
 use Rattle.plain_graph.proofs.RunLemmas.{is_there}
 use Rattle.departures.specs.declared.fastest.Stretch.{Stretch}
-use Rattle.departures.specs.Stretches.{AreShortened, AreWithin}
+use Rattle.departures.specs.Stretches.{AreShortened, FitBetweenCalls}
 use Rattle.departures.proofs.FastestLemmas.{AreShort, shorter}
 use Rattle.departures.proofs.fastest.stretches_of.Goals as goal
 
@@ -64,7 +64,7 @@ loop-run-preserved c =
     let run = c.in-Some.run' in
     let first = subst (λ (found : Option Instance). IsNextRun t p 0 c.loop-run.time found) c.in-Some.is c.next.ensures.first in
     let less = subst (λ (xs : List Stretch). AreShortened xs new) c.deref_mut.ensures.value c.shorten.ensures.shorter in
-    let own = subst (λ (calls : List Call). AreWithin calls new) c.run_calls.ensures c.shorten.ensures.within in
+    let own = subst (λ (calls : List Call). FitBetweenCalls calls new) c.run_calls.ensures c.shorten.ensures.within in
     let more = shorter t c.known.ensures p c.loop-run.time old.items new run c.loop-run.invariant first less own in
     let len : length new ≡ old.len = omega (arith, c.shorten.auto.stretches, c.deref_mut.ensures.len) in
     subst (λ (xs : List Stretch). AreShort t p (c.at-departure.result.1 + 1) xs) (sym (with_items_is old new len))

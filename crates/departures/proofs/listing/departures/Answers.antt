@@ -2,7 +2,7 @@ use Rattle.std.proofs.Common.{◌+◌, ◌≤◌, ◌<◌, List, Option, sym, su
 use Rattle.journey.specs.Best.{asked_by}
 use Rattle.departures.specs.declared.row.Row.{Row}
 use Rattle.departures.specs.Listing.{next_moment}
-use Rattle.departures.specs.Searching.{IsFirstFrom}
+use Rattle.departures.specs.Searching.{IsFirstRowFrom}
 use Rattle.departures.proofs.ListingLemmas.{IsListing, starts, ends, closes, goes_on}
 use Rattle.departures.proofs.listing.departures.Goals as goal
 
@@ -20,7 +20,7 @@ loop-best-preserved c =
     let n = s.plain.network.now in
     let q = asked_by s.query.now in
     let so_far = subst (λ (best : Option Row). IsListing n q c.args.without c.args.window c.loop-best.rows.items best) c.in-Some.is c.loop-best.invariant in
-    let next = subst (λ t. IsFirstFrom n q t c.in_ok-next.next) c.next_moment-from.ensures c.in_ok-next.ensures in
+    let next = subst (λ t. IsFirstRowFrom n q t c.in_ok-next.next) c.next_moment-from.ensures c.in_ok-next.ensures in
     let in_window : next_moment c.args.without c.in-Some.row.pair ≤ q.depart + c.args.window = omega (arith, c.if-from-closes.false, c.next_moment-from.ensures, c.from.ensures) in
     subst (λ (rows : List Row). IsListing n q c.args.without c.args.window rows c.in_ok-next.next) (sym c.in_ok-keep.ensures)
     (goes_on n q c.args.without c.args.window c.loop-best.rows.items c.in-Some.row so_far in_window c.in_ok-next.next next)

@@ -1,6 +1,6 @@
 use Rattle.std.proofs.Common.{◌+◌, ◌∙◌, sym, subst, arith}
 use Rattle.std.proofs.lemmas.List.{get_or_default}
-use Rattle.service_days.specs.Days.{AreDays, AreInOrder}
+use Rattle.service_days.specs.Days.{AreDays, AreRisingDays}
 use Rattle.journey.specs.Rides.{KeepsRules}
 use Rattle.departures.proofs.SettingOffLemmas.{IsWaiting, waiting_more, waited_at_ride, waited_at_none, waited_at_end}
 use Rattle.departures.proofs.setting_off.waited.Goals as goal
@@ -21,7 +21,7 @@ loop-step-preserved c =
     let rules : KeepsRules n = record {
       network = c.known.ensures;
       days = subst AreDays c.days.ensures c.facts.ensures.days;
-      order = subst AreInOrder c.days.ensures c.facts.ensures.order;
+      order = subst AreRisingDays c.days.ensures c.facts.ensures.order;
     } in
     let more = waiting_more n rules c.args.start c.args.at c.args.steps.now c.requires.waits c.loop-step.step-index _ _ _ _ c.loop-step.invariant c.loop-step-test.true
     (get_or_default c.args.steps.now c.loop-step.step-index _ _ c.loop-step-test.true) (sym c.is_ride.ensures ∙ c.if-is_ride.false) _ _ _ c.in-Some.ensures in

@@ -1,9 +1,9 @@
-use Rattle.few_boardings.specs.Rounds.{IsListing, left_of}
+use Rattle.few_boardings.specs.Rounds.{AreRowsSoFar, rides_left}
 use Rattle.journey.specs.Best.{asked_by}
 use Rattle.few_boardings.proofs.boardings.few_with.Given as goal
 
 abbrev pub invariant-loop-best : goal.invariant-loop-best
-invariant-loop-best l = IsListing l.network (asked_by l.query) l.rows.items l.best
+invariant-loop-best l = AreRowsSoFar l.network (asked_by l.query) l.rows.items l.best
 
 abbrev pub decreases-loop-best : goal.decreases-loop-best
-decreases-loop-best l = left_of l.best
+decreases-loop-best l = rides_left l.best

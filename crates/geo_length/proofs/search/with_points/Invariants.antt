@@ -1,7 +1,7 @@
 use Rattle.std.proofs.Common.{take}
 use Rattle.std.specs.Prelude.{filter}
-use Rattle.geo_length.specs.Nearest.{TakesIn}
+use Rattle.geo_length.specs.Nearest.{ExtendsNearest}
 use Rattle.geo_length.proofs.search.with_points.Given as goal
 
 abbrev pub invariant-loop-point : goal.invariant-loop-point
-invariant-loop-point g l = TakesIn (filter (g.F.PointFilter.passes l.wanted) (take l.point-index l.points)) l.place l.within l.fn.best l.nearest
+invariant-loop-point g l = ExtendsNearest (filter (g.F.PointFilter.passes l.wanted) (take l.point-index l.points)) l.place l.within l.fn.best l.nearest

@@ -2,7 +2,7 @@ use Rattle.std.proofs.Common.{◌≡◌, ℕ, ◌∙◌, ◌++◌, List, length,
 use Rattle.std.specs.List.{flat_map}
 use Rattle.std.specs.Int.{w64, to_be_bytes}
 use Rattle.hierarchy.specs.Lists.{WitnessLists}
-use Rattle.hierarchy_file.specs.Spelling.{node_text, witness_text}
+use Rattle.hierarchy_file.specs.Spelling.{node_in_bytes, witness_text}
 use Rattle.hierarchy_file.proofs.encoding.push_witness.Goals as goal
 
 joined : (out n1 n2 n3 a b c : List ℕ) → n1 ≡ out ++ a → n2 ≡ n1 ++ b → n3 ≡ n2 ++ c → n3 ≡ out ++ ((a ++ b) ++ c)
@@ -14,8 +14,8 @@ returns-clause-text c =
     let nodes = c.witness.inside.nodes.items in
     let long : c.len.result ≡ length nodes = search rules in
     let counted : c.push_u64.new.out.items ≡ c.push_u32.new.out.items ++ to_be_bytes w64 (length nodes) = c.in_ok-push_u64.ensures ∙ ap (λ n. c.push_u32.new.out.items ++ to_be_bytes w64 n) long in
-    let listed : c.push_nodes.new.out.items ≡ c.push_u64.new.out.items ++ flat_map node_text nodes =
-    c.in_ok-push_nodes.ensures ∙ ap (λ xs. c.push_u64.new.out.items ++ flat_map node_text xs) c.deref.ensures.value in
+    let listed : c.push_nodes.new.out.items ≡ c.push_u64.new.out.items ++ flat_map node_in_bytes nodes =
+    c.in_ok-push_nodes.ensures ∙ ap (λ xs. c.push_u64.new.out.items ++ flat_map node_in_bytes xs) c.deref.ensures.value in
     subst (λ (w : WitnessLists). c.push_nodes.new.out.items ≡ c.args.out.now.items ++ witness_text w) c.witness.view_is
-    (joined c.args.out.now.items c.push_u32.new.out.items c.push_u64.new.out.items c.push_nodes.new.out.items (node_text c.witness.inside.below) (to_be_bytes w64 (length nodes)) (flat_map node_text nodes)
+    (joined c.args.out.now.items c.push_u32.new.out.items c.push_u64.new.out.items c.push_nodes.new.out.items (node_in_bytes c.witness.inside.below) (to_be_bytes w64 (length nodes)) (flat_map node_in_bytes nodes)
     c.in_ok-push_u32.ensures counted listed)

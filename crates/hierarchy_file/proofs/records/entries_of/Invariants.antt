@@ -1,8 +1,8 @@
 use Rattle.std.proofs.Common.{◌≡◌, ◌-◌, None}
 use Rattle.hierarchy_file.specs.Spelling.{key_of_entry}
-use Rattle.hierarchy_file.specs.Reading.{many, entry_at}
+use Rattle.hierarchy_file.specs.Reading.{many_ascending, entry_front}
 use Rattle.hierarchy_file.proofs.LoopLemmas.{with_front}
 use Rattle.hierarchy_file.proofs.records.entries_of.Given as goal
 
 abbrev pub invariant-loop : goal.invariant-loop
-invariant-loop l = with_front l.entries.items (many entry_at key_of_entry (l.count - l.counter) l.before l.rest) ≡ many entry_at key_of_entry l.count None l.bytes
+invariant-loop l = with_front l.entries.items (many_ascending entry_front key_of_entry (l.count - l.counter) l.before l.rest) ≡ many_ascending entry_front key_of_entry l.count None l.bytes

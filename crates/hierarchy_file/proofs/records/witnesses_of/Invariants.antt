@@ -1,8 +1,8 @@
 use Rattle.std.proofs.Common.{◌≡◌, ◌-◌, None}
 use Rattle.hierarchy_file.specs.Spelling.{key_of_witness}
-use Rattle.hierarchy_file.specs.Reading.{many, witness_at}
+use Rattle.hierarchy_file.specs.Reading.{many_ascending, witness_at}
 use Rattle.hierarchy_file.proofs.LoopLemmas.{with_front}
 use Rattle.hierarchy_file.proofs.records.witnesses_of.Given as goal
 
 abbrev pub invariant-loop : goal.invariant-loop
-invariant-loop l = with_front l.witnesses.items (many witness_at key_of_witness (l.count - l.counter) l.before l.rest) ≡ many witness_at key_of_witness l.count None l.bytes
+invariant-loop l = with_front l.witnesses.items (many_ascending witness_at key_of_witness (l.count - l.counter) l.before l.rest) ≡ many_ascending witness_at key_of_witness l.count None l.bytes

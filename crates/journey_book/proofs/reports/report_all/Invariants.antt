@@ -1,5 +1,5 @@
 use Rattle.std.specs.Prelude.{◌≤◌, map, string_bytes, take}
-use Rattle.journey_book.specs.Keepers.{Stays}
+use Rattle.journey_book.specs.Keepers.{BookStays}
 use Rattle.journey_book.specs.Reports.{HasReported}
 use Rattle.journey_book.proofs.reports.report_all.Given as goal
 
@@ -7,6 +7,6 @@ use Rattle.journey_book.proofs.reports.report_all.Given as goal
 abbrev pub invariant-loop-name : goal.invariant-loop-name
 invariant-loop-name g l = record {
   later : (g.K.Keeper.meaning l.fn.keeper).faults ≤ (g.K.Keeper.meaning l.keeper).faults;
-  stays : Stays (g.K.Keeper.meaning l.fn.keeper) (g.K.Keeper.meaning l.keeper);
+  stays : BookStays (g.K.Keeper.meaning l.fn.keeper) (g.K.Keeper.meaning l.keeper);
   lines : HasReported (g.R.Report.rule l.report) (g.K.Keeper.meaning l.fn.keeper) (map string_bytes (take l.name-index l.names)) l.text.items l.well;
 }

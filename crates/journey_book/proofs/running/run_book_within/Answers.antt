@@ -1,15 +1,15 @@
 use Rattle.std.proofs.Common.{map, string_bytes, subst}
 use Rattle.journey_book.specs.Commands.{says}
-use Rattle.journey_book.specs.Requests.{Request, request_of}
-use Rattle.journey_book.specs.Sayings.{scene}
+use Rattle.journey_book.specs.Requests.{BookRequest, request_of}
+use Rattle.journey_book.specs.Sayings.{book_scene}
 use Rattle.journey_book.proofs.CompleteLemmas.{completes}
 use Rattle.journey_book.proofs.WordLemmas.{asked_once}
 use Rattle.journey_book.proofs.running.run_book_within.Goals as goal
 
 pub returns-in-Err-clause-complete : goal.returns-in-Err-clause-complete
 returns-in-Err-clause-complete g c r files asks tells can reads keeps writes =
-    let old = scene (g.F.Shelf.meaning c.args.shelf.now) (g.K.Keeper.meaning c.args.keeper.now) (g.O.Sink.meaning c.args.out.now) in
-    let new = scene (g.F.Shelf.meaning c.carry_out.new.shelf) (g.K.Keeper.meaning c.carry_out.new.keeper) (g.O.Sink.meaning c.carry_out.new.out) in
+    let old = book_scene (g.F.Shelf.meaning c.args.shelf.now) (g.K.Keeper.meaning c.args.keeper.now) (g.O.Sink.meaning c.args.out.now) in
+    let new = book_scene (g.F.Shelf.meaning c.carry_out.new.shelf) (g.K.Keeper.meaning c.carry_out.new.keeper) (g.O.Sink.meaning c.carry_out.new.out) in
     let same = asked_once (map string_bytes c.args.words.now) (request_of c.in-Some.command) r c.in-Some.ensures asks in
     completes c.args.caps.now files old new tells (record { shelf = reads; keeper = keeps; out = writes }) r can c.in-Err.outcome
-    (subst (λ (q : Request). says c.args.caps.now q old new c.in-Err.outcome) same c.in-Err.ensures)
+    (subst (λ (q : BookRequest). says c.args.caps.now q old new c.in-Err.outcome) same c.in-Err.ensures)

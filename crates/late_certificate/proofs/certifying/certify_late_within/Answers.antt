@@ -1,5 +1,5 @@
 use Rattle.std.proofs.Common.{refl, subst}
-use Rattle.service_days.specs.Days.{AreDays, AreInOrder}
+use Rattle.service_days.specs.Days.{AreDays, AreRisingDays}
 use Rattle.journey.specs.Best.{Asked, asked_by}
 use Rattle.journey.specs.Rides.{KeepsRules}
 use Rattle.latest_departure.specs.Latest.{AreLateLabels}
@@ -16,7 +16,7 @@ returns-clause-certificate c =
     let right = rw c.in-Ended.is at c.in_ok-found.ensures.journey in
     let are = rw c.in-Ended.is at c.in_ok-found.ensures.labels in
     let times = rw c.in-Ended.is at c.in_ok-found.ensures.times in
-    let rules : KeepsRules n = record { network = c.known.ensures; days = subst AreDays c.days.ensures c.facts.ensures.days; order = subst AreInOrder c.days.ensures c.facts.ensures.order } in
+    let rules : KeepsRules n = record { network = c.known.ensures; days = subst AreDays c.days.ensures c.facts.ensures.days; order = subst AreRisingDays c.days.ensures c.facts.ensures.order } in
     let valid = late_is_valid n rules q.line (asked_by q) c.requires.asks late.journey right late.labels.items are in
     record {
       line_is = refl;

@@ -1,7 +1,7 @@
 use Rattle.std.proofs.Common.{refl, sym, subst, arith}
 use Rattle.mode_network.specs.NetworkLists.{NetworkLists}
 use Rattle.mode_network.specs.Timetables.{IsTimetableOf}
-use Rattle.service_days.specs.Days.{AreDays, AreInOrder}
+use Rattle.service_days.specs.Days.{AreDays, AreRisingDays}
 use Rattle.journey.specs.Best.{asked_by}
 use Rattle.journey.specs.Rides.{KeepsRules}
 use Rattle.certificate.proofs.VerifyLemmas.{automaton_denotes, few_copies}
@@ -52,6 +52,6 @@ returns-clause-verdict c =
 pub returns-clause-proves : goal.returns-clause-proves
 returns-clause-proves c = λ valid.
     let n = c.args.network.now in
-    let rules : KeepsRules n = record { network = c.known.ensures; days = subst AreDays c.days.ensures c.facts.ensures.days; order = subst AreInOrder c.days.ensures c.facts.ensures.order } in
+    let rules : KeepsRules n = record { network = c.known.ensures; days = subst AreDays c.days.ensures c.facts.ensures.days; order = subst AreRisingDays c.days.ensures c.facts.ensures.order } in
     let claim = claim_on c.args.query.now c.args.claimed.now c.args.labels.now in
     valid_late_proves n rules claim (subst (IsLateVerdict n claim) valid (returns-clause-verdict c))

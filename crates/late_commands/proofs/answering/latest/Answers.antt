@@ -7,7 +7,7 @@ use Rattle.run_steps.specs.InTurn.{AnswersFile}
 use Rattle.run_steps.specs.Sayings.{Ends, end_of}
 use Rattle.run_steps.proofs.PieceLemmas.{stops_early}
 use Rattle.run_steps.proofs.Steps.{on_region}
-use Rattle.late_commands.specs.Commands.{IsLatest}
+use Rattle.late_commands.specs.Commands.{IsLatestBlock}
 use Rattle.late_commands.proofs.answering.latest.Goals as goal
 
 pub returns-in_default : goal.returns-in_default
@@ -15,7 +15,7 @@ returns-in_default g c =
     let mid = g.F.Shelf.meaning c.read_region.new.shelf in
     let out = g.O.Sink.meaning c.args.ports.now.out in
     on_region (g.F.Shelf.meaning c.args.ports.now.shelf) mid mid out out c.args.region.now
-    c.args.caps.now _ c.in_ok-network.network c.in_ok-network.ensures.ok c.in_ok-network.ensures.later _ (stops_early Queries c.args.queries.now (IsLatest c.in_ok-network.network c.args.limits) (λ bytes. Ends Done) mid out)
+    c.args.caps.now _ c.in_ok-network.network c.in_ok-network.ensures.ok c.in_ok-network.ensures.later _ (stops_early Queries c.args.queries.now (IsLatestBlock c.in_ok-network.network c.args.limits) (λ bytes. Ends Done) mid out)
 
 pub returns : goal.returns
 returns g c =
@@ -25,4 +25,4 @@ returns g c =
     let after = g.O.Sink.meaning c.answer_file.new.ports.out in
     on_region (g.F.Shelf.meaning c.args.ports.now.shelf) mid new before after c.args.region.now
     c.args.caps.now _ c.in_ok-network.network c.in_ok-network.ensures.ok c.in_ok-network.ensures.later _
-    (subst (λ (n : NetworkLists). AnswersFile Queries c.args.queries.now (IsLatest n c.args.limits) (scene mid before) (scene new after) (end_of c.answer_file.result)) c.in-Ok.ensures c.answer_file.ensures)
+    (subst (λ (n : NetworkLists). AnswersFile Queries c.args.queries.now (IsLatestBlock n c.args.limits) (scene mid before) (scene new after) (end_of c.answer_file.result)) c.in-Ok.ensures c.answer_file.ensures)

@@ -2,14 +2,14 @@ use Rattle.std.proofs.Common.{◌≡◌, ◌≤◌, ◌-◌, length, drop}
 use Rattle.mode_expression.specs.Machine.{read_from}
 use Rattle.mode_expression.specs.Reading.{reading_of}
 use Rattle.mode_expression.specs.Tokens.{tokens_from}
-use Rattle.mode_expression.specs.Views.{state_of}
+use Rattle.mode_expression.specs.Views.{state_of_reader}
 use Rattle.mode_expression.proofs.parsing.read_tokens.Given as goal
 
 -- what the reader makes of the tokens that are left is what the text gives
 abbrev pub invariant-loop-spot : goal.invariant-loop-spot
 invariant-loop-spot l =
     (l.from ≤ length l.text)
-    × (reading_of l.text ≡ read_from (length l.text) (state_of l.reader) (tokens_from l.from (drop l.from l.text)))
+    × (reading_of l.text ≡ read_from (length l.text) (state_of_reader l.reader) (tokens_from l.from (drop l.from l.text)))
 
 abbrev pub decreases-loop-spot : goal.decreases-loop-spot
 decreases-loop-spot l = length l.text - l.from

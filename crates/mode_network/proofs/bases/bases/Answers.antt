@@ -1,11 +1,11 @@
 use Rattle.std.proofs.Common.{◌∙◌, subst, sym, arith}
 use Rattle.std.proofs.lemmas.List.{get_or_default}
 use Rattle.service_days.specs.DaysMeaning.{DaysMeaning}
-use Rattle.service_days.specs.Days.{AreDays, AreInOrder}
+use Rattle.service_days.specs.Days.{AreDays, AreRisingDays}
 use Rattle.timetable_arcs.specs.Table.{AreBases}
 use Rattle.mode_network.proofs.bases.bases.Goals as goal
 
-bases_of : (days : DaysMeaning) → AreDays days → AreInOrder days → AreBases days.bases
+bases_of : (days : DaysMeaning) → AreDays days → AreRisingDays days → AreBases days.bases
 bases_of days are order = record {
   rise = λ i j d lt h. rw (get_or_default days.bases i d 0 (omega arith), get_or_default days.bases j d 0 h) (order.bases_rise i j lt h);
   small = λ k d h. rw (get_or_default days.bases k d 0 h) (order.bases_small k (omega (arith, are.bases_long)));

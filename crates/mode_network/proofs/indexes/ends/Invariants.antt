@@ -1,6 +1,6 @@
 use Rattle.std.proofs.Common.{take}
-use Rattle.mode_network.specs.Indexes.{AreEnds}
+use Rattle.mode_network.specs.Indexes.{AreEndMarks}
 use Rattle.mode_network.proofs.indexes.ends.Given as goal
 
 abbrev pub invariant-loop-arc : goal.invariant-loop-arc
-invariant-loop-arc l = AreEnds l.nodes (take l.arc-index l.arcs) l.ends.items
+invariant-loop-arc l = AreEndMarks l.nodes (take l.arc-index l.arcs) l.ends.items

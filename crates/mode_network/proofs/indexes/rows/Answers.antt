@@ -1,7 +1,7 @@
 use Rattle.std.proofs.Common.{◌≡◌, ◌∙◌, ℕ, Option, ap, sym, arith, length-append}
 use Rattle.mode_network.specs.declared.indexes.NodeRow.{NodeRow}
 use Rattle.mode_network.specs.NetworkLists.{mode_at}
-use Rattle.mode_network.specs.Indexes.{count_below, row_of}
+use Rattle.mode_network.specs.Indexes.{arcs_begun_below, node_row}
 use Rattle.mode_network.proofs.IndexLemmas.{count_below_is, rows_more}
 use Rattle.mode_network.proofs.indexes.rows.Goals as goal
 
@@ -18,10 +18,10 @@ loop-v-preserved c =
     let arc = c.skip_below-arc.ensures in
     let link = c.skip_below-link.ensures in
     let pushed = c.in_ok-push.ensures.items in
-    let row_is : made c.mode_at.result c.skip_below-arc.result c.skip_below-link.result ≡ row_of roads arcs links v =
+    let row_is : made c.mode_at.result c.skip_below-arc.result c.skip_below-link.result ≡ node_row roads arcs links v =
     ap (λ mode. made mode c.skip_below-arc.result c.skip_below-link.result) c.mode_at.ensures
     ∙ ap (λ n. made (mode_at roads v) n c.skip_below-link.result) (sym (count_below_is arcs v c.skip_below-arc.result c.requires.arcs_ascend arc.within arc.below arc.next))
-    ∙ ap (made (mode_at roads v) (count_below arcs v)) (sym (count_below_is links v c.skip_below-link.result c.requires.links_ascend link.within link.below link.next)) in
+    ∙ ap (made (mode_at roads v) (arcs_begun_below arcs v)) (sym (count_below_is links v c.skip_below-link.result c.requires.links_ascend link.within link.below link.next)) in
     record {
       arc_within = arc.within;
       arcs_below = λ k d low h. omega (arith, arc.below k d low h);

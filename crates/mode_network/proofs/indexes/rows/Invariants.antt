@@ -2,7 +2,7 @@ use Rattle.std.proofs.Common.{◌≡◌, ℕ, ◌<◌, ◌≤◌, length}
 use Rattle.std.specs.Prelude.{slice_index_or}
 use Rattle.std.specs.List.{AllWithin}
 use Rattle.mode_network.specs.declared.indexes.NodeRow.{NodeRow}
-use Rattle.mode_network.specs.Indexes.{row_of}
+use Rattle.mode_network.specs.Indexes.{node_row}
 use Rattle.mode_network.proofs.indexes.rows.Given as goal
 
 abbrev pub invariant-loop-v : goal.invariant-loop-v
@@ -12,5 +12,5 @@ invariant-loop-v l = record {
   link_within : l.link ≤ length l.links;
   links_below : AllWithin (λ link. link.from < l.v) l.links 0 l.link;
   so_far : length l.rows.items ≡ l.v;
-  are : (w : ℕ) (d : NodeRow) → w < l.v → slice_index_or l.rows.items w d ≡ row_of l.roads l.arcs l.links w;
+  are : (w : ℕ) (d : NodeRow) → w < l.v → slice_index_or l.rows.items w d ≡ node_row l.roads l.arcs l.links w;
 }

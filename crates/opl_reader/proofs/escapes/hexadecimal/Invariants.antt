@@ -1,7 +1,7 @@
 use Rattle.std.proofs.Common.{◌≡◌, ◌^◌, ◌<◌, take, fold, Some}
 use Rattle.plain_texts.specs.Digits.{more}
-use Rattle.opl_reader.specs.Escapes.{hexadecimal_step}
+use Rattle.opl_reader.specs.Escapes.{either_case_step}
 use Rattle.opl_reader.proofs.escapes.hexadecimal.Given as goal
 
 abbrev pub invariant-loop-byte : goal.invariant-loop-byte
-invariant-loop-byte l = (l.n < 16 ^ l.byte-index) × (fold (more hexadecimal_step) (Some 0) (take l.byte-index l.digits) ≡ Some l.n)
+invariant-loop-byte l = (l.n < 16 ^ l.byte-index) × (fold (more either_case_step) (Some 0) (take l.byte-index l.digits) ≡ Some l.n)

@@ -1,7 +1,7 @@
 use Rattle.std.proofs.Common.{◌≡◌, take}
 use Rattle.std.specs.List.{flat_map}
-use Rattle.phase_graph.specs.InUse.{numbers_of}
+use Rattle.phase_graph.specs.InUse.{target_numbers}
 use Rattle.phase_graph.proofs.in_use.numbers_in.Given as goal
 
 abbrev pub invariant-loop-v : goal.invariant-loop-v
-invariant-loop-v l = l.ends.items ≡ flat_map (numbers_of l.hierarchy) (take l.v-index l.targets)
+invariant-loop-v l = l.ends.items ≡ flat_map (target_numbers l.hierarchy) (take l.v-index l.targets)

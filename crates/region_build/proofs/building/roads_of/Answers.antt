@@ -2,7 +2,7 @@ use Rattle.std.proofs.Common.{ℤ, ap, ◌∙◌, subst, List, Option}
 use Rattle.plan_base.specs.declared.places.Place.{Place}
 use Rattle.opl_reader.specs.ObjectLists.{ObjectLists}
 use Rattle.opl_reader.specs.declared.objects.OsmNode.{OsmNode}
-use Rattle.road_profile.specs.Legs.{place_at}
+use Rattle.road_profile.specs.Legs.{place_of_node}
 use Rattle.road_profile.specs.declared.rows.RoadRow.{RoadRow}
 use Rattle.region_build.specs.Ends.{AreEnds}
 use Rattle.mode_network.specs.Rules.{AreInOrder}
@@ -16,6 +16,6 @@ returns-clause-are c = record {
   ends_are = subst (λ (rows : List RoadRow). AreEnds rows c.in_ok-ends.ends) c.deref-2.ensures.value c.in_ok-ends.ensures;
   nodes_are = c.in_ok-nodes.ensures
       ∙ ap (λ (f : ℤ → Option Place). road_nodes f c.in_ok-ends.ends) (λ i id. c.in_ok-places.ensures id i)
-      ∙ ap (λ (nodes : List OsmNode). road_nodes (place_at nodes) c.in_ok-ends.ends) (c.deref.ensures.value ∙ ap (λ (objects : ObjectLists). objects.nodes) c.objects.view_is);
+      ∙ ap (λ (nodes : List OsmNode). road_nodes (place_of_node nodes) c.in_ok-ends.ends) (c.deref.ensures.value ∙ ap (λ (objects : ObjectLists). objects.nodes) c.objects.view_is);
   arcs_are = subst (λ (rows : List RoadRow). AreInOrder (arcs_of c.in_ok-ends.ends rows) c.in_ok-arcs.arcs.items) c.deref-3.ensures.value c.in_ok-arcs.ensures;
 }

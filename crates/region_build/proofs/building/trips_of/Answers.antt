@@ -2,7 +2,7 @@ use Rattle.std.proofs.Common.{List, ℕ, Option, ◌≡◌, ◌≤◌, length, m
 use Rattle.std.specs.List.{All, AllByRecursion}
 use Rattle.plan_base.specs.declared.limits.Caps.{Caps}
 use Rattle.gtfs_tables.specs.FeedLists.{FeedLists}
-use Rattle.gtfs_tables.specs.Sound.{IsId}
+use Rattle.gtfs_tables.specs.Sound.{IsFeedId}
 use Rattle.gtfs_tables.specs.declared.frequencies.FrequencyRow.{FrequencyRow}
 use Rattle.region_build.specs.Answers.{fault_by}
 use Rattle.region_build.specs.Compiled.{network_lists}
@@ -31,7 +31,7 @@ tally_of-requires c =
 
 pub numbered_trips-requires-clause-ids : goal.numbered_trips-requires-clause-ids
 numbered_trips-requires-clause-ids c =
-    subst (λ (sources : List Source). AllByRecursion (λ (source : Source). IsId source.id.now) sources) (sym c.deref-7.ensures.value)
+    subst (λ (sources : List Source). AllByRecursion (λ (source : Source). IsFeedId source.id.now) sources) (sym c.deref-7.ensures.value)
     (sources_have_ids c.args.feed.now c.args.days.now c.deref-3.result.now c.deref-4.result.now 0 (length c.args.feed.now.routes) c.args.feed.now.trips c.in_ok-sources.sources.items c.in_ok-sources.ensures c.requires.feed.trips)
 
 pub returns-in-Some-clause-fault : goal.returns-in-Some-clause-fault

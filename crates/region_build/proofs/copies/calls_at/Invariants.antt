@@ -1,7 +1,7 @@
 use Rattle.std.proofs.Common.{◌≡◌, ◌++◌, length, map, nat_eq, true}
 use Rattle.std.specs.HashMap.{get}
 use Rattle.std.specs.List.{list_all}
-use Rattle.region_build.specs.Copies.{call_at, is_early}
+use Rattle.region_build.specs.Copies.{call_at, is_copy_early}
 use Rattle.region_build.proofs.copies.calls_at.Given as goal
 
 abbrev pub decreases-loop-rest : goal.decreases-loop-rest
@@ -10,5 +10,5 @@ decreases-loop-rest l = length l.rest
 abbrev pub invariant-loop-rest : goal.invariant-loop-rest
 invariant-loop-rest l = record {
   so_far : l.copy.items ++ map (call_at (get nat_eq l.numbers.by_stop) l.first l.leave) l.rest ≡ map (call_at (get nat_eq l.numbers.by_stop) l.first l.leave) l.calls;
-  early : list_all (is_early l.first l.leave) l.rest ≡ true;
+  early : list_all (is_copy_early l.first l.leave) l.rest ≡ true;
 }

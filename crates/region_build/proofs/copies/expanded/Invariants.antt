@@ -1,7 +1,7 @@
 use Rattle.std.proofs.Common.{◌≡◌, ◌++◌, length, map, nat_eq}
 use Rattle.std.specs.HashMap.{get}
 use Rattle.std.specs.List.{AllByRecursion, flat_map}
-use Rattle.gtfs_tables.specs.Sound.{IsId}
+use Rattle.gtfs_tables.specs.Sound.{IsFeedId}
 use Rattle.region_build.specs.Copies.{copies_of}
 use Rattle.region_build.specs.Sources.{lists_of}
 use Rattle.region_build.proofs.copies.expanded.Given as goal
@@ -11,6 +11,6 @@ decreases-loop-rest l = length l.rest
 
 abbrev pub invariant-loop-rest : goal.invariant-loop-rest
 invariant-loop-rest l = record {
-  ids : AllByRecursion (λ source. IsId source.id.now) l.rest;
+  ids : AllByRecursion (λ source. IsFeedId source.id.now) l.rest;
   so_far : l.trips.items ++ flat_map (copies_of (get nat_eq l.numbers.by_stop)) (map lists_of l.rest) ≡ flat_map (copies_of (get nat_eq l.numbers.by_stop)) (map lists_of l.sources);
 }

@@ -1,6 +1,6 @@
 use Rattle.std.proofs.Common.{◌≡◌, ◌+◌, ◌++◌, length}
 use Rattle.std.specs.List.{AllByRecursion}
-use Rattle.gtfs_tables.specs.Sound.{IsId}
+use Rattle.gtfs_tables.specs.Sound.{IsFeedId}
 use Rattle.region_build.specs.StopNames.{entries_from}
 use Rattle.region_build.proofs.stops.all_entries.Given as goal
 
@@ -10,6 +10,6 @@ decreases-loop-rest l = length l.rest
 abbrev pub invariant-loop-rest : goal.invariant-loop-rest
 invariant-loop-rest l = record {
   so_far : l.entries.items ++ entries_from l.place l.rest ≡ entries_from 0 l.stops;
-  ids : AllByRecursion (λ stop. IsId stop.id) l.rest;
+  ids : AllByRecursion (λ stop. IsFeedId stop.id) l.rest;
   count : l.place + length l.rest ≡ length l.stops;
 }

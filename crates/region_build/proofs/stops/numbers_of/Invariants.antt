@@ -1,6 +1,6 @@
 use Rattle.std.proofs.Common.{◌≡◌, ℕ, ◌+◌, length, nat_eq}
 use Rattle.std.specs.HashMap.{get}
-use Rattle.region_build.specs.Numbers.{or_number}
+use Rattle.std.specs.Option.{option_or}
 use Rattle.region_build.specs.StopNames.{number_from}
 use Rattle.region_build.proofs.stops.numbers_of.Given as goal
 
@@ -9,6 +9,6 @@ decreases-loop-rest l = length l.rest
 
 abbrev pub invariant-loop-rest : goal.invariant-loop-rest
 invariant-loop-rest l = record {
-  noted : (stop : ℕ) → or_number (get nat_eq l.by_stop stop) (number_from l.number l.rest stop) ≡ number_from 0 l.entries stop;
+  noted : (stop : ℕ) → option_or (get nat_eq l.by_stop stop) (number_from l.number l.rest stop) ≡ number_from 0 l.entries stop;
   count : l.number + length l.rest ≡ length l.entries;
 }

@@ -1,8 +1,8 @@
 use Rattle.std.proofs.Common.{◌≡◌, ℤ, take}
 use Rattle.std.specs.HashMap.{get}
 use Rattle.std.specs.Ordering.{int_eq}
-use Rattle.road_profile.specs.Legs.{place_at}
+use Rattle.road_profile.specs.Legs.{place_of_node}
 use Rattle.road_profile.proofs.places.places_of.Given as goal
 
 abbrev pub invariant-loop-node : goal.invariant-loop-node
-invariant-loop-node l = (id : ℤ) → get int_eq l.by_id id ≡ place_at (take l.node-index l.nodes) id
+invariant-loop-node l = (id : ℤ) → get int_eq l.by_id id ≡ place_of_node (take l.node-index l.nodes) id

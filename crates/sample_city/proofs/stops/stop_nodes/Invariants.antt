@@ -7,6 +7,6 @@ decreases-loop-rest l = length l.rest
 
 abbrev pub invariant-loop-rest : goal.invariant-loop-rest
 invariant-loop-rest l = record {
-  so_far : l.nodes.items ++ spec.stop_nodes l.number l.rest ≡ spec.stop_nodes 0 l.stops;
+  so_far : l.nodes.items ++ spec.city_stop_nodes l.number l.rest ≡ spec.city_stop_nodes 0 l.stops;
   count : l.number + length l.rest ≡ length l.stops;
 }

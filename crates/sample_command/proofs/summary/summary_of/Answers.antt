@@ -1,5 +1,5 @@
 use Rattle.std.proofs.Common.{arith}
-use Rattle.sample_command.specs.Queries.{query_lines}
+use Rattle.sample_command.specs.Queries.{sampled_queries}
 use Rattle.sample_command.proofs.TimeLaws.{same_times}
 use Rattle.sample_command.proofs.summary.summary_of.Goals as goal
 
@@ -20,7 +20,7 @@ returns g c =
       plain = plain;
       times = c.in_ok-plain.ensures.times;
       over = over;
-      same = same_times city (query_lines c.args.n) over plain c.in_ok-over.ensures.times c.in_ok-plain.ensures.times;
+      same = same_times city (sampled_queries c.args.n) over plain c.in_ok-over.ensures.times c.in_ok-plain.ensures.times;
       settled = c.in_ok-over.settled;
       labels = c.in_ok-over.ensures.labels;
       text = rw (← c.deref.ensures.value, ← c.deref-2.ensures.value) c.in_ok-text.ensures;

@@ -1,6 +1,6 @@
 use Rattle.std.proofs.Common.{ℕ, List, length, subst, option_map}
-use Rattle.planning.specs.Settled.{IsSettledBy}
-use Rattle.sample_command.specs.Times.{IsTime, counted, time_from}
+use Rattle.planning.specs.Settled.{IsSettledCount}
+use Rattle.sample_command.specs.Times.{IsTravelTime, labels_counted, time_from}
 use Rattle.sample_command.proofs.TimeLaws.{time_found, labels_found}
 use Rattle.sample_command.proofs.times.time_of.Goals as goal
 
@@ -12,7 +12,7 @@ returns-clause-time c =
     let line = c.in-Ok.ensures.line in
     let found = c.in_ok-found.found in
     let is = time_found n c.known.ensures h q (rw line c.in-Ok.ensures.query) found.best found.labels.items c.in_ok-found.ensures.journey c.in_ok-found.ensures.certifiable in
-    rw c.time_from-time.ensures (subst (λ (l : List ℕ). IsTime n l (time_from q.depart found.best)) line is)
+    rw c.time_from-time.ensures (subst (λ (l : List ℕ). IsTravelTime n l (time_from q.depart found.best)) line is)
 
 pub returns-clause-settled : goal.returns-clause-settled
 returns-clause-settled c =
@@ -22,4 +22,4 @@ returns-clause-settled c =
     let line = c.in-Ok.ensures.line in
     let found = c.in_ok-found.found in
     let is = labels_found n c.known.ensures h q (rw line c.in-Ok.ensures.query) found.labels.items c.in_ok-found.ensures.labels in
-    rw (c.counted-settled.ensures, c.deref.ensures.value) (subst (λ (l : List ℕ). IsSettledBy n h l (counted h (length found.labels.items))) line is)
+    rw (c.counted-settled.ensures, c.deref.ensures.value) (subst (λ (l : List ℕ). IsSettledCount n h l (labels_counted h (length found.labels.items))) line is)

@@ -1,7 +1,7 @@
 use Rattle.std.proofs.Common.{◌≡◌, ℕ, List, ◌∙◌, sym, subst, refl, arith, option_map}
-use Rattle.planning.specs.Settled.{IsSettledBy, Settled}
+use Rattle.planning.specs.Settled.{IsSettledCount, Settled}
 use Rattle.sample_command.specs.Queries.{lines_before, query_line}
-use Rattle.sample_command.specs.Times.{AreTimes, IsTime}
+use Rattle.sample_command.specs.Times.{AreTimes, IsTravelTime}
 use Rattle.sample_command.proofs.TimeLaws.{no_lines, lines_more, times_more, settled_more, total_more, time_below}
 use Rattle.sample_command.proofs.times.times_of.Goals as goal
 
@@ -27,8 +27,8 @@ loop-k-preserved c =
     let now = c.loop-k.invariant in
     let time = c.in_ok-time.time in
     let at_line = c.deref.ensures.value ∙ c.in_ok-line.ensures in
-    let is_time = subst (λ (l : List ℕ). IsTime n l time) at_line c.in_ok-time.ensures.time in
-    let is_count = subst (λ (l : List ℕ). IsSettledBy n h l c.in_ok-time.labels) at_line c.in_ok-time.ensures.settled in
+    let is_time = subst (λ (l : List ℕ). IsTravelTime n l time) at_line c.in_ok-time.ensures.time in
+    let is_count = subst (λ (l : List ℕ). IsSettledCount n h l c.in_ok-time.labels) at_line c.in_ok-time.ensures.settled in
     let pushed = c.in_ok-push.ensures.items in
     record {
       times = rw (lines_more c.args.n k, pushed) (times_more n before c.loop-k.times.items line time now.times is_time);

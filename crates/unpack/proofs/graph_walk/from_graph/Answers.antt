@@ -1,6 +1,6 @@
 use Rattle.std.proofs.Common.{Result, Ok, Err}
 use Rattle.std.specs.Prelude.{IfOk}
-use Rattle.unpack.specs.Unpacking.{end_of, arrival_of}
+use Rattle.unpack.specs.Unpacking.{node_after, arrival_after}
 use Rattle.unpack.proofs.PhaseLemmas.{plain_unpacked}
 use Rattle.unpack.proofs.graph_walk.from_graph.Goals as goal
 
@@ -14,5 +14,5 @@ returns-in-Plain-clause-unpacked c =
     let walk = c.args.walk.now in
     rw c.in-Plain.is
     (if_ok_both c.from_plain.result _ _ _
-    (λ j real boarded. plain_unpacked plain.network.now plain.timetable.now j.start j.at (end_of walk.node walk.hops.items) (arrival_of walk.at walk.hops.items) j.steps walk.hops.items walk.node real boarded)
+    (λ j real boarded. plain_unpacked plain.network.now plain.timetable.now j.start j.at (node_after walk.node walk.hops.items) (arrival_after walk.at walk.hops.items) j.steps walk.hops.items walk.node real boarded)
     c.from_plain.ensures.real c.from_plain.ensures.boarded)

@@ -3,7 +3,7 @@ use Rattle.std.specs.Prelude.{All}
 use Rattle.timetable_arcs.specs.Table.{IsTable}
 use Rattle.mode_network.specs.declared.steps.Step.{Step}
 use Rattle.journey.specs.Boarded.{AreOnTime}
-use Rattle.unpack.specs.Unpacking.{IsSoon, steps_of, end_of, arrival_of, letters_of}
+use Rattle.unpack.specs.Unpacking.{IsSoon, steps_of, node_after, arrival_after, letters_of}
 use Rattle.unpack.proofs.UnpackLemmas.{hops_on_time, are_real, have_arcs, steps_soon}
 use Rattle.unpack.proofs.plain_walk.from_plain.Goals as goal
 
@@ -19,7 +19,7 @@ returns-clause-boarded c =
     let keeps = subst IsTable c.timetable.ensures.same c.timetable.ensures.keeps in
     let walk = c.args.walk.now in
     let steps = c.in_ok-steps.ensures ∙ ap (steps_of plain.network.now plain.timetable.now walk.node walk.at) c.deref.ensures.value in
-    subst (λ (s : List Step). AreOnTime plain.network.now walk.node walk.at s (end_of walk.node walk.hops.items) (arrival_of walk.at walk.hops.items) (letters_of plain.network.now plain.timetable.now walk.node walk.hops.items)) (sym steps)
+    subst (λ (s : List Step). AreOnTime plain.network.now walk.node walk.at s (node_after walk.node walk.hops.items) (arrival_after walk.at walk.hops.items) (letters_of plain.network.now plain.timetable.now walk.node walk.hops.items)) (sym steps)
     (hops_on_time plain.network.now plain.kept plain.timetable.now keeps plain.of walk.node walk.at walk.hops.items c.requires)
 
 pub returns-clause-real : goal.returns-clause-real

@@ -1,7 +1,7 @@
 use Rattle.std.proofs.Common.{◌∙◌, ap, map}
-use Rattle.automaton.specs.Builds.{row_of}
+use Rattle.automaton.specs.Builds.{draft_row}
 use Rattle.automaton.proofs.StateLemmas.{map-reverse}
 use Rattle.automaton.proofs.builder.Builder.into_drafts.Goals as goal
 
 pub returns : goal.returns
-returns c = ap (map row_of) c.reverse.ensures.items ∙ map-reverse row_of c.args.self.drafts.items
+returns c = ap (map draft_row) c.reverse.ensures.items ∙ map-reverse draft_row c.args.self.drafts.items

@@ -1,7 +1,7 @@
 use Rattle.std.proofs.Common.{ℕ, ◌∙◌, [], false, ap, subst, map, length, arith}
 use Rattle.std.proofs.lemmas.List.{length-map}
 use Rattle.mode_expression.specs.Form.{form_of}
-use Rattle.automaton.specs.Builds.{Built, built_of, row_of, Adds}
+use Rattle.automaton.specs.Builds.{Built, built_of, draft_row, Adds}
 use Rattle.automaton.specs.Sets.{has}
 use Rattle.automaton.specs.Written.{written}
 use Rattle.automaton.specs.States.{view_of, states_for}
@@ -20,8 +20,8 @@ make_states-requires c =
     let first = has c.in_ok-first.first in
     let fresh = c.new-builder.ensures ∙ ap (λ n. fresh_of n) c.places.ensures in
     let adds : Adds old new (written form) end first = subst (λ K. Adds old new (written form) K first) c.just.ensures c.in_ok-first.ensures in
-    let drafts = ap (map row_of) c.deref.ensures.value ∙ c.into_drafts-drafts.ensures in
-    omega (arith, few_rows form c.requires old new first fresh adds, ap length drafts, length-map c.deref.result.now row_of)
+    let drafts = ap (map draft_row) c.deref.ensures.value ∙ c.into_drafts-drafts.ensures in
+    omega (arith, few_rows form c.requires old new first fresh adds, ap length drafts, length-map c.deref.result.now draft_row)
 
 pub invariant_of-result : goal.invariant_of-result
 invariant_of-result c =
@@ -31,7 +31,7 @@ invariant_of-result c =
     let first = has c.in_ok-first.first in
     let fresh = c.new-builder.ensures ∙ ap (λ n. fresh_of n) c.places.ensures in
     let adds : Adds old new (written form) end first = subst (λ K. Adds old new (written form) K first) c.just.ensures c.in_ok-first.ensures in
-    let drafts = ap (map row_of) c.deref.ensures.value ∙ c.into_drafts-drafts.ensures in
+    let drafts = ap (map draft_row) c.deref.ensures.value ∙ c.into_drafts-drafts.ensures in
     let views = map view_of c.in_ok-states.states.items in
     let made = c.in_ok-states.ensures ∙ ap (λ r. states_for r first) drafts in
     record { lawful = of_lawful form c.requires old new first fresh adds views made }
@@ -44,7 +44,7 @@ returns-clause-states c =
     let first = has c.in_ok-first.first in
     let fresh = c.new-builder.ensures ∙ ap (λ n. fresh_of n) c.places.ensures in
     let adds : Adds old new (written form) end first = subst (λ K. Adds old new (written form) K first) c.just.ensures c.in_ok-first.ensures in
-    let drafts = ap (map row_of) c.deref.ensures.value ∙ c.into_drafts-drafts.ensures in
+    let drafts = ap (map draft_row) c.deref.ensures.value ∙ c.into_drafts-drafts.ensures in
     let views = map view_of c.in_ok-states.states.items in
     let made = c.in_ok-states.ensures ∙ ap (λ r. states_for r first) drafts in
     of_states form c.requires old new first fresh adds views made
@@ -57,7 +57,7 @@ returns-clause-accepts c =
     let first = has c.in_ok-first.first in
     let fresh = c.new-builder.ensures ∙ ap (λ n. fresh_of n) c.places.ensures in
     let adds : Adds old new (written form) end first = subst (λ K. Adds old new (written form) K first) c.just.ensures c.in_ok-first.ensures in
-    let drafts = ap (map row_of) c.deref.ensures.value ∙ c.into_drafts-drafts.ensures in
+    let drafts = ap (map draft_row) c.deref.ensures.value ∙ c.into_drafts-drafts.ensures in
     let views = map view_of c.in_ok-states.states.items in
     let made = c.in_ok-states.ensures ∙ ap (λ r. states_for r first) drafts in
     of_accepts form c.requires old new first fresh adds views made
@@ -70,7 +70,7 @@ returns-clause-few_states c =
     let first = has c.in_ok-first.first in
     let fresh = c.new-builder.ensures ∙ ap (λ n. fresh_of n) c.places.ensures in
     let adds : Adds old new (written form) end first = subst (λ K. Adds old new (written form) K first) c.just.ensures c.in_ok-first.ensures in
-    let drafts = ap (map row_of) c.deref.ensures.value ∙ c.into_drafts-drafts.ensures in
+    let drafts = ap (map draft_row) c.deref.ensures.value ∙ c.into_drafts-drafts.ensures in
     let views = map view_of c.in_ok-states.states.items in
     let made = c.in_ok-states.ensures ∙ ap (λ r. states_for r first) drafts in
     of_few_states form c.requires old new first fresh adds views made
@@ -83,7 +83,7 @@ returns-clause-few_moves c =
     let first = has c.in_ok-first.first in
     let fresh = c.new-builder.ensures ∙ ap (λ n. fresh_of n) c.places.ensures in
     let adds : Adds old new (written form) end first = subst (λ K. Adds old new (written form) K first) c.just.ensures c.in_ok-first.ensures in
-    let drafts = ap (map row_of) c.deref.ensures.value ∙ c.into_drafts-drafts.ensures in
+    let drafts = ap (map draft_row) c.deref.ensures.value ∙ c.into_drafts-drafts.ensures in
     let views = map view_of c.in_ok-states.states.items in
     let made = c.in_ok-states.ensures ∙ ap (λ r. states_for r first) drafts in
     of_few_moves form c.requires old new first fresh adds views made

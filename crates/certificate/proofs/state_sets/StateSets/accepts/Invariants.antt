@@ -1,6 +1,6 @@
 use Rattle.std.proofs.Common.{ℕ, ◌<◌, IsTrue}
-use Rattle.certificate.specs.StateSets.{IsIn}
+use Rattle.certificate.specs.StateSets.{IsInSet}
 use Rattle.certificate.proofs.state_sets.StateSets.accepts.Given as goal
 
 abbrev pub invariant-loop-state : goal.invariant-loop-state
-invariant-loop-state g l = (q : ℕ) → q < l.state → IsIn l.self.reached.items q → IsTrue ((g.L.Labels.automaton l.labels).accepts q) → ⊥
+invariant-loop-state g l = (q : ℕ) → q < l.state → IsInSet l.self.reached.items q → IsTrue ((g.L.Labels.automaton l.labels).accepts q) → ⊥

@@ -2,7 +2,7 @@ use Rattle.std.proofs.Common.{◌≡◌, ℕ, Bool, List, length, ap, sym, ◌�
 use Rattle.std.specs.Prelude.{◌↔◌}
 use Rattle.std.proofs.lemmas.List.{with_items_is}
 use Rattle.certificate.specs.declared.state_sets.StateSets.{StateSets}
-use Rattle.certificate.specs.StateSets.{IsIn, HasMoveFrom}
+use Rattle.certificate.specs.StateSets.{IsInSet, HasMoveFrom}
 use Rattle.certificate.proofs.StateLemmas.{after_more}
 use Rattle.certificate.proofs.state_sets.StateSets.read.Goals as goal
 
@@ -15,4 +15,4 @@ returns g c = λ letters after.
     let filled : new.reached.items ≡ c.follow.new.set = ap (λ v. v.items) c.swap.ensures.x_after ∙ with_items_is old.next c.follow.new.set full in
     let followed = rw c.deref.ensures.value at c.follow.ensures in
     after_more l letters c.args.letter old new after (ap length filled ∙ omega (arith, after.room)) (ap (λ v. length v.items) c.swap.ensures.y_after ∙ after.size)
-    (subst (λ (s : List Bool). (r : ℕ) → IsIn s r ↔ HasMoveFrom l l.states old.reached.items c.args.letter r) (sym filled) followed)
+    (subst (λ (s : List Bool). (r : ℕ) → IsInSet s r ↔ HasMoveFrom l l.states old.reached.items c.args.letter r) (sym filled) followed)

@@ -1,7 +1,7 @@
 use Rattle.journey.specs.Best.{asked_by}
 use Rattle.unpack.proofs.TakenLemmas.{walk_is_plain}
 use Rattle.latest_departure.specs.Forward.{leaving}
-use Rattle.departures.specs.Searching.{labels_of}
+use Rattle.departures.specs.Searching.{search_labels}
 use Rattle.departures.proofs.FirstLemmas.{walk_soon, none_accepted, first_row}
 use Rattle.departures.proofs.search.RideSearch.first_from.Goals as goal
 
@@ -11,14 +11,14 @@ search_best_with-requires-clause-starts c = rw c.deref.ensures.value c.requires.
 pub returns-then-not-self : goal.returns-then-not-self
 returns-then-not-self c =
     let s = c.args.self.now in
-    none_accepted s.plain.network.now s.plain.kept s.plain.timetable.now (asked_by s.query.now) (labels_of s) s.origins.items s.destinations.items
+    none_accepted s.plain.network.now s.plain.kept s.plain.timetable.now (asked_by s.query.now) (search_labels s) s.origins.items s.destinations.items
     c.requires.search.reads c.requires.search.journeys c.requires.search.origin c.requires.search.destination c.args.at c.requires.late (c.requires.search.none c.if-not-self.true)
 
 pub unpacked-requires-clause-walk : goal.unpacked-requires-clause-walk
 unpacked-requires-clause-walk c =
     let s = c.args.self.now in
     let walk = rw (c.deref.ensures.value, c.deref-2.ensures.value) at c.in_ok-best.ensures.walk in
-    walk_is_plain s.plain.network.now s.plain.timetable.now (leaving (asked_by s.query.now) c.args.at) (labels_of s) s.origins.items s.destinations.items
+    walk_is_plain s.plain.network.now s.plain.timetable.now (leaving (asked_by s.query.now) c.args.at) (search_labels s) s.origins.items s.destinations.items
     c.requires.search.origin c.requires.search.destination _ _ walk
 
 pub unpacked-requires-clause-soon : goal.unpacked-requires-clause-soon
@@ -29,6 +29,6 @@ returns c =
     let s = c.args.self.now in
     let walk = rw (c.deref.ensures.value, c.deref-2.ensures.value) at c.in_ok-best.ensures.walk in
     let arrival = rw (c.deref.ensures.value, c.deref-2.ensures.value) at c.in_ok-best.ensures.arrival in
-    first_row s.plain.network.now s.plain.kept s.plain.timetable.now (asked_by s.query.now) (labels_of s) s.origins.items s.destinations.items
+    first_row s.plain.network.now s.plain.kept s.plain.timetable.now (asked_by s.query.now) (search_labels s) s.origins.items s.destinations.items
     c.requires.search.reads c.requires.search.journeys c.requires.search.origin c.requires.search.destination c.args.at c.requires.late _ _ _ arrival walk c.requires.soon
     c.in_ok-best.ensures.time c.in_ok-row.ensures

@@ -2,7 +2,7 @@ use Rattle.std.proofs.Common.{◌∙◌, sym, subst, arith}
 use Rattle.mode_network.specs.NetworkLists.{NetworkLists}
 use Rattle.journey.specs.Best.{asked_by}
 use Rattle.journey.specs.CopyLists.{AreTheCopies}
-use Rattle.departures.specs.Searching.{labels_of, NoneTakesLess}
+use Rattle.departures.specs.Searching.{search_labels, NoneTakesLess}
 use Rattle.departures.proofs.FirstLemmas.{none_accepted}
 use Rattle.departures.proofs.LeastLemmas.{none_found}
 use Rattle.departures.proofs.OrderLemmas.{not_before}
@@ -20,7 +20,7 @@ returns c off =
     let same = sym c.requires.same in
     let arrival = rw (c.deref.ensures.value, c.deref-2.ensures.value) at c.in_ok-best.ensures.arrival in
     subst (λ (n : NetworkLists). NoneTakesLess n q c.args.c) c.requires.same
-    (none_found least.plain.network.now least.plain.kept least.plain.timetable.now c.known.ensures least.plain.of least.runs.items least.fastest q (labels_of s)
+    (none_found least.plain.network.now least.plain.kept least.plain.timetable.now c.known.ensures least.plain.of least.runs.items least.fastest q (search_labels s)
     s.origins.items s.destinations.items c.requires.search.reads
     (subst (λ (n : NetworkLists). AreTheCopies n q.from s.origins.items) same c.requires.search.origin)
     (subst (λ (n : NetworkLists). AreTheCopies n q.to s.destinations.items) same c.requires.search.destination)
@@ -37,6 +37,6 @@ returns-then-not-self c off p pair =
     let s = c.args.self.now in
     let n = s.plain.network.now in
     let q = asked_by s.query.now in
-    absurd (none_accepted n s.plain.kept s.plain.timetable.now q (labels_of s) s.origins.items s.destinations.items
+    absurd (none_accepted n s.plain.kept s.plain.timetable.now q (search_labels s) s.origins.items s.destinations.items
     c.requires.search.reads c.requires.search.journeys c.requires.search.origin c.requires.search.destination q.depart (omega arith) (c.requires.search.none c.if-not-self.true)
     p pair (not_before n q p pair))

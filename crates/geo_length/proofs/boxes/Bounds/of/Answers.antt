@@ -2,16 +2,16 @@ use Rattle.std.proofs.Common.{◌<◌, length, arith, subst}
 use Rattle.std.proofs.lemmas.Int.{ints}
 use Rattle.std.proofs.lemmas.List.Elements.{All-more, All-weaker}
 use Rattle.std.proofs.lemmas.List.{take_all}
-use Rattle.geo_length.specs.Boxes.{AreInside, IsWithin}
+use Rattle.geo_length.specs.Boxes.{AreInside, IsInBounds}
 use Rattle.geo_length.proofs.boxes.Bounds.of.Goals as goal
 
 pub loop-point-preserved : goal.loop-point-preserved
 loop-point-preserved c =
-    let after = IsWithin c.with_point-bounds.result in
+    let after = IsInBounds c.with_point-bounds.result in
     let here = c.with_point-bounds.ensures.point in
     let there : c.loop-point.point-index < length c.args.points.now = omega arith in
     All-more after c.args.points.now c.loop-point.point-index c.point-item.result there
-    (All-weaker (IsWithin c.loop-point.bounds) after c.with_point-bounds.ensures.kept _ c.loop-point.invariant)
+    (All-weaker (IsInBounds c.loop-point.bounds) after c.with_point-bounds.ensures.kept _ c.loop-point.invariant)
     (rw (← c.point-item.is) (here.0, omega (arith, ints, here.1)))
 
 pub returns : goal.returns

@@ -1,6 +1,6 @@
 use Rattle.std.proofs.Common.{ap, ◌∙◌, refl, Some}
 use Rattle.gtfs_tables.specs.declared.dates.DateRow.{DateRow}
-use Rattle.gtfs_tables.specs.ServiceDates.{dates, is_same_pair, pair_of}
+use Rattle.gtfs_tables.specs.ServiceDates.{dates, is_same_pair, service_date_of}
 use Rattle.gtfs_tables.proofs.ListLemmas.{was_new, was_known}
 use Rattle.gtfs_tables.proofs.TableLemmas.{repeated, known_key, joins}
 use Rattle.gtfs_tables.proofs.dates.DatesTakesRows.take.Goals as goal
@@ -8,12 +8,12 @@ use Rattle.gtfs_tables.proofs.dates.DatesTakesRows.take.Goals as goal
 pub returns-then-not-branch-clause-row : goal.returns-then-not-branch-clause-row
 returns-then-not-branch-clause-row c earlier kept =
     let date : DateRow = record { row = c.in_ok-line.line.row; id = c.in_ok-line.line.id.now; date = c.in_ok-line.line.date; added = c.in_ok-line.line.added } in
-    let known = known_key _ _ _ _ earlier kept is_same_pair (pair_of date) ∙ was_known _ _ c.in_ok-insert.ensures.new c.if-not-branch.true in
+    let known = known_key _ _ _ _ earlier kept is_same_pair (service_date_of date) ∙ was_known _ _ c.in_ok-insert.ensures.new c.if-not-branch.true in
     repeated (dates c.args.self.now.caps) earlier c.args.row.now date c.in_ok-line.ensures known c.repeated_key.result c.repeated_key.ensures
 
 pub returns-clause-row : goal.returns-clause-row
 returns-clause-row c earlier kept =
     let date : DateRow = record { row = c.in_ok-line.line.row; id = c.in_ok-line.line.id.now; date = c.in_ok-line.line.date; added = c.in_ok-line.line.added } in
-    let new = known_key _ _ _ _ earlier kept is_same_pair (pair_of date) ∙ was_new _ _ c.in_ok-insert.ensures.new c.if-not-branch.false in
+    let new = known_key _ _ _ _ earlier kept is_same_pair (service_date_of date) ∙ was_new _ _ c.in_ok-insert.ensures.new c.if-not-branch.false in
     joins _ _ _ _ earlier kept c.args.row.now date c.in_ok-line.ensures new refl (λ _. refl) _ (ap Some c.in_ok-date.ensures) _ _ refl
     c.push_row.result c.push_row.new.rows.items c.push_row.ensures.rows c.push_row.ensures.few c.push_row.ensures.fault _ (c.in_ok-insert.ensures.pairs c.if-not-branch.false) _ (λ _ holds. holds)

@@ -4,7 +4,7 @@ use Rattle.std.proofs.lemmas.List.Elements.{All-weaker}
 use Rattle.hierarchy.specs.Lookups.{from_of}
 use Rattle.hierarchy.specs.Indexes.{AreOffsets}
 use Rattle.hierarchy.specs.Rises.{rise_from}
-use Rattle.hierarchy.specs.Tables.{entry_offsets_of, rise_offsets_of, row_of}
+use Rattle.hierarchy.specs.Tables.{entry_offsets_of, offsets_row, rise_offsets_of}
 use Rattle.hierarchy.proofs.OffsetLemmas.{entry_offsets_kept, rise_offsets_kept}
 use Rattle.hierarchy.proofs.tables.Tables.new.Goals as goal
 
@@ -14,8 +14,8 @@ returns c =
     let entry_offsets = c.in_ok-entry_offsets.entry_offsets.items in
     let rise_offsets = c.in_ok-rise_offsets.rise_offsets.items in
     let same : length rise_offsets ≡ length entry_offsets = c.in_ok-rise_offsets.ensures.one_more ∙ sym c.in_ok-entry_offsets.ensures.one_more in
-    let rows_are : c.in_ok-rows.rows.items ≡ map row_of (zip entry_offsets rise_offsets) =
-    c.in_ok-rows.ensures ∙ ap₂ (λ (es rs : List ℕ). map row_of (zip es rs)) c.deref-3.ensures.value c.deref-4.ensures.value in
+    let rows_are : c.in_ok-rows.rows.items ≡ map offsets_row (zip entry_offsets rise_offsets) =
+    c.in_ok-rows.ensures ∙ ap₂ (λ (es rs : List ℕ). map offsets_row (zip es rs)) c.deref-3.ensures.value c.deref-4.ensures.value in
     record {
       order_below = All-weaker (λ (v : ℕ). v < c.past_order.result) (λ (v : ℕ). v < nodes) (λ v h. omega (arith, c.past_entries-nodes.ensures.least)) c.args.order.now c.past_order.ensures.past;
       entries_below = c.past_entries-nodes.ensures.past;

@@ -1,8 +1,8 @@
 use Rattle.std.proofs.Common.{◌≡◌, ◌+◌, ◌++◌}
 use Rattle.std.specs.List.{flat_map, range_with_len}
-use Rattle.latest_departure.specs.MirrorWays.{ride_of, ride_ways}
+use Rattle.latest_departure.specs.MirrorWays.{mirror_ride_ways, ride_calls}
 use Rattle.latest_departure.proofs.mirror.Mirror.push_run.Given as goal
 
 abbrev pub invariant-loop-board : goal.invariant-loop-board
 invariant-loop-board l =
-    l.ways.items ≡ l.initial.ways.items ++ flat_map (λ board. ride_ways l.self.backwards.now.network l.self.backwards.now.table l.self.deadline l.run (l.place + board) (ride_of l.pattern l.call board)) (range_with_len 0 l.board)
+    l.ways.items ≡ l.initial.ways.items ++ flat_map (λ board. mirror_ride_ways l.self.backwards.now.network l.self.backwards.now.table l.self.deadline l.run (l.place + board) (ride_calls l.pattern l.call board)) (range_with_len 0 l.board)

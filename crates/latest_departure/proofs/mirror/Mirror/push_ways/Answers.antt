@@ -6,7 +6,7 @@ use Rattle.search_laws.specs.Ways.{ways_from}
 use Rattle.latest_departure.specs.declared.source.Entry.{Entry}
 use Rattle.latest_departure.specs.BackLists.{mirrored}
 use Rattle.latest_departure.specs.MirrorArcs.{LeadsInto}
-use Rattle.latest_departure.specs.Known.{entry_count, source_of, no_entry}
+use Rattle.latest_departure.specs.Known.{entry_count, source_of, no_source_entry}
 use Rattle.latest_departure.proofs.RowLemmas.{entry_leads}
 use Rattle.latest_departure.proofs.WayLemmas.{entry_pushed, row_done}
 use Rattle.latest_departure.proofs.mirror.Mirror.push_ways.Goals as goal
@@ -17,13 +17,13 @@ push_source-requires-clause-leads c =
     let k = c.known.ensures in
     let place = c.loop-entry.entry-index in
     let within = subst (λ (row : List Entry). place < length row) c.row-entry-items.ensures c.loop-entry-test.true in
-    subst (λ (row : List Entry). LeadsInto b.network b.table c.args.v (source_of (get_or row place no_entry))) (sym c.row-entry-items.ensures)
-    (entry_leads b.network b.table k.keeps b.entries b.places k.sources c.args.v c.requires.node place no_entry within)
+    subst (λ (row : List Entry). LeadsInto b.network b.table c.args.v (source_of (get_or row place no_source_entry))) (sym c.row-entry-items.ensures)
+    (entry_leads b.network b.table k.keeps b.entries b.places k.sources c.args.v c.requires.node place no_source_entry within)
 
 pub push_source-requires-clause-few : goal.push_source-requires-clause-few
 push_source-requires-clause-few c =
     let items = c.row-entry-items.result.now in
-    let more = sum_by_more_le entry_count items c.loop-entry.entry-index no_entry c.loop-entry-test.true in
+    let more = sum_by_more_le entry_count items c.loop-entry.entry-index no_source_entry c.loop-entry-test.true in
     let few : sum_by entry_count items < 2 ^ 64 = subst (λ (row : List Entry). sum_by entry_count row < 2 ^ 64) (sym c.row-entry-items.ensures) (c.known.ensures.few c.args.v c.requires.node) in
     let so_far = c.loop-entry.invariant.place in
     omega arith
@@ -31,7 +31,7 @@ push_source-requires-clause-few c =
 pub overflow_add-place : goal.overflow_add-place
 overflow_add-place c =
     let items = c.row-entry-items.result.now in
-    let more = sum_by_more_le entry_count items c.loop-entry.entry-index no_entry c.loop-entry-test.true in
+    let more = sum_by_more_le entry_count items c.loop-entry.entry-index no_source_entry c.loop-entry-test.true in
     let few : sum_by entry_count items < 2 ^ 64 = subst (λ (row : List Entry). sum_by entry_count row < 2 ^ 64) (sym c.row-entry-items.ensures) (c.known.ensures.few c.args.v c.requires.node) in
     let so_far = c.loop-entry.invariant.place in
     let own = c.count_of-place.ensures.value in
@@ -41,13 +41,13 @@ pub loop-entry-preserved : goal.loop-entry-preserved
 loop-entry-preserved c =
     let b = c.args.self.now.backwards.now in
     let items = c.row-entry-items.result.now in
-    let entry = get_or items c.loop-entry.entry-index no_entry in
-    let is = get_or_default items c.loop-entry.entry-index no_entry entry c.loop-entry-test.true in
+    let entry = get_or items c.loop-entry.entry-index no_source_entry in
+    let is = get_or_default items c.loop-entry.entry-index no_source_entry entry c.loop-entry-test.true in
     let own : c.count_of-place.result ≡ entry_count entry = c.count_of-place.ensures.value in
     let next = entry_pushed b c.args.self.now.deadline c.args.v c.args.s c.args.letters items c.row-entry-items.ensures c.loop-entry.entry-index c.loop-entry.place entry
     c.args.ways.now.items c.loop-entry.ways.items c.push_source.new.ways.items c.loop-entry-test.true is c.loop-entry.invariant.place c.loop-entry.invariant.ways c.in_ok-push_source.ensures in
     record {
-      place = ap (λ k. c.loop-entry.place + k) own ∙ ap (λ k. k + entry_count entry) c.loop-entry.invariant.place ∙ sym (sum_by_more entry_count items c.loop-entry.entry-index no_entry c.loop-entry-test.true);
+      place = ap (λ k. c.loop-entry.place + k) own ∙ ap (λ k. k + entry_count entry) c.loop-entry.invariant.place ∙ sym (sum_by_more entry_count items c.loop-entry.entry-index no_source_entry c.loop-entry-test.true);
       ways = subst (λ k. c.push_source.new.ways.items ≡ c.args.ways.now.items ++ ways_from (mirrored b c.args.self.now.deadline) c.args.v c.args.s c.args.letters 0 (c.loop-entry.place + k)) (sym own) next;
     }
 

@@ -3,8 +3,8 @@ use Rattle.std.specs.Prelude.{IfOk}
 use Rattle.std.proofs.lemmas.List.{get_or_default, length-map}
 use Rattle.journey.specs.declared.query.Query.{Query}
 use Rattle.planning.specs.Arrivals.{IsArrivalTo, asked_to}
-use Rattle.matrix_commands.specs.Cells.{IsCellOf, line_of}
-use Rattle.matrix_commands.specs.Working.{HasArrivals, IsCellIn, IsEndIfAny, lines_in, timed}
+use Rattle.matrix_commands.specs.Cells.{IsCellOf, query_line_of}
+use Rattle.matrix_commands.specs.Working.{HasArrivals, IsCellIn, IsEndIfAny, cell_of_arrival, lines_in}
 use Rattle.matrix_commands.proofs.CellLemmas.{timed_right}
 use Rattle.matrix_commands.proofs.PairLemmas.{line_at, pair_asks, pair_small}
 use Rattle.matrix_commands.proofs.table.Table.cell.Goals as goal
@@ -28,11 +28,11 @@ returns-in-Some-Some c =
     let other_is = get_or_default queries k None c.index-self-k.result there ∙ c.in-Some-Some.is-1 in
     let end = subst (λ (o : Option Query). IsEndIfAny n it.places it.date.now it.time.now it.expr.now to o) other_is (ends.are k inside) in
     let arrives = subst (λ (o : Option Query). IsArrivalTo n q o (get_or times k None)) other_is (has.1.are k there) in
-    let line = line_of it.date.now it.time.now it.expr.now from to in
+    let line = query_line_of it.date.now it.time.now it.expr.now from to in
     let right = timed_right n line (asked_to q other) (get_or times k None) (pair_asks n it.places it.date.now it.time.now it.expr.now from to q other has.0 end) arrives in
     let time = get_or_default times k None c.index.result.now (omega (arith, there, has.1.one_each)) ∙ sym c.index.ensures in
     let small = pair_small n it.places it.date.now it.time.now it.expr.now from to q other has.0 end in
-    rw c.timed.ensures (inr (small, subst (λ (arrival : Option ℕ). IsCellOf n line (timed q.depart arrival)) time right))
+    rw c.timed.ensures (inr (small, subst (λ (arrival : Option ℕ). IsCellOf n line (cell_of_arrival q.depart arrival)) time right))
 
 pub returns-in_default : goal.returns-in_default
 returns-in_default c =

@@ -5,7 +5,7 @@ use Rattle.automaton.specs.Meanings.{position_meaning}
 use Rattle.phase_graph.specs.InUse.{starts_in}
 use Rattle.phase_graph.specs.InUseGraph.{meaning_in_use}
 use Rattle.product_search.specs.Arrivals.{AreArrivals}
-use Rattle.planning.specs.Destinations.{hierarchy_of}
+use Rattle.planning.specs.Destinations.{hierarchy_searched}
 use Rattle.planning.proofs.PlanLemmas.{starts_low}
 use Rattle.planning.proofs.RoomLemmas.{query_spells}
 use Rattle.planning.proofs.DestinationLemmas.{all_arrivals, parts_fit}
@@ -17,7 +17,7 @@ take-requires-clause-spelled c = query_spells c.args.self.now.network.now _ _ _ 
 pub search_arrivals-requires-clause-starts : goal.search_arrivals-requires-clause-starts
 search_arrivals-requires-clause-starts c =
     let d = c.args.self.now in
-    let h = hierarchy_of d in
+    let h = hierarchy_searched d in
     let g = meaning_in_use d.graph in
     let starts = c.deref-2.ensures.value ∙ (c.in_ok-starts.ensures ∙ ap (starts_in h) c.deref.ensures.value) in
     subst (All (λ v. v < g.nodes)) (sym starts)
@@ -30,7 +30,7 @@ pub returns : goal.returns
 returns c =
     let d = c.args.self.now in
     let q = c.args.query.now in
-    let h = hierarchy_of d in
+    let h = hierarchy_searched d in
     let l = collapsed (position_meaning c.in_ok-expressed.expressed.machine.labels.inner) in
     let denotes = c.in_ok-expressed.ensures.denotes in
     let starts = c.deref-2.ensures.value ∙ (c.in_ok-starts.ensures ∙ ap (starts_in h) c.deref.ensures.value) in

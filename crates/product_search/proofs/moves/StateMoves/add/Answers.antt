@@ -1,4 +1,5 @@
 use Rattle.std.proofs.Common.{◌∙◌, subst}
+use Rattle.search_laws.specs.Letters.{letter_count}
 use Rattle.search_laws.specs.declared.labels.Move.{Move}
 use Rattle.product_search.specs.MoveTables.{AreTargetsWith}
 use Rattle.product_search.proofs.LetterLemmas.{letters_more, leaving_more}
@@ -11,7 +12,7 @@ returns g c =
     let old = c.args.self.now in
     let before = c.requires.before in
     let step = c.move_at-step.ensures in
-    let with_it = subst (λ (m : Move). AreTargetsWith m 14 old.targets.items c.add_target.new.targets.items) step c.in_ok-add_target.ensures in
+    let with_it = subst (λ (m : Move). AreTargetsWith m letter_count old.targets.items c.add_target.new.targets.items) step c.in_ok-add_target.ensures in
     record {
       letters = rw step (letters_more l c.args.state c.args.place old.letters before.letters);
       leaving = leaving_more l c.args.state c.args.place old.leaving c.letters_leaving.result before.leaving (rw step at c.letters_leaving.ensures);

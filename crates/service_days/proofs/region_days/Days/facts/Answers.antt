@@ -1,7 +1,7 @@
 use Rattle.std.proofs.Common.{◌≡◌, subst}
 use Rattle.std.specs.Prelude.{Ok, IfSome}
 use Rattle.service_days.specs.DaysMeaning.{DaysMeaning}
-use Rattle.service_days.specs.Days.{AreDays, AreInOrder}
+use Rattle.service_days.specs.Days.{AreDays, AreRisingDays}
 use Rattle.service_days.specs.Noons.{CountFromNoons}
 use Rattle.service_days.specs.Zones.{days_made}
 use Rattle.service_days.proofs.InOrder.{are_in_order}
@@ -12,7 +12,7 @@ pub returns-clause-days : goal.returns-clause-days
 returns-clause-days c = subst AreDays c.self.view_is c.self.invariant.are
 
 pub returns-clause-order : goal.returns-clause-order
-returns-clause-order c = subst AreInOrder c.self.view_is (are_in_order _ c.self.invariant.are)
+returns-clause-order c = subst AreRisingDays c.self.view_is (are_in_order _ c.self.invariant.are)
 
 pub returns-clause-made : goal.returns-clause-made
 returns-clause-made c = subst (λ (days : DaysMeaning). days_made days.first days.count days.zone ≡ Ok days) c.self.view_is c.self.invariant.made

@@ -1,7 +1,7 @@
 use Rattle.std.proofs.Common.{◌≡◌, true, ◌+◌, ◌-◌, sym, ap, ap₂, subst, ◌∙◌, arith, length, take, map, Some, None, Ok}
 use Rattle.std.specs.List.{range_with_len}
 use Rattle.service_days.specs.DaysMeaning.{DaysMeaning}
-use Rattle.service_days.specs.Days.{IsRefusal}
+use Rattle.service_days.specs.Days.{IsDaysRefusal}
 use Rattle.service_days.specs.Noons.{CountFromNoons}
 use Rattle.service_days.specs.Zones.{AreKept, RefusesLengths, dates_and_next, days_with_bases, have_day_lengths, zone_base, zone_days, zone_of}
 use Rattle.service_days.proofs.PlainDays.{few_days}
@@ -23,7 +23,7 @@ returns-in-Err-clause-err c =
     let dates : c.deref.result.now ≡ dates_and_next c.args.first c.args.count = c.deref.ensures.value ∙ c.in_ok-dates.ensures in
     let n : length c.deref.result.now - 1 ≡ c.args.count + 7 = omega (arith, ap length dates ∙ length-dates_and_next c.args.first c.args.count) in
     let refused = subst (λ lengths. RefusesLengths lengths c.in-Err.fault) (ap₂ (have_day_lengths zone) dates n) c.in-Err.ensures.err in
-    subst (λ made. IsRefusal made c.in-Err.fault)
+    subst (λ made. IsDaysRefusal made c.in-Err.fault)
     (sym (zone_days_is c.args.first c.args.count c.args.rule.now (Some zone) c.in_ok-check_range.ensures.date c.in_ok-check_range.ensures.count c.in-Some.ensures))
     (days_in_refused zone c.args.rule.now c.args.first c.args.count c.in-Err.fault refused)
 

@@ -5,7 +5,7 @@ use Rattle.timetable_arcs.specs.declared.rides.Board.{Board}
 use Rattle.timetable_arcs.specs.Inside.{lists_of}
 use Rattle.timetable_arcs.specs.Patterns.{TableLists}
 use Rattle.timetable_arcs.specs.Rides.{rides_at}
-use Rattle.timetable_arcs.specs.RideTables.{end_of}
+use Rattle.timetable_arcs.specs.RideTables.{rides_end}
 use Rattle.timetable_arcs.proofs.RideLemmas.{no_board, ride_to}
 use Rattle.timetable_arcs.proofs.ReadLemmas.{read_at, readable}
 use Rattle.timetable_arcs.proofs.timetable.Timetable.ride.Goals as goal
@@ -32,7 +32,7 @@ overflow_sub-left c =
     (subst (λ (t : TableLists). c.args.i < length (rides_at t c.args.stop)) (sym c.self.view_is) c.requires.ride) c.self.inside.boards.items c.self.invariant.boards
     (subst (λ (t : TableLists). c.args.stop < t.stops) (sym c.self.view_is) c.requires.stop) c.index-held.result.now c.index-held.ensures c.boards-boards.result.now c.boards-boards.ensures
     c.partition_point-place.ensures.bound (c.partition_point-place.ensures.partitioned (λ (b : Board). nat_le b.before c.args.i) (always_returns_same _ _ _ (λ a r f k. search (rules, of_calls)))) in
-    let end : c.end_of.result ≡ end_of c.boards-boards.result.now c.index-held.result.now.rides c.partition_point-place.result = c.end_of.ensures ∙ ap (λ (n : ℕ). end_of c.boards-boards.result.now n c.partition_point-place.result) c.rides.ensures in
+    let end : c.end_of.result ≡ rides_end c.boards-boards.result.now c.index-held.result.now.rides c.partition_point-place.result = c.end_of.ensures ∙ ap (λ (n : ℕ). rides_end c.boards-boards.result.now n c.partition_point-place.result) c.rides.ensures in
     rw end read.not_past
 
 pub index-requires : goal.index-requires
@@ -49,7 +49,7 @@ overflow_sub-result c =
     (subst (λ (t : TableLists). c.args.i < length (rides_at t c.args.stop)) (sym c.self.view_is) c.requires.ride) c.self.inside.boards.items c.self.invariant.boards
     (subst (λ (t : TableLists). c.args.stop < t.stops) (sym c.self.view_is) c.requires.stop) c.index-held.result.now c.index-held.ensures c.boards-boards.result.now c.boards-boards.ensures
     c.partition_point-place.ensures.bound (c.partition_point-place.ensures.partitioned (λ (b : Board). nat_le b.before c.args.i) (always_returns_same _ _ _ (λ a r f k. search (rules, of_calls)))) in
-    let end : c.end_of.result ≡ end_of c.boards-boards.result.now c.index-held.result.now.rides c.partition_point-place.result = c.end_of.ensures ∙ ap (λ (n : ℕ). end_of c.boards-boards.result.now n c.partition_point-place.result) c.rides.ensures in
+    let end : c.end_of.result ≡ rides_end c.boards-boards.result.now c.index-held.result.now.rides c.partition_point-place.result = c.end_of.ensures ∙ ap (λ (n : ℕ). rides_end c.boards-boards.result.now n c.partition_point-place.result) c.rides.ensures in
     let places : c.as_slice-places.result.now ≡ get_or c.self.inside.places.items (get_or c.boards-boards.result.now (c.partition_point-place.result - 1) no_board).pattern [] = read_at c.self.inside.places.items _ _ _ [] read.pattern c.index.ensures c.as_slice-places.ensures in
     rw (end, places) read.left
 
@@ -59,7 +59,7 @@ bounds-places-places c =
     (subst (λ (t : TableLists). c.args.i < length (rides_at t c.args.stop)) (sym c.self.view_is) c.requires.ride) c.self.inside.boards.items c.self.invariant.boards
     (subst (λ (t : TableLists). c.args.stop < t.stops) (sym c.self.view_is) c.requires.stop) c.index-held.result.now c.index-held.ensures c.boards-boards.result.now c.boards-boards.ensures
     c.partition_point-place.ensures.bound (c.partition_point-place.ensures.partitioned (λ (b : Board). nat_le b.before c.args.i) (always_returns_same _ _ _ (λ a r f k. search (rules, of_calls)))) in
-    let end : c.end_of.result ≡ end_of c.boards-boards.result.now c.index-held.result.now.rides c.partition_point-place.result = c.end_of.ensures ∙ ap (λ (n : ℕ). end_of c.boards-boards.result.now n c.partition_point-place.result) c.rides.ensures in
+    let end : c.end_of.result ≡ rides_end c.boards-boards.result.now c.index-held.result.now.rides c.partition_point-place.result = c.end_of.ensures ∙ ap (λ (n : ℕ). rides_end c.boards-boards.result.now n c.partition_point-place.result) c.rides.ensures in
     let places : c.as_slice-places.result.now ≡ get_or c.self.inside.places.items (get_or c.boards-boards.result.now (c.partition_point-place.result - 1) no_board).pattern [] = read_at c.self.inside.places.items _ _ _ [] read.pattern c.index.ensures c.as_slice-places.ensures in
     rw (end, places) read.short
 
@@ -69,7 +69,7 @@ returns c =
     (subst (λ (t : TableLists). c.args.i < length (rides_at t c.args.stop)) (sym c.self.view_is) c.requires.ride) c.self.inside.boards.items c.self.invariant.boards
     (subst (λ (t : TableLists). c.args.stop < t.stops) (sym c.self.view_is) c.requires.stop) c.index-held.result.now c.index-held.ensures c.boards-boards.result.now c.boards-boards.ensures
     c.partition_point-place.ensures.bound (c.partition_point-place.ensures.partitioned (λ (b : Board). nat_le b.before c.args.i) (always_returns_same _ _ _ (λ a r f k. search (rules, of_calls)))) in
-    let end : c.end_of.result ≡ end_of c.boards-boards.result.now c.index-held.result.now.rides c.partition_point-place.result = c.end_of.ensures ∙ ap (λ (n : ℕ). end_of c.boards-boards.result.now n c.partition_point-place.result) c.rides.ensures in
+    let end : c.end_of.result ≡ rides_end c.boards-boards.result.now c.index-held.result.now.rides c.partition_point-place.result = c.end_of.ensures ∙ ap (λ (n : ℕ). rides_end c.boards-boards.result.now n c.partition_point-place.result) c.rides.ensures in
     let places : c.as_slice-places.result.now ≡ get_or c.self.inside.places.items (get_or c.boards-boards.result.now (c.partition_point-place.result - 1) no_board).pattern [] = read_at c.self.inside.places.items _ _ _ [] read.pattern c.index.ensures c.as_slice-places.ensures in
     subst (λ (t : TableLists). slice_get (rides_at t c.args.stop) c.args.i ≡ Some (ride_to (get_or c.boards-boards.result.now (c.partition_point-place.result - 1) no_board).pattern (get_or c.boards-boards.result.now (c.partition_point-place.result - 1) no_board).call (get_or c.as_slice-places.result.now (length c.as_slice-places.result.now - (c.end_of.result - c.args.i)) 0))) c.self.view_is
     (rw (end, places) read.is)
