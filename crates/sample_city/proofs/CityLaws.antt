@@ -20,11 +20,11 @@ use Rattle.sample_city.specs.declared.stops.CityStop.{CityStop}
 use Rattle.sample_city.proofs.RangeLaws.{below_end}
 
 -- what holds of all that each element gives, where the elements are such
-flat_map-if : {X Y : Type 0} (P : Y → Type 0) (Q : X → Type 0) (f : X → List Y) → ((x : X) → Q x → All P (f x)) → (xs : List X) → All Q xs → All P (flat_map f xs)
+pub flat_map-if : {X Y : Type 0} (P : Y → Type 0) (Q : X → Type 0) (f : X → List Y) → ((x : X) → Q x → All P (f x)) → (xs : List X) → All Q xs → All P (flat_map f xs)
 flat_map-if P Q f each [] all = All-nil P
 flat_map-if P Q f each (x ∷ xs) all = All-append P (f x) (flat_map f xs) (each x (All-head Q x xs all)) (flat_map-if P Q f each xs (All-tail Q x xs all))
 
-flat_map-all : {X Y : Type 0} (P : Y → Type 0) (f : X → List Y) → ((x : X) → All P (f x)) → (xs : List X) → All P (flat_map f xs)
+pub flat_map-all : {X Y : Type 0} (P : Y → Type 0) (f : X → List Y) → ((x : X) → All P (f x)) → (xs : List X) → All P (flat_map f xs)
 flat_map-all P f each [] = All-nil P
 flat_map-all P f each (x ∷ xs) = All-append P (f x) (flat_map f xs) (each x) (flat_map-all P f each xs)
 
@@ -77,7 +77,7 @@ stop_nodes_keep j (stop ∷ stops) (suc k) d below =
     let same : j + 1 + k ≡ j + suc k = omega arith in
     subst (λ place. IsStop place (get_or (city_stop_nodes (j + 1) stops) k d).key) same (stop_nodes_keep (j + 1) stops k d (omega arith))
 
-stop_nodes_long : (j : ℕ) (stops : List CityStop) → length (city_stop_nodes j stops) ≡ length stops
+pub stop_nodes_long : (j : ℕ) (stops : List CityStop) → length (city_stop_nodes j stops) ≡ length stops
 stop_nodes_long j [] = refl
 stop_nodes_long j (stop ∷ stops) = ap suc (stop_nodes_long (j + 1) stops)
 

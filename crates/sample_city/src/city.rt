@@ -3,7 +3,11 @@
 ghost use Rattle.std.specs.Prelude.{◌≡◌, ◌<◌, ◌≤◌, ◌^◌, None, IfErr, IfOk, OnOk, length};
 ghost use Rattle.std.specs.List.{flat_map};
 ghost use Rattle.service_days.specs.Days.{plain_days};
+ghost use Rattle.plan_base.specs.CapsByKind.{cap_of};
+ghost use Rattle.plan_base.specs.FullCaps.{full_cap_of};
+ghost use Rattle.plan_base.specs.declared.limits.Kind.{Kind};
 ghost use Rattle.mode_network.specs.Rules.{AreInOrder, AreParts, first_fault};
+ghost use Rattle.mode_network.specs.declared.faults.NetFault.TheVariants.{OutOfMemory};
 ghost use Rattle.sample_city.specs.Roads.{corner_arcs, road_number};
 ghost use Rattle.sample_city.specs.Stops.{city_links};
 ghost use Rattle.sample_city.specs.SampleCity.{IsCityRefusal, IsSampleCity};
@@ -121,6 +125,8 @@ pub fn sample(alloc: Global, n: u32, caps: &Caps) -> Result<Network, NetFault>
     ensures city { IfOk result (IsSampleCity n) }
     ensures faultless { IfOk result (λ network. first_fault caps.now network ≡ None) }
     ensures fault { IfErr result (IsCityRefusal n caps.now) }
+    ensures full { ((kind : Kind) → cap_of caps.now kind ≡ full_cap_of kind)
+        → IfErr result (λ fault. fault ≡ OutOfMemory) }
 {
     let parts = parts_of(alloc, n)?;
     match Network::build(alloc, parts, caps) {

@@ -1,0 +1,167 @@
+-- The road arcs join different road nodes of one mode, and ascend.
+use Rattle.std.proofs.Common.{◌≡◌, ℕ, pos, ◌+◌, ◌*◌, ◌<◌, ◌≤◌, ◌⊎◌, inl, inr, ⊎_elim, List, [], ◌∷◌, ◌++◌, length, nat_eq, nat_lt, Bool, true, false, not, Option, None, Some, refl, sym, ap, subst₂, ◌∙◌, arith, eqb-true}
+use Rattle.std.specs.Prelude.{◌==◌, option_to_list}
+use Rattle.std.specs.List.{All, position, position_or_len}
+use Rattle.std.specs.Ordering.{is_eq}
+use Rattle.std.proofs.lemmas.Bool.{and_from, ltb-true}
+use Rattle.std.proofs.lemmas.Bool.Decides.{nat_tests}
+use Rattle.std.proofs.lemmas.List.Elements.{All-head, All-tail}
+use Rattle.std.proofs.lemmas.List.Sorted.{All-permutation, length_permutation}
+use Rattle.plan_base.specs.declared.limits.Kind.TheVariants.{Arcs}
+use Rattle.mode_network.specs.NetworkLists.{mode_at}
+use Rattle.mode_network.specs.Rules.{AreInOrder, arc_cmp, end_or_order_fault, first_unsorted, is_same_mode, joins_modes}
+use Rattle.mode_network.specs.declared.nodes.Arc.{Arc}
+use Rattle.mode_network.specs.declared.nodes.Node.{Node}
+use Rattle.mode_network.proofs.RuleLemmas.{arcs_total}
+use Rattle.sample_city.specs.Corners.{corner, is_car_line}
+use Rattle.sample_city.specs.Roads.{along_column, along_row, city_arcs, corner_arcs, road_between, road_number, street, streets, time_between}
+use Rattle.sample_city.specs.declared.corners.Corner.{Corner}
+use Rattle.sample_city.proofs.CornerLaws.{corners_rise}
+use Rattle.sample_city.proofs.RiseLaws.{Rise, rise_all, rise_append, rise_few, rise_if, rise_one, rise_sorted}
+use Rattle.sample_city.proofs.RoadLaws.{mode_of_number, number_same}
+
+-- arcs that tie have the same ends
+pub same_ends : (a b : Arc) → is_eq (arc_cmp a b) ≡ true → (a.from ≡ b.from) × (a.to ≡ b.to)
+same_ends a b e = grind (arith, nat_tests, e)
+
+-- where all pass, none fails
+none_fails : {X : Type 0} (p : X → Bool) (xs : List X) → All (λ x. p x ≡ true) xs → position_or_len (λ x. not (p x)) xs ≡ length xs
+none_fails p [] all = refl
+none_fails p (x ∷ xs) all =
+    rw (All-head (λ x. p x ≡ true) x xs all) (let rest = none_fails p xs (All-tail (λ x. p x ≡ true) x xs all) in omega (arith, rest))
+
+pub position_none : {X : Type 0} (p : X → Bool) (xs : List X) → All (λ x. p x ≡ true) xs → position (λ x. not (p x)) xs ≡ None
+position_none p xs all =
+    let none : position_or_len (λ x. not (p x)) xs ≡ length xs = none_fails p xs all in
+    rw none (let test : nat_lt (length xs) (length xs) ≡ false = grind (arith, nat_tests) in rw test refl)
+
+-- from one corner to another that is further by so much (back 0), or back (back 1)
+abbrev AreEnds : ℕ → ℕ → ℕ → ℕ → ℕ → Type 0
+AreEnds id far back from to = ((back ≡ 0) × (from ≡ id) × (to ≡ id + far)) ⊎ ((back ≡ 1) × (from ≡ id + far) × (to ≡ id))
+
+one_way : (id far back other also more from to : ℕ) → 1 ≤ far → 1 ≤ also → AreEnds id far back from to → AreEnds other also more from to → (id ≡ other) × (far ≡ also) × (back ≡ more)
+one_way id far back other also more from to some any (inl p) (inl q) = (omega (arith, p.1, q.1), omega (arith, p.1, q.1, p.2, q.2), omega (arith, p.0, q.0))
+one_way id far back other also more from to some any (inl p) (inr q) = absurd (omega (arith, some, any, p.1, q.1, p.2, q.2))
+one_way id far back other also more from to some any (inr p) (inl q) = absurd (omega (arith, some, any, p.1, q.1, p.2, q.2))
+one_way id far back other also more from to some any (inr p) (inr q) = (omega (arith, p.2, q.2), omega (arith, p.1, q.1, p.2, q.2), omega (arith, p.0, q.0))
+
+-- to the next corner of the row (step 0), or of the column (step 1)
+abbrev IsStep : ℕ → ℕ → ℕ → Type 0
+IsStep n step far = ((step ≡ 0) × (far ≡ 1)) ⊎ ((step ≡ 1) × (far ≡ n))
+
+one_step : (n step far more also : ℕ) → 2 ≤ n → IsStep n step far → IsStep n more also → far ≡ also → step ≡ more
+one_step n step far more also many (inl p) (inl q) e = omega (arith, p.0, q.0)
+one_step n step far more also many (inl p) (inr q) e = absurd (omega (arith, many, p.1, q.1, e))
+one_step n step far more also many (inr p) (inl q) e = absurd (omega (arith, many, p.1, q.1, e))
+one_step n step far more also many (inr p) (inr q) e = omega (arith, p.0, q.0)
+
+some_far : (n step far : ℕ) → 2 ≤ n → IsStep n step far → 1 ≤ far
+some_far n step far many (inl p) = omega (arith, p.1)
+some_far n step far many (inr p) = omega (arith, many, p.1)
+
+module _ (n : ℕ) (nodes : List Node) where
+  -- an arc of a mode between a corner and a next one, tagged by the lower id, the step, the mode and the way
+  record IsArcBy (tag : ℕ) (arc : Arc) : Type 0 where
+    id : ℕ
+    step : ℕ
+    mode : ℕ
+    back : ℕ
+    far : ℕ
+    from : ℕ
+    to : ℕ
+    is : tag ≡ 12 * id + 6 * step + 2 * mode + back
+    low : mode < 3
+    many : 2 ≤ n
+    along : IsStep n step far
+    ends : AreEnds id far back from to
+    start : road_number nodes (pos from, mode) ≡ Some arc.from
+    end : road_number nodes (pos to, mode) ≡ Some arc.to
+
+  one_tag : (tag other : ℕ) (a b : Arc) → IsArcBy tag a → IsArcBy other b → is_eq (arc_cmp a b) ≡ true → tag ≡ other
+  one_tag tag other a b p q e =
+      let same = same_ends a b e in
+      let from = number_same nodes p.from p.mode q.from q.mode a.from p.start (q.start ∙ ap Some (sym same.0)) in
+      let to = number_same nodes p.to p.mode q.to q.mode a.to p.end (q.end ∙ ap Some (sym same.1)) in
+      let ends = subst₂ (λ from to. AreEnds q.id q.far q.back from to) (sym from.0) (sym to.0) q.ends in
+      let way = one_way p.id p.far p.back q.id q.far q.back p.from p.to (some_far n p.step p.far p.many p.along) (some_far n q.step q.far q.many q.along) p.ends ends in
+      let step = one_step n p.step p.far q.step q.far p.many p.along q.along way.1 in
+      omega (arith, p.is, q.is, way.0, way.2, step, from.1)
+
+  -- ---- the tags of all arcs
+
+  -- a part of the row of a corner's arcs
+  module _ (id step : ℕ) (many : 2 ≤ n) (far : ℕ) (along : IsStep n step far) (other : ℕ) (there : other ≡ id + far) where
+    there_rises : (mode base low high : ℕ) → mode < 3 → low ≡ 12 * id + 6 * step + 2 * mode → low < high
+        → Rise IsArcBy low high (option_to_list (road_between (road_number nodes) mode base id other))
+    there_rises mode base low high small is below = by_ends (road_number nodes (pos id, mode)) (road_number nodes (pos other, mode)) refl refl
+      where
+        by_ends : (start end : Option ℕ) → road_number nodes (pos id, mode) ≡ start → road_number nodes (pos other, mode) ≡ end
+            → Rise IsArcBy low high (option_to_list (road_between (road_number nodes) mode base id other))
+        by_ends None end e f = rw e (omega (arith, below))
+        by_ends (Some start) None e f = rw (e, f) (omega (arith, below))
+        by_ends (Some start) (Some end) e f =
+            rw (e, f) (rise_one IsArcBy low high (record { from = start; to = end; ms = time_between base id other }) below
+            (record { id = id; step = step; mode = mode; back = 0; far = far; from = id; to = other; is = omega (arith, is); low = small; many = many; along = along; ends = inl (refl, refl, there); start = e; end = f }))
+
+    back_rises : (mode base low high : ℕ) → mode < 3 → low ≡ 12 * id + 6 * step + 2 * mode + 1 → low < high
+        → Rise IsArcBy low high (option_to_list (road_between (road_number nodes) mode base other id))
+    back_rises mode base low high small is below = by_ends (road_number nodes (pos other, mode)) (road_number nodes (pos id, mode)) refl refl
+      where
+        by_ends : (start end : Option ℕ) → road_number nodes (pos other, mode) ≡ start → road_number nodes (pos id, mode) ≡ end
+            → Rise IsArcBy low high (option_to_list (road_between (road_number nodes) mode base other id))
+        by_ends None end e f = rw e (omega (arith, below))
+        by_ends (Some start) None e f = rw (e, f) (omega (arith, below))
+        by_ends (Some start) (Some end) e f =
+            rw (e, f) (rise_one IsArcBy low high (record { from = start; to = end; ms = time_between base other id }) below
+            (record { id = id; step = step; mode = mode; back = 1; far = far; from = other; to = id; is = omega (arith, is); low = small; many = many; along = along; ends = inr (refl, there, refl); start = e; end = f }))
+
+    street_rises : (mode base low high : ℕ) → mode < 3 → low ≡ 12 * id + 6 * step + 2 * mode → low + 2 ≤ high → Rise IsArcBy low high (street (road_number nodes) mode base id other)
+    street_rises mode base low high small is below =
+        rise_append IsArcBy low (low + 1) high (option_to_list (road_between (road_number nodes) mode base id other)) (option_to_list (road_between (road_number nodes) mode base other id))
+        (there_rises mode base low (low + 1) small is (omega arith)) (back_rises mode base (low + 1) high small (omega (arith, is)) (omega (arith, below)))
+
+    streets_rise : (foot bike car : ℕ) (cars : Bool) (low high : ℕ) → low ≡ 12 * id + 6 * step → low + 6 ≤ high → Rise IsArcBy low high (streets (road_number nodes) foot bike car cars id other)
+    streets_rise foot bike car cars low high is below =
+        rise_append IsArcBy low (low + 4) high (street (road_number nodes) 0 foot id other ++ street (road_number nodes) 1 bike id other) _
+        (rise_append IsArcBy low (low + 2) (low + 4) (street (road_number nodes) 0 foot id other) (street (road_number nodes) 1 bike id other)
+        (street_rises 0 foot low (low + 2) (omega arith) (omega (arith, is)) (omega arith))
+        (street_rises 1 bike (low + 2) (low + 4) (omega arith) (omega (arith, is)) (omega arith)))
+        (rise_if IsArcBy (low + 4) high cars (street (road_number nodes) 2 car id other) (omega (arith, below))
+        (λ there. street_rises 2 car (low + 4) high (omega arith) (omega (arith, is)) (omega (arith, below))))
+
+  arcs_rise_at : (at : Corner) (id : ℕ) → id ≡ at.id → Rise IsArcBy (12 * id) (12 * (id + 1)) (corner_arcs n (road_number nodes) at)
+  arcs_rise_at at id is =
+      rise_append IsArcBy (12 * id) (12 * id + 6) (12 * (id + 1)) (along_row n (road_number nodes) at) (along_column n (road_number nodes) at)
+      (rise_if IsArcBy (12 * id) (12 * id + 6) (nat_lt (at.column + 1) n) (streets (road_number nodes) 53203 17735 8939 (is_car_line at.row) at.id (at.id + 1)) (omega arith)
+      (λ there. streets_rise at.id 0 (omega (arith, ltb-true (at.column + 1) n there)) 1 (inl (refl, refl)) (at.id + 1) refl 53203 17735 8939 (is_car_line at.row) (12 * id) (12 * id + 6) (omega (arith, is)) (omega arith)))
+      (rise_if IsArcBy (12 * id + 6) (12 * (id + 1)) (nat_lt (at.row + 1) n) (streets (road_number nodes) 79515 26505 13359 (is_car_line at.column) at.id (at.id + n)) (omega arith)
+      (λ there. streets_rise at.id 1 (omega (arith, ltb-true (at.row + 1) n there)) n (inr (refl, refl)) (at.id + n) refl 79515 26505 13359 (is_car_line at.column) (12 * id + 6) (12 * (id + 1)) (omega (arith, is)) (omega arith)))
+
+  arcs_rise : Rise IsArcBy 12 (12 * (1 + n * n)) (city_arcs n (road_number nodes))
+  arcs_rise = corners_rise IsArcBy (λ id. 12 * id) n (corner_arcs n (road_number nodes)) (λ row column id there too is. arcs_rise_at (corner n row column) id is)
+
+  arc_joins : (tag : ℕ) (arc : Arc) → tag < 12 * (1 + n * n) → IsArcBy tag arc → joins_modes nodes arc ≡ true
+  arc_joins tag arc below p =
+      let one : mode_at nodes arc.from ≡ Some p.mode = mode_of_number nodes p.from p.mode arc.from p.start in
+      let two : mode_at nodes arc.to ≡ Some p.mode = mode_of_number nodes p.to p.mode arc.to p.end in
+      let mode : is_same_mode (mode_at nodes arc.from) (mode_at nodes arc.to) ≡ true = rw (one, two) (let itself : nat_eq p.mode p.mode ≡ true = grind (arith, nat_tests) in itself) in
+      and_from (is_same_mode (mode_at nodes arc.from) (mode_at nodes arc.to)) (not (arc.from == arc.to)) mode (apart (nat_eq arc.from arc.to) refl)
+    where
+      apart : (t : Bool) → nat_eq arc.from arc.to ≡ t → not (nat_eq arc.from arc.to) ≡ true
+      apart false e = ap not e
+      apart true e =
+          let one = (number_same nodes p.from p.mode p.to p.mode arc.from p.start (p.end ∙ ap Some (sym (eqb-true arc.from arc.to e)))).0 in
+          let some = some_far n p.step p.far p.many p.along in
+          absurd (⊎_elim (λ there. omega (arith, some, one, there.1, there.2)) (λ back. omega (arith, some, one, back.1, back.2)) p.ends)
+
+  module _ (arcs : List Arc) (are : AreInOrder (city_arcs n (road_number nodes)) arcs) where
+    pub arcs_right : end_or_order_fault Arcs (position (λ arc. not (joins_modes nodes arc)) arcs) (first_unsorted arc_cmp 0 arcs) ≡ None
+    arcs_right =
+        let joined = All-permutation (λ arc. joins_modes nodes arc ≡ true) (city_arcs n (road_number nodes)) arcs are.same
+        (rise_all IsArcBy (λ arc. joins_modes nodes arc ≡ true) (12 * (1 + n * n)) arc_joins 12 (city_arcs n (road_number nodes)) arcs_rise) in
+        let bad : position (λ arc. not (joins_modes nodes arc)) arcs ≡ None = position_none (joins_modes nodes) arcs joined in
+        let unsorted : first_unsorted arc_cmp 0 arcs ≡ None = rise_sorted IsArcBy arc_cmp arcs_total one_tag 12 (12 * (1 + n * n)) (city_arcs n (road_number nodes)) arcs arcs_rise are.same are.ascend in
+        rw (bad, unsorted) refl
+
+    pub arcs_few : length arcs ≤ 12 * (n * n)
+    arcs_few = omega (arith, length_permutation (city_arcs n (road_number nodes)) arcs are.same, rise_few IsArcBy 12 (12 * (1 + n * n)) (city_arcs n (road_number nodes)) arcs_rise)

@@ -1,0 +1,104 @@
+-- The road nodes ascend, and a number is that of one of them.
+use Rattle.std.proofs.Common.{◌≡◌, ℕ, ℤ, pos, ◌+◌, ◌*◌, ◌<◌, ◌≤◌, List, [], ◌∷◌, ◌++◌, length, get_or, nat_eq, true, Option, None, Some, refl, sym, ap, ap₂, ◌∙◌, arith, ⊎_elim}
+use Rattle.std.specs.Prelude.{option_and_then, option_to_list}
+use Rattle.std.specs.Ordering.{int_eq, is_lt}
+use Rattle.std.proofs.lemmas.Bool.{and_parts, cases_order, false≢true}
+use Rattle.std.proofs.lemmas.Bool.Decides.{Decides-int_eq, nat_tests}
+use Rattle.std.proofs.lemmas.Iterator.Adapters.{position_from-zero}
+use Rattle.std.proofs.lemmas.List.Quantifiers.{position-Some}
+use Rattle.std.proofs.lemmas.Option.{none-some, slice_get_cases}
+use Rattle.plan_base.specs.declared.places.Place.{Place}
+use Rattle.mode_network.specs.NetworkLists.{mode_at, mode_of}
+use Rattle.mode_network.specs.Rules.{first_unsorted, node_cmp}
+use Rattle.mode_network.specs.declared.nodes.Node.{Node}
+use Rattle.mode_network.specs.declared.nodes.NodeKey.{NodeKey}
+use Rattle.mode_network.specs.declared.nodes.NodeKey.TheVariants.{Road, Stop, Switch}
+use Rattle.sample_city.specs.Corners.{corner, corner_place, has_cars}
+use Rattle.sample_city.specs.Roads.{city_roads, is_key_of, node_in, nodes_at, road_number}
+use Rattle.sample_city.specs.declared.corners.Corner.{Corner}
+use Rattle.sample_city.proofs.CornerLaws.{corners_rise}
+use Rattle.sample_city.proofs.RiseLaws.{Rise, rise_append, rise_few, rise_if, rise_in_order, rise_one}
+
+-- a road node, tagged by its id and its mode
+record IsRoadBy (tag : ℕ) (node : Node) : Type 0 where
+  id : ℕ
+  mode : ℕ
+  low : mode < 3
+  key : node.key ≡ Road mode (pos id)
+  is : tag ≡ 3 * id + mode
+
+roads_below : (tag other : ℕ) (a b : Node) → tag < other → IsRoadBy tag a → IsRoadBy other b → is_lt (node_cmp a b) ≡ true
+roads_below tag other a b below one two =
+    rw (one.key, two.key) (by_numbers one.id two.id one.mode two.mode (omega (arith, below, one.is, two.is, one.low, two.low)) (λ same. omega (arith, below, one.is, two.is, same)))
+  where
+    by_numbers : (i j m k : ℕ) → i ≤ j → (i ≡ j → m < k) → is_lt (node_cmp (record a { key = Road m (pos i) }) (record b { key = Road k (pos j) })) ≡ true
+    by_numbers i j m k le lt = ⊎_elim
+        (λ same. (let below : m < k = lt same in grind (arith, nat_tests, same, below)))
+        (λ other. ⊎_elim (λ under. grind (arith, nat_tests, under)) (λ above. absurd (omega (arith, le, above))) other)
+        (cases_order i j)
+
+road_in_rises : (place : Option Place) (at : Corner) (mode low high : ℕ) → mode < 3 → low ≡ 3 * at.id + mode → low < high → Rise IsRoadBy low high (option_to_list (node_in place at mode))
+road_in_rises None at mode low high small is below = omega (arith, below)
+road_in_rises (Some place) at mode low high small is below =
+    rise_one IsRoadBy low high (record { key = Road mode (pos at.id); place = place }) below (record { id = at.id; mode = mode; low = small; key = refl; is = is })
+
+roads_rise_at : (at : Corner) (id : ℕ) → id ≡ at.id → Rise IsRoadBy (3 * id) (3 * (id + 1)) (nodes_at at)
+roads_rise_at at id is =
+    rise_append IsRoadBy (3 * id) (3 * id + 2) (3 * (id + 1)) (option_to_list (node_in (corner_place at) at 0) ++ option_to_list (node_in (corner_place at) at 1)) _
+    (rise_append IsRoadBy (3 * id) (3 * id + 1) (3 * id + 2) (option_to_list (node_in (corner_place at) at 0)) (option_to_list (node_in (corner_place at) at 1))
+    (road_in_rises (corner_place at) at 0 (3 * id) (3 * id + 1) (omega arith) (omega (arith, is)) (omega arith))
+    (road_in_rises (corner_place at) at 1 (3 * id + 1) (3 * id + 2) (omega arith) (omega (arith, is)) (omega arith)))
+    (rise_if IsRoadBy (3 * id + 2) (3 * (id + 1)) (has_cars at) (option_to_list (node_in (corner_place at) at 2)) (omega arith)
+    (λ there. road_in_rises (corner_place at) at 2 (3 * id + 2) (3 * (id + 1)) (omega arith) (omega (arith, is)) (omega arith)))
+
+roads_rise : (n : ℕ) → Rise IsRoadBy 3 (3 * (1 + n * n)) (city_roads n)
+roads_rise n = corners_rise IsRoadBy (λ id. 3 * id) n nodes_at (λ row column id there too is. roads_rise_at (corner n row column) id is)
+
+pub roads_in_order : (n : ℕ) → first_unsorted node_cmp 0 (city_roads n) ≡ None
+roads_in_order n = rise_in_order IsRoadBy node_cmp roads_below 0 3 (3 * (1 + n * n)) (city_roads n) (roads_rise n)
+
+pub roads_few : (n : ℕ) → length (city_roads n) ≤ 3 * (n * n)
+roads_few n = omega (arith, rise_few IsRoadBy 3 (3 * (1 + n * n)) (city_roads n) (roads_rise n))
+
+-- ---- numbers
+
+key_is : (key : NodeKey) (id mode : ℕ) → is_key_of (pos id, mode) key ≡ true → key ≡ Road mode (pos id)
+key_is (Road m i) id mode e =
+    let parts = and_parts (int_eq i (pos id)) (nat_eq m mode) e in
+    let modes : m ≡ mode = grind (arith, nat_tests, parts.1) in
+    ap₂ (λ m (i : ℤ). Road m i) modes ((Decides-int_eq i (pos id)).0 parts.0)
+key_is (Stop stop) id mode e = absurd (false≢true e)
+key_is (Switch i) id mode e = absurd (false≢true e)
+
+-- the node that has a number
+pub number_is : (nodes : List Node) (id mode k : ℕ) (d : Node) → road_number nodes (pos id, mode) ≡ Some k → (k < length nodes) × ((get_or nodes k d).key ≡ Road mode (pos id))
+unfolding road_number
+number_is nodes id mode k d e =
+    let test = λ (node : Node). is_key_of (pos id, mode) node.key in
+    let found = position-Some test nodes k d (position_from-zero test nodes ∙ e) in
+    (found.0, key_is (get_or nodes k d).key id mode found.1)
+
+pub number_below : (nodes : List Node) (id mode k : ℕ) → road_number nodes (pos id, mode) ≡ Some k → k < length nodes
+unfolding road_number
+number_below [] id mode k e = absurd (none-some k e)
+number_below (node ∷ nodes) id mode k e = (number_is (node ∷ nodes) id mode k node e).0
+
+-- two nodes do not have one number
+pub number_same : (nodes : List Node) (id mode other more k : ℕ) → road_number nodes (pos id, mode) ≡ Some k → road_number nodes (pos other, more) ≡ Some k → (id ≡ other) × (mode ≡ more)
+number_same nodes id mode other more k one two = by_nodes nodes one two
+  where
+    one_key : Road mode (pos id) ≡ Road more (pos other) → (id ≡ other) × (mode ≡ more)
+    one_key e = (cc, cc)
+
+    by_nodes : (nodes : List Node) → road_number nodes (pos id, mode) ≡ Some k → road_number nodes (pos other, more) ≡ Some k → (id ≡ other) × (mode ≡ more)
+    by_nodes [] one two = (let low = number_below [] id mode k one in absurd (omega (arith, low)))
+    by_nodes (node ∷ nodes) one two = one_key (sym (number_is (node ∷ nodes) id mode k node one).1 ∙ (number_is (node ∷ nodes) other more k node two).1)
+
+-- the node with the number of an id and a mode is of that mode
+pub mode_of_number : (nodes : List Node) (id mode k : ℕ) → road_number nodes (pos id, mode) ≡ Some k → mode_at nodes k ≡ Some mode
+mode_of_number nodes id mode k e = ⊎_elim
+    (λ there.
+    let key = (number_is nodes id mode k there.0 e).1 in
+    ap (option_and_then (λ (node : Node). mode_of node.key)) there.2 ∙ ap (λ (node : Node). mode_of node.key) (sym there.3) ∙ ap mode_of key)
+    (λ past. absurd (omega (arith, past.0, number_below nodes id mode k e)))
+    (slice_get_cases nodes k).1
