@@ -6,12 +6,16 @@ use Rattle.journey.specs.Best.{Asked, IsBest}
 use Rattle.sample_command.specs.Queries.{sampled_queries}
 use Rattle.sample_command.specs.Times.{AreTimes, IsTravelTime}
 use Rattle.sample_command.specs.Texts.{city_text, times_text}
-use Rattle.promises.specs.Samples.{SampleCityIsUnique, SummariesAreAlike}
+use Rattle.sample_city.proofs.KeepLaws.{city_keeps}
+use Rattle.promises.specs.Samples.{SampleCityIsFaultless, SampleCityIsUnique, SummariesAreAlike}
 use Rattle.promises.proofs.CityLemmas.{city_once}
 use Rattle.promises.proofs.LineLemmas.{same_asked, not_both}
 
 pub sample_city_is_unique : SampleCityIsUnique
 sample_city_is_unique n one other rules also is too = city_once n one other rules also is too
+
+pub sample_city_is_faultless : SampleCityIsFaultless
+sample_city_is_faultless n caps city size full is = city_keeps n city size is caps full
 
 module _ (n : NetworkLists) where
   -- best journeys arrive at one time

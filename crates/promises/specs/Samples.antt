@@ -1,7 +1,9 @@
 -- What the command `sample` writes for one size.
-use Rattle.std.specs.Prelude.{◌≡◌, ℕ, List, ◌++◌, Option}
+use Rattle.std.specs.Prelude.{◌≡◌, ℕ, ◌≤◌, List, ◌++◌, Option, None}
+use Rattle.plan_base.specs.declared.limits.Caps.{Caps}
 use Rattle.mode_network.specs.NetworkLists.{NetworkLists}
-use Rattle.mode_network.specs.Rules.{IsNetwork}
+use Rattle.mode_network.specs.Rules.{IsNetwork, first_fault}
+use Rattle.planner_core.specs.Outcomes.{AreFull}
 use Rattle.sample_city.specs.SampleCity.{IsSampleCity}
 use Rattle.sample_command.specs.Summary.{IsSummary}
 use Rattle.sample_command.specs.Texts.{city_text, times_text}
@@ -10,6 +12,11 @@ use Rattle.sample_command.specs.Texts.{city_text, times_text}
 abbrev pub SampleCityIsUnique : Type 0
 SampleCityIsUnique = (n : ℕ) (one other : NetworkLists) → IsNetwork one → IsNetwork other
     → IsSampleCity n one → IsSampleCity n other → one ≡ other
+
+-- each breaks no rule of networks, and is past none of the full limits: so no run is refused its city
+abbrev pub SampleCityIsFaultless : Type 0
+SampleCityIsFaultless = (n : ℕ) (caps : Caps) (city : NetworkLists) → n ≤ 300 → AreFull caps
+    → IsSampleCity n city → first_fault caps city ≡ None
 
 -- Two summaries of one size tell of the same city and the same times. How many labels the searches have over
 -- a hierarchy, `settled`, each tells for itself: that depends on the order in which nodes were contracted,
