@@ -6,12 +6,22 @@ use Rattle.plan_base.specs.Sinks.{SinkMeaning, Stays}
 use Rattle.mode_network.specs.NetworkLists.{NetworkLists}
 use Rattle.hierarchy.specs.Lists.{HierarchyLists}
 use Rattle.hierarchy.specs.Soundness.{IsSound}
+use Rattle.hierarchy_file.specs.declared.fault.HFileFault.{HFileFault}
+use Rattle.hierarchy_file.specs.declared.fault.HFileFault.TheVariants as no
+use Rattle.hierarchy_file.specs.Causes.{IsRefusedHierarchy}
 use Rattle.run_steps.specs.declared.outcome.Outcome.{Outcome}
 use Rattle.run_steps.specs.declared.outcome.Outcome.TheVariants.{Done, Usage, Missing, ReadFault, TooLong, WriteFault, BadRegion, BadFeed, Invalid, BadCertificate, BadHierarchy, Unsound, OutOfMemory}
 use Rattle.run_steps.specs.Scene.{scene}
 use Rattle.run_steps.specs.Sayings.{Saying}
 use Rattle.hierarchy_commands.specs.Commands.{OnSound, OnHierarchy, OnHierarchyIfNamed}
-use Rattle.hierarchy_commands.specs.Working.{AreUnsound, HasSound, HasUnsound, IsHierarchyOutcome, IsFoundSound, IsNamedOutcome}
+use Rattle.hierarchy_commands.specs.Working.{AreUnsound, hierarchy_outcome, HasSound, HasUnsound, IsHierarchyOutcome, IsFoundSound, IsNamedOutcome}
+
+-- a hierarchy that was refused
+pub hierarchy_refused : (n : NetworkLists) (bytes : List ℕ) (fault : HFileFault) → IsRefusedHierarchy bytes fault → AreUnsound n bytes (hierarchy_outcome fault)
+hierarchy_refused n bytes no.BadHead why = why
+hierarchy_refused n bytes (no.BadRecord at) why = why
+hierarchy_refused n bytes (no.Trailing at) why = why
+hierarchy_refused n bytes no.OutOfMemory why = tt
 
 module _ (old mid new : ShelfMeaning) (before after : SinkMeaning) (name : List ℕ) (n : NetworkLists) where
   -- the bytes of a hierarchy spell none that is sound

@@ -5,6 +5,8 @@ use Rattle.mode_network.specs.NetworkLists.{NetworkLists}
 use Rattle.hierarchy.specs.Lists.{HierarchyLists}
 use Rattle.hierarchy.specs.Soundness.{IsSound}
 use Rattle.hierarchy.specs.FirstBroken.{IsFirstBroken}
+use Rattle.hierarchy_file.specs.declared.fault.HFileFault.{HFileFault}
+use Rattle.hierarchy_file.specs.declared.fault.HFileFault.TheVariants as no
 use Rattle.hierarchy_file.specs.Causes.{IsNoHierarchy, SpellHierarchy}
 use Rattle.run_steps.specs.declared.outcome.FileRole.TheVariants.{Hierarchy}
 use Rattle.run_steps.specs.declared.outcome.Outcome.{Outcome}
@@ -24,6 +26,13 @@ abbrev pub IsUnsoundOf : NetworkLists → HierarchyLists → Outcome → Type 0
 IsUnsoundOf n lists (Unsound clause at by) = IsFirstBroken n lists clause at by
 IsUnsoundOf n lists OutOfMemory = Unit {0}
 IsUnsoundOf n lists _ = ⊥
+
+-- how a run ends where a hierarchy is refused
+abbrev pub hierarchy_outcome : HFileFault → Outcome
+hierarchy_outcome no.BadHead = BadHierarchy no.BadHead
+hierarchy_outcome (no.BadRecord at) = BadHierarchy (no.BadRecord at)
+hierarchy_outcome (no.Trailing at) = BadHierarchy (no.Trailing at)
+hierarchy_outcome no.OutOfMemory = OutOfMemory
 
 -- why the bytes spell none
 abbrev pub AreUnsound : NetworkLists → List ℕ → Outcome → Type 0

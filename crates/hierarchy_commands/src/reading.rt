@@ -4,7 +4,7 @@ ghost use Rattle.std.specs.Prelude.{◌≡◌, IfErr, IfOk, option_map};
 ghost use Rattle.hierarchy.specs.Rules.{IsHierarchy};
 ghost use Rattle.hierarchy_check.specs.Nodes.{HasNodes};
 ghost use Rattle.plan_base.specs.Shelves.{IsLater};
-ghost use Rattle.hierarchy_commands.specs.Working.{HasSound, AreSound, AreUnsound, IsSoundOf, IsUnsoundOf, IsHierarchyOutcome, IsFoundSound, IsNamedOutcome};
+ghost use Rattle.hierarchy_commands.specs.Working.{HasSound, AreSound, AreUnsound, IsSoundOf, IsUnsoundOf, IsHierarchyOutcome, IsFoundSound, IsNamedOutcome, hierarchy_outcome};
 
 use crate::broken::Judged;
 use fault_notes::bad_hierarchy;
@@ -68,10 +68,19 @@ fn sound<E: Sink>(
 {
     match decode_lists(alloc, bytes) {
         Ok(lists) => sound_of(alloc, network, path, lists, notes),
-        Err(HFileFault::OutOfMemory) => Err(Outcome::OutOfMemory),
-        Err(fault) => {
+        Err(fault) => Err(refused(alloc, path, fault, notes)),
+    }
+}
+
+/// How a run ends whose hierarchy is refused, which `notes` is told.
+fn refused<E: Sink>(alloc: Global, path: &str, fault: HFileFault, notes: &mut E) -> Outcome
+    ensures { result ≡ hierarchy_outcome fault }
+{
+    match fault {
+        HFileFault::OutOfMemory => Outcome::OutOfMemory,
+        fault => {
             tell(alloc, notes, bad_hierarchy(alloc, path, fault));
-            Err(Outcome::BadHierarchy { fault })
+            Outcome::BadHierarchy { fault }
         }
     }
 }

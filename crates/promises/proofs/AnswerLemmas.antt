@@ -87,7 +87,7 @@ module _ (caps : Caps) (files : Files) (region queries out : List ℕ) where
         network = read.network;
         region_bytes = read.bytes;
         region_file = read.held;
-        spells = read.spells;
+        spells = read.spells.decoded;
         rules = read.rules;
         queries_bytes = bytes;
         queries_file = told_of read.mid files queries read.tells (λ h. h ≡ Some bytes) answered.file.file;

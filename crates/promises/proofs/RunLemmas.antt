@@ -8,14 +8,13 @@ use Rattle.plan_base.specs.Sinks.{SinkMeaning, Appended}
 use Rattle.plan_base.specs.declared.limits.Caps.{Caps}
 use Rattle.mode_network.specs.NetworkLists.{NetworkLists}
 use Rattle.mode_network.specs.Rules.{IsNetwork}
-use Rattle.region_file.specs.Regions.{IsDecoded}
 use Rattle.hierarchy.specs.Lists.{HierarchyLists}
 use Rattle.run_steps.specs.declared.outcome.FileRole.{FileRole}
 use Rattle.run_steps.specs.declared.outcome.FileRole.TheVariants.{Region, Hierarchy}
 use Rattle.run_steps.specs.declared.outcome.Outcome.TheVariants.{Done}
 use Rattle.run_steps.specs.Scene.{Scene, with_shelf}
 use Rattle.run_steps.specs.Sayings.{Saying, OnFile, most_bytes}
-use Rattle.run_steps.specs.Regions.{OnNetwork, OnRegion}
+use Rattle.run_steps.specs.Regions.{OnNetwork, OnRegion, SpellThis}
 use Rattle.run_steps.specs.Complete.{Files, IsHeld, SpellsNetwork}
 use Rattle.hierarchy_commands.specs.Commands.{OnSound, OnHierarchyIfNamed}
 use Rattle.hierarchy_commands.specs.Complete.{IsSoundIfNamed}
@@ -59,7 +58,7 @@ module _ (files : Files) where
     pub held : files name ≡ Some bytes
     pub within : length bytes ≤ most_bytes
     pub network : NetworkLists
-    pub spells : IsDecoded caps bytes network
+    pub spells : SpellThis caps bytes network
     pub rules : IsNetwork network
     pub mid : ShelfMeaning
     pub tells : mid.files ≡ Some files
@@ -90,7 +89,7 @@ module _ (files : Files) where
   pub region_again : (later : Files) (caps : Caps) (name : List ℕ) (rest : NetworkLists → Saying) (old new : Scene ⊤) (read : DidReadRegion caps name rest old new)
       → later name ≡ files name → (P : NetworkLists → Type 0) → P read.network → IsHeld later name (SpellsNetwork caps P)
   region_again later caps name rest old new read stays P p =
-      record { bytes = read.bytes; held = stays ∙ read.held; within = read.within; fine = (read.network, read.spells, p) }
+      record { bytes = read.bytes; held = stays ∙ read.held; within = read.within; fine = (read.network, read.spells.decoded, p) }
 
   -- a hierarchy was read that is sound, where one was named, and the rest was done; later that is there too
   pub record DidReadSound (later : Files) (n : NetworkLists) (named : Option (List ℕ)) (rest : Option HierarchyLists → Saying) (P : Option HierarchyLists → Type 0) (old new : Scene ⊤) : Type 0 where

@@ -6,7 +6,9 @@ use Rattle.plan_base.specs.Shelves.{IsLater, ShelfMeaning, Told}
 use Rattle.plan_base.specs.declared.limits.Caps.{Caps}
 use Rattle.mode_network.specs.NetworkLists.{NetworkLists}
 use Rattle.mode_network.specs.Rules.{IsNetwork}
-use Rattle.region_file.proofs.Decoded.{no_region, spell_one}
+use Rattle.region_file.specs.declared.fault.RegionFault.{RegionFault}
+use Rattle.region_file.specs.declared.fault.RegionFault.TheVariants as no
+use Rattle.region_file.specs.Regions.{IsDecoded, IsNoRegion}
 use Rattle.run_steps.specs.declared.outcome.FileRole.{FileRole}
 use Rattle.run_steps.specs.declared.outcome.Outcome.{Outcome}
 use Rattle.run_steps.specs.declared.outcome.Outcome.TheVariants.{Done, Usage, Missing, ReadFault, TooLong, WriteFault, BadRegion, BadFeed, Invalid, BadCertificate, BadHierarchy, Unsound, OutOfMemory}
@@ -24,6 +26,13 @@ quiet_later old new mid later quiet = record { shelf = λ rose. quiet.shelf (ros
 pub told_held : (shelf : ShelfMeaning) (files : Files) (name bytes : List ℕ) → shelf.files ≡ Some files → files name ≡ Some bytes
     → (P : Option (List ℕ) → Type 0) → Told shelf name P → P (Some bytes)
 told_held shelf files name bytes tells held P told = subst P held (subst (λ (f : Option Files). IfSome f (λ g. P (g name))) tells told)
+
+no_region : (caps : Caps) (bytes : List ℕ) (n : NetworkLists) (fault : RegionFault) → IsDecoded caps bytes n → IsNoRegion caps bytes fault → ⊥
+no_region caps bytes n no.BadHead is none = none.0 n is
+no_region caps bytes n (no.BadRecord at) is none = none.0 n is
+no_region caps bytes n (no.Network broken) is none = none.0 n is
+no_region caps bytes n (no.Trailing at) is none = none.0 n is
+no_region caps bytes n no.OutOfMemory is none = none
 
 module _ (files : Files) where
   -- a file that is held is read
@@ -60,7 +69,7 @@ module _ (files : Files) where
       → (bytes : List ℕ) → Completes files (SpellsNetwork caps P bytes) (OnNetwork caps rest bytes)
   network_completes caps P rest more bytes (n, spells, p) old new outcome tells quiet (inl (fault, none, ends)) = absurd (no_region caps bytes n fault spells none)
   network_completes caps P rest more bytes (n, spells, p) old new outcome tells quiet (inr (m, decoded, rules, says)) =
-      more m rules (subst P (spell_one caps bytes n m spells decoded) p) old new outcome tells quiet says
+      more m rules (subst P (decoded.only n spells) p) old new outcome tells quiet says
 
   pub writes_completes : (IsOut IsFront : List ℕ → Type 0) → Completes files (Unit {0}) (Writes IsOut IsFront)
   writes_completes IsOut IsFront p old new Done tells quiet is = tt

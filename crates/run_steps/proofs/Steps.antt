@@ -2,17 +2,20 @@
 use Rattle.std.proofs.Common.{◌≡◌, ℕ, ◌<◌, ◌≤◌, ◌∙◌, inl, inr, List, Option, None, Ok, Err, take, refl, subst, arith, rules}
 use Rattle.std.specs.Prelude.{⊤, Result, IfErr, IfSome, IsSomeAnd, OnOk, length}
 use Rattle.plan_base.specs.Counts.{Rose}
-use Rattle.plan_base.specs.Shelves.{ShelfMeaning, IsLater, Told}
+use Rattle.plan_base.specs.Shelves.{ShelfMeaning, IsLater, HasRead, Told}
 use Rattle.plan_base.specs.Sinks.{SinkMeaning, Appended, Stays}
 use Rattle.plan_base.specs.declared.limits.Caps.{Caps}
 use Rattle.mode_network.specs.NetworkLists.{NetworkLists}
+use Rattle.region_file.specs.declared.fault.RegionFault.{RegionFault}
+use Rattle.region_file.specs.declared.fault.RegionFault.TheVariants as no
+use Rattle.region_file.specs.Regions.{IsRefusedRegion}
 use Rattle.run_steps.specs.declared.outcome.Outcome.{Outcome}
 use Rattle.run_steps.specs.declared.outcome.Outcome.TheVariants.{Done, Usage, Missing, ReadFault, TooLong, WriteFault, BadRegion, BadFeed, Invalid, BadCertificate, BadHierarchy, Unsound, OutOfMemory}
 use Rattle.run_steps.specs.declared.outcome.FileRole.{FileRole}
 use Rattle.run_steps.specs.Scene.{scene}
 use Rattle.run_steps.specs.Sayings.{Saying, IsUnread, IsUnreadable, WritesText, end_of, most_bytes}
 use Rattle.run_steps.specs.Regions.{OnRegion}
-use Rattle.run_steps.specs.Working.{HasRegion, IsRegionOutcome, IsTextOutcome}
+use Rattle.run_steps.specs.Working.{HasRegion, IsRegionOutcome, IsTextOutcome, region_outcome}
 
 -- a count that rose in the second of two calls rose over both
 pub rose_over : (first second third : ℕ) → first ≤ second → Rose second third → Rose first third
@@ -95,6 +98,15 @@ module _ (old new : ShelfMeaning) (before after : SinkMeaning) where
 
 pub not_earlier : (shelf : ShelfMeaning) → IsLater shelf shelf
 not_earlier shelf = record { files = refl; misses = search rules; faults = search rules }
+
+-- a region that was refused
+pub region_refused : (caps : Caps) (old new : ShelfMeaning) (name bytes : List ℕ) → HasRead old name most_bytes bytes → (fault : RegionFault) → IsRefusedRegion caps bytes fault
+    → IsRegionOutcome caps old new name (region_outcome fault)
+region_refused caps old new name bytes file no.BadHead why = record { bytes = bytes; file = file; why = why }
+region_refused caps old new name bytes file (no.BadRecord at) why = record { bytes = bytes; file = file; why = why }
+region_refused caps old new name bytes file (no.Network broken) why = record { bytes = bytes; file = file; why = why }
+region_refused caps old new name bytes file (no.Trailing at) why = record { bytes = bytes; file = file; why = why }
+region_refused caps old new name bytes file no.OutOfMemory why = tt
 
 module _ (old mid new : ShelfMeaning) (before after : SinkMeaning) (name : List ℕ) where
   -- the region was not read

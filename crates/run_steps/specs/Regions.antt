@@ -1,5 +1,5 @@
 -- What a run says that reads a region.
-use Rattle.std.specs.Prelude.{ℕ, ◌⊎◌, List}
+use Rattle.std.specs.Prelude.{◌≡◌, ℕ, ◌⊎◌, List}
 use Rattle.plan_base.specs.declared.limits.Caps.{Caps}
 use Rattle.mode_network.specs.NetworkLists.{NetworkLists}
 use Rattle.mode_network.specs.Rules.{IsNetwork}
@@ -13,10 +13,15 @@ use Rattle.run_steps.specs.Sayings.{Saying, Ends, OnFile}
 abbrev pub IsBadRegion : Caps → List ℕ → Saying
 IsBadRegion caps bytes old new outcome = (fault : RegionFault) × IsNoRegion caps bytes fault × Ends (BadRegion fault) old new outcome
 
--- what a region's bytes spell: a network within the limits, which keeps the rules of networks; or none
+-- the bytes spell this network within the limits, and no other
+pub record SpellThis (caps : Caps) (bytes : List ℕ) (n : NetworkLists) : Type 0 where
+  pub decoded : IsDecoded caps bytes n
+  pub only : (other : NetworkLists) → IsDecoded caps bytes other → other ≡ n
+
+-- what a region's bytes spell: a network, which keeps the rules of networks; or none
 abbrev pub OnNetwork : Caps → (NetworkLists → Saying) → List ℕ → Saying
 OnNetwork caps rest bytes old new outcome =
-    IsBadRegion caps bytes old new outcome ⊎ ((n : NetworkLists) × IsDecoded caps bytes n × IsNetwork n × rest n old new outcome)
+    IsBadRegion caps bytes old new outcome ⊎ ((n : NetworkLists) × SpellThis caps bytes n × IsNetwork n × rest n old new outcome)
 
 -- a region is read
 abbrev pub OnRegion : Caps → List ℕ → (NetworkLists → Saying) → Saying

@@ -9,11 +9,13 @@ use Rattle.plan_base.specs.declared.reading.ReadFault.TheVariants as cause
 use Rattle.mode_network.specs.NetworkLists.{NetworkLists}
 use Rattle.mode_network.specs.Rules.{IsNetwork}
 use Rattle.region_file.specs.declared.fault.RegionFault.{RegionFault}
-use Rattle.region_file.specs.Regions.{IsDecoded, IsNoRegion}
+use Rattle.region_file.specs.declared.fault.RegionFault.TheVariants as no
+use Rattle.region_file.specs.Regions.{IsNoRegion}
 use Rattle.run_steps.specs.declared.outcome.FileRole.{FileRole}
 use Rattle.run_steps.specs.declared.outcome.FileRole.TheVariants.{Region}
 use Rattle.run_steps.specs.declared.outcome.Outcome.{Outcome}
 use Rattle.run_steps.specs.declared.outcome.Outcome.TheVariants.{Missing, ReadFault, TooLong, WriteFault, BadRegion, OutOfMemory}
+use Rattle.run_steps.specs.Regions.{SpellThis}
 use Rattle.run_steps.specs.Sayings.{most_bytes, IsAbsent, IsUnread}
 
 -- how a run ends where a file can't be read
@@ -32,7 +34,7 @@ IsFound old new name None = IsAbsent old new name
 pub record HasRegion (caps : Caps) (shelf : ShelfMeaning) (name : List ℕ) (n : NetworkLists) : Type 0 where
   pub bytes : List ℕ
   pub file : HasRead shelf name most_bytes bytes
-  pub spells : IsDecoded caps bytes n
+  pub spells : SpellThis caps bytes n
   pub rules : IsNetwork n
 
 -- the region file was read, and spells none, for this reason
@@ -40,6 +42,14 @@ pub record HasBadRegion (caps : Caps) (shelf : ShelfMeaning) (name : List ℕ) (
   pub bytes : List ℕ
   pub file : HasRead shelf name most_bytes bytes
   pub why : IsNoRegion caps bytes fault
+
+-- how a run ends where a region is refused
+abbrev pub region_outcome : RegionFault → Outcome
+region_outcome no.BadHead = BadRegion no.BadHead
+region_outcome (no.BadRecord at) = BadRegion (no.BadRecord at)
+region_outcome (no.Network broken) = BadRegion (no.Network broken)
+region_outcome (no.Trailing at) = BadRegion (no.Trailing at)
+region_outcome no.OutOfMemory = OutOfMemory
 
 -- why no region was read
 abbrev pub IsRegionOutcome : Caps → ShelfMeaning → ShelfMeaning → List ℕ → Outcome → Type 0

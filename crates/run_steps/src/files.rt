@@ -3,7 +3,7 @@
 ghost use Rattle.std.specs.Prelude.{◌≡◌, IfOk, IfErr, option_map};
 ghost use Rattle.plan_base.specs.Shelves.{IsLater, HasRead};
 ghost use Rattle.run_steps.specs.Sayings.{IsUnread, IsUnreadable, most_bytes};
-ghost use Rattle.run_steps.specs.Working.{HasRegion, IsFound, IsRegionOutcome, outcome_of};
+ghost use Rattle.run_steps.specs.Working.{HasRegion, IsFound, IsRegionOutcome, outcome_of, region_outcome};
 
 use crate::notes::tell;
 use crate::outcome::{FileRole, Outcome};
@@ -124,10 +124,25 @@ pub fn read_region<F: Shelf, E: Sink>(
             network.known();
             Ok(network)
         }
-        Err(RegionFault::OutOfMemory) => Err(Outcome::OutOfMemory),
-        Err(fault) => {
-            tell(alloc, notes, bad_region(alloc, name, &bytes, fault));
-            Err(Outcome::BadRegion { fault })
+        Err(fault) => Err(refused_region(alloc, name, &bytes, fault, notes)),
+    }
+}
+
+/// How a run ends whose region is refused, which `notes` is told.
+fn refused_region<E: Sink>(
+    alloc: Global,
+    name: &str,
+    bytes: &[u8],
+    fault: RegionFault,
+    notes: &mut E,
+) -> Outcome
+    ensures { result ≡ region_outcome fault }
+{
+    match fault {
+        RegionFault::OutOfMemory => Outcome::OutOfMemory,
+        fault => {
+            tell(alloc, notes, bad_region(alloc, name, bytes, fault));
+            Outcome::BadRegion { fault }
         }
     }
 }

@@ -8,4 +8,4 @@ returns g c =
     let has = c.in_ok-network.ensures.ok in
     on_region (g.F.Shelf.meaning c.args.ports.now.shelf) new new (g.O.Sink.meaning c.args.ports.now.out) (g.O.Sink.meaning c.write_network.new.out) c.args.region.now
     c.args.caps.now _ n has c.in_ok-network.ensures.later _
-    (c.write_network.ensures c.args.caps.now new new has.spells.faultless)
+    (c.write_network.ensures c.args.caps.now new new has.spells.decoded.faultless)

@@ -14,3 +14,12 @@ returns-in_err-write_text g c =
     c.args.caps.now _ c.in_ok-network.network c.in_ok-network.ensures.ok c.in_ok-network.ensures.later _
     (text_fails new new before after (IsContraction c.in_ok-network.network c.args.keep) c.in-Ok.text.items c.in-Ok.ensures _
     (rw (← c.deref.ensures.value) c.in_err-write_text.ensures.err)))
+
+pub returns : goal.returns
+returns g c =
+    let before = g.O.Sink.meaning c.args.ports.now.out in
+    let after = g.O.Sink.meaning c.write_text.new.out in
+    let new = g.F.Shelf.meaning c.read_region.new.shelf in
+    on_region (g.F.Shelf.meaning c.args.ports.now.shelf) new new before after c.args.region.now
+    c.args.caps.now _ c.in_ok-network.network c.in_ok-network.ensures.ok c.in_ok-network.ensures.later _
+    (record { out = c.in-Ok.text.items; is = c.in-Ok.ensures; appended = rw (← c.deref.ensures.value) c.in_ok-write_text.ensures.ok })
