@@ -14,7 +14,7 @@ use few_boardings::{Counted, Side};
 use journey::{Query, copies};
 use mode_network::Network;
 use plain_graph::Plain;
-use product_search::{Best, Machine, Walk, Workspace, search_best_with};
+use product_search::{Best, Machine, Question, Walk, Workspace, search_best_with};
 use search_laws::Time;
 use std::alloc::{AllocError, Global};
 use unpack::from_plain;
@@ -105,16 +105,15 @@ impl<'a> RideSearch<'a> {
         if !self.reads_transit {
             return Ok(None);
         }
-        let best = search_best_with(
-            alloc,
-            workspace,
-            &self.plain,
-            &self.machine,
-            &self.origins,
-            &self.destinations,
-            at,
-            None,
-        )?;
+        let question = Question {
+            graph: &self.plain,
+            machine: &self.machine,
+            starts: &self.origins,
+            targets: &self.destinations,
+            dep: at,
+            bound: None,
+        };
+        let best = search_best_with(alloc, workspace, &question)?;
         let Best { arrival, walk } = best;
         let row = unpacked(alloc, &self.plain, arrival, &walk)?;
         Ok(row)
@@ -145,16 +144,15 @@ impl<'a> RideSearch<'a> {
         let Some(last) = self.query.depart.checked_add(c - 1) else {
             return Ok(true);
         };
-        let best = search_best_with(
-            alloc,
-            workspace,
-            least,
-            &self.machine,
-            &self.origins,
-            &self.destinations,
-            self.query.depart,
-            Some(last),
-        )?;
+        let question = Question {
+            graph: least,
+            machine: &self.machine,
+            starts: &self.origins,
+            targets: &self.destinations,
+            dep: self.query.depart,
+            bound: Some(last),
+        };
+        let best = search_best_with(alloc, workspace, &question)?;
         Ok(best.arrival.is_some())
     }
 }

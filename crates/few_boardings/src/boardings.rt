@@ -15,7 +15,7 @@ use journey::{Query, copies};
 use mode_network::{Journey, Network, Step};
 use plain_graph::Plain;
 use plan_base::Time;
-use product_search::{Best, Machine, Walk, Workspace, search_best_with};
+use product_search::{Best, Machine, Question, Walk, Workspace, search_best_with};
 use std::alloc::{AllocError, Global};
 use unpack::from_plain;
 
@@ -91,16 +91,15 @@ pub fn least_below(
     let collapsed = Collapsed::new(Positions::of(alloc, &query.expr)?);
     let labels = Counted::new(collapsed, Side::AtMost, limit - 1);
     let machine = Machine::new(alloc, labels)?;
-    let best = search_best_with(
-        alloc,
-        workspace,
-        &plain,
-        &machine,
-        &starts,
-        &targets,
-        query.depart,
-        None,
-    )?;
+    let question = Question {
+        graph: &plain,
+        machine: &machine,
+        starts: &starts,
+        targets: &targets,
+        dep: query.depart,
+        bound: None,
+    };
+    let best = search_best_with(alloc, workspace, &question)?;
     let Best { arrival, walk } = best;
     let found = unpacked(alloc, &plain, arrival, &walk)?;
     Ok(found)

@@ -20,7 +20,7 @@ use crate::search::LateSearch;
 use journey::Query;
 use mode_network::{Journey, Network};
 use product_search::{
-    Best, Found, FoundWithCount, Label, Limited, Workspace, search_best_with,
+    Best, Found, FoundWithCount, Label, Limited, Question, Workspace, search_best_with,
     search_counted_within, search_within,
 };
 use search_laws::Time;
@@ -81,31 +81,20 @@ fn least_moment(
         × LateSearchHasMore backwards.now.network (asked_by query.now) most) }
 {
     backwards.known();
+    let question = Question {
+        graph: &search.mirror,
+        machine: &search.machine,
+        starts: &search.starts,
+        targets: &search.targets,
+        dep: 0,
+        bound: Some(search.span),
+    };
     if limit.is_none() {
-        let found = search_best_with(
-            alloc,
-            workspace,
-            &search.mirror,
-            &search.machine,
-            &search.starts,
-            &search.targets,
-            0,
-            Some(search.span),
-        )?;
+        let found = search_best_with(alloc, workspace, &question)?;
         let Best { arrival, walk: _ } = found;
         return Ok(Limited::Ended(arrival));
     }
-    let found = search_counted_within(
-        alloc,
-        workspace,
-        &search.mirror,
-        &search.machine,
-        &search.starts,
-        &search.targets,
-        0,
-        Some(search.span),
-        limit,
-    )?;
+    let found = search_counted_within(alloc, workspace, &question, limit)?;
     let found = match found {
         Limited::Ended(found) => found,
         Limited::Stopped(most) => return Ok(Limited::Stopped(most)),
@@ -197,20 +186,43 @@ pub fn latest_within(
     ensures stopped { IfStopped result (λ most. (limit ≡ Some most)
         × LateSearchHasMore network.now (asked_by query.now) most) }
 {
-    let mut workspace = Workspace::new(alloc);
     let backwards = Backwards::new(alloc, network)?;
-    backwards.known();
     let search = LateSearch::new(alloc, &backwards, query)?;
-    let found = search_within(
-        alloc,
-        &search.mirror,
-        &search.machine,
-        &search.starts,
-        &search.targets,
-        0,
-        Some(search.span),
-        limit,
-    )?;
+    let late = late_over(alloc, network, &backwards, query, &search, limit)?;
+    Ok(late)
+}
+
+/// What is answered for a deadline by this search, which goes over the network, unless it is stopped.
+fn late_over(
+    alloc: Global,
+    network: &Network,
+    backwards: &Backwards<'_>,
+    query: &Query,
+    search: &LateSearch<'_>,
+    limit: Option<u64>,
+) -> Result<Limited<Late>, AllocError>
+    requires usable { IsUsable (form_of query.now.expr) }
+    requires search { IsSearchFor backwards.now (asked_by query.now) search.now }
+    requires same { backwards.now.network ≡ network.now }
+    ensures journey { IfEnded result (λ late. IsLate network.now (asked_by query.now) late.journey) }
+    ensures labels { IfEnded result (λ late. AreLateLabels network.now (asked_by query.now)
+        late.labels.items) }
+    ensures times { IfEnded result (λ late. All (λ x. x.at < time_bound) late.labels.items) }
+    ensures few { IfEnded result (λ late. IfSome limit (λ most. length late.labels.items ≤ most)) }
+    ensures stopped { IfStopped result (λ most. (limit ≡ Some most)
+        × LateSearchHasMore network.now (asked_by query.now) most) }
+{
+    let mut workspace = Workspace::new(alloc);
+    backwards.known();
+    let question = Question {
+        graph: &search.mirror,
+        machine: &search.machine,
+        starts: &search.starts,
+        targets: &search.targets,
+        dep: 0,
+        bound: Some(search.span),
+    };
+    let found = search_within(alloc, &question, limit)?;
     let found = match found {
         Limited::Ended(found) => found,
         Limited::Stopped(most) => return Ok(Limited::Stopped(most)),
@@ -220,6 +232,6 @@ pub fn latest_within(
         labels,
         walk: _,
     } = found;
-    let journey = best_at(alloc, &mut workspace, &backwards, query, &search, arrival)?;
+    let journey = best_at(alloc, &mut workspace, backwards, query, search, arrival)?;
     Ok(Limited::Ended(Late { journey, labels }))
 }

@@ -12,7 +12,7 @@ use automaton::{Collapsed, Positions};
 use journey::Query;
 use mode_network::{Journey, Network};
 use plain_graph::Plain;
-use product_search::{Best, Machine, Walk, Workspace, search_best_with};
+use product_search::{Best, Machine, Question, Walk, Workspace, search_best_with};
 use search_laws::Time;
 use std::alloc::{AllocError, Global};
 use unpack::from_plain;
@@ -55,16 +55,15 @@ pub(crate) fn first_from(
     let plain = Plain::new(network);
     let labels = Collapsed::new(Positions::of(alloc, &query.expr)?);
     let machine = Machine::new(alloc, labels)?;
-    let best = search_best_with(
-        alloc,
-        workspace,
-        &plain,
-        &machine,
-        &search.targets,
-        &search.starts,
-        at,
-        None,
-    )?;
+    let question = Question {
+        graph: &plain,
+        machine: &machine,
+        starts: &search.targets,
+        targets: &search.starts,
+        dep: at,
+        bound: None,
+    };
+    let best = search_best_with(alloc, workspace, &question)?;
     let Best { arrival: _, walk } = best;
     let journey = unpacked(alloc, &plain, &walk)?;
     Ok(journey)

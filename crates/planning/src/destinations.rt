@@ -93,7 +93,6 @@ impl<'a> Destinations<'a> {
         let starts = starts_in(alloc, self.hierarchy, &origins)?;
         let (graph, table) = (&self.graph, &self.table);
         let times = search_arrivals(
-            alloc,
             &mut room.workspace,
             graph,
             &expressed.machine,

@@ -19,8 +19,8 @@ use mode_network::{Journey, Network};
 use phase_graph::{GraphInUse, ends_in, starts_in};
 use plan_base::Time;
 use product_search::{
-    Best, Found, FoundWithCount, Label, Limited, Walk, search_best_with, search_counted_within,
-    search_within,
+    Best, Found, FoundWithCount, Label, Limited, Question, Walk, search_best_with,
+    search_counted_within, search_within,
 };
 use std::alloc::{AllocError, Global};
 use unpack::from_graph;
@@ -129,16 +129,15 @@ pub fn best_arrival(
 {
     network.known();
     let searched = prepared(alloc, room, network, hierarchy, query)?;
-    let found = search_best_with(
-        alloc,
-        &mut room.workspace,
-        &searched.graph,
-        &searched.expressed.machine,
-        &searched.starts,
-        &searched.ends,
-        query.depart,
-        None,
-    )?;
+    let question = Question {
+        graph: &searched.graph,
+        machine: &searched.expressed.machine,
+        starts: &searched.starts,
+        targets: &searched.ends,
+        dep: query.depart,
+        bound: None,
+    };
+    let found = search_best_with(alloc, &mut room.workspace, &question)?;
     room.put(searched.expressed);
     let Best { arrival, walk: _ } = found;
     Ok(arrival)
@@ -156,16 +155,15 @@ fn find_plain(
 {
     network.known();
     let searched = prepared(alloc, room, network, None, query)?;
-    let found = search_best_with(
-        alloc,
-        &mut room.workspace,
-        &searched.graph,
-        &searched.expressed.machine,
-        &searched.starts,
-        &searched.ends,
-        query.depart,
-        None,
-    )?;
+    let question = Question {
+        graph: &searched.graph,
+        machine: &searched.expressed.machine,
+        starts: &searched.starts,
+        targets: &searched.ends,
+        dep: query.depart,
+        bound: None,
+    };
+    let found = search_best_with(alloc, &mut room.workspace, &question)?;
     let Best { arrival: _, walk } = found;
     let route = unpacked(alloc, &searched.graph, &walk)?;
     room.put(searched.expressed);
@@ -193,17 +191,15 @@ fn find_counted(
 {
     network.known();
     let searched = prepared(alloc, room, network, hierarchy, query)?;
-    let found = search_counted_within(
-        alloc,
-        &mut room.workspace,
-        &searched.graph,
-        &searched.expressed.machine,
-        &searched.starts,
-        &searched.ends,
-        query.depart,
-        None,
-        limit,
-    )?;
+    let question = Question {
+        graph: &searched.graph,
+        machine: &searched.expressed.machine,
+        starts: &searched.starts,
+        targets: &searched.ends,
+        dep: query.depart,
+        bound: None,
+    };
+    let found = search_counted_within(alloc, &mut room.workspace, &question, limit)?;
     let FoundWithCount {
         arrival: _,
         labels,
@@ -268,16 +264,15 @@ pub fn find_plan_within(
     network.known();
     let mut room = Room::new(alloc);
     let searched = prepared(alloc, &mut room, network, hierarchy, query)?;
-    let found = search_within(
-        alloc,
-        &searched.graph,
-        &searched.expressed.machine,
-        &searched.starts,
-        &searched.ends,
-        query.depart,
-        None,
-        limit,
-    )?;
+    let question = Question {
+        graph: &searched.graph,
+        machine: &searched.expressed.machine,
+        starts: &searched.starts,
+        targets: &searched.ends,
+        dep: query.depart,
+        bound: None,
+    };
+    let found = search_within(alloc, &question, limit)?;
     let Found {
         arrival,
         labels,

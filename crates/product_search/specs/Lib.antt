@@ -4,6 +4,7 @@ pub mod Answer
 pub mod Arrivals
 pub mod Closed
 pub mod Limits
+pub mod Questions
 pub mod Queued
 pub mod Waiting
 pub mod MoveTables

@@ -13,7 +13,7 @@ use Rattle.product_search.specs.declared.label.Best.{Best}
 use Rattle.product_search.specs.Answer.{IsArrival, IsWalkFor, last_time}
 use Rattle.product_search.specs.declared.limit.Limited.{Limited}
 use Rattle.product_search.specs.declared.limit.Limited.TheVariants.{Ended, Stopped}
-use Rattle.product_search.specs.Limits.{HasMoreLabels}
+use Rattle.product_search.specs.Questions.{QuestionMeaning, HasMore}
 use Rattle.product_search.specs.Waiting.{keyed, rows, reached_at, waits_at, IsAt, IsLink, IsQueueRight}
 use Rattle.product_search.specs.Exploring.{StartIsReached, ArcIsReached}
 
@@ -140,16 +140,16 @@ abbrev pub HasMoreSettled : Frontier → ℕ → ℕ → Type 0
 HasMoreSettled f until most = most < length (filter_map (label_of_row (Some until)) (rows f))
 
 -- the search was given up, as it has more labels than the limit
-pub record IsGivenUp (g : GraphMeaning) (l : LabelsMeaning) (starts targets : List ℕ) (dep : ℕ) (bound limit : Option ℕ) (f : Frontier) (most : ℕ) : Type 0 where
+pub record IsGivenUp (q : QuestionMeaning) (limit : Option ℕ) (f : Frontier) (most : ℕ) : Type 0 where
   pub right : IsQueueRight f
   pub limit_is : limit ≡ Some most
-  pub more : HasMoreLabels g l starts targets dep bound most
+  pub more : HasMore q most
 
 -- the search has come to its end, or was given up
-abbrev pub IsExploredWithin : GraphMeaning → LabelsMeaning → List ℕ → List ℕ → ℕ → Option ℕ → Option ℕ → Frontier → Limited (Option Settled) → Type 0
-IsExploredWithin g l starts targets dep bound limit f (Ended end) = IsExplored g l starts targets dep bound f end
-IsExploredWithin g l starts targets dep bound limit f (Stopped most) = IsGivenUp g l starts targets dep bound limit f most
+abbrev pub IsExploredWithin : QuestionMeaning → Option ℕ → Frontier → Limited (Option Settled) → Type 0
+IsExploredWithin q limit f (Ended end) = IsExplored q.graph q.labels q.starts q.targets q.dep q.bound f end
+IsExploredWithin q limit f (Stopped most) = IsGivenUp q limit f most
 
-abbrev pub IsSettlementWithin : GraphMeaning → LabelsMeaning → List ℕ → List ℕ → ℕ → Option ℕ → Option ℕ → Frontier → Limited Best → Type 0
-IsSettlementWithin g l starts targets dep bound limit f (Ended best) = IsSettlement g l starts targets dep bound f best
-IsSettlementWithin g l starts targets dep bound limit f (Stopped most) = IsGivenUp g l starts targets dep bound limit f most
+abbrev pub IsSettlementWithin : QuestionMeaning → Option ℕ → Frontier → Limited Best → Type 0
+IsSettlementWithin q limit f (Ended best) = IsSettlement q.graph q.labels q.starts q.targets q.dep q.bound f best
+IsSettlementWithin q limit f (Stopped most) = IsGivenUp q limit f most

@@ -8,6 +8,7 @@ ghost use Rattle.product_search.specs.Waiting.{IsQueueRight};
 use crate::explore::explore;
 use crate::frontier::Frontier;
 use crate::machine::Machine;
+use crate::product::Product;
 use crate::start::offer_starts;
 use crate::targets::{Noted, TargetTable};
 use crate::workspace::Workspace;
@@ -17,9 +18,8 @@ use std::alloc::{AllocError, Global};
 /// For each target, in order, the least arrival over all walks from a start at `dep` to that target that the automaton accepts, if
 /// there is one. The search ends when all targets are reached in an accepting state, or nothing is left.
 ///
-/// No time of the answer is above `dep + 2^98`. Fails as [`crate::search`] does.
+/// No time of the answer is above `dep + 2^98`. Memory is taken where the workspace takes it. Fails as [`crate::search`] does.
 pub fn search_arrivals<G: Graph, L: Labels>(
-    alloc: Global,
     workspace: &mut Workspace,
     graph: &G,
     machine: &Machine<L>,
@@ -32,8 +32,9 @@ pub fn search_arrivals<G: Graph, L: Labels>(
     ensures { IfOk result (λ times. AreArrivals (G.meaning graph.now) (L.automaton machine.now.labels)
         starts.now targets.now.nodes.items dep times.items) }
 {
+    let alloc = workspace.allocator();
     let kept = workspace.take(alloc);
-    let arrived = settle_targets(alloc, kept, graph, machine, starts, targets, dep)?;
+    let arrived = settle_targets(kept, graph, machine, starts, targets, dep)?;
     let Arrived { frontier, noted } = arrived;
     workspace.put(frontier);
     let list = listed(alloc, targets, &noted)?;
@@ -49,7 +50,6 @@ struct Arrived {
 
 /// Settles product states from the starts on, until all targets are reached in an accepting state.
 fn settle_targets<G: Graph, L: Labels>(
-    alloc: Global,
     workspace: Workspace,
     graph: &G,
     machine: &Machine<L>,
@@ -63,24 +63,22 @@ fn settle_targets<G: Graph, L: Labels>(
     ensures times { IfOk result (λ a. AreAllTimes (G.meaning graph.now) (L.automaton machine.now.labels)
         starts.now dep targets.now.places.items a.noted.times.items) }
 {
+    let alloc = workspace.allocator();
     let mut noted = Noted::none(alloc, targets)?;
     let mut frontier = Frontier::new(alloc, workspace, machine.labels.states());
     offer_starts(&mut frontier, &machine.labels, starts, dep)?;
+    let product = Product {
+        graph,
+        machine,
+        bound: None,
+    };
     let mut given = GivenRuns::new(alloc);
     let mut ways = Vec::new(alloc);
     while let Some(settled) = frontier.settle_least() {
         if noted.note_end(&machine.labels, targets, settled) {
             return Ok(Arrived { frontier, noted });
         }
-        explore(
-            &mut frontier,
-            &mut given,
-            &mut ways,
-            graph,
-            machine,
-            None,
-            settled,
-        )?;
+        explore(&mut frontier, &mut given, &mut ways, product, settled)?;
     }
     Ok(Arrived { frontier, noted })
 }

@@ -9,6 +9,7 @@ ghost use Rattle.product_search.specs.Exploring.{IsReachedBy, IsSettledBy, Offer
 
 use crate::frontier::{Frontier, Reached, Settled};
 use crate::machine::Machine;
+use crate::product::Product;
 use search_laws::{GivenRuns, Graph, GraphArc, Labels, Steady, Time, Way};
 use std::alloc::AllocError;
 
@@ -21,36 +22,36 @@ pub(crate) fn explore<G: Graph, L: Labels>(
     frontier: &mut Frontier,
     given: &mut GivenRuns,
     ways: &mut Vec<Way>,
-    graph: &G,
-    machine: &Machine<L>,
-    bound: Option<Time>,
+    product: Product<'_, G, L>,
     from: Settled,
 ) -> Result<(), AllocError>
-    requires node { from.node < (G.meaning graph.now).nodes }
-    requires state { from.state < (L.automaton machine.now.labels).states }
+    requires node { from.node < (G.meaning product.graph.now).nodes }
+    requires state { from.state < (L.automaton product.machine.now.labels).states }
     requires time { from.at < 2 ^ 127 }
     requires right { IsQueueRight frontier.old }
     requires settled { IsSettledBy frontier.old from.at }
     requires here { IsReachedBy frontier.old from.node from.state from.at }
-    requires given { AreGivenReached (G.rides graph.now) (L.automaton machine.now.labels) bound frontier.old
-        given.old }
+    requires given { AreGivenReached (G.rides product.graph.now) (L.automaton product.machine.now.labels)
+        product.bound frontier.old given.old }
     ensures right { OnOk result (IsQueueRight frontier.new) }
-    ensures offers { OnOk result (Offers frontier.old frontier.new
-        (IsSuccessor (G.meaning graph.now) (L.automaton machine.now.labels) bound from)) }
-    ensures reached { OnOk result ((i : ℕ) → i < (G.meaning graph.now).arcs from.node
-        → ArcIsReached (G.meaning graph.now) (L.automaton machine.now.labels) bound frontier.new from.node
-        from.state from.at i) }
-    ensures given { OnOk result (AreGivenReached (G.rides graph.now) (L.automaton machine.now.labels) bound
-        frontier.new given.new) }
+    ensures offers { OnOk result (Offers frontier.old frontier.new (IsSuccessor
+        (G.meaning product.entry.graph.now) (L.automaton product.entry.machine.now.labels) product.entry.bound
+        from)) }
+    ensures reached { OnOk result ((i : ℕ) → i < (G.meaning product.entry.graph.now).arcs from.node →
+        ArcIsReached (G.meaning product.entry.graph.now) (L.automaton product.entry.machine.now.labels)
+        product.entry.bound frontier.new from.node from.state from.at i) }
+    ensures given { OnOk result (AreGivenReached (G.rides product.entry.graph.now)
+        (L.automaton product.entry.machine.now.labels) product.entry.bound frontier.new given.new) }
 {
+    let (graph, machine) = (product.graph, product.machine);
     let steady = graph.steady(from.node);
-    explore_steady(frontier, graph, machine, bound, from, steady)?;
+    explore_steady(frontier, product, from, steady)?;
     ways.clear();
     let state = from.state;
     let letters = machine.letters_of(state);
     let leaving = machine.leaving(state);
     graph.fresh_ways(from.node, from.at, letters, leaving, state, given, ways)?;
-    explore_ways(frontier, machine, bound, from, ways)?;
+    explore_ways(frontier, machine, product.bound, from, ways)?;
     Ok(())
 }
 
@@ -58,54 +59,37 @@ pub(crate) fn explore<G: Graph, L: Labels>(
 #[inline(always)]
 fn explore_steady<G: Graph, L: Labels>(
     frontier: &mut Frontier,
-    graph: &G,
-    machine: &Machine<L>,
-    bound: Option<Time>,
+    product: Product<'_, G, L>,
     from: Settled,
     steady: Steady,
 ) -> Result<(), AllocError>
-    requires node { from.node < (G.meaning graph.now).nodes }
-    requires state { from.state < (L.automaton machine.now.labels).states }
+    requires node { from.node < (G.meaning product.graph.now).nodes }
+    requires state { from.state < (L.automaton product.machine.now.labels).states }
     requires time { from.at < 2 ^ 127 }
-    requires steady { steady ≡ G.steady_of graph.now from.node }
-    requires within { steady.count ≤ (G.meaning graph.now).arcs from.node }
-    requires letter { (i : ℕ) → i < steady.count → ((G.meaning graph.now).arc_at from.node i).letter
+    requires steady { steady ≡ G.steady_of product.graph.now from.node }
+    requires within { steady.count ≤ (G.meaning product.graph.now).arcs from.node }
+    requires letter { (i : ℕ) → i < steady.count → ((G.meaning product.graph.now).arc_at from.node i).letter
         ≡ steady.letter }
     requires right { IsQueueRight frontier.old }
     requires settled { IsSettledBy frontier.old from.at }
     ensures right { OnOk result (IsQueueRight frontier.new) }
-    ensures offers { OnOk result (Offers frontier.old frontier.new
-        (IsSuccessor (G.meaning graph.now) (L.automaton machine.now.labels) bound from)) }
-    ensures reached { OnOk result ((i : ℕ) → i < steady.count
-        → ArcIsReached (G.meaning graph.now) (L.automaton machine.now.labels) bound frontier.new from.node
-        from.state from.at i) }
+    ensures offers { OnOk result (Offers frontier.old frontier.new (IsSuccessor
+        (G.meaning product.entry.graph.now) (L.automaton product.entry.machine.now.labels) product.entry.bound
+        from)) }
+    ensures reached { OnOk result ((i : ℕ) → i < steady.count → ArcIsReached
+        (G.meaning product.entry.graph.now) (L.automaton product.entry.machine.now.labels) product.entry.bound
+        frontier.new from.node from.state from.at i) }
 {
     if steady.count == 0 {
         return Ok(());
     }
     match steady.letter {
         None => {
-            offer_legs(
-                frontier,
-                graph,
-                &machine.labels,
-                bound,
-                from,
-                from.state,
-                steady,
-            )?;
+            offer_legs(frontier, product, from, from.state, steady)?;
         }
         Some(letter) => {
-            let targets = machine.targets_of(from.state, letter);
-            offer_to_states(
-                frontier,
-                graph,
-                &machine.labels,
-                bound,
-                from,
-                targets,
-                steady,
-            )?;
+            let targets = product.machine.targets_of(from.state, letter);
+            offer_to_states(frontier, product, from, targets, steady)?;
         }
     }
     Ok(())
@@ -115,30 +99,29 @@ fn explore_steady<G: Graph, L: Labels>(
 #[inline(always)]
 fn offer_to_states<G: Graph, L: Labels>(
     frontier: &mut Frontier,
-    graph: &G,
-    labels: &L,
-    bound: Option<Time>,
+    product: Product<'_, G, L>,
     from: Settled,
     states: &[u32],
     steady: Steady,
 ) -> Result<(), AllocError>
-    requires node { from.node < (G.meaning graph.now).nodes }
+    requires node { from.node < (G.meaning product.graph.now).nodes }
     requires time { from.at < 2 ^ 127 }
-    requires steady { steady ≡ G.steady_of graph.now from.node }
-    requires within { steady.count ≤ (G.meaning graph.now).arcs from.node }
-    requires follow { All (λ next. (i : ℕ) → i < steady.count
-        → Follows (L.automaton labels.now) from.state ((G.meaning graph.now).arc_at from.node i).letter next)
-        states.now }
+    requires steady { steady ≡ G.steady_of product.graph.now from.node }
+    requires within { steady.count ≤ (G.meaning product.graph.now).arcs from.node }
+    requires follow { All (λ next. (i : ℕ) → i < steady.count → Follows
+        (L.automaton product.machine.now.labels) from.state ((G.meaning product.graph.now).arc_at from.node
+        i).letter next) states.now }
     requires right { IsQueueRight frontier.old }
     requires settled { IsSettledBy frontier.old from.at }
     ensures right { OnOk result (IsQueueRight frontier.new) }
-    ensures offers { OnOk result (Offers frontier.old frontier.new
-        (IsSuccessor (G.meaning graph.now) (L.automaton labels.now) bound from)) }
-    ensures reached { OnOk result (All (λ next. (i : ℕ) → i < steady.count
-        → LegIsReached (G.meaning graph.now) bound frontier.new from next i) states.now) }
+    ensures offers { OnOk result (Offers frontier.old frontier.new (IsSuccessor
+        (G.meaning product.entry.graph.now) (L.automaton product.entry.machine.now.labels) product.entry.bound
+        from)) }
+    ensures reached { OnOk result (All (λ next. (i : ℕ) → i < steady.count → LegIsReached
+        (G.meaning product.entry.graph.now) product.entry.bound frontier.new from next i) states.now) }
 {
     for next in states {
-        offer_legs(frontier, graph, labels, bound, from, *next, steady)?;
+        offer_legs(frontier, product, from, *next, steady)?;
     }
     Ok(())
 }
@@ -147,29 +130,28 @@ fn offer_to_states<G: Graph, L: Labels>(
 #[inline(always)]
 fn offer_legs<G: Graph, L: Labels>(
     frontier: &mut Frontier,
-    graph: &G,
-    labels: &L,
-    bound: Option<Time>,
+    product: Product<'_, G, L>,
     from: Settled,
     next: u32,
     steady: Steady,
 ) -> Result<(), AllocError>
-    requires node { from.node < (G.meaning graph.now).nodes }
+    requires node { from.node < (G.meaning product.graph.now).nodes }
     requires time { from.at < 2 ^ 127 }
-    requires steady { steady ≡ G.steady_of graph.now from.node }
-    requires within { steady.count ≤ (G.meaning graph.now).arcs from.node }
-    requires follows { (i : ℕ) → i < steady.count
-        → Follows (L.automaton labels.now) from.state ((G.meaning graph.now).arc_at from.node i).letter next }
+    requires steady { steady ≡ G.steady_of product.graph.now from.node }
+    requires within { steady.count ≤ (G.meaning product.graph.now).arcs from.node }
+    requires follows { (i : ℕ) → i < steady.count → Follows (L.automaton product.machine.now.labels)
+        from.state ((G.meaning product.graph.now).arc_at from.node i).letter next }
     requires right { IsQueueRight frontier.old }
     requires settled { IsSettledBy frontier.old from.at }
     ensures right { OnOk result (IsQueueRight frontier.new) }
-    ensures offers { OnOk result (Offers frontier.old frontier.new
-        (IsSuccessor (G.meaning graph.now) (L.automaton labels.now) bound from)) }
+    ensures offers { OnOk result (Offers frontier.old frontier.new (IsSuccessor
+        (G.meaning product.entry.graph.now) (L.automaton product.entry.machine.now.labels) product.entry.bound
+        from)) }
     ensures reached { OnOk result ((i : ℕ) → i < steady.count
-        → LegIsReached (G.meaning graph.now) bound frontier.new from next i) }
+        → LegIsReached (G.meaning product.entry.graph.now) product.entry.bound frontier.new from next i) }
 {
     for i in 0..steady.count {
-        offer_leg(frontier, graph, labels, bound, from, next, steady, i)?;
+        offer_leg(frontier, product, from, next, steady, i)?;
     }
     Ok(())
 }
@@ -178,31 +160,31 @@ fn offer_legs<G: Graph, L: Labels>(
 #[inline(always)]
 fn offer_leg<G: Graph, L: Labels>(
     frontier: &mut Frontier,
-    graph: &G,
-    labels: &L,
-    bound: Option<Time>,
+    product: Product<'_, G, L>,
     from: Settled,
     next: u32,
     steady: Steady,
     i: u64,
 ) -> Result<(), AllocError>
-    requires node { from.node < (G.meaning graph.now).nodes }
+    requires node { from.node < (G.meaning product.graph.now).nodes }
     requires time { from.at < 2 ^ 127 }
-    requires steady { steady ≡ G.steady_of graph.now from.node }
+    requires steady { steady ≡ G.steady_of product.graph.now from.node }
     requires place { i < steady.count }
-    requires arc { i < (G.meaning graph.now).arcs from.node }
-    requires follows { Follows (L.automaton labels.now) from.state
-        ((G.meaning graph.now).arc_at from.node i).letter next }
+    requires arc { i < (G.meaning product.graph.now).arcs from.node }
+    requires follows { Follows (L.automaton product.machine.now.labels) from.state
+        ((G.meaning product.graph.now).arc_at from.node i).letter next }
     requires right { IsQueueRight frontier.old }
     requires settled { IsSettledBy frontier.old from.at }
     ensures right { OnOk result (IsQueueRight frontier.new) }
-    ensures offers { OnOk result (Offers frontier.old frontier.new
-        (IsSuccessor (G.meaning graph.now) (L.automaton labels.now) bound from)) }
-    ensures reached { OnOk result (LegIsReached (G.meaning graph.now) bound frontier.new from next i) }
+    ensures offers { OnOk result (Offers frontier.old frontier.new (IsSuccessor
+        (G.meaning product.entry.graph.now) (L.automaton product.entry.machine.now.labels) product.entry.bound
+        from)) }
+    ensures reached { OnOk result (LegIsReached (G.meaning product.entry.graph.now) product.entry.bound
+        frontier.new from next i) }
 {
-    if let Some(leg) = graph.leg(from.node, steady, i) {
+    if let Some(leg) = product.graph.leg(from.node, steady, i) {
         let at = from.at + Time::from(leg.ms);
-        if is_within(bound, at) {
+        if is_within(product.bound, at) {
             offer_next(frontier, leg.to, next, way_by(from, i, at))?;
         }
     }

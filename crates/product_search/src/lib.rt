@@ -17,6 +17,8 @@ mod lookup;
 mod machine;
 mod moves;
 mod order_check;
+mod product;
+mod question;
 mod queue;
 mod retrace;
 mod row;
@@ -33,6 +35,7 @@ pub use checking::check_labels;
 pub use label::{Best, Found, FoundWithCount, Hop, Label, Walk};
 pub use limit::{Limited, stops_are_due};
 pub use machine::Machine;
+pub use question::Question;
 pub use searching::{
     search, search_best_with, search_counted_with, search_counted_within, search_within,
 };

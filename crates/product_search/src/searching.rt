@@ -1,29 +1,25 @@
 //! The search for the least arrival.
 
-ghost use Rattle.std.specs.Prelude.{◌≡◌, ◌<◌, ◌≤◌, ◌^◌, All, IfOk, IfSome, None, Some, length};
-ghost use Rattle.product_search.specs.Reach.{IsWithin};
-ghost use Rattle.product_search.specs.Listed.{AreLeastLabels, HasLeastLabels};
-ghost use Rattle.product_search.specs.Answer.{IsArrival, IsWalkFor, IsByLastTime, last_time};
-ghost use Rattle.product_search.specs.Closed.{IsClosed};
-ghost use Rattle.product_search.specs.Limits.{HasMoreLabels, IfEnded, IfStopped};
+ghost use Rattle.std.specs.Prelude.{◌≡◌, ◌≤◌, IfOk, IfSome, None, Some, length};
+ghost use Rattle.product_search.specs.Answer.{IsByLastTime, last_time};
+ghost use Rattle.product_search.specs.Questions.{question_of, FindsArrival, FindsWalk, ListsLabels, CountsLabels, ListsClosed, HasMore};
+ghost use Rattle.product_search.specs.Limits.{IfEnded, IfStopped};
 ghost use Rattle.product_search.specs.Searching.{IsSettlementWithin};
 
 use crate::frontier::Frontier;
 use crate::label::{Best, Found, FoundWithCount};
 use crate::limit::{Limited, passed};
 use crate::listing::{count_labels, list_labels};
-use crate::machine::Machine;
+use crate::question::Question;
 use crate::retrace::walk_to;
 use crate::settling::{Explored, arrival_of, settle_all};
 use crate::workspace::Workspace;
-use search_laws::{Graph, Labels, Time};
+use search_laws::{Graph, Labels};
 use std::alloc::{AllocError, Global};
 
-/// Finds the least arrival over all walks from a start at `dep` to a target that the automaton accepts, and that
-/// arrive no later than `bound`, if there is one.
+/// Finds the least arrival that a question asks for.
 ///
-/// A walk leaves its start in a start state and may wait anywhere. The starts and the targets may be empty, or hold
-/// a node twice. The answer has the arrival, a walk without waits that has it, and the least arrivals of all
+/// A walk leaves its start in a start state and may wait anywhere. The answer has the arrival, a walk without waits that has it, and the least arrivals of all
 /// product states that are reached before, or where no walk counts, of all that are reached within the bound.
 /// Without a bound the labels are closed, as `check_labels` looks for it. No time in the answer is above `dep + 2^98`.
 /// Fails where memory runs out, and where 2^32 - 1 product states are reached.
@@ -31,28 +27,16 @@ use std::alloc::{AllocError, Global};
 /// The method is Dijkstra's, over pairs of a node and a state, as Barrett, Jacob and Marathe use it for languages.
 pub fn search<G: Graph, L: Labels>(
     alloc: Global,
-    graph: &G,
-    machine: &Machine<L>,
-    starts: &[u32],
-    targets: &[u32],
-    dep: Time,
-    bound: Option<Time>,
+    question: &Question<'_, G, L>,
 ) -> Result<Found, AllocError>
-    requires starts { All (λ v. v < (G.meaning graph.now).nodes) starts.now }
-    requires targets { All (λ v. v < (G.meaning graph.now).nodes) targets.now }
-    requires dep { dep < 2 ^ 64 }
-    requires bound { IsWithin bound dep }
-    ensures arrival { IfOk result (λ f. IsArrival (G.meaning graph.now) (L.automaton machine.now.labels)
-        starts.now targets.now dep bound f.arrival) }
-    ensures walk { IfOk result (λ f. IsWalkFor (G.meaning graph.now) (L.automaton machine.now.labels)
-        starts.now targets.now dep f.arrival f.walk) }
-    ensures labels { IfOk result (λ f. AreLeastLabels (G.meaning graph.now) (L.automaton machine.now.labels)
-        starts.now dep bound f.arrival f.labels.items) }
-    ensures closed { bound ≡ None → IfOk result (λ f. IsClosed (G.meaning graph.now)
-        (L.automaton machine.now.labels) starts.now targets.now dep f.arrival f.labels.items) }
-    ensures times { IfOk result (IsByLastTime dep) }
+    ensures arrival { IfOk result (λ f. FindsArrival (question_of question.now) f.arrival) }
+    ensures walk { IfOk result (λ f. FindsWalk (question_of question.now) f.arrival f.walk) }
+    ensures labels { IfOk result (λ f. ListsLabels (question_of question.now) f.arrival f.labels.items) }
+    ensures closed { question.now.bound ≡ None → IfOk result
+        (λ f. ListsClosed (question_of question.now) f.arrival f.labels.items) }
+    ensures times { IfOk result (IsByLastTime question.now.dep) }
 {
-    let found = search_within(alloc, graph, machine, starts, targets, dep, bound, None)?;
+    let found = search_within(alloc, question, None)?;
     Ok(found.into_answer())
 }
 
@@ -60,35 +44,21 @@ pub fn search<G: Graph, L: Labels>(
 /// search that is given up has settled at most one more than the limit, and those of equal time.
 pub fn search_within<G: Graph, L: Labels>(
     alloc: Global,
-    graph: &G,
-    machine: &Machine<L>,
-    starts: &[u32],
-    targets: &[u32],
-    dep: Time,
-    bound: Option<Time>,
+    question: &Question<'_, G, L>,
     limit: Option<u64>,
 ) -> Result<Limited<Found>, AllocError>
-    requires starts { All (λ v. v < (G.meaning graph.now).nodes) starts.now }
-    requires targets { All (λ v. v < (G.meaning graph.now).nodes) targets.now }
-    requires dep { dep < 2 ^ 64 }
-    requires bound { IsWithin bound dep }
-    ensures arrival { IfEnded result (λ f. IsArrival (G.meaning graph.now) (L.automaton machine.now.labels)
-        starts.now targets.now dep bound f.arrival) }
-    ensures walk { IfEnded result (λ f. IsWalkFor (G.meaning graph.now) (L.automaton machine.now.labels)
-        starts.now targets.now dep f.arrival f.walk) }
-    ensures labels { IfEnded result (λ f. AreLeastLabels (G.meaning graph.now)
-        (L.automaton machine.now.labels) starts.now dep bound f.arrival f.labels.items) }
-    ensures closed { bound ≡ None → IfEnded result (λ f. IsClosed (G.meaning graph.now)
-        (L.automaton machine.now.labels) starts.now targets.now dep f.arrival f.labels.items) }
-    ensures times { IfEnded result (IsByLastTime dep) }
+    ensures arrival { IfEnded result (λ f. FindsArrival (question_of question.now) f.arrival) }
+    ensures walk { IfEnded result (λ f. FindsWalk (question_of question.now) f.arrival f.walk) }
+    ensures labels { IfEnded result (λ f. ListsLabels (question_of question.now) f.arrival f.labels.items) }
+    ensures closed { question.now.bound ≡ None → IfEnded result
+        (λ f. ListsClosed (question_of question.now) f.arrival f.labels.items) }
+    ensures times { IfEnded result (IsByLastTime question.now.dep) }
     ensures few { IfEnded result (λ f. IfSome limit (λ most. length f.labels.items ≤ most)) }
-    ensures stopped { IfStopped result (λ most. (limit ≡ Some most) × HasMoreLabels (G.meaning graph.now)
-        (L.automaton machine.now.labels) starts.now targets.now dep bound most) }
+    ensures stopped { IfStopped result
+        (λ most. (limit ≡ Some most) × HasMore (question_of question.now) most) }
 {
     let workspace = Workspace::new(alloc);
-    let settled = settle(
-        alloc, workspace, graph, machine, starts, targets, dep, bound, limit,
-    )?;
+    let settled = settle(alloc, workspace, question, limit)?;
     let Settlement { frontier, best } = settled;
     let best = match best {
         Limited::Ended(best) => best,
@@ -110,27 +80,14 @@ pub fn search_within<G: Graph, L: Labels>(
 pub fn search_counted_with<G: Graph, L: Labels>(
     alloc: Global,
     workspace: &mut Workspace,
-    graph: &G,
-    machine: &Machine<L>,
-    starts: &[u32],
-    targets: &[u32],
-    dep: Time,
-    bound: Option<Time>,
+    question: &Question<'_, G, L>,
 ) -> Result<FoundWithCount, AllocError>
-    requires starts { All (λ v. v < (G.meaning graph.now).nodes) starts.now }
-    requires dep { dep < 2 ^ 64 }
-    requires bound { IsWithin bound dep }
-    ensures arrival { IfOk result (λ f. IsArrival (G.meaning graph.now) (L.automaton machine.now.labels)
-        starts.now targets.now dep bound f.arrival) }
-    ensures walk { IfOk result (λ f. IsWalkFor (G.meaning graph.now) (L.automaton machine.now.labels)
-        starts.now targets.now dep f.arrival f.walk) }
-    ensures labels { IfOk result (λ f. HasLeastLabels (G.meaning graph.now) (L.automaton machine.now.labels)
-        starts.now dep bound f.arrival f.labels) }
-    ensures time { IfOk result (λ f. IfSome f.arrival (λ t. t ≤ last_time dep)) }
+    ensures arrival { IfOk result (λ f. FindsArrival (question_of question.now) f.arrival) }
+    ensures walk { IfOk result (λ f. FindsWalk (question_of question.now) f.arrival f.walk) }
+    ensures labels { IfOk result (λ f. CountsLabels (question_of question.now) f.arrival f.labels) }
+    ensures time { IfOk result (λ f. IfSome f.arrival (λ t. t ≤ last_time question.now.dep)) }
 {
-    let found = search_counted_within(
-        alloc, workspace, graph, machine, starts, targets, dep, bound, None,
-    )?;
+    let found = search_counted_within(alloc, workspace, question, None)?;
     Ok(found.into_answer())
 }
 
@@ -138,32 +95,19 @@ pub fn search_counted_with<G: Graph, L: Labels>(
 pub fn search_counted_within<G: Graph, L: Labels>(
     alloc: Global,
     workspace: &mut Workspace,
-    graph: &G,
-    machine: &Machine<L>,
-    starts: &[u32],
-    targets: &[u32],
-    dep: Time,
-    bound: Option<Time>,
+    question: &Question<'_, G, L>,
     limit: Option<u64>,
 ) -> Result<Limited<FoundWithCount>, AllocError>
-    requires starts { All (λ v. v < (G.meaning graph.now).nodes) starts.now }
-    requires dep { dep < 2 ^ 64 }
-    requires bound { IsWithin bound dep }
-    ensures arrival { IfEnded result (λ f. IsArrival (G.meaning graph.now) (L.automaton machine.now.labels)
-        starts.now targets.now dep bound f.arrival) }
-    ensures walk { IfEnded result (λ f. IsWalkFor (G.meaning graph.now) (L.automaton machine.now.labels)
-        starts.now targets.now dep f.arrival f.walk) }
-    ensures labels { IfEnded result (λ f. HasLeastLabels (G.meaning graph.now)
-        (L.automaton machine.now.labels) starts.now dep bound f.arrival f.labels) }
-    ensures time { IfEnded result (λ f. IfSome f.arrival (λ t. t ≤ last_time dep)) }
+    ensures arrival { IfEnded result (λ f. FindsArrival (question_of question.now) f.arrival) }
+    ensures walk { IfEnded result (λ f. FindsWalk (question_of question.now) f.arrival f.walk) }
+    ensures labels { IfEnded result (λ f. CountsLabels (question_of question.now) f.arrival f.labels) }
+    ensures time { IfEnded result (λ f. IfSome f.arrival (λ t. t ≤ last_time question.now.dep)) }
     ensures few { IfEnded result (λ f. IfSome limit (λ most. f.labels ≤ most)) }
-    ensures stopped { IfStopped result (λ most. (limit ≡ Some most) × HasMoreLabels (G.meaning graph.now)
-        (L.automaton machine.now.labels) starts.now targets.now dep bound most) }
+    ensures stopped { IfStopped result
+        (λ most. (limit ≡ Some most) × HasMore (question_of question.now) most) }
 {
     let kept = workspace.take(alloc);
-    let settled = settle(
-        alloc, kept, graph, machine, starts, targets, dep, bound, limit,
-    )?;
+    let settled = settle(alloc, kept, question, limit)?;
     let Settlement { frontier, best } = settled;
     let best = match best {
         Limited::Ended(best) => best,
@@ -188,26 +132,14 @@ pub fn search_counted_within<G: Graph, L: Labels>(
 pub fn search_best_with<G: Graph, L: Labels>(
     alloc: Global,
     workspace: &mut Workspace,
-    graph: &G,
-    machine: &Machine<L>,
-    starts: &[u32],
-    targets: &[u32],
-    dep: Time,
-    bound: Option<Time>,
+    question: &Question<'_, G, L>,
 ) -> Result<Best, AllocError>
-    requires starts { All (λ v. v < (G.meaning graph.now).nodes) starts.now }
-    requires dep { dep < 2 ^ 64 }
-    requires bound { IsWithin bound dep }
-    ensures arrival { IfOk result (λ f. IsArrival (G.meaning graph.now) (L.automaton machine.now.labels)
-        starts.now targets.now dep bound f.arrival) }
-    ensures walk { IfOk result (λ f. IsWalkFor (G.meaning graph.now) (L.automaton machine.now.labels)
-        starts.now targets.now dep f.arrival f.walk) }
-    ensures time { IfOk result (λ f. IfSome f.arrival (λ t. t ≤ last_time dep)) }
+    ensures arrival { IfOk result (λ f. FindsArrival (question_of question.now) f.arrival) }
+    ensures walk { IfOk result (λ f. FindsWalk (question_of question.now) f.arrival f.walk) }
+    ensures time { IfOk result (λ f. IfSome f.arrival (λ t. t ≤ last_time question.now.dep)) }
 {
     let kept = workspace.take(alloc);
-    let settled = settle(
-        alloc, kept, graph, machine, starts, targets, dep, bound, None,
-    )?;
+    let settled = settle(alloc, kept, question, None)?;
     let Settlement { frontier, best } = settled;
     workspace.put(frontier);
     Ok(best.into_answer())
@@ -224,23 +156,12 @@ pub(crate) struct Settlement {
 fn settle<G: Graph, L: Labels>(
     alloc: Global,
     workspace: Workspace,
-    graph: &G,
-    machine: &Machine<L>,
-    starts: &[u32],
-    targets: &[u32],
-    dep: Time,
-    bound: Option<Time>,
+    question: &Question<'_, G, L>,
     limit: Option<u64>,
 ) -> Result<Settlement, AllocError>
-    requires starts { All (λ v. v < (G.meaning graph.now).nodes) starts.now }
-    requires dep { dep < 2 ^ 64 }
-    requires bound { IsWithin bound dep }
-    ensures { IfOk result (λ s. IsSettlementWithin (G.meaning graph.now) (L.automaton machine.now.labels)
-        starts.now targets.now dep bound limit s.frontier s.best) }
+    ensures { IfOk result (λ s. IsSettlementWithin (question_of question.now) limit s.frontier s.best) }
 {
-    let explored = settle_all(
-        alloc, workspace, graph, machine, starts, targets, dep, bound, limit,
-    )?;
+    let explored = settle_all(alloc, workspace, question, limit)?;
     let Explored { frontier, end } = explored;
     match end {
         Limited::Ended(end) => {

@@ -1,15 +1,16 @@
 //! The main loop: product states are settled in the order of their times, until an end is, or nobody waits.
 
-ghost use Rattle.std.specs.Prelude.{◌≡◌, ℕ, ◌<◌, ◌^◌, ◌&&◌, All, IfOk};
+ghost use Rattle.std.specs.Prelude.{◌≡◌, ◌<◌, ◌&&◌, IfOk};
 ghost use Rattle.std.specs.BTreeSet as sorted;
 ghost use Rattle.std.specs.Ordering.{nat_cmp};
-ghost use Rattle.product_search.specs.Reach.{IsWithin};
+ghost use Rattle.product_search.specs.Questions.{question_of};
 ghost use Rattle.product_search.specs.Searching.{IsExploredWithin, end_arrival};
 
 use crate::explore::explore;
 use crate::frontier::{Frontier, Settled};
 use crate::limit::{Limited, Pace, passed_before};
-use crate::machine::Machine;
+use crate::product::Product;
+use crate::question::Question;
 use crate::start::offer_starts;
 use crate::workspace::Workspace;
 use search_laws::{GivenRuns, Graph, Labels, Time};
@@ -28,28 +29,25 @@ pub(crate) struct Explored {
 pub(crate) fn settle_all<G: Graph, L: Labels>(
     alloc: Global,
     workspace: Workspace,
-    graph: &G,
-    machine: &Machine<L>,
-    starts: &[u32],
-    targets: &[u32],
-    dep: Time,
-    bound: Option<Time>,
+    question: &Question<'_, G, L>,
     limit: Option<u64>,
 ) -> Result<Explored, AllocError>
-    requires starts { All (λ v. v < (G.meaning graph.now).nodes) starts.now }
-    requires dep { dep < 2 ^ 64 }
-    requires bound { IsWithin bound dep }
-    ensures { IfOk result (λ e. IsExploredWithin (G.meaning graph.now) (L.automaton machine.now.labels)
-        starts.now targets.now dep bound limit e.frontier e.end) }
+    ensures { IfOk result (λ e. IsExploredWithin (question_of question.now) limit e.frontier e.end) }
 {
-    let ends = set_of(alloc, targets)?;
-    let mut frontier = Frontier::new(alloc, workspace, machine.labels.states());
-    offer_starts(&mut frontier, &machine.labels, starts, dep)?;
+    let labels = &question.machine.labels;
+    let ends = set_of(alloc, question.targets)?;
+    let mut frontier = Frontier::new(alloc, workspace, labels.states());
+    offer_starts(&mut frontier, labels, question.starts, question.dep)?;
+    let product = Product {
+        graph: question.graph,
+        machine: question.machine,
+        bound: question.bound,
+    };
     let mut given = GivenRuns::new(alloc);
     let mut ways = Vec::new(alloc);
-    let mut pace = Pace::new(dep);
+    let mut pace = Pace::new(question.dep);
     while let Some(settled) = frontier.settle_least() {
-        if is_end(&machine.labels, &ends, settled) {
+        if is_end(labels, &ends, settled) {
             return Ok(Explored {
                 frontier,
                 end: Limited::Ended(Some(settled)),
@@ -62,15 +60,7 @@ pub(crate) fn settle_all<G: Graph, L: Labels>(
                 end: Limited::Stopped(most),
             });
         }
-        explore(
-            &mut frontier,
-            &mut given,
-            &mut ways,
-            graph,
-            machine,
-            bound,
-            settled,
-        )?;
+        explore(&mut frontier, &mut given, &mut ways, product, settled)?;
     }
     Ok(Explored {
         frontier,

@@ -28,6 +28,11 @@ impl Workspace {
         }
     }
 
+    /// Where it takes memory.
+    pub(crate) fn allocator(&self) -> Global {
+        *self.entries.allocator()
+    }
+
     /// Gives out what it has. Until that is put back the next search makes it anew.
     pub(crate) fn take(&mut self, alloc: Global) -> Workspace {
         mem::replace(self, Workspace::new(alloc))

@@ -6,7 +6,7 @@ use super::enumerate::{HORIZON, first_arrival, first_labels, reached_by};
 use super::town::Asked;
 use crate::out;
 use case_script::words;
-use product_search::{Found, Hop, Machine, Walk, search};
+use product_search::{Found, Hop, Machine, Question, Walk, search};
 use search_laws::{Graph, LETTERS, Labels, Time};
 use std::alloc::Global;
 
@@ -59,16 +59,15 @@ pub fn found_by(alloc: Global, asked: &Asked, bound: Option<Time>) -> Option<Fou
         return None;
     }
     let machine = Machine::new(alloc, asked.rules).ok()?;
-    search(
-        alloc,
-        town,
-        &machine,
+    let question = Question {
+        graph: town,
+        machine: &machine,
         starts,
         targets,
-        Time::from(asked.dep),
+        dep: Time::from(asked.dep),
         bound,
-    )
-    .ok()
+    };
+    search(alloc, &question).ok()
 }
 
 /// Whether this is what the enumeration answers up to `last`.

@@ -8,7 +8,7 @@ returns-in-Stopped-clause-stopped c =
     let stopped = rw c.in-Stopped.is at c.in_ok-found-2.ensures.stopped in (
       stopped.0,
       search_has_more c.args.backwards.now c.known.ensures (asked_by c.args.query.now) c.args.search.now is c.in-Stopped.most
-          (rw (is.backwards, is.by, is.back_to, c.deref-2.ensures.value, c.deref-3.ensures.value) at stopped.1),
+          (rw (is.backwards, is.by, is.back_to, c.deref.ensures.value, c.deref-2.ensures.value) at stopped.1),
     )
 
 pub returns-clause-few : goal.returns-clause-few
@@ -18,5 +18,5 @@ returns-clause-few c =
     let labels = rw c.in-Ended.is at c.in_ok-found-2.ensures.labels in
     let few = rw c.in-Ended.is at c.in_ok-found-2.ensures.few in
     search_has_at_most c.args.backwards.now c.known.ensures (asked_by c.args.query.now) c.args.search.now is c.in-Ended.found.arrival c.in-Ended.found.labels
-    (rw (is.backwards, is.by, is.back_to, c.deref-2.ensures.value, c.deref-3.ensures.value) at arrival)
-    (rw (is.backwards, is.by, is.back_to, c.deref-2.ensures.value) at labels) c.args.limit few
+    (rw (is.backwards, is.by, is.back_to, c.deref.ensures.value, c.deref-2.ensures.value) at arrival)
+    (rw (is.backwards, is.by, is.back_to, c.deref.ensures.value) at labels) c.args.limit few

@@ -11,8 +11,8 @@ use Rattle.latest_departure.specs.Forward.{leaving}
 use Rattle.latest_departure.proofs.ForwardLemmas.{reader_of, found_first}
 use Rattle.latest_departure.proofs.forward.first_from.Goals as goal
 
-pub search_best_with-requires-clause-starts : goal.search_best_with-requires-clause-starts
-search_best_with-requires-clause-starts c = rw (c.new-plain.ensures.network, c.deref.ensures.value) c.requires.ends.target_nodes
+pub invariant_of-question-clause-starts_there : goal.invariant_of-question-clause-starts_there
+invariant_of-question-clause-starts_there c = rw (c.new-plain.ensures.network, c.deref.ensures.value) c.requires.ends.target_nodes
 
 pub unpacked-requires : goal.unpacked-requires
 unpacked-requires c =

@@ -8,8 +8,8 @@ use Rattle.journey.specs.Best.{asked_by}
 use Rattle.planning.proofs.ArrivalLemmas.{best_arrival}
 use Rattle.planning.proofs.plans.best_arrival.Goals as goal
 
-pub search_best_with-requires-clause-starts : goal.search_best_with-requires-clause-starts
-search_best_with-requires-clause-starts c = rw c.deref.ensures.value c.in_ok-searched.ensures.is.starts_low
+pub invariant_of-question-clause-starts_there : goal.invariant_of-question-clause-starts_there
+invariant_of-question-clause-starts_there c = rw c.deref.ensures.value c.in_ok-searched.ensures.is.starts_low
 
 pub returns : goal.returns
 returns c =

@@ -10,8 +10,8 @@ use Rattle.planning.proofs.AnyGraph.{labels_over}
 use Rattle.planning.proofs.LimitLemmas.{has_more}
 use Rattle.planning.proofs.plans.find_counted.Goals as goal
 
-pub search_counted_within-requires-clause-starts : goal.search_counted_within-requires-clause-starts
-search_counted_within-requires-clause-starts c = rw c.deref.ensures.value c.in_ok-searched.ensures.is.starts_low
+pub invariant_of-question-clause-starts_there : goal.invariant_of-question-clause-starts_there
+invariant_of-question-clause-starts_there c = rw c.deref.ensures.value c.in_ok-searched.ensures.is.starts_low
 
 pub unpacked-requires : goal.unpacked-requires
 unpacked-requires c =

@@ -4,8 +4,8 @@ use Rattle.phase_graph.specs.InUseGraph.{meaning_in_use}
 use Rattle.planning.proofs.PlanLemmas.{walk_is_of, plan_for}
 use Rattle.planning.proofs.plans.find_plain.Goals as goal
 
-pub search_best_with-requires-clause-starts : goal.search_best_with-requires-clause-starts
-search_best_with-requires-clause-starts c = rw c.deref.ensures.value c.in_ok-searched.ensures.is.starts_low
+pub invariant_of-question-clause-starts_there : goal.invariant_of-question-clause-starts_there
+invariant_of-question-clause-starts_there c = rw c.deref.ensures.value c.in_ok-searched.ensures.is.starts_low
 
 pub unpacked-requires : goal.unpacked-requires
 unpacked-requires c =

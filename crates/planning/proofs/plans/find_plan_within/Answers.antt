@@ -15,11 +15,8 @@ use Rattle.planning.proofs.AnyGraph.{labels_over}
 use Rattle.planning.proofs.LimitLemmas.{has_more}
 use Rattle.planning.proofs.plans.find_plan_within.Goals as goal
 
-pub search_within-requires-clause-starts : goal.search_within-requires-clause-starts
-search_within-requires-clause-starts c = rw c.deref.ensures.value c.in_ok-searched.ensures.is.starts_low
-
-pub search_within-requires-clause-targets : goal.search_within-requires-clause-targets
-search_within-requires-clause-targets c = rw c.deref-2.ensures.value c.in_ok-searched.ensures.is.ends_low
+pub invariant_of-question-clause-starts_there : goal.invariant_of-question-clause-starts_there
+invariant_of-question-clause-starts_there c = rw c.deref.ensures.value c.in_ok-searched.ensures.is.starts_low
 
 pub unpacked-requires : goal.unpacked-requires
 unpacked-requires c =

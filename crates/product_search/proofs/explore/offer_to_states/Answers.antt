@@ -6,9 +6,9 @@ use Rattle.product_search.proofs.explore.offer_to_states.Goals as goal
 
 pub loop-next-preserved : goal.loop-next-preserved
 loop-next-preserved g c =
-    let graph = g.G.Graph.meaning c.args.graph.now in
+    let graph = g.G.Graph.meaning c.args.product.graph.now in
     let s = c.args.from in
-    let successor = IsSuccessor graph (g.L.Labels.automaton c.args.labels.now) c.args.bound s in
+    let successor = IsSuccessor graph (g.L.Labels.automaton c.args.product.machine.now.labels) c.args.product.bound s in
     let old = c.loop-next.frontier in
     let new = c.offer_legs.new.frontier in
     let offered = c.in_ok-offer_legs.ensures.offers in
@@ -16,7 +16,7 @@ loop-next-preserved g c =
       right = c.in_ok-offer_legs.ensures.right;
       settled = settled_keeps old new successor offered s.at c.loop-next.invariant.settled;
       offers = offers_more c.args.frontier.now old new successor c.loop-next.invariant.offers offered;
-      reached = below_more (λ k. (i : ℕ) → i < c.args.steady.count → LegIsReached graph c.args.bound new s (get_or c.args.states.now k 0) i) c.loop-next.next-index
+      reached = below_more (λ k. (i : ℕ) → i < c.args.steady.count → LegIsReached graph c.args.product.bound new s (get_or c.args.states.now k 0) i) c.loop-next.next-index
           (λ k lt i inside u e within. reached_keeps old new successor offered (graph.arc_at s.node i).to (get_or c.args.states.now k 0) u
           (c.loop-next.invariant.reached k lt i inside u e within))
           c.in_ok-offer_legs.ensures.reached;
@@ -24,5 +24,5 @@ loop-next-preserved g c =
 
 pub returns-clause-reached : goal.returns-clause-reached
 returns-clause-reached g c =
-    All-from_get_or (λ next. (i : ℕ) → i < c.args.steady.count → LegIsReached (g.G.Graph.meaning c.args.graph.now) c.args.bound c.loop-next.frontier c.args.from next i)
+    All-from_get_or (λ next. (i : ℕ) → i < c.args.steady.count → LegIsReached (g.G.Graph.meaning c.args.product.graph.now) c.args.product.bound c.loop-next.frontier c.args.from next i)
     c.args.states.now 0 (λ k lt. c.loop-next.invariant.reached k (omega arith))

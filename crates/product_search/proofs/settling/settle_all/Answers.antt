@@ -7,44 +7,44 @@ use Rattle.product_search.proofs.settling.settle_all.Goals as goal
 
 pub loop-settled-init : goal.loop-settled-init
 loop-settled-init g c =
-    let labels = g.L.Labels.automaton c.args.machine.now.labels in
+    let labels = g.L.Labels.automaton c.args.question.now.machine.now.labels in
     record {
-      searching = searching_begins (g.G.Graph.meaning c.args.graph.now) labels c.args.starts.now c.args.targets.now c.args.dep c.args.bound
-          c.new-frontier.result c.offer_starts.new.frontier c.new-frontier.ensures.empty c.requires.starts c.requires.bound
+      searching = searching_begins (g.G.Graph.meaning c.args.question.now.graph.now) labels c.args.question.now.starts.now c.args.question.now.targets.now c.args.question.now.dep c.args.question.now.bound
+          c.new-frontier.result c.offer_starts.new.frontier c.new-frontier.ensures.empty c.args.question.now.starts_there c.args.question.now.within
           c.in_ok-offer_starts.ensures.right c.in_ok-offer_starts.ensures.offers c.in_ok-offer_starts.ensures.reached;
-      given = none_given labels c.args.bound (g.G.Graph.rides c.args.graph.now) c.offer_starts.new.frontier c.new-given.result c.new-given.ensures;
+      given = none_given labels c.args.question.now.bound (g.G.Graph.rides c.args.question.now.graph.now) c.offer_starts.new.frontier c.new-given.result c.new-given.ensures;
     }
 
 pub returns-then-is_end : goal.returns-then-is_end
 returns-then-is_end g c =
-    let graph = g.G.Graph.meaning c.args.graph.now in
-    let labels = g.L.Labels.automaton c.args.machine.now.labels in
+    let graph = g.G.Graph.meaning c.args.question.now.graph.now in
+    let labels = g.L.Labels.automaton c.args.question.now.machine.now.labels in
     let s = c.in-Some.settled in
     let least = c.in-Some.ensures.least in
-    let end = end_parts c.args.targets.now c.in_ok-ends.ends s.node (labels.accepts s.state) c.in_ok-ends.ensures c.if-is_end.ensures in (
-      searched_to graph (g.met.G.Graph.lawful c.args.graph.now) labels (g.met.L.Labels.lawful c.args.machine.now.labels) c.args.starts.now c.args.targets.now c.args.dep c.args.bound
+    let end = end_parts c.args.question.now.targets.now c.in_ok-ends.ends s.node (labels.accepts s.state) c.in_ok-ends.ensures c.if-is_end.ensures in (
+      searched_to graph (g.met.G.Graph.lawful c.args.question.now.graph.now) labels (g.met.L.Labels.lawful c.args.question.now.machine.now.labels) c.args.question.now.starts.now c.args.question.now.targets.now c.args.question.now.dep c.args.question.now.bound
           c.loop-settled.frontier c.settle_least.new.self s c.loop-settled.invariant.searching c.in-Some.ensures.right least,
-      ended graph (g.met.G.Graph.lawful c.args.graph.now) labels (g.met.L.Labels.lawful c.args.machine.now.labels) c.args.starts.now c.args.targets.now c.args.dep c.args.bound
+      ended graph (g.met.G.Graph.lawful c.args.question.now.graph.now) labels (g.met.L.Labels.lawful c.args.question.now.machine.now.labels) c.args.question.now.starts.now c.args.question.now.targets.now c.args.question.now.dep c.args.question.now.bound
           c.loop-settled.frontier c.settle_least.new.self s c.loop-settled.invariant.searching c.in-Some.ensures.right least end.0 end.1,
     )
 
 pub returns-in-Some-passed_before : goal.returns-in-Some-passed_before
 returns-in-Some-passed_before g c =
-    let graph = g.G.Graph.meaning c.args.graph.now in
-    let labels = g.L.Labels.automaton c.args.machine.now.labels in
+    let graph = g.G.Graph.meaning c.args.question.now.graph.now in
+    let labels = g.L.Labels.automaton c.args.question.now.machine.now.labels in
     let s = c.in-Some.settled in
-    let searched = searched_to graph (g.met.G.Graph.lawful c.args.graph.now) labels (g.met.L.Labels.lawful c.args.machine.now.labels) c.args.starts.now c.args.targets.now c.args.dep c.args.bound
+    let searched = searched_to graph (g.met.G.Graph.lawful c.args.question.now.graph.now) labels (g.met.L.Labels.lawful c.args.question.now.machine.now.labels) c.args.question.now.starts.now c.args.question.now.targets.now c.args.question.now.dep c.args.question.now.bound
     c.loop-settled.frontier c.settle_least.new.self s c.loop-settled.invariant.searching c.in-Some.ensures.right c.in-Some.ensures.least in
     let passed = c.in-Some-passed_before.ensures in
     record {
       right = c.in-Some.ensures.right;
       limit_is = passed.0;
-      more = more_settled graph labels c.args.starts.now c.args.targets.now c.args.dep c.args.bound s.at c.settle_least.new.self searched c.in-Some-passed_before.most passed.1;
+      more = more_settled graph labels c.args.question.now.starts.now c.args.question.now.targets.now c.args.question.now.dep c.args.question.now.bound s.at c.settle_least.new.self searched c.in-Some-passed_before.most passed.1;
     }
 
 pub explore-requires-clause-settled : goal.explore-requires-clause-settled
 explore-requires-clause-settled g c =
-    settled_by (g.G.Graph.meaning c.args.graph.now) (g.L.Labels.automaton c.args.machine.now.labels) c.args.starts.now c.args.targets.now c.args.dep c.args.bound
+    settled_by (g.G.Graph.meaning c.args.question.now.graph.now) (g.L.Labels.automaton c.args.question.now.machine.now.labels) c.args.question.now.starts.now c.args.question.now.targets.now c.args.question.now.dep c.args.question.now.bound
     c.loop-settled.frontier c.settle_least.new.self c.in-Some.settled c.loop-settled.invariant.searching c.in-Some.ensures.least
 
 pub explore-requires-clause-here : goal.explore-requires-clause-here
@@ -55,32 +55,32 @@ explore-requires-clause-here g c =
 
 pub explore-requires-clause-given : goal.explore-requires-clause-given
 explore-requires-clause-given g c =
-    given_stays (g.L.Labels.automaton c.args.machine.now.labels) c.args.bound (g.G.Graph.rides c.args.graph.now) c.loop-settled.frontier c.settle_least.new.self c.loop-settled.given
+    given_stays (g.L.Labels.automaton c.args.question.now.machine.now.labels) c.args.question.now.bound (g.G.Graph.rides c.args.question.now.graph.now) c.loop-settled.frontier c.settle_least.new.self c.loop-settled.given
     (reached_stays c.loop-settled.frontier c.settle_least.new.self c.in-Some.settled c.in-Some.ensures.least) c.loop-settled.invariant.given
 
 pub loop-settled-smaller : goal.loop-settled-smaller
 loop-settled-smaller g c =
     omega (
       arith,
-      one_less (g.G.Graph.meaning c.args.graph.now) (g.met.G.Graph.lawful c.args.graph.now) (g.L.Labels.automaton c.args.machine.now.labels) (g.met.L.Labels.lawful c.args.machine.now.labels)
-          c.args.starts.now c.args.targets.now c.args.dep c.args.bound c.loop-settled.frontier c.settle_least.new.self c.explore.new.frontier c.in-Some.settled
+      one_less (g.G.Graph.meaning c.args.question.now.graph.now) (g.met.G.Graph.lawful c.args.question.now.graph.now) (g.L.Labels.automaton c.args.question.now.machine.now.labels) (g.met.L.Labels.lawful c.args.question.now.machine.now.labels)
+          c.args.question.now.starts.now c.args.question.now.targets.now c.args.question.now.dep c.args.question.now.bound c.loop-settled.frontier c.settle_least.new.self c.explore.new.frontier c.in-Some.settled
           c.loop-settled.invariant.searching c.in-Some.ensures.least c.in_ok-explore.ensures.offers,
     )
 
 pub loop-settled-preserved : goal.loop-settled-preserved
 loop-settled-preserved g c =
-    let labels = g.L.Labels.automaton c.args.machine.now.labels in
+    let labels = g.L.Labels.automaton c.args.question.now.machine.now.labels in
     let s = c.in-Some.settled in
     record {
-      searching = searching_on (g.G.Graph.meaning c.args.graph.now) (g.met.G.Graph.lawful c.args.graph.now) labels (g.met.L.Labels.lawful c.args.machine.now.labels)
-          c.args.starts.now c.args.targets.now c.args.dep c.args.bound c.loop-settled.frontier c.settle_least.new.self c.explore.new.frontier s
+      searching = searching_on (g.G.Graph.meaning c.args.question.now.graph.now) (g.met.G.Graph.lawful c.args.question.now.graph.now) labels (g.met.L.Labels.lawful c.args.question.now.machine.now.labels)
+          c.args.question.now.starts.now c.args.question.now.targets.now c.args.question.now.dep c.args.question.now.bound c.loop-settled.frontier c.settle_least.new.self c.explore.new.frontier s
           c.loop-settled.invariant.searching c.in-Some.ensures.least c.in_ok-explore.ensures.offers c.in_ok-explore.ensures.right c.in_ok-explore.ensures.reached
-          (no_end c.args.targets.now c.in_ok-ends.ends s.node (labels.accepts s.state) c.in_ok-ends.ensures c.if-is_end.ensures);
+          (no_end c.args.question.now.targets.now c.in_ok-ends.ends s.node (labels.accepts s.state) c.in_ok-ends.ensures c.if-is_end.ensures);
       given = c.in_ok-explore.ensures.given;
     }
 
 pub returns : goal.returns
 returns g c =
-    searched_all (g.G.Graph.meaning c.args.graph.now) (g.met.G.Graph.lawful c.args.graph.now) (g.L.Labels.automaton c.args.machine.now.labels) (g.met.L.Labels.lawful c.args.machine.now.labels)
-    c.args.starts.now c.args.targets.now c.args.dep c.args.bound c.loop-settled.frontier c.settle_least.new.self
+    searched_all (g.G.Graph.meaning c.args.question.now.graph.now) (g.met.G.Graph.lawful c.args.question.now.graph.now) (g.L.Labels.automaton c.args.question.now.machine.now.labels) (g.met.L.Labels.lawful c.args.question.now.machine.now.labels)
+    c.args.question.now.starts.now c.args.question.now.targets.now c.args.question.now.dep c.args.question.now.bound c.loop-settled.frontier c.settle_least.new.self
     c.loop-settled.invariant.searching c.in_default.ensures.right c.in_default.ensures.none c.in_default.ensures.same c.in_default.ensures.numbers

@@ -5,8 +5,8 @@ use Rattle.departures.specs.Searching.{search_labels}
 use Rattle.departures.proofs.FirstLemmas.{walk_soon, none_accepted, first_row}
 use Rattle.departures.proofs.search.RideSearch.first_from.Goals as goal
 
-pub search_best_with-requires-clause-starts : goal.search_best_with-requires-clause-starts
-search_best_with-requires-clause-starts c = rw c.deref.ensures.value c.requires.search.start_nodes
+pub invariant_of-question-clause-starts_there : goal.invariant_of-question-clause-starts_there
+invariant_of-question-clause-starts_there c = rw c.deref.ensures.value c.requires.search.start_nodes
 
 pub returns-then-not-self : goal.returns-then-not-self
 returns-then-not-self c =

@@ -9,8 +9,8 @@ use Rattle.departures.proofs.OrderLemmas.{not_before}
 use Rattle.departures.proofs.ReaderLemmas.{pair_rises}
 use Rattle.departures.proofs.search.RideSearch.may_take_less.Goals as goal
 
-pub search_best_with-requires-clause-starts : goal.search_best_with-requires-clause-starts
-search_best_with-requires-clause-starts c = rw (c.deref.ensures.value, c.requires.same) c.requires.search.start_nodes
+pub invariant_of-question-clause-starts_there : goal.invariant_of-question-clause-starts_there
+invariant_of-question-clause-starts_there c = rw (c.deref.ensures.value, c.requires.same) c.requires.search.start_nodes
 
 pub returns : goal.returns
 returns c off =
