@@ -65,7 +65,7 @@ fn settle_targets<G: Graph, L: Labels>(
 {
     let alloc = workspace.allocator();
     let mut noted = Noted::none(alloc, targets)?;
-    let mut frontier = Frontier::new(alloc, workspace, machine.labels.states());
+    let mut frontier = Frontier::new(alloc, workspace, graph.nodes(), machine.labels.states());
     offer_starts(&mut frontier, &machine.labels, starts, dep)?;
     let product = Product {
         graph,

@@ -60,8 +60,9 @@ pub(crate) struct Frontier {
 }
 
 impl Frontier {
-    /// A frontier with nothing reached, for an automaton with so many states. It uses the lists and the table of a workspace.
-    pub fn new(alloc: Global, workspace: Workspace, states: u32) -> Frontier
+    /// A frontier with nothing reached, for so many nodes and an automaton with so many states. It uses the lists and the table
+    /// of a workspace.
+    pub fn new(alloc: Global, workspace: Workspace, nodes: u32, states: u32) -> Frontier
         ensures right { IsQueueRight result }
         ensures empty { (v q : ℕ) → reached_at result v q ≡ None }
     {
@@ -74,7 +75,7 @@ impl Frontier {
             entries,
             keys,
             first,
-            chains: Chains::of(states),
+            chains: Chains::of(nodes, states),
             queue: Queue::new(alloc),
         }
     }
