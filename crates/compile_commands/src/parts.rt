@@ -27,7 +27,7 @@ pub(crate) fn layers(alloc: Global, network: &Network) -> Result<[Layer; 3], All
     for v in 0..network.nodes() {
         if let Some(mode) = network.mode(v) {
             let size = sizes.get(v as usize).copied().unwrap_or(0);
-            if let Some(layer) = layers.get_mut(usize::from(mode)) {
+            if let Some(layer) = layers.get_mut(usize::from(mode.number())) {
                 layer.nodes = layer.nodes.saturating_add(1);
                 layer.largest = layer.largest.max(size);
             }

@@ -8,11 +8,12 @@ use Rattle.std.proofs.lemmas.List.{length-take, get_or-take, take_all}
 use Rattle.std.proofs.lemmas.List.Elements.{All-contains, Contains-get_or, All-more}
 use Rattle.std.specs.declared.cmp.Ordering.TheVariants.{Less}
 use Rattle.mode_network.specs.declared.nodes.Arc.{Arc}
+use Rattle.plan_base.specs.declared.modes.Mode.{Mode}
 use Rattle.mode_network.specs.NetworkLists.{NetworkLists, mode_at}
 use Rattle.mode_network.specs.NetworkLists.{nodes_of as network_nodes}
 use Rattle.mode_network.specs.Journeys.{Leads}
 use Rattle.mode_network.specs.Rules.{IsNetwork, joins_modes, is_same_mode, arc_cmp}
-use Rattle.mode_network.proofs.RuleLemmas.{arcs_in_range, nodes_hold_roads}
+use Rattle.mode_network.proofs.RuleLemmas.{arcs_in_range, nodes_hold_roads, same_mode_is}
 use Rattle.hierarchy.specs.declared.entry.Entry.{Entry}
 use Rattle.hierarchy.specs.Soundness.{HasEntry, FitsLayer, HoldsBelow, MayStandAt, NodeIsBridged, IsMade, IsMadeBy}
 use Rattle.witness.specs.declared.edge.Edge.{Edge}
@@ -34,12 +35,12 @@ arc_fits n arc joins w via light = by_modes (mode_at n.roads arc.from) (mode_at 
     parts : (is_same_mode (mode_at n.roads arc.from) (mode_at n.roads arc.to) ≡ true) × (not (nat_eq arc.from arc.to) ≡ true)
     parts = and_parts (is_same_mode (mode_at n.roads arc.from) (mode_at n.roads arc.to)) (not (nat_eq arc.from arc.to)) joins
 
-    by_modes : (a b : Option ℕ) → mode_at n.roads arc.from ≡ a → mode_at n.roads arc.to ≡ b → is_same_mode a b ≡ true → FitsLayer n (record { from = arc.from; to = arc.to; weight = w; via = via })
+    by_modes : (a b : Option Mode) → mode_at n.roads arc.from ≡ a → mode_at n.roads arc.to ≡ b → is_same_mode a b ≡ true → FitsLayer n (record { from = arc.from; to = arc.to; weight = w; via = via })
     by_modes (Some a) (Some b) from to same = record {
       differ = eqb-false arc.from arc.to (not-true (nat_eq arc.from arc.to) parts.1);
       mode = a;
       from_mode = from;
-      to_mode = to ∙ ap Some (sym (eqb-true a b same));
+      to_mode = to ∙ ap Some (sym (same_mode_is a b same));
       light = light;
     }
     by_modes (Some a) None from to same = cc

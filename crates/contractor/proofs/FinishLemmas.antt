@@ -11,9 +11,10 @@ use Rattle.std.proofs.lemmas.List.{get_or-map, length-map}
 use Rattle.std.proofs.lemmas.List.Elements.{All-contains, All-map, Contains-get_or}
 use Rattle.std.proofs.lemmas.List.Sorted.{sorted_far, ranks_by, All-permutation, Contains-permutation, IsPermutation-sym, IsPermutation-map}
 use Rattle.std.proofs.lemmas.Map.Keys.{IsDistinct-from_apart, IsDistinct-IsPermutation, apart_from_distinct}
+use Rattle.plan_base.specs.declared.modes.Mode.{Mode}
 use Rattle.mode_network.specs.NetworkLists.{NetworkLists, mode_at}
 use Rattle.mode_network.specs.Rules.{IsAscending, IsNetwork}
-use Rattle.mode_network.proofs.RuleLemmas.{mode_is_road, nodes_hold_roads}
+use Rattle.mode_network.proofs.RuleLemmas.{mode_inside, nodes_hold_roads}
 use Rattle.hierarchy.specs.declared.entry.Entry.{Entry}
 use Rattle.hierarchy.specs.Hops.{AreHigh, total, nodes_along}
 use Rattle.hierarchy.specs.Lists.{HierarchyLists, WitnessLists, height_in, IsContracted, first_of, last_of}
@@ -149,8 +150,8 @@ module _ (n : NetworkLists) (layer : Layer) (network : IsNetwork n) (state : IsS
   pub finished : IsFinished n layer.order.items h
   finished = record { sound = sound; order_is = refl; true_weights = All-permutation (IsTrueWeight n) layer.entries.items entries entries_in_order.moved state.good.true_weights }
 
-  node_low : (v mode : ℕ) → mode_at n.roads v ≡ Some mode → IsNode v
-  node_low v mode road = let low = (mode_is_road n network v mode road).0 in let hold = nodes_hold_roads n network in let few = network.few_nodes in omega arith
+  node_low : (v : ℕ) (mode : Mode) → mode_at n.roads v ≡ Some mode → IsNode v
+  node_low v mode road = let low = mode_inside n network v mode road in let hold = nodes_hold_roads n network in let few = network.few_nodes in omega arith
 
   entry_low : (u v w : ℕ) → HasEntry entries u v w → IsNode u × IsNode v
   entry_low u v w has =

@@ -11,7 +11,7 @@ use Rattle.timetable_arcs.specs.Patterns.{TableLists, pattern_trip}
 use Rattle.timetable_arcs.specs.Rides.{rides_at, alights}
 use Rattle.timetable_arcs.specs.Table.{IsTable}
 use Rattle.mode_network.specs.declared.nodes.Arc.{Arc}
-use Rattle.mode_network.specs.NetworkLists.{NetworkLists, mode_at, stop_at}
+use Rattle.mode_network.specs.NetworkLists.{NetworkLists, letter_at, stop_at}
 use Rattle.mode_network.specs.Rules.{IsNetwork}
 use Rattle.mode_network.specs.Indexes.{range_from}
 use Rattle.plain_graph.specs.declared.plain.PlainArc.{PlainArc}
@@ -75,13 +75,13 @@ module _ (n : NetworkLists) (t : TableLists) (v : ℕ) where
     found : stop_at n v ≡ Some out.stop
     found = ap (stop_at n) out.at ∙ stop_is_found n out.stop out.is_stop
 
-    no_road_here : mode_at n.roads v ≡ None
-    no_road_here = ap (mode_at n.roads) out.at ∙ no_mode n out.stop
+    no_road_here : letter_at n.roads v ≡ None
+    no_road_here = ap (letter_at n.roads) out.at ∙ no_mode n out.stop
 
     arc_at : (k : ℕ) → plain_arc n t v (outer + k) ≡ Ride (slice_index_or (rides_at t out.stop) k no_ride)
     arc_at k =
         let rides : rides_of n t v ≡ rides_at t out.stop = ap (rides_from_stop t) found in
-        let none : is_some (mode_at n.roads v) ≡ false = ap is_some no_road_here in
+        let none : is_some (letter_at n.roads v) ≡ false = ap is_some no_road_here in
         let past_roads = le-ltb (outer + k) (count_from n.arcs v) (omega arith) in
         let past_links = le-ltb (outer + k - count_from n.arcs v) (count_from n.links v) (omega arith) in
         let back : outer + k - count_from n.arcs v - count_from n.links v ≡ k = omega arith in

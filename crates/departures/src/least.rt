@@ -95,7 +95,7 @@ impl<'a> LeastTimes<'a> {
         ensures arrives { Some result.at ≡ (least_meaning self.now.plain.network.now
             self.now.plain.timetable.now self.now.runs.items).arrive v place t }
     {
-        let mode = self.plain.network().mode(v);
+        let mode = self.plain.network().letter(v);
         let (to, letter, at) = match arc {
             PlainArc::Road(arc) => (arc.to, mode, t + Time::from(arc.ms)),
             PlainArc::Link(link) => (link.to, None, t + Time::from(link.ms)),
@@ -311,7 +311,7 @@ impl Graph for LeastTimes<'_> {
         ways: &mut Vec<Way>,
     ) -> Result<(), AllocError> {
         let _ = (state, given.cells.len());
-        let moving = moving_letters(letters, leaving, self.plain.network().mode(v));
+        let moving = moving_letters(letters, leaving, self.plain.network().letter(v));
         let arcs = self.plain.arcs(v);
         let mut first = self.plain.steady(v).count;
         while first < arcs {

@@ -3,7 +3,7 @@
 use crate::pieces::{line_at, number_of_line, shown};
 use mode_network::NetFault;
 use plain_texts::read_id;
-use plan_base::Kind;
+use plan_base::{Kind, Mode};
 use region_file::RegionFault;
 use std::alloc::{AllocError, Global};
 use timetable_arcs::TableFault;
@@ -228,13 +228,12 @@ fn node_word(bytes: &[u8], row: u64) -> &'static [&'static [u8]] {
     }
 }
 
-/// The id and the mode's place of a line of a road node.
-fn node_key(line: &[u8]) -> Option<(i64, usize)> {
+/// The id and the mode's number of a line of a road node.
+fn node_key(line: &[u8]) -> Option<(i64, u8)> {
     let mut words = line.split(|byte| *byte == b' ').skip(1);
     let mode = words.next()?;
     let id = read_id(words.next()?)?;
-    let modes: [&[u8]; 3] = [b"foot", b"bike", b"car"];
-    Some((id, modes.iter().position(|name| *name == mode)?))
+    Some((id, Mode::from_name(mode)?.number()))
 }
 
 /// In which order the rows of a kind stand.

@@ -10,10 +10,10 @@ use Rattle.timetable_arcs.specs.TripRules.{is_early}
 use Rattle.timetable_arcs.proofs.TripLemmas.{IsKeptTrip, trips_kept}
 use Rattle.mode_network.specs.declared.steps.Step.{Step}
 use Rattle.mode_network.specs.declared.steps.Step.TheVariants.{Wait, Road, Link, Stand, Ride}
-use Rattle.mode_network.specs.NetworkLists.{NetworkLists, mode_at}
+use Rattle.mode_network.specs.NetworkLists.{NetworkLists, letter_at}
 use Rattle.mode_network.specs.Rules.{IsNetwork}
 use Rattle.mode_network.specs.Journeys.{IsStep, AreSteps}
-use Rattle.mode_network.proofs.RuleLemmas.{both, mode_is_road}
+use Rattle.mode_network.proofs.RuleLemmas.{both, letter_is_road}
 use Rattle.few_boardings.specs.Counted.{transits}
 use Rattle.few_boardings.specs.CountedLaws.{added, added_road, added_transit}
 use Rattle.few_boardings.specs.Boardings.{is_ride}
@@ -42,13 +42,13 @@ module _ (n : NetworkLists) (network : IsNetwork n) where
       let is = (both calls _ (both with_days (list_all is_early run.calls) kept.is).0).0 in
       leb-true 3 run.letter (both (nat_le 3 run.letter) (nat_le run.letter 13) (both letter (nat_le 2 (length run.calls)) is).0).0
 
-  road_adds_none : (v : ℕ) (letter mode : Option ℕ) → mode_at n.roads v ≡ mode → letter ≡ mode → added_by letter ≡ 0
+  road_adds_none : (v : ℕ) (letter mode : Option ℕ) → letter_at n.roads v ≡ mode → letter ≡ mode → added_by letter ≡ 0
   road_adds_none v letter None is same = ap added_by same
-  road_adds_none v letter (Some mode) is same = ap added_by same ∙ added_road mode (mode_is_road n network v mode is).1
+  road_adds_none v letter (Some mode) is same = ap added_by same ∙ added_road mode (letter_is_road n network v mode is).1
 
   step_adds : (v t : ℕ) (step : Step) (w u : ℕ) (letter : Option ℕ) → IsStep n v t step w u letter → added_by letter ≡ cond (is_ride step) 1 0
   step_adds v t (Wait until) w u letter (later, same, now, none) = ap added_by none
-  step_adds v t (Road to) w u letter (ms, leads, there, then, is) = road_adds_none v letter (mode_at n.roads v) refl is
+  step_adds v t (Road to) w u letter (ms, leads, there, then, is) = road_adds_none v letter (letter_at n.roads v) refl is
   step_adds v t (Link to) w u letter (ms, leads, there, then, none) = ap added_by none
   step_adds v t Stand w u letter (mode, is, same, now, some) = road_adds_none v letter (Some mode) is some
   step_adds v t (Ride trip day board alight) w u letter (run, on, off, ride, from, later, to, then, some) =

@@ -1,5 +1,6 @@
 -- When a hierarchy is sound for a network: then whatever order, shortcuts and witnesses it has, it keeps all distances.
 use Rattle.std.specs.Prelude.{◌≡◌, ◌≢◌, ℕ, ◌+◌, ◌<◌, ◌≤◌, ◌^◌, ◌⊎◌, List, length, Option, Some, None, All, Contains, slice_index_or}
+use Rattle.plan_base.specs.declared.modes.Mode.{Mode}
 use Rattle.mode_network.specs.declared.nodes.Arc.{Arc}
 use Rattle.mode_network.specs.NetworkLists.{NetworkLists, mode_at}
 use Rattle.mode_network.specs.Journeys.{Leads}
@@ -18,7 +19,7 @@ HasLighter entries u v limit = (weight : ℕ) × HasEntry entries u v weight × 
 -- ---- clause 1, at a place of the order: a road node that no link joins, and that does not stand before
 
 pub record IsFree (n : NetworkLists) (x : ℕ) : Type 0 where
-  pub mode : ℕ
+  pub mode : Mode
   pub road : mode_at n.roads x ≡ Some mode
   pub none_from : All (λ link. link.from ≢ x) n.links
   pub none_to : All (λ link. link.to ≢ x) n.links
@@ -34,7 +35,7 @@ MayStandAt n order k = ((d : ℕ) → IsFree n (slice_index_or order k d)) × Is
 
 pub record FitsLayer (n : NetworkLists) (e : Entry) : Type 0 where
   pub differ : e.from ≢ e.to
-  pub mode : ℕ
+  pub mode : Mode
   pub from_mode : mode_at n.roads e.from ≡ Some mode
   pub to_mode : mode_at n.roads e.to ≡ Some mode
   pub light : e.weight < 2 ^ 56

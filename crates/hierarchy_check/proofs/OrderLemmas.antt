@@ -5,6 +5,7 @@ use Rattle.std.proofs.lemmas.Bool.{false≢true, both_ways, not-true, not_from_f
 use Rattle.std.proofs.lemmas.Option.{option_and_then_some, slice_get_within}
 use Rattle.std.proofs.lemmas.List.{length-append, get_or-replicate, get_or_past, get_or-set_same, get_or-set_other, length-set, length-replicate}
 use Rattle.std.proofs.lemmas.List.Folds.{list_any_none, list_any_at}
+use Rattle.plan_base.specs.declared.modes.Mode.{Mode}
 use Rattle.mode_network.specs.declared.nodes.Arc.{Arc}
 use Rattle.mode_network.specs.declared.nodes.Node.{Node}
 use Rattle.mode_network.specs.NetworkLists.{NetworkLists, mode_at, mode_of, nodes_of}
@@ -19,7 +20,7 @@ use Rattle.hierarchy_check.specs.Meetings.{AreMet, IsFirstMeeting}
 abbrev touches : ℕ → Arc → Bool
 touches x link = (link.from == x) || (link.to == x)
 
-pub free_iff : (n : NetworkLists) (x mode : ℕ) → mode_at n.roads x ≡ Some mode → (b : Bool) → b ≡ is_end_of n.links x → IsTrue (not b) ↔ IsFree n x
+pub free_iff : (n : NetworkLists) (x : ℕ) (mode : Mode) → mode_at n.roads x ≡ Some mode → (b : Bool) → b ≡ is_end_of n.links x → IsTrue (not b) ↔ IsFree n x
 free_iff n x mode road b is = (λ h. free (sym is ∙ not-true b h), λ h. not_from_false b (is ∙ unlinked h)) where
   free : is_end_of n.links x ≡ false → IsFree n x
   free none = record {

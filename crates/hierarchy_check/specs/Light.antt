@@ -1,5 +1,6 @@
 -- Parts of the clauses, as the check decides them.
 use Rattle.std.specs.Prelude.{◌≡◌, ◌≢◌, ℕ, ◌+◌, ◌-◌, ◌<◌, ◌≤◌, ◌^◌, List, [], ◌∷◌, Option, Some, All, slice_get}
+use Rattle.plan_base.specs.declared.modes.Mode.{Mode}
 use Rattle.hierarchy.specs.declared.entry.Entry.{Entry}
 use Rattle.hierarchy.specs.declared.rises.Rise.{Rise}
 use Rattle.hierarchy.specs.Lists.{HierarchyLists, IsAbove}
@@ -11,8 +12,8 @@ abbrev pub IsLight : List Entry → Type 0
 IsLight entries = All (λ (e : Entry). e.weight < 2 ^ 56) entries
 
 -- a mode is that of both
-abbrev pub IsModeOfBoth : Option ℕ → Option ℕ → Type 0
-IsModeOfBoth a b = (mode : ℕ) × (a ≡ Some mode) × (b ≡ Some mode)
+abbrev pub IsModeOfBoth : Option Mode → Option Mode → Type 0
+IsModeOfBoth a b = (mode : Mode) × (a ≡ Some mode) × (b ≡ Some mode)
 
 -- entries from u to m and from m to v weigh together so much
 pub record IsSumOver (entries : List Entry) (u m v weight : ℕ) : Type 0 where

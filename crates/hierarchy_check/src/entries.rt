@@ -9,6 +9,7 @@ ghost use Rattle.hierarchy_check.specs.Light.{IsLight, IsSumOver, IsModeOfBoth};
 use crate::rows::entry_from;
 use hierarchy::{Entry, Hierarchy};
 use mode_network::{Arc, Network};
+use plan_base::Mode;
 
 /// What entries that can be added weigh less than.
 const HEAVY: u64 = 1 << 56;
@@ -37,7 +38,7 @@ fn fits_layer(network: &Network, entry: Entry) -> bool
 }
 
 /// Whether both are there, and equal.
-fn is_mode_of_both(a: Option<u8>, b: Option<u8>) -> bool
+fn is_mode_of_both(a: Option<Mode>, b: Option<Mode>) -> bool
     ensures { IsTrue result ↔ IsModeOfBoth a b }
 {
     match (a, b) {

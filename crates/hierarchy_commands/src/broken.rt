@@ -1,7 +1,6 @@
 //! What a hierarchy that is not sound breaks, told to people by the keys of the nodes.
 
 use hierarchy::Entry;
-use mode_expression::Letter;
 use mode_network::{Network, NodeKey};
 use std::alloc::{AllocError, Global};
 
@@ -88,7 +87,7 @@ fn key(alloc: Global, network: &Network, v: u32) -> Result<String, AllocError> {
     if v < network.nodes() {
         match network.node(v).key {
             NodeKey::Road(mode, id) => {
-                let name = Letter::from_number(mode).map_or("road", |l| l.name());
+                let name = mode.name();
                 format!(in alloc; "{name}:{id}")
             }
             NodeKey::Stop(stop) => {

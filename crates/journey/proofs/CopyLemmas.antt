@@ -6,7 +6,6 @@ use Rattle.std.proofs.Math.Nat.{lt_of_lt_of_le}
 use Rattle.std.proofs.lemmas.List.{get_or_default}
 use Rattle.std.proofs.lemmas.List.FromFn.{length-range_with_len, get_or-range_with_len}
 use Rattle.std.proofs.lemmas.Option.{slice_get_within}
-use Rattle.plan_base.specs.Modes.{number_of_mode}
 use Rattle.mode_network.specs.declared.nodes.Node.{Node}
 use Rattle.mode_network.specs.declared.nodes.NodeKey.TheVariants.{Road as RoadKey}
 use Rattle.mode_network.specs.declared.endpoints.Endpoint.{Endpoint}
@@ -31,7 +30,7 @@ module _ (n : NetworkLists) (network : IsNetwork n) where
       let inside = slice_get_within n.stop_names stop name named in
       omega (arith, network.parts.one_name_each, length-append (n.roads ++ n.stops) n.switches, length-append n.roads n.stops)
   copy_in_range (Near place) v near = road_in_range near.id v near.copy
-  copy_in_range (NearIn mode place) v near = road_in_range near.id v (number_of_mode mode, near.copy)
+  copy_in_range (NearIn mode place) v near = road_in_range near.id v (mode, near.copy)
 
   pub copies_in_range : (endpoint : Endpoint) (list : List ℕ) → AreTheCopies n endpoint list → All (λ v. v < length (nodes_of n)) list
   copies_in_range endpoint list copies k d h =

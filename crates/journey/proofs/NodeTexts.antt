@@ -11,6 +11,8 @@ use Rattle.std.proofs.lemmas.List.{get_or_append_left, get_or-append_right}
 use Rattle.std.proofs.lemmas.List.Elements.{All-cons, All-append}
 use Rattle.std.proofs.lemmas.Option.{slice_get-get_or, slice_get_within, get_or_from_slice_get, slice_get_cases, unwrap_or-slice_get}
 use Rattle.plan_base.specs.LetterNames.{letter_names}
+use Rattle.plan_base.specs.Modes.{number_of_mode}
+use Rattle.plan_base.specs.declared.modes.Mode.{Mode}
 use Rattle.plain_texts.specs.Lines.{IsWord}
 use Rattle.plain_texts.specs.Numbers.{IsId}
 use Rattle.plain_texts.proofs.Spaced.{word_by_test, signed_is_word, name_is_word}
@@ -19,7 +21,7 @@ use Rattle.mode_network.specs.declared.nodes.NodeKey.{NodeKey}
 use Rattle.mode_network.specs.declared.nodes.NodeKey.TheVariants.{Road, Stop, Switch}
 use Rattle.mode_network.specs.NetworkLists.{NetworkLists, nodes_of}
 use Rattle.mode_network.specs.Rules.{IsNetwork, IsRoad, IsStop, IsSwitch, IsAscending, rank_of, node_cmp, name_cmp}
-use Rattle.mode_network.proofs.RuleLemmas.{nodes_total, names_total}
+use Rattle.mode_network.proofs.RuleLemmas.{mode_by_number, nodes_total, names_total, number_is_low}
 use Rattle.journey.specs.Texts.{key_text, node_text, letter_text}
 use Rattle.journey.proofs.TextParts.{Lacks, cut_once, letter_tells, letter_is_word, letter_once, id_once, lacks_by_test}
 
@@ -70,10 +72,13 @@ module _ (n : NetworkLists) (network : IsNetwork n) where
   unfolding name_of
   name_word stop lt = rw (unwrap_or-slice_get n.stop_names stop []) (name_is_word (get_or n.stop_names stop []) (network.names_are stop [] lt))
 
+  mode_is_letter : (mode : Mode) → number_of_mode mode < 14
+  mode_is_letter mode = let low = number_is_low mode in omega (arith, low)
+
   -- ---- which node has a key
 
   abbrev IsNodeOf : ℕ → NodeKey → Type 0
-  IsNodeOf v (Road mode id) = (mode < 3) × IsId id × ((node : Node) × (slice_get n.roads v ≡ Some node) × (node.key ≡ Road mode id))
+  IsNodeOf v (Road mode id) = IsId id × ((node : Node) × (slice_get n.roads v ≡ Some node) × (node.key ≡ Road mode id))
   IsNodeOf v (Stop stop) = (stop < length n.stop_names) × (v ≡ length n.roads + stop)
   IsNodeOf v (Switch id) = IsId id × ((k : ℕ) × (node : Node) × (v ≡ length n.roads + length n.stops + k) × (slice_get n.switches k ≡ Some node) × (node.key ≡ Switch id))
 
@@ -86,7 +91,7 @@ module _ (n : NetworkLists) (network : IsNetwork n) where
   held xs k node lt is = slice_get-get_or xs k node lt ∙ ap Some (sym is)
 
   road_key : (v : ℕ) (node : Node) → slice_get n.roads v ≡ Some node → (key : NodeKey) → node.key ≡ key → IsRoad key → IsNodeOf v key
-  road_key v node at (Road mode id) is road = (road.0, road.1, (node, at, is))
+  road_key v node at (Road mode id) is road = (road, (node, at, is))
   road_key v node at (Stop stop) is road = absurd road
   road_key v node at (Switch id) is road = absurd road
 
@@ -142,14 +147,14 @@ module _ (n : NetworkLists) (network : IsNetwork n) where
 
   key_word : (v : ℕ) (key : NodeKey) → IsNodeOf v key → IsWord (key_text n key)
   unfolding name_of
-  key_word v (Road mode id) (few, is, _) =
-      All-append (λ b. 32 < b) (letter_text mode) (58 ∷ signed_decimal id) (letter_is_word mode) (All-cons (λ b. 32 < b) 58 (signed_decimal id) (omega arith) (signed_is_word id (omega (arith, is))))
+  key_word v (Road mode id) (is, _) =
+      All-append (λ b. 32 < b) (letter_text (number_of_mode mode)) (58 ∷ signed_decimal id) (letter_is_word (number_of_mode mode)) (All-cons (λ b. 32 < b) 58 (signed_decimal id) (omega arith) (signed_is_word id (omega (arith, is))))
   key_word v (Stop stop) (lt, _) = All-append (λ b. 32 < b) (codes "stop:") (name_of stop) (word_by_test (codes "stop:") refl) (name_word stop lt)
   key_word v (Switch id) (is, _) = All-append (λ b. 32 < b) (codes "switch:") (signed_decimal id) (word_by_test (codes "switch:") refl) (signed_is_word id (omega (arith, is)))
 
   -- what stands before the colon, and what stands behind it
   abbrev front : NodeKey → List ℕ
-  front (Road mode id) = letter_text mode
+  front (Road mode id) = letter_text (number_of_mode mode)
   front (Stop stop) = codes "stop"
   front (Switch id) = codes "switch"
 
@@ -164,25 +169,25 @@ module _ (n : NetworkLists) (network : IsNetwork n) where
   key_cut (Switch id) = refl
 
   front_lacks : (v : ℕ) (key : NodeKey) → IsNodeOf v key → Lacks 58 (front key)
-  front_lacks v (Road mode id) (few, _, _) = (letter_tells mode (omega (arith, few))).plain
+  front_lacks v (Road mode id) of = (letter_tells (number_of_mode mode) (mode_is_letter mode)).plain
   front_lacks v (Stop stop) of = lacks_by_test 58 (codes "stop") refl
   front_lacks v (Switch id) of = lacks_by_test 58 (codes "switch") refl
 
-  no_letter : (mode : ℕ) (text : List ℕ) → mode < 3 → position (λ known. bytes_eq known text) letter_names ≡ None → letter_text mode ≡ text → ⊥
-  no_letter mode text few none e =
-      let again = (letter_tells mode (omega (arith, few))).again in
-      let there : Some mode ≡ None = sym again ∙ ap (λ t. position (λ known. bytes_eq known t) letter_names) e ∙ none in
+  no_letter : (mode : Mode) (text : List ℕ) → position (λ known. bytes_eq known text) letter_names ≡ None → letter_text (number_of_mode mode) ≡ text → ⊥
+  no_letter mode text none e =
+      let again = (letter_tells (number_of_mode mode) (mode_is_letter mode)).again in
+      let there : Some (number_of_mode mode) ≡ None = sym again ∙ ap (λ t. position (λ known. bytes_eq known t) letter_names) e ∙ none in
       cc
 
   by_parts : (v w : ℕ) (a b : NodeKey) → IsNodeOf v a → IsNodeOf w b → front a ≡ front b → back a ≡ back b → v ≡ w
   unfolding name_of
-  by_parts v w (Road mode id) (Road other other_id) (few, is, (node, at, key)) (less, are, (row, there, same)) e f =
-      let modes = letter_once mode other (omega (arith, few)) (omega (arith, less)) e in
+  by_parts v w (Road mode id) (Road other other_id) (is, (node, at, key)) (are, (row, there, same)) e f =
+      let modes = mode_by_number mode other (letter_once (number_of_mode mode) (number_of_mode other) (mode_is_letter mode) (mode_is_letter other) e) in
       let ids = id_once id other_id is are f in
       node_place_once n.roads network.roads_ascend v w node row at there (key ∙ ap₂ (λ m i. Road m i) modes ids ∙ sym same)
-  by_parts v w (Road mode id) (Stop stop) (few, _, _) of e f = absurd (no_letter mode (codes "stop") few refl e)
-  by_parts v w (Road mode id) (Switch other_id) (few, _, _) of e f = absurd (no_letter mode (codes "switch") few refl e)
-  by_parts v w (Stop stop) (Road mode id) of (few, _, _) e f = absurd (no_letter mode (codes "stop") few refl (sym e))
+  by_parts v w (Road mode id) (Stop stop) of ov e f = absurd (no_letter mode (codes "stop") refl e)
+  by_parts v w (Road mode id) (Switch other_id) of ov e f = absurd (no_letter mode (codes "switch") refl e)
+  by_parts v w (Stop stop) (Road mode id) of ov e f = absurd (no_letter mode (codes "stop") refl (sym e))
   by_parts v w (Stop stop) (Stop other) (lt, there) (less, where_) e f =
       let second = name_held other less in
       let first = name_held stop lt in
@@ -190,7 +195,7 @@ module _ (n : NetworkLists) (network : IsNetwork n) where
       let same : stop ≡ other = place_once name_cmp n.stop_names network.names_ascend stop other (name_of other) (name_of other) (first ∙ ap Some f) second names names in
       there ∙ ap (λ s. length n.roads + s) same ∙ sym where_
   by_parts v w (Stop stop) (Switch other_id) of ov e f = absurd (cc)
-  by_parts v w (Switch id) (Road mode other_id) of (few, _, _) e f = absurd (no_letter mode (codes "switch") few refl (sym e))
+  by_parts v w (Switch id) (Road mode other_id) of ov e f = absurd (no_letter mode (codes "switch") refl (sym e))
   by_parts v w (Switch id) (Stop stop) of ov e f = absurd (cc)
   by_parts v w (Switch id) (Switch other_id) (is, (k, node, there, at, key)) (are, (l, row, where_, stands, same)) e f =
       let ids = id_once id other_id is are f in

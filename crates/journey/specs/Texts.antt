@@ -8,6 +8,7 @@ use Rattle.service_days.specs.Clock.{clock_text_of}
 use Rattle.service_days.specs.Days.{date_of, numbers_of}
 use Rattle.timetable_arcs.specs.Trips.{TripLists}
 use Rattle.timetable_arcs.specs.Patterns.{no_trip}
+use Rattle.plan_base.specs.Modes.{number_of_mode}
 use Rattle.plan_base.specs.LetterNames.{letter_names}
 use Rattle.mode_network.specs.declared.nodes.Node.{Node}
 use Rattle.mode_network.specs.declared.nodes.NodeKey.{NodeKey}
@@ -40,7 +41,7 @@ IsThere n (Ride trip day board alight) = (trip < length n.trips) × (day < numbe
 
 -- foot:ID, bike:ID or car:ID, stop:NAME, or switch:ID
 abbrev pub key_text : NetworkLists → NodeKey → List ℕ
-key_text n (RoadKey mode id) = letter_text mode ++ 58 ∷ signed_decimal id
+key_text n (RoadKey mode id) = letter_text (number_of_mode mode) ++ 58 ∷ signed_decimal id
 key_text n (StopKey stop) = codes "stop:" ++ unwrap_or (slice_get n.stop_names stop) []
 key_text n (SwitchKey id) = codes "switch:" ++ signed_decimal id
 

@@ -78,9 +78,9 @@ fn way_of(network: &Network, v: u32, step: Step) -> (u32, Option<u8>)
 {
     match step {
         Step::Wait { .. } => (v, None),
-        Step::Road { to } => (to, network.mode(v)),
+        Step::Road { to } => (to, network.letter(v)),
         Step::Link { to } => (to, None),
-        Step::Stand => (v, network.mode(v)),
+        Step::Stand => (v, network.letter(v)),
         Step::Ride { trip, alight, .. } => match alighting(network, trip, alight) {
             Some((node, letter)) => (node, Some(letter)),
             None => (v, None),

@@ -37,7 +37,7 @@ pub fn step_end(network: &Network, v: u32, t: Time, step: Step) -> Option<StepEn
                 Some(ms) => Some(StepEnd {
                     node: to,
                     at: t + Time::from(ms),
-                    letter: network.mode(v),
+                    letter: network.letter(v),
                 }),
                 None => None,
             }
@@ -53,11 +53,11 @@ pub fn step_end(network: &Network, v: u32, t: Time, step: Step) -> Option<StepEn
             }
         }
         Step::Stand => {
-            match network.mode(v) {
-                Some(mode) => Some(StepEnd {
+            match network.letter(v) {
+                Some(letter) => Some(StepEnd {
                     node: v,
                     at: t,
-                    letter: Some(mode),
+                    letter: Some(letter),
                 }),
                 None => None,
             }

@@ -34,7 +34,7 @@ fn push_key(out: &mut Vec<u8>, network: &Network, key: NodeKey) -> Result<(), Al
 {
     match key {
         NodeKey::Road(mode, id) => {
-            push_letter(out, mode)?;
+            push_letter(out, mode.number())?;
             out.push(b':')?;
             push_signed(out, id)
         }

@@ -16,11 +16,13 @@ use Rattle.timetable_arcs.proofs.TripLemmas.{known_stops}
 use Rattle.timetable_arcs.proofs.TableLemmas.{next_in_words, last_in_words, trip_of_pattern, never_back}
 use Rattle.mode_network.specs.declared.nodes.Arc.{Arc}
 use Rattle.mode_network.specs.declared.steps.Step.{Step}
-use Rattle.mode_network.specs.NetworkLists.{NetworkLists, nodes_of, mode_at, stop_node}
+use Rattle.plan_base.specs.Modes.{number_of_mode}
+use Rattle.plan_base.specs.declared.modes.Mode.{Mode}
+use Rattle.mode_network.specs.NetworkLists.{NetworkLists, nodes_of, letter_at, mode_at, stop_node}
 use Rattle.mode_network.specs.Rules.{IsNetwork, joins_modes, is_same_mode}
 use Rattle.mode_network.specs.Timetables.{IsTimetableOf}
 use Rattle.mode_network.specs.Journeys.{IsStep}
-use Rattle.mode_network.proofs.RuleLemmas.{both, some_is}
+use Rattle.mode_network.proofs.RuleLemmas.{both, some_is, same_mode_is}
 use Rattle.plain_graph.specs.declared.plain.PlainArc.{PlainArc}
 use Rattle.plain_graph.specs.declared.plain.PlainArc.TheVariants.{Road, Link, Stand, Ride}
 use Rattle.plain_graph.specs.PlainArcs.{pattern_call, plain_arc, graph_arc, arrival, run_at, no_arc}
@@ -40,7 +42,7 @@ pub record IsRideInto (n : NetworkLists) (t : TableLists) (v : ℕ) (ride : Ride
 abbrev pub IsInto : NetworkLists → TableLists → ℕ → PlainArc → Type 0
 IsInto n t v (Road arc) = Contains n.arcs arc × (arc.to ≡ v)
 IsInto n t v (Link link) = Contains n.links link × (link.to ≡ v)
-IsInto n t v Stand = (mode : ℕ) × (mode_at n.roads v ≡ Some mode)
+IsInto n t v Stand = (mode : ℕ) × (letter_at n.roads v ≡ Some mode)
 IsInto n t v (Ride ride) = IsRideInto n t v ride
 
 abbrev ride_from : ℕ → ℕ → ℕ → PlainArc
@@ -145,16 +147,16 @@ module _ (n : NetworkLists) (network : IsNetwork n) (t : TableLists) (table : Is
     pub is : IsStep n v t0 step w at letter
     pub soon : at ≤ u
 
-  same_of : (a b : Option ℕ) → is_same_mode a b ≡ true → a ≡ b
-  same_of (Some a) (Some b) e = ap Some (let h = e in grind (arith, nat_tests))
+  same_of : (a b : Option Mode) → is_same_mode a b ≡ true → a ≡ b
+  same_of (Some a) (Some b) e = ap Some (same_mode_is a b e)
   same_of (Some a) None e = cc
   same_of None b e = cc
 
   -- a road arc has one mode at both ends
-  pub one_mode : (arc : Arc) → Contains n.arcs arc → mode_at n.roads arc.from ≡ mode_at n.roads arc.to
+  pub one_mode : (arc : Arc) → Contains n.arcs arc → letter_at n.roads arc.from ≡ letter_at n.roads arc.to
   one_mode arc there =
       let joins = All-contains (λ (a : Arc). joins_modes n.roads a ≡ true) n.arcs arc network.arcs_join there in
-      same_of (mode_at n.roads arc.from) (mode_at n.roads arc.to) (both (is_same_mode (mode_at n.roads arc.from) (mode_at n.roads arc.to)) (not (arc.from == arc.to)) joins).0
+      ap (option_map number_of_mode) (same_of (mode_at n.roads arc.from) (mode_at n.roads arc.to) (both (is_same_mode (mode_at n.roads arc.from) (mode_at n.roads arc.to)) (not (arc.from == arc.to)) joins).0)
 
   -- an arc out of v that is taken at t0 is at w by u, and this is its letter
   pub record IsTakenBy (v t0 w u : ℕ) (letter : Option ℕ) (a : PlainArc) : Type 0 where
@@ -176,7 +178,7 @@ module _ (n : NetworkLists) (network : IsNetwork n) (t : TableLists) (table : Is
         arrives = refl;
         soon = omega arith;
         to = to;
-        same = one_mode arc there ∙ ap (mode_at n.roads) to;
+        same = one_mode arc there ∙ ap (letter_at n.roads) to;
       }
   arc_taken deadline v s s2 t0 (Link link) (there, to) e le early =
       let is = some_is e in
@@ -256,7 +258,7 @@ module _ (n : NetworkLists) (network : IsNetwork n) (t : TableLists) (table : Is
         begins_then = refl;
         soon = omega arith;
         to = out.begins;
-        same = ap (mode_at n.roads) (sym to) ∙ sym (one_mode arc there) ∙ ap (mode_at n.roads) out.begins ∙ same;
+        same = ap (letter_at n.roads) (sym to) ∙ sym (one_mode arc there) ∙ ap (letter_at n.roads) out.begins ∙ same;
       }
   back_of deadline v t0 w u at letter early (Link link) out e soon to same =
       let is = some_is e in
@@ -266,12 +268,12 @@ module _ (n : NetworkLists) (network : IsNetwork n) (t : TableLists) (table : Is
       let is = some_is e in
       record {
         arc = Stand;
-        into = (mode, subst (λ x. mode_at n.roads x ≡ Some mode) to has);
+        into = (mode, subst (λ x. letter_at n.roads x ≡ Some mode) to has);
         moment = deadline - u;
         begins_then = refl;
         soon = omega arith;
         to = sym to;
-        same = ap (mode_at n.roads) (sym to) ∙ same;
+        same = ap (letter_at n.roads) (sym to) ∙ same;
       }
   back_of deadline v t0 w u at letter early (Ride ride) out e soon to same = on_run (run_at t t0 ride) refl e
     where

@@ -10,10 +10,10 @@ use Rattle.timetable_arcs.specs.Table.{IsTable}
 use Rattle.timetable_arcs.proofs.TripLemmas.{known_stops}
 use Rattle.timetable_arcs.proofs.TableLemmas.{trip_of_pattern}
 use Rattle.mode_network.specs.declared.nodes.Arc.{Arc}
-use Rattle.mode_network.specs.NetworkLists.{NetworkLists, nodes_of, mode_at}
+use Rattle.mode_network.specs.NetworkLists.{NetworkLists, nodes_of, letter_at}
 use Rattle.mode_network.specs.Rules.{IsNetwork}
 use Rattle.mode_network.specs.Timetables.{IsTimetableOf}
-use Rattle.mode_network.proofs.RuleLemmas.{some_is, links_in_range, arcs_in_range, mode_is_road, nodes_hold_roads}
+use Rattle.mode_network.proofs.RuleLemmas.{some_is, links_in_range, arcs_in_range, letter_is_road, nodes_hold_roads}
 use Rattle.plain_graph.specs.declared.plain.PlainArc.{PlainArc}
 use Rattle.plain_graph.specs.declared.plain.PlainArc.TheVariants.{Road, Link, Stand, Ride}
 use Rattle.plain_graph.specs.PlainArcs.{pattern_call}
@@ -44,7 +44,7 @@ module _ (n : NetworkLists) (network : IsNetwork n) (t : TableLists) (table : Is
       omega (arith, nodes_hold_roads n)
   node_into v (Link link) (there, to) =
       let inside = (All-contains (λ (a : Arc). (a.from < length (nodes_of n)) × (a.to < length (nodes_of n))) n.links link (links_in_range n network) there).1 in omega arith
-  node_into v Stand (mode, has) = let inside = (mode_is_road n network v mode has).0 in omega (arith, nodes_hold_roads n)
+  node_into v Stand (mode, has) = let inside = (letter_is_road n network v mode has).0 in omega (arith, nodes_hold_roads n)
   node_into v (Ride ride) into =
       let alights = into.alights in
       let known = known_stops t.stops (pattern_trip t ride.pattern) (trip_of_pattern t table ride.pattern alights.is_pattern).known in
@@ -52,9 +52,9 @@ module _ (n : NetworkLists) (network : IsNetwork n) (t : TableLists) (table : Is
       (stops_in_range n network t table of (pattern_call t ride.pattern ride.alight).stop
       (subst (λ stops. (pattern_call t ride.pattern ride.alight).stop < stops) of.stops (known ride.alight no_call alights.within)))
 
-  mode_fits : (v : ℕ) (o : Option ℕ) → mode_at n.roads v ≡ o → IfSome o IsLetter
+  mode_fits : (v : ℕ) (o : Option ℕ) → letter_at n.roads v ≡ o → IfSome o IsLetter
   mode_fits v None e = tt
-  mode_fits v (Some mode) e = let low = (mode_is_road n network v mode e).1 in omega arith
+  mode_fits v (Some mode) e = let low = (letter_is_road n network v mode e).1 in omega arith
 
   letter_fits : (v : ℕ) (a : PlainArc) → IsInto n t v a → IfSome (mirror_arc n t v a).letter IsLetter
   letter_fits v (Road arc) into = mode_fits v _ refl

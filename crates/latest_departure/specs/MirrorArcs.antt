@@ -6,7 +6,7 @@ use Rattle.search_laws.specs.declared.graph.GraphArc.{GraphArc}
 use Rattle.timetable_arcs.specs.declared.trips.Instance.{Instance}
 use Rattle.timetable_arcs.specs.declared.rides.Ride.{Ride as RideCalls}
 use Rattle.timetable_arcs.specs.Patterns.{TableLists, pattern_trip, last_run, departs}
-use Rattle.mode_network.specs.NetworkLists.{NetworkLists, nodes_of, mode_at, stop_node}
+use Rattle.mode_network.specs.NetworkLists.{NetworkLists, nodes_of, letter_at, stop_node}
 use Rattle.plain_graph.specs.PlainArcs.{pattern_call}
 use Rattle.plain_graph.specs.declared.plain.PlainArc.{PlainArc}
 use Rattle.plain_graph.specs.declared.plain.PlainArc.TheVariants.{Road, Link, Stand, Ride}
@@ -39,9 +39,9 @@ arcs_into rows v = flat_map plain_arcs_of (rows v)
 
 -- where an arc comes from, and its letter
 abbrev pub mirror_arc : NetworkLists → TableLists → ℕ → PlainArc → GraphArc
-mirror_arc n t v (Road arc) = record { to = arc.from; letter = mode_at n.roads v }
+mirror_arc n t v (Road arc) = record { to = arc.from; letter = letter_at n.roads v }
 mirror_arc n t v (Link link) = record { to = link.from; letter = None }
-mirror_arc n t v Stand = record { to = v; letter = mode_at n.roads v }
+mirror_arc n t v Stand = record { to = v; letter = letter_at n.roads v }
 mirror_arc n t v (Ride ride) = record { to = stop_node n (pattern_call t ride.pattern ride.board).stop; letter = Some (pattern_trip t ride.pattern).letter }
 
 -- the run that a ride takes which is to be over by the deadline less s: of those that are, the one that departs last. None is where one may not
@@ -83,7 +83,7 @@ pub record AlightsAt (n : NetworkLists) (t : TableLists) (v pattern call : ℕ) 
 abbrev pub LeadsInto : NetworkLists → TableLists → ℕ → Source → Type 0
 LeadsInto n t v (source.Road arc) = Contains n.arcs arc × (arc.to ≡ v)
 LeadsInto n t v (source.Link link) = Contains n.links link × (link.to ≡ v)
-LeadsInto n t v source.Stand = (mode : ℕ) × (mode_at n.roads v ≡ Some mode)
+LeadsInto n t v source.Stand = (mode : ℕ) × (letter_at n.roads v ≡ Some mode)
 LeadsInto n t v (source.Alight pattern call) = AlightsAt n t v pattern call
 
 -- the row of each node lists exactly what leads to it

@@ -6,7 +6,7 @@ use Rattle.search_laws.specs.declared.graph.Way.{Way}
 use Rattle.timetable_arcs.specs.declared.trips.Instance.{Instance}
 use Rattle.timetable_arcs.specs.declared.rides.Ride.{Ride as RideCalls}
 use Rattle.timetable_arcs.specs.Patterns.{TableLists, pattern_trip, last_run, departs}
-use Rattle.mode_network.specs.NetworkLists.{NetworkLists, mode_at, stop_node}
+use Rattle.mode_network.specs.NetworkLists.{NetworkLists, letter_at, stop_node}
 use Rattle.plain_graph.specs.PlainArcs.{pattern_call}
 use Rattle.latest_departure.specs.declared.source.Source.{Source}
 use Rattle.latest_departure.specs.declared.source.Source.TheVariants as source
@@ -31,8 +31,8 @@ mirror_run_ways n t deadline place pattern call (Some run) = flat_map (λ board.
 -- What a source of v stands for, as the arcs from this place on. One run makes all rides to a call: of those that are over by the deadline less s, the one
 -- that departs last.
 abbrev pub source_ways : NetworkLists → TableLists → ℕ → ℕ → ℕ → ℕ → ℕ → Source → List Way
-source_ways n t deadline v s letters place (source.Road arc) = open_way letters place (record { to = arc.from; letter = mode_at n.roads v }) (Some (s + arc.ms))
+source_ways n t deadline v s letters place (source.Road arc) = open_way letters place (record { to = arc.from; letter = letter_at n.roads v }) (Some (s + arc.ms))
 source_ways n t deadline v s letters place (source.Link link) = open_way letters place (record { to = link.from; letter = None }) (Some (s + link.ms))
-source_ways n t deadline v s letters place source.Stand = open_way letters place (record { to = v; letter = mode_at n.roads v }) (Some s)
+source_ways n t deadline v s letters place source.Stand = open_way letters place (record { to = v; letter = letter_at n.roads v }) (Some s)
 source_ways n t deadline v s letters place (source.Alight pattern call) =
     if nat_le s deadline && is_open letters (Some (pattern_trip t pattern).letter) then mirror_run_ways n t deadline place pattern call (last_run t pattern call (deadline - s)) else []

@@ -35,7 +35,8 @@ fn print_arcs(rt: &HostRuntime, objects: &Objects) {
         for row in &rows {
             out::shown(rt, "", row.from);
             out::shown(rt, " to ", row.to);
-            out::shown(rt, " by ", row.mode);
+            out::text(rt, " by ");
+            out::text(rt, row.mode.name());
             out::shown(rt, " in ", row.ms);
             out::text(rt, "; ");
         }

@@ -11,6 +11,7 @@ use Rattle.std.proofs.lemmas.Int.{ints, by_lt_z}
 use Rattle.std.proofs.lemmas.Float.{T_from_true}
 use Rattle.std.proofs.lemmas.Bool.{ltb-true, ltb-false}
 use Rattle.std.proofs.lemmas.Option.{slice_get_cases, slice_get_within, get_or_from_slice_get}
+use Rattle.plan_base.specs.declared.modes.Mode.{Mode}
 use Rattle.mode_network.specs.declared.nodes.Node.{Node}
 use Rattle.mode_network.specs.declared.nodes.NodeKey.{NodeKey}
 use Rattle.mode_network.specs.declared.nodes.NodeKey.TheVariants.{Road, Stop, Switch}
@@ -82,7 +83,7 @@ module _ (roads : List Node) (ascend : IsAscending node_cmp roads) (id : ℤ) wh
       (low : IsPartitionPoint (λ (node : Node). int_lt (id_of node) id ≡ true) (λ node. int_lt (id_of node) id ≡ false) roads first)
       (high : IsPartitionPoint (λ (node : Node). int_le (id_of node) id ≡ true) (λ node. int_le (id_of node) id ≡ false) roads end)
       (within : end ≤ length roads) where
-    keyed : (key : NodeKey) → IsRoad key → (rank_of key).0 ≡ id → (mode : ℕ) × (key ≡ Road mode id)
+    keyed : (key : NodeKey) → IsRoad key → (rank_of key).0 ≡ id → (mode : Mode) × (key ≡ Road mode id)
     keyed (Road mode i) road same = (mode, ap (Road mode) same)
     keyed (Stop stop) road same = absurd road
     keyed (Switch i) road same = absurd road

@@ -1,5 +1,5 @@
 -- What follows for the lists of a network from that no rule is broken.
-use Rattle.std.proofs.Common.{◌≡◌, ℕ, ◌+◌, ◌<◌, ◌≤◌, length-append, ◌++◌, subst, not, ◌&&◌, nat_lt, suc, zero, Bool, true, false, List, [], ◌∷◌, length, Option, None, Some, cond, refl, arith}
+use Rattle.std.proofs.Common.{◌≡◌, ℕ, ◌+◌, ◌<◌, ◌≤◌, length-append, ◌++◌, subst, not, ◌&&◌, nat_lt, suc, zero, Bool, true, false, List, [], ◌∷◌, length, Option, None, Some, cond, refl, arith, ap, sym, ◌∙◌, lit<}
 use Rattle.std.proofs.Math.Nat.{le_trans}
 use Rattle.std.specs.Prelude.{All, slice_index_or}
 use Rattle.std.specs.Ordering.{is_lt}
@@ -7,9 +7,12 @@ use Rattle.std.specs.declared.cmp.Ordering.{Ordering}
 use Rattle.std.specs.declared.cmp.Ordering.TheVariants.{Less, Equal, Greater}
 use Rattle.std.specs.Cmp.{IsTotalOrder}
 use Rattle.std.specs.List.{position, position_or_len, prefix_len}
-use Rattle.std.proofs.lemmas.Bool.{ltb-true, ltb-false}
+use Rattle.std.proofs.lemmas.Bool.{ltb-true, ltb-false, eqb-true, eq-eqb}
 use Rattle.std.proofs.lemmas.List.Kept.{AllPairs-cons}
 use Rattle.std.proofs.lemmas.List.Elements.{All-cons}
+use Rattle.plan_base.specs.Modes.{mode_numbered, number_of_mode}
+use Rattle.plan_base.specs.declared.modes.Mode.{Mode}
+use Rattle.plan_base.specs.declared.modes.Mode.TheVariants.{Foot, Bike, Car}
 use Rattle.plan_base.specs.declared.limits.Kind.{Kind}
 use Rattle.mode_network.specs.declared.faults.NetFault.{NetFault}
 use Rattle.std.proofs.lemmas.Cmp.{then_total, on_total, nat_cmp_total, int_cmp_total, nat_list_cmp_total}
@@ -17,12 +20,10 @@ use Rattle.plan_base.specs.declared.limits.Caps.{Caps}
 use Rattle.timetable_arcs.specs.TripRules.{AreTrips}
 use Rattle.mode_network.specs.declared.nodes.Node.{Node}
 use Rattle.mode_network.specs.declared.nodes.Arc.{Arc}
-use Rattle.std.specs.Prelude.{slice_get, option_and_then}
-use Rattle.std.proofs.lemmas.Option.{slice_get_within, get_or_from_slice_get}
-use Rattle.mode_network.specs.declared.nodes.NodeKey.{NodeKey}
-use Rattle.mode_network.specs.declared.nodes.NodeKey.TheVariants.{Road as RoadKey, Stop as StopKey, Switch as SwitchKey}
-use Rattle.mode_network.specs.NetworkLists.{NetworkLists, nodes_of, mode_of, mode_at}
-use Rattle.mode_network.specs.Rules.{rank_of, node_cmp, name_cmp, arc_cmp, first_unsorted, lists_fault, IsAscending, IsRoad, is_same_mode, AreNamed, AreNames, AreParts, HaveDurations, IsNetwork, or_else, end_or_order_fault, unsorted_fault}
+use Rattle.std.specs.Prelude.{slice_get, option_and_then, option_map}
+use Rattle.std.proofs.lemmas.Option.{option_and_then_some, slice_get_within}
+use Rattle.mode_network.specs.NetworkLists.{NetworkLists, nodes_of, mode_of, mode_at, letter_at}
+use Rattle.mode_network.specs.Rules.{rank_of, node_cmp, name_cmp, arc_cmp, first_unsorted, lists_fault, IsAscending, is_same_mode, AreNamed, AreNames, AreParts, HaveDurations, IsNetwork, or_else, end_or_order_fault, unsorted_fault}
 
 less_of : (o : Ordering) → is_lt o ≡ true → o ≡ Less
 less_of Less e = refl
@@ -151,22 +152,43 @@ links_in_range n network k d h =
 pub some_is : {X : Type 0} {a b : X} → Some a ≡ Some b → a ≡ b
 some_is e = cc
 
-module _ (n : NetworkLists) (network : IsNetwork n) where
-  -- a node that has a mode is a road node, and its mode is one of the three
-  pub mode_is_road : (v mode : ℕ) → mode_at n.roads v ≡ Some mode → (v < length n.roads) × (mode < 3)
-  mode_is_road v mode e = on_node (slice_get n.roads v) refl e
-    where
-      on_key : (key : NodeKey) → IsRoad key → mode_of key ≡ Some mode → mode < 3
-      on_key (RoadKey m id) road e = subst (λ k. k < 3) (some_is e) road.0
-      on_key (StopKey stop) road e = absurd road
-      on_key (SwitchKey id) road e = absurd road
+-- ---- modes by their numbers
 
-      on_node : (o : Option Node) → slice_get n.roads v ≡ o → option_and_then (λ (node : Node). mode_of node.key) o ≡ Some mode → (v < length n.roads) × (mode < 3)
-      on_node None is e = cc
-      on_node (Some node) is e =
-          let inside = slice_get_within n.roads v node is in
-          let road = subst (λ (x : Node). IsRoad x.key) (get_or_from_slice_get n.roads v node node is) (network.parts.roads_are v node inside) in
-          (inside, on_key node.key road e)
+pub number_is_low : (mode : Mode) → number_of_mode mode < 3
+number_is_low Foot = lit< tt
+number_is_low Bike = lit< tt
+number_is_low Car = lit< tt
+
+pub mode_by_number : (a b : Mode) → number_of_mode a ≡ number_of_mode b → a ≡ b
+mode_by_number a b e = some_is (numbered a ∙ (ap mode_numbered e ∙ sym (numbered b)))
+  where
+    numbered : (mode : Mode) → Some mode ≡ mode_numbered (number_of_mode mode)
+    numbered Foot = refl
+    numbered Bike = refl
+    numbered Car = refl
+
+-- the letter of a node whose mode is known
+pub letter_of : (roads : List Node) (v : ℕ) (mode : Mode) → mode_at roads v ≡ Some mode → letter_at roads v ≡ Some (number_of_mode mode)
+letter_of roads v mode e = ap (option_map number_of_mode) e
+
+pub same_mode_is : (a b : Mode) → is_same_mode (Some a) (Some b) ≡ true → a ≡ b
+same_mode_is a b e = mode_by_number a b (eqb-true _ _ e)
+
+pub mode_is_same : (mode : Mode) → is_same_mode (Some mode) (Some mode) ≡ true
+mode_is_same mode = eq-eqb _ _ refl
+
+module _ (n : NetworkLists) (network : IsNetwork n) where
+  -- a node that has a mode is a road node
+  pub mode_inside : (v : ℕ) (mode : Mode) → mode_at n.roads v ≡ Some mode → v < length n.roads
+  mode_inside v mode e = option_and_then_some (λ (node : Node). mode_of node.key) (slice_get n.roads v) mode e (λ node is _. slice_get_within n.roads v node is)
+
+  -- so is one that has a letter, and its letter is one of the three
+  pub letter_is_road : (v letter : ℕ) → letter_at n.roads v ≡ Some letter → (v < length n.roads) × (letter < 3)
+  letter_is_road v letter e = on_mode (mode_at n.roads v) refl e
+    where
+      on_mode : (o : Option Mode) → mode_at n.roads v ≡ o → option_map number_of_mode o ≡ Some letter → (v < length n.roads) × (letter < 3)
+      on_mode None is e = cc
+      on_mode (Some mode) is e = (mode_inside v mode is, subst (λ k. k < 3) (some_is e) (number_is_low mode))
 
   pub nodes_hold_roads : length n.roads ≤ length (nodes_of n)
   nodes_hold_roads = omega (arith, length-append (n.roads ++ n.stops) n.switches, length-append n.roads n.stops)
@@ -178,7 +200,7 @@ module _ (n : NetworkLists) (network : IsNetwork n) where
       arc : Arc
       arc = slice_index_or n.arcs place d
 
-      on_modes : (a b : Option ℕ) → mode_at n.roads arc.from ≡ a → mode_at n.roads arc.to ≡ b → is_same_mode a b ≡ true → (arc.from < length n.roads) × (arc.to < length n.roads)
-      on_modes (Some a) (Some b) at_from at_to e = ((mode_is_road arc.from a at_from).0, (mode_is_road arc.to b at_to).0)
+      on_modes : (a b : Option Mode) → mode_at n.roads arc.from ≡ a → mode_at n.roads arc.to ≡ b → is_same_mode a b ≡ true → (arc.from < length n.roads) × (arc.to < length n.roads)
+      on_modes (Some a) (Some b) at_from at_to e = (mode_inside arc.from a at_from, mode_inside arc.to b at_to)
       on_modes (Some a) None at_from at_to e = cc
       on_modes None b at_from at_to e = cc

@@ -1,7 +1,6 @@
 -- Which nodes an endpoint of a query names.
 use Rattle.std.specs.Prelude.{◌≡◌, ℕ, ℤ, ◌<◌, ◌≤◌, ◌↔◌, List, [], map, filter, Option, Some, None, slice_get, option_map}
 use Rattle.plan_base.specs.declared.modes.Mode.{Mode}
-use Rattle.plan_base.specs.Modes.{number_of_mode}
 use Rattle.plan_base.specs.declared.places.Place.{Place}
 use Rattle.geo_length.specs.Nearest.{Point, IsClosest}
 use Rattle.mode_network.specs.declared.nodes.Node.{Node}
@@ -12,11 +11,11 @@ use Rattle.mode_network.specs.NetworkLists.{NetworkLists, mode_of, stop_node}
 use Rattle.mode_network.specs.Rules.{is_same_mode, rank_of}
 
 -- the node is the OSM node of this id, in the layer of this mode; and of some mode
-abbrev pub IsCopyIn : List Node → ℕ → ℤ → ℕ → Type 0
+abbrev pub IsCopyIn : List Node → Mode → ℤ → ℕ → Type 0
 IsCopyIn roads mode id v = option_map (λ (node : Node). node.key) (slice_get roads v) ≡ Some (RoadKey mode id)
 
 abbrev pub IsRoadCopy : List Node → ℤ → ℕ → Type 0
-IsRoadCopy roads id v = (mode : ℕ) × IsCopyIn roads mode id v
+IsRoadCopy roads id v = (mode : Mode) × IsCopyIn roads mode id v
 
 -- the node is the stop of this name
 abbrev pub IsStopCopy : NetworkLists → List ℕ → ℕ → Type 0
@@ -44,7 +43,7 @@ pub record IsNearCopy (roads : List Node) (place : Place) (v : ℕ) : Type 0 whe
 
 -- the road nodes of a mode, and their points
 abbrev pub layer_nodes : List Node → Mode → List Node
-layer_nodes roads mode = filter (λ (node : Node). is_same_mode (mode_of node.key) (Some (number_of_mode mode))) roads
+layer_nodes roads mode = filter (λ (node : Node). is_same_mode (mode_of node.key) (Some mode)) roads
 
 abbrev pub layer_points : List Node → Mode → List Point
 layer_points roads mode = road_points (layer_nodes roads mode)
@@ -58,7 +57,7 @@ pub record IsNearCopyIn (roads : List Node) (mode : Mode) (place : Place) (v : �
   pub mm : ℕ
   pub nearest : IsNearestIn roads mode place (Some (id, mm))
   pub within : mm ≤ 2000000
-  pub copy : IsCopyIn roads (number_of_mode mode) id v
+  pub copy : IsCopyIn roads mode id v
 
 -- the node is a copy of the endpoint
 abbrev pub IsCopy : NetworkLists → Endpoint → ℕ → Type 0

@@ -6,7 +6,7 @@ use Rattle.timetable_arcs.specs.Trips.{TripLists, IsRide, arrival_of, departure_
 use Rattle.mode_network.specs.declared.nodes.Arc.{Arc}
 use Rattle.mode_network.specs.declared.steps.Step.{Step}
 use Rattle.mode_network.specs.declared.steps.Step.TheVariants.{Wait, Road, Link, Stand, Ride}
-use Rattle.mode_network.specs.NetworkLists.{NetworkLists, mode_at, stop_node}
+use Rattle.mode_network.specs.NetworkLists.{NetworkLists, letter_at, stop_node}
 
 -- where and when a journey starts, and its steps
 pub record Route : Type 0 where
@@ -26,9 +26,9 @@ IsDuration arcs v w None = (ms : ℕ) → Leads arcs v w ms → ⊥
 -- the step leads from the node v at the time t to the node w at the time u, and has this letter
 abbrev pub IsStep : NetworkLists → ℕ → ℕ → Step → ℕ → ℕ → Option ℕ → Type 0
 IsStep n v t (Wait until) w u letter = (t ≤ until) × (w ≡ v) × (u ≡ until) × (letter ≡ None)
-IsStep n v t (Road to) w u letter = (ms : ℕ) × Leads n.arcs v to ms × (w ≡ to) × (u ≡ t + ms) × (letter ≡ mode_at n.roads v)
+IsStep n v t (Road to) w u letter = (ms : ℕ) × Leads n.arcs v to ms × (w ≡ to) × (u ≡ t + ms) × (letter ≡ letter_at n.roads v)
 IsStep n v t (Link to) w u letter = (ms : ℕ) × Leads n.links v to ms × (w ≡ to) × (u ≡ t + ms) × (letter ≡ None)
-IsStep n v t Stand w u letter = (mode : ℕ) × (mode_at n.roads v ≡ Some mode) × (w ≡ v) × (u ≡ t) × (letter ≡ Some mode)
+IsStep n v t Stand w u letter = (mode : ℕ) × (letter_at n.roads v ≡ Some mode) × (w ≡ v) × (u ≡ t) × (letter ≡ Some mode)
 IsStep n v t (Ride trip day board alight) w u letter =
     (run : TripLists) × (on : Call) × (off : Call) × IsRide n.trips trip day board alight run on off
     × (v ≡ stop_node n on.stop) × (t ≤ departure_of n.days.bases day on)

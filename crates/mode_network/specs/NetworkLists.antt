@@ -1,4 +1,6 @@
-use Rattle.std.specs.Prelude.{ℕ, ◌+◌, ◌-◌, ◌&&◌, nat_le, nat_lt, if◌then◌else◌, List, ◌++◌, length, Option, None, Some, slice_get, option_and_then}
+use Rattle.std.specs.Prelude.{ℕ, ◌+◌, ◌-◌, ◌&&◌, nat_le, nat_lt, if◌then◌else◌, List, ◌++◌, length, Option, None, Some, slice_get, option_and_then, option_map}
+use Rattle.plan_base.specs.Modes.{number_of_mode}
+use Rattle.plan_base.specs.declared.modes.Mode.{Mode}
 use Rattle.service_days.specs.DaysMeaning.{DaysMeaning}
 use Rattle.timetable_arcs.specs.Trips.{TripLists}
 use Rattle.mode_network.specs.declared.nodes.Node.{Node}
@@ -21,15 +23,19 @@ pub record NetworkLists : Type 0 where
 abbrev pub nodes_of : NetworkLists → List Node
 nodes_of n = n.roads ++ n.stops ++ n.switches
 
--- the road mode of a node: foot is 0, bike is 1 and car is 2; a stop or a switch has none
-abbrev pub mode_of : NodeKey → Option ℕ
+-- the road mode of a node; a stop or a switch has none
+abbrev pub mode_of : NodeKey → Option Mode
 mode_of (Road mode id) = Some mode
 mode_of (Stop stop) = None
 mode_of (Switch id) = None
 
 -- the road mode of the node of this number
-abbrev pub mode_at : List Node → ℕ → Option ℕ
+abbrev pub mode_at : List Node → ℕ → Option Mode
 mode_at roads v = option_and_then (λ (node : Node). mode_of node.key) (slice_get roads v)
+
+-- and its letter
+abbrev pub letter_at : List Node → ℕ → Option ℕ
+letter_at roads v = option_map number_of_mode (mode_at roads v)
 
 -- the stop that has this node number, by its place among the stops
 abbrev pub stop_at : NetworkLists → ℕ → Option ℕ

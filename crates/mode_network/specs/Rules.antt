@@ -8,6 +8,8 @@ use Rattle.std.specs.declared.cmp.Ordering.TheVariants.{Less}
 use Rattle.std.proofs.Props.{props}
 use Rattle.plain_texts.specs.Names.{is_name}
 use Rattle.plain_texts.specs.Numbers.{IsId}
+use Rattle.plan_base.specs.Modes.{number_of_mode}
+use Rattle.plan_base.specs.declared.modes.Mode.{Mode}
 use Rattle.plan_base.specs.declared.limits.Caps.{Caps}
 use Rattle.plan_base.specs.declared.limits.Kind.{Kind}
 use Rattle.plan_base.specs.declared.limits.Kind.TheVariants.{Nodes, Arcs, Links, Stops}
@@ -24,7 +26,7 @@ use Rattle.mode_network.specs.NetworkLists.{NetworkLists, nodes_of, mode_at}
 
 -- ids and then modes: what road nodes are ordered by, and switches, which have no mode
 abbrev pub rank_of : NodeKey → ℤ × ℕ
-rank_of (Road mode id) = (id, mode)
+rank_of (Road mode id) = (id, number_of_mode mode)
 rank_of (Stop stop) = (pos 0, stop)
 rank_of (Switch id) = (id, 0)
 
@@ -52,8 +54,8 @@ first_unsorted cmp k (row ∷ next ∷ later) =
     if is_lt (cmp row next) then first_unsorted cmp (k + 1) (next ∷ later) else Some (k + 1)
 
 -- both are there, and equal
-abbrev pub is_same_mode : Option ℕ → Option ℕ → Bool
-is_same_mode (Some a) (Some b) = a == b
+abbrev pub is_same_mode : Option Mode → Option Mode → Bool
+is_same_mode (Some a) (Some b) = number_of_mode a == number_of_mode b
 is_same_mode (Some a) None = false
 is_same_mode None b = false
 
@@ -114,7 +116,7 @@ first_fault caps n = or_else (lists_fault caps n) (option_map Table (trips_fault
 
 -- what a road node, the stop at a place of its list, and a switch have as their key
 abbrev pub IsRoad : NodeKey → Type 0
-IsRoad (Road mode id) = (mode < 3) × IsId id
+IsRoad (Road mode id) = IsId id
 IsRoad (Stop stop) = ⊥
 IsRoad (Switch id) = ⊥
 

@@ -12,12 +12,13 @@ ghost use Rattle.mode_network.specs.Points.{HoldSame};
 use crate::nodes::{Arc, Node, NodeKey};
 use crate::points::road_grid;
 use geo_length::Grid;
+use plan_base::Mode;
 use std::alloc::{AllocError, Global};
 
 /// What is kept of a node: its mode if it is a road node, and how many arcs and how many links begin at lower nodes.
 #[derive(Clone, Copy)]
 pub(crate) struct NodeRow {
-    pub(crate) mode: Option<u8>,
+    pub(crate) mode: Option<Mode>,
     pub(crate) arcs: u32,
     pub(crate) links: u32,
 }
@@ -104,7 +105,7 @@ fn rows(
 }
 
 /// The mode of a road node; of any other none.
-fn mode_of(key: NodeKey) -> Option<u8>
+fn mode_of(key: NodeKey) -> Option<Mode>
     ensures { result ≡ mode_of key }
 {
     match key {
@@ -114,7 +115,7 @@ fn mode_of(key: NodeKey) -> Option<u8>
 }
 
 /// The mode of the road node of this number, if it is one.
-pub(crate) fn mode_at(roads: &[Node], v: u32) -> Option<u8>
+pub(crate) fn mode_at(roads: &[Node], v: u32) -> Option<Mode>
     ensures { result ≡ mode_at roads.now v }
 {
     mode_of(roads.get(v as usize)?.key)

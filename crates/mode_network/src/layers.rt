@@ -10,12 +10,12 @@ use geo_length::PointFilter;
 use plan_base::{Mode, Place};
 
 /// The road node of a mode that has this id, by its place among all.
-pub(crate) fn node_in(roads: &[Node], mode: u8, id: i64) -> Option<usize>
+pub(crate) fn node_in(roads: &[Node], mode: Mode, id: i64) -> Option<usize>
     requires { AreRoads roads.now }
     ensures found { IfSome result (IsCopyIn roads.now mode id) }
     ensures only { (v : ℕ) → IsCopyIn roads.now mode id v → result ≡ Some v }
 {
-    match roads.binary_search_by(|node| rank(node.key).cmp(&(id, u32::from(mode)))) {
+    match roads.binary_search_by(|node| rank(node.key).cmp(&(id, u32::from(mode.number())))) {
         Ok(place) => Some(place),
         Err(_) => None,
     }
@@ -33,7 +33,7 @@ impl PointFilter for Layer<'_> {
     ghost passes = { λ layer point. has_point (layer_points layer.roads.now layer.mode) point };
 
     fn passes(&self, point: &(i64, Place)) -> bool {
-        match node_in(self.roads, self.mode.number(), point.0) {
+        match node_in(self.roads, self.mode, point.0) {
             Some(v) => self.roads[v].place == point.1,
             None => false,
         }

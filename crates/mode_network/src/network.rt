@@ -1,13 +1,12 @@
 //! A network: its lists, and what finds things in them.
 
 ghost use Rattle.std.specs.Prelude.{◌≡◌, ◌<◌, ◌≤◌, ◌^◌, ◌↔◌, ℕ, Some, None, ◌++◌, length, All, IfOk, OnOk, IfErr, slice_get, true};
-ghost use Rattle.mode_network.specs.NetworkLists.{nodes_of, mode_at, stop_at, stop_node};
+ghost use Rattle.mode_network.specs.NetworkLists.{nodes_of, mode_at, letter_at, stop_at, stop_node};
 ghost use Rattle.mode_network.specs.Rules.{AreParts, IsNetwork, IsFaultOf, IsAscending, IsRoad, arc_cmp, node_cmp, name_cmp, rank_of, first_fault};
 ghost use Rattle.mode_network.specs.Journeys.{IsDuration};
 ghost use Rattle.plain_texts.specs.Names.{is_name};
 ghost use Rattle.mode_network.specs.Timetables.{IsTimetableOf};
 ghost use Rattle.timetable_arcs.specs.Table.{IsTable};
-ghost use Rattle.plan_base.specs.Modes.{number_of_mode};
 ghost use Rattle.mode_network.specs.Copies.{IsNearestRoad, IsNearestIn, IsNearCopy, IsNearCopyIn, IsRoadCopy, IsCopyIn, IsStopCopy, AreExactly, AreCopies, IsPlaceOf};
 ghost use Rattle.mode_network.specs.Indexes.{range_from, IsRange, is_end_of};
 
@@ -133,12 +132,19 @@ impl Network {
         node_at(&self.roads, &self.stops, &self.switches, v as usize)
     }
 
-    /// The mode of the road node of this number: 0 is foot, 1 is bike and 2 is car. None exactly where no road node
-    /// has the number.
-    pub fn mode(&self, v: u32) -> Option<u8>
+    /// The mode of the road node of this number. None exactly where no road node has the number.
+    pub fn mode(&self, v: u32) -> Option<Mode>
         ensures { result ≡ mode_at self.now.roads v }
     {
         self.rows.get(v as usize)?.mode
+    }
+
+    /// The letter of the road node of this number, which is the number of its mode. None exactly where no road node has
+    /// the number.
+    pub fn letter(&self, v: u32) -> Option<u8>
+        ensures { result ≡ letter_at self.now.roads v }
+    {
+        self.mode(v).map(Mode::number)
     }
 
     /// The name of this stop.
@@ -292,9 +298,9 @@ impl Network {
     }
 
     fn copy_in(&self, mode: Mode, id: i64) -> Option<(u32, u32)>
-        ensures { AreExactly (IsCopyIn self.now.roads (number_of_mode mode) id) result }
+        ensures { AreExactly (IsCopyIn self.now.roads mode id) result }
     {
-        let v = node_in(&self.roads, mode.number(), id)? as u32;
+        let v = node_in(&self.roads, mode, id)? as u32;
         Some((v, v + 1))
     }
 

@@ -1,12 +1,12 @@
 //! Nodes and arcs of a network.
 
-use plan_base::Place;
+use plan_base::{Mode, Place};
 
 /// What a node stands for.
 #[derive(Clone, Copy, Debug, PartialEq, Eq)]
 pub enum NodeKey {
-    /// An OSM node in the layer of a road mode: 0 is foot, 1 is bike and 2 is car.
-    Road(u8, i64),
+    /// An OSM node in the layer of a mode.
+    Road(Mode, i64),
     /// A stop, by its place among the stops.
     Stop(u32),
     /// An OSM node where travellers change between layers: a parking or a rental.

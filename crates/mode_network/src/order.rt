@@ -21,7 +21,7 @@ pub(crate) fn rank(key: NodeKey) -> (i64, u32)
     ensures { result ≡ rank_of key }
 {
     match key {
-        NodeKey::Road(mode, id) => (id, mode as u32),
+        NodeKey::Road(mode, id) => (id, u32::from(mode.number())),
         NodeKey::Stop(stop) => (0, stop),
         NodeKey::Switch(id) => (id, 0),
     }

@@ -8,7 +8,7 @@ use timetable_arcs::Trip;
 
 /// The lists that [`Network::build`](crate::Network::build) takes. A contract sees them as lists.
 ///
-/// `roads` hold road keys of modes 0 to 2, `stops` hold the stop keys 0, 1, .. in turn with one name each,
+/// `roads` hold road keys, `stops` hold the stop keys 0, 1, .. in turn with one name each,
 /// and `switches` hold switch keys; each id has at most 18 digits, and each arc and link takes at least 1 ms.
 /// The node numbers in `arcs` and `links` run over roads, stops and switches in turn.
 #[derive(Drop)]

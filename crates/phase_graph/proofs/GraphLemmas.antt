@@ -6,10 +6,11 @@ use Rattle.search_laws.specs.Letters.{IsLetter}
 use Rattle.search_laws.specs.GraphLaws.{GraphMeaning, HasArc, IsLawfulGraph}
 use Rattle.timetable_arcs.specs.Patterns.{TableLists}
 use Rattle.timetable_arcs.specs.Table.{IsTable}
-use Rattle.mode_network.specs.NetworkLists.{NetworkLists, nodes_of, mode_at}
+use Rattle.plan_base.specs.Modes.{number_of_mode}
+use Rattle.mode_network.specs.NetworkLists.{NetworkLists, nodes_of, letter_at}
 use Rattle.mode_network.specs.Rules.{IsNetwork}
 use Rattle.mode_network.specs.Timetables.{IsTimetableOf}
-use Rattle.mode_network.proofs.RuleLemmas.{some_is, mode_is_road, nodes_hold_roads}
+use Rattle.mode_network.proofs.RuleLemmas.{letter_of, some_is, letter_is_road, nodes_hold_roads}
 use Rattle.hierarchy.specs.Lists.{HierarchyLists}
 use Rattle.hierarchy.specs.Rules.{IsHierarchy}
 use Rattle.hierarchy.specs.Indexes.{AreBelow}
@@ -53,13 +54,13 @@ in_nodes v true n lt = omega arith
 
 -- the nodes of a sound hierarchy are road nodes
 module _ (n : NetworkLists) (h : HierarchyLists) (network : IsNetwork n) (sound : IsSound n h) where
-  pub road_inside : (v mode : ℕ) → mode_at n.roads v ≡ Some mode → v < length (nodes_of n)
-  road_inside v mode is = let low = (mode_is_road n network v mode is).0 in omega (arith, low, nodes_hold_roads n)
+  pub road_inside : (v mode : ℕ) → letter_at n.roads v ≡ Some mode → v < length (nodes_of n)
+  road_inside v mode is = let low = (letter_is_road n network v mode is).0 in omega (arith, low, nodes_hold_roads n)
 
   pub below_nodes : AreBelow h (length (nodes_of n))
   below_nodes = record {
-    order = λ k d lt. (let free = (sound.in_order k lt).0 d in road_inside (get_or h.order k d) free.mode free.road);
-    entries = λ k d lt. (let f = sound.in_layers k d lt in (road_inside (get_or h.entries k d).from f.mode f.from_mode, road_inside (get_or h.entries k d).to f.mode f.to_mode));
+    order = λ k d lt. (let free = (sound.in_order k lt).0 d in road_inside (get_or h.order k d) (number_of_mode free.mode) (letter_of n.roads (get_or h.order k d) _ free.road));
+    entries = λ k d lt. (let f = sound.in_layers k d lt in (road_inside (get_or h.entries k d).from (number_of_mode f.mode) (letter_of n.roads (get_or h.entries k d).from _ f.from_mode), road_inside (get_or h.entries k d).to (number_of_mode f.mode) (letter_of n.roads (get_or h.entries k d).to _ f.to_mode)));
   }
 
 -- what is known of an arc out of v
@@ -123,9 +124,9 @@ module _ (n : NetworkLists) (h : HierarchyLists) (network : IsNetwork n) (rules 
   layer : (place : ℕ) → place < length h.entries → FitsLayer n (entry_at h place)
   layer place lt = sound.in_layers place no_entry lt
 
-  mode_fits : (v : ℕ) (o : Option ℕ) → mode_at n.roads v ≡ o → IfSome o IsLetter
+  mode_fits : (v : ℕ) (o : Option ℕ) → letter_at n.roads v ≡ o → IfSome o IsLetter
   mode_fits v None e = tt
-  mode_fits v (Some mode) e = let low = mode_is_road n network v mode e in omega (arith, low.1)
+  mode_fits v (Some mode) e = let low = letter_is_road n network v mode e in omega (arith, low.1)
 
   -- a place behind the road arcs is one of the plain graph
   pub place_fits : (v place : ℕ) (down : Bool) → IsKnown v down (Other place) → place < arcs_at n t v
@@ -139,8 +140,8 @@ module _ (n : NetworkLists) (h : HierarchyLists) (network : IsNetwork n) (rules 
   laws = plain_lawful n network t table of
 
   to_fits : (v : ℕ) (down : Bool) (a : PhaseArc) → v < length (nodes_of n) → IsKnown v down a → (arc_of n t h v down a).to < 2 * length (nodes_of n)
-  to_fits v down (Up place) node is = let f = layer place is.1 in in_nodes (entry_at h place).to false (length (nodes_of n)) (road_inside n h network sound (entry_at h place).to f.mode f.to_mode)
-  to_fits v down (Down place) node is = let f = layer place is.0 in in_nodes (entry_at h place).to true (length (nodes_of n)) (road_inside n h network sound (entry_at h place).to f.mode f.to_mode)
+  to_fits v down (Up place) node is = let f = layer place is.1 in in_nodes (entry_at h place).to false (length (nodes_of n)) (road_inside n h network sound (entry_at h place).to (number_of_mode f.mode) (letter_of n.roads (entry_at h place).to _ f.to_mode))
+  to_fits v down (Down place) node is = let f = layer place is.0 in in_nodes (entry_at h place).to true (length (nodes_of n)) (road_inside n h network sound (entry_at h place).to (number_of_mode f.mode) (letter_of n.roads (entry_at h place).to _ f.to_mode))
   to_fits v down (Other place) node is = in_nodes (plain.arc_at v place).to down (length (nodes_of n)) (laws.to_in_range v place (plain_has v place down node is))
 
   letter_fits : (v : ℕ) (down : Bool) (a : PhaseArc) → v < length (nodes_of n) → IsKnown v down a → IfSome (arc_of n t h v down a).letter IsLetter

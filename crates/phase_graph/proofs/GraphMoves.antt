@@ -12,12 +12,13 @@ use Rattle.timetable_arcs.specs.Table.{IsTable}
 use Rattle.mode_network.specs.declared.nodes.Arc.{Arc}
 use Rattle.mode_network.specs.declared.steps.Step.{Step}
 use Rattle.mode_network.specs.declared.steps.Step.TheVariants.{Wait, Road as TakeRoad, Link as TakeLink, Stand as StandStill, Ride as TakeRide}
-use Rattle.mode_network.specs.NetworkLists.{NetworkLists, nodes_of, mode_at}
+use Rattle.plan_base.specs.Modes.{number_of_mode}
+use Rattle.mode_network.specs.NetworkLists.{NetworkLists, nodes_of, letter_at}
 use Rattle.mode_network.specs.Indexes.{range_from}
 use Rattle.mode_network.specs.Rules.{IsNetwork}
 use Rattle.mode_network.specs.Timetables.{IsTimetableOf}
 use Rattle.mode_network.specs.Journeys.{IsStep}
-use Rattle.mode_network.proofs.RuleLemmas.{some_is, both}
+use Rattle.mode_network.proofs.RuleLemmas.{letter_of, some_is, both}
 use Rattle.hierarchy.specs.declared.entry.Entry.{Entry}
 use Rattle.hierarchy.specs.declared.rises.Rise.{Rise}
 use Rattle.hierarchy.specs.Hops.{Hop}
@@ -55,7 +56,7 @@ use Rattle.phase_graph.proofs.JourneyLemmas.{link_leaves_core, stop_is_core}
 no_road : (n : NetworkLists) (t : TableLists) (v place : ℕ) (arc : Arc) → count_from n.arcs v ≤ place → plain_arc n t v place ≡ Road arc → ⊥
 no_road n t v place arc past is =
     let behind = le-ltb place (count_from n.arcs v) past in
-    by_tests (nat_lt (place - count_from n.arcs v) (count_from n.links v)) (is_some (mode_at n.roads v)) _ _ (rw behind at is)
+    by_tests (nat_lt (place - count_from n.arcs v) (count_from n.links v)) (is_some (letter_at n.roads v)) _ _ (rw behind at is)
   where
     by_tests : (l r : Bool) (link : Arc) (ride : RideCalls) → cond l (Link link) (cond r Stand (Ride ride)) ≡ Road arc → ⊥
     by_tests true r link ride e = cc
@@ -65,9 +66,9 @@ no_road n t v place arc past is =
 -- and behind the links there is one that stands, at a road node
 only_stands : (n : NetworkLists) (t : TableLists) (v place : ℕ) → count_from n.arcs v + count_from n.links v ≤ place
     → place < count_from n.arcs v + count_from n.links v + stands_at n v → plain_arc n t v place ≡ Stand
-only_stands n t v place low high = by_mode (mode_at n.roads v) refl
+only_stands n t v place low high = by_mode (letter_at n.roads v) refl
   where
-    by_mode : (o : Option ℕ) → mode_at n.roads v ≡ o → plain_arc n t v place ≡ Stand
+    by_mode : (o : Option ℕ) → letter_at n.roads v ≡ o → plain_arc n t v place ≡ Stand
     by_mode None e =
         let none : stands_at n v ≡ 0 = ap (λ (o : Option ℕ). cond (is_some o) 1 0) e in
         absurd (omega (arith, none, low, high))
@@ -241,10 +242,10 @@ module _ (n : NetworkLists) (h : HierarchyLists) (targets : List ℕ) (network :
 
   -- the ends of an entry are nodes, and the mode of its start is known
   entry_node : (v w a : ℕ) → HasEntry h.entries v w a → v < length (nodes_of n)
-  entry_node v w a e = let f = fits n h sound v w a e in road_inside n h network sound v f.mode f.from_mode
+  entry_node v w a e = let f = fits n h sound v w a e in road_inside n h network sound v (number_of_mode f.mode) (letter_of n.roads v _ f.from_mode)
 
   up_there : (v time : ℕ) (hop : Hop) → HasEntry h.entries v hop.to hop.weight → IsRise h v hop.to
-      → (i : ℕ) × (a : ℕ) × IsArcBy g (phase_node v false) time (phase_node hop.to false) (time + hop.weight) (mode_at n.roads v) i a
+      → (i : ℕ) × (a : ℕ) × IsArcBy g (phase_node v false) time (phase_node hop.to false) (time + hop.weight) (letter_at n.roads v) i a
   up_there v time hop (via, (k, lt, is)) up =
       let e : Entry = record { from = v; to = hop.to; weight = hop.weight; via = via } in
       let found = (are_rises_from h rules v).all k e lt (ap (λ (x : Entry). x.from) is) (ap (is_rise h.order) is ∙ up_of v hop.to up) in
@@ -252,12 +253,12 @@ module _ (n : NetworkLists) (h : HierarchyLists) (targets : List ℕ) (network :
       let row : Rise = rise_at k (get_or h.entries k e) in
       let place : (get_or (rises_of h v) i no_rise).place ≡ k = ap (λ (r : Rise). r.place) (get_or_default (rises_of h v) i no_rise row found.1 ∙ found.2) in
       let entry : entry_at h k ≡ e = get_or_default h.entries k no_entry e lt ∙ is in
-      arc_there v false time i (phase_node hop.to false) (time + hop.weight) (time + hop.weight) (mode_at n.roads v) (Up k) (entry_node v hop.to hop.weight (via, (k, lt, is)))
+      arc_there v false time i (phase_node hop.to false) (time + hop.weight) (time + hop.weight) (letter_at n.roads v) (Up k) (entry_node v hop.to hop.weight (via, (k, lt, is)))
       (let within = found.1 in omega (arith, within)) (up_is n h v false i k found.1 place)
       (ap (λ (x : Entry). Some (time + x.weight)) entry) (omega arith) (ap (λ (x : Entry). phase_node x.to false) entry) refl
 
   down_there : (v : ℕ) (down : Bool) (time : ℕ) (hop : Hop) → HasEntry h.entries v hop.to hop.weight → IsAbove h.order v hop.to → IsMarked h targets hop.to
-      → (i : ℕ) × (a : ℕ) × IsArcBy g (phase_node v down) time (phase_node hop.to true) (time + hop.weight) (mode_at n.roads v) i a
+      → (i : ℕ) × (a : ℕ) × IsArcBy g (phase_node v down) time (phase_node hop.to true) (time + hop.weight) (letter_at n.roads v) i a
   down_there v down time hop (via, (k, lt, is)) above marked =
       let e : Entry = record { from = v; to = hop.to; weight = hop.weight; via = via } in
       let range = in_range_of_key from_of h.entries (from_rises h.entries rules.entries_ascend) v k e lt (ap from_of is) in
@@ -267,7 +268,7 @@ module _ (n : NetworkLists) (h : HierarchyLists) (targets : List ℕ) (network :
       let entry : entry_at h k ≡ e = get_or_default h.entries k no_entry e lt ∙ is in
       let ends = subst (AreEndsBelow (length marks)) is (are.long.entries k e lt) in
       let fell : is_fall h marks e ≡ true = rw (are.all hop.to ends.1 marked, are.all v ends.0 (marked_by_fall h targets k e lt is above marked), lt-ltb _ _ above) refl in
-      arc_there v down time (length (rises_at h v down) + i) (phase_node hop.to true) (time + hop.weight) (time + hop.weight) (mode_at n.roads v) (Down k) (entry_node v hop.to hop.weight (via, (k, lt, is)))
+      arc_there v down time (length (rises_at h v down) + i) (phase_node hop.to true) (time + hop.weight) (time + hop.weight) (letter_at n.roads v) (Down k) (entry_node v hop.to hop.weight (via, (k, lt, is)))
       (omega (arith, within)) (down_is n h v down i k within back)
       (ap (λ (x : Entry). cond (is_fall h marks x) (Some (time + x.weight)) None) entry ∙ ap (λ b. cond b (Some (time + hop.weight)) None) fell)
       (omega arith) (ap (λ (x : Entry). phase_node x.to true) entry) refl
@@ -280,12 +281,12 @@ module _ (n : NetworkLists) (h : HierarchyLists) (targets : List ℕ) (network :
       (omega (arith, low, high)) (other_is n h v down place low) arrives le to tells
 
   -- a node that a road arc leaves has a mode
-  arc_mode : (v : ℕ) (arc : Arc) → IsArcFrom n.arcs v arc → (mode : ℕ) × (mode_at n.roads v ≡ Some mode)
+  arc_mode : (v : ℕ) (arc : Arc) → IsArcFrom n.arcs v arc → (mode : ℕ) × (letter_at n.roads v ≡ Some mode)
   arc_mode v arc out =
       let begins = ap (λ (x : Arc). x.from) out.is ∙ out.begins in
       let covered = sound.arcs_covered out.place no_arc out.within in
       let f = fits n h sound (get_or n.arcs out.place no_arc).from (get_or n.arcs out.place no_arc).to covered.0 covered.1 in
-      (f.mode, ap (mode_at n.roads) (sym begins) ∙ f.from_mode)
+      ((number_of_mode f.mode), ap (letter_at n.roads) (sym begins) ∙ (letter_of n.roads (get_or n.arcs out.place no_arc).from _ f.from_mode))
 
   no_wait : (step : Step) → IsCrossing step → IsNoWait step
   no_wait (Wait until) is = absurd is
@@ -295,13 +296,13 @@ module _ (n : NetworkLists) (h : HierarchyLists) (targets : List ℕ) (network :
   no_wait (TakeRide trip day board alight) is = tt
 
   -- a link or a ride has another letter than a road arc out of its node would have
-  not_driven : (v time : ℕ) (step : Step) (w u mode : ℕ) (letter : Option ℕ) → IsCrossing step → IsStep n v time step w u letter → mode_at n.roads v ≡ Some mode → letter ≡ Some mode → ⊥
+  not_driven : (v time : ℕ) (step : Step) (w u mode : ℕ) (letter : Option ℕ) → IsCrossing step → IsStep n v time step w u letter → letter_at n.roads v ≡ Some mode → letter ≡ Some mode → ⊥
   not_driven v time (Wait until) w u mode letter crossing is has same = crossing
   not_driven v time (TakeRoad to) w u mode letter crossing is has same = crossing
   not_driven v time (TakeLink to) w u mode letter crossing (ms, leads, ev, et, none) has same = let clash = sym none ∙ same in cc
   not_driven v time StandStill w u mode letter crossing is has same = crossing
   not_driven v time (TakeRide trip day board alight) w u mode letter crossing (run, on, off, ride, from, le, ew, et, el) has same =
-      let clash = sym (ap (mode_at n.roads) from ∙ no_mode n on.stop) ∙ has in cc
+      let clash = sym (ap (letter_at n.roads) from ∙ no_mode n on.stop) ∙ has in cc
 
   cross_there : (v time w u : ℕ) (step : Step) (letter : Option ℕ) → IsCrossing step → IsStep n v time step w u letter
       → (i : ℕ) × (a : ℕ) × IsArcBy g (phase_node v false) time (phase_node w false) u letter i a
@@ -323,7 +324,7 @@ module _ (n : NetworkLists) (h : HierarchyLists) (targets : List ℕ) (network :
             )
       ]
 
-  stand_there : (v : ℕ) (down : Bool) (time mode : ℕ) → mode_at n.roads v ≡ Some mode → (i : ℕ) × (a : ℕ) × IsArcBy g (phase_node v down) time (phase_node v down) time (Some mode) i a
+  stand_there : (v : ℕ) (down : Bool) (time mode : ℕ) → letter_at n.roads v ≡ Some mode → (i : ℕ) × (a : ℕ) × IsArcBy g (phase_node v down) time (phase_node v down) time (Some mode) i a
   stand_there v down time mode has =
       let at = stand_at n t 0 0 v mode has in
       let one : stands_at n v ≡ 1 = ap (λ (o : Option ℕ). cond (is_some o) 1 0) has in
@@ -358,9 +359,9 @@ module _ (n : NetworkLists) (h : HierarchyLists) (targets : List ℕ) (network :
   has_arc v down time (rest until) w down2 u letter is moves = absurd (moves tt)
   has_arc v down time (rise hop) w down2 u letter (before, entry, up, ew, ed, eu, el) moves =
       subst (λ d. (i : ℕ) × (a : ℕ) × IsArcBy g (phase_node v d) time (phase_node w down2) u letter i a) (sym before)
-      (renamed v false time hop.to w false down2 (time + hop.weight) u (mode_at n.roads v) letter ew ed eu el (up_there v time hop entry up))
+      (renamed v false time hop.to w false down2 (time + hop.weight) u (letter_at n.roads v) letter ew ed eu el (up_there v time hop entry up))
   has_arc v down time (fall hop) w down2 u letter (entry, above, marked, ew, ed, eu, el) moves =
-      renamed v down time hop.to w true down2 (time + hop.weight) u (mode_at n.roads v) letter ew ed eu el (down_there v down time hop entry above marked)
+      renamed v down time hop.to w true down2 (time + hop.weight) u (letter_at n.roads v) letter ew ed eu el (down_there v down time hop entry above marked)
   has_arc v down time (cross step) w down2 u letter (before, core, crossing, taken, ed) moves =
       subst (λ d. (i : ℕ) × (a : ℕ) × IsArcBy g (phase_node v d) time (phase_node w down2) u letter i a) (sym before)
       (renamed v false time w w false down2 u u letter letter refl ed refl refl (cross_there v time w u step letter crossing taken))

@@ -1,7 +1,7 @@
 -- Each journey to a target has a phase walk. What a journey begins with is a road part, over entries; a link or a ride closes what
 -- follows it.
 use Rattle.std.proofs.Common.{◌≡◌, ℕ, ◌+◌, ◌<◌, ◌≤◌, ◌⊎◌, inl, inr, false, List, [], ◌∷◌, ◌++◌, Some, None, length, refl, sym, ap, subst, ◌∙◌, append-nil, arith}
-use Rattle.std.specs.Prelude.{Option, Contains, option_to_list, option_and_then}
+use Rattle.std.specs.Prelude.{Option, Contains, option_to_list, option_and_then, option_map}
 use Rattle.std.proofs.lemmas.Bool.{cases_lt}
 use Rattle.std.proofs.lemmas.Option.{same_Some, none-some, slice_get_past}
 use Rattle.std.proofs.lemmas.List.Elements.{All-contains}
@@ -10,10 +10,11 @@ use Rattle.mode_network.specs.declared.nodes.Arc.{Arc}
 use Rattle.mode_network.specs.declared.nodes.Node.{Node}
 use Rattle.mode_network.specs.declared.steps.Step.{Step}
 use Rattle.mode_network.specs.declared.steps.Step.TheVariants.{Wait, Road, Link, Stand, Ride}
-use Rattle.mode_network.specs.NetworkLists.{NetworkLists, mode_at, mode_of, stop_node}
+use Rattle.plan_base.specs.Modes.{number_of_mode}
+use Rattle.mode_network.specs.NetworkLists.{NetworkLists, letter_at, mode_of, stop_node}
 use Rattle.mode_network.specs.Rules.{IsNetwork}
 use Rattle.mode_network.specs.Journeys.{Leads, IsStep, AreSteps}
-use Rattle.mode_network.proofs.RuleLemmas.{mode_is_road}
+use Rattle.mode_network.proofs.RuleLemmas.{letter_of, letter_is_road}
 use Rattle.hierarchy.specs.Hops.{Hop, AreHops, total}
 use Rattle.hierarchy.specs.Lists.{HierarchyLists, height_in, IsContracted, IsCore}
 use Rattle.hierarchy.specs.Soundness.{HasEntry, IsSound, IsCovered, IsFree}
@@ -25,15 +26,15 @@ use Rattle.phase_graph.proofs.WordLemmas.{same_letter, same_letters, again}
 use Rattle.phase_graph.proofs.MoveLemmas.{moves_then, last_part, core_part}
 
 module _ (n : NetworkLists) (h : HierarchyLists) (targets : List ℕ) (network : IsNetwork n) (sound : IsSound n h) where
-  road_letter : (v m : ℕ) → mode_at n.roads v ≡ Some m → m < 3
-  road_letter v m mode = (mode_is_road n network v m mode).1
+  road_letter : (v m : ℕ) → letter_at n.roads v ≡ Some m → m < 3
+  road_letter v m mode = (letter_is_road n network v m mode).1
 
   -- ---- what a journey begins with
 
   -- a road part without a letter has no hop; else the letter is the mode of its first node
   abbrev IsPart : Option ℕ → List Hop → ℕ → Type 0
   IsPart None hops v = hops ≡ []
-  IsPart (Some m) hops v = mode_at n.roads v ≡ Some m
+  IsPart (Some m) hops v = letter_at n.roads v ≡ Some m
 
   -- a link or a ride from a core node, taken no earlier than at, and what follows it
   record Crossing (end at w u : ℕ) (word : List ℕ) : Type 0 where
@@ -155,7 +156,7 @@ module _ (n : NetworkLists) (h : HierarchyLists) (targets : List ℕ) (network :
   -- ---- step by step
 
   -- a road letter before what begins with it, or with none
-  told_once : (v m : ℕ) (part : Option ℕ) (hops : List Hop) (word letters : List ℕ) → mode_at n.roads v ≡ Some m → IsPart part hops v → collapse (option_to_list part ++ word) ≡ collapse letters
+  told_once : (v m : ℕ) (part : Option ℕ) (hops : List Hop) (word letters : List ℕ) → letter_at n.roads v ≡ Some m → IsPart part hops v → collapse (option_to_list part ++ word) ≡ collapse letters
       → collapse (m ∷ word) ≡ collapse (m ∷ letters)
   told_once v m None hops word letters mode is same = same_letter m word letters same
   told_once v m (Some k) hops word letters mode is same =
@@ -173,10 +174,10 @@ module _ (n : NetworkLists) (h : HierarchyLists) (targets : List ℕ) (network :
   link_leaves_core v to ms leads = core_if_bound v (λ free. All-contains (λ (link : Arc). link.from ≡ v → ⊥) n.links (record { from = v; to = to; ms = ms }) free.none_from leads refl)
 
   pub stop_is_core : (v stop : ℕ) → v ≡ stop_node n stop → IsCore h.order v
-  stop_is_core v stop is = core_if_bound v (λ free. none-some free.mode (sym (past v (omega arith)) ∙ free.road))
+  stop_is_core v stop is = core_if_bound v (λ free. none-some (number_of_mode free.mode) (sym (past v (omega arith)) ∙ (letter_of n.roads v _ free.road)))
     where
-      past : (v : ℕ) → length n.roads ≤ v → mode_at n.roads v ≡ None
-      past v le = ap (option_and_then (λ (node : Node). mode_of node.key)) (slice_get_past n.roads v le)
+      past : (v : ℕ) → length n.roads ≤ v → letter_at n.roads v ≡ None
+      past v le = ap (λ (node : Option Node). option_map number_of_mode (option_and_then (λ (node : Node). mode_of node.key) node)) (slice_get_past n.roads v le)
 
   -- a link or a ride, and what follows it
   crossed : (step : Step) (v t v1 t1 w u : ℕ) (letter : Option ℕ) (told letters : List ℕ) → IsCore h.order v → IsCrossing step → IsStep n v t step v1 t1 letter
@@ -193,21 +194,21 @@ module _ (n : NetworkLists) (h : HierarchyLists) (targets : List ℕ) (network :
   }
 
   -- an entry in place of a road arc
-  driven : (v to ms t w u : ℕ) (told : List ℕ) → Leads n.arcs v to ms → Begun to (t + ms) w u told → (m : ℕ) × (mode_at n.roads v ≡ Some m) × Begun v t w u (m ∷ told)
+  driven : (v to ms t w u : ℕ) (told : List ℕ) → Leads n.arcs v to ms → Begun to (t + ms) w u told → (m : ℕ) × (letter_at n.roads v ≡ Some m) × Begun v t w u (m ∷ told)
   driven v to ms t w u told leads b =
       let covered = All-contains (IsCovered h) n.arcs (record { from = v; to = to; ms = ms }) sound.arcs_covered leads in
       let f = fits n h sound v to covered.0 covered.1 in
       let lighter = covered.2 in (
-        f.mode,
-        f.from_mode,
+        (number_of_mode f.mode),
+        (letter_of n.roads v _ f.from_mode),
         record {
           hops = record { to = to; weight = covered.0 } ∷ b.hops;
           end = b.end;
           walk = (covered.1, b.walk);
-          part = Some f.mode;
-          is_part = f.from_mode;
+          part = Some (number_of_mode f.mode);
+          is_part = (letter_of n.roads v _ f.from_mode);
           word = b.word;
-          same_word = told_once to f.mode b.part b.hops b.word told f.to_mode b.is_part b.same_word;
+          same_word = told_once to (number_of_mode f.mode) b.part b.hops b.word told (letter_of n.roads to _ f.to_mode) b.is_part b.same_word;
           finish = earlier b.end ((t + ms) + total b.hops) (t + (covered.0 + total b.hops)) w u b.word (omega arith) b.finish;
         },
       )

@@ -2,7 +2,8 @@
 use Rattle.std.proofs.Common.{◌≡◌, ℕ, ◌+◌, ◌<◌, ◌⊎◌, inl, inr, Bool, true, false, List, [], ◌∷◌, ◌++◌, Some, length, refl, sym, ap, subst, ◌∙◌, append_assoc, arith}
 use Rattle.std.specs.Prelude.{Contains, option_to_list}
 use Rattle.search_laws.specs.Collapse.{collapse}
-use Rattle.mode_network.specs.NetworkLists.{NetworkLists, mode_at}
+use Rattle.mode_network.specs.NetworkLists.{NetworkLists, letter_at}
+use Rattle.mode_network.proofs.RuleLemmas.{letter_of}
 use Rattle.hierarchy.specs.Hops.{Hop, AreHops, total, IsDescent}
 use Rattle.hierarchy.specs.Lists.{HierarchyLists, height_in, IsContracted, IsCore}
 use Rattle.hierarchy.specs.Soundness.{HasEntry, IsSound}
@@ -31,8 +32,8 @@ moves_then n h targets (move ∷ first) second v down t m there s w end u a b (v
 
 module _ (n : NetworkLists) (h : HierarchyLists) (sound : IsSound n h) (targets : List ℕ) where
   -- the modes of both ends of an entry are one
-  pub same_mode : (u v a m : ℕ) → HasEntry h.entries u v a → mode_at n.roads u ≡ Some m → mode_at n.roads v ≡ Some m
-  same_mode u v a m e is = let f = fits n h sound u v a e in f.to_mode ∙ sym f.from_mode ∙ is
+  pub same_mode : (u v a m : ℕ) → HasEntry h.entries u v a → letter_at n.roads u ≡ Some m → letter_at n.roads v ≡ Some m
+  same_mode u v a m e is = let f = fits n h sound u v a e in (letter_of n.roads v _ f.to_mode) ∙ sym (letter_of n.roads u _ f.from_mode) ∙ is
 
   -- moves of one mode that lead somewhere: their letters, after the mode's, are told already
   pub record Descended (m v : ℕ) (down : Bool) (t end at : ℕ) : Type 0 where
@@ -43,7 +44,7 @@ module _ (n : NetworkLists) (h : HierarchyLists) (sound : IsSound n h) (targets 
     pub at_target : end_down ≡ true → IsContracted h.order end
     pub told : (word : List ℕ) → collapse (m ∷ (letters ++ word)) ≡ collapse (m ∷ word)
 
-  pub descend : (m : ℕ) → m < 3 → (hops : List Hop) (v : ℕ) (down : Bool) (t end : ℕ) → AreHops (HasEntry h.entries) v hops end → IsDescent (height_in h.order) v hops → mode_at n.roads v ≡ Some m
+  pub descend : (m : ℕ) → m < 3 → (hops : List Hop) (v : ℕ) (down : Bool) (t end : ℕ) → AreHops (HasEntry h.entries) v hops end → IsDescent (height_in h.order) v hops → letter_at n.roads v ≡ Some m
       → Contains targets end → (down ≡ true → IsContracted h.order v) → Descended m v down t end (t + total hops)
   descend m road [] v down t end walk falls mode at_end low = record {
     moves = [];
@@ -87,7 +88,7 @@ module _ (n : NetworkLists) (h : HierarchyLists) (sound : IsSound n h) (targets 
     pub once : (word : List ℕ) → collapse (letters ++ word) ≡ collapse (m ∷ word)
 
   -- a move up or along the core, and then a part
-  risen : (m : ℕ) → m < 3 → (v t : ℕ) (hop : Hop) (end at : ℕ) → mode_at n.roads v ≡ Some m → HasEntry h.entries v hop.to hop.weight
+  risen : (m : ℕ) → m < 3 → (v t : ℕ) (hop : Hop) (end at : ℕ) → letter_at n.roads v ≡ Some m → HasEntry h.entries v hop.to hop.weight
       → (height_in h.order v < height_in h.order hop.to) ⊎ (IsCore h.order v × IsCore h.order hop.to) → Parted m hop.to (t + hop.weight) end at → Parted m v t end at
   risen m road v t hop end at mode entry up more = record {
     moves = rise hop ∷ more.moves;
@@ -99,7 +100,7 @@ module _ (n : NetworkLists) (h : HierarchyLists) (sound : IsSound n h) (targets 
   }
 
   -- the last part, which ends at a target
-  pub last_part : (m : ℕ) → m < 3 → (hops : List Hop) (v t end : ℕ) → AreHops (HasEntry h.entries) v hops end → IsShaped (height_in h.order) (length h.order) v hops → mode_at n.roads v ≡ Some m
+  pub last_part : (m : ℕ) → m < 3 → (hops : List Hop) (v t end : ℕ) → AreHops (HasEntry h.entries) v hops end → IsShaped (height_in h.order) (length h.order) v hops → letter_at n.roads v ≡ Some m
       → Contains targets end → Parted m v t end (t + total hops)
   last_part m road [] v t end walk shaped mode at_end = record {
     moves = stand ∷ [];
@@ -145,7 +146,7 @@ module _ (n : NetworkLists) (h : HierarchyLists) (sound : IsSound n h) (targets 
     pub walk : AreMoves n h targets v false t moves end false at letters
     pub once : (word : List ℕ) → collapse (letters ++ word) ≡ collapse (m ∷ word)
 
-  risen_on : (m : ℕ) → m < 3 → (v t : ℕ) (hop : Hop) (end at : ℕ) → mode_at n.roads v ≡ Some m → HasEntry h.entries v hop.to hop.weight
+  risen_on : (m : ℕ) → m < 3 → (v t : ℕ) (hop : Hop) (end at : ℕ) → letter_at n.roads v ≡ Some m → HasEntry h.entries v hop.to hop.weight
       → (height_in h.order v < height_in h.order hop.to) ⊎ (IsCore h.order v × IsCore h.order hop.to) → Crossed m hop.to (t + hop.weight) end at → Crossed m v t end at
   risen_on m road v t hop end at mode entry up more = record {
     moves = rise hop ∷ more.moves;
@@ -154,7 +155,7 @@ module _ (n : NetworkLists) (h : HierarchyLists) (sound : IsSound n h) (targets 
     once = λ word. same_letter m (more.letters ++ word) (m ∷ word) (more.once word) ∙ again m word road;
   }
 
-  pub core_part : (m : ℕ) → m < 3 → (hops : List Hop) (v t end : ℕ) → AreHops (HasEntry h.entries) v hops end → IsShaped (height_in h.order) (length h.order) v hops → mode_at n.roads v ≡ Some m
+  pub core_part : (m : ℕ) → m < 3 → (hops : List Hop) (v t end : ℕ) → AreHops (HasEntry h.entries) v hops end → IsShaped (height_in h.order) (length h.order) v hops → letter_at n.roads v ≡ Some m
       → IsCore h.order end → Crossed m v t end (t + total hops)
   core_part m road [] v t end walk shaped mode core = record {
     moves = stand ∷ [];

@@ -5,10 +5,11 @@ use Rattle.std.proofs.lemmas.List.Elements.{All-contains}
 use Rattle.search_laws.specs.Collapse.{collapse}
 use Rattle.mode_network.specs.declared.steps.Step.{Step}
 use Rattle.mode_network.specs.declared.steps.Step.TheVariants.{Wait, Road, Stand}
-use Rattle.mode_network.specs.NetworkLists.{NetworkLists, mode_at}
+use Rattle.plan_base.specs.Modes.{number_of_mode}
+use Rattle.mode_network.specs.NetworkLists.{NetworkLists, letter_at}
 use Rattle.mode_network.specs.Rules.{IsNetwork}
 use Rattle.mode_network.specs.Journeys.{Leads, IsStep, AreSteps}
-use Rattle.mode_network.proofs.RuleLemmas.{mode_is_road}
+use Rattle.mode_network.proofs.RuleLemmas.{letter_of, letter_is_road}
 use Rattle.hierarchy.specs.Hops.{Hop, AreHops, total}
 use Rattle.hierarchy.specs.Lists.{HierarchyLists}
 use Rattle.hierarchy.specs.Soundness.{HasEntry, IsSound, IsCovered}
@@ -27,11 +28,11 @@ steps_then n (step ∷ first) second v t m s w u a b (v1, t1, letter, more, is, 
 
 module _ (n : NetworkLists) (h : HierarchyLists) (network : IsNetwork n) (sound : IsSound n h) where
   -- a road arc stays in its layer
-  arc_mode : (v to ms m : ℕ) → Leads n.arcs v to ms → mode_at n.roads v ≡ Some m → mode_at n.roads to ≡ Some m
+  arc_mode : (v to ms m : ℕ) → Leads n.arcs v to ms → letter_at n.roads v ≡ Some m → letter_at n.roads to ≡ Some m
   arc_mode v to ms m leads is =
       let covered = All-contains (IsCovered h) n.arcs (record { from = v; to = to; ms = ms }) sound.arcs_covered leads in
       let f = fits n h sound v to covered.0 covered.1 in
-      f.to_mode ∙ sym f.from_mode ∙ is
+      (letter_of n.roads to _ f.to_mode) ∙ sym (letter_of n.roads v _ f.from_mode) ∙ is
 
   -- road arcs in a row: their letters, after the mode's, are told already
   record Driven (m v t w at : ℕ) : Type 0 where
@@ -40,7 +41,7 @@ module _ (n : NetworkLists) (h : HierarchyLists) (network : IsNetwork n) (sound 
     real : AreSteps n v t steps w at letters
     told : (word : List ℕ) → collapse (m ∷ (letters ++ word)) ≡ collapse (m ∷ word)
 
-  drive : (m : ℕ) → m < 3 → (hops : List Hop) (v t w : ℕ) → AreHops (Leads n.arcs) v hops w → mode_at n.roads v ≡ Some m → Driven m v t w (t + total hops)
+  drive : (m : ℕ) → m < 3 → (hops : List Hop) (v t w : ℕ) → AreHops (Leads n.arcs) v hops w → letter_at n.roads v ≡ Some m → Driven m v t w (t + total hops)
   drive m road [] v t w walk mode = record { steps = []; letters = []; real = (walk, (omega arith), refl); told = λ word. refl }
   drive m road (hop ∷ hops) v t w (leads, walk) mode =
       let more = drive m road hops hop.to (t + hop.weight) w walk (arc_mode v hop.to hop.weight m leads mode) in
@@ -67,13 +68,13 @@ module _ (n : NetworkLists) (h : HierarchyLists) (network : IsNetwork n) (sound 
     real : AreSteps n v t steps w at letters
     once : (word : List ℕ) → collapse (letters ++ word) ≡ collapse (m ∷ word)
 
-  unpacked : (m v w a t : ℕ) (e : HasEntry h.entries v w a) → mode_at n.roads v ≡ Some m → Unpacked m v t w (t + a)
+  unpacked : (m v w a t : ℕ) (e : HasEntry h.entries v w a) → letter_at n.roads v ≡ Some m → Unpacked m v t w (t + a)
   unpacked m v w a t e mode = by_hops (roads_under n h sound v w a e)
     where
       by_list : (hops : List Hop) → AreHops (Leads n.arcs) v hops w → total hops ≡ a → Unpacked m v t w (t + a)
       by_list [] walk weighs = absurd ((fits n h sound v w a e).differ (sym walk))
       by_list (hop ∷ hops) (leads, walk) weighs =
-          let road = (mode_is_road n network v m mode).1 in
+          let road = (letter_is_road n network v m mode).1 in
           let more = drive m road hops hop.to (t + hop.weight) w walk (arc_mode v hop.to hop.weight m leads mode) in
           let sum : (t + hop.weight) + total hops ≡ t + a = omega arith in
           record {
@@ -95,17 +96,17 @@ module _ (n : NetworkLists) (h : HierarchyLists) (network : IsNetwork n) (sound 
       by_hops r = by_list r.hops r.walk r.weighs
 
   -- an entry, and then a journey
-  by_entry : (v w a t : ℕ) (e : HasEntry h.entries v w a) (letter : Option ℕ) (t1 w2 u : ℕ) (more : List ℕ) → letter ≡ mode_at n.roads v → t1 ≡ t + a → HasJourney n w t1 w2 u more
+  by_entry : (v w a t : ℕ) (e : HasEntry h.entries v w a) (letter : Option ℕ) (t1 w2 u : ℕ) (more : List ℕ) → letter ≡ letter_at n.roads v → t1 ≡ t + a → HasJourney n w t1 w2 u more
       → HasJourney n v t w2 u (option_to_list letter ++ more)
   by_entry v w a t e letter t1 w2 u more is at j =
       let f = fits n h sound v w a e in
-      let x = unpacked f.mode v w a t e f.from_mode in
-      let one : letter ≡ Some f.mode = is ∙ f.from_mode in
+      let x = unpacked (number_of_mode f.mode) v w a t e (letter_of n.roads v _ f.from_mode) in
+      let one : letter ≡ Some (number_of_mode f.mode) = is ∙ (letter_of n.roads v _ f.from_mode) in
       record {
         steps = x.steps ++ j.steps;
         told = x.letters ++ j.told;
         real = steps_then n x.steps j.steps v t w t1 w2 u x.letters j.told (subst (λ s. AreSteps n v t x.steps w s x.letters) (sym at) x.real) j.real;
-        same_word = x.once j.told ∙ same_letter f.mode j.told more j.same_word ∙ ap (λ o. collapse (option_to_list o ++ more)) (sym one);
+        same_word = x.once j.told ∙ same_letter (number_of_mode f.mode) j.told more j.same_word ∙ ap (λ o. collapse (option_to_list o ++ more)) (sym one);
       }
 
   -- one step, and then a journey

@@ -15,7 +15,7 @@ use Rattle.search_laws.proofs.WayLemmas.{ways_more, ways_split}
 use Rattle.timetable_arcs.specs.Patterns.{TableLists}
 use Rattle.timetable_arcs.specs.Table.{IsTable}
 use Rattle.timetable_arcs.proofs.TableLemmas.{rides_few}
-use Rattle.mode_network.specs.NetworkLists.{NetworkLists, nodes_of, mode_at, stop_at}
+use Rattle.mode_network.specs.NetworkLists.{NetworkLists, nodes_of, letter_at, stop_at}
 use Rattle.mode_network.specs.Rules.{IsNetwork}
 use Rattle.mode_network.specs.Timetables.{IsTimetableOf}
 use Rattle.mode_network.proofs.IndexLemmas.{range_is_range}
@@ -57,7 +57,7 @@ module _ (n : NetworkLists) (h : HierarchyLists) (t : TableLists) (marks : List 
   from i k = ways_from g p time letters i k
 
   abbrev letter : Option ℕ
-  letter = mode_at n.roads (node_of p)
+  letter = letter_at n.roads (node_of p)
 
   abbrev ups : ℕ
   ups = length (rises_at h (node_of p) (is_down p))
@@ -340,7 +340,7 @@ pub few_arcs : (n : NetworkLists) → IsNetwork n → (t : TableLists) → IsTab
 few_arcs n network t table v =
     let range = range_is_range n.links v in
     let links = network.few_links in
-    let stands = few_stand (mode_at n.roads v) in
+    let stands = few_stand (letter_at n.roads v) in
     let rides = few_rides t table (stop_at n v) in
     omega (arith, range.1, links, stands, rides)
 
@@ -392,4 +392,4 @@ module _ (n : NetworkLists) (network : IsNetwork n) (t : TableLists) (table : Is
 
 pub few_others : (n : NetworkLists) → IsNetwork n → (t : TableLists) → IsTable t → (v : ℕ) (down : Bool) → others_at n t v down < 2 ^ 63 + 2 ^ 34
 few_others n network t table v false = few_arcs n network t table v
-few_others n network t table v true = let stands = few_stand (mode_at n.roads v) in omega (arith, stands)
+few_others n network t table v true = let stands = few_stand (letter_at n.roads v) in omega (arith, stands)

@@ -1,6 +1,6 @@
 -- What a rider may do in the phase graph of a hierarchy: climb over entries, go along the core, and descend to the targets.
 use Rattle.std.specs.Prelude.{◌≡◌, ℕ, ◌+◌, ◌≤◌, ◌⊎◌, Bool, true, false, List, [], ◌∷◌, ◌++◌, Option, Some, None, Contains, option_to_list}
-use Rattle.mode_network.specs.NetworkLists.{NetworkLists, mode_at}
+use Rattle.mode_network.specs.NetworkLists.{NetworkLists, letter_at}
 use Rattle.mode_network.specs.declared.steps.Step.{Step}
 use Rattle.mode_network.specs.declared.steps.Step.TheVariants.{Wait, Road, Link, Stand, Ride}
 use Rattle.mode_network.specs.Journeys.{IsStep}
@@ -40,14 +40,14 @@ abbrev pub IsPhaseMove : NetworkLists → HierarchyLists → List ℕ → ℕ �
 IsPhaseMove n h targets v down t (rest until) w down2 u letter = (t ≤ until) × (w ≡ v) × (down2 ≡ down) × (u ≡ until) × (letter ≡ None)
 IsPhaseMove n h targets v down t (rise hop) w down2 u letter =
     (down ≡ false) × HasEntry h.entries v hop.to hop.weight × IsRise h v hop.to
-    × (w ≡ hop.to) × (down2 ≡ false) × (u ≡ t + hop.weight) × (letter ≡ mode_at n.roads v)
+    × (w ≡ hop.to) × (down2 ≡ false) × (u ≡ t + hop.weight) × (letter ≡ letter_at n.roads v)
 IsPhaseMove n h targets v down t (fall hop) w down2 u letter =
     HasEntry h.entries v hop.to hop.weight × IsAbove h.order v hop.to × IsMarked h targets hop.to
-    × (w ≡ hop.to) × (down2 ≡ true) × (u ≡ t + hop.weight) × (letter ≡ mode_at n.roads v)
+    × (w ≡ hop.to) × (down2 ≡ true) × (u ≡ t + hop.weight) × (letter ≡ letter_at n.roads v)
 IsPhaseMove n h targets v down t (cross step) w down2 u letter =
     (down ≡ false) × IsCore h.order v × IsCrossing step × IsStep n v t step w u letter × (down2 ≡ false)
 IsPhaseMove n h targets v down t stand w down2 u letter =
-    (mode : ℕ) × (mode_at n.roads v ≡ Some mode) × (w ≡ v) × (down2 ≡ down) × (u ≡ t) × (letter ≡ Some mode)
+    (mode : ℕ) × (letter_at n.roads v ≡ Some mode) × (w ≡ v) × (down2 ≡ down) × (u ≡ t) × (letter ≡ Some mode)
 
 -- the moves lead from v at t to w at u, each from where and when the one before it ended, and these are their letters
 abbrev pub AreMoves : NetworkLists → HierarchyLists → List ℕ → ℕ → Bool → ℕ → List PhaseMove → ℕ → Bool → ℕ → List ℕ → Type 0

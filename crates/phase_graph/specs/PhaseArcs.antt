@@ -8,7 +8,7 @@ use Rattle.search_laws.specs.declared.graph.GraphArc.{GraphArc}
 use Rattle.search_laws.specs.declared.graph.Steady.{Steady}
 use Rattle.search_laws.specs.declared.graph.Way.{Way}
 use Rattle.timetable_arcs.specs.Patterns.{TableLists}
-use Rattle.mode_network.specs.NetworkLists.{NetworkLists, nodes_of, mode_at}
+use Rattle.mode_network.specs.NetworkLists.{NetworkLists, nodes_of, letter_at}
 use Rattle.hierarchy.specs.declared.entry.Entry.{Entry}
 use Rattle.hierarchy.specs.declared.rises.Rise.{Rise}
 use Rattle.hierarchy.specs.Lists.{HierarchyLists}
@@ -45,7 +45,7 @@ first_rise h v down = if down then 0 else (range_of rise_from (all_rises h) v).0
 
 -- they are steady
 abbrev pub steady_rises : NetworkLists → HierarchyLists → ℕ → Bool → Steady
-steady_rises n h v down = record { first = first_rise h v down; count = length (rises_at h v down); letter = mode_at n.roads v }
+steady_rises n h v down = record { first = first_rise h v down; count = length (rises_at h v down); letter = letter_at n.roads v }
 
 -- the entries out of a node stand side by side: where they begin, and how many they are
 abbrev pub first_entry : HierarchyLists → ℕ → ℕ
@@ -89,8 +89,8 @@ IsArcOutOf n t h v (Other place) = place < arcs_at n t v
 
 -- where it leads, and its letter
 abbrev pub arc_of : NetworkLists → TableLists → HierarchyLists → ℕ → Bool → PhaseArc → GraphArc
-arc_of n t h v down (Up place) = record { to = phase_node (entry_at h place).to false; letter = mode_at n.roads v }
-arc_of n t h v down (Down place) = record { to = phase_node (entry_at h place).to true; letter = mode_at n.roads v }
+arc_of n t h v down (Up place) = record { to = phase_node (entry_at h place).to false; letter = letter_at n.roads v }
+arc_of n t h v down (Down place) = record { to = phase_node (entry_at h place).to true; letter = letter_at n.roads v }
 arc_of n t h v down (Other place) = record { to = phase_node ((plain_meaning n t).arc_at v place).to down; letter = ((plain_meaning n t).arc_at v place).letter }
 
 -- an entry down is taken from a node with a mark to another alone

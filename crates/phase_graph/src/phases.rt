@@ -58,7 +58,7 @@ impl<'a> Phases<'a> {
     ghost use Rattle.hierarchy.specs.declared.rises.Rise.{Rise};
     ghost use Rattle.search_laws.specs.Fresh.{AddsFresh};
     ghost use Rattle.search_laws.specs.Ways.{ways_from, is_open};
-    ghost use Rattle.mode_network.specs.NetworkLists.{nodes_of, mode_at};
+    ghost use Rattle.mode_network.specs.NetworkLists.{nodes_of, letter_at};
     ghost use Rattle.phase_graph.specs.Arcs.{IsPhaseGraph, phase_node};
     ghost use Rattle.phase_graph.specs.Marks.{AreMarksFor, has_mark, is_fall};
     ghost use Rattle.hierarchy.specs.Lookups.{AreFrom};
@@ -197,7 +197,7 @@ impl<'a> Phases<'a> {
         ensures { result ≡ others_at self.now.plain.network.now self.now.plain.timetable.now v down }
     {
         if down {
-            if self.network().mode(v).is_some() {
+            if self.network().letter(v).is_some() {
                 1
             } else {
                 0
@@ -340,7 +340,7 @@ impl<'a> Phases<'a> {
         ways: &mut Vec<Way>,
     ) -> Result<(), AllocError>
         requires time { t < 2 ^ 127 }
-        requires opens { is_open letters (mode_at self.now.plain.network.now.roads (node_of p)) ≡ true }
+        requires opens { is_open letters (letter_at self.now.plain.network.now.roads (node_of p)) ≡ true }
         ensures { OnOk result (ways.new.items ≡ ways.old.items ++ ways_from
             (phase_meaning self.now.plain.network.now self.now.plain.timetable.now self.now.hierarchy.now
             self.now.marks.items) p t letters (length (rises_at self.now.hierarchy.now (node_of p)
@@ -348,7 +348,7 @@ impl<'a> Phases<'a> {
     {
         self.hierarchy.known();
         let (v, down) = split(p);
-        let letter = self.network().mode(v);
+        let letter = self.network().letter(v);
         let ups = self.rises_at(v, down).len() as u64;
         let (first, count) = self.entries_at(v);
         if self.has_mark(v) {
@@ -404,7 +404,7 @@ impl<'a> Phases<'a> {
             self.now.marks.items) p t letters (length (rises_at self.now.hierarchy.now (node_of p)
             (is_down p))) (entries_at self.now.hierarchy.now (node_of p))) }
     {
-        if is_open(letters, self.network().mode(p / 2)) {
+        if is_open(letters, self.network().letter(p / 2)) {
             self.push_open_falls(p, t, letters, ways)
         } else {
             Ok(())
@@ -491,7 +491,7 @@ impl<'a> Phases<'a> {
             self.now.marks.items) p t letters first (others_at self.now.plain.network.now
             self.now.plain.timetable.now (node_of p) (is_down p))) }
     {
-        if let Some(mode) = self.network().mode(p / 2) {
+        if let Some(mode) = self.network().letter(p / 2) {
             if is_open(letters, Some(mode)) {
                 ways.push(Way {
                     place: first,
@@ -526,8 +526,8 @@ impl Graph for Phases<'_> {
     fn arc_at(&self, p: u32, i: u64) -> GraphArc {
         let (v, down) = split(p);
         match self.phase_arc(p, i) {
-            PhaseArc::Up(place) => self.entry_arc(self.network().mode(v), place, false),
-            PhaseArc::Down(place) => self.entry_arc(self.network().mode(v), place, true),
+            PhaseArc::Up(place) => self.entry_arc(self.network().letter(v), place, false),
+            PhaseArc::Down(place) => self.entry_arc(self.network().letter(v), place, true),
             PhaseArc::Other(place) => self.other_arc(v, place, down),
         }
     }
@@ -550,7 +550,7 @@ impl Graph for Phases<'_> {
         Steady {
             first,
             count: past - first,
-            letter: self.network().mode(v),
+            letter: self.network().letter(v),
         }
     }
 
@@ -579,7 +579,7 @@ impl Graph for Phases<'_> {
         given: &mut GivenRuns,
         ways: &mut Vec<Way>,
     ) -> Result<(), AllocError> {
-        let moving = moving_letters(letters, leaving, self.network().mode(p / 2));
+        let moving = moving_letters(letters, leaving, self.network().letter(p / 2));
         self.push_falls(p, t, letters, ways)?;
         self.push_fresh_others(p, t, moving, state, given, ways)
     }

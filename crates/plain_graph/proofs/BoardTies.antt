@@ -16,7 +16,7 @@ use Rattle.timetable_arcs.specs.Rides.{rides_at, boards_at, alights}
 use Rattle.timetable_arcs.proofs.RideLemmas.{ride_to, no_board, rides_on, AreCounted, from_rides, from_counted, IsBoardOf, boards_fit}
 use Rattle.timetable_arcs.specs.Table.{IsTable}
 use Rattle.timetable_arcs.proofs.TableLemmas.{rides_few}
-use Rattle.mode_network.specs.NetworkLists.{NetworkLists, mode_at, stop_at}
+use Rattle.mode_network.specs.NetworkLists.{NetworkLists, letter_at, stop_at}
 use Rattle.plain_graph.specs.declared.plain.PlainArc.{PlainArc}
 use Rattle.plain_graph.specs.declared.plain.PlainArc.TheVariants.{Ride}
 use Rattle.plain_graph.specs.PlainArcs.{plain_arc, plain_meaning, graph_arc, arrival, count_from, rides_of, rides_from_stop, no_ride, pattern_call}
@@ -87,12 +87,12 @@ module _ (n : NetworkLists) (t : TableLists) (time letters v : ℕ) where
       ∙ ap (λ (ws : List Way). ride_at place ride ++ ws)
       (ways_are_rides (place + 1) rides (λ j lt. let next : place + 1 + j ≡ place + suc j = omega arith in ap (plain_arc n t v) next ∙ are (suc j) (omega (arith, lt))))
 
-  module _ (stop : ℕ) (found : stop_at n v ≡ Some stop) (no_road : mode_at n.roads v ≡ None) where
+  module _ (stop : ℕ) (found : stop_at n v ≡ Some stop) (no_road : letter_at n.roads v ≡ None) where
     pub at_ride : (j : ℕ) → plain_arc n t v (count_from n.arcs v + count_from n.links v + j) ≡ Ride (slice_index_or (rides_at t stop) j no_ride)
     at_ride j =
         let i = count_from n.arcs v + count_from n.links v + j in
         let rides : rides_of n t v ≡ rides_at t stop = ap (rides_from_stop t) found in
-        let none : is_some (mode_at n.roads v) ≡ false = ap is_some no_road in
+        let none : is_some (letter_at n.roads v) ≡ false = ap is_some no_road in
         let past_roads = le-ltb i (count_from n.arcs v) (omega arith) in
         let past_links = le-ltb (i - count_from n.arcs v) (count_from n.links v) (omega arith) in
         let back : i - count_from n.arcs v - count_from n.links v ≡ j = omega arith in

@@ -10,7 +10,7 @@ use Rattle.search_laws.proofs.WayLemmas.{ways_more}
 use Rattle.timetable_arcs.specs.Patterns.{TableLists}
 use Rattle.timetable_arcs.specs.Rides.{rides_at, boards_at}
 use Rattle.mode_network.specs.declared.nodes.Arc.{Arc}
-use Rattle.mode_network.specs.NetworkLists.{NetworkLists, mode_at, stop_at}
+use Rattle.mode_network.specs.NetworkLists.{NetworkLists, letter_at, stop_at}
 use Rattle.mode_network.specs.Indexes.{range_from}
 use Rattle.plain_graph.specs.declared.plain.PlainArc.{PlainArc}
 use Rattle.plain_graph.specs.declared.plain.PlainArc.TheVariants.{Road, Link, Stand}
@@ -65,39 +65,39 @@ module _ (n : NetworkLists) (t : TableLists) (time letters v : ℕ) where
 
   -- ---- the arc that stands, or the rides
 
-  pub stand_at : (mode : ℕ) → mode_at n.roads v ≡ Some mode → plain_arc n t v (roads + links) ≡ Stand
+  pub stand_at : (mode : ℕ) → letter_at n.roads v ≡ Some mode → plain_arc n t v (roads + links) ≡ Stand
   stand_at mode has =
       let past_roads = le-ltb (roads + links) roads (omega arith) in
       let past_links = le-ltb (roads + links - roads) links (omega arith) in
-      let some : is_some (mode_at n.roads v) ≡ true = ap is_some has in
+      let some : is_some (letter_at n.roads v) ≡ true = ap is_some has in
       rw (past_roads, past_links, some) refl
 
   -- where one stands no ride begins
-  no_stop : (mode : ℕ) → mode_at n.roads v ≡ Some mode → (o : Option ℕ) → stop_at n v ≡ o → length (rides_from_stop t o) ≡ 0
+  no_stop : (mode : ℕ) → letter_at n.roads v ≡ Some mode → (o : Option ℕ) → stop_at n v ≡ o → length (rides_from_stop t o) ≡ 0
   no_stop mode has None e = refl
   no_stop mode has (Some stop) e =
       let at = (stop_found n v stop e).1 in
-      let none : mode_at n.roads v ≡ None = ap (mode_at n.roads) at ∙ no_mode n stop in
+      let none : letter_at n.roads v ≡ None = ap (letter_at n.roads) at ∙ no_mode n stop in
       cc
 
-  one_stands : (mode : ℕ) → mode_at n.roads v ≡ Some mode → inner_arcs_at n t v ≡ 1
+  one_stands : (mode : ℕ) → letter_at n.roads v ≡ Some mode → inner_arcs_at n t v ≡ 1
   one_stands mode has =
       let one : stands_at n v ≡ 1 = ap (λ (o : Option ℕ). cond (is_some o) 1 0) has in
       omega (arith, one, no_stop mode has (stop_at n v) refl)
 
-  inner_is : (mode : ℕ) → mode_at n.roads v ≡ Some mode → from (roads + links) (inner_arcs_at n t v) ≡ open_way letters (roads + links) (record { to = v; letter = Some mode }) (Some time)
+  inner_is : (mode : ℕ) → letter_at n.roads v ≡ Some mode → from (roads + links) (inner_arcs_at n t v) ≡ open_way letters (roads + links) (record { to = v; letter = Some mode }) (Some time)
   inner_is mode has =
       ap (from (roads + links)) (one_stands mode has) ∙ append-nil (way_at (plain_meaning n t) v time letters (roads + links))
       ∙ way_is (roads + links) Stand (stand_at mode has) ∙ ap (λ (o : Option ℕ). open_way letters (roads + links) (record { to = v; letter = o }) (Some time)) has
 
-  pub stand_ways : (mode : ℕ) → mode_at n.roads v ≡ Some mode → is_open letters (Some mode) ≡ true
+  pub stand_ways : (mode : ℕ) → letter_at n.roads v ≡ Some mode → is_open letters (Some mode) ≡ true
       → from (roads + links) (inner_arcs_at n t v) ≡ record { place = roads + links; arc = record { to = v; letter = Some mode }; at = time } ∷ []
   stand_ways mode has opens = inner_is mode has ∙ rw opens refl
 
-  pub stand_closed : (mode : ℕ) → mode_at n.roads v ≡ Some mode → is_open letters (Some mode) ≡ false → from (roads + links) (inner_arcs_at n t v) ≡ []
+  pub stand_closed : (mode : ℕ) → letter_at n.roads v ≡ Some mode → is_open letters (Some mode) ≡ false → from (roads + links) (inner_arcs_at n t v) ≡ []
   stand_closed mode has closed = inner_is mode has ∙ rw closed refl
 
-  pub rides_ways : (stop : ℕ) → mode_at n.roads v ≡ None → stop_at n v ≡ Some stop
+  pub rides_ways : (stop : ℕ) → letter_at n.roads v ≡ None → stop_at n v ≡ Some stop
       → from (roads + links) (inner_arcs_at n t v) ≡ boards_ways n t time letters (roads + links) (boards_at t stop)
   rides_ways stop none found =
       let stands : stands_at n v ≡ 0 = ap (λ (o : Option ℕ). cond (is_some o) 1 0) none in
@@ -106,13 +106,13 @@ module _ (n : NetworkLists) (t : TableLists) (time letters v : ℕ) where
       ap (from (roads + links)) all ∙ stop_ways n t time letters v stop found none
 
 -- behind the road arcs of a road node come its links, and one that stands
-module _ (n : NetworkLists) (t : TableLists) (v mode : ℕ) (has : mode_at n.roads v ≡ Some mode) where
+module _ (n : NetworkLists) (t : TableLists) (v mode : ℕ) (has : letter_at n.roads v ≡ Some mode) where
   pub link_or_stand : (k : ℕ) → count_from n.arcs v ≤ k → ((x : Arc) × (plain_arc n t v k ≡ Link x)) ⊎ (plain_arc n t v k ≡ Stand)
   link_or_stand k from = go (nat_lt (k - count_from n.arcs v) (count_from n.links v)) refl where
     past : nat_lt k (count_from n.arcs v) ≡ false
     past = le-ltb k (count_from n.arcs v) from
 
-    some : is_some (mode_at n.roads v) ≡ true
+    some : is_some (letter_at n.roads v) ≡ true
     some = ap is_some has
 
     go : (b : Bool) → nat_lt (k - count_from n.arcs v) (count_from n.links v) ≡ b → ((x : Arc) × (plain_arc n t v k ≡ Link x)) ⊎ (plain_arc n t v k ≡ Stand)
@@ -120,17 +120,17 @@ module _ (n : NetworkLists) (t : TableLists) (v mode : ℕ) (has : mode_at n.roa
     go false e = inr (rw (past, e, some) refl)
 
 -- so each of them with a letter stands still, where no move by that leads to another state
-pub past_roads_stand : (n : NetworkLists) (t : TableLists) (v time leaving : ℕ) → is_open leaving (mode_at n.roads v) ≡ false → (k at c : ℕ) → count_from n.arcs v ≤ k
+pub past_roads_stand : (n : NetworkLists) (t : TableLists) (v time leaving : ℕ) → is_open leaving (letter_at n.roads v) ≡ false → (k at c : ℕ) → count_from n.arcs v ≤ k
     → (plain_meaning n t).arrive v k time ≡ Some at → ((plain_meaning n t).arc_at v k).letter ≡ Some c
     → StandsStill v time leaving (record { place = k; arc = (plain_meaning n t).arc_at v k; at = at })
-past_roads_stand n t v time leaving closed k at c from arrives is = by_mode (mode_at n.roads v) refl where
-  by_mode : (o : Option ℕ) → mode_at n.roads v ≡ o → StandsStill v time leaving (record { place = k; arc = (plain_meaning n t).arc_at v k; at = at })
+past_roads_stand n t v time leaving closed k at c from arrives is = by_mode (letter_at n.roads v) refl where
+  by_mode : (o : Option ℕ) → letter_at n.roads v ≡ o → StandsStill v time leaving (record { place = k; arc = (plain_meaning n t).arc_at v k; at = at })
   by_mode None e = absurd (false≢true (sym closed ∙ ap (is_open leaving) e))
   by_mode (Some mode) e = elim (link_or_stand n t v mode e k from) [
     | inl (x, link) ↦ (let none : None ≡ Some c = sym (ap (λ (a : PlainArc). (graph_arc n t v a).letter) link) ∙ is in cc)
     | inr stand ↦ (let now : Some time ≡ Some at = sym (ap (arrival t time) stand) ∙ arrives in
         let same : time ≡ at = cc in
-        let letter : mode_at n.roads v ≡ Some c = sym (ap (λ (a : PlainArc). (graph_arc n t v a).letter) stand) ∙ is in
+        let letter : letter_at n.roads v ≡ Some c = sym (ap (λ (a : PlainArc). (graph_arc n t v a).letter) stand) ∙ is in
         record {
           to = ap (λ (a : PlainArc). (graph_arc n t v a).to) stand;
           at = sym same;

@@ -16,10 +16,10 @@ use Rattle.timetable_arcs.specs.Rides.{IsRideAt}
 use Rattle.timetable_arcs.specs.Table.{IsTable}
 use Rattle.timetable_arcs.proofs.TableLemmas.{arrives_small, next_rises, next_stays, trip_of_pattern}
 use Rattle.mode_network.specs.declared.nodes.Arc.{Arc}
-use Rattle.mode_network.specs.NetworkLists.{NetworkLists, nodes_of, mode_at}
+use Rattle.mode_network.specs.NetworkLists.{NetworkLists, nodes_of, letter_at}
 use Rattle.mode_network.specs.Rules.{IsNetwork}
 use Rattle.mode_network.specs.Timetables.{IsTimetableOf}
-use Rattle.mode_network.proofs.RuleLemmas.{both, some_is, links_in_range, arcs_in_range, mode_is_road, nodes_hold_roads}
+use Rattle.mode_network.proofs.RuleLemmas.{both, some_is, links_in_range, arcs_in_range, letter_is_road, nodes_hold_roads}
 use Rattle.plain_graph.specs.declared.plain.PlainArc.{PlainArc}
 use Rattle.plain_graph.specs.declared.plain.PlainArc.TheVariants.{Road, Link, Stand, Ride}
 use Rattle.plain_graph.specs.PlainArcs.{pattern_call, plain_arc, plain_meaning, graph_arc, run_at, arrival, no_arc}
@@ -56,7 +56,7 @@ module _ (n : NetworkLists) (network : IsNetwork n) (t : TableLists) (table : Is
       let inside = subst (λ x. x < length n.roads) (ap (λ (a : Arc). a.from) out.is ∙ out.begins) (arcs_in_range n network out.place no_arc out.within).0 in
       omega (arith, nodes_hold_roads n)
   node_of v (Link link) out = subst (λ x. x < length (nodes_of n)) (ap (λ (a : Arc). a.from) out.is ∙ out.begins) (links_in_range n network out.place no_arc out.within).0
-  node_of v Stand out = let inside = (mode_is_road n network v out.0 out.1).0 in omega (arith, nodes_hold_roads n)
+  node_of v Stand out = let inside = (letter_is_road n network v out.0 out.1).0 in omega (arith, nodes_hold_roads n)
   node_of v (Ride ride) out = subst (λ x. x < length (nodes_of n)) (sym out.at) (stops_in_range out.stop out.is_stop)
 
   leads_in_range : (v : ℕ) (a : PlainArc) → IsOut n t v a → (graph_arc n t v a).to < length (nodes_of n)
@@ -67,9 +67,9 @@ module _ (n : NetworkLists) (network : IsNetwork n) (t : TableLists) (table : Is
   leads_in_range v Stand out = node_of v Stand out
   leads_in_range v (Ride ride) out = stops_in_range (pattern_call t ride.pattern ride.alight).stop (alights_at_stop out.stop ride out.ride_at)
 
-  mode_fits : (v : ℕ) (o : Option ℕ) → mode_at n.roads v ≡ o → IfSome o IsLetter
+  mode_fits : (v : ℕ) (o : Option ℕ) → letter_at n.roads v ≡ o → IfSome o IsLetter
   mode_fits v None e = tt
-  mode_fits v (Some mode) e = let low = mode_is_road n network v mode e in omega (arith, low.1)
+  mode_fits v (Some mode) e = let low = letter_is_road n network v mode e in omega (arith, low.1)
 
   letter_fits : (v : ℕ) (a : PlainArc) → IsOut n t v a → IfSome (graph_arc n t v a).letter IsLetter
   letter_fits v (Road arc) out = mode_fits v _ refl

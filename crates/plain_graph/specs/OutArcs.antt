@@ -1,6 +1,6 @@
 -- The arcs out of a node are the network's own, and each has a place among them.
 use Rattle.std.proofs.Common.{◌≡◌, List, ℕ, ◌+◌, ◌-◌, ◌<◌, ◌≤◌, ◌∙◌, cond, length, nat_lt, nat_le, ◌&&◌, Bool, true, false, Option, Some, None, refl, ap, subst, arith}
-use Rattle.std.specs.Prelude.{slice_index_or, is_some, option_and_then}
+use Rattle.std.specs.Prelude.{slice_index_or, is_some, option_and_then, option_map}
 use Rattle.std.proofs.lemmas.Bool.{ltb-true, ltb-false, leb-true, le-leb, lt-ltb, le-ltb}
 use Rattle.std.proofs.lemmas.Option.{slice_get-get_or, get_or_from_slice_get, slice_get_past}
 use Rattle.timetable_arcs.specs.declared.rides.Ride.{Ride as RideCalls}
@@ -8,9 +8,10 @@ use Rattle.timetable_arcs.specs.Patterns.{TableLists}
 use Rattle.timetable_arcs.specs.Rides.{rides_at, IsRideAt}
 use Rattle.timetable_arcs.specs.Table.{IsTable}
 use Rattle.timetable_arcs.proofs.TableLemmas.{ride_fits, ride_there}
+use Rattle.plan_base.specs.Modes.{number_of_mode}
 use Rattle.mode_network.specs.declared.nodes.Node.{Node}
 use Rattle.mode_network.specs.declared.nodes.Arc.{Arc}
-use Rattle.mode_network.specs.NetworkLists.{NetworkLists, mode_of, mode_at, stop_at, stop_node}
+use Rattle.mode_network.specs.NetworkLists.{NetworkLists, mode_of, letter_at, stop_at, stop_node}
 use Rattle.mode_network.specs.Rules.{IsNetwork, IsAscending, arc_cmp}
 use Rattle.mode_network.specs.Indexes.{range_from}
 use Rattle.mode_network.proofs.IndexLemmas.{range_is_range, begins_in_range, in_range_of_begin}
@@ -36,7 +37,7 @@ pub record IsRideFrom (n : NetworkLists) (t : TableLists) (v : ℕ) (ride : Ride
 abbrev pub IsOut : NetworkLists → TableLists → ℕ → PlainArc → Type 0
 IsOut n t v (Road arc) = IsArcFrom n.arcs v arc
 IsOut n t v (Link link) = IsArcFrom n.links v link
-IsOut n t v Stand = (mode : ℕ) × (mode_at n.roads v ≡ Some mode)
+IsOut n t v Stand = (mode : ℕ) × (letter_at n.roads v ≡ Some mode)
 IsOut n t v (Ride ride) = IsRideFrom n t v ride
 
 -- what stop_at finds is the stop of that node number
@@ -60,8 +61,8 @@ stop_is_found n stop h =
     rw (from, back, lt-ltb _ _ h) refl
 
 -- no stop is a road node
-pub no_mode : (n : NetworkLists) (stop : ℕ) → mode_at n.roads (stop_node n stop) ≡ None
-no_mode n stop = ap (option_and_then (λ (node : Node). mode_of node.key)) (slice_get_past n.roads (length n.roads + stop) (omega arith))
+pub no_mode : (n : NetworkLists) (stop : ℕ) → letter_at n.roads (stop_node n stop) ≡ None
+no_mode n stop = ap (λ (node : Option Node). option_map number_of_mode (option_and_then (λ (node : Node). mode_of node.key) node)) (slice_get_past n.roads (length n.roads + stop) (omega arith))
 
 module _ (n : NetworkLists) (network : IsNetwork n) (t : TableLists) (table : IsTable t) where
   listed : (arcs : List Arc) → IsAscending arc_cmp arcs → (v i : ℕ) → i < count_from arcs v → IsArcFrom arcs v (slice_index_or arcs ((range_from arcs v).0 + i) no_arc)
@@ -86,7 +87,7 @@ module _ (n : NetworkLists) (network : IsNetwork n) (t : TableLists) (table : Is
       }
 
   pub out_of : (v i : ℕ) → i < arcs_at n t v → IsOut n t v (plain_arc n t v i)
-  out_of v i h = by_kind (nat_lt i (count_from n.arcs v)) refl (nat_lt (i - count_from n.arcs v) (count_from n.links v)) refl (mode_at n.roads v) refl
+  out_of v i h = by_kind (nat_lt i (count_from n.arcs v)) refl (nat_lt (i - count_from n.arcs v) (count_from n.links v)) refl (letter_at n.roads v) refl
     where
       road : Arc
       road = slice_index_or n.arcs ((range_from n.arcs v).0 + i) no_arc
@@ -98,7 +99,7 @@ module _ (n : NetworkLists) (network : IsNetwork n) (t : TableLists) (table : Is
       k = i - count_from n.arcs v - count_from n.links v
 
       by_kind : (s : Bool) → nat_lt i (count_from n.arcs v) ≡ s → (l : Bool) → nat_lt (i - count_from n.arcs v) (count_from n.links v) ≡ l
-          → (r : Option ℕ) → mode_at n.roads v ≡ r → IsOut n t v (cond s (Road road) (cond l (Link link) (cond (is_some r) Stand (Ride (slice_index_or (rides_of n t v) k no_ride)))))
+          → (r : Option ℕ) → letter_at n.roads v ≡ r → IsOut n t v (cond s (Road road) (cond l (Link link) (cond (is_some r) Stand (Ride (slice_index_or (rides_of n t v) k no_ride)))))
       by_kind true e l f r g = listed n.arcs network.arcs_ascend v i (ltb-true _ _ e)
       by_kind false e true f r g = listed n.links network.links_ascend v (i - count_from n.arcs v) (ltb-true _ _ f)
       by_kind false e false f (Some mode) g = (mode, g)
@@ -138,7 +139,7 @@ module _ (n : NetworkLists) (network : IsNetwork n) (t : TableLists) (table : Is
   place_of v Stand out =
       let i = count_from n.arcs v + count_from n.links v in
       let one : stands_at n v ≡ 1 = ap (λ (o : Option ℕ). cond (is_some o) 1 0) out.1 in
-      let some : is_some (mode_at n.roads v) ≡ true = ap is_some out.1 in
+      let some : is_some (letter_at n.roads v) ≡ true = ap is_some out.1 in
       let past_roads = le-ltb i (count_from n.arcs v) (omega arith) in
       let past_links = le-ltb (i - count_from n.arcs v) (count_from n.links v) (omega arith) in
       record { i = i; within = omega arith; is = rw (past_roads, past_links, some) refl }
@@ -146,7 +147,7 @@ module _ (n : NetworkLists) (network : IsNetwork n) (t : TableLists) (table : Is
       let at = ride_there t table out.stop ride out.ride_at in
       let i = count_from n.arcs v + count_from n.links v + at.0 in
       let rides : rides_of n t v ≡ rides_at t out.stop = ap (rides_from_stop t) (ap (stop_at n) out.at ∙ stop_is_found n out.stop out.is_stop) in
-      let none : is_some (mode_at n.roads v) ≡ false = ap is_some (ap (mode_at n.roads) out.at ∙ no_mode n out.stop) in
+      let none : is_some (letter_at n.roads v) ≡ false = ap is_some (ap (letter_at n.roads) out.at ∙ no_mode n out.stop) in
       let stands : stands_at n v ≡ 0 = rw none refl in
       let past_roads = le-ltb i (count_from n.arcs v) (omega arith) in
       let past_links = le-ltb (i - count_from n.arcs v) (count_from n.links v) (omega arith) in

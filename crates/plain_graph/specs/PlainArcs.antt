@@ -10,7 +10,7 @@ use Rattle.timetable_arcs.specs.declared.rides.Ride.{Ride as RideCalls}
 use Rattle.timetable_arcs.specs.Patterns.{TableLists, pattern_trip, next_run, arrives, no_call}
 use Rattle.timetable_arcs.specs.Rides.{rides_at}
 use Rattle.mode_network.specs.declared.nodes.Arc.{Arc}
-use Rattle.mode_network.specs.NetworkLists.{NetworkLists, nodes_of, mode_at, stop_at, stop_node}
+use Rattle.mode_network.specs.NetworkLists.{NetworkLists, nodes_of, letter_at, stop_at, stop_node}
 use Rattle.mode_network.specs.Indexes.{range_from}
 use Rattle.plain_graph.specs.declared.plain.PlainArc.{PlainArc}
 use Rattle.plain_graph.specs.declared.plain.PlainArc.TheVariants.{Road, Link, Stand, Ride}
@@ -20,11 +20,11 @@ count_from arcs v = (range_from arcs v).1 - (range_from arcs v).0
 
 -- the road arcs, which stand first, are steady
 abbrev pub roads_at : NetworkLists → ℕ → Steady
-roads_at n v = record { first = (range_from n.arcs v).0; count = count_from n.arcs v; letter = mode_at n.roads v }
+roads_at n v = record { first = (range_from n.arcs v).0; count = count_from n.arcs v; letter = letter_at n.roads v }
 
 -- one arc stands at a road node, and none elsewhere
 abbrev pub stands_at : NetworkLists → ℕ → ℕ
-stands_at n v = if is_some (mode_at n.roads v) then 1 else 0
+stands_at n v = if is_some (letter_at n.roads v) then 1 else 0
 
 -- the rides that begin at a stop, and none elsewhere
 abbrev pub rides_from_stop : TableLists → Option ℕ → List RideCalls
@@ -49,7 +49,7 @@ no_ride = record { pattern = 0; board = 0; alight = 0 }
 
 -- the one that stands, or the ride at a place of those out of a node
 abbrev pub inner_arc : NetworkLists → TableLists → ℕ → ℕ → PlainArc
-inner_arc n t v k = if is_some (mode_at n.roads v) then Stand else Ride (slice_index_or (rides_of n t v) k no_ride)
+inner_arc n t v k = if is_some (letter_at n.roads v) then Stand else Ride (slice_index_or (rides_of n t v) k no_ride)
 
 -- the arc at a place of those out of a node: first come the road arcs and then the links, in the network's order, and then the one that
 -- stands, or the rides, in the timetable's order
@@ -73,9 +73,9 @@ pattern_call t p call = slice_index_or (pattern_trip t p).calls call no_call
 
 -- where it leads, and its letter
 abbrev pub graph_arc : NetworkLists → TableLists → ℕ → PlainArc → GraphArc
-graph_arc n t v (Road arc) = record { to = arc.to; letter = mode_at n.roads v }
+graph_arc n t v (Road arc) = record { to = arc.to; letter = letter_at n.roads v }
 graph_arc n t v (Link link) = record { to = link.to; letter = None }
-graph_arc n t v Stand = record { to = v; letter = mode_at n.roads v }
+graph_arc n t v Stand = record { to = v; letter = letter_at n.roads v }
 graph_arc n t v (Ride ride) = record { to = stop_node n (pattern_call t ride.pattern ride.alight).stop; letter = Some (pattern_trip t ride.pattern).letter }
 
 -- the run that a ride takes at a time: the next one that departs where it begins

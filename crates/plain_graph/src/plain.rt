@@ -52,7 +52,7 @@ impl<'a> Plain<'a> {
     ghost use Rattle.timetable_arcs.specs.Patterns.{runs_of, pattern_trip, arrives};
     ghost use Rattle.timetable_arcs.specs.Table.{IsTable};
     ghost use Rattle.plain_graph.specs.Rides.{IsRideOf, IsKnownRide};
-    ghost use Rattle.mode_network.specs.NetworkLists.{nodes_of, stop_node, mode_at};
+    ghost use Rattle.mode_network.specs.NetworkLists.{nodes_of, stop_node, letter_at};
     ghost use Rattle.mode_network.specs.Timetables.{IsTimetableOf};
     ghost use Rattle.plain_graph.specs.PlainArcs.{plain_meaning, count_from, plain_arc, inner_arc, arcs_at, inner_arcs_at, rides_of, ride_of, run_at, pattern_call};
     ghost use Rattle.plain_graph.specs.Simulation.{WalksAreJourneys, JourneysAreWalks, ArcsAreSteps, StepsAreArcs};
@@ -119,7 +119,7 @@ impl<'a> Plain<'a> {
         ensures ride { IsKnownRide self.now.timetable.now result }
     {
         self.timetable.known();
-        match (self.network.mode(v), self.network.stop_at(v)) {
+        match (self.network.letter(v), self.network.stop_at(v)) {
             (None, Some(stop)) => PlainArc::Ride(self.timetable.ride(stop, i)),
             _ => PlainArc::Stand,
         }
@@ -389,30 +389,30 @@ impl<'a> Plain<'a> {
         Ok(())
     }
 
-    /// Appends the arc that stands at the road node `v`, if its mode is in the set, as the arc at this place.
+    /// Appends the arc that stands at the road node `v`, if its letter is in the set, as the arc at this place.
     fn push_stand(
         &self,
         v: u32,
-        mode: u8,
+        letter: u8,
         place: u64,
         t: Time,
         letters: u32,
         ways: &mut Vec<Way>,
     ) -> Result<(), AllocError>
         requires node { v < length (nodes_of self.now.network.now) }
-        requires mode { mode_at self.now.network.now.roads v ≡ Some mode }
+        requires letter { letter_at self.now.network.now.roads v ≡ Some letter }
         requires place { place ≡ count_from self.now.network.now.arcs v + count_from
             self.now.network.now.links v }
         ensures { OnOk result (ways.new.items ≡ ways.old.items ++ ways_from
             (plain_meaning self.now.network.now self.now.timetable.now) v t letters place
             (inner_arcs_at self.now.network.now self.now.timetable.now v)) }
     {
-        if is_open(letters, Some(mode)) {
+        if is_open(letters, Some(letter)) {
             ways.push(Way {
                 place,
                 arc: GraphArc {
                     to: v,
-                    letter: Some(mode),
+                    letter: Some(letter),
                 },
                 at: t,
             })?;
@@ -441,8 +441,8 @@ impl<'a> Plain<'a> {
             letters first (inner_arcs_at self.now.network.now self.now.timetable.now v)) ways.old.items
             ways.new.items) }
     {
-        match (self.network.mode(v), self.network.stop_at(v)) {
-            (Some(mode), _) => self.push_stand(v, mode, first, t, letters, ways)?,
+        match (self.network.letter(v), self.network.stop_at(v)) {
+            (Some(letter), _) => self.push_stand(v, letter, first, t, letters, ways)?,
             (None, Some(stop)) => {
                 self.push_fresh_boards(stop, first, t, letters, state, given, ways)?
             }
@@ -515,17 +515,21 @@ impl Graph for Plain<'_> {
     fn arcs(&self, v: u32) -> u64 {
         let (first_arc, past_arc) = self.network.arcs_from(v);
         let (first_link, past_link) = self.network.links_from(v);
-        let stands = if self.network.mode(v).is_some() { 1 } else { 0 };
+        let stands = if self.network.letter(v).is_some() {
+            1
+        } else {
+            0
+        };
         (past_arc - first_arc) as u64 + (past_link - first_link) as u64 + stands + self.rides(v)
     }
 
     fn arc_at(&self, v: u32, i: u64) -> GraphArc {
         match self.plain_arc(v, i) {
-            PlainArc::Road(arc) => with_letter(arc, self.network.mode(v)),
+            PlainArc::Road(arc) => with_letter(arc, self.network.letter(v)),
             PlainArc::Link(link) => with_letter(link, None),
             PlainArc::Stand => GraphArc {
                 to: v,
-                letter: self.network.mode(v),
+                letter: self.network.letter(v),
             },
             PlainArc::Ride(ride) => self.ride_arc(ride),
         }
@@ -544,7 +548,7 @@ impl Graph for Plain<'_> {
         let (first_arc, past_arc) = self.network.arcs_from(v);
         let (first_link, past_link) = self.network.links_from(v);
         let outer = (past_arc - first_arc) as u64 + (past_link - first_link) as u64;
-        match (self.network.mode(v), self.network.stop_at(v)) {
+        match (self.network.letter(v), self.network.stop_at(v)) {
             (None, Some(stop)) if outer <= i => {
                 outer + past_board(self.timetable, stop, i - outer)
             }
@@ -560,7 +564,7 @@ impl Graph for Plain<'_> {
         Steady {
             first: u64::from(first),
             count: u64::from(past - first),
-            letter: self.network.mode(v),
+            letter: self.network.letter(v),
         }
     }
 
@@ -586,7 +590,7 @@ impl Graph for Plain<'_> {
         given: &mut GivenRuns,
         ways: &mut Vec<Way>,
     ) -> Result<(), AllocError> {
-        let moving = moving_letters(letters, leaving, self.network.mode(v));
+        let moving = moving_letters(letters, leaving, self.network.letter(v));
         self.push_fresh_past_roads(v, t, moving, state, given, ways)
     }
 

@@ -14,6 +14,9 @@ use Rattle.std.proofs.lemmas.Map.Text.{is_eq-slice_cmp}
 use Rattle.std.proofs.lemmas.Slice.Eq.{bytes_eq-Decides}
 use Rattle.plain_texts.specs.Escape.{escaped}
 use Rattle.plain_texts.proofs.EscapeLaws.{escaped_of_one}
+use Rattle.plan_base.specs.Modes.{number_of_mode}
+use Rattle.plan_base.specs.declared.modes.Mode.{Mode}
+use Rattle.plan_base.specs.declared.modes.Mode.TheVariants.{Foot, Bike, Car}
 use Rattle.plan_base.specs.declared.places.Place.{Place}
 use Rattle.geo_length.proofs.NearestLaws.{IsNearest-only}
 use Rattle.opl_reader.specs.declared.objects.Amenity.{Amenity}
@@ -25,8 +28,8 @@ use Rattle.road_profile.specs.declared.rows.RoadRow.{RoadRow}
 use Rattle.gtfs_tables.specs.declared.stops.StopRow.{StopRow}
 use Rattle.mode_network.specs.Rules.{name_cmp}
 use Rattle.mode_network.specs.declared.nodes.Node.{Node}
-use Rattle.mode_network.proofs.RuleLemmas.{names_total}
-use Rattle.region_build.specs.Ends.{AreEnds, End, end_cmp, ends_at, once_behind}
+use Rattle.mode_network.proofs.RuleLemmas.{mode_by_number, names_total}
+use Rattle.region_build.specs.Ends.{AreEnds, End, end_cmp, ends_at, key_of_end, once_behind}
 use Rattle.region_build.specs.Links.{FindsNearest, join, join_links, layer, linked_to, links_at, stop_joins, stop_links, switch_joins, switch_links}
 use Rattle.region_build.specs.StopNames.{entries_from}
 use Rattle.region_build.specs.Switches.{AreSwitches, is_switch, switch_at}
@@ -34,20 +37,26 @@ use Rattle.promises.proofs.OrderLemmas.{ascending_once, distinct_by, distinct_on
 
 -- ---- roads
 
+end_total : IsTotalOrder end_cmp
+end_total = then_total (on_total (λ (end : End). end.0) int_cmp_total) (on_total (λ (end : End). number_of_mode end.1) nat_cmp_total)
+
+-- ends that stand at one place of the order are one
+exact_end : (x e : End) → end_cmp x e ≡ Equal → x ≡ e
+exact_end x e is =
+    let keys : key_of_end x ≡ key_of_end e = exact_pairs int_cmp nat_cmp exact_signed exact_unsigned (key_of_end x) (key_of_end e) is in
+    ap₂ (λ (id : ℤ) (mode : Mode). (id, mode)) (ap (λ (key : ℤ × ℕ). key.0) keys) (mode_by_number x.1 e.1 (ap (λ (key : ℤ × ℕ). key.1) keys))
+
 rows_total : IsTotalOrder row_cmp
-rows_total = then_total (on_total (λ (row : RoadRow). row.from) int_cmp_total) (then_total (on_total (λ (row : RoadRow). row.to) int_cmp_total) (on_total (λ (row : RoadRow). row.mode) nat_cmp_total))
+rows_total = then_total (on_total (λ (row : RoadRow). row.from) int_cmp_total) (then_total (on_total (λ (row : RoadRow). row.to) int_cmp_total) (on_total (λ (row : RoadRow). number_of_mode row.mode) nat_cmp_total))
 
 pub rows_once : (legs xs ys : List RoadRow) → AreArcsOf legs xs → AreArcsOf legs ys → xs ≡ ys
 rows_once legs xs ys one other =
     ascending_once row_cmp rows_total xs ys one.ascending other.ascending
     (λ z has. (other.arcs z).1 ((one.arcs z).0 has)) (λ z has. (one.arcs z).1 ((other.arcs z).0 has))
 
-ends_total : IsTotalOrder end_cmp
-ends_total = then_total (on_total (λ (end : End). end.0) int_cmp_total) (on_total (λ (end : End). end.1) nat_cmp_total)
-
 pub ends_once : (rows : List RoadRow) (xs ys : List End) → AreEnds rows xs → AreEnds rows ys → xs ≡ ys
 ends_once rows xs ys one other =
-    let sorted = sorted_once end_cmp ends_total (λ x y e. exact_pairs int_cmp nat_cmp exact_signed exact_unsigned x y e) (flat_map ends_at rows) one.sorted other.sorted one.same other.same one.ascend other.ascend in
+    let sorted = sorted_once end_cmp end_total exact_end (flat_map ends_at rows) one.sorted other.sorted one.same other.same one.ascend other.ascend in
     one.once ∙ ap (once_behind []) sorted ∙ sym other.once
 
 -- ---- stops
@@ -130,23 +139,23 @@ switches_once objects sound xs ys one other =
 
 -- ---- links
 
-module _ (roads : List Node) (ends : List End) (near other : ℕ → Place → Option (ℤ × ℕ)) (finds : FindsNearest roads near) (also : FindsNearest roads other) where
-  same_near : (mode : ℕ) (place : Place) → mode ≤ 2 → near mode place ≡ other mode place
-  same_near mode place le = IsNearest-only place 500000 (layer mode roads) (near mode place) (other mode place) (finds.nearest mode place le) (also.nearest mode place le)
+module _ (roads : List Node) (ends : List End) (near other : Mode → Place → Option (ℤ × ℕ)) (finds : FindsNearest roads near) (also : FindsNearest roads other) where
+  same_near : (mode : Mode) (place : Place) → near mode place ≡ other mode place
+  same_near mode place = IsNearest-only place 500000 (layer mode roads) (near mode place) (other mode place) (finds.nearest mode place) (also.nearest mode place)
 
   at_stop : (k : ℕ) (place : Place) → links_at near ends k place stop_joins ≡ links_at other ends k place stop_joins
   unfolding links_at join_links
-  at_stop k place = ap (λ x. linked_to ends (join 0 true true) k x ++ []) (same_near 0 place (omega arith))
+  at_stop k place = ap (λ x. linked_to ends (join Foot true true) k x ++ []) (same_near Foot place)
 
   at_switch : (k : ℕ) (place : Place) (amenity : Amenity) → links_at near ends k place (switch_joins amenity) ≡ links_at other ends k place (switch_joins amenity)
   unfolding links_at join_links
   at_switch k place Nothing = refl
   at_switch k place Parking =
-      ap₂ (λ x y. linked_to ends (join 2 true true) k x ++ (linked_to ends (join 0 true true) k y ++ [])) (same_near 2 place (omega arith)) (same_near 0 place (omega arith))
+      ap₂ (λ x y. linked_to ends (join Car true true) k x ++ (linked_to ends (join Foot true true) k y ++ [])) (same_near Car place) (same_near Foot place)
   at_switch k place BicycleParking =
-      ap₂ (λ x y. linked_to ends (join 1 true false) k x ++ (linked_to ends (join 0 false true) k y ++ [])) (same_near 1 place (omega arith)) (same_near 0 place (omega arith))
+      ap₂ (λ x y. linked_to ends (join Bike true false) k x ++ (linked_to ends (join Foot false true) k y ++ [])) (same_near Bike place) (same_near Foot place)
   at_switch k place BicycleRental =
-      ap₂ (λ x y. linked_to ends (join 0 true true) k x ++ (linked_to ends (join 1 true true) k y ++ [])) (same_near 0 place (omega arith)) (same_near 1 place (omega arith))
+      ap₂ (λ x y. linked_to ends (join Foot true true) k x ++ (linked_to ends (join Bike true true) k y ++ [])) (same_near Foot place) (same_near Bike place)
 
   pub stop_links_once : (k : ℕ) (entries : _) → stop_links near ends k entries ≡ stop_links other ends k entries
   stop_links_once k [] = refl

@@ -15,6 +15,8 @@ use Rattle.opl_reader.specs.ObjectLists.{ObjectLists}
 use Rattle.road_profile.specs.Arcs.{JoinsPlaces, row_cmp}
 use Rattle.road_profile.specs.declared.rows.RoadRow.{RoadRow}
 use Rattle.road_profile.proofs.EndLaws.{arcs_joined}
+use Rattle.plan_base.specs.Modes.{number_of_mode}
+use Rattle.mode_network.proofs.RuleLemmas.{mode_is_same}
 use Rattle.mode_network.specs.NetworkLists.{mode_at}
 use Rattle.mode_network.specs.Rules.{arc_cmp, end_or_order_fault, first_unsorted, is_same_mode, joins_modes}
 use Rattle.mode_network.specs.declared.nodes.Arc.{Arc}
@@ -64,7 +66,7 @@ module _ (ends : List End) where
     where
       equal_is_not_below : (row other : RoadRow) → row.from ≡ other.from → row.to ≡ other.to → row.mode ≡ other.mode → row_cmp row other ≡ Less → ⊥
       equal_is_not_below row other from to mode below =
-          let tied : row_cmp row other ≡ Equal = rw (from, to, mode, tied_itself int_cmp_total other.from, tied_itself int_cmp_total other.to, tied_itself nat_cmp_total other.mode) refl in
+          let tied : row_cmp row other ≡ Equal = rw (from, to, mode, tied_itself int_cmp_total other.from, tied_itself int_cmp_total other.to, tied_itself nat_cmp_total (number_of_mode other.mode)) refl in
           not_both (sym below ∙ tied)
         where
           not_both : Less ≡ Equal → ⊥
@@ -107,7 +109,7 @@ module _ (objects : ObjectLists) (ends : List End) (nodes : List Node) (arcs : L
       by_numbers (Some from) (Some to) p q =
           let one : mode_at nodes from ≡ Some row.mode = mode_of_number objects ends nodes arcs are (row.from, row.mode) from p in
           let two : mode_at nodes to ≡ Some row.mode = mode_of_number objects ends nodes arcs are (row.to, row.mode) to q in
-          let mode : is_same_mode (mode_at nodes from) (mode_at nodes to) ≡ true = rw (one, two) (let itself : nat_eq row.mode row.mode ≡ true = grind (arith, nat_tests) in itself) in
+          let mode : is_same_mode (mode_at nodes from) (mode_at nodes to) ≡ true = rw (one, two) (mode_is_same row.mode) in
           All-cons (λ arc. joins_modes nodes arc ≡ true) (record { from = from; to = to; ms = row.ms }) []
           (and_from (is_same_mode (mode_at nodes from) (mode_at nodes to)) (not (from == to)) mode (apart (nat_eq from to) refl))
           (All-nil (λ arc. joins_modes nodes arc ≡ true))

@@ -1,5 +1,5 @@
 -- The ends of a map's road arcs ascend, each has a number of its own, and the road nodes are theirs.
-use Rattle.std.proofs.Common.{◌≡◌, ℕ, suc, ◌+◌, ◌<◌, List, [], ◌∷◌, ◌++◌, length, map, get_or, Bool, true, false, ◌||◌, Option, None, Some, if◌then◌else◌, refl, sym, ap, subst, ◌∙◌, arith}
+use Rattle.std.proofs.Common.{◌≡◌, ℕ, ℤ, ap₂, suc, ◌+◌, ◌<◌, List, [], ◌∷◌, ◌++◌, length, map, get_or, Bool, true, false, ◌||◌, Option, None, Some, if◌then◌else◌, refl, sym, ap, subst, ◌∙◌, arith}
 use Rattle.std.specs.Prelude.{is_some, nat_eq, option_and_then, option_map, option_to_list, slice_get}
 use Rattle.std.specs.Cmp.{IsTotalOrder, nat_cmp_total, int_cmp_total}
 use Rattle.std.specs.List.{All, flat_map, list_any}
@@ -8,7 +8,7 @@ use Rattle.std.specs.Ordering.{int_cmp, int_eq, is_lt, nat_cmp, ordering_reverse
 use Rattle.std.specs.declared.cmp.Ordering.{Ordering}
 use Rattle.std.specs.declared.cmp.Ordering.TheVariants.{Less, Equal, Greater}
 use Rattle.std.proofs.lemmas.Bool.{and_from, and_parts, false≢true}
-use Rattle.std.proofs.lemmas.Bool.Decides.{Decides-int_eq, nat_tests}
+use Rattle.std.proofs.lemmas.Bool.Decides.{Decides-int_eq}
 use Rattle.std.proofs.lemmas.Cmp.{on_total, then_total}
 use Rattle.std.proofs.lemmas.List.{length-map}
 use Rattle.std.proofs.lemmas.List.Elements.{All-append, All-cons, All-head, All-nil, All-tail}
@@ -16,11 +16,14 @@ use Rattle.std.proofs.lemmas.List.Quantifiers.{position-Some}
 use Rattle.std.proofs.lemmas.List.Sorted.{All-permutation, ranks_by, sorted_far}
 use Rattle.std.proofs.lemmas.Map.Lookups.{exact_pairs, exact_signed, exact_unsigned}
 use Rattle.std.proofs.lemmas.Option.{slice_get-get_or, slice_get-map}
+use Rattle.plan_base.specs.Modes.{number_of_mode}
+use Rattle.plan_base.specs.declared.modes.Mode.{Mode}
 use Rattle.plan_base.specs.declared.places.Place.{Place}
 use Rattle.opl_reader.specs.ObjectLists.{ObjectLists}
 use Rattle.road_profile.specs.Arcs.{JoinsPlaces}
 use Rattle.road_profile.specs.Legs.{place_of_node}
 use Rattle.road_profile.proofs.EndLaws.{arcs_joined}
+use Rattle.mode_network.proofs.RuleLemmas.{mode_by_number, mode_is_same, same_mode_is}
 use Rattle.mode_network.specs.NetworkLists.{mode_at, mode_of}
 use Rattle.mode_network.specs.Rules.{first_unsorted, node_cmp, rank_of}
 use Rattle.mode_network.specs.declared.nodes.Arc.{Arc}
@@ -28,19 +31,24 @@ use Rattle.mode_network.specs.declared.nodes.Node.{Node}
 use Rattle.mode_network.specs.declared.nodes.NodeKey.{NodeKey}
 use Rattle.mode_network.specs.declared.nodes.NodeKey.TheVariants.{Road}
 use Rattle.region_build.specs.Compiled.{AreRoads}
-use Rattle.region_build.specs.Ends.{End, end_cmp, ends_at, is_same_end, number_of_end, once_behind}
+use Rattle.region_build.specs.Ends.{End, end_cmp, ends_at, is_same_end, key_of_end, number_of_end, once_behind}
 use Rattle.region_build.specs.Roads.{road_node, road_nodes}
 use Rattle.region_build.proofs.OrderLaws.{Rises, rises_by, rises_map, rises_push, rises_sorted}
 use Rattle.region_build.proofs.PartLaws.{flat_map-if, once_keeps}
 
-end_total : IsTotalOrder end_cmp
-end_total = then_total (on_total (λ (end : End). end.0) int_cmp_total) (on_total (λ (end : End). end.1) nat_cmp_total)
+pub end_total : IsTotalOrder end_cmp
+end_total = then_total (on_total (λ (end : End). end.0) int_cmp_total) (on_total (λ (end : End). number_of_mode end.1) nat_cmp_total)
 
 same_end : (a b : End) → is_same_end a b ≡ true → (a.0 ≡ b.0) × (a.1 ≡ b.1)
 same_end a b e =
-    let parts = and_parts (int_eq a.0 b.0) (nat_eq a.1 b.1) e in
-    let modes : a.1 ≡ b.1 = grind (arith, nat_tests, parts.1) in
-    ((Decides-int_eq a.0 b.0).0 parts.0, modes)
+    let parts = and_parts (int_eq a.0 b.0) (nat_eq (number_of_mode a.1) (number_of_mode b.1)) e in
+    ((Decides-int_eq a.0 b.0).0 parts.0, same_mode_is a.1 b.1 parts.1)
+
+-- ends that stand at one place of the order are one
+pub exact_end : (x e : End) → end_cmp x e ≡ Equal → x ≡ e
+exact_end x e is =
+    let keys : key_of_end x ≡ key_of_end e = exact_pairs int_cmp nat_cmp exact_signed exact_unsigned (key_of_end x) (key_of_end e) is in
+    ap₂ (λ (id : ℤ) (mode : Mode). (id, mode)) (ap (λ (key : ℤ × ℕ). key.0) keys) (mode_by_number x.1 e.1 (ap (λ (key : ℤ × ℕ). key.1) keys))
 
 -- an end that is another's, and not below it, is above it
 is_above : (x e : End) → is_same_end e x ≡ false → is_lt (end_cmp e x) ≡ false → is_lt (end_cmp x e) ≡ true
@@ -49,9 +57,8 @@ is_above x e differs not_below = by_order (end_cmp x e) refl
     by_order : (o : Ordering) → end_cmp x e ≡ o → is_lt (end_cmp x e) ≡ true
     by_order Less is = ap is_lt is
     by_order Equal is =
-        let one : x ≡ e = exact_pairs int_cmp nat_cmp exact_signed exact_unsigned x e is in
-        let modes : nat_eq e.1 e.1 ≡ true = grind (arith, nat_tests) in
-        let itself : is_same_end e e ≡ true = and_from (int_eq e.0 e.0) (nat_eq e.1 e.1) ((Decides-int_eq e.0 e.0).1 refl) modes in
+        let one = exact_end x e is in
+        let itself : is_same_end e e ≡ true = and_from (int_eq e.0 e.0) (nat_eq (number_of_mode e.1) (number_of_mode e.1)) ((Decides-int_eq e.0 e.0).1 refl) (mode_is_same e.1) in
         absurd (false≢true (sym differs ∙ ap (is_same_end e) one ∙ itself))
     by_order Greater is = absurd (false≢true (sym not_below ∙ ap is_lt (end_total.antisymm e x ∙ ap ordering_reverse is)))
 

@@ -1,7 +1,9 @@
 -- The nearest of some points is found one after the other.
-use Rattle.std.proofs.Common.{ℕ, ℤ, zero, suc, ◌≤◌, List, [], ◌∷◌, Option, None, arith, ◌<◌}
+use Rattle.std.proofs.Common.{ℕ, ℤ, List, [], ◌∷◌, Option, None, ◌<◌}
 use Rattle.std.specs.Prelude.{fold}
 use Rattle.std.proofs.lemmas.List.Elements.{All-nil}
+use Rattle.plan_base.specs.declared.modes.Mode.{Mode}
+use Rattle.plan_base.specs.declared.modes.Mode.TheVariants.{Foot, Bike, Car}
 use Rattle.plan_base.specs.declared.places.Place.{Place}
 use Rattle.geo_length.specs.Nearest.{Point, IsNearest, ExtendsNearest, length_to, nearer_of}
 use Rattle.geo_length.proofs.NearestLaws.{takes_append, takes_none, takes_point}
@@ -21,14 +23,13 @@ nearest_of_is points place = (takes_all place points None).joined [] (All-nil (�
 
 -- what is nearest in the lists of a map's layers is nearest in the layers
 pub finds_nearest : (roads : List Node) (foot bike car : List Point)
-    → ((place : Place) (within : ℕ) (best : Option (ℤ × ℕ)) → IsNearest foot place within best → IsNearest (layer 0 roads) place within best)
-    → ((place : Place) (within : ℕ) (best : Option (ℤ × ℕ)) → IsNearest bike place within best → IsNearest (layer 1 roads) place within best)
-    → ((place : Place) (within : ℕ) (best : Option (ℤ × ℕ)) → IsNearest car place within best → IsNearest (layer 2 roads) place within best)
+    → ((place : Place) (within : ℕ) (best : Option (ℤ × ℕ)) → IsNearest foot place within best → IsNearest (layer Foot roads) place within best)
+    → ((place : Place) (within : ℕ) (best : Option (ℤ × ℕ)) → IsNearest bike place within best → IsNearest (layer Bike roads) place within best)
+    → ((place : Place) (within : ℕ) (best : Option (ℤ × ℕ)) → IsNearest car place within best → IsNearest (layer Car roads) place within best)
     → FindsNearest roads (near_of foot bike car)
 finds_nearest roads foot bike car on_foot by_bike by_car = record { nearest = each }
   where
-    each : (mode : ℕ) (place : Place) → mode ≤ 2 → IsNearest (layer mode roads) place 500000 (near_of foot bike car mode place)
-    each zero place most = on_foot place 500000 _ (nearest_of_is foot place)
-    each (suc zero) place most = by_bike place 500000 _ (nearest_of_is bike place)
-    each (suc (suc zero)) place most = by_car place 500000 _ (nearest_of_is car place)
-    each (suc (suc (suc n))) place most = absurd (omega arith)
+    each : (mode : Mode) (place : Place) → IsNearest (layer mode roads) place 500000 (near_of foot bike car mode place)
+    each Foot place = on_foot place 500000 _ (nearest_of_is foot place)
+    each Bike place = by_bike place 500000 _ (nearest_of_is bike place)
+    each Car place = by_car place 500000 _ (nearest_of_is car place)

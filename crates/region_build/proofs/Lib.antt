@@ -4,6 +4,7 @@ mod CopyLaws
 mod EndLaws
 mod GroupLaws
 mod IdLaws
+mod KeyLaws
 mod KeepLaws
 mod LayerLaws
 mod LeavingLaws

@@ -5,6 +5,8 @@ use Rattle.std.specs.List.{All, flat_map, position}
 use Rattle.std.proofs.lemmas.Bool.Decides.{nat_tests}
 use Rattle.std.proofs.lemmas.List.Elements.{All-append, All-cons, All-head, All-nil, All-tail, All-weaker}
 use Rattle.std.proofs.lemmas.List.Sorted.{All-permutation}
+use Rattle.plan_base.specs.declared.modes.Mode.{Mode}
+use Rattle.plan_base.specs.declared.modes.Mode.TheVariants.{Foot, Bike, Car}
 use Rattle.plan_base.specs.declared.places.Place.{Place}
 use Rattle.plan_base.specs.declared.limits.Kind.TheVariants.{Links}
 use Rattle.geo_length.specs.Durations.{duration_of}
@@ -22,9 +24,9 @@ use Rattle.region_build.proofs.ArcLaws.{arc_total, position_none, same_arc}
 use Rattle.region_build.proofs.EndLaws.{number_is, number_same}
 use Rattle.region_build.proofs.OrderLaws.{Once, once_apart, once_cons, once_nil, once_permutation, rises_from_sorted, rises_sorted, same_key}
 
-module _ (ends : List End) (near : ℕ → Place → Option (ℤ × ℕ)) where
+module _ (ends : List End) (near : Mode → Place → Option (ℤ × ℕ)) where
   -- a link between the place of this number and a road node of a mode
-  record IsLinkBy (place mode : ℕ) (link : Arc) : Type 0 where
+  record IsLinkBy (place : ℕ) (mode : Mode) (link : Arc) : Type 0 where
     road : ℕ
     id : ℤ
     number : number_of_end ends (id, mode) ≡ Some road
@@ -33,16 +35,16 @@ module _ (ends : List End) (near : ℕ → Place → Option (ℤ × ℕ)) where
   -- between a place whose number is low or more, and below high, and a road node
   record IsLinkWithin (low high : ℕ) (link : Arc) : Type 0 where
     place : ℕ
-    mode : ℕ
+    mode : Mode
     from : low ≤ place
     to : place < high
     is : IsLinkBy place mode link
 
-  road_below : (place mode : ℕ) (link : Arc) (l : IsLinkBy place mode link) → l.road < length ends
+  road_below : (place : ℕ) (mode : Mode) (link : Arc) (l : IsLinkBy place mode link) → l.road < length ends
   road_below place mode link l = (number_is ends (l.id, mode) l.road (l.id, mode) l.number).0
 
   -- the same link has one place and one mode
-  one_place : (place mode other more : ℕ) (x y : Arc) → length ends ≤ place → length ends ≤ other
+  one_place : (place : ℕ) (mode : Mode) (other : ℕ) (more : Mode) (x y : Arc) → length ends ≤ place → length ends ≤ other
       → IsLinkBy place mode x → IsLinkBy other more y → (x.from ≡ y.from) × (x.to ≡ y.to) → (place ≡ other) × (mode ≡ more)
   one_place place mode other more x y high above l r same =
       let low = road_below place mode x l in
@@ -118,15 +120,15 @@ module _ (ends : List End) (near : ℕ → Place → Option (ℤ × ℕ)) where
   Differ (join ∷ joins) = All (λ other. other.mode ≢ join.mode) joins × Differ joins
 
   record IsLinkAt (number : ℕ) (link : Arc) : Type 0 where
-    mode : ℕ
+    mode : Mode
     is : IsLinkBy number mode link
 
-  record IsLinkApart (number mode : ℕ) (link : Arc) : Type 0 where
-    other : ℕ
+  record IsLinkApart (number : ℕ) (mode : Mode) (link : Arc) : Type 0 where
+    other : Mode
     differs : other ≢ mode
     is : IsLinkBy number other link
 
-  apart_all : (number : ℕ) (place : Place) (mode : ℕ) (joins : List Join) → All (λ other. other.mode ≢ mode) joins → All (IsLinkApart number mode) (links_at near ends number place joins)
+  apart_all : (number : ℕ) (place : Place) (mode : Mode) (joins : List Join) → All (λ other. other.mode ≢ mode) joins → All (IsLinkApart number mode) (links_at near ends number place joins)
   unfolding links_at join_links
   apart_all number place mode [] all = All-nil (IsLinkApart number mode)
   apart_all number place mode (join ∷ joins) all =
@@ -186,13 +188,13 @@ module _ (ends : List End) (near : ℕ → Place → Option (ℤ × ℕ)) where
       xs ys front back one two
 
   stops_differ : Differ stop_joins
-  stops_differ = (All-nil (λ (other : Join). other.mode ≢ 0), tt)
+  stops_differ = (All-nil (λ (other : Join). other.mode ≢ Foot), tt)
 
   switches_differ : (amenity : Amenity) → Differ (switch_joins amenity)
   switches_differ Nothing = tt
-  switches_differ Parking = (All-cons (λ (other : Join). other.mode ≢ 2) _ [] (λ e. absurd (omega (arith, e))) (All-nil (λ (other : Join). other.mode ≢ 2)), (All-nil (λ (other : Join). other.mode ≢ 0), tt))
-  switches_differ BicycleParking = (All-cons (λ (other : Join). other.mode ≢ 1) _ [] (λ e. absurd (omega (arith, e))) (All-nil (λ (other : Join). other.mode ≢ 1)), (All-nil (λ (other : Join). other.mode ≢ 0), tt))
-  switches_differ BicycleRental = (All-cons (λ (other : Join). other.mode ≢ 0) _ [] (λ e. absurd (omega (arith, e))) (All-nil (λ (other : Join). other.mode ≢ 0)), (All-nil (λ (other : Join). other.mode ≢ 1), tt))
+  switches_differ Parking = (All-cons (λ (other : Join). other.mode ≢ Car) _ [] (λ e. cc) (All-nil (λ (other : Join). other.mode ≢ Car)), (All-nil (λ (other : Join). other.mode ≢ Foot), tt))
+  switches_differ BicycleParking = (All-cons (λ (other : Join). other.mode ≢ Bike) _ [] (λ e. cc) (All-nil (λ (other : Join). other.mode ≢ Bike)), (All-nil (λ (other : Join). other.mode ≢ Foot), tt))
+  switches_differ BicycleRental = (All-cons (λ (other : Join). other.mode ≢ Foot) _ [] (λ e. cc) (All-nil (λ (other : Join). other.mode ≢ Foot)), (All-nil (λ (other : Join). other.mode ≢ Bike), tt))
 
   once_stops : (number : ℕ) (entries : List StopEntry) → length ends ≤ number → Once (same_key arc_cmp) (stop_links near ends number entries)
   once_stops number [] high = once_nil (same_key arc_cmp)

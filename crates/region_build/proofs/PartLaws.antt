@@ -8,6 +8,7 @@ use Rattle.std.proofs.lemmas.List.{length-map}
 use Rattle.std.proofs.lemmas.List.Elements.{All-append, All-cons, All-from_recursion, All-head, All-map, All-nil, All-tail}
 use Rattle.std.proofs.lemmas.List.Sorted.{All-permutation}
 use Rattle.plain_texts.specs.Numbers.{IsId}
+use Rattle.plan_base.specs.declared.modes.Mode.{Mode}
 use Rattle.plan_base.specs.declared.places.Place.{Place}
 use Rattle.geo_length.specs.Durations.{duration_of}
 use Rattle.opl_reader.specs.ObjectLists.{AreObjects, IsOsmId, ObjectLists}
@@ -38,9 +39,8 @@ flat_map-if P Q f each [] all = All-nil P
 flat_map-if P Q f each (x ∷ xs) all = All-append P (f x) (flat_map f xs) (each x (All-head Q x xs all)) (flat_map-if P Q f each xs (All-tail Q x xs all))
 
 -- the ends of arcs
-record IsGoodEnd (end : End) : Type 0 where
-  mode : end.1 < 3
-  id : IsId end.0
+abbrev IsGoodEnd : End → Type 0
+IsGoodEnd end = IsId end.0
 
 placed_id : (nodes : List OsmNode) (id : ℤ) → AllByRecursion (λ (node : OsmNode). IsOsmId node.id) nodes → is_some (place_of_node nodes id) ≡ true → IsId id
 placed_id [] id ids e = absurd cc
@@ -58,7 +58,7 @@ once_keeps P seen (end ∷ ends) here there = once_keeps P (if list_any (is_same
     by_test true = here
     by_test false = All-append P seen (end ∷ []) here (All-cons P end [] (All-head P end ends there) (All-nil P))
 
--- a row joins places, is of a mode, and takes some time
+-- a row joins places, and takes some time
 record IsGoodRow (nodes : List OsmNode) (row : RoadRow) : Type 0 where
   joins : JoinsPlaces nodes row
   timed : IsTimed row
@@ -76,8 +76,8 @@ module _ (objects : ObjectLists) (sound : AreObjects objects) (ends : List End) 
   good_ends : All IsGoodEnd ends
   good_ends =
       let given = flat_map-if IsGoodEnd (IsGoodRow objects.nodes) ends_at (λ row good.
-      All-cons IsGoodEnd (row.from, row.mode) ((row.to, row.mode) ∷ []) (record { mode = good.timed.mode; id = placed_id objects.nodes row.from sound.node_ids good.joins.from })
-      (All-cons IsGoodEnd (row.to, row.mode) [] (record { mode = good.timed.mode; id = placed_id objects.nodes row.to sound.node_ids good.joins.to }) (All-nil IsGoodEnd))) are.rows good_rows in
+      All-cons IsGoodEnd (row.from, row.mode) ((row.to, row.mode) ∷ []) (placed_id objects.nodes row.from sound.node_ids good.joins.from)
+      (All-cons IsGoodEnd (row.to, row.mode) [] (placed_id objects.nodes row.to sound.node_ids good.joins.to) (All-nil IsGoodEnd))) are.rows good_rows in
       let sorted = All-permutation IsGoodEnd (flat_map ends_at are.rows) are.ends_are.sorted are.ends_are.same given in
       subst (All IsGoodEnd) (sym are.ends_are.once) (once_keeps IsGoodEnd [] are.ends_are.sorted (All-nil IsGoodEnd) sorted)
 
@@ -89,13 +89,13 @@ module _ (objects : ObjectLists) (sound : AreObjects objects) (ends : List End) 
     where
       at_place : (end : End) → IsGoodEnd end → (place : Option Place) → All (λ (node : Node). IsRoad node.key) (option_to_list (option_map (λ place. record { key = Road end.1 end.0; place = place }) place))
       at_place end good None = All-nil (λ (node : Node). IsRoad node.key)
-      at_place end good (Some place) = All-cons (λ (node : Node). IsRoad node.key) (record { key = Road end.1 end.0; place = place }) [] (good.mode, good.id) (All-nil (λ (node : Node). IsRoad node.key))
+      at_place end good (Some place) = All-cons (λ (node : Node). IsRoad node.key) (record { key = Road end.1 end.0; place = place }) [] good (All-nil (λ (node : Node). IsRoad node.key))
 
   pub arcs_last : All (λ (arc : Arc). 0 < arc.ms) arcs
   unfolding arc_by_row
   arcs_last =
       All-permutation (λ (arc : Arc). 0 < arc.ms) (arcs_of ends are.rows) arcs are.arcs_are.same
-      (flat_map-if (λ (arc : Arc). 0 < arc.ms) (IsGoodRow objects.nodes) (λ row. option_to_list (arc_by_row ends row)) (λ row good. between row.ms good.timed.time (number_of_end ends (row.from, row.mode)) (number_of_end ends (row.to, row.mode))) are.rows good_rows)
+      (flat_map-if (λ (arc : Arc). 0 < arc.ms) (IsGoodRow objects.nodes) (λ row. option_to_list (arc_by_row ends row)) (λ row good. between row.ms good.timed (number_of_end ends (row.from, row.mode)) (number_of_end ends (row.to, row.mode))) are.rows good_rows)
     where
       between : (ms : ℕ) → 1 ≤ ms → (from to : Option ℕ) → All (λ (arc : Arc). 0 < arc.ms) (option_to_list (arc_between from to ms))
       between ms some None to = All-nil (λ (arc : Arc). 0 < arc.ms)
@@ -121,15 +121,15 @@ linked_to_last : (ends : List End) (join : Join) (place : ℕ) (nearest : Option
 linked_to_last ends join place None = All-nil Lasts
 linked_to_last ends join place (Some nearest) = linked_last join place (number_of_end ends (nearest.0, join.mode)) nearest.1 (duration_of nearest.1 1400) refl
 
-links_at_last : (near : ℕ → Place → Option (ℤ × ℕ)) (ends : List End) (number : ℕ) (place : Place) (joins : List Join) → All Lasts (links_at near ends number place joins)
+links_at_last : (near : Mode → Place → Option (ℤ × ℕ)) (ends : List End) (number : ℕ) (place : Place) (joins : List Join) → All Lasts (links_at near ends number place joins)
 unfolding links_at join_links
 links_at_last near ends number place joins = All-flat_map Lasts (join_links near ends number place) (λ join. linked_to_last ends join number (near join.mode place)) joins
 
-stop_links_last : (near : ℕ → Place → Option (ℤ × ℕ)) (ends : List End) (number : ℕ) (entries : List StopEntry) → All Lasts (stop_links near ends number entries)
+stop_links_last : (near : Mode → Place → Option (ℤ × ℕ)) (ends : List End) (number : ℕ) (entries : List StopEntry) → All Lasts (stop_links near ends number entries)
 stop_links_last near ends number [] = All-nil Lasts
 stop_links_last near ends number (entry ∷ entries) = All-append Lasts _ _ (links_at_last near ends number entry.place stop_joins) (stop_links_last near ends (number + 1) entries)
 
-switch_links_last : (near : ℕ → Place → Option (ℤ × ℕ)) (ends : List End) (number : ℕ) (switches : List OsmNode) → All Lasts (switch_links near ends number switches)
+switch_links_last : (near : Mode → Place → Option (ℤ × ℕ)) (ends : List End) (number : ℕ) (switches : List OsmNode) → All Lasts (switch_links near ends number switches)
 switch_links_last near ends number [] = All-nil Lasts
 switch_links_last near ends number (switch ∷ switches) = All-append Lasts _ _ (links_at_last near ends number switch.place (switch_joins switch.amenity)) (switch_links_last near ends (number + 1) switches)
 

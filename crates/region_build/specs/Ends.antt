@@ -4,21 +4,27 @@ use Rattle.std.specs.List.{flat_map, list_any}
 use Rattle.std.specs.List.Sorted.{IsPermutation, IsSorted}
 use Rattle.std.specs.Ordering.{int_cmp, int_eq, nat_cmp, ordering_then}
 use Rattle.std.specs.declared.cmp.Ordering.{Ordering}
+use Rattle.plan_base.specs.Modes.{number_of_mode}
+use Rattle.plan_base.specs.declared.modes.Mode.{Mode}
 use Rattle.road_profile.specs.declared.rows.RoadRow.{RoadRow}
 
 -- the id of a node, and the mode
 abbrev pub End : Type 0
-End = ℤ × ℕ
+End = ℤ × Mode
 
 abbrev pub ends_at : RoadRow → List End
 ends_at row = (row.from, row.mode) ∷ (row.to, row.mode) ∷ []
 
 -- by ids, and then by modes
 abbrev pub end_cmp : End → End → Ordering
-end_cmp a b = ordering_then (int_cmp a.0 b.0) (nat_cmp a.1 b.1)
+end_cmp a b = ordering_then (int_cmp a.0 b.0) (nat_cmp (number_of_mode a.1) (number_of_mode b.1))
+
+-- what an end is found by: its id and the number of its mode
+abbrev pub key_of_end : End → ℤ × ℕ
+key_of_end end = (end.0, number_of_mode end.1)
 
 abbrev pub is_same_end : End → End → Bool
-is_same_end a b = int_eq a.0 b.0 && nat_eq a.1 b.1
+is_same_end a b = int_eq a.0 b.0 && nat_eq (number_of_mode a.1) (number_of_mode b.1)
 
 -- those seen, and each other end once, in the order of first sight
 abbrev pub once_behind : List End → List End → List End

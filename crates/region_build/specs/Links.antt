@@ -1,6 +1,9 @@
 -- The links between places and the layers of the road modes.
-use Rattle.std.specs.Prelude.{ℕ, ℤ, ◌+◌, ◌≤◌, List, [], ◌∷◌, ◌++◌, length, nat_eq, Bool, true, false, Option, None, Some, option_to_list, if◌then◌else◌}
+use Rattle.std.specs.Prelude.{ℕ, ℤ, ◌+◌, List, [], ◌∷◌, ◌++◌, length, nat_eq, Bool, true, false, Option, None, Some, option_to_list, if◌then◌else◌}
 use Rattle.std.specs.List.{flat_map}
+use Rattle.plan_base.specs.Modes.{number_of_mode}
+use Rattle.plan_base.specs.declared.modes.Mode.{Mode}
+use Rattle.plan_base.specs.declared.modes.Mode.TheVariants.{Foot, Bike, Car}
 use Rattle.plan_base.specs.declared.places.Place.{Place}
 use Rattle.geo_length.specs.Durations.{duration_of}
 use Rattle.geo_length.specs.Nearest.{Point, IsNearest}
@@ -17,27 +20,27 @@ use Rattle.region_build.specs.declared.links.Join.{Join}
 use Rattle.region_build.specs.declared.stops.StopEntry.{StopEntry}
 
 -- A place is joined with the layer of a mode: there is a link to it from there, or from it to there, or both.
-abbrev pub join : ℕ → Bool → Bool → Join
+abbrev pub join : Mode → Bool → Bool → Join
 join mode enters leaves = record { mode = mode; enters = enters; leaves = leaves }
 
 -- a stop is joined with the walkers' layer
 abbrev pub stop_joins : List Join
-stop_joins = join 0 true true ∷ []
+stop_joins = join Foot true true ∷ []
 
--- what a switch joins: foot is 0, bike is 1 and car is 2
+-- what a switch joins
 abbrev pub switch_joins : Amenity → List Join
 switch_joins Nothing = []
-switch_joins Parking = join 2 true true ∷ join 0 true true ∷ []
-switch_joins BicycleParking = join 1 true false ∷ join 0 false true ∷ []
-switch_joins BicycleRental = join 0 true true ∷ join 1 true true ∷ []
+switch_joins Parking = join Car true true ∷ join Foot true true ∷ []
+switch_joins BicycleParking = join Bike true false ∷ join Foot false true ∷ []
+switch_joins BicycleRental = join Foot true true ∷ join Bike true true ∷ []
 
 -- the points of a layer: the road nodes of a mode
-abbrev pub point_in : ℕ → Place → NodeKey → Option Point
-point_in mode place (Road other id) = if nat_eq other mode then Some (id, place) else None
+abbrev pub point_in : Mode → Place → NodeKey → Option Point
+point_in mode place (Road other id) = if nat_eq (number_of_mode other) (number_of_mode mode) then Some (id, place) else None
 point_in mode place (Stop stop) = None
 point_in mode place (Switch id) = None
 
-unfoldable pub layer : ℕ → List Node → List Point
+unfoldable pub layer : Mode → List Node → List Point
 layer mode roads = flat_map (λ (node : Node). option_to_list (point_in mode node.place node.key)) roads
 
 -- the links of a join between the place of this number and the road node of that one
@@ -54,27 +57,27 @@ linked_to ends join place None = []
 linked_to ends join place (Some nearest) = linked join place (number_of_end ends (nearest.0, join.mode)) (duration_of nearest.1 1400)
 
 -- the links of a place, where `near` gives the nearest node of a layer
-unfoldable pub join_links : (ℕ → Place → Option (ℤ × ℕ)) → List End → ℕ → Place → Join → List Arc
+unfoldable pub join_links : (Mode → Place → Option (ℤ × ℕ)) → List End → ℕ → Place → Join → List Arc
 join_links near ends number place join = linked_to ends join number (near join.mode place)
 
-unfoldable pub links_at : (ℕ → Place → Option (ℤ × ℕ)) → List End → ℕ → Place → List Join → List Arc
+unfoldable pub links_at : (Mode → Place → Option (ℤ × ℕ)) → List End → ℕ → Place → List Join → List Arc
 links_at near ends number place joins = flat_map (join_links near ends number place) joins
 
 -- the links of stops and of switches, whose nodes are counted from this number
-abbrev pub stop_links : (ℕ → Place → Option (ℤ × ℕ)) → List End → ℕ → List StopEntry → List Arc
+abbrev pub stop_links : (Mode → Place → Option (ℤ × ℕ)) → List End → ℕ → List StopEntry → List Arc
 stop_links near ends number [] = []
 stop_links near ends number (entry ∷ entries) = links_at near ends number entry.place stop_joins ++ stop_links near ends (number + 1) entries
 
-abbrev pub switch_links : (ℕ → Place → Option (ℤ × ℕ)) → List End → ℕ → List OsmNode → List Arc
+abbrev pub switch_links : (Mode → Place → Option (ℤ × ℕ)) → List End → ℕ → List OsmNode → List Arc
 switch_links near ends number [] = []
 switch_links near ends number (switch ∷ switches) = links_at near ends number switch.place (switch_joins switch.amenity) ++ switch_links near ends (number + 1) switches
 
 -- `near` gives the nearest node of each layer within half a kilometre
-pub record FindsNearest (roads : List Node) (near : ℕ → Place → Option (ℤ × ℕ)) : Type 0 where
-  pub nearest : (mode : ℕ) (place : Place) → mode ≤ 2 → IsNearest (layer mode roads) place 500000 (near mode place)
+pub record FindsNearest (roads : List Node) (near : Mode → Place → Option (ℤ × ℕ)) : Type 0 where
+  pub nearest : (mode : Mode) (place : Place) → IsNearest (layer mode roads) place 500000 (near mode place)
 
 -- the links of all stops and switches, whose nodes stand behind the road nodes
 pub record AreLinks (roads : List Node) (ends : List End) (entries : List StopEntry) (switches : List OsmNode) (links : List Arc) : Type 0 where
-  pub near : ℕ → Place → Option (ℤ × ℕ)
+  pub near : Mode → Place → Option (ℤ × ℕ)
   pub finds : FindsNearest roads near
   pub are : AreInOrder (stop_links near ends (length roads) entries ++ switch_links near ends (length roads + length entries) switches) links

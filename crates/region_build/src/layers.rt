@@ -9,7 +9,7 @@ ghost use Rattle.region_build.specs.Layers.{near_of};
 
 use geo_length::Grid;
 use mode_network::{Node, NodeKey};
-use plan_base::Place;
+use plan_base::{Mode, Place};
 use std::alloc::{AllocError, Global};
 
 /// How far away from a place the node that it is linked with may lie, in millimetres.
@@ -23,11 +23,11 @@ pub(crate) struct Layers {
     car: Grid,
 }
 
-fn point_in(mode: u8, node: &Node) -> Option<(i64, Place)>
+fn point_in(mode: Mode, node: &Node) -> Option<(i64, Place)>
     ensures { result ≡ spec.point_in mode node.now.place node.now.key }
 {
     match node.key {
-        NodeKey::Road(other, id) if other == mode => Some((id, node.place)),
+        NodeKey::Road(other, id) if other.number() == mode.number() => Some((id, node.place)),
         NodeKey::Road(_, _) => None,
         NodeKey::Stop(_) => None,
         NodeKey::Switch(_) => None,
@@ -44,7 +44,7 @@ fn push_point(points: &mut Vec<(i64, Place)>, point: Option<(i64, Place)>) -> Re
 }
 
 #[tactic(auto, unfolding(crate::specs::Links::layer))]
-fn points_of(alloc: Global, mode: u8, roads: &[Node]) -> Result<Vec<(i64, Place)>, AllocError>
+fn points_of(alloc: Global, mode: Mode, roads: &[Node]) -> Result<Vec<(i64, Place)>, AllocError>
     ensures { IfOk result (λ points. points.items ≡ spec.layer mode roads.now) }
 {
     let mut points = Vec::new(alloc);
@@ -54,7 +54,7 @@ fn points_of(alloc: Global, mode: u8, roads: &[Node]) -> Result<Vec<(i64, Place)
     Ok(points)
 }
 
-fn layer_of(alloc: Global, mode: u8, roads: &[Node]) -> Result<Grid, AllocError>
+fn layer_of(alloc: Global, mode: Mode, roads: &[Node]) -> Result<Grid, AllocError>
     ensures { IfOk result (λ grid. (place : Place) (within : ℕ) (best : Option (ℤ × ℕ))
         → IsNearest grid place within best → IsNearest (spec.layer mode roads.now) place within best) }
 {
@@ -72,26 +72,24 @@ impl Layers {
         ensures { IfOk result (λ layers. FindsNearest roads.now
             (near_of layers.foot layers.bike layers.car)) }
     {
-        let foot = layer_of(alloc, 0, roads)?;
-        let bike = layer_of(alloc, 1, roads)?;
-        let car = layer_of(alloc, 2, roads)?;
+        let foot = layer_of(alloc, Mode::Foot, roads)?;
+        let bike = layer_of(alloc, Mode::Bike, roads)?;
+        let car = layer_of(alloc, Mode::Car, roads)?;
         Ok(Layers { foot, bike, car })
     }
 
-    fn layer(&self, mode: u8) -> &Grid
-        requires { mode ≤ 2 }
+    fn layer(&self, mode: Mode) -> &Grid
         ensures { result.now ≡ points_by self.now.foot self.now.bike self.now.car mode }
     {
         match mode {
-            0 => &self.foot,
-            1 => &self.bike,
-            _ => &self.car,
+            Mode::Foot => &self.foot,
+            Mode::Bike => &self.bike,
+            Mode::Car => &self.car,
         }
     }
 
     /// The nearest node of a mode's layer within half a kilometre of a place, and how far away it is.
-    pub(crate) fn nearest(&self, mode: u8, place: Place) -> Option<(i64, u64)>
-        requires { mode ≤ 2 }
+    pub(crate) fn nearest(&self, mode: Mode, place: Place) -> Option<(i64, u64)>
         ensures value { result ≡ near_of self.now.foot self.now.bike self.now.car mode place }
         ensures within { IfSome result (λ nearest. nearest.1 ≤ 500000) }
     {

@@ -12,23 +12,23 @@ use crate::stops::StopEntry;
 use geo_length::duration_ms;
 use mode_network::{Arc, Node};
 use opl_reader::{Amenity, OsmNode};
-use plan_base::Place;
+use plan_base::{Mode, Place};
 use std::alloc::{AllocError, Global};
 
 /// How fast one walks along a link, in mm/s.
 const FOOT_SPEED: u32 = 1_400;
 
-/// How a place is joined with the layer of a mode: 0 is foot, 1 is bike and 2 is car.
+/// How a place is joined with the layer of a mode.
 #[derive(Clone, Copy)]
 pub(crate) struct Join {
-    mode: u8,
+    mode: Mode,
     /// Whether there is a link from the layer to the place.
     enters: bool,
     /// Whether there is a link from the place to the layer.
     leaves: bool,
 }
 
-fn both_ways(mode: u8) -> Join
+fn both_ways(mode: Mode) -> Join
     ensures { result ≡ spec.join mode true true }
 {
     Join {
@@ -38,7 +38,7 @@ fn both_ways(mode: u8) -> Join
     }
 }
 
-fn into_place(mode: u8) -> Join
+fn into_place(mode: Mode) -> Join
     ensures { result ≡ spec.join mode true false }
 {
     Join {
@@ -48,7 +48,7 @@ fn into_place(mode: u8) -> Join
     }
 }
 
-fn out_of_place(mode: u8) -> Join
+fn out_of_place(mode: Mode) -> Join
     ensures { result ≡ spec.join mode false true }
 {
     Join {
@@ -87,7 +87,7 @@ fn push_if(there: bool, links: &mut Vec<Arc>, from: u32, to: u32, ms: u32) -> Re
     Ok(())
 }
 
-fn road_number(ends: &Ends, id: i64, mode: u8) -> Option<u32>
+fn road_number(ends: &Ends, id: i64, mode: Mode) -> Option<u32>
     requires { length ends.now < 2 ^ 32 }
     ensures { result ≡ number_of_end ends.now (id, mode) }
 {
@@ -104,8 +104,7 @@ fn push_join(
     place: Place,
     join: Join,
 ) -> Result<(), AllocError>
-    requires few { length ends.now < 2 ^ 32 }
-    requires mode { join.mode ≤ 2 }
+    requires { length ends.now < 2 ^ 32 }
     ensures { OnOk result (links.new.items ≡ links.old.items ++ spec.join_links
         (near_of layers.now.foot layers.now.bike layers.now.car) ends.now number place join) }
 {
@@ -133,7 +132,7 @@ fn push_stop(
     ensures { OnOk result (links.new.items ≡ links.old.items ++ spec.links_at
         (near_of layers.now.foot layers.now.bike layers.now.car) ends.now number place spec.stop_joins) }
 {
-    push_join(links, layers, ends, number, place, both_ways(0))
+    push_join(links, layers, ends, number, place, both_ways(Mode::Foot))
 }
 
 #[tactic(auto, unfolding(crate::specs::Links::links_at))]
@@ -152,9 +151,9 @@ fn push_switch(
 {
     let (first, second) = match amenity {
         Amenity::Nothing => return Ok(()),
-        Amenity::Parking => (both_ways(2), both_ways(0)),
-        Amenity::BicycleParking => (into_place(1), out_of_place(0)),
-        Amenity::BicycleRental => (both_ways(0), both_ways(1)),
+        Amenity::Parking => (both_ways(Mode::Car), both_ways(Mode::Foot)),
+        Amenity::BicycleParking => (into_place(Mode::Bike), out_of_place(Mode::Foot)),
+        Amenity::BicycleRental => (both_ways(Mode::Foot), both_ways(Mode::Bike)),
     };
     push_join(links, layers, ends, number, place, first)?;
     push_join(links, layers, ends, number, place, second)

@@ -8,11 +8,12 @@ ghost use Rattle.region_build.specs.Roads as spec;
 
 use crate::ends::Ends;
 use mode_network::{Arc, Node, NodeKey};
+use plan_base::Mode;
 use road_profile::{Places, RoadRow, place_of};
 use std::alloc::{AllocError, Global};
 
 #[tactic(auto, unfolding(crate::specs::Roads::road_node))]
-fn road_node(places: &Places, id: i64, mode: u8) -> Option<Node>
+fn road_node(places: &Places, id: i64, mode: Mode) -> Option<Node>
     ensures { result ≡ spec.road_node (get int_eq places.now.by_id) (id, mode) }
 {
     let place = place_of(places, id)?;

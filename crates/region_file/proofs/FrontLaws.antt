@@ -1,5 +1,5 @@
 -- What is read at the front of bytes is what was written there, and what was written is read again.
-use Rattle.std.proofs.Common.{◌≡◌, ℕ, suc, ℤ, ◌+◌, ◌*◌, ◌/◌, ◌%◌, ◌^◌, ◌<◌, ◌≤◌, Bool, true, false, cond, ltb, List, [], ◌∷◌, ◌++◌, length, get_or, take, drop, Some, None, refl, sym, ap, ap₂, subst, ◌∙◌, append_assoc, length-append, arith, inl, inr}
+use Rattle.std.proofs.Common.{◌≡◌, ℕ, zero, suc, ℤ, ◌+◌, ◌*◌, ◌/◌, ◌%◌, ◌^◌, ◌<◌, ◌≤◌, Bool, true, false, cond, ltb, List, [], ◌∷◌, ◌++◌, length, get_or, take, drop, Some, None, refl, sym, ap, ap₂, subst, ◌∙◌, append_assoc, length-append, arith, inl, inr}
 use Rattle.std.specs.Prelude.{Option, option_and_then, option_map, nat_lt, nat_le, unsigned_abs, pos, negsuc, FitsSigned}
 use Rattle.std.specs.Int.{Width, w32, w64, byte_len, cast_signed, cast_unsigned, from_be_bytes, to_be_bytes}
 use Rattle.std.proofs.lemmas.Bool.{and_parts, cases_lt, ltb-true, ltb-false, le-ltb, lt-ltb, le-leb, leb-true}
@@ -10,11 +10,14 @@ use Rattle.std.proofs.lemmas.List.{take_at, drop_at, take-append-drop, length-ta
 use Rattle.std.proofs.lemmas.Nat.{be_bytes_4, be_bytes_8, from_be_bytes-to_be_bytes_4, from_be_bytes-to_be_bytes_8}
 use Rattle.plain_texts.specs.Names.{is_name}
 use Rattle.plain_texts.specs.Numbers.{IsId}
+use Rattle.plan_base.specs.Modes.{mode_numbered, number_of_mode}
+use Rattle.plan_base.specs.declared.modes.Mode.{Mode}
+use Rattle.plan_base.specs.declared.modes.Mode.TheVariants.{Foot, Bike, Car}
 use Rattle.plan_base.specs.declared.places.Place.{Place}
 use Rattle.plan_base.specs.PlaceOf.{place_of}
 use Rattle.plan_base.proofs.PlaceAgain.{place_again}
 use Rattle.region_file.specs.Bytes.{word_bytes, signed_bytes, counted_bytes, place_bytes, set_bytes}
-use Rattle.region_file.specs.Fronts.{number_front, signed_front, byte_front, counted_front, name_front, place_front, id_front, set_front}
+use Rattle.region_file.specs.Fronts.{number_front, signed_front, byte_front, counted_front, mode_front, name_front, place_front, id_front, set_front}
 use Rattle.region_file.proofs.KindLaws.{mapped, place_of_takes, size_below}
 
 abbrev pub IsBytes : List ℕ → Type 0
@@ -120,6 +123,27 @@ byte_takes below (b ∷ bytes) x fits e =
 
 pub byte_again : (below b : ℕ) (rest : List ℕ) → b < below → byte_front below (b ∷ rest) ≡ Some (b, rest)
 byte_again below b rest lt = ap (λ t. cond t (Some (b, rest)) None) (lt-ltb b below lt)
+
+-- ---- a mode
+
+pub mode_takes : (bytes : List ℕ) (x : Mode × List ℕ) → IsBytes bytes → mode_front bytes ≡ Some x → Takes bytes (number_of_mode x.0 ∷ []) x.1
+mode_takes [] x fits e = absurd (none-some x e)
+mode_takes (number ∷ bytes) x fits e =
+    let found = mapped (λ (mode : Mode). (mode, bytes)) (mode_numbered number) x e in
+    let taken : Takes (number ∷ bytes) (number_of_mode found.0 ∷ []) bytes =
+    record { parts = ap (λ n. n ∷ bytes) (number_of number found.0 found.1); rest_fits = λ i. fits (suc i) } in
+    subst (λ (y : Mode × List ℕ). Takes (number ∷ bytes) (number_of_mode y.0 ∷ []) y.1) found.2 taken
+  where
+    number_of : (number : ℕ) (mode : Mode) → mode_numbered number ≡ Some mode → number ≡ number_of_mode mode
+    number_of zero mode is = ap number_of_mode (same_Some Foot mode is)
+    number_of (suc zero) mode is = ap number_of_mode (same_Some Bike mode is)
+    number_of (suc (suc zero)) mode is = ap number_of_mode (same_Some Car mode is)
+    number_of (suc (suc (suc n))) mode is = absurd (none-some mode is)
+
+pub mode_again : (mode : Mode) (rest : List ℕ) → mode_front (number_of_mode mode ∷ rest) ≡ Some (mode, rest)
+mode_again Foot rest = refl
+mode_again Bike rest = refl
+mode_again Car rest = refl
 
 -- ---- bytes behind their number, and names
 

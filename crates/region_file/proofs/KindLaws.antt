@@ -20,6 +20,9 @@ use Rattle.plain_texts.proofs.Decimal.{number_takes, number_again}
 use Rattle.plain_texts.proofs.Hexadecimal.{hexadecimal_takes, hexadecimal_again}
 use Rattle.plain_texts.proofs.Signed.{signed_takes, signed_again}
 use Rattle.plain_texts.proofs.Spaced.{spaced-words_of, words_of-spaced, word_by_test, decimal_is_word, signed_is_word, hexadecimal_is_word, name_is_word}
+use Rattle.plan_base.specs.Modes.{mode_named, mode_numbered}
+use Rattle.plan_base.specs.declared.modes.Mode.{Mode}
+use Rattle.plan_base.specs.declared.modes.Mode.TheVariants.{Foot, Bike, Car}
 use Rattle.plan_base.specs.declared.places.Place.{Place}
 use Rattle.plan_base.specs.PlaceOf.{place_of, shown}
 use Rattle.plan_base.proofs.PlaceAgain.{place_again}
@@ -33,10 +36,10 @@ use Rattle.search_laws.specs.Letters.{IsLetter}
 use Rattle.mode_network.specs.declared.nodes.Arc.{Arc}
 use Rattle.region_file.specs.declared.lines.Line.{Line}
 use Rattle.region_file.specs.declared.lines.Line.TheVariants as line
-use Rattle.plan_base.specs.LetterNames.{transit_names}
+use Rattle.plan_base.specs.LetterNames.{road_names, transit_names}
 use Rattle.region_file.specs.Letters.{letter_at, letter_name}
 use Rattle.region_file.specs.Lines.{FitsArc, FitsCall, FitsDays, FitsLine, FitsTrip, arc_words, call_words, flags_of, mode_name, place_words, rule_words, spelled, words}
-use Rattle.region_file.specs.Kinds.{arc_of_words, call_of_words, days_of_words, end_of_words, line_of_kind, line_of, line_of_words, days_if_made, mode_of_word, place_of_words, road_of_words, rule_of_words, stop_of_words, switch_of_words, trip_of_words, number_of_word}
+use Rattle.region_file.specs.Kinds.{arc_of_words, call_of_words, days_of_words, end_of_words, line_of_kind, line_of, line_of_words, days_if_made, place_of_words, road_of_words, rule_of_words, stop_of_words, switch_of_words, trip_of_words, number_of_word}
 
 pub mapped : {A B : Type 0} (f : A → B) (o : Option A) (y : B) → option_map f o ≡ Some y → (x : A) × (o ≡ Some x) × (f x ≡ y)
 mapped f None y e = absurd (none-some y e)
@@ -60,26 +63,20 @@ same_bytes : (xs ys : List ℕ) → bytes_eq xs ys ≡ true → xs ≡ ys
 same_bytes xs ys e = (bytes_eq-Decides xs ys).0 e
 
 -- names of modes
-mode_takes : (text : List ℕ) (mode : ℕ) → mode_of_word text ≡ Some mode → (text ≡ mode_name mode) × (mode < 3)
-mode_takes text mode e = by_foot (bytes_eq text (codes "foot")) refl e
+mode_takes : (text : List ℕ) (mode : Mode) → mode_named text ≡ Some mode → text ≡ mode_name mode
+mode_takes text mode e =
+    option_and_then_some mode_numbered (position (λ known. bytes_eq known text) road_names) mode e (λ k at is. by_number k (position-Some (λ known. bytes_eq known text) road_names k [] at).1 is)
   where
-    by_car : (t : Bool) → bytes_eq text (codes "car") ≡ t → cond t (Some 2) None ≡ Some mode → (text ≡ mode_name mode) × (mode < 3)
-    by_car true is e = subst (λ m. (text ≡ mode_name m) × (m < 3)) (same_Some 2 mode e) (same_bytes text (codes "car") is, omega arith)
-    by_car false is e = absurd (none-some mode e)
+    by_number : (k : ℕ) → bytes_eq (get_or road_names k []) text ≡ true → mode_numbered k ≡ Some mode → text ≡ mode_name mode
+    by_number zero same is = sym (same_bytes (codes "foot") text same) ∙ ap mode_name (same_Some Foot mode is)
+    by_number (suc zero) same is = sym (same_bytes (codes "bike") text same) ∙ ap mode_name (same_Some Bike mode is)
+    by_number (suc (suc zero)) same is = sym (same_bytes (codes "car") text same) ∙ ap mode_name (same_Some Car mode is)
+    by_number (suc (suc (suc k))) same is = absurd (none-some mode is)
 
-    by_bike : (t : Bool) → bytes_eq text (codes "bike") ≡ t → cond t (Some 1) (cond (bytes_eq text (codes "car")) (Some 2) None) ≡ Some mode → (text ≡ mode_name mode) × (mode < 3)
-    by_bike true is e = subst (λ m. (text ≡ mode_name m) × (m < 3)) (same_Some 1 mode e) (same_bytes text (codes "bike") is, omega arith)
-    by_bike false is e = by_car (bytes_eq text (codes "car")) refl e
-
-    by_foot : (t : Bool) → bytes_eq text (codes "foot") ≡ t → cond t (Some 0) (cond (bytes_eq text (codes "bike")) (Some 1) (cond (bytes_eq text (codes "car")) (Some 2) None)) ≡ Some mode → (text ≡ mode_name mode) × (mode < 3)
-    by_foot true is e = subst (λ m. (text ≡ mode_name m) × (m < 3)) (same_Some 0 mode e) (same_bytes text (codes "foot") is, omega arith)
-    by_foot false is e = by_bike (bytes_eq text (codes "bike")) refl e
-
-mode_again : (mode : ℕ) → mode < 3 → mode_of_word (mode_name mode) ≡ Some mode
-mode_again zero h = refl
-mode_again (suc zero) h = refl
-mode_again (suc (suc zero)) h = refl
-mode_again (suc (suc (suc n))) h = absurd (omega (arith, h))
+mode_again : (mode : Mode) → mode_named (mode_name mode) ≡ Some mode
+mode_again Foot = refl
+mode_again Bike = refl
+mode_again Car = refl
 
 -- names of letters
 place_laws : (k : ℕ) → k < 11 → (position (λ known. bytes_eq known (get_or transit_names k [])) transit_names ≡ Some k) × IsWord (get_or transit_names k [])
@@ -241,13 +238,13 @@ road_takes (a ∷ b ∷ []) l e = absurd (none-some l e)
 road_takes (a ∷ b ∷ c ∷ []) l e = absurd (none-some l e)
 road_takes (a ∷ b ∷ c ∷ d ∷ f ∷ more) l e = absurd (none-some l e)
 road_takes (a ∷ b ∷ c ∷ d ∷ []) l e =
-    option_and_then_some _ (mode_of_word a) l e (λ mode is_mode e.
+    option_and_then_some _ (mode_named a) l e (λ mode is_mode e.
     option_and_then_some _ (id_at b) l e (λ id is_id e.
     option_and_then_some _ (place_of_words c d) l e (λ place is_place e.
     let name = mode_takes a mode is_mode in
     let key = id_takes b id is_id in
-    let same : codes "node" ∷ mode_name mode ∷ signed_decimal id ∷ place_words place ≡ codes "node" ∷ a ∷ b ∷ c ∷ d ∷ [] = cc (name.0, key.1, place_takes c d place is_place) in
-    subst (λ x. (words x ≡ codes "node" ∷ a ∷ b ∷ c ∷ d ∷ []) × FitsLine x) (same_Some (line.Road mode id place) l e) (same, (name.1, key.0)))))
+    let same : codes "node" ∷ mode_name mode ∷ signed_decimal id ∷ place_words place ≡ codes "node" ∷ a ∷ b ∷ c ∷ d ∷ [] = cc (name, key.1, place_takes c d place is_place) in
+    subst (λ x. (words x ≡ codes "node" ∷ a ∷ b ∷ c ∷ d ∷ []) × FitsLine x) (same_Some (line.Road mode id place) l e) (same, key.0))))
 
 stop_takes : (fields : List (List ℕ)) (l : Line) → stop_of_words fields ≡ Some l → (words l ≡ codes "stop" ∷ fields) × FitsLine l
 unfolding stop_of_words
@@ -427,13 +424,10 @@ line_takes text l e = by_words (words_of text) refl e
         (sym (spaced-words_of text) ∙ ap spaced (is ∙ sym said.0), said.1)
 
 -- Each word of a line is one.
-mode_is_word : (mode : ℕ) → IsWord (mode_name mode)
-mode_is_word mode = by_tests (mode == 0) (mode == 1)
-  where
-    by_tests : (foot bike : Bool) → IsWord (cond foot (codes "foot") (cond bike (codes "bike") (codes "car")))
-    by_tests true bike = word_by_test (codes "foot") refl
-    by_tests false true = word_by_test (codes "bike") refl
-    by_tests false false = word_by_test (codes "car") refl
+mode_is_word : (mode : Mode) → IsWord (mode_name mode)
+mode_is_word Foot = word_by_test (codes "foot") refl
+mode_is_word Bike = word_by_test (codes "bike") refl
+mode_is_word Car = word_by_test (codes "car") refl
 
 id_is_word : (z : ℤ) → IsId z → IsWord (signed_decimal z)
 id_is_word z h = signed_is_word z (omega (arith, h))
@@ -455,7 +449,7 @@ call_is_words call h =
 
 pub words_are_words : (l : Line) → FitsLine l → AllByRecursion IsWord (words l)
 words_are_words (line.Days days) h = (word_by_test (codes "days") refl, (decimal_is_word days.first (omega (arith, h.first)), (decimal_is_word days.count (omega (arith, h.count)), zone_is_words days.zone days h.made)))
-words_are_words (line.Road mode id place) h = (word_by_test (codes "node") refl, (mode_is_word mode, (id_is_word id h.1, place_is_words place)))
+words_are_words (line.Road mode id place) h = (word_by_test (codes "node") refl, (mode_is_word mode, (id_is_word id h, place_is_words place)))
 words_are_words (line.Stop name place) h = (word_by_test (codes "stop") refl, (name_is_word name h, place_is_words place))
 words_are_words (line.Switch id place) h = (word_by_test (codes "switch") refl, (id_is_word id h, place_is_words place))
 words_are_words (line.Arc arc) h = (word_by_test (codes "arc") refl, arc_is_words arc h)
@@ -468,7 +462,7 @@ words_are_words line.End h = (word_by_test (codes "end") refl, tt)
 said_again : (l : Line) → FitsLine l → line_of_words (words l) ≡ Some l
 unfolding line_of_kind road_of_words stop_of_words switch_of_words trip_of_words end_of_words
 said_again (line.Days days) h = days_again days h
-said_again (line.Road mode id place) h = rw (mode_again mode h.0, id_again id h.1, place_is_read place) refl
+said_again (line.Road mode id place) h = rw (mode_again mode, id_again id h, place_is_read place) refl
 said_again (line.Stop name place) h = rw (h, place_is_read place) refl
 said_again (line.Switch id place) h = rw (id_again id h, place_is_read place) refl
 said_again (line.Arc arc) h = ap (option_map line.Arc) (arc_again arc h)

@@ -5,6 +5,7 @@ use Rattle.std.specs.Int.{w32, w64}
 use Rattle.std.proofs.lemmas.Bool.{lt-ltb, ltb-true, leb-true, le-leb}
 use Rattle.std.proofs.lemmas.Option.{same_Some, cond_some, option_and_then_some}
 use Rattle.plain_texts.specs.Names.{is_name}
+use Rattle.plan_base.specs.Modes.{number_of_mode}
 use Rattle.plan_base.specs.declared.places.Place.{Place}
 use Rattle.timetable_arcs.specs.declared.trips.Call.{Call}
 use Rattle.timetable_arcs.specs.Trips.{TripLists}
@@ -16,9 +17,9 @@ use Rattle.mode_network.specs.declared.nodes.NodeKey.TheVariants.{Road, Stop, Sw
 use Rattle.mode_network.specs.Rules.{IsRoad, IsSwitch}
 use Rattle.region_file.specs.declared.lines.Line.TheVariants as line
 use Rattle.region_file.specs.Bytes.{arc_bytes, call_bytes, counted_bytes, place_bytes, record_bytes, set_bytes, signed_bytes, trip_bytes, word_bytes}
-use Rattle.region_file.specs.Fronts.{arc_front, byte_front, call_front, id_front, letter_front, name_front, number_front, place_front, road_front, set_front, stop_front, switch_front, trip_front}
+use Rattle.region_file.specs.Fronts.{arc_front, byte_front, call_front, id_front, letter_front, mode_front, name_front, number_front, place_front, road_front, set_front, stop_front, switch_front, trip_front}
 use Rattle.region_file.specs.Lines.{FitsArc, FitsCall, FitsTrip, flags_of, key_line, node_line}
-use Rattle.region_file.proofs.FrontLaws.{IsBytes, Takes, Takes-then, and_then, byte_again, byte_takes, id_again, id_takes, name_again, name_takes, place_is_read, place_takes, set_again, set_takes, word_again, word_takes}
+use Rattle.region_file.proofs.FrontLaws.{IsBytes, Takes, Takes-then, and_then, byte_again, byte_takes, id_again, id_takes, mode_again, mode_takes, name_again, name_takes, place_is_read, place_takes, set_again, set_takes, word_again, word_takes}
 use Rattle.region_file.proofs.KindLaws.{flags_again, flags_read}
 
 -- ---- nodes
@@ -35,24 +36,24 @@ IsSwitchNode node = IsSwitch node.key
 pub road_takes : (bytes : List ℕ) (x : Node × List ℕ) → IsBytes bytes → road_front bytes ≡ Some x → Takes bytes (node_bytes x.0) x.1 × IsRoadNode x.0
 unfolding road_front
 road_takes bytes x fits e =
-    option_and_then_some _ (byte_front 3 bytes) x e (λ mode is_mode e.
+    option_and_then_some _ (mode_front bytes) x e (λ mode is_mode e.
     option_and_then_some _ (id_front mode.1) x e (λ id is_id e.
     option_and_then_some _ (place_front id.1) x e (λ place is_place e.
-    let t0 = byte_takes 3 bytes mode fits is_mode in
-    let t1 = id_takes mode.1 id t0.0.rest_fits is_id in
+    let t0 = mode_takes bytes mode fits is_mode in
+    let t1 = id_takes mode.1 id t0.rest_fits is_id in
     let t2 = place_takes id.1 place t1.0.rest_fits is_place in
     let later = Takes-then mode.1 (signed_bytes w64 id.0) id.1 (place_bytes place.0) place.1 t1.0 t2 in
-    let all = Takes-then bytes (mode.0 ∷ []) mode.1 (signed_bytes w64 id.0 ++ place_bytes place.0) place.1 t0.0 later in
+    let all = Takes-then bytes (number_of_mode mode.0 ∷ []) mode.1 (signed_bytes w64 id.0 ++ place_bytes place.0) place.1 t0 later in
     let made : Node = record { key = Road mode.0 id.0; place = place.0 } in
-    subst (λ (y : Node × List ℕ). Takes bytes (node_bytes y.0) y.1 × IsRoadNode y.0) (same_Some (made, place.1) x e) (all, (t0.1, t1.1)))))
+    subst (λ (y : Node × List ℕ). Takes bytes (node_bytes y.0) y.1 × IsRoadNode y.0) (same_Some (made, place.1) x e) (all, t1.1))))
 
 road_key : (key : NodeKey) (place : Place) (rest : List ℕ) → IsRoad key → road_front (record_bytes (key_line key place) ++ rest) ≡ Some (record { key = key; place = place }, rest)
 unfolding road_front
 road_key (Road mode id) place rest h =
     let made : Node = record { key = Road mode id; place = place } in
     let ids = signed_bytes w64 id in
-    and_then (byte_front 3 (mode ∷ ((ids ++ place_bytes place) ++ rest))) _ (mode, (ids ++ place_bytes place) ++ rest) (Some (made, rest)) (byte_again 3 mode ((ids ++ place_bytes place) ++ rest) h.0)
-    (and_then (id_front ((ids ++ place_bytes place) ++ rest)) _ (id, place_bytes place ++ rest) (Some (made, rest)) (ap id_front (append_assoc ids (place_bytes place) rest) ∙ id_again id (place_bytes place ++ rest) h.1)
+    and_then (mode_front (number_of_mode mode ∷ ((ids ++ place_bytes place) ++ rest))) _ (mode, (ids ++ place_bytes place) ++ rest) (Some (made, rest)) (mode_again mode ((ids ++ place_bytes place) ++ rest))
+    (and_then (id_front ((ids ++ place_bytes place) ++ rest)) _ (id, place_bytes place ++ rest) (Some (made, rest)) (ap id_front (append_assoc ids (place_bytes place) rest) ∙ id_again id (place_bytes place ++ rest) h)
     (and_then (place_front (place_bytes place ++ rest)) _ (place, rest) (Some (made, rest)) (place_is_read place rest) refl))
 road_key (Stop stop) place rest h = absurd h
 road_key (Switch id) place rest h = absurd h

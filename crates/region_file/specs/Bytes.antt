@@ -4,6 +4,7 @@ use Rattle.std.specs.Prelude.{ℕ, ◌/◌, ◌%◌, ◌<◌, ◌^◌, ℤ, List
 use Rattle.std.specs.Int.{Width, w32, w64, cast_unsigned, to_be_bytes}
 use Rattle.std.specs.List.{flat_map}
 use Rattle.plan_base.specs.declared.days.DaySet.{DaySet}
+use Rattle.plan_base.specs.Modes.{number_of_mode}
 use Rattle.plan_base.specs.declared.places.Place.{Place}
 use Rattle.service_days.specs.DaysMeaning.{DaysMeaning}
 use Rattle.timetable_arcs.specs.declared.trips.Call.{Call}
@@ -44,7 +45,7 @@ call_bytes call = word_bytes call.stop ++ (word_bytes call.arr ++ (word_bytes ca
 -- The record of a line. The days have none, since they stand in the head; and nothing is written for the end.
 abbrev pub record_bytes : Line → List ℕ
 record_bytes (line.Days days) = []
-record_bytes (line.Road mode id place) = mode ∷ (signed_bytes w64 id ++ place_bytes place)
+record_bytes (line.Road mode id place) = number_of_mode mode ∷ (signed_bytes w64 id ++ place_bytes place)
 record_bytes (line.Stop name place) = counted_bytes name ++ place_bytes place
 record_bytes (line.Switch id place) = signed_bytes w64 id ++ place_bytes place
 record_bytes (line.Arc arc) = arc_bytes arc

@@ -4,6 +4,8 @@ use Rattle.std.specs.Prelude.{ℕ, ◌+◌, ◌*◌, ◌%◌, ◌^◌, ◌==◌,
 use Rattle.std.specs.Int.{Width, w32, w64, byte_len, cast_signed, from_be_bytes}
 use Rattle.std.specs.Str.{bytes_eq}
 use Rattle.plain_texts.specs.Names.{is_name}
+use Rattle.plan_base.specs.Modes.{mode_numbered}
+use Rattle.plan_base.specs.declared.modes.Mode.{Mode}
 use Rattle.plan_base.specs.declared.places.Place.{Place}
 use Rattle.plan_base.specs.PlaceOf.{place_of}
 use Rattle.service_days.specs.DaysMeaning.{DaysMeaning}
@@ -53,9 +55,14 @@ id_front bytes = do
   id ← signed_front w64 bytes
   if nat_lt (unsigned_abs id.0) (10 ^ 18) then Some (id.0, id.1) else None
 
+-- a mode, by the byte of its number
+abbrev pub mode_front : List ℕ → Option (Mode × List ℕ)
+mode_front [] = None
+mode_front (number ∷ bytes) = option_map (λ mode. (mode, bytes)) (mode_numbered number)
+
 unfoldable pub road_front : List ℕ → Option (Node × List ℕ)
 road_front bytes = do
-  mode ← byte_front 3 bytes
+  mode ← mode_front bytes
   id ← id_front mode.1
   place ← place_front id.1
   Some (record { key = Road mode.0 id.0; place = place.0 }, place.1)

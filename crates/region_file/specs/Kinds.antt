@@ -5,6 +5,7 @@ use Rattle.plain_texts.specs.Lines.{words_of}
 use Rattle.plain_texts.specs.Names.{name_of}
 use Rattle.plain_texts.specs.Hexadecimal.{hexadecimal_at}
 use Rattle.plain_texts.specs.Numbers.{id_at, number_at, signed_at}
+use Rattle.plan_base.specs.Modes.{mode_named}
 use Rattle.plan_base.specs.declared.places.Place.{Place}
 use Rattle.plan_base.specs.PlaceOf.{place_of}
 use Rattle.service_days.specs.DaysMeaning.{DaysMeaning}
@@ -23,12 +24,6 @@ o >>= f = option_and_then f o
 -- a number below 2 ^ 32
 abbrev pub number_of_word : List ℕ → Option ℕ
 number_of_word text = number_at (2 ^ 32) text
-
-abbrev pub mode_of_word : List ℕ → Option ℕ
-mode_of_word text =
-    if bytes_eq text (codes "foot") then Some 0
-    else (if bytes_eq text (codes "bike") then Some 1
-    else (if bytes_eq text (codes "car") then Some 2 else None))
 
 -- a latitude and a longitude in range
 unfoldable pub place_of_words : List ℕ → List ℕ → Option Place
@@ -57,7 +52,7 @@ days_of_words _ = None
 
 unfoldable pub road_of_words : List (List ℕ) → Option Line
 road_of_words (mode ∷ id ∷ lat ∷ lon ∷ []) = do
-  layer ← mode_of_word mode
+  layer ← mode_named mode
   key ← id_at id
   place ← place_of_words lat lon
   Some (line.Road layer key place)

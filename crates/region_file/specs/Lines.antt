@@ -1,5 +1,5 @@
 -- The spelling of a region: its lines in words.
-use Rattle.std.specs.Prelude.{◌≡◌, ℕ, ◌+◌, ◌<◌, ◌≤◌, ◌^◌, List, [], ◌∷◌, ◌++◌, length, map, Option, Some, None, Ok, codes, decimal, true, ◌==◌, if◌then◌else◌, zip}
+use Rattle.std.specs.Prelude.{◌≡◌, ℕ, ◌+◌, ◌<◌, ◌≤◌, ◌^◌, List, [], ◌∷◌, ◌++◌, length, map, Option, Some, None, Ok, codes, decimal, true, if◌then◌else◌, slice_index_or, zip}
 use Rattle.std.specs.Fmt.{signed_decimal}
 use Rattle.std.specs.List.{AllByRecursion, flat_map}
 use Rattle.plain_texts.specs.Lines.{lines_text, spaced}
@@ -7,6 +7,9 @@ use Rattle.plain_texts.specs.Names.{is_name}
 use Rattle.plain_texts.specs.Hexadecimal.{IsHexadecimal, hexadecimal}
 use Rattle.plain_texts.specs.Numbers.{IsId}
 use Rattle.plan_base.specs.declared.days.DaySet.{DaySet}
+use Rattle.plan_base.specs.LetterNames.{letter_names}
+use Rattle.plan_base.specs.Modes.{number_of_mode}
+use Rattle.plan_base.specs.declared.modes.Mode.{Mode}
 use Rattle.plan_base.specs.declared.places.Place.{Place}
 use Rattle.service_days.specs.DaysMeaning.{DaysMeaning}
 use Rattle.service_days.specs.Zones.{days_made}
@@ -23,8 +26,8 @@ use Rattle.region_file.specs.Letters.{letter_name}
 use Rattle.region_file.specs.declared.lines.Line.{Line}
 use Rattle.region_file.specs.declared.lines.Line.TheVariants as line
 
-abbrev pub mode_name : ℕ → List ℕ
-mode_name mode = if mode == 0 then codes "foot" else (if mode == 1 then codes "bike" else codes "car")
+abbrev pub mode_name : Mode → List ℕ
+mode_name mode = slice_index_or letter_names (number_of_mode mode) []
 
 abbrev pub place_words : Place → List (List ℕ)
 place_words place = signed_decimal place.lat ∷ signed_decimal place.lon ∷ []
@@ -92,7 +95,7 @@ pub record FitsCall (call : Call) : Type 0 where
 -- what a line may say
 abbrev pub FitsLine : Line → Type 0
 FitsLine (line.Days days) = FitsDays days
-FitsLine (line.Road mode id place) = (mode < 3) × IsId id
+FitsLine (line.Road mode id place) = IsId id
 FitsLine (line.Stop name place) = is_name name ≡ true
 FitsLine (line.Switch id place) = IsId id
 FitsLine (line.Arc arc) = FitsArc arc

@@ -3,13 +3,14 @@
 ghost use Rattle.std.specs.Prelude.{◌≡◌, option_map, IfOk};
 ghost use Rattle.std.specs.Int.{w32, w64};
 ghost use Rattle.service_days.specs.Zones.{days_made};
+ghost use Rattle.plan_base.specs.Modes.{mode_numbered};
 ghost use Rattle.region_file.specs.Fronts as spec;
 
 use crate::counts::Counts;
 use crate::kinds::made_days;
 use mode_network::{Arc, Node, NodeKey};
 use plain_texts::Name;
-use plan_base::{DaySet, Place};
+use plan_base::{DaySet, Mode, Place};
 use search_laws::LETTERS;
 use service_days::Days;
 use std::alloc::{AllocError, Global};
@@ -128,12 +129,37 @@ fn id_front(bytes: &[u8]) -> Option<(i64, &[u8])>
     }
 }
 
+/// The mode with this number.
+fn mode_numbered(number: u8) -> Option<Mode>
+    ensures { result ≡ mode_numbered number }
+{
+    match number {
+        0 => Some(Mode::Foot),
+        1 => Some(Mode::Bike),
+        2 => Some(Mode::Car),
+        _ => None,
+    }
+}
+
+/// A mode, by the byte of its number.
+fn mode_front(bytes: &[u8]) -> Option<(Mode, &[u8])>
+    ensures { option_map (λ x. (x.0, x.1.now)) result ≡ spec.mode_front bytes.now }
+{
+    match bytes {
+        [] => None,
+        [number, behind @ ..] => {
+            let mode = mode_numbered(*number)?;
+            Some((mode, behind))
+        }
+    }
+}
+
 /// A road node.
 #[tactic(auto, unfolding(crate::specs::Fronts::road_front))]
 pub fn road_front(bytes: &[u8]) -> Option<(Node, &[u8])>
     ensures { option_map (λ x. (x.0, x.1.now)) result ≡ spec.road_front bytes.now }
 {
-    let (mode, rest) = byte_front(3, bytes)?;
+    let (mode, rest) = mode_front(bytes)?;
     let (id, rest) = id_front(rest)?;
     let (place, behind) = place_front(rest)?;
     let key = NodeKey::Road(mode, id);

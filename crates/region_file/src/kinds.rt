@@ -9,7 +9,7 @@ use crate::letters::letter_of;
 use crate::lines::Line;
 use mode_network::Arc;
 use plain_texts::{Name, read_hexadecimal, read_id, read_short_number, read_signed, words_into};
-use plan_base::{DaySet, Place};
+use plan_base::{DaySet, Mode, Place};
 use service_days::{Days, RangeFault};
 use std::alloc::{AllocError, Global};
 use timetable_arcs::Call;
@@ -20,20 +20,6 @@ fn word_of(text: &[u8]) -> Option<u32>
 {
     let n = read_short_number(text, 1 << 32)?;
     Some(n as u32)
-}
-
-fn mode_of(text: &[u8]) -> Option<u8>
-    ensures { result ≡ spec.mode_of_word text.now }
-{
-    if text == b"foot".as_slice() {
-        Some(0)
-    } else if text == b"bike".as_slice() {
-        Some(1)
-    } else if text == b"car".as_slice() {
-        Some(2)
-    } else {
-        None
-    }
 }
 
 #[tactic(auto, unfolding(crate::specs::Kinds::place_of_words))]
@@ -51,7 +37,7 @@ fn road_of(fields: &[&[u8]]) -> Option<Line>
 {
     match fields {
         [mode, id, lat, lon] => {
-            let mode = mode_of(mode)?;
+            let mode = Mode::from_name(mode)?;
             let id = read_id(id)?;
             let place = place_of(lat, lon)?;
             Some(Line::Road(mode, id, place))

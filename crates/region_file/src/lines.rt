@@ -2,7 +2,7 @@
 
 use mode_network::Arc;
 use plain_texts::Name;
-use plan_base::{DaySet, Place};
+use plan_base::{DaySet, Mode, Place};
 use service_days::Days;
 use timetable_arcs::Call;
 
@@ -14,8 +14,8 @@ pub(crate) const HEAD: &[u8] = b"modeplan region 1\n";
 pub enum Line {
     /// The days of the region.
     Days(Days),
-    /// A road node: its mode, which is 0 for foot, 1 for bike and 2 for car, its OSM id and its place.
-    Road(u8, i64, Place),
+    /// A road node: its mode, its OSM id and its place.
+    Road(Mode, i64, Place),
     /// A stop.
     Stop(Name, Place),
     /// A switch: its OSM id and its place.

@@ -11,7 +11,7 @@ ghost use Rattle.region_file.specs.declared.lines.Line.TheVariants as line;
 use crate::letters::letter_name;
 use mode_network::Arc;
 use plain_texts::{push_decimal, push_hexadecimal, push_line_feed, push_signed};
-use plan_base::{DaySet, Place};
+use plan_base::{DaySet, Mode, Place};
 use service_days::Days;
 use std::alloc::AllocError;
 use timetable_arcs::{Call, Trip};
@@ -63,19 +63,15 @@ pub fn push_days(out: &mut Vec<u8>, days: &Days) -> Result<(), AllocError>
     push_line_feed(out)
 }
 
-fn mode_name(mode: u8) -> &'static [u8]
+fn mode_name(mode: Mode) -> &'static [u8]
     ensures { result.now ≡ mode_name mode }
 {
-    match mode {
-        0 => b"foot",
-        1 => b"bike",
-        _ => b"car",
-    }
+    mode.name().as_bytes()
 }
 
 /// The line of a road node.
 #[tactic(auto, unfolding(plain_texts::specs::Lines::spaced))]
-pub fn push_road(out: &mut Vec<u8>, mode: u8, id: i64, place: Place) -> Result<(), AllocError>
+pub fn push_road(out: &mut Vec<u8>, mode: Mode, id: i64, place: Place) -> Result<(), AllocError>
     ensures { OnOk result (out.new.items ≡ out.old.items ++ line_text (line.Road mode id place)) }
 {
     out.extend_from_slice(b"node")?;

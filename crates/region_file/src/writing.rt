@@ -10,7 +10,7 @@ use crate::counts::Counts;
 use crate::fronts::{PLAIN_MAGIC, ZONED_MAGIC};
 use crate::printing::flags_of;
 use mode_network::Arc;
-use plan_base::{DaySet, Place};
+use plan_base::{DaySet, Mode, Place};
 use service_days::Days;
 use std::alloc::AllocError;
 use timetable_arcs::{Call, Trip};
@@ -77,10 +77,10 @@ fn push_place(out: &mut Vec<u8>, place: Place) -> Result<(), AllocError>
 }
 
 /// The record of a road node.
-pub fn push_road(out: &mut Vec<u8>, mode: u8, id: i64, place: Place) -> Result<(), AllocError>
+pub fn push_road(out: &mut Vec<u8>, mode: Mode, id: i64, place: Place) -> Result<(), AllocError>
     ensures { OnOk result (out.new.items ≡ out.old.items ++ spec.record_bytes (line.Road mode id place)) }
 {
-    out.push(mode)?;
+    out.push(mode.number())?;
     push_switch(out, id, place)?;
     Ok(())
 }

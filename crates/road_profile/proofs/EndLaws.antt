@@ -6,6 +6,8 @@ use Rattle.std.specs.declared.alloc.Global.{Global}
 use Rattle.std.specs.Ordering.{int_eq}
 use Rattle.std.proofs.lemmas.List.Elements.{All-nil, All-cons, All-append, All-contains, All-contains_itself, All-weaker}
 use Rattle.std.proofs.lemmas.Bool.Decides.{Decides-int_eq}
+use Rattle.plan_base.specs.declared.modes.Mode.{Mode}
+use Rattle.plan_base.specs.declared.modes.Mode.TheVariants.{Foot, Bike, Car}
 use Rattle.plan_base.specs.declared.places.Place.{Place}
 use Rattle.geo_length.specs.Durations.{duration_of}
 use Rattle.geo_length.specs.Lengths.{length_between}
@@ -24,19 +26,19 @@ use Rattle.road_profile.proofs.TimedLaws.{All-flat_map}
 
 -- what holds of the rows both ways between two nodes, of each mode and time
 record BothWays (P : RoadRow → Type 0) (a b : ℤ) : Type 0 where
-  there : (mode ms : ℕ) → P (row a b mode ms)
-  back : (mode ms : ℕ) → P (row b a mode ms)
+  there : (mode : Mode) (ms : ℕ) → P (row a b mode ms)
+  back : (mode : Mode) (ms : ℕ) → P (row b a mode ms)
 
-directed-all : (P : RoadRow → Type 0) (mode : ℕ) (a b : ℤ) (ms : ℕ) (direction : Direction) → BothWays P a b → All P (directed mode a b ms direction)
+directed-all : (P : RoadRow → Type 0) (mode : Mode) (a b : ℤ) (ms : ℕ) (direction : Direction) → BothWays P a b → All P (directed mode a b ms direction)
 directed-all P mode a b ms Both h = All-cons P (row a b mode ms) (row b a mode ms ∷ []) (h.there mode ms) (All-cons P (row b a mode ms) [] (h.back mode ms) (All-nil P))
 directed-all P mode a b ms Forward h = All-cons P (row a b mode ms) [] (h.there mode ms) (All-nil P)
 directed-all P mode a b ms Backward h = All-cons P (row b a mode ms) [] (h.back mode ms) (All-nil P)
 
-timed-all : (P : RoadRow → Type 0) (mode : ℕ) (a b : ℤ) (direction : Direction) (ms : Option ℕ) → BothWays P a b → All P (timed mode a b direction ms)
+timed-all : (P : RoadRow → Type 0) (mode : Mode) (a b : ℤ) (direction : Direction) (ms : Option ℕ) → BothWays P a b → All P (timed mode a b direction ms)
 timed-all P mode a b direction None h = All-nil P
 timed-all P mode a b direction (Some ms) h = directed-all P mode a b ms direction h
 
-mode_legs-all : (P : RoadRow → Type 0) (mode : ℕ) (a b : ℤ) (mm : ℕ) (passage : Option Passage) → BothWays P a b → All P (mode_legs mode a b mm passage)
+mode_legs-all : (P : RoadRow → Type 0) (mode : Mode) (a b : ℤ) (mm : ℕ) (passage : Option Passage) → BothWays P a b → All P (mode_legs mode a b mm passage)
 unfolding mode_legs
 mode_legs-all P mode a b mm None h = All-nil P
 mode_legs-all P mode a b mm (Some passage) h = timed-all P mode a b passage.direction (duration_of mm passage.speed) h
@@ -44,7 +46,7 @@ mode_legs-all P mode a b mm (Some passage) h = timed-all P mode a b passage.dire
 pair_legs-all : (P : RoadRow → Type 0) (passages : Passages) (a b : ℤ) (mm : ℕ) → BothWays P a b → All P (pair_legs passages a b mm)
 unfolding pair_legs
 pair_legs-all P passages a b mm h =
-    All-append P _ _ (mode_legs-all P 0 a b mm passages.foot h) (All-append P _ _ (mode_legs-all P 1 a b mm passages.bike h) (mode_legs-all P 2 a b mm passages.car h))
+    All-append P _ _ (mode_legs-all P Foot a b mm passages.foot h) (All-append P _ _ (mode_legs-all P Bike a b mm passages.bike h) (mode_legs-all P Car a b mm passages.car h))
 
 joins : (nodes : List OsmNode) (a b : ℤ) → (a ≡ b → ⊥) → is_some (place_of_node nodes a) ≡ true → is_some (place_of_node nodes b) ≡ true → BothWays (JoinsPlaces nodes) a b
 joins nodes a b differ from to = record {

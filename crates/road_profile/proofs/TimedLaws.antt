@@ -1,5 +1,5 @@
--- Each leg is of one of the three modes, and takes some time.
-use Rattle.std.proofs.Common.{◌≡◌, ℕ, ℤ, ◌<◌, ◌≤◌, ◌^◌, ◌*◌, List, [], ◌∷◌, Bool, true, false, Option, Some, None, if◌then◌else◌, arith, max, lit<, refl}
+-- Each leg takes some time.
+use Rattle.std.proofs.Common.{◌≡◌, ℕ, ℤ, ◌<◌, ◌≤◌, ◌^◌, ◌*◌, List, [], ◌∷◌, Bool, true, false, Option, Some, None, if◌then◌else◌, arith, max, refl}
 use Rattle.std.specs.List.{All, Contains, flat_map}
 use Rattle.std.specs.Prelude.{nat_lt, IfOk, Ok, Err, Result, Vec}
 use Rattle.std.specs.declared.alloc.Global.{Global}
@@ -7,6 +7,8 @@ use Rattle.std.specs.Int.{div_ceil}
 use Rattle.std.specs.Ordering.{int_eq}
 use Rattle.std.proofs.lemmas.Option.{cond_some}
 use Rattle.std.proofs.lemmas.List.Elements.{All-nil, All-cons, All-append, All-contains, All-contains_itself, All-weaker}
+use Rattle.plan_base.specs.declared.modes.Mode.{Mode}
+use Rattle.plan_base.specs.declared.modes.Mode.TheVariants.{Foot, Bike, Car}
 use Rattle.plan_base.specs.declared.places.Place.{Place}
 use Rattle.geo_length.specs.Durations.{duration_of}
 use Rattle.geo_length.specs.Lengths.{length_between}
@@ -33,25 +35,25 @@ duration_of-ge mm speed n e =
     let is = cond_some (nat_lt ms (2 ^ 32)) ms n e in
     omega (arith, is.1)
 
-directed-timed : (mode : ℕ) (a b : ℤ) (ms : ℕ) (direction : Direction) → mode < 3 → 1 ≤ ms → All IsTimed (directed mode a b ms direction)
-directed-timed mode a b ms Both m t =
-    All-cons IsTimed (row a b mode ms) (row b a mode ms ∷ []) (record { mode = m; time = t }) (All-cons IsTimed (row b a mode ms) [] (record { mode = m; time = t }) (All-nil IsTimed))
-directed-timed mode a b ms Forward m t = All-cons IsTimed (row a b mode ms) [] (record { mode = m; time = t }) (All-nil IsTimed)
-directed-timed mode a b ms Backward m t = All-cons IsTimed (row b a mode ms) [] (record { mode = m; time = t }) (All-nil IsTimed)
+directed-timed : (mode : Mode) (a b : ℤ) (ms : ℕ) (direction : Direction) → 1 ≤ ms → All IsTimed (directed mode a b ms direction)
+directed-timed mode a b ms Both t =
+    All-cons IsTimed (row a b mode ms) (row b a mode ms ∷ []) t (All-cons IsTimed (row b a mode ms) [] t (All-nil IsTimed))
+directed-timed mode a b ms Forward t = All-cons IsTimed (row a b mode ms) [] t (All-nil IsTimed)
+directed-timed mode a b ms Backward t = All-cons IsTimed (row b a mode ms) [] t (All-nil IsTimed)
 
-mode_legs-timed : (mode : ℕ) (a b : ℤ) (mm : ℕ) (passage : Option Passage) → mode < 3 → All IsTimed (mode_legs mode a b mm passage)
+mode_legs-timed : (mode : Mode) (a b : ℤ) (mm : ℕ) (passage : Option Passage) → All IsTimed (mode_legs mode a b mm passage)
 unfolding mode_legs
-mode_legs-timed mode a b mm None m = All-nil IsTimed
-mode_legs-timed mode a b mm (Some passage) m = by_time (duration_of mm passage.speed) refl
+mode_legs-timed mode a b mm None = All-nil IsTimed
+mode_legs-timed mode a b mm (Some passage) = by_time (duration_of mm passage.speed) refl
   where
     by_time : (o : Option ℕ) → duration_of mm passage.speed ≡ o → All IsTimed (timed mode a b passage.direction o)
     by_time None e = All-nil IsTimed
-    by_time (Some ms) e = directed-timed mode a b ms passage.direction m (duration_of-ge mm passage.speed ms e)
+    by_time (Some ms) e = directed-timed mode a b ms passage.direction (duration_of-ge mm passage.speed ms e)
 
 pair_legs-timed : (passages : Passages) (a b : ℤ) (mm : ℕ) → All IsTimed (pair_legs passages a b mm)
 unfolding pair_legs
 pair_legs-timed passages a b mm =
-    All-append IsTimed _ _ (mode_legs-timed 0 a b mm passages.foot (lit< tt)) (All-append IsTimed _ _ (mode_legs-timed 1 a b mm passages.bike (lit< tt)) (mode_legs-timed 2 a b mm passages.car (lit< tt)))
+    All-append IsTimed _ _ (mode_legs-timed Foot a b mm passages.foot) (All-append IsTimed _ _ (mode_legs-timed Bike a b mm passages.bike) (mode_legs-timed Car a b mm passages.car))
 
 placed_legs-timed : (passages : Passages) (a b : ℤ) (from to : Option Place) → All IsTimed (placed_legs passages a b from to)
 placed_legs-timed passages a b (Some from) (Some to) = pair_legs-timed passages a b (length_between from to)

@@ -1,8 +1,9 @@
 -- The road arcs of a map.
-use Rattle.std.specs.Prelude.{◌≡◌, ◌<◌, ◌≤◌, ◌↔◌, List, All, AllPairs, Contains, true, is_some}
+use Rattle.std.specs.Prelude.{◌≡◌, ◌≤◌, ◌↔◌, List, All, AllPairs, Contains, true, is_some}
 use Rattle.std.specs.Ordering.{int_cmp, nat_cmp, ordering_then}
 use Rattle.std.specs.declared.cmp.Ordering.{Ordering}
 use Rattle.std.specs.declared.cmp.Ordering.TheVariants.{Less}
+use Rattle.plan_base.specs.Modes.{number_of_mode}
 use Rattle.opl_reader.specs.declared.objects.OsmNode.{OsmNode}
 use Rattle.opl_reader.specs.ObjectLists.{ObjectLists}
 use Rattle.road_profile.specs.declared.rows.RoadRow.{RoadRow}
@@ -14,10 +15,9 @@ pub record AreParallel (a b : RoadRow) : Type 0 where
   pub to : a.to ≡ b.to
   pub mode : a.mode ≡ b.mode
 
--- a row is of one of the three modes, and takes some time
-pub record IsTimed (row : RoadRow) : Type 0 where
-  pub mode : row.mode < 3
-  pub time : 1 ≤ row.ms
+-- a row takes some time
+abbrev pub IsTimed : RoadRow → Type 0
+IsTimed row = 1 ≤ row.ms
 
 -- the ends of a row are two nodes, and these nodes have places
 pub record JoinsPlaces (nodes : List OsmNode) (row : RoadRow) : Type 0 where
@@ -32,7 +32,7 @@ pub record IsArcOf (legs : List RoadRow) (row : RoadRow) : Type 0 where
 
 -- the order of arcs: by their ends, then by their mode
 abbrev pub row_cmp : RoadRow → RoadRow → Ordering
-row_cmp a b = ordering_then (int_cmp a.from b.from) (ordering_then (int_cmp a.to b.to) (nat_cmp a.mode b.mode))
+row_cmp a b = ordering_then (int_cmp a.from b.from) (ordering_then (int_cmp a.to b.to) (nat_cmp (number_of_mode a.mode) (number_of_mode b.mode)))
 
 -- the arcs of some legs, ascending
 pub record AreArcsOf (legs rows : List RoadRow) : Type 0 where

@@ -2,6 +2,8 @@
 use Rattle.std.specs.Prelude.{ℕ, ℤ, List, [], ◌∷◌, ◌++◌, Option, Some, None, if◌then◌else◌}
 use Rattle.std.specs.List.{flat_map}
 use Rattle.std.specs.Ordering.{int_eq}
+use Rattle.plan_base.specs.declared.modes.Mode.{Mode}
+use Rattle.plan_base.specs.declared.modes.Mode.TheVariants.{Foot, Bike, Car}
 use Rattle.plan_base.specs.declared.places.Place.{Place}
 use Rattle.opl_reader.specs.declared.objects.OsmNode.{OsmNode}
 use Rattle.opl_reader.specs.declared.objects.OsmWay.{OsmWay}
@@ -34,27 +36,27 @@ abbrev pub neighbours : List ℤ → List (ℤ × ℤ)
 neighbours [] = []
 neighbours (a ∷ rest) = neighbours_behind a rest
 
-abbrev pub row : ℤ → ℤ → ℕ → ℕ → RoadRow
+abbrev pub row : ℤ → ℤ → Mode → ℕ → RoadRow
 row from to mode ms = record { from = from; to = to; mode = mode; ms = ms }
 
 -- between two neighbours, in the directions that a mode may go
-abbrev pub directed : ℕ → ℤ → ℤ → ℕ → Direction → List RoadRow
+abbrev pub directed : Mode → ℤ → ℤ → ℕ → Direction → List RoadRow
 directed mode a b ms Both = row a b mode ms ∷ row b a mode ms ∷ []
 directed mode a b ms Forward = row a b mode ms ∷ []
 directed mode a b ms Backward = row b a mode ms ∷ []
 
-abbrev pub timed : ℕ → ℤ → ℤ → Direction → Option ℕ → List RoadRow
+abbrev pub timed : Mode → ℤ → ℤ → Direction → Option ℕ → List RoadRow
 timed mode a b direction None = []
 timed mode a b direction (Some ms) = directed mode a b ms direction
 
 -- between two neighbours that are so many millimetres apart, for one mode; none that would take too long
-unfoldable pub mode_legs : ℕ → ℤ → ℤ → ℕ → Option Passage → List RoadRow
+unfoldable pub mode_legs : Mode → ℤ → ℤ → ℕ → Option Passage → List RoadRow
 mode_legs mode a b mm None = []
 mode_legs mode a b mm (Some passage) = timed mode a b passage.direction (duration_of mm passage.speed)
 
 -- for walkers, bikes and cars
 unfoldable pub pair_legs : Passages → ℤ → ℤ → ℕ → List RoadRow
-pair_legs passages a b mm = mode_legs 0 a b mm passages.foot ++ (mode_legs 1 a b mm passages.bike ++ mode_legs 2 a b mm passages.car)
+pair_legs passages a b mm = mode_legs Foot a b mm passages.foot ++ (mode_legs Bike a b mm passages.bike ++ mode_legs Car a b mm passages.car)
 
 abbrev pub placed_legs : Passages → ℤ → ℤ → Option Place → Option Place → List RoadRow
 placed_legs passages a b (Some from) (Some to) = pair_legs passages a b (length_between from to)

@@ -13,7 +13,7 @@ use crate::rows::RoadRow;
 use crate::rules::Direction;
 use geo_length::{duration_ms, length_mm};
 use opl_reader::{Items, OsmWay};
-use plan_base::Place;
+use plan_base::{Mode, Place};
 use std::alloc::{AllocError, Global};
 
 fn push_directed(
@@ -44,7 +44,7 @@ fn push_directed(
 #[tactic(auto, unfolding(crate::specs::Legs::mode_legs))]
 fn push_mode(
     rows: &mut Vec<RoadRow>,
-    mode: u8,
+    mode: Mode,
     from: i64,
     to: i64,
     mm: u64,
@@ -75,9 +75,9 @@ fn push_pair(
     requires length_within { mm < 2 ^ 40 }
     ensures { OnOk result (rows.new.items ≡ rows.old.items ++ spec.pair_legs passages.now from to mm) }
 {
-    push_mode(rows, 0, from, to, mm, passages.foot)?;
-    push_mode(rows, 1, from, to, mm, passages.bike)?;
-    push_mode(rows, 2, from, to, mm, passages.car)
+    push_mode(rows, Mode::Foot, from, to, mm, passages.foot)?;
+    push_mode(rows, Mode::Bike, from, to, mm, passages.bike)?;
+    push_mode(rows, Mode::Car, from, to, mm, passages.car)
 }
 
 fn push_placed(

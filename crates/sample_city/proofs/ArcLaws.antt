@@ -3,18 +3,21 @@ use Rattle.std.proofs.Common.{◌≡◌, ℕ, pos, ◌+◌, ◌*◌, ◌<◌, �
 use Rattle.std.specs.Prelude.{◌==◌, option_to_list}
 use Rattle.std.specs.List.{All, position, position_or_len}
 use Rattle.std.specs.Ordering.{is_eq}
-use Rattle.std.proofs.lemmas.Bool.{and_from, ltb-true}
+use Rattle.std.proofs.lemmas.Bool.{and_from, eq-eqb, ltb-true}
 use Rattle.std.proofs.lemmas.Bool.Decides.{nat_tests}
 use Rattle.std.proofs.lemmas.List.Elements.{All-head, All-tail}
 use Rattle.std.proofs.lemmas.List.Sorted.{All-permutation, length_permutation}
+use Rattle.plan_base.specs.Modes.{number_of_mode}
+use Rattle.plan_base.specs.declared.modes.Mode.{Mode}
+use Rattle.plan_base.specs.declared.modes.Mode.TheVariants.{Foot, Bike, Car}
 use Rattle.plan_base.specs.declared.limits.Kind.TheVariants.{Arcs}
 use Rattle.mode_network.specs.NetworkLists.{mode_at}
 use Rattle.mode_network.specs.Rules.{AreInOrder, arc_cmp, end_or_order_fault, first_unsorted, is_same_mode, joins_modes}
 use Rattle.mode_network.specs.declared.nodes.Arc.{Arc}
 use Rattle.mode_network.specs.declared.nodes.Node.{Node}
-use Rattle.mode_network.proofs.RuleLemmas.{arcs_total}
+use Rattle.mode_network.proofs.RuleLemmas.{arcs_total, number_is_low}
 use Rattle.sample_city.specs.Corners.{corner, is_car_line}
-use Rattle.sample_city.specs.Roads.{along_column, along_row, city_arcs, corner_arcs, road_between, road_number, street, streets, time_between}
+use Rattle.sample_city.specs.Roads.{along_column, along_row, city_arcs, corner_arcs, road_between, road_key, road_number, street, streets, time_between}
 use Rattle.sample_city.specs.declared.corners.Corner.{Corner}
 use Rattle.sample_city.proofs.CornerLaws.{corners_rise}
 use Rattle.sample_city.proofs.RiseLaws.{Rise, rise_all, rise_append, rise_few, rise_if, rise_one, rise_sorted}
@@ -91,43 +94,43 @@ module _ (n : ℕ) (nodes : List Node) where
 
   -- a part of the row of a corner's arcs
   module _ (id step : ℕ) (many : 2 ≤ n) (far : ℕ) (along : IsStep n step far) (other : ℕ) (there : other ≡ id + far) where
-    there_rises : (mode base low high : ℕ) → mode < 3 → low ≡ 12 * id + 6 * step + 2 * mode → low < high
+    there_rises : (mode : Mode) (base low high : ℕ) → low ≡ 12 * id + 6 * step + 2 * number_of_mode mode → low < high
         → Rise IsArcBy low high (option_to_list (road_between (road_number nodes) mode base id other))
-    there_rises mode base low high small is below = by_ends (road_number nodes (pos id, mode)) (road_number nodes (pos other, mode)) refl refl
+    there_rises mode base low high is below = by_ends (road_number nodes (road_key id mode)) (road_number nodes (road_key other mode)) refl refl
       where
-        by_ends : (start end : Option ℕ) → road_number nodes (pos id, mode) ≡ start → road_number nodes (pos other, mode) ≡ end
+        by_ends : (start end : Option ℕ) → road_number nodes (road_key id mode) ≡ start → road_number nodes (road_key other mode) ≡ end
             → Rise IsArcBy low high (option_to_list (road_between (road_number nodes) mode base id other))
         by_ends None end e f = rw e (omega (arith, below))
         by_ends (Some start) None e f = rw (e, f) (omega (arith, below))
         by_ends (Some start) (Some end) e f =
             rw (e, f) (rise_one IsArcBy low high (record { from = start; to = end; ms = time_between base id other }) below
-            (record { id = id; step = step; mode = mode; back = 0; far = far; from = id; to = other; is = omega (arith, is); low = small; many = many; along = along; ends = inl (refl, refl, there); start = e; end = f }))
+            (record { id = id; step = step; mode = number_of_mode mode; back = 0; far = far; from = id; to = other; is = omega (arith, is); low = number_is_low mode; many = many; along = along; ends = inl (refl, refl, there); start = e; end = f }))
 
-    back_rises : (mode base low high : ℕ) → mode < 3 → low ≡ 12 * id + 6 * step + 2 * mode + 1 → low < high
+    back_rises : (mode : Mode) (base low high : ℕ) → low ≡ 12 * id + 6 * step + 2 * number_of_mode mode + 1 → low < high
         → Rise IsArcBy low high (option_to_list (road_between (road_number nodes) mode base other id))
-    back_rises mode base low high small is below = by_ends (road_number nodes (pos other, mode)) (road_number nodes (pos id, mode)) refl refl
+    back_rises mode base low high is below = by_ends (road_number nodes (road_key other mode)) (road_number nodes (road_key id mode)) refl refl
       where
-        by_ends : (start end : Option ℕ) → road_number nodes (pos other, mode) ≡ start → road_number nodes (pos id, mode) ≡ end
+        by_ends : (start end : Option ℕ) → road_number nodes (road_key other mode) ≡ start → road_number nodes (road_key id mode) ≡ end
             → Rise IsArcBy low high (option_to_list (road_between (road_number nodes) mode base other id))
         by_ends None end e f = rw e (omega (arith, below))
         by_ends (Some start) None e f = rw (e, f) (omega (arith, below))
         by_ends (Some start) (Some end) e f =
             rw (e, f) (rise_one IsArcBy low high (record { from = start; to = end; ms = time_between base other id }) below
-            (record { id = id; step = step; mode = mode; back = 1; far = far; from = other; to = id; is = omega (arith, is); low = small; many = many; along = along; ends = inr (refl, there, refl); start = e; end = f }))
+            (record { id = id; step = step; mode = number_of_mode mode; back = 1; far = far; from = other; to = id; is = omega (arith, is); low = number_is_low mode; many = many; along = along; ends = inr (refl, there, refl); start = e; end = f }))
 
-    street_rises : (mode base low high : ℕ) → mode < 3 → low ≡ 12 * id + 6 * step + 2 * mode → low + 2 ≤ high → Rise IsArcBy low high (street (road_number nodes) mode base id other)
-    street_rises mode base low high small is below =
+    street_rises : (mode : Mode) (base low high : ℕ) → low ≡ 12 * id + 6 * step + 2 * number_of_mode mode → low + 2 ≤ high → Rise IsArcBy low high (street (road_number nodes) mode base id other)
+    street_rises mode base low high is below =
         rise_append IsArcBy low (low + 1) high (option_to_list (road_between (road_number nodes) mode base id other)) (option_to_list (road_between (road_number nodes) mode base other id))
-        (there_rises mode base low (low + 1) small is (omega arith)) (back_rises mode base (low + 1) high small (omega (arith, is)) (omega (arith, below)))
+        (there_rises mode base low (low + 1) is (omega arith)) (back_rises mode base (low + 1) high (omega (arith, is)) (omega (arith, below)))
 
     streets_rise : (foot bike car : ℕ) (cars : Bool) (low high : ℕ) → low ≡ 12 * id + 6 * step → low + 6 ≤ high → Rise IsArcBy low high (streets (road_number nodes) foot bike car cars id other)
     streets_rise foot bike car cars low high is below =
-        rise_append IsArcBy low (low + 4) high (street (road_number nodes) 0 foot id other ++ street (road_number nodes) 1 bike id other) _
-        (rise_append IsArcBy low (low + 2) (low + 4) (street (road_number nodes) 0 foot id other) (street (road_number nodes) 1 bike id other)
-        (street_rises 0 foot low (low + 2) (omega arith) (omega (arith, is)) (omega arith))
-        (street_rises 1 bike (low + 2) (low + 4) (omega arith) (omega (arith, is)) (omega arith)))
-        (rise_if IsArcBy (low + 4) high cars (street (road_number nodes) 2 car id other) (omega (arith, below))
-        (λ there. street_rises 2 car (low + 4) high (omega arith) (omega (arith, is)) (omega (arith, below))))
+        rise_append IsArcBy low (low + 4) high (street (road_number nodes) Foot foot id other ++ street (road_number nodes) Bike bike id other) _
+        (rise_append IsArcBy low (low + 2) (low + 4) (street (road_number nodes) Foot foot id other) (street (road_number nodes) Bike bike id other)
+        (street_rises Foot foot low (low + 2) (omega (arith, is)) (omega arith))
+        (street_rises Bike bike (low + 2) (low + 4) (omega (arith, is)) (omega arith)))
+        (rise_if IsArcBy (low + 4) high cars (street (road_number nodes) Car car id other) (omega (arith, below))
+        (λ there. street_rises Car car (low + 4) high (omega (arith, is)) (omega (arith, below))))
 
   arcs_rise_at : (at : Corner) (id : ℕ) → id ≡ at.id → Rise IsArcBy (12 * id) (12 * (id + 1)) (corner_arcs n (road_number nodes) at)
   arcs_rise_at at id is =
@@ -142,9 +145,9 @@ module _ (n : ℕ) (nodes : List Node) where
 
   arc_joins : (tag : ℕ) (arc : Arc) → tag < 12 * (1 + n * n) → IsArcBy tag arc → joins_modes nodes arc ≡ true
   arc_joins tag arc below p =
-      let one : mode_at nodes arc.from ≡ Some p.mode = mode_of_number nodes p.from p.mode arc.from p.start in
-      let two : mode_at nodes arc.to ≡ Some p.mode = mode_of_number nodes p.to p.mode arc.to p.end in
-      let mode : is_same_mode (mode_at nodes arc.from) (mode_at nodes arc.to) ≡ true = rw (one, two) (let itself : nat_eq p.mode p.mode ≡ true = grind (arith, nat_tests) in itself) in
+      let (m, one, number) = mode_of_number nodes p.from p.mode arc.from p.start in
+      let (w, two, count) = mode_of_number nodes p.to p.mode arc.to p.end in
+      let mode : is_same_mode (mode_at nodes arc.from) (mode_at nodes arc.to) ≡ true = rw (one, two) (eq-eqb _ _ (number ∙ sym count)) in
       and_from (is_same_mode (mode_at nodes arc.from) (mode_at nodes arc.to)) (not (arc.from == arc.to)) mode (apart (nat_eq arc.from arc.to) refl)
     where
       apart : (t : Bool) → nat_eq arc.from arc.to ≡ t → not (nat_eq arc.from arc.to) ≡ true

@@ -6,13 +6,15 @@ use Rattle.std.proofs.lemmas.List.{length-map}
 use Rattle.std.proofs.lemmas.List.Elements.{All-append, All-cons, All-head, All-map, All-nil, All-tail}
 use Rattle.std.proofs.lemmas.List.Sorted.{All-permutation}
 use Rattle.std.proofs.lemmas.Nat.{mul-le}
+use Rattle.plan_base.specs.declared.modes.Mode.{Mode}
+use Rattle.plan_base.specs.declared.modes.Mode.TheVariants.{Foot, Bike, Car}
 use Rattle.plan_base.specs.declared.places.Place.{Place}
 use Rattle.mode_network.specs.NetworkLists.{NetworkLists}
 use Rattle.mode_network.specs.Rules.{AreParts, IsRoad, IsStop, IsSwitch}
 use Rattle.mode_network.specs.declared.nodes.Arc.{Arc}
 use Rattle.mode_network.specs.declared.nodes.Node.{Node}
 use Rattle.sample_city.specs.Corners.{corner, corner_place, corners, has_cars, is_car_line, lines}
-use Rattle.sample_city.specs.Roads.{RoadNodeKey, along_column, along_row, city_arcs, corner_arcs, node_in, nodes_at, road_between, road_number, street, streets, time_between}
+use Rattle.sample_city.specs.Roads.{RoadNodeKey, along_column, along_row, city_arcs, corner_arcs, node_in, nodes_at, road_between, road_number, street, streets, time_between, road_key}
 use Rattle.sample_city.specs.SampleCity.{IsSampleCity}
 use Rattle.sample_city.specs.Stops.{city_links, city_stop_links, city_stop_nodes, city_switch_links, city_switches, first_corner, last_corner, link_both, link_into, link_out, switch_in}
 use Rattle.sample_city.specs.declared.corners.Corner.{Corner}
@@ -44,18 +46,18 @@ small_corners n size =
     let product = mul-le r n 300 300 (omega (arith, row, size)) size in
     omega (arith, product, column, size))) (lines n) (below_end n)
 
-road_in : (place : Option Place) (at : Corner) (mode : ℕ) → IsSmall at → mode < 3 → All IsRoadNode (option_to_list (node_in place at mode))
-road_in None at mode small low = All-nil IsRoadNode
-road_in (Some place) at mode small low = All-cons IsRoadNode _ [] (low, small) (All-nil IsRoadNode)
+road_in : (place : Option Place) (at : Corner) (mode : Mode) → IsSmall at → All IsRoadNode (option_to_list (node_in place at mode))
+road_in None at mode small = All-nil IsRoadNode
+road_in (Some place) at mode small = All-cons IsRoadNode _ [] small (All-nil IsRoadNode)
 
 roads_at : (at : Corner) → IsSmall at → All IsRoadNode (nodes_at at)
 roads_at at small =
-    All-append IsRoadNode (option_to_list (node_in (corner_place at) at 0) ++ option_to_list (node_in (corner_place at) at 1)) (if has_cars at then option_to_list (node_in (corner_place at) at 2) else [])
-    (All-append IsRoadNode (option_to_list (node_in (corner_place at) at 0)) (option_to_list (node_in (corner_place at) at 1)) (road_in (corner_place at) at 0 small (omega arith)) (road_in (corner_place at) at 1 small (omega arith)))
+    All-append IsRoadNode (option_to_list (node_in (corner_place at) at Foot) ++ option_to_list (node_in (corner_place at) at Bike)) (if has_cars at then option_to_list (node_in (corner_place at) at Car) else [])
+    (All-append IsRoadNode (option_to_list (node_in (corner_place at) at Foot)) (option_to_list (node_in (corner_place at) at Bike)) (road_in (corner_place at) at Foot small) (road_in (corner_place at) at Bike small))
     (by_test (has_cars at))
   where
-    by_test : (cars : Bool) → All IsRoadNode (if cars then option_to_list (node_in (corner_place at) at 2) else [])
-    by_test true = road_in (corner_place at) at 2 small (omega arith)
+    by_test : (cars : Bool) → All IsRoadNode (if cars then option_to_list (node_in (corner_place at) at Car) else [])
+    by_test true = road_in (corner_place at) at Car small
     by_test false = All-nil IsRoadNode
 
 abbrev IsSwitchNode : Node → Type 0
@@ -87,8 +89,8 @@ abbrev Lasts : Arc → Type 0
 Lasts arc = 0 < arc.ms
 
 module _ (number : RoadNodeKey → Option ℕ) where
-  arc_lasts : (mode base from to : ℕ) → 0 < base → All Lasts (option_to_list (road_between number mode base from to))
-  arc_lasts mode base from to some = by_ends (number (pos from, mode)) (number (pos to, mode))
+  arc_lasts : (mode : Mode) (base from to : ℕ) → 0 < base → All Lasts (option_to_list (road_between number mode base from to))
+  arc_lasts mode base from to some = by_ends (number (road_key from mode)) (number (road_key to mode))
     where
       arc : ℕ → ℕ → Arc
       arc start end = record { from = start; to = end; ms = time_between base from to }
@@ -98,18 +100,18 @@ module _ (number : RoadNodeKey → Option ℕ) where
       by_ends (Some start) None = All-nil Lasts
       by_ends (Some start) (Some end) = All-cons Lasts (record { from = start; to = end; ms = time_between base from to }) [] (omega arith) (All-nil Lasts)
 
-  street_lasts : (mode base a b : ℕ) → 0 < base → All Lasts (street number mode base a b)
+  street_lasts : (mode : Mode) (base a b : ℕ) → 0 < base → All Lasts (street number mode base a b)
   street_lasts mode base a b some =
       All-append Lasts (option_to_list (road_between number mode base a b)) (option_to_list (road_between number mode base b a)) (arc_lasts mode base a b some) (arc_lasts mode base b a some)
 
   streets_last : (foot bike car : ℕ) (cars : Bool) (a b : ℕ) → 0 < foot → 0 < bike → 0 < car → All Lasts (streets number foot bike car cars a b)
   streets_last foot bike car cars a b f k c =
-      All-append Lasts (street number 0 foot a b ++ street number 1 bike a b) (if cars then street number 2 car a b else [])
-      (All-append Lasts (street number 0 foot a b) (street number 1 bike a b) (street_lasts 0 foot a b f) (street_lasts 1 bike a b k))
+      All-append Lasts (street number Foot foot a b ++ street number Bike bike a b) (if cars then street number Car car a b else [])
+      (All-append Lasts (street number Foot foot a b) (street number Bike bike a b) (street_lasts Foot foot a b f) (street_lasts Bike bike a b k))
       (by_test cars)
     where
-      by_test : (cars : Bool) → All Lasts (if cars then street number 2 car a b else [])
-      by_test true = street_lasts 2 car a b c
+      by_test : (cars : Bool) → All Lasts (if cars then street number Car car a b else [])
+      by_test true = street_lasts Car car a b c
       by_test false = All-nil Lasts
 
   if_last : (there : Bool) (arcs : List Arc) → All Lasts arcs → All Lasts (if there then arcs else [])
@@ -136,15 +138,15 @@ module _ (number : RoadNodeKey → Option ℕ) where
   stop_links_last : (k : ℕ) (stops : List CityStop) → All Lasts (city_stop_links number k stops)
   stop_links_last k [] = All-nil Lasts
   stop_links_last k (stop ∷ stops) =
-      All-append Lasts (link_both 60000 k (number (pos stop.id, 0))) (city_stop_links number (k + 1) stops) (both_last 60000 k (number (pos stop.id, 0)) (omega arith)) (stop_links_last (k + 1) stops)
+      All-append Lasts (link_both 60000 k (number (road_key stop.id Foot))) (city_stop_links number (k + 1) stops) (both_last 60000 k (number (road_key stop.id Foot)) (omega arith)) (stop_links_last (k + 1) stops)
 
   switch_links_last : (n k : ℕ) → All Lasts (city_switch_links n number k)
   switch_links_last n k =
       All-append Lasts _ _
       (All-append Lasts _ _
-      (All-append Lasts _ _ (both_last 30000 k (number (pos (first_corner n).id, 0)) (omega arith)) (both_last 30000 k (number (pos (first_corner n).id, 1)) (omega arith)))
-      (into_lasts 30000 (k + 1) (number (pos (last_corner n).id, 1)) (omega arith)))
-      (out_lasts 30000 (k + 1) (number (pos (last_corner n).id, 0)) (omega arith))
+      (All-append Lasts _ _ (both_last 30000 k (number (road_key (first_corner n).id Foot)) (omega arith)) (both_last 30000 k (number (road_key (first_corner n).id Bike)) (omega arith)))
+      (into_lasts 30000 (k + 1) (number (road_key (last_corner n).id Bike)) (omega arith)))
+      (out_lasts 30000 (k + 1) (number (road_key (last_corner n).id Foot)) (omega arith))
 
   links_last_all : (n roads : ℕ) (stops : List CityStop) → All Lasts (city_links n number roads stops)
   links_last_all n roads stops = All-append Lasts (city_stop_links number roads stops) (city_switch_links n number (roads + length stops)) (stop_links_last roads stops) (switch_links_last n (roads + length stops))

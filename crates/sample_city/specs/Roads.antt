@@ -1,7 +1,10 @@
--- The road nodes of the sample city, and the road arcs between neighbouring corners. Foot is 0, bike is 1 and car is 2.
+-- The road nodes of the sample city, and the road arcs between neighbouring corners.
 use Rattle.std.specs.Prelude.{ℕ, ℤ, pos, ◌+◌, ◌*◌, ◌%◌, List, [], ◌++◌, nat_eq, nat_lt, Bool, false, ◌&&◌, Option, option_to_list, option_and_then, option_map, if◌then◌else◌}
 use Rattle.std.specs.List.{flat_map, position_from}
 use Rattle.std.specs.Ordering.{int_eq}
+use Rattle.plan_base.specs.Modes.{number_of_mode}
+use Rattle.plan_base.specs.declared.modes.Mode.{Mode}
+use Rattle.plan_base.specs.declared.modes.Mode.TheVariants.{Foot, Bike, Car}
 use Rattle.plan_base.specs.declared.places.Place.{Place}
 use Rattle.mode_network.specs.declared.nodes.Arc.{Arc}
 use Rattle.mode_network.specs.declared.nodes.Node.{Node}
@@ -12,27 +15,30 @@ use Rattle.sample_city.specs.declared.corners.Corner.{Corner}
 
 -- ---- nodes
 
-abbrev pub node_in : Option Place → Corner → ℕ → Option Node
+abbrev pub node_in : Option Place → Corner → Mode → Option Node
 node_in place at mode = option_map (λ place. record { key = Road mode (pos at.id); place = place }) place
 
 -- for walkers and for bikes, and for cars where they drive along
 abbrev pub nodes_at : Corner → List Node
 nodes_at at =
-    option_to_list (node_in (corner_place at) at 0) ++ option_to_list (node_in (corner_place at) at 1)
-    ++ (if has_cars at then option_to_list (node_in (corner_place at) at 2) else [])
+    option_to_list (node_in (corner_place at) at Foot) ++ option_to_list (node_in (corner_place at) at Bike)
+    ++ (if has_cars at then option_to_list (node_in (corner_place at) at Car) else [])
 
 abbrev pub city_roads : ℕ → List Node
 city_roads n = flat_map nodes_at (corners n)
 
--- an OSM id, and a mode
+-- an OSM id, and the number of a mode
 abbrev pub RoadNodeKey : Type 0
 RoadNodeKey = ℤ × ℕ
+
+abbrev pub road_key : ℕ → Mode → RoadNodeKey
+road_key id mode = (pos id, number_of_mode mode)
 
 abbrev pub is_same_road_key : RoadNodeKey → RoadNodeKey → Bool
 is_same_road_key a b = int_eq a.0 b.0 && nat_eq a.1 b.1
 
 abbrev pub is_key_of : RoadNodeKey → NodeKey → Bool
-is_key_of end (Road mode id) = is_same_road_key (id, mode) end
+is_key_of end (Road mode id) = is_same_road_key (id, number_of_mode mode) end
 is_key_of end (Stop stop) = false
 is_key_of end (Switch id) = false
 
@@ -48,17 +54,17 @@ road_number nodes end = road_number_from 0 nodes end
 abbrev pub time_between : ℕ → ℕ → ℕ → ℕ
 time_between base from to = base + (37 * from + 11 * to) % 1000
 
-abbrev pub road_between : (RoadNodeKey → Option ℕ) → ℕ → ℕ → ℕ → ℕ → Option Arc
+abbrev pub road_between : (RoadNodeKey → Option ℕ) → Mode → ℕ → ℕ → ℕ → Option Arc
 road_between number mode base from to =
-    option_and_then (λ start. option_map (λ end. record { from = start; to = end; ms = time_between base from to }) (number (pos to, mode))) (number (pos from, mode))
+    option_and_then (λ start. option_map (λ end. record { from = start; to = end; ms = time_between base from to }) (number (road_key to mode))) (number (road_key from mode))
 
 -- both ways between the nodes of two ids
-abbrev pub street : (RoadNodeKey → Option ℕ) → ℕ → ℕ → ℕ → ℕ → List Arc
+abbrev pub street : (RoadNodeKey → Option ℕ) → Mode → ℕ → ℕ → ℕ → List Arc
 street number mode base a b = option_to_list (road_between number mode base a b) ++ option_to_list (road_between number mode base b a)
 
 -- with the base times of walkers, bikes and cars
 abbrev pub streets : (RoadNodeKey → Option ℕ) → ℕ → ℕ → ℕ → Bool → ℕ → ℕ → List Arc
-streets number foot bike car cars a b = street number 0 foot a b ++ street number 1 bike a b ++ (if cars then street number 2 car a b else [])
+streets number foot bike car cars a b = street number Foot foot a b ++ street number Bike bike a b ++ (if cars then street number Car car a b else [])
 
 -- To the next corner of the row, whose id is greater by 1, and to that of the column, whose id is greater by n.
 abbrev pub along_row : ℕ → (RoadNodeKey → Option ℕ) → Corner → List Arc

@@ -2,12 +2,13 @@
 use Rattle.std.specs.Prelude.{decimal, ℕ, ℤ, pos, ◌+◌, ◌-◌, List, [], ◌∷◌, ◌++◌, length, codes, Bool, ◌&&◌, Option, None, option_to_list, option_and_then, option_map, if◌then◌else◌}
 use Rattle.std.specs.List.{flat_map}
 use Rattle.plain_texts.specs.Names.{name_of}
+use Rattle.plan_base.specs.declared.modes.Mode.TheVariants.{Foot, Bike}
 use Rattle.plan_base.specs.declared.places.Place.{Place}
 use Rattle.mode_network.specs.declared.nodes.Arc.{Arc}
 use Rattle.mode_network.specs.declared.nodes.Node.{Node}
 use Rattle.mode_network.specs.declared.nodes.NodeKey.TheVariants.{Stop, Switch}
 use Rattle.sample_city.specs.Corners.{corner, corner_place, corners, is_stop_line}
-use Rattle.sample_city.specs.Roads.{RoadNodeKey}
+use Rattle.sample_city.specs.Roads.{RoadNodeKey, road_key}
 use Rattle.sample_city.specs.declared.corners.Corner.{Corner}
 use Rattle.sample_city.specs.declared.stops.CityStop.{CityStop}
 
@@ -65,13 +66,13 @@ link_both ms place road = link_into ms place road ++ link_out ms place road
 -- each stop, whose nodes are counted from k, with walkers
 abbrev pub city_stop_links : (RoadNodeKey → Option ℕ) → ℕ → List CityStop → List Arc
 city_stop_links number k [] = []
-city_stop_links number k (stop ∷ stops) = link_both 60000 k (number (pos stop.id, 0)) ++ city_stop_links number (k + 1) stops
+city_stop_links number k (stop ∷ stops) = link_both 60000 k (number (road_key stop.id Foot)) ++ city_stop_links number (k + 1) stops
 
 -- Of the switches k and k + 1, the first with walkers and bikes; the last may be reached by bike, and left on foot.
 abbrev pub city_switch_links : ℕ → (RoadNodeKey → Option ℕ) → ℕ → List Arc
 city_switch_links n number k =
-    link_both 30000 k (number (pos (first_corner n).id, 0)) ++ link_both 30000 k (number (pos (first_corner n).id, 1))
-    ++ link_into 30000 (k + 1) (number (pos (last_corner n).id, 1)) ++ link_out 30000 (k + 1) (number (pos (last_corner n).id, 0))
+    link_both 30000 k (number (road_key (first_corner n).id Foot)) ++ link_both 30000 k (number (road_key (first_corner n).id Bike))
+    ++ link_into 30000 (k + 1) (number (road_key (last_corner n).id Bike)) ++ link_out 30000 (k + 1) (number (road_key (last_corner n).id Foot))
 
 -- the stops stand behind so many road nodes, and the switches behind the stops
 abbrev pub city_links : ℕ → (RoadNodeKey → Option ℕ) → ℕ → List CityStop → List Arc

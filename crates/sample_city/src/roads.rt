@@ -8,7 +8,7 @@ ghost use Rattle.sample_city.specs.Numbers.{number_if_here};
 
 use crate::corners::{Corner, has_cars, place_at};
 use mode_network::{Node, NodeKey};
-use plan_base::Place;
+use plan_base::{Mode, Place};
 use std::alloc::{AllocError, Global};
 use std::collections::HashMap;
 
@@ -22,7 +22,7 @@ pub(crate) fn push_node(nodes: &mut Vec<Node>, node: Option<Node>) -> Result<(),
     Ok(())
 }
 
-fn node_in(place: Option<Place>, at: Corner, mode: u8) -> Option<Node>
+fn node_in(place: Option<Place>, at: Corner, mode: Mode) -> Option<Node>
     ensures { result ≡ spec.node_in place at mode }
 {
     let place = place?;
@@ -36,10 +36,10 @@ fn push_nodes(nodes: &mut Vec<Node>, at: Corner) -> Result<(), AllocError>
     ensures { OnOk result (nodes.new.items ≡ nodes.old.items ++ spec.nodes_at at) }
 {
     let place = place_at(at);
-    push_node(nodes, node_in(place, at, 0))?;
-    push_node(nodes, node_in(place, at, 1))?;
+    push_node(nodes, node_in(place, at, Mode::Foot))?;
+    push_node(nodes, node_in(place, at, Mode::Bike))?;
     if has_cars(at) {
-        push_node(nodes, node_in(place, at, 2))?;
+        push_node(nodes, node_in(place, at, Mode::Car))?;
     }
     Ok(())
 }
@@ -55,7 +55,7 @@ pub(crate) fn road_nodes(alloc: Global, corners: &[Corner]) -> Result<Vec<Node>,
     Ok(nodes)
 }
 
-/// The numbers of road nodes, by their OSM ids and modes.
+/// The numbers of road nodes, by their OSM ids and the numbers of their modes.
 #[derive(Drop)]
 pub(crate) struct RoadNumbers {
     pub(crate) by_end: HashMap<(i64, u8), u32>,
@@ -83,7 +83,7 @@ fn note_node(
         ≡ number_if_here (get spec.is_same_road_key by_end.old end) (spec.is_key_of end key) number) }
 {
     match key {
-        NodeKey::Road(mode, id) => note(by_end, (id, mode), number),
+        NodeKey::Road(mode, id) => note(by_end, (id, mode.number()), number),
         NodeKey::Stop(_) => Ok(()),
         NodeKey::Switch(_) => Ok(()),
     }
@@ -106,15 +106,15 @@ pub(crate) fn road_numbers(alloc: Global, nodes: &[Node]) -> Result<RoadNumbers,
 }
 
 impl RoadNumbers {
-    ghost use Rattle.std.specs.Prelude.{◌≡◌, ◌<◌, ◌^◌, pos};
+    ghost use Rattle.std.specs.Prelude.{◌≡◌, ◌<◌, ◌^◌};
     ghost use Rattle.std.specs.HashMap.{get};
-    ghost use Rattle.sample_city.specs.Roads.{is_same_road_key};
+    ghost use Rattle.sample_city.specs.Roads.{is_same_road_key, road_key};
 
     /// The number of a road node; `None` exactly where none is noted.
-    pub(crate) fn of(&self, id: u64, mode: u8) -> Option<u32>
+    pub(crate) fn of(&self, id: u64, mode: Mode) -> Option<u32>
         requires { id < 2 ^ 33 }
-        ensures { result ≡ get is_same_road_key self.now.by_end (pos id, mode) }
+        ensures { result ≡ get is_same_road_key self.now.by_end (road_key id mode) }
     {
-        self.by_end.get(&(id as i64, mode)).copied()
+        self.by_end.get(&(id as i64, mode.number())).copied()
     }
 }

@@ -13,7 +13,7 @@ use crate::roads::{RoadNumbers, push_node};
 use crate::streets::in_order as arcs_in_order;
 use mode_network::{Arc, Node, NodeKey};
 use plain_texts::{Name, push_decimal};
-use plan_base::Place;
+use plan_base::{Mode, Place};
 use std::alloc::{AllocError, Global};
 
 /// A stop: its name, the OSM id of the nodes at its corner, and where that lies.
@@ -214,7 +214,7 @@ fn push_stop_links(
     let mut number = first;
     let mut rest = stops;
     while let [stop, after @ ..] = rest {
-        push_link_both(links, 60_000, number, numbers.of(u64::from(stop.id), 0))?;
+        push_link_both(links, 60_000, number, numbers.of(u64::from(stop.id), Mode::Foot))?;
         number += 1;
         rest = after;
     }
@@ -235,10 +235,10 @@ fn push_switch_links(
 {
     let first = u64::from(corner_at(n, 0, 0).id);
     let last = u64::from(corner_at(n, n - 1, n - 1).id);
-    push_link_both(links, 30_000, place, numbers.of(first, 0))?;
-    push_link_both(links, 30_000, place, numbers.of(first, 1))?;
-    push_link_into(links, 30_000, place + 1, numbers.of(last, 1))?;
-    push_link_out(links, 30_000, place + 1, numbers.of(last, 0))
+    push_link_both(links, 30_000, place, numbers.of(first, Mode::Foot))?;
+    push_link_both(links, 30_000, place, numbers.of(first, Mode::Bike))?;
+    push_link_into(links, 30_000, place + 1, numbers.of(last, Mode::Bike))?;
+    push_link_out(links, 30_000, place + 1, numbers.of(last, Mode::Foot))
 }
 
 /// The links of the stops and the switches, which stand behind so many road nodes.

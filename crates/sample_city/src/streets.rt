@@ -9,6 +9,7 @@ ghost use Rattle.sample_city.specs.Roads as spec;
 use crate::corners::{Corner, is_car_line};
 use crate::roads::RoadNumbers;
 use mode_network::Arc;
+use plan_base::Mode;
 use std::alloc::{AllocError, Global};
 
 /// How long walkers, bikes and cars take to the next corner at least, in milliseconds.
@@ -58,7 +59,7 @@ fn time_between(base: u32, from: u64, to: u64) -> u32
     base + ((37 * from + 11 * to) % 1_000) as u32
 }
 
-fn arc_between(numbers: &RoadNumbers, mode: u8, base: u32, from: u64, to: u64) -> Option<Arc>
+fn arc_between(numbers: &RoadNumbers, mode: Mode, base: u32, from: u64, to: u64) -> Option<Arc>
     requires base { base < 100000 }
     requires from { from < 2 ^ 33 }
     requires to { to < 2 ^ 33 }
@@ -76,7 +77,7 @@ fn arc_between(numbers: &RoadNumbers, mode: u8, base: u32, from: u64, to: u64) -
 fn push_street(
     arcs: &mut Vec<Arc>,
     numbers: &RoadNumbers,
-    mode: u8,
+    mode: Mode,
     base: u32,
     a: u64,
     b: u64,
@@ -107,10 +108,10 @@ fn push_streets(
     ensures { OnOk result (arcs.new.items ≡ arcs.old.items ++ spec.streets
         (get spec.is_same_road_key numbers.now.by_end) bases.foot bases.bike bases.car cars a b) }
 {
-    push_street(arcs, numbers, 0, bases.foot, a, b)?;
-    push_street(arcs, numbers, 1, bases.bike, a, b)?;
+    push_street(arcs, numbers, Mode::Foot, bases.foot, a, b)?;
+    push_street(arcs, numbers, Mode::Bike, bases.bike, a, b)?;
     if cars {
-        push_street(arcs, numbers, 2, bases.car, a, b)?;
+        push_street(arcs, numbers, Mode::Car, bases.car, a, b)?;
     }
     Ok(())
 }

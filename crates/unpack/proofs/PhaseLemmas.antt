@@ -14,11 +14,13 @@ use Rattle.timetable_arcs.specs.Table.{IsTable}
 use Rattle.mode_network.specs.declared.nodes.Arc.{Arc}
 use Rattle.mode_network.specs.declared.steps.Step.{Step}
 use Rattle.mode_network.specs.declared.steps.Step.TheVariants.{Road}
-use Rattle.mode_network.specs.NetworkLists.{NetworkLists, mode_at}
+use Rattle.plan_base.specs.Modes.{number_of_mode}
+use Rattle.plan_base.specs.declared.modes.Mode.{Mode}
+use Rattle.mode_network.specs.NetworkLists.{NetworkLists, letter_at, mode_at}
 use Rattle.mode_network.specs.Rules.{IsNetwork, is_same_mode, joins_modes}
 use Rattle.mode_network.specs.Timetables.{IsTimetableOf}
 use Rattle.mode_network.specs.Journeys.{Leads, AreSteps}
-use Rattle.mode_network.proofs.RuleLemmas.{mode_is_road, some_is}
+use Rattle.mode_network.proofs.RuleLemmas.{letter_is_road, letter_of, same_mode_is, some_is}
 use Rattle.hierarchy.specs.declared.entry.Entry.{Entry}
 use Rattle.hierarchy.specs.Hops.{Hop as RoadHop, AreHops, total}
 use Rattle.hierarchy.specs.Lists.{HierarchyLists}
@@ -241,14 +243,14 @@ module _ (n : NetworkLists) (network : IsNetwork n) (h : HierarchyLists) (rules 
 
 module _ (n : NetworkLists) (network : IsNetwork n) where
   -- the ends of a road arc have one mode
-  one_mode : (v w ms : ℕ) → Leads n.arcs v w ms → (mode : ℕ) × (mode_at n.roads v ≡ Some mode) × (mode_at n.roads w ≡ Some mode)
+  one_mode : (v w ms : ℕ) → Leads n.arcs v w ms → (mode : ℕ) × (letter_at n.roads v ≡ Some mode) × (letter_at n.roads w ≡ Some mode)
   one_mode v w ms (k, lt, is) =
       by_modes (mode_at n.roads v) (mode_at n.roads w) refl refl (and_parts _ _ (subst (λ (a : Arc). joins_modes n.roads a ≡ true) is (network.arcs_join k (record { from = v; to = w; ms = ms }) lt))).0
     where
-      by_modes : (a b : Option ℕ) → mode_at n.roads v ≡ a → mode_at n.roads w ≡ b → is_same_mode a b ≡ true → (mode : ℕ) × (mode_at n.roads v ≡ Some mode) × (mode_at n.roads w ≡ Some mode)
+      by_modes : (a b : Option Mode) → mode_at n.roads v ≡ a → mode_at n.roads w ≡ b → is_same_mode a b ≡ true → (mode : ℕ) × (letter_at n.roads v ≡ Some mode) × (letter_at n.roads w ≡ Some mode)
       by_modes None b at_v at_w same = cc
       by_modes (Some a) None at_v at_w same = cc
-      by_modes (Some a) (Some b) at_v at_w same = (a, at_v, at_w ∙ ap Some (sym (eqb-true a b same)))
+      by_modes (Some a) (Some b) at_v at_w same = (number_of_mode a, letter_of n.roads v _ at_v, letter_of n.roads w _ (at_w ∙ ap Some (sym (same_mode_is a b same))))
 
   -- roads in a row: their letters, after the mode's, are told already
   record Driven (m v t : ℕ) (roads : List RoadHop) (w : ℕ) : Type 0 where
@@ -256,7 +258,7 @@ module _ (n : NetworkLists) (network : IsNetwork n) where
     on_time : AreOnTime n v t (map road_step roads) w (t + total roads) letters
     told : (word : List ℕ) → collapse (m ∷ (letters ++ word)) ≡ collapse (m ∷ word)
 
-  drive : (m : ℕ) → m < 3 → (roads : List RoadHop) (v t w : ℕ) → AreHops (Leads n.arcs) v roads w → mode_at n.roads v ≡ Some m → Driven m v t roads w
+  drive : (m : ℕ) → m < 3 → (roads : List RoadHop) (v t w : ℕ) → AreHops (Leads n.arcs) v roads w → letter_at n.roads v ≡ Some m → Driven m v t roads w
   drive m road [] v t w walk mode = record { letters = []; on_time = (walk, omega arith, refl); told = λ word. refl }
   drive m road (hop ∷ roads) v t w (leads, walk) mode =
       let modes = one_mode v hop.to hop.weight leads in
@@ -282,14 +284,14 @@ module _ (n : NetworkLists) (network : IsNetwork n) where
   roads_soon [] = All-nil IsSoon
   roads_soon (hop ∷ roads) = All-cons IsSoon (road_step hop) (map road_step roads) tt (roads_soon roads)
 
-  pub by_roads : (v w ms t u : ℕ) (letter : Option ℕ) (old new : List Step) → GoesOnByRoads n v w ms old new → v ≢ w → letter ≡ mode_at n.roads v → u ≡ t + ms → GoesOn n v t w u (option_to_list letter) old new
+  pub by_roads : (v w ms t u : ℕ) (letter : Option ℕ) (old new : List Step) → GoesOnByRoads n v w ms old new → v ≢ w → letter ≡ letter_at n.roads v → u ≡ t + ms → GoesOn n v t w u (option_to_list letter) old new
   by_roads v w ms t u letter old new g differ told_is at = by_list g.roads g.lead g.weigh g.list
     where
       by_list : (roads : List RoadHop) → AreHops (Leads n.arcs) v roads w → total roads ≡ ms → new ≡ old ++ map road_step roads → GoesOn n v t w u (option_to_list letter) old new
       by_list [] walk weighs list = absurd (differ (sym walk))
       by_list (hop ∷ roads) (leads, walk) weighs list =
           let modes = one_mode v hop.to hop.weight leads in
-          let road = (mode_is_road n network v modes.0 modes.1).1 in
+          let road = (letter_is_road n network v modes.0 modes.1).1 in
           let more = drive modes.0 road roads hop.to (t + hop.weight) w walk modes.2 in
           let sum : (t + hop.weight) + total roads ≡ u = omega (arith, weighs, at) in
           let is : letter ≡ Some modes.0 = told_is ∙ modes.1 in
@@ -341,12 +343,12 @@ module _ (n : NetworkLists) (network : IsNetwork n) (table : TableLists) (h : Hi
   arc_there = phase_arc n h (node_of p) (is_down p) i
 
   -- along an entry
-  pub by_entry : (a : PhaseArc) (down : Bool) (place : ℕ) → a ≡ arc_there → arc_of n table h (node_of p) (is_down p) a ≡ record { to = phase_node (entry_at h place).to down; letter = mode_at n.roads (node_of p) }
+  pub by_entry : (a : PhaseArc) (down : Bool) (place : ℕ) → a ≡ arc_there → arc_of n table h (node_of p) (is_down p) a ≡ record { to = phase_node (entry_at h place).to down; letter = letter_at n.roads (node_of p) }
       → ((u : ℕ) → arrives_along n table h marks (node_of p) t a ≡ Some u → t + (entry_at h place).weight ≡ u) → (entry_at h place).from ≡ node_of p → (entry_at h place).from ≢ (entry_at h place).to
       → GoesOnByRoads n (entry_at h place).from (entry_at h place).to (entry_at h place).weight old new → GoesOnByArc n table h marks p i t old new
   by_entry a down place at leads takes from differ roads u arrives =
       let e = entry_at h place in
-      let is : arc_of n table h (node_of p) (is_down p) arc_there ≡ record { to = phase_node e.to down; letter = mode_at n.roads (node_of p) } = sym (ap (arc_of n table h (node_of p) (is_down p)) at) ∙ leads in
+      let is : arc_of n table h (node_of p) (is_down p) arc_there ≡ record { to = phase_node e.to down; letter = letter_at n.roads (node_of p) } = sym (ap (arc_of n table h (node_of p) (is_down p)) at) ∙ leads in
       let ends : u ≡ t + e.weight = sym (takes u (ap (arrives_along n table h marks (node_of p) t) at ∙ arrives)) in
       let to : e.to ≡ node_of (arc_of n table h (node_of p) (is_down p) arc_there).to = sym (half e.to down) ∙ sym (ap (λ (x : GraphArc). node_of x.to) is) in
       let letter = ap (λ (x : GraphArc). x.letter) is in

@@ -1,4 +1,5 @@
 use Rattle.std.proofs.Common.{◌≡◌, ◌∙◌, ℕ, Option, ap, sym, arith, length-append}
+use Rattle.plan_base.specs.declared.modes.Mode.{Mode}
 use Rattle.mode_network.specs.declared.indexes.NodeRow.{NodeRow}
 use Rattle.mode_network.specs.NetworkLists.{mode_at}
 use Rattle.mode_network.specs.Indexes.{arcs_begun_below, node_row}
@@ -6,7 +7,7 @@ use Rattle.mode_network.proofs.IndexLemmas.{count_below_is, rows_more}
 use Rattle.mode_network.proofs.indexes.rows.Goals as goal
 
 -- a row of these parts
-abbrev made : Option ℕ → ℕ → ℕ → NodeRow
+abbrev made : Option Mode → ℕ → ℕ → NodeRow
 made mode arcs links = record { mode = mode; arcs = arcs; links = links }
 
 pub loop-v-preserved : goal.loop-v-preserved

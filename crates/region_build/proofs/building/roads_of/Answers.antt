@@ -1,4 +1,4 @@
-use Rattle.std.proofs.Common.{ℤ, ap, ◌∙◌, subst, List, Option}
+use Rattle.std.proofs.Common.{ℤ, ap, arith, length, ◌∙◌, subst, List, Option}
 use Rattle.plan_base.specs.declared.places.Place.{Place}
 use Rattle.opl_reader.specs.ObjectLists.{ObjectLists}
 use Rattle.opl_reader.specs.declared.objects.OsmNode.{OsmNode}
@@ -19,3 +19,9 @@ returns-clause-are c = record {
       ∙ ap (λ (nodes : List OsmNode). road_nodes (place_of_node nodes) c.in_ok-ends.ends) (c.deref.ensures.value ∙ ap (λ (objects : ObjectLists). objects.nodes) c.objects.view_is);
   arcs_are = subst (λ (rows : List RoadRow). AreInOrder (arcs_of c.in_ok-ends.ends rows) c.in_ok-arcs.arcs.items) c.deref-3.ensures.value c.in_ok-arcs.ensures;
 }
+
+pub road_arcs_between-requires : goal.road_arcs_between-requires
+road_arcs_between-requires c = let few = c.if-as_slice.false in let same = ap length c.as_slice.ensures in omega arith
+
+pub returns-clause-few : goal.returns-clause-few
+returns-clause-few c = let few = c.if-as_slice.false in let same = ap length c.as_slice.ensures in omega arith

@@ -2,7 +2,7 @@ use Rattle.std.proofs.Common.{◌≡◌, ◌-◌, ◌≤◌, ◌++◌, ◌∙◌
 use Rattle.search_laws.specs.Ways.{moving_letters, ways_from, ways_past}
 use Rattle.search_laws.specs.declared.graph.Graph.{rides-default}
 use Rattle.search_laws.proofs.FreshLemmas.{adds_all, moving_asked}
-use Rattle.mode_network.specs.NetworkLists.{NetworkLists, mode_at}
+use Rattle.mode_network.specs.NetworkLists.{NetworkLists, letter_at}
 use Rattle.plain_graph.specs.PlainArcs.{count_from, arcs_at}
 use Rattle.departures.specs.declared.least.LeastTimes.{LeastTimes}
 use Rattle.departures.specs.LeastArcs.{least_meaning}
@@ -34,12 +34,12 @@ returns c =
     let first = count_from n.arcs c.args.v in
     let inv = c.loop-first.invariant in
     let all : c.loop-first.first ≡ arcs_at n s.plain.timetable.now c.args.v = omega (arith, inv.within, c.loop-first-test.false, c.arcs-arcs.ensures) in
-    let asked : c.moving_letters-moving.result ≡ moving_letters c.args.letters c.args.leaving (mode_at n.roads c.args.v) =
-    c.moving_letters-moving.ensures ∙ ap (moving_letters c.args.letters c.args.leaving) (c.mode.ensures ∙ ap (λ (x : NetworkLists). mode_at x.roads c.args.v) c.network.ensures) in
+    let asked : c.moving_letters-moving.result ≡ moving_letters c.args.letters c.args.leaving (letter_at n.roads c.args.v) =
+    c.moving_letters-moving.ensures ∙ ap (moving_letters c.args.letters c.args.leaving) (c.letter.ensures ∙ ap (λ (x : NetworkLists). letter_at x.roads c.args.v) c.network.ensures) in
     let ways = ways_past g c.args.v c.args.t c.moving_letters-moving.result first in
     let before = c.args.ways.now.items in (
       ways,
-      rw asked (moving_asked g c.args.v c.args.t c.args.letters c.args.leaving first (mode_at n.roads c.args.v) (least_stand n s.plain.timetable.now s.runs.items c.args.v c.args.t c.args.leaving)
+      rw asked (moving_asked g c.args.v c.args.t c.args.letters c.args.leaving first (letter_at n.roads c.args.v) (least_stand n s.plain.timetable.now s.runs.items c.args.v c.args.t c.args.leaving)
           first (arcs_at n s.plain.timetable.now c.args.v - first) (omega arith)),
       adds_all (rides-default LeastTimes s) c.args.state c.args.given.now ways before c.loop-first.ways.items
           (inv.ways ∙ ap (λ k. before ++ ways_from g c.args.v c.args.t c.moving_letters-moving.result first (k - first)) all),

@@ -11,5 +11,5 @@ returns-else-is_open c =
     let h = self.hierarchy.now in
     let marks = self.marks.items in
     let p = c.args.p in
-    let mode = rw c.network.ensures at c.mode.ensures in
+    let mode = rw c.network.ensures at c.letter.ensures in
     falls_closed n h table marks p c.args.t c.args.letters c.args.ways.now.items (ap (is_open c.args.letters) (sym mode) ∙ sym c.if-is_open.ensures)

@@ -23,7 +23,7 @@ loop-i-preserved c =
     let first = rw c.split-v.ensures at c.entries_at-first.ensures.first in
     let count = rw c.split-v.ensures at c.entries_at-first.ensures.count in
     let lt = rw count at c.loop-i-test.true in
-    let push = rw (c.mode-letter.ensures, c.network.ensures, c.split-v.ensures, rises, first) at c.in_ok-push_fall.ensures in
+    let push = rw (c.letter-letter.ensures, c.network.ensures, c.split-v.ensures, rises, first) at c.in_ok-push_fall.ensures in
     let far = rw rises at c.loop-i.invariant.far in
     record {
       far = rw rises (fall_pushed n h table self.marks.items p c.args.t c.args.letters c.loop-i.i c.args.ways.now.items c.loop-i.ways.items c.push_fall.new.ways.items lt c.requires.opens far push);

@@ -17,5 +17,5 @@ returns-clause-letter c i lt =
     let v = node_of c.args.p in
     let down = is_down c.args.p in
     let count = ap (λ (r : ℕ × Bool). length (rises_at h r.0 r.1)) c.split-v.ensures in
-    let mode = rw (c.network.ensures, c.split-v.ensures) at c.mode.ensures in
+    let mode = rw (c.network.ensures, c.split-v.ensures) at c.letter.ensures in
     ap (λ (a : PhaseArc). (arc_of n self.plain.timetable.now h v down a).letter) (up_known n h v down i (omega (arith, lt, count))) ∙ sym mode

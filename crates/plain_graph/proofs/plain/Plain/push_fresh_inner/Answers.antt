@@ -19,7 +19,7 @@ pub returns-in_ok-push_fresh_boards-in-None-Some : goal.returns-in_ok-push_fresh
 returns-in_ok-push_fresh_boards-in-None-Some c =
     let n = c.args.self.now.network.now in
     let t = c.args.self.now.timetable.now in
-    let is = rides_ways n t c.args.t c.args.letters c.args.v c.in-None-Some.stop (sym c.mode.ensures ∙ c.in-None-Some.is-0) (sym c.stop_at.ensures ∙ c.in-None-Some.is-1) in
+    let is = rides_ways n t c.args.t c.args.letters c.args.v c.in-None-Some.stop (sym c.letter.ensures ∙ c.in-None-Some.is-0) (sym c.stop_at.ensures ∙ c.in-None-Some.is-1) in
     let place = c.requires.place in
     rw place (subst (λ (ws : List Way). AddsFresh (plain_rides n t) c.args.state c.args.given.now c.push_fresh_boards.new.given ws c.args.ways.now.items c.push_fresh_boards.new.ways.items) (sym is)
     (rw place at c.in_ok-push_fresh_boards-in-None-Some.ensures))

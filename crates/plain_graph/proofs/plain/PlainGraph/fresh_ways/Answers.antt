@@ -2,7 +2,7 @@ use Rattle.std.proofs.Common.{◌≡◌, ◌+◌, ◌-◌, ap, ◌∙◌, arith}
 use Rattle.std.proofs.lemmas.Result.{on_ok_weaker}
 use Rattle.search_laws.specs.Ways.{moving_letters, ways_from}
 use Rattle.search_laws.proofs.FreshLemmas.{moving_asked}
-use Rattle.mode_network.specs.NetworkLists.{mode_at}
+use Rattle.mode_network.specs.NetworkLists.{letter_at}
 use Rattle.plain_graph.specs.PlainArcs.{plain_meaning, count_from, inner_arcs_at, arcs_at}
 use Rattle.plain_graph.proofs.PlaceTies.{past_roads_stand}
 use Rattle.plain_graph.proofs.plain.PlainGraph.fresh_ways.Goals as goal
@@ -16,12 +16,12 @@ returns c =
     let roads = count_from n.arcs v in
     let m = count_from n.links v + inner_arcs_at n t v in
     let rest : arcs_at n t v - roads ≡ m = omega arith in
-    let asked : c.moving_letters-moving.result ≡ moving_letters c.args.letters c.args.leaving (mode_at n.roads v) =
-    c.moving_letters-moving.ensures ∙ ap (moving_letters c.args.letters c.args.leaving) c.mode.ensures in
+    let asked : c.moving_letters-moving.result ≡ moving_letters c.args.letters c.args.leaving (letter_at n.roads v) =
+    c.moving_letters-moving.ensures ∙ ap (moving_letters c.args.letters c.args.leaving) c.letter.ensures in
     rw rest (on_ok_weaker c.push_fresh_past_roads.result
     (λ adds. (
       ways_from g v c.args.t (c.moving_letters-moving.result) roads m,
-      rw asked (moving_asked g v c.args.t c.args.letters c.args.leaving roads (mode_at n.roads v) (past_roads_stand n t v c.args.t c.args.leaving) roads m (omega arith)),
+      rw asked (moving_asked g v c.args.t c.args.letters c.args.leaving roads (letter_at n.roads v) (past_roads_stand n t v c.args.t c.args.leaving) roads m (omega arith)),
       adds,
     ))
     c.push_fresh_past_roads.ensures)

@@ -9,4 +9,4 @@ returns-clause-letter c i lt =
     let n = c.args.self.now.network.now in
     let t = c.args.self.now.timetable.now in
     let v = c.args.v in
-    ap (λ (a : PlainArc). (graph_arc n t v a).letter) (road_at n t v i (rw (c.from-2.ensures, c.arcs_from-first.ensures.range) at lt)) ∙ sym c.mode.ensures
+    ap (λ (a : PlainArc). (graph_arc n t v a).letter) (road_at n t v i (rw (c.from-2.ensures, c.arcs_from-first.ensures.range) at lt)) ∙ sym c.letter.ensures

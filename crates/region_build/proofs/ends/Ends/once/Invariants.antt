@@ -1,6 +1,9 @@
-use Rattle.std.proofs.Common.{◌≡◌, [], drop}
-use Rattle.region_build.specs.Ends.{once_behind}
+use Rattle.std.proofs.Common.{◌≡◌, [], drop, map}
+use Rattle.region_build.specs.Ends.{key_of_end, once_behind}
 use Rattle.region_build.proofs.ends.Ends.once.Given as goal
 
 abbrev pub invariant-loop-end : goal.invariant-loop-end
-invariant-loop-end l = once_behind l.numbers.keys (drop l.end-index l.ends) ≡ once_behind [] l.ends
+invariant-loop-end l = record {
+  so_far : once_behind l.once.items (drop l.end-index l.ends) ≡ once_behind [] l.ends;
+  keyed : l.keys.keys ≡ map key_of_end l.once.items;
+}
