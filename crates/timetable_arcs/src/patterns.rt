@@ -63,39 +63,41 @@ impl Pattern {
     }
 }
 
+/// Trips over the days that begin at these bases, with the head of each: the trip that stands for all that call alike.
+#[derive(Clone, Copy)]
+struct Headed<'a> {
+    bases: &'a [u64],
+    trips: &'a [Trip],
+    heads: &'a [u32],
+}
+
 /// Whether a run may stand behind the runs of a pattern.
 #[tactic(auto, using(crate::proofs::HeadLemmas::heads_alike))]
-fn follows(bases: &[u64], trips: &[Trip], heads: &[u32], runs: &[Instance], run: Instance) -> bool
-    requires { AreHeads trips.now heads.now }
-    ensures { OnTrue result (MayJoinPattern (plain_table bases.now trips.now) runs.now run) }
+fn follows(given: &Headed, runs: &[Instance], run: Instance) -> bool
+    requires { AreHeads given.now.trips.now given.now.heads.now }
+    ensures { OnTrue result (MayJoinPattern (plain_table given.now.bases.now given.now.trips.now) runs.now run) }
 {
     match (runs.first(), runs.last()) {
         (Some(first), Some(last)) => {
-            have_same_head(heads, first.trip, run.trip) && is_behind(bases, trips, *last, run)
+            have_same_head(given.heads, first.trip, run.trip)
+                && is_behind(given.bases, given.trips, *last, run)
         }
         _ => false,
     }
 }
 
 /// A pattern behind whose runs this one may stand: the one that is tried first, or one of those opened last.
-fn find_pattern(
-    bases: &[u64],
-    trips: &[Trip],
-    heads: &[u32],
-    patterns: &[Pattern],
-    first: usize,
-    run: Instance,
-) -> Option<usize>
-    requires { AreHeads trips.now heads.now }
+fn find_pattern(given: &Headed, patterns: &[Pattern], first: usize, run: Instance) -> Option<usize>
+    requires { AreHeads given.now.trips.now given.now.heads.now }
     ensures within { IfSome result (λ place. place < length patterns.now) }
-    ensures follows { IfSome result (λ place. MayJoinPattern (plain_table bases.now trips.now)
-        (slice_index_or patterns.now place []) run) }
+    ensures follows { IfSome result (λ place. MayJoinPattern (plain_table given.now.bases.now
+        given.now.trips.now) (slice_index_or patterns.now place []) run) }
 {
-    if first < patterns.len() && follows(bases, trips, heads, patterns[first].runs(), run) {
+    if first < patterns.len() && follows(given, patterns[first].runs(), run) {
         return Some(first);
     }
     for place in patterns.len().saturating_sub(TRIED)..patterns.len() {
-        if follows(bases, trips, heads, patterns[place].runs(), run) {
+        if follows(given, patterns[place].runs(), run) {
             return Some(place);
         }
     }
@@ -106,21 +108,20 @@ fn find_pattern(
 /// new one.
 fn put(
     alloc: Global,
-    bases: &[u64],
-    trips: &[Trip],
-    heads: &[u32],
+    given: &Headed,
     patterns: &mut Vec<Pattern>,
     first: usize,
     run: Instance,
 ) -> Result<usize, AllocError>
-    requires heads { AreHeads trips.now heads.now }
-    requires are { All (IsPattern (plain_table bases.now trips.now)) patterns.old.items }
-    ensures are { OnOk result (All (IsPattern (plain_table bases.now trips.now)) patterns.new.items) }
+    requires heads { AreHeads given.now.trips.now given.now.heads.now }
+    requires are { All (IsPattern (plain_table given.now.bases.now given.now.trips.now)) patterns.old.items }
+    ensures are { OnOk result (All (IsPattern (plain_table given.now.bases.now given.now.trips.now))
+        patterns.new.items) }
     ensures one_more { OnOk result ((weight : Instance → ℕ)
         → sum_all weight patterns.new.items ≡ sum_all weight patterns.old.items + weight run) }
 {
-    let start = narrowed(departs(bases, trips, run, 0));
-    match find_pattern(bases, trips, heads, patterns, first, run) {
+    let start = narrowed(departs(given.bases, given.trips, run, 0));
+    match find_pattern(given, patterns, first, run) {
         Some(place) => {
             patterns[place].push(run, start)?;
             Ok(place)
@@ -147,24 +148,23 @@ fn runs_on(trips: &[Trip], trip: u32, day: u32) -> bool
 /// that was put last: its run of a day later is mostly behind that.
 fn put_on(
     alloc: Global,
-    bases: &[u64],
-    trips: &[Trip],
-    heads: &[u32],
+    given: &Headed,
     trip: u32,
     day: u32,
     patterns: &mut Vec<Pattern>,
     latest: &mut Vec<usize>,
 ) -> Result<(), AllocError>
-    requires heads { AreHeads trips.now heads.now }
-    requires are { All (IsPattern (plain_table bases.now trips.now)) patterns.old.items }
-    ensures are { OnOk result (All (IsPattern (plain_table bases.now trips.now)) patterns.new.items) }
+    requires heads { AreHeads given.now.trips.now given.now.heads.now }
+    requires are { All (IsPattern (plain_table given.now.bases.now given.now.trips.now)) patterns.old.items }
+    ensures are { OnOk result (All (IsPattern (plain_table given.now.bases.now given.now.trips.now))
+        patterns.new.items) }
     ensures one { OnOk result ((weight : Instance → ℕ) → sum_all weight patterns.new.items ≡ sum_all weight
-        patterns.old.items + weight_on weight trips.now day trip) }
+        patterns.old.items + weight_on weight given.now.trips.now day trip) }
 {
-    if runs_on(trips, trip, day) {
+    if runs_on(given.trips, trip, day) {
         let run = Instance { trip, day };
         let first = latest.get(trip as usize).copied().unwrap_or(0);
-        let place = put(alloc, bases, trips, heads, patterns, first, run)?;
+        let place = put(alloc, given, patterns, first, run)?;
         if let Some(held) = latest.get_mut(trip as usize) {
             *held = place;
         }
@@ -175,22 +175,21 @@ fn put_on(
 /// Puts the runs of a day into patterns, in the order of their trips.
 fn put_day(
     alloc: Global,
-    bases: &[u64],
-    trips: &[Trip],
-    heads: &[u32],
+    given: &Headed,
     order: &[u32],
     day: u32,
     patterns: &mut Vec<Pattern>,
     latest: &mut Vec<usize>,
 ) -> Result<(), AllocError>
-    requires heads { AreHeads trips.now heads.now }
-    requires are { All (IsPattern (plain_table bases.now trips.now)) patterns.old.items }
-    ensures are { OnOk result (All (IsPattern (plain_table bases.now trips.now)) patterns.new.items) }
+    requires heads { AreHeads given.now.trips.now given.now.heads.now }
+    requires are { All (IsPattern (plain_table given.now.bases.now given.now.trips.now)) patterns.old.items }
+    ensures are { OnOk result (All (IsPattern (plain_table given.now.bases.now given.now.trips.now))
+        patterns.new.items) }
     ensures day { OnOk result ((weight : Instance → ℕ) → sum_all weight patterns.new.items ≡ sum_all weight
-        patterns.old.items + sum_by (weight_on weight trips.now day) order.now) }
+        patterns.old.items + sum_by (weight_on weight given.now.trips.now day) order.now) }
 {
     for trip in order {
-        put_on(alloc, bases, trips, heads, *trip, day, patterns, latest)?;
+        put_on(alloc, given, *trip, day, patterns, latest)?;
     }
     Ok(())
 }
@@ -209,19 +208,15 @@ pub(crate) fn sort_into_patterns(
 {
     let order = trips_in_order(alloc, trips)?;
     let heads = heads_of(alloc, trips, &order)?;
+    let given = Headed {
+        bases,
+        trips,
+        heads: &heads,
+    };
     let mut latest = vec![in alloc; 0usize; trips.len()]?;
     let mut patterns = Vec::new(alloc);
     for day in 0..days {
-        put_day(
-            alloc,
-            bases,
-            trips,
-            &heads,
-            &order,
-            day,
-            &mut patterns,
-            &mut latest,
-        )?;
+        put_day(alloc, &given, &order, day, &mut patterns, &mut latest)?;
     }
     Ok(patterns)
 }

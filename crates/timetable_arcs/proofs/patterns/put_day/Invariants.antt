@@ -7,6 +7,6 @@ use Rattle.timetable_arcs.proofs.patterns.put_day.Given as goal
 
 abbrev pub invariant-loop-trip : goal.invariant-loop-trip
 invariant-loop-trip l = record {
-  are : All (IsPattern (plain_table l.bases l.trips)) l.patterns.items;
-  day : (weight : Instance → ℕ) → sum_all weight l.patterns.items ≡ sum_all weight l.initial.patterns.items + sum_by (weight_on weight l.trips l.fn.day) (take l.trip-index l.order);
+  are : All (IsPattern (plain_table l.given.bases.now l.given.trips.now)) l.patterns.items;
+  day : (weight : Instance → ℕ) → sum_all weight l.patterns.items ≡ sum_all weight l.initial.patterns.items + sum_by (weight_on weight l.given.trips.now l.fn.day) (take l.trip-index l.order);
 }

@@ -17,7 +17,7 @@ loop-day-preserved c = record {
       let one = c.in_ok-put_day.ensures.day weight in
       let before = c.loop-day.invariant.each_once weight in
       let sorted = day_in_order weight c.loop-day.day c.args.trips.now c.in_ok-order.order.items c.in_ok-order.ensures in
-      let order = c.deref-in-loop-day-2.ensures.value in
-      one ∙ (ap (λ (n : ℕ). n + sum_by (weight_on weight c.args.trips.now c.loop-day.day) c.deref-in-loop-day-2.result.now) before
+      let order = c.deref-in-loop-day.ensures.value in
+      one ∙ (ap (λ (n : ℕ). n + sum_by (weight_on weight c.args.trips.now c.loop-day.day) c.deref-in-loop-day.result.now) before
       ∙ (ap (λ xs. sum_by weight (runs_from c.loop-day.day 0 c.args.trips.now) + sum_by (weight_on weight c.args.trips.now c.loop-day.day) xs) order ∙ sym sorted));
 }
