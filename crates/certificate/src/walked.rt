@@ -43,7 +43,7 @@ fn keeps_rules(network: &Network)
     ensures { KeepsRules network.now }
 {
     network.known();
-    network.days().facts();
+    network.days().known();
 }
 
 /// Walks a journey; or answers the place of its first step that is none.

@@ -241,7 +241,7 @@ fn tell_dates<E: Sink>(
         return;
     };
     let days = network.days();
-    days.facts();
+    days.known();
     let (first, last) = (days.first(), last_date(network));
     if first < earliest || latest < last {
         tell(
@@ -257,6 +257,6 @@ fn tell_dates<E: Sink>(
 /// The last date of a region.
 fn last_date(network: &Network) -> u32 {
     let days = network.days();
-    days.facts();
+    days.known();
     days.date(days.numbers().saturating_sub(1))
 }

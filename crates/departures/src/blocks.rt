@@ -160,7 +160,7 @@ fn query_block(
     ensures { IfOk result (λ block. IsProfileBlock least.now.plain.network.now window line.now block.items) }
 {
     let network = least.network();
-    network.days().facts();
+    network.days().known();
     let without = without_ride(alloc, workspace, network, query)?;
     let search = RideSearch::new(alloc, network, query)?;
     let rows = departures_worth(alloc, workspace, least, &search, without, window)?;

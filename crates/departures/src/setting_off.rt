@@ -66,7 +66,7 @@ fn waited(network: &Network, start: u32, at: Time, steps: &[Step]) -> Time
     ensures soon { at + result < time_bound }
 {
     network.known();
-    network.days().facts();
+    network.days().known();
     let mut end = (start, at);
     let mut waited = 0;
     for step in steps {

@@ -17,7 +17,7 @@ pub(crate) fn keeps_rules(network: &Network)
     ensures { KeepsRules network.now }
 {
     network.known();
-    network.days().facts();
+    network.days().known();
 }
 
 /// The trips of a network.

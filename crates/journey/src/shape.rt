@@ -112,7 +112,7 @@ fn departure(days: &Days, date: u32, ms: u32) -> Option<Time>
     ensures value { result ≡ departure_on days.now date ms }
     ensures soon { IfSome result (λ t. t < 2 ^ 64) }
 {
-    days.facts();
+    days.known();
     let day = days.day_of(date)?;
     if day >= 7 {
         Some(Time::from(days.base(day)) + Time::from(ms))

@@ -50,7 +50,7 @@ pub fn certify_late_within(
         × LateSearchHasMore network.now (asked_by query) most) }
 {
     network.known();
-    network.days().facts();
+    network.days().known();
     let found = latest_within(alloc, network, &query, limit)?;
     let late = match found {
         Limited::Ended(late) => late,

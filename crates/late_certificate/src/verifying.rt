@@ -81,7 +81,7 @@ fn verify_claim(
         → ProvesLate network.now (claim_on query.now claimed.now labels.now)) }
 {
     network.known();
-    network.days().facts();
+    network.days().known();
     let backwards = Backwards::new(alloc, network)?;
     let search = LateSearch::new(alloc, &backwards, query)?;
     let automaton = Collapsed::new(Positions::of(alloc, &query.expr)?);

@@ -44,7 +44,7 @@ impl<'a> LateSearch<'a> {
     {
         let network = backwards.network();
         let days = network.days();
-        days.facts();
+        days.known();
         let span = query.depart - Time::from(days.base(7));
         let mirror = Mirror::of(backwards, query.depart);
         let starts = copies(alloc, network, &query.to)?;

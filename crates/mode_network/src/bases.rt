@@ -14,7 +14,7 @@ pub(crate) fn bases(alloc: Global, days: &Days) -> Result<Vec<u64>, AllocError>
     ensures all { IfOk result (λ bases. bases.items ≡ days.now.bases) }
     ensures rise { IfOk result (λ bases. AreBases bases.items) }
 {
-    days.facts();
+    days.known();
     let bases = Vec::from_slice(alloc, days.bases())?;
     Ok(bases)
 }

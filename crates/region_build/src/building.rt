@@ -286,7 +286,7 @@ pub fn build(
     ensures left_out { IfOk result (λ region. AreLeftOut feed.now days region.left_out) }
     ensures fault { IfErr result (IsFaultOf caps.now objects.now feed.now days) }
 {
-    days.facts();
+    days.known();
     let lists = lists_of(alloc, objects, feed)?;
     let (trips, left_out) = trips_of(alloc, feed, &days, caps, &lists)?;
     let parts = lists.into_parts(alloc, days, trips)?;

@@ -134,7 +134,7 @@ fn records_of(alloc: Global, network: &Network) -> Result<Vec<u8>, AllocError>
 {
     network.known();
     let days = network.days();
-    days.facts();
+    days.known();
     let mut out = Vec::new(alloc);
     push_head(&mut out, days, counts_of(network))?;
     push_nodes(&mut out, network)?;

@@ -99,7 +99,7 @@ pub fn text_of(alloc: Global, network: &Network) -> Result<Vec<u8>, AllocError>
         → IsDecoded caps bytes.items network.now) }
 {
     network.known();
-    network.days().facts();
+    network.days().known();
     let mut out = Vec::new(alloc);
     out.extend_from_slice(HEAD)?;
     push_days(&mut out, network.days())?;

@@ -200,6 +200,6 @@ fn push_head_of(
 pub fn push_head(out: &mut Vec<u8>, days: &Days, counts: Counts) -> Result<(), AllocError>
     ensures { OnOk result (out.new.items ≡ out.old.items ++ spec.head_bytes days.now counts) }
 {
-    days.facts();
+    days.known();
     push_head_of(out, days.first(), days.count(), days.zone(), counts)
 }

@@ -129,7 +129,7 @@ impl Days {
     /// What is true of all days. They are those that [`Days::new`] or [`Days::in_zone`] makes of their first
     /// date, their count and their zone rule; and where they have a rule, their bases count from the noons that
     /// `jiff` states for it.
-    pub fn facts(&self)
+    pub fn known(&self)
         ensures days { AreDays self.now }
         ensures order { AreRisingDays self.now }
         ensures made { days_made self.now.first self.now.count self.now.zone ≡ Ok self.now }
@@ -196,7 +196,7 @@ impl Days {
         ensures { (day : ℕ) → contains_day result day ≡ (nat_lt day (numbers_of self.now) && runs_on rule
             added.now removed.now (date_of self.now day)) }
     {
-        self.facts();
+        self.known();
         let mut days = DaySet::new();
         for day in 0..self.numbers() {
             if runs(rule, added, removed, self.date(day)) {
@@ -231,7 +231,7 @@ impl Days {
         ensures exact { IsReadBy (clock_text_of self.now) (λ t. t < 2 ^ 128) text.now result }
         ensures again { (t : ℕ) → t < 2 ^ 128 → text.now ≡ clock_text_of self.now t → result ≡ Some t }
     {
-        self.facts();
+        self.known();
         self.read_text(text)
     }
 

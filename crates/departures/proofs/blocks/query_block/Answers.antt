@@ -10,7 +10,7 @@ without_ride-requires-clause-soon c =
     let n = c.args.least.now.plain.network.now in
     let q = c.args.query.now in
     let same = c.days.ensures ∙ ap (λ (n : NetworkLists). n.days) c.network-network.ensures in
-    let small = deadline_is_small n (subst AreDays same c.facts.ensures.days) (subst AreRisingDays same c.facts.ensures.order) c.args.line.now q.from q.to q.depart (form_of q.expr) c.requires.asks in
+    let small = deadline_is_small n (subst AreDays same c.known.ensures.days) (subst AreRisingDays same c.known.ensures.order) c.args.line.now q.from q.to q.depart (form_of q.expr) c.requires.asks in
     omega arith
 
 pub departures_worth-requires-clause-soon : goal.departures_worth-requires-clause-soon
@@ -18,5 +18,5 @@ departures_worth-requires-clause-soon c =
     let n = c.args.least.now.plain.network.now in
     let q = c.args.query.now in
     let same = c.days.ensures ∙ ap (λ (n : NetworkLists). n.days) c.network-network.ensures in
-    let small = deadline_is_small n (subst AreDays same c.facts.ensures.days) (subst AreRisingDays same c.facts.ensures.order) c.args.line.now q.from q.to q.depart (form_of q.expr) c.requires.asks in
+    let small = deadline_is_small n (subst AreDays same c.known.ensures.days) (subst AreRisingDays same c.known.ensures.order) c.args.line.now q.from q.to q.depart (form_of q.expr) c.requires.asks in
     rw c.in_ok-search.ensures.query (omega arith)

@@ -20,8 +20,8 @@ loop-step-preserved c =
     let n = c.args.network.now in
     let rules : KeepsRules n = record {
       network = c.known.ensures;
-      days = subst AreDays c.days.ensures c.facts.ensures.days;
-      order = subst AreRisingDays c.days.ensures c.facts.ensures.order;
+      days = subst AreDays c.days.ensures c.known-2.ensures.days;
+      order = subst AreRisingDays c.days.ensures c.known-2.ensures.order;
     } in
     let more = waiting_more n rules c.args.start c.args.at c.args.steps.now c.requires.waits c.loop-step.step-index _ _ _ _ c.loop-step.invariant c.loop-step-test.true
     (get_or_default c.args.steps.now c.loop-step.step-index _ _ c.loop-step-test.true) (sym c.is_ride.ensures ∙ c.if-is_ride.false) _ _ _ c.in-Some.ensures in

@@ -16,7 +16,7 @@ returns-clause-certificate c =
     let right = rw c.in-Ended.is at c.in_ok-found.ensures.journey in
     let are = rw c.in-Ended.is at c.in_ok-found.ensures.labels in
     let times = rw c.in-Ended.is at c.in_ok-found.ensures.times in
-    let rules : KeepsRules n = record { network = c.known.ensures; days = subst AreDays c.days.ensures c.facts.ensures.days; order = subst AreRisingDays c.days.ensures c.facts.ensures.order } in
+    let rules : KeepsRules n = record { network = c.known.ensures; days = subst AreDays c.days.ensures c.known-2.ensures.days; order = subst AreRisingDays c.days.ensures c.known-2.ensures.order } in
     let valid = late_is_valid n rules q.line (asked_by q) c.requires.asks late.journey right late.labels.items are in
     record {
       line_is = refl;

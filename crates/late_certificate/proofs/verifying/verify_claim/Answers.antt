@@ -20,7 +20,7 @@ result_verdict-requires-clause-denotes c =
 pub late_bound-bound-requires-clause-in_time : goal.late_bound-bound-requires-clause-in_time
 late_bound-bound-requires-clause-in_time c =
     let n = c.args.network.now in
-    let k = c.known-2.ensures in
+    let k = c.known-3.ensures in
     let of = subst (λ (m : NetworkLists). IsTimetableOf m c.in_ok-backwards.backwards.table) c.in_ok-backwards.ensures k.of in
     starts_by n c.known.ensures c.in_ok-backwards.backwards.table k.keeps of (asked_by c.args.query.now) c.args.claimed.now
     (result_holds n (asked_by c.args.query.now) c.args.claimed.now c.in_default.ensures)
@@ -36,7 +36,7 @@ check_labels-verdict-requires-clause-arrival c =
 pub check_labels-verdict-requires-clause-few : goal.check_labels-verdict-requires-clause-few
 check_labels-verdict-requires-clause-few c =
     let ends = c.in_ok-search.ensures.ends in
-    rw c.deref-3.ensures.value (few_copies c.in_ok-backwards.backwards.network c.known-2.ensures.network c.in_ok-search.search.starts.items ends.destination.ascending ends.start_nodes)
+    rw c.deref-3.ensures.value (few_copies c.in_ok-backwards.backwards.network c.known-3.ensures.network c.in_ok-search.search.starts.items ends.destination.ascending ends.start_nodes)
 
 pub returns-clause-verdict : goal.returns-clause-verdict
 returns-clause-verdict c =
@@ -45,13 +45,13 @@ returns-clause-verdict c =
     let q = asked_by c.args.query.now in
     let is = c.in_ok-search.ensures in
     let claim = claim_on c.args.query.now c.args.claimed.now c.args.labels.now in
-    rw c.as_verdict.ensures (search_judged b c.known-2.ensures q c.in_ok-search.search is n c.in_ok-backwards.ensures claim c.requires.asks
+    rw c.as_verdict.ensures (search_judged b c.known-3.ensures q c.in_ok-search.search is n c.in_ok-backwards.ensures claim c.requires.asks
     (result_holds n q c.args.claimed.now c.in_default.ensures) _ _ c.deref-3.ensures.value c.deref-ends.ensures.value
     _ (c.late_bound-bound.ensures b.network q refl (sym is.back_to)) c.check_labels-verdict.result c.check_labels-verdict.ensures.verdict)
 
 pub returns-clause-proves : goal.returns-clause-proves
 returns-clause-proves c = λ valid.
     let n = c.args.network.now in
-    let rules : KeepsRules n = record { network = c.known.ensures; days = subst AreDays c.days.ensures c.facts.ensures.days; order = subst AreRisingDays c.days.ensures c.facts.ensures.order } in
+    let rules : KeepsRules n = record { network = c.known.ensures; days = subst AreDays c.days.ensures c.known-2.ensures.days; order = subst AreRisingDays c.days.ensures c.known-2.ensures.order } in
     let claim = claim_on c.args.query.now c.args.claimed.now c.args.labels.now in
     valid_late_proves n rules claim (subst (IsLateVerdict n claim) valid (returns-clause-verdict c))

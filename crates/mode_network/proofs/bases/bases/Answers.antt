@@ -12,4 +12,4 @@ bases_of days are order = record {
 }
 
 pub returns-clause-rise : goal.returns-clause-rise
-returns-clause-rise c = subst AreBases (sym (c.in_ok-bases.ensures.items ∙ c.bases.ensures)) (bases_of c.args.days.now c.facts.ensures.days c.facts.ensures.order)
+returns-clause-rise c = subst AreBases (sym (c.in_ok-bases.ensures.items ∙ c.bases.ensures)) (bases_of c.args.days.now c.known.ensures.days c.known.ensures.order)

@@ -11,7 +11,7 @@ network_of-requires-clause-parts c =
 pub network_of-requires-clause-faultless : goal.network_of-requires-clause-faultless
 network_of-requires-clause-faultless c =
     let compiled = subst (IsCompiled c.args.caps.now c.args.objects.now c.args.feed.now c.args.days) (sym c.in_ok-parts.ensures) (c.in_ok-trips.ensures.compiled c.args.objects.now c.in_ok-lists.ensures.are) in
-    compiled_keep c.args.caps.now c.args.objects.now c.args.feed.now c.args.days c.in_ok-parts.parts c.requires.objects compiled c.requires.feed c.facts.ensures.days
+    compiled_keep c.args.caps.now c.args.objects.now c.args.feed.now c.args.days c.in_ok-parts.parts c.requires.objects compiled c.requires.feed c.known.ensures.days
 
 pub returns-clause-compiled : goal.returns-clause-compiled
 returns-clause-compiled c =

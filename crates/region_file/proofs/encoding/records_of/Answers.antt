@@ -30,6 +30,6 @@ returns-clause-spelled c =
 pub returns-clause-again : goal.returns-clause-again
 returns-clause-again c =
     let n = c.args.network.now in
-    let kept : AreKept c.days-days.result.now = record { are = c.facts.ensures.days; made = c.facts.ensures.made } in
+    let kept : AreKept c.days-days.result.now = record { are = c.known-2.ensures.days; made = c.known-2.ensures.made } in
     let region = is_region n c.known.ensures (subst AreKept c.days-days.ensures kept) in
     λ caps faultless. record { region = region; spelled = inr (record { counts = counts_fit n c.known.ensures; spelled = returns-clause-spelled c }); faultless = faultless }

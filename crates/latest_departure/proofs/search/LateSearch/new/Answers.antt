@@ -19,8 +19,8 @@ overflow_sub-span c =
     let n = c.args.backwards.now.network in
     let q = c.args.query.now in
     let is_days = rw c.network-network.ensures at c.days-days.ensures in
-    let days = subst AreDays is_days c.facts.ensures.days in
-    let order = subst AreRisingDays is_days c.facts.ensures.order in
+    let days = subst AreDays is_days c.known.ensures.days in
+    let order = subst AreRisingDays is_days c.known.ensures.order in
     let late = deadline_is_late n days order q.line q.from q.to q.depart (form_of q.expr) c.requires.asks in
     let base = c.from.ensures ∙ c.base.ensures ∙ ap (λ (d : DaysMeaning). base_of d 7) is_days in
     omega arith
@@ -30,8 +30,8 @@ of-mirror-requires c =
     let n = c.args.backwards.now.network in
     let q = c.args.query.now in
     let is_days = rw c.network-network.ensures at c.days-days.ensures in
-    let days = subst AreDays is_days c.facts.ensures.days in
-    let order = subst AreRisingDays is_days c.facts.ensures.order in
+    let days = subst AreDays is_days c.known.ensures.days in
+    let order = subst AreRisingDays is_days c.known.ensures.order in
     let small = deadline_is_small n days order q.line q.from q.to q.depart (form_of q.expr) c.requires.asks in
     omega arith
 
@@ -43,8 +43,8 @@ returns c =
     let n = c.args.backwards.now.network in
     let q = c.args.query.now in
     let is_days = rw c.network-network.ensures at c.days-days.ensures in
-    let days = subst AreDays is_days c.facts.ensures.days in
-    let order = subst AreRisingDays is_days c.facts.ensures.order in
+    let days = subst AreDays is_days c.known.ensures.days in
+    let order = subst AreRisingDays is_days c.known.ensures.order in
     let small = deadline_is_small n days order q.line q.from q.to q.depart (form_of q.expr) c.requires.asks in
     let base : c.from.result ≡ first_moment n = c.from.ensures ∙ c.base.ensures ∙ ap (λ (d : DaysMeaning). base_of d 7) is_days in
     let positions = position_meaning c.in_ok-positions.positions in

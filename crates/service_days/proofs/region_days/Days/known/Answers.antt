@@ -6,7 +6,7 @@ use Rattle.service_days.specs.Noons.{CountFromNoons}
 use Rattle.service_days.specs.Zones.{days_made}
 use Rattle.service_days.proofs.InOrder.{are_in_order}
 use Rattle.service_days.proofs.ZoneDays.{made_from_noons}
-use Rattle.service_days.proofs.region_days.Days.facts.Goals as goal
+use Rattle.service_days.proofs.region_days.Days.known.Goals as goal
 
 pub returns-clause-days : goal.returns-clause-days
 returns-clause-days c = subst AreDays c.self.view_is c.self.invariant.are
