@@ -8,6 +8,10 @@ use std::alloc::{AllocError, Global};
 use std::cmp::Reverse;
 use std::collections::BinaryHeap;
 
+/// So many ways are tried for one choice, and then the node comes next whose key is the least that is known. Where all is
+/// joined to all, each contraction raises all keys.
+const MOST_TRIED: u64 = 100_000;
+
 /// Nodes by how much their contraction is thought to add: the shortcuts that it would need, less the entries that it takes
 /// out of what is left, and how many nodes below them were contracted one after the other. No contract speaks of it, since
 /// any order will do.
@@ -37,12 +41,17 @@ impl Queue {
         Ok(queue)
     }
 
-    /// A node with a least key, as far as keys are known.
+    /// A node with a least key, as far as keys are known: the least known one is made anew, until one is no greater for it,
+    /// or enough ways are tried.
     pub fn next(&mut self, layer: &Layer) -> Result<u32, AllocError> {
+        let most = self.trials.tried.saturating_add(MOST_TRIED);
         for _ in 0..self.heap.len() {
             let Some(Reverse((_, x))) = self.heap.pop() else {
                 break;
             };
+            if self.trials.tried > most {
+                return Ok(x);
+            }
             let key = self.key(layer, x)?;
             if self.is_least(key) {
                 return Ok(x);

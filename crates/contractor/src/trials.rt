@@ -29,6 +29,8 @@ pub(crate) struct Trials {
     round: u32,
     /// The nodes to which a walk is still looked for.
     missing: u32,
+    /// How many ways were tried so far, in all rounds.
+    pub tried: u64,
 }
 
 impl Trials {
@@ -45,6 +47,7 @@ impl Trials {
             waiting: BinaryHeap::new(alloc),
             round: 0,
             missing: 0,
+            tried: 0,
         })
     }
 
@@ -101,6 +104,7 @@ impl Trials {
             trace.wanted = self.round;
             trace.way = way;
             self.missing = self.missing.saturating_add(1);
+            self.tried = self.tried.saturating_add(1);
         }
     }
 
