@@ -1,5 +1,6 @@
 """The definitions of specs/, and those that stand behind a definition."""
 
+import fnmatch
 import pathlib
 import re
 import subprocess
@@ -15,6 +16,33 @@ USE = re.compile(r"(?:pub )?use Rattle\.(\w+)\.specs\.([\w.]+?)(?:\.\{(.*)\}| as
 WORD = re.compile(r"[^\s(){};,λ×.:]+(?:\.[^\s(){};,λ×.:]+)?")
 STD = {"std", "core", "logic", "io", "os"}
 
+# Definitions that can be left apart, as CRATE/PAGE.NAME, with what they are about. What spells a text can be judged
+# by examples, so those are passed over, and not what they stand on. Zones and places are in no region and no query
+# that has none: with them goes what stands behind them alone.
+TEXTS = {
+    "plain_texts/*": "numbers, names, lines and their spelling",
+    "plan_base/LetterNames.*": "the names of letters",
+    "plan_base/Modes.mode*": "the modes by their names",
+    "geo_length/Degrees.*": "degrees as decimal texts",
+    "service_days/Clock.*": "times as clock texts",
+    "mode_expression/Tokens.*": "the words of an expression's text",
+    "mode_expression/Letters.*": "the names in an expression, and their letters",
+    "mode_expression/Grammar.*": "which words are an expression's",
+    "mode_expression/Reading.*": "the expression that a text spells, or its fault",
+    "region_file/*": "regions as texts and as bytes",
+    "run_steps/QueryLines.*": "which lines of a file are query lines",
+    "journey/Shapes.[!d]*": "the fields of a query line; all but `departs_at` and its parts: when it departs",
+    "journey/Texts.*": "the lines of a block",
+    "journey/Blocks.*": "the block of a line",
+}
+ZONES = {
+    "service_days/Zones.zone_days": "the days that a zone rule makes",
+}
+PLACES = {
+    "mode_network/Copies.IsNear*": "the nodes that are nearest to a place",
+    "journey/Shapes.place_at": "the place that a text names",
+}
+
 
 class Page(NamedTuple):
     crate: str
@@ -27,6 +55,9 @@ class Page(NamedTuple):
 class Definition(NamedTuple):
     page: Page
     name: str
+
+    def is_among(self, forms: Iterable[str]) -> bool:
+        return any(fnmatch.fnmatchcase(f"{self.page.crate}/{self.page.name}.{self.name}", form) for form in forms)
 
 
 def kit() -> pathlib.Path | None:
@@ -113,13 +144,14 @@ class Library:
             definition = further if further != definition or definition in self.uses else None
         return definition if isinstance(definition, Definition) else None
 
-    def behind(self, starts: Iterable[Definition]) -> set[Definition]:
-        """All definitions that stand behind some, and these themselves."""
+    def behind(self, starts: Iterable[Definition], without: Iterable[str] = ()) -> set[Definition]:
+        """All definitions that stand behind some, and these themselves; but for those of some forms, and what stands
+        behind them alone."""
         behind: set[Definition] = set()
         todo = list(starts)
         while todo:
             one = todo.pop()
-            if one in behind:
+            if one in behind or one.is_among(without):
                 continue
             behind.add(one)
             todo += filter(None, map(self.found, self.named(one)))

@@ -10,9 +10,8 @@ use Rattle.hierarchy_commands.specs.Commands.{OnHierarchyIfNamed}
 use Rattle.mode_network.specs.NetworkLists.{NetworkLists}
 use Rattle.journey.specs.declared.answer.BlockBody.{BlockBody}
 use Rattle.journey.specs.declared.answer.BlockBody.TheVariants.{Journey, Nothing, Refused}
-use Rattle.journey.specs.Best.{IsBoardedBody, IsRightBody}
+use Rattle.journey.specs.Best.{HasNone, IsBest, IsBoardedBody, IsRightBody}
 use Rattle.journey.specs.Blocks.{IsBlockText}
-use Rattle.journey.specs.Texts.{block_text}
 use Rattle.run_steps.specs.declared.limits.Limits.{Limits}
 use Rattle.run_steps.specs.declared.outcome.FileRole.TheVariants.{Queries}
 use Rattle.run_steps.specs.declared.outcome.Outcome.TheVariants.{Done}
@@ -24,8 +23,9 @@ use Rattle.run_steps.specs.QueryLines.{query_lines}
 use Rattle.answer_commands.specs.Answers.{IsAnswer, WritesSettled}
 use Rattle.planner_core.specs.Commands.{says}
 use Rattle.planner_core.specs.Outcomes.{IsOutcome}
-use Rattle.promises.specs.Answer.{AreWords, TellsRight, EachTellsRight, IsPrinted, AnswerPrintsRightBlocks}
+use Rattle.promises.specs.Answer.{AreWords, TellsRight, AsksOrTellsFault, EachBlock, IsPrinted, AnswerPrintsRightBlocks}
 use Rattle.promises.proofs.AskedLemmas.{runs_are_as_asked}
+use Rattle.promises.proofs.LineLemmas.{same_asked, not_both}
 use Rattle.promises.proofs.RunLemmas.{DidReadRegion, region_done, same_output, told_of}
 
 -- ---- what the words ask for
@@ -50,24 +50,42 @@ done_as_asked caps words r asks old new is = elim (runs_are_as_asked caps words 
 abbrev unlimited : Limits
 unlimited = record { places = None; labels = None }
 
-right_body : (n : NetworkLists) (line block : List ℕ) (body : BlockBody) → IsRightBody n line body → IsBoardedBody n body → IsBlockText n line body block → TellsRight n line block
-right_body n line block (Journey j) (asked, asks, best) boarded tells =
-    inl (record { asked = asked; asks = asks; journey = j; best = best; boarded = boarded; body = tells.text; told = tells.is_body; block_is = tells.block_is })
-right_body n line block Nothing (asked, asks, none) boarded tells =
-    inr (inl (record { asked = asked; asks = asks; none = none; block_is = subst (λ t. block ≡ block_text line t) tells.is_body tells.block_is }))
-right_body n line block (Refused fault) refused boarded tells =
-    inr (inr (record { fault = fault; refused = refused; block_is = subst (λ t. block ≡ block_text line t) tells.is_body tells.block_is }))
+-- what a block tells, of a line that asks something
+told_body : (n : NetworkLists) (line block : List ℕ) (body : BlockBody) → IsRightBody n line body → IsBoardedBody n body → IsBlockText n line body block → TellsRight n line block
+told_body n line block (Journey j) (asked, asks, best) boarded tells other also =
+    (Some j, (subst (λ q. IsBest n q j) (same_asked n line asked other asks also) best, boarded), tells)
+told_body n line block Nothing (asked, asks, none) boarded tells other also =
+    (None, subst (HasNone n) (same_asked n line asked other asks also) none, tells)
+told_body n line block (Refused fault) refused boarded tells other also = absurd (not_both n line other fault also refused)
 
-right_block : (n : NetworkLists) (line block : List ℕ) → IsAnswer n None unlimited line block → TellsRight n line block
-right_block n line block (inl (count, large, is)) = absurd large
-right_block n line block (inr (small, is)) = right_body n line block is.body is.right is.boarded is.tells
+-- and of one that asks nothing
+refused_body : (n : NetworkLists) (line block : List ℕ) (body : BlockBody) → IsRightBody n line body → IsBlockText n line body block → AsksOrTellsFault n line block
+refused_body n line block (Journey j) (asked, asks, best) tells = inl (asked, asks)
+refused_body n line block Nothing (asked, asks, none) tells = inl (asked, asks)
+refused_body n line block (Refused fault) refused tells = inr (record { fault = fault; refused = refused; told = tells })
 
-each_right : (n : NetworkLists) (lines : List (List ℕ)) (out : List ℕ) → AreBlocks (IsAnswer n None unlimited) lines out
-    → (blocks : List (List ℕ)) × EachTellsRight n lines blocks × (out ≡ concat blocks)
-each_right n [] out none = ([], tt, none)
-each_right n (line ∷ lines) out (block, rest, is, others, e) =
-    let more = each_right n lines rest others in
-    (block ∷ more.0, (right_block n line block is, more.1), e ∙ ap (λ o. block ++ o) more.2)
+told_block : (n : NetworkLists) (line block : List ℕ) → IsAnswer n None unlimited line block → TellsRight n line block
+told_block n line block (inl (count, large, is)) = absurd large
+told_block n line block (inr (small, is)) = told_body n line block is.body is.right is.boarded is.tells
+
+refused_block : (n : NetworkLists) (line block : List ℕ) → IsAnswer n None unlimited line block → AsksOrTellsFault n line block
+refused_block n line block (inl (count, large, is)) = absurd large
+refused_block n line block (inr (small, is)) = refused_body n line block is.body is.right is.tells
+
+-- the blocks of which an output consists
+module _ (Q : List ℕ → List ℕ → Type 0) where
+  abbrev blocks_of : (lines : List (List ℕ)) (out : List ℕ) → AreBlocks Q lines out → List (List ℕ)
+  blocks_of [] out none = []
+  blocks_of (line ∷ lines) out (block, rest, is, others, e) = block ∷ blocks_of lines rest others
+
+  are_all : (lines : List (List ℕ)) (out : List ℕ) (are : AreBlocks Q lines out) → out ≡ concat (blocks_of lines out are)
+  are_all [] out none = none
+  are_all (line ∷ lines) out (block, rest, is, others, e) = e ∙ ap (λ o. block ++ o) (are_all lines rest others)
+
+  each_block : (P : List ℕ → List ℕ → Type 0) → ((line block : List ℕ) → Q line block → P line block)
+      → (lines : List (List ℕ)) (out : List ℕ) (are : AreBlocks Q lines out) → EachBlock P lines (blocks_of lines out are)
+  each_block P shows [] out none = tt
+  each_block P shows (line ∷ lines) out (block, rest, is, others, e) = (shows line block is, each_block P shows lines rest others)
 
 -- ---- the whole
 
@@ -82,18 +100,24 @@ module _ (caps : Caps) (files : Files) (region queries out : List ℕ) where
   printed old new before stood stands read (inr (bytes, mid, answered, (ends, stays))) =
       let wrote = answered.wrote in
       let same = same_output old.out new.out before wrote.out out stood (appended_stays old.out mid.out new.out wrote.out wrote.appended stays) stands in
-      let each = each_right read.network (query_lines bytes) wrote.out wrote.is in
+      let n = read.network in
+      let IsBlock = IsAnswer n None unlimited in
+      let lines = query_lines bytes in
       record {
-        network = read.network;
-        region_bytes = read.bytes;
-        region_file = read.held;
-        spells = read.spells.decoded;
+        told = record {
+          network = n;
+          region_bytes = read.bytes;
+          region_file = read.held;
+          spells = record { region = read.spells.decoded.region; spelled = read.spells.decoded.spelled };
+          queries_bytes = bytes;
+          queries_file = told_of read.mid files queries read.tells (λ h. h ≡ Some bytes) answered.file.file;
+          blocks = blocks_of IsBlock lines wrote.out wrote.is;
+          right = each_block IsBlock (TellsRight n) (told_block n) lines wrote.out wrote.is;
+          out_is = sym same ∙ are_all IsBlock lines wrote.out wrote.is;
+        };
+        this_one = read.spells;
         rules = read.rules;
-        queries_bytes = bytes;
-        queries_file = told_of read.mid files queries read.tells (λ h. h ≡ Some bytes) answered.file.file;
-        blocks = each.0;
-        right = each.1;
-        out_is = sym same ∙ each.2;
+        refused = each_block IsBlock (AsksOrTellsFault n) (refused_block n) lines wrote.out wrote.is;
       }
 
 pub answer_prints_right_blocks : AnswerPrintsRightBlocks

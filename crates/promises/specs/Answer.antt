@@ -1,22 +1,24 @@
 -- What `modeplan answer REGION QUERIES` prints: for each query line, in order, a block that tells what is
 -- right.
-use Rattle.std.specs.Prelude.{◌≡◌, ℕ, ◌⊎◌, List, [], ◌∷◌, codes, Some}
+use Rattle.std.specs.Prelude.{◌≡◌, ℕ, ◌⊎◌, List, [], ◌∷◌, codes, Option, Some, None}
 use Rattle.std.specs.List.{concat}
-use Rattle.plain_texts.specs.Lines.{with_feed}
 use Rattle.plan_base.specs.declared.limits.Caps.{Caps}
 use Rattle.command_line.specs.PlainWords.{IsPlainWord}
 use Rattle.mode_network.specs.NetworkLists.{NetworkLists}
 use Rattle.mode_network.specs.Journeys.{Route}
 use Rattle.mode_network.specs.Rules.{IsNetwork}
-use Rattle.region_file.specs.Regions.{IsDecoded}
+use Rattle.region_file.specs.Lines.{IsRegion}
+use Rattle.region_file.specs.Regions.{AreSpelling}
+use Rattle.journey.specs.declared.answer.BlockBody.TheVariants.{Journey, Nothing, Refused}
 use Rattle.journey.specs.declared.fault.QueryFault.{QueryFault}
 use Rattle.journey.specs.Queries.{IsRefused}
-use Rattle.journey.specs.Best.{Asked, Asks, IsBest, HasNone}
-use Rattle.journey.specs.Boarded.{BoardsOnTime}
-use Rattle.journey.specs.Texts.{IsJourneyText, block_text, refusal_text}
+use Rattle.journey.specs.Best.{Asked, Asks}
+use Rattle.journey.specs.Blocks.{IsBlockText}
 use Rattle.run_steps.specs.Complete.{Files}
 use Rattle.run_steps.specs.QueryLines.{query_lines}
+use Rattle.run_steps.specs.Regions.{SpellThis}
 use Rattle.planner_core.specs.Outcomes.{IsOutcome}
+use Rattle.promises.specs.Right.{IsRight}
 use Rattle.promises.specs.Runs.{Wrote}
 
 -- ---- the words
@@ -28,58 +30,64 @@ pub record AreWords (words : List (List ℕ)) (region queries : List ℕ) : Type
   pub region_plain : IsPlainWord region
   pub queries_plain : IsPlainWord queries
 
--- ---- one block
+-- ---- how a network and what is told are spelled; `Asks` says it of what is asked
 
--- the line asks something, and a best journey is told: no journey that answers arrives earlier; each of its rides is
--- boarded when it departs
-pub record TellsBest (n : NetworkLists) (line block : List ℕ) : Type 0 where
-  pub asked : Asked
-  pub asks : Asks n line asked
-  pub journey : Route
-  pub best : IsBest n asked journey
-  pub boarded : BoardsOnTime n journey
-  pub body : List ℕ
-  pub told : IsJourneyText n journey body
-  pub block_is : block ≡ block_text line body
+-- the bytes of a region spell the network
+pub record SpellNetwork (bytes : List ℕ) (n : NetworkLists) : Type 0 where
+  pub region : IsRegion n
+  pub spelled : AreSpelling bytes n
 
--- the line asks something that no journey answers
-pub record TellsNone (n : NetworkLists) (line block : List ℕ) : Type 0 where
-  pub asked : Asked
-  pub asks : Asks n line asked
-  pub none : HasNone n asked
-  pub block_is : block ≡ block_text line (with_feed (codes "no journey"))
+-- the block of a line tells this journey, or that there is none
+abbrev pub SpellsTold : NetworkLists → List ℕ → Option Route → List ℕ → Type 0
+SpellsTold n line (Some journey) block = IsBlockText n line (Journey journey) block
+SpellsTold n line None block = IsBlockText n line Nothing block
+
+-- ---- what is printed
+
+-- whatever the line asks, its block tells what is right
+abbrev pub TellsRight : NetworkLists → List ℕ → List ℕ → Type 0
+TellsRight n line block =
+    (asked : Asked) → Asks n line asked → (told : Option Route) × IsRight n asked told × SpellsTold n line told block
+
+-- each line has a block of which this is so, in order
+abbrev pub EachBlock : (List ℕ → List ℕ → Type 0) → List (List ℕ) → List (List ℕ) → Type 0
+EachBlock P [] [] = Unit {0}
+EachBlock P [] (block ∷ blocks) = ⊥
+EachBlock P (line ∷ lines) [] = ⊥
+EachBlock P (line ∷ lines) (block ∷ blocks) = P line block × EachBlock P lines blocks
+
+-- The file of the region spells a network, and what is printed are blocks for the query lines of the other
+-- file, each of which tells what is right.
+pub record IsTold (files : Files) (region queries out : List ℕ) : Type 0 where
+  pub network : NetworkLists
+  pub region_bytes : List ℕ
+  pub region_file : files region ≡ Some region_bytes
+  pub spells : SpellNetwork region_bytes network
+  pub queries_bytes : List ℕ
+  pub queries_file : files queries ≡ Some queries_bytes
+  pub blocks : List (List ℕ)
+  pub right : EachBlock (TellsRight network) (query_lines queries_bytes) blocks
+  pub out_is : out ≡ concat blocks
+
+-- ---- and besides
 
 -- the line asks nothing, and its first fault is told
 pub record TellsFault (n : NetworkLists) (line block : List ℕ) : Type 0 where
   pub fault : QueryFault
   pub refused : IsRefused n line fault
-  pub block_is : block ≡ block_text line (with_feed (refusal_text fault))
+  pub told : IsBlockText n line (Refused fault) block
 
-abbrev pub TellsRight : NetworkLists → List ℕ → List ℕ → Type 0
-TellsRight n line block = TellsBest n line block ⊎ (TellsNone n line block ⊎ TellsFault n line block)
+-- the line asks something; or its first fault is told
+abbrev pub AsksOrTellsFault : NetworkLists → List ℕ → List ℕ → Type 0
+AsksOrTellsFault n line block = ((asked : Asked) × Asks n line asked) ⊎ TellsFault n line block
 
--- ---- all of them
-
--- a right block for each line, in order
-abbrev pub EachTellsRight : NetworkLists → List (List ℕ) → List (List ℕ) → Type 0
-EachTellsRight n [] [] = Unit {0}
-EachTellsRight n [] (block ∷ blocks) = ⊥
-EachTellsRight n (line ∷ lines) [] = ⊥
-EachTellsRight n (line ∷ lines) (block ∷ blocks) = TellsRight n line block × EachTellsRight n lines blocks
-
--- The file of the region spells a network, and what is printed are right blocks for the query lines of the
--- other file.
+-- That is printed. Besides, no other network within the limits is spelled, this one keeps the rules of networks,
+-- and the first fault of each line that asks nothing is told.
 pub record IsPrinted (caps : Caps) (files : Files) (region queries out : List ℕ) : Type 0 where
-  pub network : NetworkLists
-  pub region_bytes : List ℕ
-  pub region_file : files region ≡ Some region_bytes
-  pub spells : IsDecoded caps region_bytes network
-  pub rules : IsNetwork network
-  pub queries_bytes : List ℕ
-  pub queries_file : files queries ≡ Some queries_bytes
-  pub blocks : List (List ℕ)
-  pub right : EachTellsRight network (query_lines queries_bytes) blocks
-  pub out_is : out ≡ concat blocks
+  pub told : IsTold files region queries out
+  pub this_one : SpellThis caps told.region_bytes told.network
+  pub rules : IsNetwork told.network
+  pub refused : EachBlock (AsksOrTellsFault told.network) (query_lines told.queries_bytes) told.blocks
 
 -- a run with these words that does all of its work has printed that
 abbrev pub AnswerPrintsRightBlocks : Type 0

@@ -6,4 +6,5 @@ pub mod Settled
 pub mod Compiled
 pub mod Samples
 pub mod Asked
+pub mod Right
 pub mod Answer
