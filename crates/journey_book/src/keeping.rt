@@ -21,61 +21,78 @@ use fault_notes::{bad_certificate, invalid_certificate};
 use hierarchy::Hierarchy;
 use mode_network::Network;
 use plan_base::{Caps, Shelf, Sink};
-use run_steps::{FileRole, Outcome, read_file, tell};
+use run_steps::{FileRole, Outcome, Ports, read_file, tell};
 use std::alloc::Global;
+
+/// What is to be kept: the certificate of a file, under a name, where it is valid in the region of a file, over the
+/// hierarchy of another, if one is named.
+#[derive(Clone, Copy)]
+pub(crate) struct Keeping<'a> {
+    pub(crate) name: &'a str,
+    pub(crate) region: &'a str,
+    pub(crate) certificate: &'a str,
+    pub(crate) hierarchy: Option<&'a str>,
+}
 
 /// Reads a region, the hierarchy, if one is named, and a certificate, and keeps the certificate's bytes under the name,
 /// if it is valid.
-pub(crate) fn keep<F: Shelf, K: Keeper, E: Sink>(
-    alloc: Global,
-    name: &str,
-    region: &str,
-    certificate: &str,
-    hierarchy: Option<&str>,
-    shelf: &mut F,
+pub(crate) fn keep<F: Shelf, K: Keeper, O: Sink, E: Sink>(
+    ports: &mut Ports<F, O, E>,
+    what: Keeping<'_>,
     keeper: &mut K,
-    notes: &mut E,
     caps: &Caps,
 ) -> Result<(), BookOutcome>
-    ensures { (out : SinkMeaning) → says caps.now
-        (keep name.now region.now certificate.now (option_map (λ it. it.now) hierarchy.entry))
-        (book_scene (F.meaning shelf.old) (K.meaning keeper.old) out)
-        (book_scene (F.meaning shelf.new) (K.meaning keeper.new) out) (end_of result) }
+    ensures { says caps.now (keep what.entry.name.now what.entry.region.now what.entry.certificate.now
+        (option_map (λ it. it.now) what.entry.hierarchy))
+        (book_scene (F.meaning ports.old.shelf) (K.meaning keeper.old) (O.meaning ports.old.out))
+        (book_scene (F.meaning ports.new.shelf) (K.meaning keeper.new) (O.meaning ports.new.out))
+        (end_of result) }
 {
-    match read_both(alloc, region, hierarchy, shelf, notes, caps) {
-        Ok(both) => keep_over(
-            alloc,
-            name,
-            &both.0,
-            both.1.as_ref(),
-            certificate,
-            shelf,
-            keeper,
-            notes,
-        ),
+    let Keeping {
+        name,
+        region,
+        certificate,
+        hierarchy,
+    } = what;
+    match read_both(
+        ports.alloc,
+        region,
+        hierarchy,
+        &mut ports.shelf,
+        &mut ports.notes,
+        caps,
+    ) {
+        Ok(both) => keep_over(ports, name, &both.0, both.1.as_ref(), certificate, keeper),
         Err(outcome) => Err(BookOutcome::Common(outcome)),
     }
 }
 
 /// Reads a certificate, whose labels are over the hierarchy, if there is one, and keeps its bytes under the name, if it
 /// is valid.
-fn keep_over<F: Shelf, K: Keeper, E: Sink>(
-    alloc: Global,
+fn keep_over<F: Shelf, K: Keeper, O: Sink, E: Sink>(
+    ports: &mut Ports<F, O, E>,
     name: &str,
     network: &Network,
     hierarchy: Option<&Hierarchy>,
     certificate: &str,
-    shelf: &mut F,
     keeper: &mut K,
-    notes: &mut E,
 ) -> Result<(), BookOutcome>
     requires { IfSome hierarchy (λ h. IsSound network.now h.now) }
-    ensures { (out : SinkMeaning) → OnValid network.now (option_map (λ h. h.now) hierarchy.entry)
+    ensures { OnValid network.now (option_map (λ h. h.now) hierarchy.entry)
         certificate.now (λ bytes. Changes (λ book. Unit {0}) (kept name.now bytes))
-        (book_scene (F.meaning shelf.old) (K.meaning keeper.old) out)
-        (book_scene (F.meaning shelf.new) (K.meaning keeper.new) out) (end_of result) }
+        (book_scene (F.meaning ports.old.shelf) (K.meaning keeper.old) (O.meaning ports.old.out))
+        (book_scene (F.meaning ports.new.shelf) (K.meaning keeper.new) (O.meaning ports.new.out))
+        (end_of result) }
 {
-    match read_valid(alloc, network, hierarchy, certificate, shelf, notes) {
+    let alloc = ports.alloc;
+    match read_valid(
+        alloc,
+        network,
+        hierarchy,
+        certificate,
+        &mut ports.shelf,
+        &mut ports.notes,
+    ) {
         Ok(bytes) => put(name, bytes.as_slice(), keeper),
         Err(outcome) => Err(BookOutcome::Common(outcome)),
     }

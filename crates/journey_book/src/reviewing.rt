@@ -45,11 +45,7 @@ impl Report for Review<'_> {
         text: &mut Vec<u8>,
     ) -> Result<(), AllocError> {
         match read_query(alloc, self.network, certificate.line.as_slice()) {
-            Ok(query) => {
-                let kept = &certificate.result;
-                let (network, hierarchy) = (self.network, self.hierarchy);
-                push_answer(alloc, room, network, hierarchy, &query, kept, text)
-            }
+            Ok(query) => push_answer(alloc, room, self, &query, &certificate.result, text),
             Err(QueryFault::OutOfMemory) => Err(AllocError),
             Err(fault) => push_refusal(text, fault),
         }
@@ -71,19 +67,19 @@ fn is_no_later(words: &[u8]) -> bool
 fn push_answer(
     alloc: Global,
     room: &mut Room,
-    network: &Network,
-    hierarchy: Option<&Hierarchy>,
+    review: &Review<'_>,
     query: &Query,
     kept: &Option<(Time, Journey)>,
     text: &mut Vec<u8>,
 ) -> Result<(), AllocError>
-    requires sound { IfSome hierarchy (λ h. IsSound network.now h.now) }
-    requires read { IsRead network.now query.now }
+    requires sound { IfSome review.now.hierarchy (λ h. IsSound review.now.network.now h.now) }
+    requires read { IsRead review.now.network.now query.now }
     requires times { IfSome kept.now (λ kept. (kept.0 < time_bound) × HasTimes kept.1) }
-    ensures { OnOk result (AddsText (IsAnswered network.now kept.now (asked_by query.now))
+    ensures { OnOk result (AddsText (IsAnswered review.now.network.now kept.now (asked_by query.now))
         text.old.items text.new.items) }
 {
-    let BestPlan { journey, .. } = find_best(alloc, room, network, hierarchy, query)?;
+    let network = review.network;
+    let BestPlan { journey, .. } = find_best(alloc, room, network, review.hierarchy, query)?;
     match journey {
         Some(journey) => {
             let arrival = arrival_of(network, &journey);

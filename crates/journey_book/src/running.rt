@@ -8,28 +8,26 @@ ghost use Rattle.journey_book.specs.Requests.{request_of};
 ghost use Rattle.journey_book.specs.Sayings.{book_scene, end_of};
 
 use crate::keeper::Keeper;
-use crate::keeping::{drop_name, keep};
+use crate::keeping::{Keeping, drop_name, keep};
 use crate::outcome::BookOutcome;
 use crate::showing::{list, recheck_all, review_all, show};
 use crate::words::{BookCommand, read_words};
 use book_help::help;
 use plan_base::{Caps, Shelf, Sink, write_all};
-use run_steps::{Outcome, tell};
+use run_steps::{Outcome, Ports, tell};
 use std::alloc::Global;
 
 /// Does what a command asks for.
 fn carry_out<F: Shelf, K: Keeper, O: Sink, E: Sink>(
-    alloc: Global,
+    ports: &mut Ports<F, O, E>,
     command: BookCommand<'_>,
-    shelf: &mut F,
     keeper: &mut K,
-    out: &mut O,
-    notes: &mut E,
     caps: &Caps,
 ) -> Result<(), BookOutcome>
     ensures { says caps.now (request_of command.entry)
-        (book_scene (F.meaning shelf.old) (K.meaning keeper.old) (O.meaning out.old))
-        (book_scene (F.meaning shelf.new) (K.meaning keeper.new) (O.meaning out.new)) (end_of result) }
+        (book_scene (F.meaning ports.old.shelf) (K.meaning keeper.old) (O.meaning ports.old.out))
+        (book_scene (F.meaning ports.new.shelf) (K.meaning keeper.new) (O.meaning ports.new.out))
+        (end_of result) }
 {
     match command {
         BookCommand::Keep {
@@ -37,58 +35,49 @@ fn carry_out<F: Shelf, K: Keeper, O: Sink, E: Sink>(
             region,
             certificate,
             hierarchy,
-        } => keep(
-            alloc,
-            name,
-            region,
-            certificate,
-            hierarchy,
-            shelf,
-            keeper,
-            notes,
-            caps,
-        ),
+        } => {
+            let what = Keeping {
+                name,
+                region,
+                certificate,
+                hierarchy,
+            };
+            keep(ports, what, keeper, caps)
+        }
         BookCommand::Drop { name } => drop_name(name, keeper, caps),
-        BookCommand::List => list(alloc, keeper, out, caps),
-        BookCommand::Show { name } => show(name, keeper, out, caps),
+        BookCommand::List => list(ports.alloc, keeper, &mut ports.out, caps),
+        BookCommand::Show { name } => show(name, keeper, &mut ports.out, caps),
         BookCommand::Recheck {
             region,
             hierarchy,
             fail,
-        } => recheck_all(
-            alloc, region, hierarchy, fail, shelf, keeper, out, notes, caps,
-        ),
+        } => recheck_all(ports, region, hierarchy, fail, keeper, caps),
         BookCommand::Review {
             region,
             hierarchy,
             fail,
-        } => review_all(
-            alloc, region, hierarchy, fail, shelf, keeper, out, notes, caps,
-        ),
+        } => review_all(ports, region, hierarchy, fail, keeper, caps),
     }
 }
 
 /// Does what a command with these words asks for, within these limits.
 pub fn run_book_within<F: Shelf, K: Keeper, O: Sink, E: Sink>(
-    alloc: Global,
+    ports: &mut Ports<F, O, E>,
     words: &[String],
-    shelf: &mut F,
     keeper: &mut K,
-    out: &mut O,
-    notes: &mut E,
     caps: &Caps,
 ) -> BookOutcome
     ensures outcome { IsOutcome caps.now (map string_bytes words.now)
-        (book_scene (F.meaning shelf.old) (K.meaning keeper.old) (O.meaning out.old))
-        (book_scene (F.meaning shelf.new) (K.meaning keeper.new) (O.meaning out.new)) result }
+        (book_scene (F.meaning ports.old.shelf) (K.meaning keeper.old) (O.meaning ports.old.out))
+        (book_scene (F.meaning ports.new.shelf) (K.meaning keeper.new) (O.meaning ports.new.out)) result }
     ensures complete { IsComplete caps.now (map string_bytes words.now)
-        (book_scene (F.meaning shelf.old) (K.meaning keeper.old) (O.meaning out.old))
-        (book_scene (F.meaning shelf.new) (K.meaning keeper.new) (O.meaning out.new)) result }
+        (book_scene (F.meaning ports.old.shelf) (K.meaning keeper.old) (O.meaning ports.old.out))
+        (book_scene (F.meaning ports.new.shelf) (K.meaning keeper.new) (O.meaning ports.new.out)) result }
 {
     let Some(command) = read_words(words) else {
         return BookOutcome::Common(Outcome::Usage);
     };
-    match carry_out(alloc, command, shelf, keeper, out, notes, caps) {
+    match carry_out(ports, command, keeper, caps) {
         Ok(()) => BookOutcome::Common(Outcome::Done),
         Err(outcome) => outcome,
     }
@@ -105,22 +94,19 @@ pub fn run_book_within<F: Shelf, K: Keeper, O: Sink, E: Sink>(
 /// is done, unless nothing is kept under the name or memory ran out. `notes` is told why a run did not end with its
 /// work done, and where the words ask for nothing, what they may be; a fault of `notes` changes nothing.
 pub fn run_book<F: Shelf, K: Keeper, O: Sink, E: Sink>(
-    alloc: Global,
+    ports: &mut Ports<F, O, E>,
     words: &[String],
-    shelf: &mut F,
     keeper: &mut K,
-    out: &mut O,
-    notes: &mut E,
 ) -> BookOutcome
     ensures outcome { (caps : Caps) × AreFull caps × IsOutcome caps (map string_bytes words.now)
-        (book_scene (F.meaning shelf.old) (K.meaning keeper.old) (O.meaning out.old))
-        (book_scene (F.meaning shelf.new) (K.meaning keeper.new) (O.meaning out.new)) result }
+        (book_scene (F.meaning ports.old.shelf) (K.meaning keeper.old) (O.meaning ports.old.out))
+        (book_scene (F.meaning ports.new.shelf) (K.meaning keeper.new) (O.meaning ports.new.out)) result }
     ensures complete { (caps : Caps) × AreFull caps × IsComplete caps (map string_bytes words.now)
-        (book_scene (F.meaning shelf.old) (K.meaning keeper.old) (O.meaning out.old))
-        (book_scene (F.meaning shelf.new) (K.meaning keeper.new) (O.meaning out.new)) result }
+        (book_scene (F.meaning ports.old.shelf) (K.meaning keeper.old) (O.meaning ports.old.out))
+        (book_scene (F.meaning ports.new.shelf) (K.meaning keeper.new) (O.meaning ports.new.out)) result }
 {
-    let outcome = run_book_within(alloc, words, shelf, keeper, out, notes, &Caps::FULL);
-    tell_end(alloc, words, outcome, notes);
+    let outcome = run_book_within(ports, words, keeper, &Caps::FULL);
+    tell_end(ports.alloc, words, outcome, &mut ports.notes);
     outcome
 }
 

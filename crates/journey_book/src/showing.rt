@@ -21,7 +21,7 @@ use hierarchy::Hierarchy;
 use mode_network::Network;
 use plain_texts::push_line_feed;
 use plan_base::{Caps, Shelf, Sink};
-use run_steps::{Outcome, write_text};
+use run_steps::{Outcome, Ports, write_text};
 use std::alloc::{AllocError, Global};
 
 /// Writes all names.
@@ -77,22 +77,35 @@ pub(crate) fn show<K: Keeper, O: Sink>(
 
 /// Reads a region and the hierarchy, if one is named, and writes which of the certificates that are kept hold.
 pub(crate) fn recheck_all<F: Shelf, K: Keeper, O: Sink, E: Sink>(
-    alloc: Global,
+    ports: &mut Ports<F, O, E>,
     region: &str,
     hierarchy: Option<&str>,
     fail: bool,
-    shelf: &mut F,
     keeper: &mut K,
-    out: &mut O,
-    notes: &mut E,
     caps: &Caps,
 ) -> Result<(), BookOutcome>
     ensures { says caps.now (recheck region.now (option_map (λ it. it.now) hierarchy.entry) fail)
-        (book_scene (F.meaning shelf.old) (K.meaning keeper.old) (O.meaning out.old))
-        (book_scene (F.meaning shelf.new) (K.meaning keeper.new) (O.meaning out.new)) (end_of result) }
+        (book_scene (F.meaning ports.old.shelf) (K.meaning keeper.old) (O.meaning ports.old.out))
+        (book_scene (F.meaning ports.new.shelf) (K.meaning keeper.new) (O.meaning ports.new.out))
+        (end_of result) }
 {
-    match read_both(alloc, region, hierarchy, shelf, notes, caps) {
-        Ok(both) => recheck_over(alloc, &both.0, both.1.as_ref(), fail, keeper, out),
+    let alloc = ports.alloc;
+    match read_both(
+        alloc,
+        region,
+        hierarchy,
+        &mut ports.shelf,
+        &mut ports.notes,
+        caps,
+    ) {
+        Ok(both) => recheck_over(
+            alloc,
+            &both.0,
+            both.1.as_ref(),
+            fail,
+            keeper,
+            &mut ports.out,
+        ),
         Err(outcome) => Err(BookOutcome::Common(outcome)),
     }
 }
@@ -119,22 +132,35 @@ fn recheck_over<K: Keeper, O: Sink>(
 
 /// Reads a region and the hierarchy, if one is named, and writes what that does to the journeys that are kept.
 pub(crate) fn review_all<F: Shelf, K: Keeper, O: Sink, E: Sink>(
-    alloc: Global,
+    ports: &mut Ports<F, O, E>,
     region: &str,
     hierarchy: Option<&str>,
     fail: bool,
-    shelf: &mut F,
     keeper: &mut K,
-    out: &mut O,
-    notes: &mut E,
     caps: &Caps,
 ) -> Result<(), BookOutcome>
     ensures { says caps.now (review region.now (option_map (λ it. it.now) hierarchy.entry) fail)
-        (book_scene (F.meaning shelf.old) (K.meaning keeper.old) (O.meaning out.old))
-        (book_scene (F.meaning shelf.new) (K.meaning keeper.new) (O.meaning out.new)) (end_of result) }
+        (book_scene (F.meaning ports.old.shelf) (K.meaning keeper.old) (O.meaning ports.old.out))
+        (book_scene (F.meaning ports.new.shelf) (K.meaning keeper.new) (O.meaning ports.new.out))
+        (end_of result) }
 {
-    match read_both(alloc, region, hierarchy, shelf, notes, caps) {
-        Ok(both) => review_over(alloc, &both.0, both.1.as_ref(), fail, keeper, out),
+    let alloc = ports.alloc;
+    match read_both(
+        alloc,
+        region,
+        hierarchy,
+        &mut ports.shelf,
+        &mut ports.notes,
+        caps,
+    ) {
+        Ok(both) => review_over(
+            alloc,
+            &both.0,
+            both.1.as_ref(),
+            fail,
+            keeper,
+            &mut ports.out,
+        ),
         Err(outcome) => Err(BookOutcome::Common(outcome)),
     }
 }

@@ -11,7 +11,7 @@ use crate::notes::Notes;
 use journey_book::words::read_words;
 use journey_book::{BookOutcome, Keeper, MemoryKeeper, run_book};
 use plan_base::{FolderShelf, StreamSink};
-use run_steps::{Outcome, tell_no_text};
+use run_steps::{Outcome, Ports, tell_no_text};
 use std::collections::BTreeMap;
 use std::env;
 use std::io::{self, ErrorKind};
@@ -65,8 +65,11 @@ fn run_in_file(rt: &HostRuntime, words: &[String], path: &str) -> BookOutcome {
 }
 
 fn run_over<K: Keeper>(rt: &HostRuntime, words: &[String], keeper: &mut K) -> BookOutcome {
-    let mut shelf = FolderShelf::new(rt);
-    let mut out = StreamSink::new(rt.stdout());
-    let mut notes = Notes::new(StreamSink::new(rt.stderr()));
-    run_book(rt.alloc(), words, &mut shelf, keeper, &mut out, &mut notes)
+    let mut ports = Ports {
+        alloc: rt.alloc(),
+        shelf: FolderShelf::new(rt),
+        out: StreamSink::new(rt.stdout()),
+        notes: Notes::new(StreamSink::new(rt.stderr())),
+    };
+    run_book(&mut ports, words, keeper)
 }

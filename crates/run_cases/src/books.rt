@@ -4,6 +4,7 @@ use crate::runs::{NOTHING, Sinks};
 use case_script::{Given, Script, words, words_and_files};
 use journey_book::{BookOutcome, Keeper, MemoryKeeper, SqliteKeeper, run_book};
 use plan_base::MemoryShelf;
+use planner_core::Ports;
 use sqlite::Connection;
 use std::alloc::{AllocError, Global};
 use std::collections::BTreeMap;
@@ -118,12 +119,18 @@ fn run<K: Keeper>(
     keeper: &mut K,
 ) -> Result<String, AllocError> {
     let Given { words, files } = words_and_files(alloc, script, line)?;
-    let mut shelf = MemoryShelf::new(files, Vec::new(alloc));
-    let Sinks { mut out, mut notes } = Sinks::new(alloc, NOTHING)?;
-    let outcome = run_book(alloc, &words, &mut shelf, keeper, &mut out, &mut notes);
+    let shelf = MemoryShelf::new(files, Vec::new(alloc));
+    let Sinks { out, notes } = Sinks::new(alloc, NOTHING)?;
+    let mut ports = Ports {
+        alloc,
+        shelf,
+        out,
+        notes,
+    };
+    let outcome = run_book(&mut ports, &words, keeper);
     let status = outcome.status();
     let ended = ended(alloc, outcome)?;
-    let text = String::from_utf8_lossy(alloc, out.bytes())?;
+    let text = String::from_utf8_lossy(alloc, ports.out.bytes())?;
     format!(in alloc; "{ended}, status {status}\n{text}")
 }
 

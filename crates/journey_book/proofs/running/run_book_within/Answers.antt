@@ -8,8 +8,8 @@ use Rattle.journey_book.proofs.running.run_book_within.Goals as goal
 
 pub returns-in-Err-clause-complete : goal.returns-in-Err-clause-complete
 returns-in-Err-clause-complete g c r files asks tells can reads keeps writes =
-    let old = book_scene (g.F.Shelf.meaning c.args.shelf.now) (g.K.Keeper.meaning c.args.keeper.now) (g.O.Sink.meaning c.args.out.now) in
-    let new = book_scene (g.F.Shelf.meaning c.carry_out.new.shelf) (g.K.Keeper.meaning c.carry_out.new.keeper) (g.O.Sink.meaning c.carry_out.new.out) in
+    let old = book_scene (g.F.Shelf.meaning c.args.ports.now.shelf) (g.K.Keeper.meaning c.args.keeper.now) (g.O.Sink.meaning c.args.ports.now.out) in
+    let new = book_scene (g.F.Shelf.meaning c.carry_out.new.ports.shelf) (g.K.Keeper.meaning c.carry_out.new.keeper) (g.O.Sink.meaning c.carry_out.new.ports.out) in
     let same = asked_once (map string_bytes c.args.words.now) (request_of c.in-Some.command) r c.in-Some.ensures asks in
     completes c.args.caps.now files old new tells (record { shelf = reads; keeper = keeps; out = writes }) r can c.in-Err.outcome
     (subst (λ (q : BookRequest). says c.args.caps.now q old new c.in-Err.outcome) same c.in-Err.ensures)

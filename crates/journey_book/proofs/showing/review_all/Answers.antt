@@ -13,4 +13,4 @@ returns-in-Ok g c =
     inr (c.in-Ok.both.0, c.in-Ok.both.1, mid, c.in-Ok.ensures.ok, (c.review_over.ensures mid))
 
 pub returns-in-Err : goal.returns-in-Err
-returns-in-Err g c = inl (c.in-Err.ensures.err, (unwritten (g.O.Sink.meaning c.args.out.now), stays_so (g.K.Keeper.meaning c.args.keeper.now)))
+returns-in-Err g c = inl (c.in-Err.ensures.err, (unwritten (g.O.Sink.meaning c.args.ports.now.out), stays_so (g.K.Keeper.meaning c.args.keeper.now)))
