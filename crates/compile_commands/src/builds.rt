@@ -16,22 +16,33 @@ use run_steps::{Outcome, SourceFault, tell};
 use service_days::Days;
 use std::alloc::Global;
 
-/// The region of a map and a feed over some days, and what was left out. If there is none, `notes` is told why.
+/// What a region is made of: the objects of a map and the lists of a feed, over some days.
+#[derive(Drop)]
+pub struct MapAndFeed {
+    pub objects: Objects,
+    pub feed: Feed,
+    pub days: Days,
+}
+
+/// The region of a map and a feed, which lies in this folder, and what was left out. If there is none, `notes` is told why.
 pub fn built<E: Sink>(
     alloc: Global,
-    objects: Objects,
-    feed: Feed,
-    days: Days,
+    of: MapAndFeed,
     folder: &str,
     caps: &Caps,
     notes: &mut E,
 ) -> Result<Region, Outcome>
-    requires objects { AreObjects objects }
-    requires feed { IsFeed feed }
-    ensures ok { IfOk result (λ region. IsCompiled caps.now objects feed days region.network) }
+    requires objects { AreObjects of.objects }
+    requires feed { IsFeed of.feed }
+    ensures ok { IfOk result (λ region. IsCompiled caps.now of.objects of.feed of.days region.network) }
     ensures faultless { IfOk result (λ region. first_fault caps.now region.network ≡ None) }
-    ensures err { IfErr result (IsBuildOutcome caps.now objects feed days) }
+    ensures err { IfErr result (IsBuildOutcome caps.now of.objects of.feed of.days) }
 {
+    let MapAndFeed {
+        objects,
+        feed,
+        days,
+    } = of;
     match build(alloc, &objects, &feed, days, caps) {
         Ok(region) => Ok(region),
         Err(BuildFault::OutOfMemory) => Err(Outcome::OutOfMemory),

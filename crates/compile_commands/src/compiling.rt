@@ -9,7 +9,7 @@ ghost use Rattle.run_steps.specs.Sayings.{WritesText, end_of};
 ghost use Rattle.compile_commands.specs.Commands.{SaysCompile, SaysMigrate};
 ghost use Rattle.compile_commands.specs.Outputs.{IsRegionFile};
 
-use crate::builds::built;
+use crate::builds::{MapAndFeed, built};
 use crate::closing::{Sources, tell_closing};
 use crate::feeds::read_feed_in;
 use crate::maps::read_map;
@@ -39,7 +39,12 @@ pub fn compile<F: Shelf, O: Sink, E: Sink>(
     let objects = read_map(alloc, &mut ports.shelf, map, caps, &mut ports.notes)?;
     let tables = read_feed_in(alloc, &mut ports.shelf, feed, caps, &mut ports.notes)?;
     let sources = Sources::of(&objects, &tables);
-    let region = built(alloc, objects, tables, days, feed, caps, &mut ports.notes)?;
+    let both = MapAndFeed {
+        objects,
+        feed: tables,
+        days,
+    };
+    let region = built(alloc, both, feed, caps, &mut ports.notes)?;
     write_compiled(
         alloc,
         &region,

@@ -15,7 +15,7 @@ use memchr::memchr_iter;
 use opl_reader::{Objects, Opl, OplFault};
 use plan_base::{Caps, ReadFault, Shelf, Sink};
 use run_steps::{FileRole, MOST_BYTES, Outcome, SourceFault, refused, tell};
-use std::alloc::Global;
+use std::alloc::{AllocError, Global};
 
 /// How many bytes of a map are asked for at a time.
 const PIECE: usize = 65_536;
@@ -49,7 +49,11 @@ pub fn read_map<F: Shelf, E: Sink>(
             return Err(refused(alloc, name, FileRole::Opl, fault, notes));
         }
         let piece = &buffer[..n];
-        take_piece(alloc, &mut opl, piece, name, lines, notes)?;
+        let before = Before {
+            bytes: taken.saturating_sub(n as u64),
+            lines,
+        };
+        take_piece(alloc, &mut opl, piece, name, before, notes)?;
         lines = lines.saturating_add(line_feeds(piece));
         tell_how_far(alloc, name, taken, n as u64, notes);
     }
@@ -68,14 +72,55 @@ fn line_feeds(piece: &[u8]) -> u64 {
     memchr_iter(b'\n', piece).count() as u64
 }
 
-/// The line of this number, from 1 on, if it begins in the piece, before which so many lines have ended.
-fn line_in(piece: &[u8], number: u64, ended: u64) -> Option<&[u8]> {
-    let place = number.checked_sub(1)?.checked_sub(ended)?;
-    if place == 0 && ended > 0 {
+/// How many bytes of a map stand before a piece, and how many lines have ended in them.
+#[derive(Clone, Copy)]
+struct Before {
+    bytes: u64,
+    lines: u64,
+}
+
+/// The line of this number, from 1 on, if it begins in the piece.
+fn line_in(piece: &[u8], number: u64, before: Before) -> Option<&[u8]> {
+    let place = number.checked_sub(1)?.checked_sub(before.lines)?;
+    if place == 0 && before.bytes > 0 {
         return None;
     }
     let place = usize::try_from(place).ok()?;
     piece.split(|byte| *byte == b'\n').nth(place)
+}
+
+/// What is wrong with a map that is refused at this piece: that it is of another format, or its fault.
+fn told(
+    alloc: Global,
+    name: &str,
+    fault: OplFault,
+    piece: &[u8],
+    before: Before,
+) -> Result<String, AllocError> {
+    match other_format(piece) {
+        Some(format) if before.bytes == 0 => format!(in alloc;
+            "{name}: this file is {format}, and a map is text in the format OPL, as \"osmium cat -f opl\" makes it"
+        ),
+        _ => {
+            let line = line_of(fault).and_then(|number| line_in(piece, number, before));
+            bad_map(alloc, name, fault, line)
+        }
+    }
+}
+
+/// The format of a file that begins so, if it is one in which maps are found that is not OPL.
+fn other_format(bytes: &[u8]) -> Option<&'static str> {
+    if bytes.get(6..15) == Some(b"OSMHeader".as_slice()) {
+        Some("PBF")
+    } else if bytes.starts_with(b"<?xml") || bytes.starts_with(b"<osm") {
+        Some("XML")
+    } else if bytes.starts_with(&[0x1f, 0x8b]) {
+        Some("packed by gzip")
+    } else if bytes.starts_with(b"BZh") {
+        Some("packed by bzip2")
+    } else {
+        None
+    }
 }
 
 /// After how many bytes of a map people are told how far it is read.
@@ -117,13 +162,13 @@ fn read_piece<F: Shelf, E: Sink>(
     }
 }
 
-/// Has a piece of the map taken, before which so many lines have ended.
+/// Has a piece of the map taken.
 fn take_piece<E: Sink>(
     alloc: Global,
     opl: &mut Opl,
     piece: &[u8],
     name: &str,
-    ended: u64,
+    before: Before,
     notes: &mut E,
 ) -> Result<(), Outcome>
     ensures taken { (caps : c.Caps) (bytes : List ℕ) → HasTaken opl.old caps bytes
@@ -135,8 +180,7 @@ fn take_piece<E: Sink>(
         Ok(()) => Ok(()),
         Err(OplFault::OutOfMemory) => Err(Outcome::OutOfMemory),
         Err(fault) => {
-            let line = line_of(fault).and_then(|number| line_in(piece, number, ended));
-            tell(alloc, notes, bad_map(alloc, name, fault, line));
+            tell(alloc, notes, told(alloc, name, fault, piece, before));
             Err(Outcome::BadFeed {
                 fault: SourceFault::Opl(fault),
             })
