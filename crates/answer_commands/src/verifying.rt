@@ -11,6 +11,7 @@ ghost use Rattle.answer_commands.specs.Outputs.{best_certificates, body_of};
 
 use crate::reading::read_both;
 use certificate::{CertFault, CertVerdict, Certificate, read};
+use fault_notes::invalid_certificate;
 use hierarchy::Hierarchy;
 use journey::{BlockBody, block};
 use mode_network::{Journey, Network};
@@ -52,6 +53,16 @@ impl Certificates for BestCertificates<'_> {
             Ok(block) => Ok(block),
             Err(_) => Err(Outcome::OutOfMemory),
         }
+    }
+
+    fn invalid(
+        &self,
+        alloc: Global,
+        path: &str,
+        clause: u8,
+        at: u64,
+    ) -> Result<String, AllocError> {
+        invalid_certificate(alloc, path, clause, at)
     }
 }
 

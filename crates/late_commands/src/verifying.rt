@@ -44,6 +44,34 @@ impl Certificates for LateCertificates<'_> {
             Err(_) => Err(Outcome::OutOfMemory),
         }
     }
+
+    fn invalid(
+        &self,
+        alloc: Global,
+        path: &str,
+        clause: u8,
+        at: u64,
+    ) -> Result<String, AllocError> {
+        let rule = rule_of(clause);
+        format!(in alloc;
+            "{path}: the certificate is not valid: clause {clause} fails at {at}: {rule}"
+        )
+    }
+}
+
+/// What a clause of late certificates asks for.
+fn rule_of(clause: u8) -> &'static str {
+    match clause {
+        1 => "its query line must be one that this region answers",
+        3 => "it must start at a copy of the origin, on the region's first date or later",
+        4 => "each step must be one of the network",
+        5 =>
+            "it must end at a copy of the destination, arrive by the deadline, and have a word that the expression denotes",
+        6 => "its labels must ascend, be in range, and be later than the departure",
+        7 => "each end must be labelled with the deadline",
+        8 => "no label may stand at the origin in a state in which a journey starts",
+        _ => "no arc may lead to a label from a state that is not labelled as late",
+    }
 }
 
 /// Reads the region and the late certificate's file of these names, and writes that it is valid and the late block of its line

@@ -12,7 +12,7 @@ use crate::notes::tell;
 use crate::outcome::{FileRole, Outcome};
 use crate::ports::Ports;
 use crate::texts::write_text;
-use fault_notes::{bad_certificate, invalid_certificate};
+use fault_notes::bad_certificate;
 use plan_base::{Shelf, Sink};
 use std::alloc::{AllocError, Global};
 
@@ -36,6 +36,9 @@ pub trait Certificates {
         requires { may self.now }
         ensures ok { IfOk result (λ block. (kind self.now).Shows bytes.now block.items) }
         ensures err { IfErr result (IsUnverified (kind self.now) bytes.now) };
+
+    /// What people are told of the certificate file of this path, for which this clause is the first to fail, and where.
+    fn invalid(&self, alloc: Global, path: &str, clause: u8, at: u64) -> Result<String, AllocError>;
 }
 
 /// Reads the certificate of the file of this path, and writes `valid` and the block that it shows; or tells `notes` why it
@@ -76,7 +79,7 @@ fn verified<C: Certificates, E: Sink>(
             Err(_) => Err(Outcome::OutOfMemory),
         },
         Err(outcome) => {
-            tell_why(alloc, path, bytes, outcome, notes);
+            tell_why(alloc, certificates, path, bytes, outcome, notes);
             Err(outcome)
         }
     }
@@ -92,13 +95,20 @@ fn behind_valid(alloc: Global, block: &[u8]) -> Result<Vec<u8>, AllocError>
 }
 
 /// Tells why bytes show nothing.
-fn tell_why<E: Sink>(alloc: Global, path: &str, bytes: &[u8], outcome: Outcome, notes: &mut E) {
+fn tell_why<C: Certificates, E: Sink>(
+    alloc: Global,
+    certificates: &C,
+    path: &str,
+    bytes: &[u8],
+    outcome: Outcome,
+    notes: &mut E,
+) {
     match outcome {
         Outcome::BadCertificate { line } => {
             tell(alloc, notes, bad_certificate(alloc, path, bytes, line));
         }
         Outcome::Invalid { clause, at } => {
-            tell(alloc, notes, invalid_certificate(alloc, path, clause, at));
+            tell(alloc, notes, certificates.invalid(alloc, path, clause, at));
         }
         _ => {}
     }

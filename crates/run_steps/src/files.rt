@@ -94,7 +94,15 @@ fn unread(
         ReadFault::Missing => {
             format!(in alloc; "{path}: there is no such file; it should be the {role} file")
         }
-        ReadFault::Failed => format!(in alloc; "{path}: the {role} file can't be read"),
+        ReadFault::Failed => {
+            let remedy = match file {
+                FileRole::Feed(_) if lies_in_zip(path) => {
+                    ": a feed is read as a folder, so unzip it"
+                }
+                _ => "",
+            };
+            format!(in alloc; "{path}: the {role} file can't be read{remedy}")
+        }
         ReadFault::TooLong { cap } => {
             let power = cap.trailing_zeros();
             format!(in alloc;
@@ -103,6 +111,13 @@ fn unread(
         }
         ReadFault::OutOfMemory => format!(in alloc; "memory ran out"),
     }
+}
+
+/// Whether a path leads into a packed archive.
+fn lies_in_zip(path: &str) -> bool {
+    path.as_bytes()
+        .split(|byte| *byte == b'/')
+        .any(|part| part.ends_with(b".zip"))
 }
 
 /// The network that a region file spells. If there is none, `notes` is told why.
