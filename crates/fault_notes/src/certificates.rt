@@ -1,6 +1,6 @@
 //! Faults of certificates.
 
-use crate::pieces::{line_at, shown};
+use crate::pieces::{is_unended, line_at, shown};
 use std::alloc::{AllocError, Global};
 
 /// The line of the certificate file of this path that is the first which may not stand where it does.
@@ -10,16 +10,38 @@ pub fn bad_certificate(
     bytes: &[u8],
     line: u64,
 ) -> Result<String, AllocError> {
+    let is_unended = is_unended(bytes, line);
     match line_at(bytes, line) {
-        None | Some([]) => {
+        None => no_end(alloc, path, line),
+        Some([]) if is_unended => no_end(alloc, path, line),
+        Some([]) => format!(in alloc; "{path}, line {line}: a certificate has no empty lines"),
+        Some(text) => {
+            let what = if line == 1 { what_begins(text) } else { "" };
+            let text = shown(alloc, text)?;
             format!(in alloc;
-                "{path}, line {line}: the certificate ends here without its last line, \"end\""
+                "{path}, line {line}: {text} may not stand here in a certificate{what}"
             )
         }
-        Some(text) => {
-            let text = shown(alloc, text)?;
-            format!(in alloc; "{path}, line {line}: {text} may not stand here in a certificate")
-        }
+    }
+}
+
+/// The text ends before its last line.
+fn no_end(alloc: Global, path: &str, line: u64) -> Result<String, AllocError> {
+    format!(in alloc;
+        "{path}, line {line}: the certificate ends here without its last line, \"end\""
+    )
+}
+
+/// What a file is that begins with this line, and what reads it, where people may take it for a certificate.
+fn what_begins(line: &[u8]) -> &'static str {
+    if line.starts_with(b"modeplan certificate ") {
+        "; it is one of a best journey, which verify reads"
+    } else if line.starts_with(b"modeplan late ") {
+        "; it is one of a latest departure, which verify-latest reads"
+    } else if line.starts_with(b"query ") {
+        "; this is the block of an answer, and certify makes a certificate of its query"
+    } else {
+        ""
     }
 }
 

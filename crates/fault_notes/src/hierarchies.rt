@@ -12,7 +12,7 @@ pub fn bad_hierarchy(alloc: Global, path: &str, fault: HFileFault) -> Result<Str
             )
         }
         HFileFault::BadRecord { at } => format!(in alloc;
-            "{path}, byte {at}: the record that begins here is cut short, or does not come after the one before it, or names a node that no network has"
+            "{path}, byte {at}: the record that begins here is cut short, or does not come after the one before it, or names a node that no network has, or is a witness of fewer than two nodes"
         ),
         HFileFault::Trailing { at } => {
             format!(in alloc; "{path}, byte {at}: bytes follow the last record of the hierarchy")

@@ -17,7 +17,7 @@ pub fn bad_map(
         OplFault::RepeatedObject { line: number } => {
             let text = shown(alloc, line.unwrap_or(&[]))?;
             format!(in alloc;
-                "{path}, line {number}: {text}: an earlier line has an object of this kind and id, and there may be one"
+                "{path}, line {number}: {text}: an earlier line has an object of this kind and id, and there may be one; of a file with the history of objects, \"osmium time-filter\" takes those of one moment"
             )
         }
         OplFault::TooMany { kind } => too_many(alloc, path, kind.name(), kind.most()),
@@ -142,17 +142,41 @@ fn wrong_tags(tags: &[u8]) -> Option<&'static str> {
             1 => {}
             _ => return Some("a tag has more than one \"=\"; within a value it is written %3d%"),
         }
-        if !tag.split(|byte| *byte == b'%').enumerate().all(is_escape) {
-            return Some("between two \"%\" stand 1 to 6 hexadecimal digits of a character");
+        if let Some(wrong) = wrong_escapes(tag) {
+            return Some(wrong);
         }
     }
     None
 }
 
-/// Whether what stands at this place between percent signs may do so: at odd places hexadecimal digits do.
-fn is_escape((place, text): (usize, &[u8])) -> bool {
-    place % 2 == 0
-        || (1..=6).contains(&text.len()) && text.iter().all(|byte| byte.is_ascii_hexdigit())
+/// What the percent signs of a tag break.
+fn wrong_escapes(tag: &[u8]) -> Option<&'static str> {
+    if tag.iter().filter(|byte| **byte == b'%').count() % 2 == 1 {
+        return Some(
+            "a \"%\" begins a character that no other \"%\" ends; \"%\" itself is written %25%",
+        );
+    }
+    if tag
+        .split(|byte| *byte == b'%')
+        .enumerate()
+        .all(|(place, text)| place % 2 == 0 || is_character(text))
+    {
+        None
+    } else {
+        Some("between two \"%\" stand the 1 to 6 hexadecimal digits of a character of Unicode")
+    }
+}
+
+/// Whether hexadecimal digits spell a character of Unicode.
+fn is_character(digits: &[u8]) -> bool {
+    let mut number: u32 = 0;
+    for byte in digits {
+        match (*byte as char).to_digit(16) {
+            Some(digit) if number < 0x10_0000 => number = number * 16 + digit,
+            _ => return false,
+        }
+    }
+    (1..=6).contains(&digits.len()) && char::from_u32(number).is_some()
 }
 
 fn wrong_references(references: &[u8]) -> Option<&'static str> {
@@ -160,10 +184,22 @@ fn wrong_references(references: &[u8]) -> Option<&'static str> {
         return None;
     }
     for reference in references.split(|byte| *byte == b',') {
-        let name = reference.split(|byte| *byte == b'x').next().unwrap_or(&[]);
+        let mut parts = reference.splitn(2, |byte| *byte == b'x');
+        let name = parts.next().unwrap_or(&[]);
         if name.first() != Some(&b'n') || !is_id(name) {
             return Some("N has the ids of nodes, each behind an n, parted by commas");
         }
+        if let Some(wrong) = parts.next().and_then(wrong_coordinates) {
+            return Some(wrong);
+        }
     }
     None
+}
+
+/// What the coordinates of a reference break, which stand behind its `x`.
+fn wrong_coordinates(text: &[u8]) -> Option<&'static str> {
+    match text.iter().position(|byte| *byte == b'y') {
+        Some(place) => wrong_longitude(&text[..place]).or(wrong_latitude(&text[place + 1..])),
+        None => Some("an id of N with x and no y; both stand behind it, or none"),
+    }
 }

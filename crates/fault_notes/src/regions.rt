@@ -1,6 +1,7 @@
 //! Faults of region files.
 
-use crate::pieces::{line_at, number_of_line, shown};
+use crate::maps::too_many;
+use crate::pieces::{is_unended, line_at, number_of_line, shown};
 use mode_network::NetFault;
 use plain_texts::read_id;
 use plan_base::{Kind, Mode};
@@ -49,18 +50,26 @@ fn bad_head(alloc: Global, path: &str, bytes: &[u8]) -> Result<String, AllocErro
 
 /// A line may not stand where it does.
 fn bad_line(alloc: Global, path: &str, bytes: &[u8], at: u64) -> Result<String, AllocError> {
+    let is_unended = is_unended(bytes, at);
     match line_at(bytes, at) {
-        None | Some([]) => {
-            format!(in alloc;
-                "{path}, line {at}: the region ends here without its last line, \"end\""
-            )
-        }
+        None => no_end(alloc, path, at),
+        Some([]) if is_unended => no_end(alloc, path, at),
+        Some([]) => format!(in alloc; "{path}, line {at}: a region has no empty lines"),
         Some(line) => {
-            let form = form_of(line);
+            let form = if is_unended {
+                "no line feed stands behind it, as behind each line of a region"
+            } else {
+                form_of(line)
+            };
             let line = shown(alloc, line)?;
             format!(in alloc; "{path}, line {at}: {line} may not stand here; {form}")
         }
     }
+}
+
+/// The text ends before its last line.
+fn no_end(alloc: Global, path: &str, at: u64) -> Result<String, AllocError> {
+    format!(in alloc; "{path}, line {at}: the region ends here without its last line, \"end\"")
 }
 
 /// How a line with the first word of this one is written, and where it may stand.
@@ -103,9 +112,7 @@ fn bad_network(
             format!(in alloc; "{path}{place}: {}", ends_of(kind))
         }
         NetFault::Table(fault) => bad_trip(alloc, path, bytes, fault),
-        NetFault::TooMany { kind } => {
-            format!(in alloc; "{path}: a region may not have so many {}", name_of(kind))
-        }
+        NetFault::TooMany { kind } => too_many(alloc, path, all_of(kind), kind.most()),
         NetFault::OutOfMemory => format!(in alloc; "memory ran out"),
     }
 }
@@ -152,9 +159,7 @@ fn bad_trip(
             trip,
             "a trip must have a letter of transit, two calls or more, days of the region, and times below 168 hours",
         ),
-        TableFault::TooMany { kind } => {
-            format!(in alloc; "{path}: a region may not have so many {}", name_of(kind))
-        }
+        TableFault::TooMany { kind } => too_many(alloc, path, all_of(kind), kind.most()),
         TableFault::OutOfMemory => format!(in alloc; "memory ran out"),
     }
 }
@@ -190,6 +195,14 @@ fn place_of(alloc: Global, bytes: &[u8], words: &[&[u8]], row: u64) -> Result<St
     match number_of_line(bytes, words, row) {
         Some(number) => format!(in alloc; ", line {number}"),
         None => format!(in alloc; ", row {row} of its kind"),
+    }
+}
+
+/// What people call all that count as rows of a kind.
+fn all_of(kind: Kind) -> &'static str {
+    match kind {
+        Kind::Nodes => "nodes, with stops and switches,",
+        _ => name_of(kind),
     }
 }
 

@@ -14,8 +14,8 @@ use crate::showing::{list, recheck_all, review_all, show};
 use crate::words::{BookCommand, read_words};
 use book_help::help;
 use plan_base::{Caps, Shelf, Sink, write_all};
-use run_steps::{Outcome, Ports, tell};
-use std::alloc::Global;
+use run_steps::{Outcome, Ports, seen_words, tell};
+use std::alloc::{AllocError, Global};
 
 /// Does what a command asks for.
 fn carry_out<F: Shelf, K: Keeper, O: Sink, E: Sink>(
@@ -114,7 +114,7 @@ pub fn run_book<F: Shelf, K: Keeper, O: Sink, E: Sink>(
 fn tell_end<E: Sink>(alloc: Global, words: &[String], outcome: BookOutcome, notes: &mut E) {
     match outcome {
         BookOutcome::Common(Outcome::Usage) => {
-            if let Ok(text) = help(alloc, words) {
+            if let Ok(text) = help_on(alloc, words) {
                 let _ = write_all(notes, text.as_bytes());
             }
         }
@@ -124,4 +124,10 @@ fn tell_end<E: Sink>(alloc: Global, words: &[String], outcome: BookOutcome, note
             }
         }
     }
+}
+
+/// Help, or which word is wrong, with the words as they can be shown.
+fn help_on(alloc: Global, words: &[String]) -> Result<String, AllocError> {
+    let words = seen_words(alloc, words)?;
+    help(alloc, &words)
 }

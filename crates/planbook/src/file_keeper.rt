@@ -5,6 +5,7 @@ ghost use Rattle.journey_book.specs.Working.{IsCountedRefusal};
 
 use crate::copy::open_copy;
 use crate::paths::{Found, log_path, look_at};
+use fault_notes::seen;
 use journey_book::{BookOutcome, KeepFault, Keeper, Refusal, SqliteKeeper};
 use plan_base::{StreamSink, write_all};
 use run_steps::Outcome;
@@ -228,9 +229,15 @@ impl BookFile<'_> {
     /// Writes a line for people that names the book.
     fn tell(&self, told: &str) {
         let mut notes = StreamSink::new(self.rt.stderr());
-        if let Ok(line) = format!(in self.rt.alloc(); "planbook: {}: {told}\n", self.path) {
+        if let Ok(line) = self.line_of(told) {
             let _ = write_all(&mut notes, line.as_bytes());
         }
+    }
+
+    fn line_of(&self, told: &str) -> Result<String, AllocError> {
+        let alloc = self.rt.alloc();
+        let (path, told) = (seen(alloc, self.path)?, seen(alloc, told)?);
+        format!(in alloc; "planbook: {path}: {told}\n")
     }
 }
 

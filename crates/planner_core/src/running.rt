@@ -19,9 +19,9 @@ use late_commands::{certify_latest, few, latest, profile, verify_latest};
 use matrix_commands::{Asking, TableFiles, matrix};
 use plan_base::{Caps, Shelf, Sink, write_all};
 use request_commands::requests;
-use run_steps::{Limits, Outcome, Ports, tell};
+use run_steps::{Limits, Outcome, Ports, seen_words, tell};
 use sample_command::sample;
-use std::alloc::Global;
+use std::alloc::{AllocError, Global};
 
 /// Does what a command asks for.
 fn carry_out<F: Shelf, O: Sink, E: Sink>(
@@ -200,7 +200,7 @@ pub fn run<F: Shelf, O: Sink, E: Sink>(ports: &mut Ports<F, O, E>, words: &[Stri
 fn tell_end<E: Sink>(alloc: Global, words: &[String], outcome: Outcome, notes: &mut E) {
     match outcome {
         Outcome::Usage => {
-            if let Ok(text) = help(alloc, words) {
+            if let Ok(text) = help_on(alloc, words) {
                 let _ = write_all(notes, text.as_bytes());
             }
         }
@@ -210,4 +210,10 @@ fn tell_end<E: Sink>(alloc: Global, words: &[String], outcome: Outcome, notes: &
             }
         }
     }
+}
+
+/// Help, or which word is wrong, with the words as they can be shown.
+fn help_on(alloc: Global, words: &[String]) -> Result<String, AllocError> {
+    let words = seen_words(alloc, words)?;
+    help(alloc, &words)
 }

@@ -23,7 +23,7 @@ pub use files::{MOST_BYTES, read_file, read_file_if_there, read_region, refused}
 pub use in_turn::{answer_file, write_in_turn};
 pub use limits::Limits;
 pub use lines::{as_query, without_return};
-pub use notes::{tell, tell_no_text};
+pub use notes::{seen_words, tell, tell_no_text};
 pub use outcome::{FileRole, Outcome, SourceFault};
 pub use ports::Ports;
 pub use texts::write_text;

@@ -1,5 +1,6 @@
 //! Notes for people. Nothing is proved of what they say, and a fault of the sink that takes them changes nothing.
 
+use fault_notes::seen;
 use plan_base::{Sink, write_all};
 use std::alloc::{AllocError, Global};
 
@@ -9,12 +10,24 @@ pub fn tell_no_text<E: Sink>(alloc: Global, notes: &mut E) {
     tell(alloc, notes, String::from_str(alloc, told));
 }
 
-/// Writes a line that begins with the program's name, if there was memory for it.
+/// Writes a line that begins with the program's name, if there was memory for it. Names of files and words of the call, which
+/// may hold anything, are shown in it as [`seen`] shows them.
 pub fn tell<E: Sink>(alloc: Global, notes: &mut E, told: Result<String, AllocError>) {
-    let Ok(told) = told else {
-        return;
-    };
-    if let Ok(line) = format!(in alloc; "modeplan: {told}\n") {
+    if let Ok(line) = line_of(alloc, told) {
         let _ = write_all(notes, line.as_bytes());
     }
+}
+
+fn line_of(alloc: Global, told: Result<String, AllocError>) -> Result<String, AllocError> {
+    let told = seen(alloc, &told?)?;
+    format!(in alloc; "modeplan: {told}\n")
+}
+
+/// Words of the call as they are shown in help that is more than a line.
+pub fn seen_words(alloc: Global, words: &[String]) -> Result<Vec<String>, AllocError> {
+    let mut shown = Vec::new(alloc);
+    for word in words {
+        shown.push(seen(alloc, word)?)?;
+    }
+    Ok(shown)
 }

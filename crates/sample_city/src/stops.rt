@@ -214,7 +214,12 @@ fn push_stop_links(
     let mut number = first;
     let mut rest = stops;
     while let [stop, after @ ..] = rest {
-        push_link_both(links, 60_000, number, numbers.of(u64::from(stop.id), Mode::Foot))?;
+        push_link_both(
+            links,
+            60_000,
+            number,
+            numbers.of(u64::from(stop.id), Mode::Foot),
+        )?;
         number += 1;
         rest = after;
     }
