@@ -1,6 +1,6 @@
 -- Sets of states, state by state and letter by letter.
 use Rattle.std.proofs.Common.{◌≡◌, ℕ, ◌<◌, inl, inr, Bool, false, List, [], ◌∷◌, ◌++◌, length, get_or, refl, sym, subst, arith}
-use Rattle.std.specs.Prelude.{IsBitSet, ◌↔◌}
+use Rattle.std.specs.Prelude.{IsBitSet, IfSome, Option, Some, None, ◌↔◌}
 use Rattle.std.proofs.lemmas.Bool.{cases_lt}
 use Rattle.std.proofs.lemmas.List.{get_or_past}
 use Rattle.std.proofs.lemmas.Nat.Bits.{bit_at_above}
@@ -9,7 +9,7 @@ use Rattle.search_laws.specs.LabelLaws.{LabelsMeaning, HasMove, Reads}
 use Rattle.search_laws.proofs.WalkLemmas.{reads_more}
 use Rattle.automaton.specs.CollapsedLaws.{set_bit}
 use Rattle.certificate.specs.declared.state_sets.StateSets.{StateSets}
-use Rattle.certificate.specs.StateSets.{IsInSet, HasMoveFrom, IsStateAfter, AreAfter}
+use Rattle.certificate.specs.StateSets.{IsInSet, HasMoveFrom, IsStateAfter, IsStill, AreAfter}
 
 -- ---- sets
 
@@ -45,8 +45,9 @@ module _ (l : LabelsMeaning) where
 
   -- one letter more
   pub after_more : (letters : List ℕ) (c : ℕ) (old new : StateSets) → AreAfter l letters old → length new.reached.items ≡ l.states → length new.next.items ≡ l.states
-      → ((r : ℕ) → IsInSet new.reached.items r ↔ HasMoveFrom l l.states old.reached.items c r) → AreAfter l (letters ++ c ∷ []) new
-  after_more letters c old new after size room followed = record { size = size; room = room; are = λ r. (there r, back r) } where
+      → ((r : ℕ) → IsInSet new.reached.items r ↔ HasMoveFrom l l.states old.reached.items c r) → IfSome new.still (IsStill l new.reached.items)
+      → AreAfter l (letters ++ c ∷ []) new
+  after_more letters c old new after size room followed still = record { size = size; room = room; are = λ r. (there r, back r); still = still } where
     there : (r : ℕ) → IsInSet new.reached.items r → IsStateAfter l (letters ++ c ∷ []) r
     there r is =
         let (q, below, held, move) = (followed r).0 is in
@@ -57,3 +58,15 @@ module _ (l : LabelsMeaning) where
         let (p, before, move) = reads_last letters c read.first r read.reads in
         let held = (after.are p).1 (record { first = read.first; is_state = read.is_state; is_start = read.is_start; reads = before }) in
         (followed r).1 (p, omega (arith, in_range old.reached.items p held, after.size), held, move)
+
+  -- a letter that leads the states to the same ones leads them to themselves
+  pub stays : (c : ℕ) (before after : List Bool) (found : Option ℕ) → IfSome found (λ d. (d ≡ c) × (before ≡ after))
+      → ((r : ℕ) → IsInSet after r ↔ HasMoveFrom l l.states before c r) → IfSome found (IsStill l after)
+  stays c before after None none leads = tt
+  stays c before after (Some d) (is, same) leads = rw is (subst (λ (s : List Bool). (r : ℕ) → IsInSet after r ↔ HasMoveFrom l l.states s c r) same leads)
+
+  -- one letter more that leads the states to themselves
+  pub after_still : (letters : List ℕ) (c : ℕ) (sets : StateSets) → AreAfter l letters sets → sets.still ≡ Some c → AreAfter l (letters ++ c ∷ []) sets
+  after_still letters c sets after known = after_more letters c sets sets after after.size after.room still after.still where
+    still : IsStill l sets.reached.items c
+    still = subst (λ (o : Option ℕ). IfSome o (IsStill l sets.reached.items)) known after.still

@@ -1,5 +1,5 @@
 -- Sets of states of an automaton, and the letters that lead to them.
-use Rattle.std.specs.Prelude.{◌≡◌, ℕ, ◌<◌, ◌↔◌, ◌⊎◌, Bool, true, false, List, length, slice_index_or, IsTrue}
+use Rattle.std.specs.Prelude.{◌≡◌, ℕ, ◌<◌, ◌↔◌, ◌⊎◌, Bool, true, false, List, length, slice_index_or, IfSome, IsTrue}
 use Rattle.search_laws.specs.LabelLaws.{LabelsMeaning, IsMove, HasMove, Reads}
 use Rattle.certificate.specs.declared.state_sets.StateSets.{StateSets}
 
@@ -26,8 +26,13 @@ pub record IsStateAfter (l : LabelsMeaning) (letters : List ℕ) (r : ℕ) : Typ
   pub is_start : IsTrue (l.is_start first)
   pub reads : Reads l first letters r
 
+-- the letter leads the states of the set to just themselves
+abbrev pub IsStill : LabelsMeaning → List Bool → ℕ → Type 0
+IsStill l set c = (r : ℕ) → IsInSet set r ↔ HasMoveFrom l l.states set c r
+
 -- both sets have a place for each state, and the states that the letters are read to are exactly those of the one
 pub record AreAfter (l : LabelsMeaning) (letters : List ℕ) (sets : StateSets) : Type 0 where
   pub size : length sets.reached.items ≡ l.states
   pub room : length sets.next.items ≡ l.states
   pub are : (r : ℕ) → IsInSet sets.reached.items r ↔ IsStateAfter l letters r
+  pub still : IfSome sets.still (IsStill l sets.reached.items)

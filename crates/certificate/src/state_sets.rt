@@ -1,6 +1,6 @@
 //! The states of an automaton that the letters of a journey are read to.
 
-ghost use Rattle.std.specs.Prelude.{◌≡◌, ℕ, ◌<◌, ◌↔◌, ◌++◌, ◌∷◌, [], List, length, IfOk, IsTrue, IsBitSet};
+ghost use Rattle.std.specs.Prelude.{◌≡◌, ℕ, ◌<◌, ◌↔◌, ◌++◌, ◌∷◌, [], List, length, IfOk, IfSome, IsTrue, IsBitSet};
 ghost use Rattle.search_laws.specs.Letters.{IsLetterSet};
 ghost use Rattle.search_laws.specs.LabelLaws.{HasMove, Accepts};
 ghost use Rattle.certificate.specs.StateSets.{IsInSet, AreAdded, HasMoveFrom, AreAfter};
@@ -14,6 +14,8 @@ use std::mem::swap;
 pub struct StateSets {
     pub reached: Vec<bool>,
     pub next: Vec<bool>,
+    /// A letter that leads those states to just themselves, where one is known: it need not be read again.
+    pub still: Option<u8>,
 }
 
 impl StateSets {
@@ -24,16 +26,30 @@ impl StateSets {
         Ok(StateSets {
             reached: start_states(alloc, labels)?,
             next: no_states(alloc, labels)?,
+            still: None,
         })
     }
 
-    /// Reads one letter more.
+    /// Reads one letter more. A road letter behind itself is looked up twice at most, however often it stands there.
     pub fn read<L: Labels>(&mut self, labels: &L, letter: u8)
         requires { (letters : List ℕ) × AreAfter (L.automaton labels.now) letters self.old }
         ensures { (letters : List ℕ) → AreAfter (L.automaton labels.now) letters self.old
             → AreAfter (L.automaton labels.now) (letters ++ letter ∷ []) self.new }
     {
+        match self.still {
+            Some(known) if known == letter => {}
+            _ => self.look_up(labels, letter),
+        }
+    }
+
+    /// Reads one letter more by the moves of the states.
+    fn look_up<L: Labels>(&mut self, labels: &L, letter: u8)
+        requires { (letters : List ℕ) × AreAfter (L.automaton labels.now) letters self.old }
+        ensures { (letters : List ℕ) → AreAfter (L.automaton labels.now) letters self.old
+            → AreAfter (L.automaton labels.now) (letters ++ letter ∷ []) self.new }
+    {
         follow(labels, &self.reached, letter, &mut self.next);
+        self.still = letter_that_stays(letter, &self.reached, &self.next);
         swap(&mut self.reached, &mut self.next);
     }
 
@@ -50,6 +66,13 @@ impl StateSets {
         }
         false
     }
+}
+
+/// The letter that led one set to the other, where they are the same.
+fn letter_that_stays(letter: u8, before: &[bool], after: &[bool]) -> Option<u8>
+    ensures { IfSome result (λ c. (c ≡ letter) × (before.now ≡ after.now)) }
+{
+    if before == after { Some(letter) } else { None }
 }
 
 /// Whether each state is a start state.

@@ -1,18 +1,9 @@
-use Rattle.std.proofs.Common.{◌≡◌, ℕ, Bool, List, length, ap, sym, ◌∙◌, subst, arith}
-use Rattle.std.specs.Prelude.{◌↔◌}
-use Rattle.std.proofs.lemmas.List.{with_items_is}
-use Rattle.certificate.specs.declared.state_sets.StateSets.{StateSets}
-use Rattle.certificate.specs.StateSets.{IsInSet, HasMoveFrom}
-use Rattle.certificate.proofs.StateLemmas.{after_more}
+use Rattle.std.proofs.Common.{◌≡◌, Some, ap, ◌∙◌, arith}
+use Rattle.std.proofs.lemmas.Bool.Decides.{nat_tests}
+use Rattle.certificate.proofs.StateLemmas.{after_still}
 use Rattle.certificate.proofs.state_sets.StateSets.read.Goals as goal
 
-pub returns : goal.returns
-returns g c = λ letters after.
-    let l = g.L.Labels.automaton c.args.labels.now in
-    let old = c.args.self.now in
-    let new : StateSets = record { reached = c.swap.new.x; next = c.swap.new.y } in
-    let full : length c.follow.new.set ≡ old.next.len = omega (arith, old.next.ok.0) in
-    let filled : new.reached.items ≡ c.follow.new.set = ap (λ v. v.items) c.swap.ensures.x_after ∙ with_items_is old.next c.follow.new.set full in
-    let followed = rw c.deref.ensures.value at c.follow.ensures in
-    after_more l letters c.args.letter old new after (ap length filled ∙ omega (arith, after.room)) (ap (λ v. length v.items) c.swap.ensures.y_after ∙ after.size)
-    (subst (λ (s : List Bool). (r : ℕ) → IsInSet s r ↔ HasMoveFrom l l.states old.reached.items c.args.letter r) (sym filled) followed)
+pub returns-in-Some : goal.returns-in-Some
+returns-in-Some g c = λ letters after.
+    let same : c.in-Some.known ≡ c.args.letter = grind (arith, nat_tests) in
+    after_still (g.L.Labels.automaton c.args.labels.now) letters c.args.letter c.args.self.now after (c.in-Some.is ∙ ap Some same)
