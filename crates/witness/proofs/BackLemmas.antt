@@ -9,7 +9,7 @@ use Rattle.witness.specs.declared.place.Place.{Place}
 use Rattle.witness.specs.declared.workspace.Workspace.{Workspace}
 use Rattle.hierarchy.specs.Hops.{Hop, AreHops, total, nodes_along}
 use Rattle.witness.specs.Rows.{HasEdge, AreEdgeRows}
-use Rattle.witness.specs.Searching.{IsSearch, NobodyBusy, IsKnownNode, Knows, Reaches, HasParent}
+use Rattle.witness.specs.inside.Searching.{IsSearch, NobodyBusy, IsKnownNode, Knows, Reaches, HasParent}
 
 abbrev pub at_in : Option Place → ℕ
 at_in None = 0

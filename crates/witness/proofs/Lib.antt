@@ -1,3 +1,4 @@
 pub mod BackLemmas
+pub mod ListLemmas
 pub mod PlaceLemmas
 pub mod SearchLemmas

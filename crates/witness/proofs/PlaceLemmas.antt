@@ -1,25 +1,14 @@
 -- What is known after a walk was taken.
-use Rattle.std.proofs.Common.{◌≡◌, ◌≢◌, ℕ, zero, suc, ◌+◌, ◌<◌, ◌≤◌, ◌⊎◌, inl, inr, List, [], ◌∷◌, ◌∙◌, length, set, get_or, Some, true, false, refl, sym, ap, subst, arith, nat_eq, cond, Bool}
+use Rattle.std.proofs.Common.{◌≡◌, ◌≢◌, ℕ, ◌+◌, ◌<◌, ◌≤◌, ◌⊎◌, inl, inr, List, ◌∙◌, length, set, get_or, Some, true, false, refl, sym, ap, subst, arith, nat_eq, cond, Bool}
 use Rattle.std.specs.Prelude.{slice_get}
 use Rattle.std.specs.List.{sum_by}
 use Rattle.std.proofs.lemmas.Bool.{cases_eq, cases_lt, eq-eqb, eqb-true}
 use Rattle.std.proofs.lemmas.Option.{same_Some, slice_get-get_or}
 use Rattle.std.proofs.lemmas.List.Sums.{sum_by-set}
 use Rattle.witness.specs.declared.place.Place.{Place}
-use Rattle.witness.specs.Places.{Known, IsKnownWithin}
-use Rattle.witness.specs.Searching.{left_of}
-
-pub slice_get-set_same : {X : Type 0} (xs : List X) (i : ℕ) (a : X) → i < length xs → slice_get (set xs i a) i ≡ Some a
-slice_get-set_same [] i a lt = absurd (omega arith)
-slice_get-set_same (x ∷ xs) zero a lt = refl
-slice_get-set_same (x ∷ xs) (suc i) a lt = slice_get-set_same xs i a (omega arith)
-
-pub slice_get-set_other : {X : Type 0} (xs : List X) (i j : ℕ) (a : X) → j ≢ i → slice_get (set xs i a) j ≡ slice_get xs j
-slice_get-set_other [] i j a differ = refl
-slice_get-set_other (x ∷ xs) zero zero a differ = absurd (differ refl)
-slice_get-set_other (x ∷ xs) zero (suc j) a differ = refl
-slice_get-set_other (x ∷ xs) (suc i) zero a differ = refl
-slice_get-set_other (x ∷ xs) (suc i) (suc j) a differ = slice_get-set_other xs i j a (λ e. differ (ap suc e))
+use Rattle.witness.specs.inside.Places.{Known, IsKnownWithin}
+use Rattle.witness.specs.inside.Searching.{left_of}
+use Rattle.witness.proofs.ListLemmas.{slice_get-set_same, slice_get-set_other}
 
 abbrev place_of : ℕ → ℕ → ℕ → Place
 place_of at parent round = record { at = at; parent = parent; round = round }

@@ -1,5 +1,5 @@
 -- The search after a walk was offered, and what it shows at its end.
-use Rattle.std.proofs.Common.{◌≡◌, ◌≢◌, ℕ, zero, suc, ◌+◌, ◌*◌, ◌<◌, ◌≤◌, ◌⊎◌, inl, inr, List, [], ◌∷◌, ◌∙◌, length, take, get_or, refl, sym, ap, subst, arith}
+use Rattle.std.proofs.Common.{◌≡◌, ◌≢◌, ℕ, ◌+◌, ◌*◌, ◌<◌, ◌≤◌, ◌⊎◌, inl, inr, List, [], ◌∷◌, ◌∙◌, length, take, get_or, sym, ap, subst, arith}
 use Rattle.std.specs.Prelude.{All, Contains, Vec}
 use Rattle.std.specs.List.{sum_by}
 use Rattle.std.specs.BinaryHeap.{heap_items, heap_len, IsHeap}
@@ -12,20 +12,11 @@ use Rattle.std.proofs.lemmas.List.Sorted.{Contains-permutation}
 use Rattle.witness.specs.declared.edge.Edge.{Edge}
 use Rattle.witness.specs.declared.workspace.Workspace.{Workspace}
 use Rattle.hierarchy.specs.Hops.{Hop, AreHops, total}
-use Rattle.witness.specs.Rows.{HasEdge, IsEdgePut, NoWalkWithin, row_at}
-use Rattle.witness.specs.Places.{Known, IsKnownWithin}
-use Rattle.witness.specs.Searching.{IsSearch, IsFresh, NobodyBusy, IsBusy, Knows, Reaches, WaitsAt, waiting_of, waiting_cmp, TakesWalk, Leaves, IsWalkOffered, HasParent, IsRelaxed, AreLower, IsNext, IsSame, IsKnownAt, IsEdgeClosed, NobodyWaitsWithin, left_of, work}
+use Rattle.witness.specs.Rows.{HasEdge, NoWalkWithin, row_at}
+use Rattle.witness.specs.inside.Places.{Known, IsKnownWithin}
+use Rattle.witness.specs.inside.Searching.{IsSearch, IsFresh, NobodyBusy, IsBusy, Knows, Reaches, WaitsAt, waiting_of, waiting_cmp, TakesWalk, Leaves, IsWalkOffered, HasParent, IsRelaxed, AreLower, IsNext, IsSame, IsKnownAt, IsEdgeClosed, NobodyWaitsWithin, left_of, work, IsEdgePut}
+use Rattle.witness.proofs.ListLemmas.{contains_head, contains_tail, head_or_tail}
 use Rattle.witness.proofs.PlaceLemmas.{known_here, known_was, lower, less_left}
-
-pub contains_head : {X : Type 0} (x : X) (xs : List X) → Contains (x ∷ xs) x
-contains_head x xs = (zero, (omega arith), refl)
-
-pub contains_tail : {X : Type 0} (x : X) (xs : List X) (y : X) → Contains xs y → Contains (x ∷ xs) y
-contains_tail x xs y (k, lt, is) = (suc k, (omega arith), is)
-
-pub head_or_tail : {X : Type 0} (x : X) (xs : List X) (y : X) → Contains (x ∷ xs) y → (x ≡ y) ⊎ Contains xs y
-head_or_tail x xs y (zero, lt, is) = inl is
-head_or_tail x xs y (suc k, lt, is) = inr (k, (omega arith), is)
 
 module _ (rows : List (Vec Edge Global)) (limit : ℕ) (busy : ℕ → ℕ → Type 0) (old new : Workspace) (to at parent : ℕ) (there : to < length old.places.items) where
   module _ (round : new.round ≡ old.round) (takes : TakesWalk old new to at parent) where
@@ -182,39 +173,28 @@ next_less limit old new at node next =
     subst (λ r. heap_len new.waiting + 2 * sum_by (left_of r limit) new.places.items + 1 ≡ work limit old) (sym next.same.same.round)
     (subst (λ ps. heap_len new.waiting + 2 * sum_by (left_of old.round limit) ps + 1 ≡ work limit old) (sym next.same.places) (omega arith))
 
--- a pair of which nothing is known any more is passed over
-pub passed_over : (rows : List (Vec Edge Global)) (limit : ℕ) (w : Workspace) (at node : ℕ) → (IsKnownAt w node at → ⊥) → IsSearch rows limit (IsBusy node at) w → IsSearch rows limit NobodyBusy w
-passed_over rows limit w at node stale s = record {
+-- nobody is busy once the ways of who was are closed
+unbusy : (rows : List (Vec Edge Global)) (limit : ℕ) (w : Workspace) (busy : ℕ → ℕ → Type 0) → ((v d p : ℕ) → Knows w v d p → busy v d → IsRelaxed rows limit w v d) → IsSearch rows limit busy w → IsSearch rows limit NobodyBusy w
+unbusy rows limit w busy closed s = record {
   count = s.count;
   begun = s.begun;
   within = s.within;
   parents = s.parents;
   dealt = λ v d p now. elim (s.dealt v d p now) [
     | inl waits ↦ inl waits
-    | inr other ↦ elim other [
-      | inl it ↦ absurd (stale (p, subst (λ x. Knows w x at p) it.0 (subst (λ x. Knows w v x p) it.1 now)))
-      | inr closed ↦ inr (inr closed)
-    ]
+    | inr other ↦ elim other [ inl it ↦ inr (inr (closed v d p now it)) | inr before ↦ inr (inr before) ]
   ];
   ordered = s.ordered;
 }
 
+-- a pair of which nothing is known any more is passed over
+pub passed_over : (rows : List (Vec Edge Global)) (limit : ℕ) (w : Workspace) (at node : ℕ) → (IsKnownAt w node at → ⊥) → IsSearch rows limit (IsBusy node at) w → IsSearch rows limit NobodyBusy w
+passed_over rows limit w at node stale s = unbusy rows limit w (IsBusy node at) (λ v d p now it. absurd (stale (p, subst (λ x. Knows w x at p) it.0 (subst (λ x. Knows w v x p) it.1 now)))) s
+
 -- once its ways are closed, nobody is busy
 pub closed_now : (rows : List (Vec Edge Global)) (limit : ℕ) (w : Workspace) (at node : ℕ) → IsRelaxed rows limit w node at → IsSearch rows limit (IsBusy node at) w → IsSearch rows limit NobodyBusy w
-closed_now rows limit w at node closed s = record {
-  count = s.count;
-  begun = s.begun;
-  within = s.within;
-  parents = s.parents;
-  dealt = λ v d p now. elim (s.dealt v d p now) [
-    | inl waits ↦ inl waits
-    | inr other ↦ elim other [
-      | inl it ↦ inr (inr (subst (λ x. IsRelaxed rows limit w x d) (sym it.0) (subst (λ x. IsRelaxed rows limit w node x) (sym it.1) closed)))
-      | inr closed ↦ inr (inr closed)
-    ]
-  ];
-  ordered = s.ordered;
-}
+closed_now rows limit w at node closed s = unbusy rows limit w (IsBusy node at)
+    (λ v d p now it. subst (λ x. IsRelaxed rows limit w x d) (sym it.0) (subst (λ x. IsRelaxed rows limit w node x) (sym it.1) closed)) s
 
 -- the ways so far are closed, and one more
 pub closed_more : (limit : ℕ) (old new : Workspace) (at : ℕ) (edges : List Edge) (i : ℕ) (d : Edge) → i < length edges → All (IsEdgeClosed limit old at) (take i edges) → AreLower old new

@@ -1,5 +1,5 @@
 -- What is left of a layer: for each node the ways out of it.
-use Rattle.std.specs.Prelude.{◌≡◌, ℕ, ◌<◌, ◌≤◌, ◌^◌, ◌⊎◌, List, [], Option, None, Some, IfSome, length, slice_get, Contains, Vec}
+use Rattle.std.specs.Prelude.{◌≡◌, ℕ, ◌<◌, ◌≤◌, ◌^◌, List, [], Option, None, Some, IfSome, length, slice_get, Contains, Vec}
 use Rattle.std.specs.declared.alloc.Global.{Global}
 use Rattle.witness.specs.declared.edge.Edge.{Edge}
 use Rattle.hierarchy.specs.Hops.{Hop, AreHops, total, nodes_along}
@@ -40,10 +40,3 @@ IsFoundWithin rows u v limit found = IfSome found (λ nodes. IsWalkWithin rows u
 -- each walk from u to v weighs more
 abbrev pub NoWalkWithin : List (Vec Edge Global) → ℕ → ℕ → ℕ → Type 0
 NoWalkWithin rows u v limit = (hops : List Hop) → AreHops (HasEdge rows) u hops v → limit < total hops
-
--- a way from u to v was listed, in the place of those from u to v
-pub record IsEdgePut (old new : List (Vec Edge Global)) (u v weight : ℕ) : Type 0 where
-  pub count : length new ≡ length old
-  pub there : HasEdge new u v weight
-  pub kept : (a b w : ℕ) → HasEdge old a b w → HasEdge new a b w ⊎ ((a ≡ u) × (b ≡ v))
-  pub made : (a b w : ℕ) → HasEdge new a b w → HasEdge old a b w ⊎ ((a ≡ u) × (b ≡ v) × (w ≡ weight))

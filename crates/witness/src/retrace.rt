@@ -2,7 +2,7 @@
 
 ghost use Rattle.std.specs.Prelude.{◌<◌, ◌≤◌, ◌^◌, length, IfOk};
 ghost use Rattle.witness.specs.Rows.{AreEdgeRows, IsWalkWithin};
-ghost use Rattle.witness.specs.Searching.{IsSearch, Reaches, NobodyBusy};
+ghost use Rattle.witness.specs.inside.Searching.{IsSearch, Reaches, NobodyBusy};
 
 use crate::edge::Edge;
 use crate::workspace::Workspace;

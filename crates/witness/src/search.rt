@@ -2,8 +2,8 @@
 
 ghost use Rattle.std.specs.Prelude.{◌≡◌, ◌<◌, ◌≤◌, ◌^◌, length, Contains, IfOk, IfNone, OnOk};
 ghost use Rattle.witness.specs.Rows.{AreEdgeRows, IsFoundWithin, NoWalkWithin, row_at};
-ghost use Rattle.witness.specs.Searching.{IsSearch, IsSameRound, IsBusy, NobodyBusy, Reaches};
-ghost use Rattle.witness.specs.Searching.{IsNoMoreWork, IsEdgeClosed, AreLower};
+ghost use Rattle.witness.specs.inside.Searching.{IsSearch, IsSameRound, IsBusy, NobodyBusy, Reaches};
+ghost use Rattle.witness.specs.inside.Searching.{IsNoMoreWork, IsEdgeClosed, AreLower};
 
 use crate::edge::Edge;
 use crate::retrace::retrace;

@@ -2,7 +2,7 @@
 
 ghost use Rattle.std.specs.Prelude.{◌≡◌, ◌<◌, ◌≤◌, ◌↔◌, OnOk, IfSome, IfNone, IsTrue, length};
 ghost use Rattle.std.specs.BinaryHeap.{IsHeap, heap_items};
-ghost use Rattle.witness.specs.Places.{ArePast};
+ghost use Rattle.witness.specs.inside.Places.{ArePast};
 
 use crate::place::Place;
 use std::alloc::{AllocError, Global};
@@ -25,8 +25,8 @@ pub struct Workspace {
 }
 
 impl Workspace {
-    ghost use Rattle.witness.specs.Searching.{IsFresh, IsWalkOffered, IsNext, NobodyWaitsWithin};
-    ghost use Rattle.witness.specs.Searching.{Reaches, IsKnownAt, waiting_cmp};
+    ghost use Rattle.witness.specs.inside.Searching.{IsFresh, IsWalkOffered, IsNext, NobodyWaitsWithin};
+    ghost use Rattle.witness.specs.inside.Searching.{Reaches, IsKnownAt, waiting_cmp};
 
     /// Tables without room; the first search makes it.
     pub fn new(alloc: Global) -> Workspace {

@@ -2,7 +2,7 @@ use Rattle.std.proofs.Common.{◌≤◌, ◌∙◌, ap, get_or, refl, subst, sym
 use Rattle.std.proofs.lemmas.Option.{slice_get_read}
 use Rattle.witness.specs.declared.edge.Edge.{Edge}
 use Rattle.witness.specs.Rows.{items_of}
-use Rattle.witness.specs.Searching.{IsSearch, IsBusy, IsEdgeClosed, work}
+use Rattle.witness.specs.inside.Searching.{IsSearch, IsBusy, IsEdgeClosed, work}
 use Rattle.witness.proofs.SearchLemmas.{closed_more, all_closed, closed_now}
 use Rattle.witness.proofs.search.relax.Goals as goal
 

@@ -1,6 +1,6 @@
 use Rattle.std.proofs.Common.{◌≤◌, take}
 use Rattle.std.specs.Prelude.{All}
-use Rattle.witness.specs.Searching.{IsSearch, IsSameRound, IsBusy, Reaches, IsEdgeClosed, work}
+use Rattle.witness.specs.inside.Searching.{IsSearch, IsSameRound, IsBusy, Reaches, IsEdgeClosed, work}
 use Rattle.witness.proofs.search.relax.Given as goal
 
 abbrev pub invariant-edges : goal.invariant-edges

@@ -1,7 +1,7 @@
 use Rattle.std.proofs.Common.{◌∙◌, sym, subst}
 use Rattle.std.proofs.lemmas.Bool.{false≢true}
 use Rattle.witness.specs.Rows.{NoWalkWithin}
-use Rattle.witness.specs.Searching.{IsSearch, IsBusy}
+use Rattle.witness.specs.inside.Searching.{IsSearch, IsBusy}
 use Rattle.witness.proofs.SearchLemmas.{next_search, passed_over, none_found}
 use Rattle.witness.proofs.search.walk_to.Goals as goal
 

@@ -9,7 +9,7 @@ use Rattle.std.specs.declared.alloc.Global.{Global}
 use Rattle.witness.specs.declared.edge.Edge.{Edge}
 use Rattle.witness.specs.declared.place.Place.{Place}
 use Rattle.witness.specs.declared.workspace.Workspace.{Workspace}
-use Rattle.witness.specs.Places.{Known, IsKnownWithin}
+use Rattle.witness.specs.inside.Places.{Known, IsKnownWithin}
 use Rattle.witness.specs.Rows.{HasEdge}
 
 abbrev pub waiting_of : ℕ → ℕ → Reverse (ℕ × ℕ)
@@ -127,3 +127,10 @@ pub record IsNext (old new : Workspace) (at v : ℕ) : Type 0 where
   pub waiting : IsPermutation (heap_items old.waiting) (waiting_of at v ∷ heap_items new.waiting)
   pub ordered : KeepsHeap waiting_cmp (heap_items old.waiting) (heap_items new.waiting)
   pub one_less : heap_len new.waiting + 1 ≡ heap_len old.waiting
+
+-- a way from u to v was listed, in the place of those from u to v
+pub record IsEdgePut (old new : List (Vec Edge Global)) (u v weight : ℕ) : Type 0 where
+  pub count : length new ≡ length old
+  pub there : HasEdge new u v weight
+  pub kept : (a b w : ℕ) → HasEdge old a b w → HasEdge new a b w ⊎ ((a ≡ u) × (b ≡ v))
+  pub made : (a b w : ℕ) → HasEdge new a b w → HasEdge old a b w ⊎ ((a ≡ u) × (b ≡ v) × (w ≡ weight))
