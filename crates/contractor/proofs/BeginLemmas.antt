@@ -2,7 +2,7 @@
 use Rattle.std.proofs.Common.{◌≡◌, ℕ, ◌+◌, ◌<◌, ◌≤◌, ◌^◌, inl, inr, true, not, nat_eq, List, [], ◌∙◌, length, take, get_or, Some, None, refl, sym, ap, subst, arith}
 use Rattle.std.specs.Prelude.{Option, All, AllPairs, Contains, Vec, slice_get}
 use Rattle.std.specs.declared.alloc.Global.{Global}
-use Rattle.std.proofs.lemmas.Bool.{and_parts, eqb-true, eqb-false, not-true}
+use Rattle.std.proofs.lemmas.Bool.{and_parts, eqb-false, not-true}
 use Rattle.std.proofs.lemmas.Bool.Decides.{nat_tests}
 use Rattle.std.proofs.lemmas.List.{length-take, get_or-take, take_all}
 use Rattle.std.proofs.lemmas.List.Elements.{All-contains, Contains-get_or, All-more}
@@ -19,8 +19,8 @@ use Rattle.hierarchy.specs.Soundness.{HasEntry, FitsLayer, HoldsBelow, MayStandA
 use Rattle.witness.specs.declared.edge.Edge.{Edge}
 use Rattle.witness.specs.Rows.{row_at, items_of}
 use Rattle.contractor.specs.declared.layer.Layer.{Layer}
-use Rattle.contractor.specs.Partway.{IsPut, HaveOtherEnds}
-use Rattle.contractor.specs.Layers.{IsLayer, IsState, AreArcs, AreEmptyRows, AreEmptyLists, IsEntryPlaced, FitsRows, AreWalks, into_at, nodes_in, lists_of}
+use Rattle.contractor.specs.inside.Partway.{IsPut, HaveOtherEnds}
+use Rattle.contractor.specs.inside.Layers.{IsLayer, IsState, AreArcs, AreEmptyLists, IsEntryPlaced, FitsRows, AreWalks, into_at, nodes_in, lists_of}
 use Rattle.contractor.proofs.ListLemmas.{none_in, contains_place}
 use Rattle.contractor.proofs.PutLemmas.{put_is, put_layer}
 use Rattle.contractor.proofs.SimpleLemmas.{road}
@@ -46,7 +46,7 @@ arc_fits n arc joins w via light = by_modes (mode_at n.roads arc.from) (mode_at 
     by_modes (Some a) None from to same = cc
     by_modes None b from to same = cc
 
-empty_row : (nodes : ℕ) (rows : List (Vec Edge Global)) → AreEmptyRows nodes rows → (u : ℕ) → row_at rows u ≡ []
+empty_row : (nodes : ℕ) (rows : List (Vec Edge Global)) → AreEmptyLists nodes rows → (u : ℕ) → row_at rows u ≡ []
 empty_row nodes rows are u = by_get (slice_get rows u) refl where
   by_get : (o : Option (Vec Edge Global)) → slice_get rows u ≡ o → items_of o ≡ []
   by_get None at = refl
@@ -59,15 +59,15 @@ empty_list nodes lists are u = by_get (slice_get lists u) refl where
   by_get (Some list) at = All-contains (λ (r : Vec ℕ Global). r.items ≡ []) lists list are.empty (contains_place lists u list at)
 
 -- nothing is entered yet
-pub no_arcs : (n : NetworkLists) (layer : Layer) → IsNetwork n → layer.order.items ≡ [] → layer.entries.items ≡ [] → layer.walks.items ≡ [] → AreEmptyRows (length (network_nodes n)) layer.rows.items → AreEmptyLists (length (network_nodes n)) layer.into.items
+pub no_arcs : (n : NetworkLists) (layer : Layer) → IsNetwork n → layer.order.items ≡ [] → layer.entries.items ≡ [] → layer.walks.items ≡ [] → AreEmptyLists (length (network_nodes n)) layer.rows.items → AreEmptyLists (length (network_nodes n)) layer.into.items
     → AreArcs n 0 layer
 no_arcs n layer network order entries walks rows lists = record {
   order = order;
   walks = walks;
-  count = rows.count;
+  count = rows.count_is;
   layer = record {
-    few = (let few = network.few_nodes in omega (arith, rows.count));
-    count = lists.count ∙ sym rows.count;
+    few = (let few = network.few_nodes in omega (arith, rows.count_is));
+    count = lists.count_is ∙ sym rows.count_is;
     fit = subst (λ es. All (FitsRows (length layer.rows.items)) es) (sym entries) (λ k d low. absurd (omega arith));
     apart = subst (λ es. AllPairs HaveOtherEnds es) (sym entries) (λ i j d lt low. absurd (omega arith));
     listed = λ u edge there. absurd (none_in edge (subst (λ es. Contains es edge) (empty_row (length (network_nodes n)) layer.rows.items rows u) there));

@@ -11,24 +11,24 @@ use Rattle.mode_network.specs.Rules.{IsNetwork}
 use Rattle.hierarchy.specs.declared.entry.Entry.{Entry}
 use Rattle.hierarchy.specs.Hops.{Hop, AreHops, total, nodes_along}
 use Rattle.hierarchy.specs.Lists.{HierarchyLists, WitnessLists, IsCore, IsContracted, first_of, last_of}
-use Rattle.hierarchy.specs.Soundness.{HasEntry, IsSound, IsFree}
+use Rattle.hierarchy.specs.Soundness.{HasEntry, HasLighter, IsSound, IsFree}
 use Rattle.hierarchy.proofs.HopLemmas.{hops_weaker}
 use Rattle.hierarchy.proofs.SoundLemmas.{fits}
 use Rattle.hierarchy.proofs.ContractionLemmas.{height_kept, height_next}
 use Rattle.witness.specs.declared.edge.Edge.{Edge}
 use Rattle.witness.specs.declared.workspace.Workspace.{Workspace}
 use Rattle.witness.specs.Rows.{row_at, HasEdge, AreEdgeRows, IsWalkWithin, NoWalkWithin}
-use Rattle.witness.specs.Searching.{IsSearch, NobodyBusy}
+use Rattle.witness.specs.inside.Searching.{IsSearch, NobodyBusy}
 use Rattle.contractor.specs.declared.way.Way.{Way}
 use Rattle.contractor.specs.declared.way.Walk.{Walk}
 use Rattle.contractor.specs.declared.layer.Layer.{Layer}
-use Rattle.contractor.specs.Partway.{IsGood, IsLive, IsWayPast, AreWays, IsPartway, IsPut, shortcut_of, HaveOtherEnds, HaveOtherWays, IsTrueWeight}
-use Rattle.contractor.specs.Layers.{IsLayer, StandsForEntry, FitsRows, CanPut, lists_of, lists_with, witness_of, HaveOtherKeys, IsWitnessWalk, IsForWay, AreWalks, IsState, IsBridging, IsEndOf, IsSearchFor, IsInRows, AreFirst, AreSecond, AreWaysOf, into_at}
+use Rattle.contractor.specs.inside.Partway.{IsGood, IsLive, IsWayPast, AreWays, IsPartway, IsPut, shortcut_of, HaveOtherEnds, HaveOtherWays, IsTrueWeight}
+use Rattle.contractor.specs.inside.Layers.{IsLayer, StandsForEntry, FitsRows, CanPut, lists_of, lists_with, witness_of, HaveOtherKeys, IsWitnessWalk, IsForWay, AreWalks, IsState, IsBridging, IsEndOf, IsSearchFor, HasWithin, IsInRows, AreFirst, AreSecond, AreWaysOf, into_at}
 use Rattle.contractor.specs.declared.way.Side.{Side}
 use Rattle.contractor.proofs.WayLemmas.{are_ways}
 use Rattle.contractor.proofs.ListLemmas.{place_of, contains_place}
 use Rattle.contractor.proofs.LiveLemmas.{core_more}
-use Rattle.contractor.proofs.StepLemmas.{light, by_lighter, by_shortcut, by_witness, partway_begins, partway_ends}
+use Rattle.contractor.proofs.StepLemmas.{light, by_shortcut, by_witness, partway_begins, partway_ends}
 
 -- ---- rows and entries
 
@@ -64,6 +64,9 @@ module _ (order : List ℕ) (layer : Layer) (is : IsLayer order layer) where
           core_from = subst (λ o. IsCore o u) (sym order_is) (subst (IsCore order) l.from l.core_from);
           core_to = subst (λ o. IsCore o v) (sym order_is) (subst (IsCore order) to l.core_to);
         }
+
+    pub lighter_entry : (u v most : ℕ) → HasWithin (row_at layer.rows.items u) v most → HasLighter layer.entries.items u v most
+    lighter_entry u v most (number, weight, there, le) = (weight, subst (λ es. HasEntry es u v weight) entries_are (edge_live u v weight (number, there)).entry, le)
 
     live_edge : (u v w : ℕ) → IsLive h u v w → HasEdge layer.rows.items u v w
     live_edge u v w live =
@@ -200,20 +203,6 @@ module _ (n : NetworkLists) (x : ℕ) (ways : List Way) (k : ℕ) (old : Layer) 
   pub left_to : IsCore (old.order.items ++ x ∷ []) way.to
   left_to = subst (λ o. IsCore (o ++ x ∷ []) way.to) (sym state.order) (core_more h.order x way.to to_is here.core_to)
 
-  pub lighter_more : (weight : ℕ) → HasEdge old.rows.items way.from way.to weight → weight ≤ way.sum → IsBridging n x ways (k + 1) old
-  lighter_more weight edge le = record {
-    before = h;
-    good = state.good;
-    fit = state.fit;
-    core = state.core;
-    are = state.are;
-    order = state.order;
-    partway = by_lighter n h x ways k (lists_with x old) network state.good.sound state.core state.are state.partway way lt is
-        (weight, (edge_live (old.order.items ++ x ∷ []) old state.layer (lists_with x old) refl refl way.from way.to weight edge).entry, le);
-    layer = state.layer;
-    walks = walks_stay old.order.items x ways k old.walks.items (subst (λ o. IsCore o x) (sym state.order) state.core) state.walks;
-  }
-
   module _ (none : NoWalkWithin old.rows.items way.from way.to way.sum) where
     no_live : (hops : List Hop) → AreHops (IsLive (lists_with x old)) way.from hops way.to → way.sum < total hops
     no_live = none_live (old.order.items ++ x ∷ []) old state.layer (lists_with x old) refl refl way.from way.to way.sum none
@@ -336,26 +325,32 @@ contracted n x ways layer new free state order entries walks rows into = record 
 
 -- ---- after a node was cut out
 
-module _ (n : NetworkLists) (old new : Layer) (x : ℕ) (state : IsState n old) (order : new.order.items ≡ old.order.items) (entries : new.entries.items ≡ old.entries.items) (walks : new.walks.items ≡ old.walks.items) where
-  pub sides_light : (sides : List Side) (order : List ℕ) → AreFirst order old.entries.items x sides → All (λ (s : Side). s.weight < 2 ^ 56) sides
-  sides_light sides order are k d low =
-      let s = get_or sides k d in
-      let has = (are.each s (Contains-get_or sides k d low)).0 in
-      (All-contains (FitsRows (length old.rows.items)) old.entries.items (record { from = s.node; to = x; weight = s.weight; via = has.0 }) state.layer.fit has.1).light
+module _ (n : NetworkLists) (old new : Layer) (x : ℕ) (state : IsState n old) (order : new.order.items ≡ old.order.items) (entries : new.entries.items ≡ old.entries.items) (walks : new.walks.items ≡ old.walks.items)
+    (layer : IsLayer (old.order.items ++ x ∷ []) new) where
+  fits_now : (u v w : ℕ) (has : HasEntry old.entries.items u v w) → FitsRows (length new.rows.items) (record { from = u; to = v; weight = w; via = has.0 })
+  fits_now u v w has = fits_entry (old.order.items ++ x ∷ []) new layer (record { from = u; to = v; weight = w; via = has.0 }) (subst (λ es. Contains es (record { from = u; to = v; weight = w; via = has.0 })) (sym entries) has.1)
 
-  pub edges_light : (edges : List Edge) (order : List ℕ) → AreSecond order old.entries.items x edges → All (λ (e : Edge). e.weight < 2 ^ 56) edges
-  edges_light edges order are k d low =
-      let e = get_or edges k d in
-      let has = (are.each e (Contains-get_or edges k d low)).0 in
-      (All-contains (FitsRows (length old.rows.items)) old.entries.items (record { from = x; to = e.to; weight = e.weight; via = has.0 }) state.layer.fit has.1).light
+  module _ (sides : List Side) (before : AreFirst old.order.items old.entries.items x sides) where
+    side_fits : (k : ℕ) (d : Side) (low : k < length sides) → FitsRows (length new.rows.items) (record { from = (get_or sides k d).node; to = x; weight = (get_or sides k d).weight; via = (before.each (get_or sides k d) (Contains-get_or sides k d low)).0.0 })
+    side_fits k d low = let s = get_or sides k d in fits_now s.node x s.weight (before.each s (Contains-get_or sides k d low)).0
 
-  pub ways_now : (first : List Side) (second : List Edge) (ways : List Way) → AreFirst old.order.items old.entries.items x first → AreSecond old.order.items old.entries.items x second → AreWaysOf first second ways → AreWays (lists_of new) x ways
-  ways_now first second ways before after are = are_ways (lists_of new) x first second ways (subst (λ es. AllPairs HaveOtherEnds es) (sym entries) state.layer.apart)
+    pub sides_inside : All (λ (s : Side). s.node < length new.rows.items) sides
+    sides_inside k d low = (side_fits k d low).from
+
+    pub sides_light : All (λ (s : Side). s.weight < 2 ^ 56) sides
+    sides_light k d low = (side_fits k d low).light
+
+  pub edges_light : (edges : List Edge) → AreSecond old.order.items old.entries.items x edges → All (λ (e : Edge). e.weight < 2 ^ 56) edges
+  edges_light edges are k d low = let e = get_or edges k d in (fits_now x e.to e.weight (are.each e (Contains-get_or edges k d low)).0).light
+
+  pub ways_now : (first : List Side) (second : List Edge) (ways : List Way) → AreFirst old.order.items old.entries.items x first → AreSecond old.order.items old.entries.items x second → AreWaysOf new.rows.items first second ways → AreWays (lists_of new) x ways
+  ways_now first second ways before after are = are_ways (lists_of new) x new.rows.items first second ways layer.apart
+      (lighter_entry (old.order.items ++ x ∷ []) new layer (record { order = old.order.items ++ x ∷ []; entries = new.entries.items; witnesses = [] }) refl refl)
       (subst (λ o. AreFirst o new.entries.items x first) (sym order) (subst (λ es. AreFirst old.order.items es x first) (sym entries) before))
       (subst (λ o. AreSecond o new.entries.items x second) (sym order) (subst (λ es. AreSecond old.order.items es x second) (sym entries) after)) are
 
-  pub bridging_now : (ways : List Way) → IsCore old.order.items x → AreWays (lists_of new) x ways → IsLayer (old.order.items ++ x ∷ []) new → IsBridging n x ways 0 new
-  bridging_now ways core are layer = bridging_begins n (lists_of new) x ways new good refl (subst (λ o. IsCore o x) (sym order) core) are (subst (λ o. IsLayer (o ++ x ∷ []) new) (sym order) layer)
+  pub bridging_now : (ways : List Way) → IsCore old.order.items x → AreWays (lists_of new) x ways → IsBridging n x ways 0 new
+  bridging_now ways core are = bridging_begins n (lists_of new) x ways new good refl (subst (λ o. IsCore o x) (sym order) core) are (subst (λ o. IsLayer (o ++ x ∷ []) new) (sym order) layer)
       (subst (λ o. AreWalks o 0 [] 0 new.walks.items) (sym order) (subst (λ ws. AreWalks old.order.items 0 [] 0 ws) (sym walks) state.walks)) where
         good : IsGood n (lists_of new)
         good = subst (λ o. IsGood n (record { order = o; entries = new.entries.items; witnesses = map witness_of new.walks.items })) (sym order)

@@ -12,8 +12,8 @@ use Rattle.witness.specs.declared.edge.Edge.{Edge}
 use Rattle.witness.specs.Rows.{row_at}
 use Rattle.contractor.specs.declared.way.Side.{Side}
 use Rattle.contractor.specs.declared.layer.Layer.{Layer}
-use Rattle.contractor.specs.Layers.{IsLayer, IsCut, IsLessInto, AreSides, AreSidesOf, AreFirst, AreSecond, IsRowTaken, AreNodesTaken, FitsRows, into_at, side_of, edge_of}
-use Rattle.contractor.specs.Partway.{HaveOtherEnds}
+use Rattle.contractor.specs.inside.Layers.{IsLayer, IsCut, IsLessInto, AreSides, AreSidesOf, AreFirst, AreSecond, IsRowTaken, AreNodesTaken, FitsRows, into_at, side_of, edge_of}
+use Rattle.contractor.specs.inside.Partway.{HaveOtherEnds}
 use Rattle.contractor.proofs.ListLemmas.{filter_keeps, filter_was, take_more_cases, none_in, place_of, contains_place}
 use Rattle.contractor.proofs.RowLemmas.{row_set, row_kept, into_set, into_kept}
 use Rattle.contractor.proofs.LiveLemmas.{core_more, core_less}

@@ -24,8 +24,8 @@ use Rattle.hierarchy.proofs.HopLemmas.{hops_weaker}
 use Rattle.hierarchy.proofs.SoundLemmas.{contracted_free}
 use Rattle.contractor.specs.declared.way.Walk.{Walk}
 use Rattle.contractor.specs.declared.layer.Layer.{Layer}
-use Rattle.contractor.specs.Partway.{HaveOtherEnds, IsTrueWeight}
-use Rattle.contractor.specs.Layers.{IsState, lists_of, witness_of, HaveOtherKeys, IsWitnessWalk, IsForWay, walk_cmp, AreInOrder, IsFinished}
+use Rattle.contractor.specs.inside.Partway.{HaveOtherEnds, IsTrueWeight}
+use Rattle.contractor.specs.inside.Layers.{IsState, lists_of, witness_of, HaveOtherKeys, IsWitnessWalk, IsForWay, walk_cmp, AreInOrder, IsFinished}
 
 -- ---- soundness is of the elements, not of their order
 

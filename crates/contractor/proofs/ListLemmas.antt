@@ -1,20 +1,11 @@
 -- Filters and what is contained.
-use Rattle.std.proofs.Common.{◌≡◌, ◌≢◌, ℕ, zero, suc, ◌+◌, ◌<◌, ◌⊎◌, inl, inr, Bool, true, false, cond, List, [], ◌∷◌, ◌++◌, ◌∙◌, length, take, get_or, set, Some, refl, sym, ap, subst, arith}
+use Rattle.std.proofs.Common.{◌≡◌, ◌≢◌, ℕ, ◌+◌, ◌<◌, ◌⊎◌, inl, inr, Bool, true, false, cond, List, [], ◌∷◌, ◌++◌, ◌∙◌, length, take, get_or, set, Some, refl, sym, ap, subst, arith}
 use Rattle.std.specs.Prelude.{Contains, filter, slice_get}
 use Rattle.std.proofs.lemmas.Bool.{false≢true, cases_eq}
 use Rattle.std.proofs.lemmas.Option.{slice_get-get_or, get_or_from_slice_get, slice_get_within, same_Some}
 use Rattle.std.proofs.lemmas.List.{take_more, length_push, get_or_append_left, get_or_push}
 use Rattle.std.proofs.lemmas.List.Elements.{Contains-push_cases}
-
-pub contains_head : {X : Type 0} (x : X) (xs : List X) → Contains (x ∷ xs) x
-contains_head x xs = (zero, (omega arith), refl)
-
-pub contains_tail : {X : Type 0} (x : X) (xs : List X) (y : X) → Contains xs y → Contains (x ∷ xs) y
-contains_tail x xs y (k, lt, is) = (suc k, (omega arith), is)
-
-pub head_or_tail : {X : Type 0} (x : X) (xs : List X) (y : X) → Contains (x ∷ xs) y → (x ≡ y) ⊎ Contains xs y
-head_or_tail x xs y (zero, lt, is) = inl is
-head_or_tail x xs y (suc k, lt, is) = inr (k, (omega arith), is)
+use Rattle.witness.proofs.ListLemmas.{contains_head, contains_tail, head_or_tail, slice_get-set_same, slice_get-set_other}
 
 pub none_in : {X : Type 0} (x : X) → Contains [] x → ⊥
 none_in x (k, lt, is) = omega arith
@@ -43,18 +34,6 @@ pub take_more_cases : {X : Type 0} (xs : List X) (i : ℕ) (d y : X) → i < len
 take_more_cases xs i d y lt there = Contains-push_cases (take i xs) (get_or xs i d) y (subst (λ ys. Contains ys y) (take_more xs i d lt) there)
 
 -- ---- places
-
-pub slice_get-set_same : {X : Type 0} (xs : List X) (i : ℕ) (a : X) → i < length xs → slice_get (set xs i a) i ≡ Some a
-slice_get-set_same [] i a lt = absurd (omega arith)
-slice_get-set_same (x ∷ xs) zero a lt = refl
-slice_get-set_same (x ∷ xs) (suc i) a lt = slice_get-set_same xs i a (omega arith)
-
-pub slice_get-set_other : {X : Type 0} (xs : List X) (i j : ℕ) (a : X) → j ≢ i → slice_get (set xs i a) j ≡ slice_get xs j
-slice_get-set_other [] i j a differ = refl
-slice_get-set_other (x ∷ xs) zero zero a differ = absurd (differ refl)
-slice_get-set_other (x ∷ xs) zero (suc j) a differ = refl
-slice_get-set_other (x ∷ xs) (suc i) zero a differ = refl
-slice_get-set_other (x ∷ xs) (suc i) (suc j) a differ = slice_get-set_other xs i j a (λ e. differ (ap suc e))
 
 pub place_of : {X : Type 0} (xs : List X) (x : X) → Contains xs x → (k : ℕ) × (slice_get xs k ≡ Some x)
 place_of xs x (k, lt, is) = (k, slice_get-get_or xs k x lt ∙ ap Some is)

@@ -9,7 +9,7 @@ use Rattle.hierarchy.specs.Lists.{HierarchyLists, height_in, IsCore, IsContracte
 use Rattle.hierarchy.specs.Soundness.{HasEntry, HasLighter, IsBridged}
 use Rattle.hierarchy.proofs.HeightLemmas.{height_most}
 use Rattle.hierarchy.proofs.ContractionLemmas.{height_kept, height_next, height_other}
-use Rattle.contractor.specs.Partway.{IsLive}
+use Rattle.contractor.specs.inside.Partway.{IsLive}
 
 -- a core node is contracted next: the others stay core
 pub core_more : (order : List ℕ) (x v : ℕ) → v ≢ x → IsCore order v → IsCore (order ++ x ∷ []) v

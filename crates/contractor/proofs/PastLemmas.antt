@@ -9,7 +9,7 @@ use Rattle.hierarchy.specs.Soundness.{HasEntry, HasLighter, IsSound}
 use Rattle.hierarchy.proofs.HopLemmas.{hops_then, total-append}
 use Rattle.hierarchy.proofs.SoundLemmas.{fits}
 use Rattle.hierarchy.proofs.DistanceLemmas.{core_walk}
-use Rattle.contractor.specs.Partway.{IsLive}
+use Rattle.contractor.specs.inside.Partway.{IsLive}
 use Rattle.contractor.proofs.LiveLemmas.{HasLiveWalk, core_more}
 
 module _ (n : NetworkLists) (h : HierarchyLists) (x : ℕ) (h2 : HierarchyLists) (sound : IsSound n h) (order : h2.order ≡ h.order ++ x ∷ []) (lighter : (u v w : ℕ) → HasEntry h.entries u v w → HasLighter h2.entries u v w) where

@@ -8,11 +8,13 @@ use Rattle.std.proofs.lemmas.Option.{slice_get-get_or, slice_get_within, get_or_
 use Rattle.hierarchy.specs.declared.entry.Entry.{Entry}
 use Rattle.hierarchy.specs.Lists.{IsCore}
 use Rattle.witness.specs.declared.edge.Edge.{Edge}
-use Rattle.witness.specs.Rows.{IsEdgePut, row_at}
+use Rattle.witness.specs.Rows.{row_at}
+use Rattle.witness.specs.inside.Searching.{IsEdgePut}
 use Rattle.contractor.specs.declared.layer.Layer.{Layer}
-use Rattle.contractor.specs.Partway.{IsPut, HaveOtherEnds}
-use Rattle.contractor.specs.Layers.{IsLayer, StandsForEntry, IsInRows, FitsRows, IsReplaced, IsAdded, IsEntered, IsEdgeListed, IsPlaceable, into_at, edge_of}
-use Rattle.contractor.proofs.ListLemmas.{filter_keeps, filter_was, place_of, contains_place, slice_get-set_same, slice_get-set_other, slice_get_push_left, slice_get_push_last, slice_get_push_cases, slice_get_set_cases}
+use Rattle.contractor.specs.inside.Partway.{IsPut, HaveOtherEnds}
+use Rattle.contractor.specs.inside.Layers.{IsLayer, StandsForEntry, IsInRows, FitsRows, IsReplaced, IsAdded, IsEntered, IsEdgeListed, IsPlaceable, into_at, edge_of}
+use Rattle.witness.proofs.ListLemmas.{slice_get-set_same, slice_get-set_other}
+use Rattle.contractor.proofs.ListLemmas.{filter_keeps, filter_was, place_of, contains_place, slice_get_push_left, slice_get_push_last, slice_get_push_cases, slice_get_set_cases}
 
 -- whether it took another's place or was added: what stands where
 record Entered (e : Entry) (number : ℕ) (old new : List Entry) (old_into new_into : List (Vec ℕ Global)) : Type 0 where

@@ -5,8 +5,8 @@ use Rattle.std.specs.declared.alloc.Global.{Global}
 use Rattle.std.proofs.lemmas.Option.{slice_get_read}
 use Rattle.witness.specs.declared.edge.Edge.{Edge}
 use Rattle.witness.specs.Rows.{row_at, items_of}
-use Rattle.contractor.specs.Layers.{into_at, nodes_in}
-use Rattle.contractor.proofs.ListLemmas.{slice_get-set_same, slice_get-set_other}
+use Rattle.contractor.specs.inside.Layers.{into_at, nodes_in}
+use Rattle.witness.proofs.ListLemmas.{slice_get-set_same, slice_get-set_other}
 
 pub row_read : (rows : List (Vec Edge Global)) (u : ℕ) (row : Vec Edge Global) → u < length rows → row ≡ get_or rows u row → row_at rows u ≡ row.items
 row_read rows u row lt is = ap items_of (slice_get_read rows (length rows) u row refl lt is)

@@ -14,10 +14,17 @@ use Rattle.hierarchy.proofs.SoundLemmas.{fits}
 use Rattle.hierarchy.proofs.DistanceLemmas.{roads_of}
 use Rattle.hierarchy.proofs.ContractionLemmas.{contractions_keep_soundness}
 use Rattle.contractor.specs.declared.way.Way.{Way}
-use Rattle.contractor.specs.Partway.{IsTrueWeight, IsLive, IsWayPast, IsNoHeavier, AreWays, IsPartway, IsPut, shortcut_of}
+use Rattle.contractor.specs.inside.Partway.{IsTrueWeight, IsLive, IsWayPast, IsNoHeavier, AreWays, IsPartway, IsPut, shortcut_of}
 use Rattle.contractor.proofs.LiveLemmas.{HasLiveWalk, core_more, core_is_high, live_walk, bridge_kept}
 use Rattle.contractor.proofs.PastLemmas.{true_sum}
 use Rattle.contractor.proofs.SimpleLemmas.{road, least_is_light}
+
+-- a way that stands before place k is bridged, and one beside which there was an entry as light
+way_bridged : (n : NetworkLists) (h : HierarchyLists) (x : ℕ) (ways : List Way) (k : ℕ) (h2 : HierarchyLists) → IsPartway n h x ways k h2 → (u v a b : ℕ)
+    → ((i : ℕ) → i < length ways → get_or ways i (record { first = a; from = u; sum = a + b; to = v }) ≡ record { first = a; from = u; sum = a + b; to = v } → i < k)
+    → Contains ways (record { first = a; from = u; sum = a + b; to = v }) ⊎ HasLighter h.entries u v (a + b) → IsBridged h2 x u v (a + b)
+way_bridged n h x ways k h2 part u v a b before (inl (i, low, at)) = subst (λ (y : Way). IsBridged h2 x y.from y.to y.sum) at (part.bridged i (record { first = a; from = u; sum = a + b; to = v }) (before i low at))
+way_bridged n h x ways k h2 part u v a b before (inr (weight, has, le)) = let l = part.lighter u v weight has in inl (l.0, l.1, (let less = l.2 in omega arith))
 
 module _ (n : NetworkLists) (h : HierarchyLists) (x : ℕ) (ways : List Way) (k : ℕ) (h2 : HierarchyLists) (network : IsNetwork n) (sound : IsSound n h) (core : IsCore h.order x) (are : AreWays h x ways)
     (part : IsPartway n h x ways k h2) (way : Way) (lt : k < length ways) (is : (d : Way) → get_or ways k d ≡ way) where
@@ -46,38 +53,23 @@ module _ (n : NetworkLists) (h : HierarchyLists) (x : ℕ) (ways : List Way) (k 
   -- ways that stand before are bridged
   past : (u v a b : ℕ) → IsCore h.order u → IsCore h.order v → HasEntry h.entries u x a → HasEntry h.entries x v b → u ≢ v → (a < way.first) ⊎ ((u ≡ way.from) × (a + b < way.sum)) → HasLiveWalk h2 u v (a + b)
   past u v a b core_u core_v first second differ earlier =
-      let w : Way = record { first = a; from = u; sum = a + b; to = v } in
-      let there = are.all u v a b core_u core_v first second differ in
-      let i = there.0 in
-      let before : i < k = elim (cases_order i k) [
-        | inl same ↦ absurd (not_later w (subst (λ (y : Way). IsNoHeavier y w) (sym there.2 ∙ ap (λ j. get_or ways j w) same ∙ is w) (itself w)) earlier)
-        | inr other ↦ elim other [
-          | inl lower ↦ lower
-          | inr higher ↦ absurd (not_later w (subst (λ (y : Way). IsNoHeavier y w) (is w) (subst (λ (y : Way). IsNoHeavier (get_or ways k w) y) there.2 (are.rising k i w higher there.1))) earlier)
-        ]
-      ] in
       let u_is : u ≢ x = λ same. (fits n h sound u x a first).differ same in
       let v_is : v ≢ x = λ same. (fits n h sound x v b second).differ (sym same) in
       live_walk h2 h.order x part.order core u v (a + b)
       (subst (λ o. IsCore o u) (sym part.order) (core_more h.order x u u_is core_u)) (subst (λ o. IsCore o v) (sym part.order) (core_more h.order x v v_is core_v))
-      (subst (λ (y : Way). IsBridged h2 x y.from y.to y.sum) there.2 (part.bridged i w before))
+      (way_bridged n h x ways k h2 part u v a b before (are.all u v a b core_u core_v first second differ))
+    where
+      w : Way
+      w = record { first = a; from = u; sum = a + b; to = v }
 
-  -- an entry that is there is no heavier
-  pub by_lighter : HasLighter h2.entries way.from way.to way.sum → IsPartway n h x ways (k + 1) h2
-  by_lighter there = record {
-    order = part.order;
-    kept = part.kept;
-    lighter = part.lighter;
-    made = part.made;
-    witnesses = part.witnesses;
-    true_weights = part.true_weights;
-    bridged = λ j d low. elim (cases_lt j k) [
-      | inl earlier ↦ part.bridged j d earlier
-      | inr later ↦ (let now : j ≡ k = omega arith in
-          let here : get_or ways j d ≡ way = subst (λ i. get_or ways i d ≡ way) (sym now) (is d) in
-          subst (λ (y : Way). IsBridged h2 x y.from y.to y.sum) (sym here) (inl there))
-    ];
-  }
+      before : (i : ℕ) → i < length ways → get_or ways i w ≡ w → i < k
+      before i low at = elim (cases_order i k) [
+        | inl same ↦ absurd (not_later w (subst (λ (y : Way). IsNoHeavier y w) (sym at ∙ ap (λ j. get_or ways j w) same ∙ is w) (itself w)) earlier)
+        | inr other ↦ elim other [
+          | inl lower ↦ lower
+          | inr higher ↦ absurd (not_later w (subst (λ (y : Way). IsNoHeavier y w) (is w) (subst (λ (y : Way). IsNoHeavier (get_or ways k w) y) at (are.rising k i w higher low))) earlier)
+        ]
+      ]
 
   module _ (none : (hops : List Hop) → AreHops (IsLive h2) way.from hops way.to → way.sum < total hops) where
     pub least : (roads : List Hop) → AreHops (Leads n.arcs) way.from roads way.to → way.sum ≤ total roads
@@ -203,7 +195,5 @@ partway_ends n h x ways k h2 sound core free are all part = contractions_keep_so
   lighter = part.lighter;
   made = part.made;
   witnesses = part.witnesses;
-  bridged = λ u v a b core_u core_v first second differ. (let there = are.all u v a b core_u core_v first second differ in
-      let w : Way = record { first = a; from = u; sum = a + b; to = v } in
-      subst (λ (y : Way). IsBridged h2 x y.from y.to y.sum) there.2 (part.bridged there.0 w (omega (arith, there.1))));
+  bridged = λ u v a b core_u core_v first second differ. way_bridged n h x ways k h2 part u v a b (λ i low at. omega arith) (are.all u v a b core_u core_v first second differ);
 })

@@ -14,8 +14,9 @@ use Rattle.hierarchy.specs.Lists.{HierarchyLists, IsCore}
 use Rattle.hierarchy.specs.Soundness.{IsFree}
 use Rattle.hierarchy.proofs.RoadLemmas.{roads_under}
 use Rattle.contractor.specs.Contracted.{is_free, free_below, free_count, IsContractedTo, IsTrueDistance}
-use Rattle.contractor.specs.Layers.{AreWaiting, IsFinished}
-use Rattle.contractor.proofs.ListLemmas.{slice_get-set_same, slice_get-set_other, slice_get_push_cases}
+use Rattle.contractor.specs.inside.Layers.{AreWaiting, IsFinished}
+use Rattle.witness.proofs.ListLemmas.{slice_get-set_same, slice_get-set_other}
+use Rattle.contractor.proofs.ListLemmas.{slice_get_push_cases}
 use Rattle.contractor.proofs.LiveLemmas.{core_more}
 
 abbrev pub as_number : Bool → ℕ

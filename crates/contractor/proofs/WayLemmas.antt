@@ -1,6 +1,7 @@
 -- The ways by a node, in order.
-use Rattle.std.proofs.Common.{◌≡◌, ◌≢◌, ℕ, ◌+◌, ◌<◌, ◌≤◌, inl, inr, Bool, true, nat_eq, ◌&&◌, List, [], ◌∷◌, ◌++◌, ◌∙◌, length, take, get_or, refl, sym, ap, subst, arith}
-use Rattle.std.specs.Prelude.{AllPairs, Contains, IsPermutation, IsSorted}
+use Rattle.std.proofs.Common.{◌≡◌, ◌≢◌, ℕ, ◌+◌, ◌<◌, ◌≤◌, ◌⊎◌, inl, inr, Bool, true, nat_eq, ◌&&◌, List, [], ◌∷◌, ◌∙◌, length, take, get_or, refl, sym, ap, subst, arith}
+use Rattle.std.specs.Prelude.{AllPairs, Contains, IsPermutation, IsSorted, Vec}
+use Rattle.std.specs.declared.alloc.Global.{Global}
 use mathlib.Core.Path.{fun_ext}
 use Rattle.std.specs.List.{dedup}
 use Rattle.std.specs.Cmp.{IsTotalOrder}
@@ -15,27 +16,29 @@ use Rattle.std.proofs.lemmas.List.Sorted.{Contains-permutation, IsPermutation-sy
 use Rattle.std.proofs.lemmas.Map.Keys.{Less-from_sorted}
 use Rattle.hierarchy.specs.declared.entry.Entry.{Entry}
 use Rattle.hierarchy.specs.Lists.{HierarchyLists}
-use Rattle.hierarchy.specs.Soundness.{HasEntry}
-use Rattle.contractor.specs.Partway.{IsWayPast, AreWays, HaveOtherEnds}
+use Rattle.hierarchy.specs.Soundness.{HasEntry, HasLighter}
+use Rattle.contractor.specs.inside.Partway.{IsWayPast, AreWays, HaveOtherEnds}
 use Rattle.std.proofs.lemmas.List.Elements.{All-contains, All-more, All-weaker, Contains-append_left, Contains-push, Contains-push_cases, Contains-get_or, All-contains_itself}
 use Rattle.std.proofs.lemmas.List.{take_more, get_or_default}
 use Rattle.witness.specs.declared.edge.Edge.{Edge}
+use Rattle.witness.specs.Rows.{row_at}
 use Rattle.contractor.specs.declared.way.Way.{Way}
 use Rattle.contractor.specs.declared.way.Side.{Side}
-use Rattle.contractor.specs.Layers.{IsWayOf, AreWaysWith, AreWaysOf, AreFirst, AreSecond, way_with, way_cmp, side_of}
-use Rattle.contractor.proofs.ListLemmas.{contains_head, head_or_tail, none_in, take_more_cases}
+use Rattle.contractor.specs.inside.Layers.{HasWithin, IsListedOrWithin, IsWayTaken, IsWayOf, AreWaysWith, AreWaysOf, AreFirst, AreSecond, way_with, way_cmp, side_of}
+use Rattle.witness.proofs.ListLemmas.{contains_head, head_or_tail}
+use Rattle.contractor.proofs.ListLemmas.{none_in, take_more_cases}
 
 -- tests that agree are one
 same_test : (E : Way → Way → Bool) → ((a b : Way) → E a b ≡ eq_by_cmp way_cmp a b) → E ≡ eq_by_cmp way_cmp
 same_test E ties = fun_ext (λ a. fun_ext (λ b. ties a b))
 
 -- the ways from nodes so far
-pub record AreWaysSoFar (first : List Side) (second : List Edge) (ways : List Way) : Type 0 where
+pub record AreWaysSoFar (rows : List (Vec Edge Global)) (first : List Side) (second : List Edge) (ways : List Way) : Type 0 where
   pub each : (way : Way) → Contains ways way → IsWayOf first second way
-  pub all : (side : Side) (edge : Edge) → Contains first side → Contains second edge → side.node ≢ edge.to → Contains ways (way_with side edge)
+  pub all : (side : Side) (edge : Edge) → Contains first side → Contains second edge → side.node ≢ edge.to → IsListedOrWithin (row_at rows side.node) ways (way_with side edge)
 
-pub no_ways : (second : List Edge) → AreWaysSoFar [] second []
-no_ways second = record { each = λ way there. absurd (none_in way there); all = λ side edge there. absurd (none_in side there) }
+pub no_ways : (rows : List (Vec Edge Global)) (second : List Edge) → AreWaysSoFar rows [] second []
+no_ways rows second = record { each = λ way there. absurd (none_in way there); all = λ side edge there. absurd (none_in side there) }
 
 wider : (first wide : List Side) (second long : List Edge) (way : Way) → ((side : Side) → Contains first side → Contains wide side) → ((edge : Edge) → Contains second edge → Contains long edge) → IsWayOf first second way → IsWayOf wide long way
 wider first wide second long way sides edges w = record { side = w.side; edge = w.edge; is_side = sides w.side w.is_side; is_edge = edges w.edge w.is_edge; differ = w.differ; is = w.is }
@@ -48,57 +51,74 @@ contains_more_here xs i d lt = subst (λ ys. Contains ys (get_or xs i d)) (sym (
 
 -- ---- one node
 
-pub way_more : (side : Side) (second : List Edge) (old ways new : List Way) (i : ℕ) (d : Edge) → i < length second → (get_or second i d).to ≢ side.node → new ≡ ways ++ way_with side (get_or second i d) ∷ []
-    → AreWaysWith side (take i second) old ways → AreWaysWith side (take (i + 1) second) old new
-way_more side second old ways new i d lt differ pushed are = record {
-  kept = λ k e low. still (get_or old k e) (are.kept k e low);
-  each = λ way there. elim (Contains-push_cases ways (way_with side edge) way (subst (λ ws. Contains ws way) pushed there)) [
-    | inl before ↦ elim (are.each way before) [
-      | inl was ↦ inl was
-      | inr w ↦ inr (wider (side ∷ []) (side ∷ []) (take i second) (take (i + 1) second) way (λ s t. t) (λ e t. contains_more_left second i d e lt t) w)
+module _ (row : List Edge) (side : Side) (second : List Edge) (old ways new : List Way) (i : ℕ) (d : Edge) (lt : i < length second) (are : AreWaysWith row side (take i second) old ways) where
+  abbrev next : Edge
+  next = get_or second i d
+
+  earlier : (way : Way) → Contains old way ⊎ IsWayOf (side ∷ []) (take i second) way → Contains old way ⊎ IsWayOf (side ∷ []) (take (i + 1) second) way
+  earlier way (inl was) = inl was
+  earlier way (inr w) = inr (wider (side ∷ []) (side ∷ []) (take i second) (take (i + 1) second) way (λ s t. t) (λ e t. contains_more_left second i d e lt t) w)
+
+  pub way_more : next.to ≢ side.node → IsWayTaken row (way_with side next) ways new → AreWaysWith row side (take (i + 1) second) old new
+  way_more differ taken = record {
+    kept = λ k e low. still (get_or old k e) (are.kept k e low);
+    each = λ way there. elim (was way there) [
+      | inl before ↦ earlier way (are.each way before)
+      | inr here ↦ inr (record { side = side; edge = next; is_side = contains_head side []; is_edge = contains_more_here second i d lt; differ = λ same. differ (sym same); is = sym here })
+    ];
+    all = All-more (λ (e : Edge). side.node ≢ e.to → IsListedOrWithin row new (way_with side e)) second i d lt
+        (All-weaker (λ (e : Edge). side.node ≢ e.to → IsListedOrWithin row ways (way_with side e)) (λ (e : Edge). side.node ≢ e.to → IsListedOrWithin row new (way_with side e)) (λ e h apart. more e (h apart)) (take i second) are.all)
+        (λ apart. here taken);
+  } where
+    still : (way : Way) → Contains ways way → Contains new way
+    still way there = elim taken [
+      | inl pushed ↦ subst (λ ws. Contains ws way) (sym pushed) (Contains-append_left ways (way_with side next ∷ []) way there)
+      | inr same ↦ subst (λ ws. Contains ws way) (sym same.0) there
     ]
-    | inr here ↦ inr (record { side = side; edge = edge; is_side = contains_head side []; is_edge = contains_more_here second i d lt; differ = λ same. differ (sym same); is = sym here })
-  ];
-  all = All-more (λ (e : Edge). side.node ≢ e.to → Contains new (way_with side e)) second i d lt
-      (All-weaker (λ (e : Edge). side.node ≢ e.to → Contains ways (way_with side e)) (λ (e : Edge). side.node ≢ e.to → Contains new (way_with side e)) (λ e h apart. still (way_with side e) (h apart)) (take i second) are.all)
-      (λ apart. subst (λ ws. Contains ws (way_with side edge)) (sym pushed) (Contains-push ways (way_with side edge)));
-} where
-  edge : Edge
-  edge = get_or second i d
 
-  still : (way : Way) → Contains ways way → Contains new way
-  still way there = subst (λ ws. Contains ws way) (sym pushed) (Contains-append_left ways (way_with side edge ∷ []) way there)
+    more : (e : Edge) → IsListedOrWithin row ways (way_with side e) → IsListedOrWithin row new (way_with side e)
+    more e (inl there) = inl (still (way_with side e) there)
+    more e (inr within) = inr within
 
-pub way_back : (side : Side) (second : List Edge) (old ways : List Way) (i : ℕ) (d : Edge) → i < length second → (get_or second i d).to ≡ side.node
-    → AreWaysWith side (take i second) old ways → AreWaysWith side (take (i + 1) second) old ways
-way_back side second old ways i d lt same are = record {
-  kept = are.kept;
-  each = λ way there. elim (are.each way there) [
-    | inl was ↦ inl was
-    | inr w ↦ inr (wider (side ∷ []) (side ∷ []) (take i second) (take (i + 1) second) way (λ s t. t) (λ e t. contains_more_left second i d e lt t) w)
-  ];
-  all = All-more (λ (e : Edge). side.node ≢ e.to → Contains ways (way_with side e)) second i d lt are.all (λ apart. absurd (apart (sym same)));
-}
+    was : (way : Way) → Contains new way → Contains ways way ⊎ (way_with side next ≡ way)
+    was way there = elim taken [
+      | inl pushed ↦ Contains-push_cases ways (way_with side next) way (subst (λ ws. Contains ws way) pushed there)
+      | inr same ↦ inl (subst (λ ws. Contains ws way) same.0 there)
+    ]
+
+    here : IsWayTaken row (way_with side next) ways new → IsListedOrWithin row new (way_with side next)
+    here (inl pushed) = inl (subst (λ ws. Contains ws (way_with side next)) (sym pushed) (Contains-push ways (way_with side next)))
+    here (inr same) = inr same.1
+
+  pub way_back : next.to ≡ side.node → AreWaysWith row side (take (i + 1) second) old ways
+  way_back same = record {
+    kept = are.kept;
+    each = λ way there. earlier way (are.each way there);
+    all = All-more (λ (e : Edge). side.node ≢ e.to → IsListedOrWithin row ways (way_with side e)) second i d lt are.all (λ apart. absurd (apart (sym same)));
+  }
 
 -- ---- all nodes
 
-pub sides_more : (first : List Side) (second : List Edge) (ways new : List Way) (i : ℕ) (d : Side) → i < length first → AreWaysSoFar (take i first) second ways → AreWaysWith (get_or first i d) second ways new
-    → AreWaysSoFar (take (i + 1) first) second new
-sides_more first second ways new i d lt far with_ = record {
+pub sides_more : (rows : List (Vec Edge Global)) (first : List Side) (second : List Edge) (ways new : List Way) (i : ℕ) (d : Side) → i < length first → AreWaysSoFar rows (take i first) second ways
+    → AreWaysWith (row_at rows (get_or first i d).node) (get_or first i d) second ways new → AreWaysSoFar rows (take (i + 1) first) second new
+sides_more rows first second ways new i d lt far with_ = record {
   each = λ way there. elim (with_.each way there) [
     | inl was ↦ wider (take i first) (take (i + 1) first) second second way (λ s t. contains_more_left first i d s lt t) (λ e t. t) (far.each way was)
     | inr w ↦ wider (get_or first i d ∷ []) (take (i + 1) first) second second way
         (λ s t. elim (head_or_tail (get_or first i d) [] s t) [ inl same ↦ subst (λ z. Contains (take (i + 1) first) z) same (contains_more_here first i d lt) | inr never ↦ absurd (none_in s never) ]) (λ e t. t) w
   ];
   all = λ side edge there listed differ. elim (take_more_cases first i d side lt there) [
-    | inl before ↦ All-contains (Contains new) ways (way_with side edge) with_.kept (far.all side edge before listed differ)
-    | inr here ↦ (let at = All-contains (λ (e : Edge). (get_or first i d).node ≢ e.to → Contains new (way_with (get_or first i d) e)) second edge with_.all listed in
-        subst (λ (s : Side). Contains new (way_with s edge)) here (at (λ same. differ (ap (λ (s : Side). s.node) (sym here) ∙ same))))
+    | inl before ↦ still side edge (far.all side edge before listed differ)
+    | inr here ↦ (let at = All-contains (λ (e : Edge). (get_or first i d).node ≢ e.to → IsListedOrWithin (row_at rows (get_or first i d).node) new (way_with (get_or first i d) e)) second edge with_.all listed in
+        subst (λ (s : Side). IsListedOrWithin (row_at rows s.node) new (way_with s edge)) here (at (λ same. differ (ap (λ (s : Side). s.node) (sym here) ∙ same))))
   ];
-}
+} where
+  still : (side : Side) (edge : Edge) → IsListedOrWithin (row_at rows side.node) ways (way_with side edge) → IsListedOrWithin (row_at rows side.node) new (way_with side edge)
+  still side edge (inl there) = inl (All-contains (Contains new) ways (way_with side edge) with_.kept there)
+  still side edge (inr within) = inr within
 
-pub ways_begin : (side : Side) (ways : List Way) → AreWaysWith side [] ways ways
-ways_begin side ways = record { kept = All-contains_itself ways; each = λ way there. inl there; all = λ k d low. absurd (omega arith) }
+pub ways_begin : (row : List Edge) (side : Side) (ways : List Way) → AreWaysWith row side [] ways ways
+ways_begin row side ways = record { kept = All-contains_itself ways; each = λ way there. inl there; all = λ k d low. absurd (omega arith) }
 
 -- ---- in order, each once
 
@@ -120,17 +140,20 @@ same_way a b h =
 pub same_is : (a b : Way) → (nat_eq a.first b.first && (nat_eq a.from b.from && (nat_eq a.sum b.sum && nat_eq a.to b.to))) ≡ eq_by_cmp way_cmp a b
 same_is a b = grind (arith, nat_tests)
 
-pub in_order : (first : List Side) (second : List Edge) (ways sorted kept : List Way) → AreWaysSoFar first second ways → IsPermutation ways sorted → IsSorted way_cmp sorted
-    → (E : Way → Way → Bool) → ((a b : Way) → E a b ≡ eq_by_cmp way_cmp a b) → kept ≡ dedup E sorted → AreWaysOf first second kept
-in_order first second ways sorted kept far moved ordered E ties is = record {
+pub in_order : (rows : List (Vec Edge Global)) (first : List Side) (second : List Edge) (ways sorted kept : List Way) → AreWaysSoFar rows first second ways → IsPermutation ways sorted → IsSorted way_cmp sorted
+    → (E : Way → Way → Bool) → ((a b : Way) → E a b ≡ eq_by_cmp way_cmp a b) → kept ≡ dedup E sorted → AreWaysOf rows first second kept
+in_order rows first second ways sorted kept far moved ordered E ties is = record {
   each = λ way there. far.each way (Contains-permutation sorted ways way (IsPermutation-sym ways sorted moved) (Contains-from_dedup E sorted way (subst (λ ws. Contains ws way) is there)));
-  all = λ side edge there listed differ. subst (λ ws. Contains ws (way_with side edge)) (sym is)
-      (dedup_keeps (way_with side edge) (Contains-permutation ways sorted (way_with side edge) moved (far.all side edge there listed differ)));
+  all = λ side edge there listed differ. still side edge (far.all side edge there listed differ);
   rising = subst (λ ws. AllPairs (λ p q. way_cmp p q ≡ Less) ws) (sym is) (λ i j d lt low. Less-from_sorted way_cmp (dedup E sorted) i j d (IsStrictlySortedBy-dedup way_total ties sorted ordered) lt low);
 } where
   dedup_keeps : (way : Way) → Contains sorted way → Contains (dedup E sorted) way
   dedup_keeps way there = subst (λ (F : Way → Way → Bool). Contains (dedup F sorted) way) (sym (same_test E ties))
       (Contains-dedup (eq_by_cmp_equiv way_total) same_way sorted way there)
+
+  still : (side : Side) (edge : Edge) → IsListedOrWithin (row_at rows side.node) ways (way_with side edge) → IsListedOrWithin (row_at rows side.node) kept (way_with side edge)
+  still side edge (inl there) = inl (subst (λ ws. Contains ws (way_with side edge)) (sym is) (dedup_keeps (way_with side edge) (Contains-permutation ways sorted (way_with side edge) moved there)))
+  still side edge (inr within) = inr within
 
 -- ---- what AreWays asks for
 
@@ -160,10 +183,12 @@ weight_once entries u v a b apart (via, (i, low_i, at_i)) (other, (j, low_j, at_
   f : Entry
   f = record { from = u; to = v; weight = b; via = other }
 
-pub are_ways : (h : HierarchyLists) (x : ℕ) (first : List Side) (second : List Edge) (ways : List Way) → AllPairs HaveOtherEnds h.entries → AreFirst h.order h.entries x first → AreSecond h.order h.entries x second → AreWaysOf first second ways → AreWays h x ways
-are_ways h x first second ways apart before after are = record {
+pub are_ways : (h : HierarchyLists) (x : ℕ) (rows : List (Vec Edge Global)) (first : List Side) (second : List Edge) (ways : List Way) → AllPairs HaveOtherEnds h.entries
+    → ((u v most : ℕ) → HasWithin (row_at rows u) v most → HasLighter h.entries u v most) → AreFirst h.order h.entries x first → AreSecond h.order h.entries x second → AreWaysOf rows first second ways → AreWays h x ways
+are_ways h x rows first second ways apart lighter before after are = record {
   each = λ k d low. is_way (get_or ways k d) (Contains-get_or ways k d low);
-  all = λ u v a b core_u core_v to_x from_x differ. (let there = after.all v b core_v from_x in are.all (side_of u a) (record { to = v; entry = there.0; weight = b }) (before.all u a core_u to_x) there.1 differ);
+  all = λ u v a b core_u core_v to_x from_x differ. (let there = after.all v b core_v from_x in
+      listed_or_lighter u v a b (are.all (side_of u a) (record { to = v; entry = there.0; weight = b }) (before.all u a core_u to_x) there.1 differ));
   rising = λ i j d lt low. record {
     first = first_rises (get_or ways i d) (get_or ways j d) (are.rising i j d lt low);
     sum = λ from. (let p = get_or ways i d in let q = get_or ways j d in
@@ -176,6 +201,10 @@ are_ways h x first second ways apart before after are = record {
       let two : v.second ≡ w.second = weight_once h.entries x q.to v.second w.second apart (subst (λ u. HasEntry h.entries x u v.second) to v.is_second) w.is_second in
       not_itself p q (are.rising i j d lt low) one from (let a = v.sum in let b = w.sum in omega (arith, one, two)) to);
 } where
+  listed_or_lighter : (u v a b : ℕ) → IsListedOrWithin (row_at rows u) ways (record { first = a; from = u; sum = a + b; to = v }) → Contains ways (record { first = a; from = u; sum = a + b; to = v }) ⊎ HasLighter h.entries u v (a + b)
+  listed_or_lighter u v a b (inl there) = inl there
+  listed_or_lighter u v a b (inr within) = inr (lighter u v (a + b) within)
+
   one_first : (p q : Way) → IsWayPast h x p → IsWayPast h x q → p.from ≡ q.from → p.first ≡ q.first
   one_first p q v w from = weight_once h.entries q.from x p.first q.first apart (subst (λ u. HasEntry h.entries u x p.first) from v.is_first) w.is_first
 

@@ -1,3 +1,2 @@
 pub mod Contracted
-pub mod Partway
-pub mod Layers
+pub mod inside

@@ -2,13 +2,12 @@
 
 ghost use Rattle.std.specs.Prelude.{◌≡◌, ◌<◌, [], length, All, OnOk, IfOk};
 ghost use Rattle.mode_network.specs.NetworkLists.{nodes_of};
-ghost use Rattle.contractor.specs.Layers.{IsState, AreEmptyRows, AreEmptyLists};
+ghost use Rattle.contractor.specs.inside.Layers.{IsState, AreEmptyLists};
 
 use crate::layer::{Layer, place};
 use hierarchy::Entry;
 use mode_network::Network;
 use std::alloc::{AllocError, Global};
-use witness::Edge;
 
 /// Each road arc is an entry, and all nodes are left.
 pub(crate) fn begin(alloc: Global, network: &Network) -> Result<Layer, AllocError>
@@ -22,7 +21,7 @@ pub(crate) fn begin(alloc: Global, network: &Network) -> Result<Layer, AllocErro
         order: Vec::new(alloc),
         entries: Vec::new(alloc),
         walks: Vec::new(alloc),
-        rows: empty_rows(alloc, nodes)?,
+        rows: empty_lists(alloc, nodes)?,
         into: empty_lists(alloc, nodes)?,
     };
     'arcs: for arc in network.arcs() {
@@ -37,23 +36,12 @@ pub(crate) fn begin(alloc: Global, network: &Network) -> Result<Layer, AllocErro
     Ok(layer)
 }
 
-/// So many rows without ways.
-fn empty_rows(alloc: Global, nodes: usize) -> Result<Vec<Vec<Edge>>, AllocError>
-    ensures { IfOk result (λ rows. AreEmptyRows nodes rows.items) }
+/// So many empty lists.
+fn empty_lists<T: Drop>(alloc: Global, count: usize) -> Result<Vec<Vec<T>>, AllocError>
+    ensures { IfOk result (λ lists. AreEmptyLists count lists.items) }
 {
-    let mut rows = Vec::with_capacity(alloc, nodes)?;
-    'rows: while rows.len() < nodes {
-        rows.push(Vec::new(alloc))?;
-    }
-    Ok(rows)
-}
-
-/// So many empty lists of nodes.
-fn empty_lists(alloc: Global, nodes: usize) -> Result<Vec<Vec<u32>>, AllocError>
-    ensures { IfOk result (λ lists. AreEmptyLists nodes lists.items) }
-{
-    let mut lists = Vec::with_capacity(alloc, nodes)?;
-    'lists: while lists.len() < nodes {
+    let mut lists = Vec::with_capacity(alloc, count)?;
+    'lists: while lists.len() < count {
         lists.push(Vec::new(alloc))?;
     }
     Ok(lists)

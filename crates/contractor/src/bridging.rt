@@ -1,24 +1,42 @@
 //! One contraction.
 
-ghost use Rattle.std.specs.Prelude.{◌≡◌, ◌<◌, ◌≤◌, ◌+◌, [], ◌∷◌, ◌++◌, length, OnOk, IfOk, IsTrue, slice_index_or};
+ghost use Rattle.std.specs.Prelude.{◌≡◌, ◌<◌, ◌≤◌, ◌+◌, [], ◌∷◌, ◌++◌, length, OnOk, IfOk, slice_index_or};
 ghost use Rattle.hierarchy.specs.Lists.{IsCore};
 ghost use Rattle.hierarchy.specs.Soundness.{IsFree};
-ghost use Rattle.witness.specs.Searching.{IsSearch, IsSameRound, NobodyBusy};
-ghost use Rattle.contractor.specs.Layers.{IsState, IsBridging, IsEndOf, IsSearchFor, HasWithin};
+ghost use Rattle.witness.specs.inside.Searching.{IsSearch, IsSameRound, NobodyBusy};
+ghost use Rattle.contractor.specs.inside.Layers.{IsState, IsBridging, IsEndOf, IsSearchFor};
 
 use crate::cutting::cut;
 use crate::layer::{Layer, note, put};
-use crate::way::Way;
+use crate::places::RowPlaces;
+use crate::way::{Crossing, Way};
 use crate::ways::ways_by;
 use mode_network::Network;
 use std::alloc::{AllocError, Global};
-use witness::{Edge, Workspace, begin, walk_to};
+use witness::{Workspace, begin, walk_to};
 
-/// Contracts a node: all ways by it get a witness or a shortcut.
+/// Tables by node, which are kept from contraction to contraction.
+#[derive(Drop)]
+pub(crate) struct Tables {
+    workspace: Workspace,
+    places: RowPlaces,
+}
+
+impl Tables {
+    /// Tables for so many nodes.
+    pub fn new(alloc: Global, nodes: usize) -> Result<Tables, AllocError> {
+        Ok(Tables {
+            workspace: Workspace::new(alloc),
+            places: RowPlaces::new(alloc, nodes)?,
+        })
+    }
+}
+
+/// Contracts a node: all ways by it get a witness or a shortcut, where no entry is as light.
 pub(crate) fn contract_node(
     alloc: Global,
     network: &Network,
-    workspace: &mut Workspace,
+    tables: &mut Tables,
     layer: &mut Layer,
     x: u32,
 ) -> Result<(), AllocError>
@@ -32,8 +50,9 @@ pub(crate) fn contract_node(
 {
     network.known();
     let sides = cut(alloc, layer, x)?;
-    let ways = ways_by(alloc, &sides.first, &sides.second)?;
-    bridge(alloc, network, workspace, layer, x, &ways)?;
+    let ways = ways_by(alloc, &mut tables.places, layer, &sides)?;
+    let crossing = Crossing { node: x, ways };
+    bridge(alloc, network, &mut tables.workspace, layer, &crossing)?;
     layer.order.push(x)?;
     Ok(())
 }
@@ -44,17 +63,17 @@ fn bridge(
     network: &Network,
     workspace: &mut Workspace,
     layer: &mut Layer,
-    x: u32,
-    ways: &[Way],
+    crossing: &Crossing,
 ) -> Result<(), AllocError>
-    requires { IsBridging network.now x ways.now 0 layer.old }
-    ensures state { OnOk result (IsBridging network.now x ways.now (length ways.now) layer.new) }
+    requires { IsBridging network.now crossing.now.node crossing.now.ways.items 0 layer.old }
+    ensures state { OnOk result (IsBridging network.now crossing.now.node crossing.now.ways.items
+        (length crossing.now.ways.items) layer.new) }
     ensures order { OnOk result (layer.new.order.items ≡ layer.old.order.items) }
     ensures count { OnOk result (length layer.new.rows.items ≡ length layer.old.rows.items) }
 {
     let mut place = 0;
-    'starts: while place < ways.len() {
-        place = bridge_from(alloc, network, workspace, layer, x, ways, place)?;
+    'starts: while place < crossing.ways.len() {
+        place = bridge_from(alloc, network, workspace, layer, crossing, place)?;
     }
     Ok(())
 }
@@ -65,17 +84,18 @@ fn bridge_from(
     network: &Network,
     workspace: &mut Workspace,
     layer: &mut Layer,
-    x: u32,
-    ways: &[Way],
+    crossing: &Crossing,
     place: usize,
 ) -> Result<usize, AllocError>
-    requires place { place < length ways.now }
-    requires state { IsBridging network.now x ways.now place layer.old }
-    ensures end { IfOk result (λ end. (place < end) × (end ≤ length ways.now)) }
-    ensures state { IfOk result (λ end. IsBridging network.now x ways.now end layer.new) }
+    requires place { place < length crossing.now.ways.items }
+    requires state { IsBridging network.now crossing.now.node crossing.now.ways.items place layer.old }
+    ensures end { IfOk result (λ end. (place < end) × (end ≤ length crossing.now.ways.items)) }
+    ensures state { IfOk result (λ end. IsBridging network.now crossing.now.node crossing.now.ways.items
+        end layer.new) }
     ensures order { OnOk result (layer.new.order.items ≡ layer.old.order.items) }
     ensures count { OnOk result (length layer.new.rows.items ≡ length layer.old.rows.items) }
 {
+    let ways = &crossing.ways;
     let end = end_of(ways, place);
     begin(
         alloc,
@@ -85,7 +105,7 @@ fn bridge_from(
         ways[end - 1].sum,
     )?;
     'ways: for k in place..end {
-        bridge_way(alloc, network, workspace, layer, x, ways, k)?;
+        bridge_way(alloc, network, workspace, layer, crossing, k)?;
     }
     Ok(end)
 }
@@ -108,42 +128,28 @@ fn bridge_way(
     network: &Network,
     workspace: &mut Workspace,
     layer: &mut Layer,
-    x: u32,
-    ways: &[Way],
+    crossing: &Crossing,
     k: usize,
 ) -> Result<(), AllocError>
-    requires place { k < length ways.now }
-    requires state { IsBridging network.now x ways.now k layer.old }
-    requires search { (d : Way) → IsSearchFor layer.old (slice_index_or ways.now k d) workspace.old }
-    ensures state { OnOk result (IsBridging network.now x ways.now (k + 1) layer.new) }
+    requires place { k < length crossing.now.ways.items }
+    requires state { IsBridging network.now crossing.now.node crossing.now.ways.items k layer.old }
+    requires search { (d : Way) → IsSearchFor layer.old (slice_index_or crossing.now.ways.items k d)
+        workspace.old }
+    ensures state { OnOk result (IsBridging network.now crossing.now.node crossing.now.ways.items (k + 1)
+        layer.new) }
     ensures search { OnOk result (IsSearch layer.new.rows.items workspace.old.most NobodyBusy workspace.new) }
     ensures same { OnOk result (IsSameRound workspace.old workspace.new) }
     ensures order { OnOk result (layer.new.order.items ≡ layer.old.order.items) }
     ensures count { OnOk result (length layer.new.rows.items ≡ length layer.old.rows.items) }
 {
     network.known();
-    let way = ways[k];
-    if is_within(&layer.rows[way.from as usize], way.to, way.sum) {
-        return Ok(());
-    }
+    let way = crossing.ways[k];
     match walk_to(alloc, workspace, &layer.rows, way.to, way.sum)? {
-        Some(nodes) => note(layer, x, way, nodes)?,
+        Some(nodes) => note(layer, crossing.node, way, nodes)?,
         None => {
-            put(layer, x, way)?;
+            put(layer, crossing.node, way)?;
             workspace.offer(way.to, way.sum, way.from)?;
         }
     }
     Ok(())
-}
-
-/// Whether a row has a way to a node that is no heavier.
-fn is_within(row: &[Edge], to: u32, most: u64) -> bool
-    ensures { IsTrue result → HasWithin row.now to most }
-{
-    for edge in row {
-        if edge.to == to && edge.weight <= most {
-            return true;
-        }
-    }
-    false
 }

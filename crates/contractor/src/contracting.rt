@@ -4,17 +4,23 @@ ghost use Rattle.std.specs.Prelude.{◌≡◌, ◌+◌, ◌-◌, ◌<◌, ◌≤
 ghost use Rattle.mode_network.specs.NetworkLists.{nodes_of};
 ghost use Rattle.hierarchy.specs.Soundness.{IsFree};
 ghost use Rattle.contractor.specs.Contracted.{IsContractedTo, free_count, is_free};
-ghost use Rattle.contractor.specs.Layers.{IsState, AreWaiting};
+ghost use Rattle.contractor.specs.inside.Layers.{IsState, AreWaiting};
 
 use crate::beginning::begin;
-use crate::bridging::contract_node;
+use crate::bridging::{Tables, contract_node};
 use crate::choosing::{Queue, marked};
 use crate::finishing::finish;
 use crate::layer::Layer;
 use hierarchy::Hierarchy;
 use mode_network::Network;
 use std::alloc::{AllocError, Global};
-use witness::Workspace;
+
+/// The nodes that may be contracted, as marks, and how many there are.
+#[derive(Drop)]
+struct Waiting {
+    marks: Vec<bool>,
+    count: u64,
+}
 
 /// What is told of a contraction while it goes on.
 pub trait Progress {
@@ -38,26 +44,26 @@ pub fn contract<P: Progress>(
 {
     network.known();
     let mut layer = begin(alloc, network)?;
-    let (waiting, free) = free_nodes(alloc, network)?;
-    let number = free.saturating_sub(u64::from(keep));
-    contract_nodes(alloc, network, &mut layer, waiting, free, number, progress)?;
+    let waiting = free_nodes(alloc, network)?;
+    let number = waiting.count.saturating_sub(u64::from(keep));
+    contract_nodes(alloc, network, &mut layer, waiting, number, progress)?;
     let hierarchy = finish(alloc, network, layer)?;
     Ok(hierarchy)
 }
 
 /// Marks the nodes that are free, and counts them.
-fn free_nodes(alloc: Global, network: &Network) -> Result<(Vec<bool>, u64), AllocError>
-    ensures { IfOk result (λ nodes. AreWaiting network.now [] nodes.1 nodes.0.items
-        × (nodes.1 ≡ free_count network.now)) }
+fn free_nodes(alloc: Global, network: &Network) -> Result<Waiting, AllocError>
+    ensures { IfOk result (λ waiting. AreWaiting network.now [] waiting.count waiting.marks.items
+        × (waiting.count ≡ free_count network.now)) }
 {
-    let mut waiting = Vec::with_capacity(alloc, network.nodes() as usize)?;
+    let mut marks = Vec::with_capacity(alloc, network.nodes() as usize)?;
     let mut count = 0;
     'nodes: for v in 0..network.nodes() {
         let free = is_free(network, v);
-        waiting.push(free)?;
+        marks.push(free)?;
         count += u64::from(free);
     }
-    Ok((waiting, count))
+    Ok(Waiting { marks, count })
 }
 
 /// Whether a node is a road node without links.
@@ -74,16 +80,15 @@ fn contract_nodes<P: Progress>(
     alloc: Global,
     network: &Network,
     layer: &mut Layer,
-    waiting: Vec<bool>,
-    free: u64,
+    waiting: Waiting,
     number: u64,
     progress: &mut P,
 ) -> Result<(), AllocError>
     requires state { IsState network.now layer.old }
     requires count { length layer.old.rows.items ≡ length (nodes_of network.now) }
     requires order { layer.old.order.items ≡ [] }
-    requires waiting { AreWaiting network.now [] free waiting.items }
-    requires number { number ≤ free }
+    requires waiting { AreWaiting network.now [] waiting.count waiting.marks.items }
+    requires number { number ≤ waiting.count }
     ensures state { OnOk result (IsState network.now layer.new) }
     ensures order { OnOk result (length layer.new.order.items ≡ number) }
 {
@@ -91,15 +96,15 @@ fn contract_nodes<P: Progress>(
     if number == 0 {
         return Ok(());
     }
-    let mut waiting = waiting;
-    let mut workspace = Workspace::new(alloc);
-    let mut queue = Queue::new(alloc, layer, &waiting)?;
+    let mut marks = waiting.marks;
+    let mut tables = Tables::new(alloc, layer.rows.len())?;
+    let mut queue = Queue::new(alloc, layer, &marks)?;
     let mut left = number;
     'nodes: while left > 0 {
-        let x = marked(&waiting, queue.next(layer)?);
-        waiting[x as usize] = false;
+        let x = marked(&marks, queue.next(layer)?);
+        marks[x as usize] = false;
         queue.deepen(layer, x);
-        contract_node(alloc, network, &mut workspace, layer, x)?;
+        contract_node(alloc, network, &mut tables, layer, x)?;
         left -= 1;
         progress.told(number - left, number, layer.entries.len() as u64);
     }

@@ -2,7 +2,7 @@
 
 ghost use Rattle.std.specs.Prelude.{◌≡◌, ◌≢◌, ◌+◌, ◌<◌, ◌^◌, [], ◌∷◌, ◌++◌, not, ◌==◌, filter, length, All, Contains, OnOk, IfOk};
 ghost use Rattle.hierarchy.specs.Lists.{IsCore};
-ghost use Rattle.contractor.specs.Layers.{IsLayer, IsCut, IsLessInto, AreSides, AreSidesOf, AreFirst, AreSecond, IsRowTaken, AreNodesTaken};
+ghost use Rattle.contractor.specs.inside.Layers.{IsLayer, IsCut, IsLessInto, AreSides, AreSidesOf, AreFirst, AreSecond, IsRowTaken, AreNodesTaken};
 
 use crate::layer::{Layer, leave_out};
 use crate::way::Side;

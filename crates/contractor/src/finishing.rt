@@ -2,7 +2,7 @@
 
 ghost use Rattle.std.specs.Prelude.{◌≡◌, IsPermutation, IsSorted, IfOk, map};
 ghost use Rattle.hierarchy.specs.Rules.{entry_cmp};
-ghost use Rattle.contractor.specs.Layers.{IsState, IsFinished, AreInOrder, AreWitnessesOf, walk_cmp};
+ghost use Rattle.contractor.specs.inside.Layers.{IsState, IsFinished, AreInOrder, AreWitnessesOf, walk_cmp};
 
 use crate::layer::Layer;
 use crate::way::Walk;

@@ -2,9 +2,9 @@
 
 ghost use Rattle.std.specs.Prelude.{◌≡◌, ◌≢◌, ◌+◌, ◌<◌, ◌^◌, [], ◌∷◌, ◌++◌, not, ◌==◌, filter, length, All, OnOk, IfOk, MatchOption};
 ghost use Rattle.hierarchy.specs.Lists.{IsCore};
-ghost use Rattle.witness.specs.Rows.{IsEdgePut};
-ghost use Rattle.contractor.specs.Partway.{IsPut, shortcut_of};
-ghost use Rattle.contractor.specs.Layers.{IsLayer, CanPut, HasNumber, IsEntered, IsNodeAdded, IsEdgeListed, IsPlaceable, IsEntryPlaced};
+ghost use Rattle.witness.specs.inside.Searching.{IsEdgePut};
+ghost use Rattle.contractor.specs.inside.Partway.{IsPut, shortcut_of};
+ghost use Rattle.contractor.specs.inside.Layers.{IsLayer, CanPut, HasNumber, IsEntered, IsNodeAdded, IsEdgeListed, IsPlaceable, IsEntryPlaced};
 
 use crate::way::{Walk, Way};
 use hierarchy::Entry;

@@ -8,6 +8,7 @@ pub mod contracting;
 mod cutting;
 mod finishing;
 pub mod layer;
+mod places;
 mod trials;
 pub mod way;
 mod ways;

@@ -12,6 +12,13 @@ pub struct Way {
     pub to: u32,
 }
 
+/// A node that is contracted, and those ways by it that no entry is as light as.
+#[derive(Drop)]
+pub struct Crossing {
+    pub node: u32,
+    pub ways: Vec<Way>,
+}
+
 /// A node that has an entry to the one that is contracted, and what the entry weighs.
 #[derive(Clone, Copy, Debug)]
 pub struct Side {

@@ -18,8 +18,8 @@ use Rattle.contractor.specs.declared.way.Side.{Side}
 use Rattle.contractor.specs.declared.way.Walk.{Walk}
 use Rattle.contractor.specs.declared.layer.Layer.{Layer}
 use Rattle.witness.specs.declared.workspace.Workspace.{Workspace}
-use Rattle.witness.specs.Searching.{IsSearch, NobodyBusy}
-use Rattle.contractor.specs.Partway.{IsGood, AreWays, IsPartway, HaveOtherEnds, IsTrueWeight}
+use Rattle.witness.specs.inside.Searching.{IsSearch, NobodyBusy}
+use Rattle.contractor.specs.inside.Partway.{IsGood, AreWays, IsPartway, HaveOtherEnds, IsTrueWeight}
 
 -- ---- the hierarchy so far
 
@@ -194,18 +194,26 @@ pub record IsWayOf (first : List Side) (second : List Edge) (way : Way) : Type 0
   pub differ : side.node ≢ edge.to
   pub is : way ≡ way_with side edge
 
-pub record AreWaysWith (side : Side) (second : List Edge) (old new : List Way) : Type 0 where
+-- a way is listed, or the row of its start has one to its end that is no heavier
+abbrev pub IsListedOrWithin : List Edge → List Way → Way → Type 0
+IsListedOrWithin row ways way = Contains ways way ⊎ HasWithin row way.to way.sum
+
+-- a way was listed, or need not be
+abbrev pub IsWayTaken : List Edge → Way → List Way → List Way → Type 0
+IsWayTaken row way old new = (new ≡ old ++ way ∷ []) ⊎ ((new ≡ old) × HasWithin row way.to way.sum)
+
+pub record AreWaysWith (row : List Edge) (side : Side) (second : List Edge) (old new : List Way) : Type 0 where
   pub kept : All (Contains new) old
   pub each : (way : Way) → Contains new way → Contains old way ⊎ IsWayOf (side ∷ []) second way
-  pub all : All (λ (edge : Edge). side.node ≢ edge.to → Contains new (way_with side edge)) second
+  pub all : All (λ (edge : Edge). side.node ≢ edge.to → IsListedOrWithin row new (way_with side edge)) second
 
 -- by the weight of the entry to the node, then start by start, lightest first
 abbrev pub way_cmp : Way → Way → Ordering
 way_cmp p q = ordering_then (nat_cmp p.first q.first) (ordering_then (nat_cmp p.from q.from) (ordering_then (nat_cmp p.sum q.sum) (nat_cmp p.to q.to)))
 
-pub record AreWaysOf (first : List Side) (second : List Edge) (ways : List Way) : Type 0 where
+pub record AreWaysOf (rows : List (Vec Edge Global)) (first : List Side) (second : List Edge) (ways : List Way) : Type 0 where
   pub each : (way : Way) → Contains ways way → IsWayOf first second way
-  pub all : (side : Side) (edge : Edge) → Contains first side → Contains second edge → side.node ≢ edge.to → Contains ways (way_with side edge)
+  pub all : (side : Side) (edge : Edge) → Contains first side → Contains second edge → side.node ≢ edge.to → IsListedOrWithin (row_at rows side.node) ways (way_with side edge)
   pub rising : AllPairs (λ p q. way_cmp p q ≡ Less) ways
 
 -- ---- walks
@@ -283,13 +291,9 @@ pub record AreArcs (n : NetworkLists) (k : ℕ) (state : Layer) : Type 0 where
   pub are : (e : Entry) → Contains state.entries.items e → (e.via ≡ None) × Leads n.arcs e.from e.to e.weight
   pub all : All (λ (arc : Arc). HasEntry state.entries.items arc.from arc.to arc.ms) (take k n.arcs)
 
-pub record AreEmptyRows (nodes : ℕ) (rows : List (Vec Edge Global)) : Type 0 where
-  pub count : length rows ≡ nodes
-  pub empty : All (λ (row : Vec Edge Global). row.items ≡ []) rows
-
-pub record AreEmptyLists (nodes : ℕ) (lists : List (Vec ℕ Global)) : Type 0 where
-  pub count : length lists ≡ nodes
-  pub empty : All (λ (list : Vec ℕ Global). list.items ≡ []) lists
+pub record AreEmptyLists {X : Type 0} (count : ℕ) (lists : List (Vec X Global)) : Type 0 where
+  pub count_is : length lists ≡ count
+  pub empty : All (λ (list : Vec X Global). list.items ≡ []) lists
 
 -- ---- the end
 

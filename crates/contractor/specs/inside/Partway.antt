@@ -46,11 +46,11 @@ pub record IsNoHeavier (p q : Way) : Type 0 where
   pub first : p.first ≤ q.first
   pub sum : p.from ≡ q.from → p.sum ≤ q.sum
 
--- all ways by x, in order, one for two ends
+-- the ways by x that no entry is as light as, in order, one for two ends
 pub record AreWays (h : HierarchyLists) (x : ℕ) (ways : List Way) : Type 0 where
   pub each : All (IsWayPast h x) ways
   pub all : (u v a b : ℕ) → IsCore h.order u → IsCore h.order v → HasEntry h.entries u x a → HasEntry h.entries x v b → u ≢ v
-      → Contains ways (record { first = a; from = u; sum = a + b; to = v })
+      → Contains ways (record { first = a; from = u; sum = a + b; to = v }) ⊎ HasLighter h.entries u v (a + b)
   pub rising : AllPairs IsNoHeavier ways
   pub apart : AllPairs HaveOtherWays ways
 

@@ -1,7 +1,7 @@
 use Rattle.std.proofs.Common.{◌≡◌, ◌<◌, ◌≤◌, List, [], None, length, get_or, subst}
 use Rattle.std.proofs.lemmas.List.{get_or_default}
 use Rattle.mode_network.specs.declared.nodes.Arc.{Arc}
-use Rattle.contractor.specs.Layers.{IsEntryPlaced}
+use Rattle.contractor.specs.inside.Layers.{IsEntryPlaced}
 use Rattle.contractor.proofs.PutLemmas.{placeable}
 use Rattle.contractor.proofs.BeginLemmas.{arc_low, arcs_more, begun}
 use Rattle.contractor.proofs.beginning.begin.Goals as goal

@@ -1,13 +1,14 @@
-use Rattle.std.proofs.Common.{◌≡◌, ◌∙◌, subst, sym, arith}
-use Rattle.witness.specs.Searching.{IsSearch, NobodyBusy}
-use Rattle.contractor.specs.Layers.{IsBridging}
+use Rattle.std.proofs.Common.{◌≡◌, ◌∙◌, List, subst, sym, arith}
+use Rattle.witness.specs.inside.Searching.{IsSearch, NobodyBusy}
+use Rattle.contractor.specs.declared.way.Way.{Way}
+use Rattle.contractor.specs.inside.Layers.{IsBridging, IsEndOf}
 use Rattle.contractor.proofs.BridgeLemmas.{search_for}
 use Rattle.contractor.proofs.bridging.bridge_from.Goals as goal
 
 pub bridge_way-requires-clause-search : goal.bridge_way-requires-clause-search
 bridge_way-requires-clause-search c = λ d.
     let i = c.ways.invariant in
-    search_for c.args.network.now c.args.x c.args.ways.now c.ways.k c.ways.layer i.state c.args.place c.end_of-end.result c.ways.k d c.end_of-end.ensures i.after c.ways-test.true
+    search_for c.args.network.now c.args.crossing.now.node c.args.crossing.now.ways.items c.ways.k c.ways.layer i.state c.args.place c.end_of-end.result c.ways.k d (subst (λ (ws : List Way). IsEndOf ws c.args.place c.end_of-end.result) c.deref.ensures.value c.end_of-end.ensures) i.after c.ways-test.true
     c.ways.workspace i.search (i.start d) (i.most d)
 
 pub ways-preserved : goal.ways-preserved
@@ -29,4 +30,4 @@ pub returns-clause-state : goal.returns-clause-state
 returns-clause-state c =
     let i = c.ways.invariant in
     let at_end : c.ways.k ≡ c.end_of-end.result = (let le = i.inside in let ge = c.ways-test.false in omega arith) in
-    subst (λ k. IsBridging c.args.network.now c.args.x c.args.ways.now k c.ways.layer) at_end i.state
+    subst (λ k. IsBridging c.args.network.now c.args.crossing.now.node c.args.crossing.now.ways.items k c.ways.layer) at_end i.state

@@ -1,7 +1,7 @@
 use Rattle.std.proofs.Common.{◌≡◌, ◌∙◌, ◌+◌, ◌-◌, List, Bool, Some, true, length, set, false, subst, ap, arith}
 use Rattle.std.specs.Prelude.{slice_get}
 use Rattle.std.proofs.lemmas.List.{length_push}
-use Rattle.contractor.specs.Layers.{AreWaiting}
+use Rattle.contractor.specs.inside.Layers.{AreWaiting}
 use Rattle.contractor.proofs.WaitingLemmas.{waiting_less}
 use Rattle.contractor.proofs.contracting.contract_nodes.Goals as goal
 
@@ -14,11 +14,11 @@ nodes-preserved g c =
     let new = c.contract_node.new.layer.order.items in
     let one_more : length new ≡ length old + 1 = ap length e.order ∙ length_push old x in
     let at = subst (λ (bs : List Bool). slice_get bs x ≡ Some true) c.deref-in-nodes.ensures.value c.marked-x.ensures in
-    let less : c.args.free - length old - 1 ≡ c.args.free - length new = omega (arith, one_more) in
+    let less : c.args.waiting.count - length old - 1 ≡ c.args.waiting.count - length new = omega (arith, one_more) in
     record {
       state = e.state;
       count = e.count ∙ inv.count;
       done = (let done = inv.done in let some = c.nodes-test.true in omega (arith, one_more));
-      waiting = subst (λ k. AreWaiting c.args.network.now new k (set c.nodes.waiting.items x false)) less
-          (waiting_less c.args.network.now old new (c.args.free - length old) x c.nodes.waiting.items at e.order inv.waiting);
+      waiting = subst (λ k. AreWaiting c.args.network.now new k (set c.nodes.marks.items x false)) less
+          (waiting_less c.args.network.now old new (c.args.waiting.count - length old) x c.nodes.marks.items at e.order inv.waiting);
     }

@@ -1,6 +1,6 @@
 use Rattle.std.proofs.Common.{◌≡◌, ◌+◌, ◌-◌, length}
 use Rattle.mode_network.specs.NetworkLists.{nodes_of}
-use Rattle.contractor.specs.Layers.{IsState, AreWaiting}
+use Rattle.contractor.specs.inside.Layers.{IsState, AreWaiting}
 use Rattle.contractor.proofs.contracting.contract_nodes.Given as goal
 
 abbrev pub invariant-nodes : goal.invariant-nodes
@@ -8,7 +8,7 @@ invariant-nodes g l = record {
   state : IsState l.network l.layer;
   count : length (l.layer).rows.items ≡ length (nodes_of l.network);
   done : length (l.layer).order.items + l.left ≡ l.number;
-  waiting : AreWaiting l.network (l.layer).order.items (l.free - length (l.layer).order.items) (l.waiting).items;
+  waiting : AreWaiting l.network (l.layer).order.items (l.fn.waiting.count - length (l.layer).order.items) (l.marks).items;
 }
 
 abbrev pub decreases-nodes : goal.decreases-nodes

@@ -6,9 +6,9 @@ use Rattle.contractor.proofs.contracting.free_nodes.Given as goal
 
 abbrev pub invariant-nodes : goal.invariant-nodes
 invariant-nodes l = record {
-  count : length (l.waiting).items ≡ l.v;
-  each : (v : ℕ) → slice_get (l.waiting).items v ≡ Some true → IsFree l.network v;
-  marked : count_by (λ b. b) (l.waiting).items ≡ l.count;
+  count : length (l.marks).items ≡ l.v;
+  each : (v : ℕ) → slice_get (l.marks).items v ≡ Some true → IsFree l.network v;
+  marked : count_by (λ b. b) (l.marks).items ≡ l.count;
   free : l.count ≡ free_below l.network l.v;
   few : l.count ≤ l.v;
 }

@@ -4,7 +4,7 @@ use Rattle.std.specs.declared.alloc.Global.{Global}
 use Rattle.std.proofs.lemmas.List.Elements.{All-contains}
 use Rattle.witness.specs.declared.edge.Edge.{Edge}
 use Rattle.contractor.specs.declared.layer.Layer.{Layer}
-use Rattle.contractor.specs.Layers.{FitsRows, AreSides, IsCut}
+use Rattle.contractor.specs.inside.Layers.{FitsRows, AreSides, IsCut}
 use Rattle.contractor.proofs.CutLemmas.{nodes_fit, edges_fit, first_are, second_are, cut_layer}
 use Rattle.contractor.proofs.cutting.cut.Goals as goal
 

@@ -1,7 +1,7 @@
 use Rattle.std.proofs.Common.{◌+◌, ◌∙◌, List, take, sym, ap, subst}
 use Rattle.witness.specs.declared.edge.Edge.{Edge}
 use Rattle.contractor.specs.declared.way.Side.{Side}
-use Rattle.contractor.specs.Layers.{AreSidesOf}
+use Rattle.contractor.specs.inside.Layers.{AreSidesOf}
 use Rattle.contractor.proofs.CutLemmas.{sides_begin, side_more, side_passed}
 use Rattle.contractor.proofs.cutting.push_sides.Goals as goal
 use Rattle.contractor.proofs.cutting.push_sides.Goals.{then-edge-x+in_ok-push, else-edge-x}

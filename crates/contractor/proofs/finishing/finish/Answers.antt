@@ -1,5 +1,5 @@
 use Rattle.std.proofs.Common.{sym, subst}
-use Rattle.contractor.specs.Layers.{IsFinished}
+use Rattle.contractor.specs.inside.Layers.{IsFinished}
 use Rattle.contractor.proofs.FinishLemmas.{is_hierarchy, finished}
 use Rattle.contractor.proofs.finishing.finish.Goals as goal
 

@@ -1,5 +1,5 @@
 use Rattle.std.proofs.Common.{◌≡◌, map}
-use Rattle.contractor.specs.Layers.{witness_of}
+use Rattle.contractor.specs.inside.Layers.{witness_of}
 use Rattle.contractor.proofs.finishing.witnesses.Given as goal
 
 abbrev pub invariant-walks : goal.invariant-walks

@@ -1,21 +1,23 @@
-use Rattle.std.proofs.Common.{◌+◌, ◌∙◌, List, take, sym, ap, subst}
+use Rattle.std.proofs.Common.{◌+◌, List, take, sym, ap, subst}
 use Rattle.witness.specs.declared.edge.Edge.{Edge}
 use Rattle.contractor.specs.declared.way.Way.{Way}
-use Rattle.contractor.specs.Layers.{AreWaysWith}
+use Rattle.contractor.specs.inside.Layers.{AreWaysWith}
 use Rattle.contractor.proofs.WayLemmas.{ways_begin, way_more, way_back}
 use Rattle.contractor.proofs.ways.push_ways.Goals as goal
-use Rattle.contractor.proofs.ways.push_ways.Goals.{then-side-edge+in_ok-push, else-side-edge}
+use Rattle.contractor.proofs.ways.push_ways.Goals.{then-side-edge+in_ok-push_way, else-side-edge}
 
 pub second-init : goal.second-init
-second-init c = ways_begin c.args.side c.args.ways.now.items
+second-init c = ways_begin c.args.row.now c.args.side c.args.ways.now.items
 
 pub second-preserved : goal.second-preserved
 second-preserved c =
     let i = c.second.edge-index in
-    let inv = c.second.invariant in
+    let old = c.second.ways.items in
     let d : Edge = record { to = 0; entry = 0; weight = 0 } in
+    let with_ = λ (ws : List Way). AreWaysWith c.args.row.now c.args.side (take (i + 1) c.args.second.now) c.args.ways.now.items ws in
     elim c.if-side-edge.branch [
-      | then-side-edge+in_ok-push w ↦ way_more c.args.side c.args.second.now c.args.ways.now.items c.second.ways.items c.if-side-edge.ways.items i d c.second-test.true (λ same. w.if-side-edge.true (sym same)) (ap (λ v. v.items) w.ways-is ∙ w.in_ok-push.ensures.items) inv
-      | else-side-edge w ↦ subst (λ (ws : List Way). AreWaysWith c.args.side (take (i + 1) c.args.second.now) c.args.ways.now.items ws) (sym (ap (λ v. v.items) w.ways-is))
-          (way_back c.args.side c.args.second.now c.args.ways.now.items c.second.ways.items i d c.second-test.true (sym w.if-side-edge.false) inv)
+      | then-side-edge+in_ok-push_way w ↦ subst with_ (sym (ap (λ v. v.items) w.ways-is))
+          (way_more c.args.row.now c.args.side c.args.second.now c.args.ways.now.items old w.push_way.new.ways.items i d c.second-test.true c.second.invariant (λ same. w.if-side-edge.true (sym same)) w.in_ok-push_way.ensures)
+      | else-side-edge w ↦ subst with_ (sym (ap (λ v. v.items) w.ways-is))
+          (way_back c.args.row.now c.args.side c.args.second.now c.args.ways.now.items old old i d c.second-test.true c.second.invariant (sym w.if-side-edge.false))
     ]

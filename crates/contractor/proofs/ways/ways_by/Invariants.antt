@@ -3,4 +3,4 @@ use Rattle.contractor.proofs.WayLemmas.{AreWaysSoFar}
 use Rattle.contractor.proofs.ways.ways_by.Given as goal
 
 abbrev pub invariant-first : goal.invariant-first
-invariant-first l = AreWaysSoFar (take l.side-index l.first) l.second (l.ways).items
+invariant-first l = AreWaysSoFar (l.layer).rows.items (take l.side-index l.side-items) (l.sides).second.items (l.ways).items
