@@ -6,6 +6,7 @@
 //! the lines behind those. `folder NAME OTHER` begins a copy of each text `OTHER/..`, `without NAME` takes a text away, and a
 //! text in the place of one of the same name does so too. Empty lines and lines that begin with `#` say nothing.
 
+use crate::escapes::push_unescaped;
 use crate::words;
 use std::alloc::{AllocError, Global};
 
@@ -50,11 +51,19 @@ impl Script {
             return Ok(true);
         }
         if let Some(content) = line.strip_prefix(b"|") {
-            let bytes = unescaped(alloc, content)?;
-            self.push(&bytes)?;
+            self.push_line(content)?;
             return Ok(true);
         }
         self.takes_word(alloc, line)
+    }
+
+    /// Takes the lines of a file; whether each said something of texts, or nothing.
+    pub fn takes_all(&mut self, alloc: Global, file: &[u8]) -> Result<bool, AllocError> {
+        let mut all = true;
+        for line in file.split(|byte| *byte == b'\n') {
+            all = self.takes(alloc, line)? && all;
+        }
+        Ok(all)
     }
 
     /// Takes a line that begins with such a word.
@@ -113,6 +122,14 @@ impl Script {
         self.push(&bytes)
     }
 
+    /// Puts a line at the end of the last text.
+    fn push_line(&mut self, line: &[u8]) -> Result<(), AllocError> {
+        if let Some(last) = self.texts.last_mut() {
+            push_unescaped(&mut last.bytes, line)?;
+        }
+        Ok(())
+    }
+
     /// Puts bytes at the end of the last text.
     fn push(&mut self, bytes: &[u8]) -> Result<(), AllocError> {
         if let Some(last) = self.texts.last_mut() {
@@ -158,42 +175,4 @@ fn behind_line(text: &[u8]) -> &[u8] {
         None => text.len(),
     };
     &text[end..]
-}
-
-/// What was read last of a line.
-#[derive(Clone, Copy)]
-enum Read {
-    Byte,
-    Backslash,
-    Hex,
-    HighDigit(u8),
-}
-
-/// The line that is written so.
-fn unescaped(alloc: Global, line: &[u8]) -> Result<Vec<u8>, AllocError> {
-    let mut bytes = Vec::new(alloc);
-    let mut read = Read::Byte;
-    for byte in line {
-        read = take_byte(&mut bytes, read, *byte)?;
-    }
-    match read {
-        Read::Backslash => {}
-        _ => bytes.push(b'\n')?,
-    }
-    Ok(bytes)
-}
-
-/// Takes a byte as it stands in the line.
-fn take_byte(bytes: &mut Vec<u8>, read: Read, byte: u8) -> Result<Read, AllocError> {
-    let meant = match (read, byte) {
-        (Read::Byte, b'\\') => return Ok(Read::Backslash),
-        (Read::Backslash, b'x') => return Ok(Read::Hex),
-        (Read::Hex, _) => return Ok(Read::HighDigit(words::digit(byte))),
-        (Read::Backslash, b'r') => b'\r',
-        (Read::Backslash, b't') => b'\t',
-        (Read::HighDigit(high), _) => (high << 4) | words::digit(byte),
-        (Read::Byte | Read::Backslash, _) => byte,
-    };
-    bytes.push(meant)?;
-    Ok(Read::Byte)
 }

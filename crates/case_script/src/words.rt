@@ -15,6 +15,11 @@ pub fn cut(line: &[u8]) -> (&[u8], &[u8]) {
     }
 }
 
+/// The text of these bytes; an empty one where they are none.
+pub fn text(bytes: &[u8]) -> &str {
+    str::from_utf8(bytes).unwrap_or("")
+}
+
 /// The number that the first digits of a word spell.
 pub fn number(word: &[u8]) -> u64 {
     let mut number: u64 = 0;
@@ -67,7 +72,7 @@ fn limited(caps: Caps, words: &[u8]) -> (Caps, &[u8]) {
 
 /// The kind that a word names.
 fn kind(name: &[u8]) -> Option<Kind> {
-    match str::from_utf8(name).ok()? {
+    match text(name) {
         "nodes" => Some(Kind::Nodes),
         "arcs" => Some(Kind::Arcs),
         "links" => Some(Kind::Links),

@@ -4,8 +4,8 @@ ghost use Rattle.std.specs.Prelude.{◌≡◌, ◌<◌, Some, IfSome, length};
 ghost use Rattle.search_laws.specs.GraphLaws.{HasArc};
 ghost use Rattle.plain_graph.specs.PlainArcs.{plain_meaning};
 
-use crate::{out, parts};
-use case_script::words;
+use crate::parts;
+use case_script::{Answer, words};
 use mode_network::{Journey, Network};
 use plain_graph::Plain;
 use plan_base::Time;
@@ -15,65 +15,65 @@ use timetable_arcs::{Instance, Timetable};
 use unpack::from_plain;
 
 /// `arcs REGION T`: the arcs out of each node, and when each arrives that is taken at this time.
-pub fn arcs(rt: &HostRuntime, network: &Network, time: &[u8]) {
+pub fn arcs(out: &mut Answer, network: &Network, time: &[u8]) {
     let plain = Plain::new(network);
-    out::text(rt, "the arcs of the graph");
+    out.text("the arcs of the graph");
     for v in 0..plain.nodes() {
-        print_arcs(rt, &plain, v, Time::from(words::number(time)));
+        print_arcs(out, &plain, v, Time::from(words::number(time)));
     }
 }
 
-fn print_arcs(rt: &HostRuntime, plain: &Plain<'_>, v: u32, t: Time) {
+fn print_arcs(out: &mut Answer, plain: &Plain<'_>, v: u32, t: Time) {
     if v >= plain.nodes() || t >= 1_000_000_000_000_000_000_000 {
         return;
     }
     for i in 0..plain.arcs(v) {
         let arc = plain.arc_at(v, i);
-        out::shown(rt, "\n", v);
-        out::shown(rt, ", ", i);
-        out::debug(rt, ": ", plain.plain_arc(v, i));
-        out::shown(rt, " to ", arc.to);
-        out::debug(rt, ", letter ", arc.letter);
-        out::debug(rt, ", ride ", plain.ride(v, i));
-        out::debug(rt, ", arrives ", plain.arrive(v, i, t));
+        out.shown("\n", v);
+        out.shown(", ", i);
+        out.debug(": ", plain.plain_arc(v, i));
+        out.shown(" to ", arc.to);
+        out.debug(", letter ", arc.letter);
+        out.debug(", ride ", plain.ride(v, i));
+        out.debug(", arrives ", plain.arrive(v, i, t));
     }
 }
 
 /// `unpacked REGION V T I`: the steps of the walk by the arc at place I of those out of a node, taken at a time.
-pub fn unpacked(rt: &HostRuntime, network: &Network, words: &[u8]) {
+pub fn unpacked(out: &mut Answer, network: &Network, words: &[u8]) {
     let (node, at) = (parts::node(words, 0), Time::from(parts::number(words, 1)));
     let plain = Plain::new(network);
     match hop(&plain, node, at, parts::number(words, 2)) {
-        Some(hop) => print_walk(rt, &plain, node, at, hop),
-        None => out::text(rt, "no arc, or it never arrives"),
+        Some(hop) => print_walk(out, &plain, node, at, hop),
+        None => out.text("no arc, or it never arrives"),
     }
 }
 
 /// Prints the steps of the walk from a node by a hop.
-fn print_walk(rt: &HostRuntime, plain: &Plain<'_>, node: u32, at: Time, hop: Hop)
+fn print_walk(out: &mut Answer, plain: &Plain<'_>, node: u32, at: Time, hop: Hop)
     requires has { HasArc (plain_meaning plain.now.network.now plain.now.timetable.now) node hop.arc }
     requires arrives { (plain_meaning plain.now.network.now plain.now.timetable.now).arrive node hop.arc at
         ≡ Some hop.at }
     requires to { hop.to ≡ ((plain_meaning plain.now.network.now plain.now.timetable.now).arc_at node
         hop.arc).to }
 {
-    if let Ok(hops) = vec![in rt.alloc(); hop] {
+    if let Ok(hops) = vec![in out.alloc(); hop] {
         let walk = Walk {
             node,
             state: 0,
             at,
             hops,
         };
-        if let Ok(journey) = from_plain(rt.alloc(), plain, &walk) {
-            print_journey(rt, &journey);
+        if let Ok(journey) = from_plain(out.alloc(), plain, &walk) {
+            print_journey(out, &journey);
         }
     }
 }
 
-fn print_journey(rt: &HostRuntime, journey: &Journey) {
-    out::shown(rt, "from ", journey.start);
-    out::shown(rt, " at ", journey.at);
-    out::debug(rt, ": ", &journey.steps);
+fn print_journey(out: &mut Answer, journey: &Journey) {
+    out.shown("from ", journey.start);
+    out.shown(" at ", journey.at);
+    out.debug(": ", &journey.steps);
 }
 
 /// The hop by the arc at place `i` of those out of `v`, taken at `t`.
@@ -104,57 +104,57 @@ fn hop(plain: &Plain<'_>, v: u32, t: Time, i: u64) -> Option<Hop>
 }
 
 /// `patterns REGION`: the patterns of the timetable, and the rides from each stop.
-pub fn patterns(rt: &HostRuntime, network: &Network) {
+pub fn patterns(out: &mut Answer, network: &Network) {
     let table = network.timetable();
-    out::shown(rt, "", table.patterns());
-    out::text(rt, " patterns");
+    out.shown("", table.patterns());
+    out.text(" patterns");
     for p in 0..table.patterns() {
-        out::shown(rt, "\n", p);
-        out::shown(rt, ": letter ", table.pattern_letter(p));
-        out::shown(rt, ", ", table.pattern_calls(p).len());
-        out::text(rt, " calls");
+        out.shown("\n", p);
+        out.shown(": letter ", table.pattern_letter(p));
+        out.shown(", ", table.pattern_calls(p).len());
+        out.text(" calls");
     }
     for v in 0..network.nodes() {
         if let Some(stop) = network.stop_at(v) {
-            print_rides(rt, table, stop);
+            print_rides(out, table, stop);
         }
     }
 }
 
 /// The places to board at a stop, and its rides.
-fn print_rides(rt: &HostRuntime, table: &Timetable, stop: u32)
+fn print_rides(out: &mut Answer, table: &Timetable, stop: u32)
     requires { stop < table.now.stops }
 {
     for board in table.boards(stop) {
-        out::shown(rt, "\nstop ", stop);
-        out::debug(rt, ": ", board);
+        out.shown("\nstop ", stop);
+        out.debug(": ", board);
     }
     for i in 0..table.rides(stop) {
-        out::shown(rt, "\nstop ", stop);
-        out::debug(rt, ": ", table.ride(stop, i));
+        out.shown("\nstop ", stop);
+        out.debug(": ", table.ride(stop, i));
     }
 }
 
 /// `runs REGION PATTERN CALL TIME`: the next run of a pattern that leaves a call at a time or later, and the last that is there by then.
-pub fn runs(rt: &HostRuntime, network: &Network, words: &[u8]) {
+pub fn runs(out: &mut Answer, network: &Network, words: &[u8]) {
     let (p, call) = (parts::node(words, 0), parts::node(words, 1));
     let time = Time::from(parts::number(words, 2));
     let table = network.timetable();
     if p >= table.patterns() || call as usize >= table.pattern_calls(p).len() {
-        out::text(rt, "no such call");
+        out.text("no such call");
     } else {
-        print_run(rt, "next ", table.next(p, call, time));
-        print_run(rt, ", last ", table.last(p, call, time));
+        print_run(out, "next ", table.next(p, call, time));
+        print_run(out, ", last ", table.last(p, call, time));
     }
 }
 
-fn print_run(rt: &HostRuntime, before: &str, run: Option<Instance>) {
-    out::text(rt, before);
+fn print_run(out: &mut Answer, before: &str, run: Option<Instance>) {
+    out.text(before);
     match run {
         Some(run) => {
-            out::shown(rt, "trip ", run.trip);
-            out::shown(rt, " of day ", run.day);
+            out.shown("trip ", run.trip);
+            out.shown(" of day ", run.day);
         }
-        None => out::text(rt, "none"),
+        None => out.text("none"),
     }
 }

@@ -3,74 +3,75 @@
 ghost use Rattle.std.specs.Prelude.{◌<◌};
 ghost use Rattle.mode_expression.specs.Form.{form_of, IsUsable};
 
-use crate::{out, parts};
+use crate::parts;
 use automaton::{Collapsed, OneState, Positions};
+use case_script::Answer;
 use mode_expression::{Expr, Letter, parse};
 use search_laws::{LETTERS, Labels};
 
 /// `accepts WORD EXPR`, the letters of the word parted by `,`: whether the positions accept the word, and whether the
 /// collapsed automaton does.
-pub fn accepts(rt: &HostRuntime, words: &[u8]) {
-    match parse(rt.alloc(), parts::behind(words, 1)) {
-        Ok(expr) => print_accepted(rt, &expr, parts::word(words, 0)),
-        Err(fault) => out::shown(rt, "", &fault),
+pub fn accepts(out: &mut Answer, words: &[u8]) {
+    match parse(out.alloc(), parts::behind(words, 1)) {
+        Ok(expr) => print_accepted(out, &expr, parts::word(words, 0)),
+        Err(fault) => out.shown("", &fault),
     }
 }
 
-fn print_accepted(rt: &HostRuntime, expr: &Expr, word: &[u8])
+fn print_accepted(out: &mut Answer, expr: &Expr, word: &[u8])
     requires { IsUsable (form_of expr.now) }
 {
-    if let Ok(positions) = Positions::of(rt.alloc(), expr) {
-        out::shown(rt, "positions ", is_accepted(&positions, word));
+    if let Ok(positions) = Positions::of(out.alloc(), expr) {
+        out.shown("positions ", is_accepted(&positions, word));
         let collapsed = Collapsed::new(positions);
-        out::shown(rt, ", collapsed ", is_accepted(&collapsed, word));
+        out.shown(", collapsed ", is_accepted(&collapsed, word));
     }
 }
 
 /// `one WORD`: whether the automaton of one state accepts a word, as it does each.
-pub fn one(rt: &HostRuntime, word: &[u8]) {
-    out::shown(rt, "", OneState.states());
-    out::shown(rt, " state; accepted ", is_accepted(&OneState, word));
+pub fn one(out: &mut Answer, word: &[u8]) {
+    out.shown("", OneState.states());
+    out.shown(" state; accepted ", is_accepted(&OneState, word));
 }
 
 /// `size EXPRESSION`: how many states the position automaton has, and how many moves its last one.
-pub fn size(rt: &HostRuntime, text: &[u8]) {
-    match parse(rt.alloc(), text) {
-        Ok(expr) => print_size(rt, &expr),
-        Err(fault) => out::shown(rt, "", &fault),
+pub fn size(out: &mut Answer, text: &[u8]) {
+    match parse(out.alloc(), text) {
+        Ok(expr) => print_size(out, &expr),
+        Err(fault) => out.shown("", &fault),
     }
 }
 
-fn print_size(rt: &HostRuntime, expr: &Expr)
+fn print_size(out: &mut Answer, expr: &Expr)
     requires { IsUsable (form_of expr.now) }
 {
-    if let Ok(positions) = Positions::of(rt.alloc(), expr) {
+    if let Ok(positions) = Positions::of(out.alloc(), expr) {
         let count = positions.states();
         let moves = match count.checked_sub(1) {
             Some(last) => positions.moves(last),
             None => 0,
         };
-        out::shown(rt, "", count);
-        out::shown(rt, " states; the last has ", moves);
-        out::text(rt, " moves");
+        out.shown("", count);
+        out.shown(" states; the last has ", moves);
+        out.text(" moves");
     }
 }
 
 /// `states EXPR`: the moves of each state of the positions, and of the collapsed automaton; a move as the bits of its
 /// letters and the state that it leads to.
-pub fn states(rt: &HostRuntime, text: &[u8]) {
-    match parse(rt.alloc(), text) {
-        Ok(expr) => print_automata(rt, &expr),
-        Err(fault) => out::shown(rt, "", &fault),
+pub fn states(out: &mut Answer, text: &[u8]) {
+    match parse(out.alloc(), text) {
+        Ok(expr) => print_automata(out, &expr),
+        Err(fault) => out.shown("", &fault),
     }
 }
 
-fn print_automata(rt: &HostRuntime, expr: &Expr)
+fn print_automata(out: &mut Answer, expr: &Expr)
     requires { IsUsable (form_of expr.now) }
 {
-    if let Ok(positions) = Positions::of(rt.alloc(), expr) {
-        print_states(rt, "", &positions);
-        print_states(rt, "\ncollapsed ", &Collapsed::new(positions));
+    if let Ok(positions) = Positions::of(out.alloc(), expr) {
+        print_states(out, "", &positions);
+        print_states(out, "\ncollapsed ", &Collapsed::new(positions));
     }
 }
 
@@ -134,16 +135,16 @@ fn bit(state: u32) -> u128 {
     1u128 << (state % 128)
 }
 
-fn print_states<L: Labels>(rt: &HostRuntime, before: &str, labels: &L) {
-    out::shown(rt, before, labels.states());
-    out::text(rt, " states:");
+fn print_states<L: Labels>(out: &mut Answer, before: &str, labels: &L) {
+    out.shown(before, labels.states());
+    out.text(" states:");
     for state in 0..labels.states() {
-        print_moves(rt, labels, state);
+        print_moves(out, labels, state);
     }
 }
 
 /// The moves of a state by some letter, if there are any.
-fn print_moves<L: Labels>(rt: &HostRuntime, labels: &L, state: u32)
+fn print_moves<L: Labels>(out: &mut Answer, labels: &L, state: u32)
     requires { state < (L.automaton labels.now).states }
 {
     let mut some = false;
@@ -151,17 +152,17 @@ fn print_moves<L: Labels>(rt: &HostRuntime, labels: &L, state: u32)
         let step = labels.move_at(state, i);
         if step.letters != 0 {
             if !some {
-                out::shown(rt, " ", state);
-                out::text(rt, "[");
+                out.shown(" ", state);
+                out.text("[");
             } else {
-                out::text(rt, " ");
+                out.text(" ");
             }
-            out::hexadecimal(rt, "", u128::from(step.letters));
-            out::shown(rt, ">", step.to);
+            out.hexadecimal("", u128::from(step.letters));
+            out.shown(">", step.to);
             some = true;
         }
     }
     if some {
-        out::text(rt, "]");
+        out.text("]");
     }
 }

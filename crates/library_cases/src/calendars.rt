@@ -2,23 +2,23 @@
 //!
 //! A region's days are given as `FIRST COUNT RULE`, where RULE names a text, or is `-` for days of 24 hours.
 
-use crate::{out, parts};
-use case_script::{Script, words};
+use crate::parts;
+use case_script::{Answer, Script, words};
 use plan_base::Time;
 use service_days::{Days, RangeFault, ServiceRule, is_date, read_date};
 use std::alloc::{AllocError, Global};
 
 /// `date TEXT`: whether a number is a date, and which one the digits are.
-pub fn date(rt: &HostRuntime, text: &[u8]) {
-    out::shown(rt, "a date: ", is_date(words::node(text)));
-    out::debug(rt, "; read as ", read_date(text));
+pub fn date(out: &mut Answer, text: &[u8]) {
+    out.shown("a date: ", is_date(words::node(text)));
+    out.debug("; read as ", read_date(text));
 }
 
 /// What a call answers of the days that its first three words give.
-pub fn of_days(rt: &HostRuntime, script: &Script, call: &str, words: &[u8]) {
-    match days_of(rt.alloc(), script, words) {
-        Ok(days) => answer(rt, script, &days, call, parts::behind(words, 3)),
-        Err(fault) => out::debug(rt, "", &fault),
+pub fn of_days(out: &mut Answer, script: &Script, call: &str, words: &[u8]) {
+    match days_of(out.alloc(), script, words) {
+        Ok(days) => answer(out, script, &days, call, parts::behind(words, 3)),
+        Err(fault) => out.debug("", &fault),
     }
 }
 
@@ -40,51 +40,51 @@ fn days_of(alloc: Global, script: &Script, words: &[u8]) -> Result<Days, RangeFa
 /// - `clock MS`: how a time is printed, and as what that is read again;
 /// - `moment TEXT`: the time that the text of this name spells;
 /// - `service WEEKDAYS FROM TO ADDED REMOVED`: the days of a service.
-fn answer(rt: &HostRuntime, script: &Script, days: &Days, call: &str, words: &[u8]) {
+fn answer(out: &mut Answer, script: &Script, days: &Days, call: &str, words: &[u8]) {
     match call {
-        "days" => print_days(rt, days),
-        "day" => out::debug(rt, "", days.day_of(words::node(words))),
-        "clock" => clock(rt, days, words),
-        "moment" => out::debug(rt, "", days.read_clock(script.text(words))),
-        _ => service(rt, days, words),
+        "days" => print_days(out, days),
+        "day" => out.debug("", days.day_of(words::node(words))),
+        "clock" => clock(out, days, words),
+        "moment" => out.debug("", days.read_clock(script.text(words))),
+        _ => service(out, days, words),
     }
 }
 
-fn print_days(rt: &HostRuntime, days: &Days) {
-    print_range(rt, days);
+fn print_days(out: &mut Answer, days: &Days) {
+    print_range(out, days);
     for day in 0..days.numbers() {
-        out::shown(rt, "\n", day);
-        out::shown(rt, ": ", days.date(day));
-        out::shown(rt, " from ", days.base(day));
+        out.shown("\n", day);
+        out.shown(": ", days.date(day));
+        out.shown(" from ", days.base(day));
     }
 }
 
 /// Prints the first date, the count of the days and their zone.
-pub fn print_range(rt: &HostRuntime, days: &Days) {
-    out::shown(rt, "", days.first());
-    out::shown(rt, ", ", days.count());
-    out::text(rt, " days, ");
-    out::bytes(rt, days.zone().unwrap_or(b"no zone"));
+pub fn print_range(out: &mut Answer, days: &Days) {
+    out.shown("", days.first());
+    out.shown(", ", days.count());
+    out.text(" days, ");
+    out.bytes(days.zone().unwrap_or(b"no zone"));
 }
 
-fn clock(rt: &HostRuntime, days: &Days, word: &[u8]) {
+fn clock(out: &mut Answer, days: &Days, word: &[u8]) {
     let time = if word == b"last".as_slice() {
         u128::MAX
     } else {
         Time::from(words::number(word))
     };
-    if let Ok(text) = days.clock_text(rt.alloc(), time) {
-        out::text(rt, &text);
-        out::debug(rt, ", read as ", days.read_clock(text.as_bytes()));
+    if let Ok(text) = days.clock_text(out.alloc(), time) {
+        out.text(&text);
+        out.debug(", read as ", days.read_clock(text.as_bytes()));
     }
 }
 
 /// WEEKDAYS is seven digits, Monday first, or `-` for no rule; ADDED and REMOVED are dates that commas part.
-fn service(rt: &HostRuntime, days: &Days, words: &[u8]) {
-    if let Ok(added) = dates(rt.alloc(), parts::word(words, 3)) {
-        if let Ok(removed) = dates(rt.alloc(), parts::behind(words, 4)) {
+fn service(out: &mut Answer, days: &Days, words: &[u8]) {
+    if let Ok(added) = dates(out.alloc(), parts::word(words, 3)) {
+        if let Ok(removed) = dates(out.alloc(), parts::behind(words, 4)) {
             let set = days.days_of(rule_of(words), &added, &removed).0;
-            let _ = print!(rt; "{set:b}");
+            out.binary(set);
         }
     }
 }

@@ -1,7 +1,7 @@
 //! What files are read from and output is written to: in memory, and a folder's.
 
-use crate::{out, parts};
-use case_script::{Script, words};
+use crate::parts;
+use case_script::{Answer, Script, words};
 use plan_base::{
     FolderShelf, MemoryShelf, MemorySink, ReadFault, Shelf, Sink, StreamSink, read_whole, write_all,
 };
@@ -11,47 +11,48 @@ use std::fs;
 
 /// `whole TEXT NAME CAP [K ..]`: the text of this name as the file `a`, the K-th reads of which fail; what reading the file NAME
 /// whole answers, of at most CAP bytes.
-pub fn whole(rt: &HostRuntime, script: &Script, words: &[u8]) {
+pub fn whole(out: &mut Answer, script: &Script, words: &[u8]) {
     let text = script.text(parts::word(words, 0));
-    let (name, cap) = (out::of(parts::word(words, 1)), parts::number(words, 2));
-    if let Ok(mut shelf) = shelf_of(rt.alloc(), text, parts::behind(words, 3)) {
-        print_whole(rt, &mut shelf, name, cap);
+    let (name, cap) = (words::text(parts::word(words, 1)), parts::number(words, 2));
+    if let Ok(mut shelf) = shelf_of(out.alloc(), text, parts::behind(words, 3)) {
+        print_whole(out, &mut shelf, name, cap);
     }
 }
 
 /// Prints what reading a file whole answers, of at most so many bytes.
-fn print_whole<S: Shelf>(rt: &HostRuntime, shelf: &mut S, name: &str, cap: u64) {
-    print_read(rt, read_whole(rt.alloc(), shelf, name, cap));
+fn print_whole<S: Shelf>(out: &mut Answer, shelf: &mut S, name: &str, cap: u64) {
+    let read = read_whole(out.alloc(), shelf, name, cap);
+    print_read(out, read);
 }
 
 /// `reads TEXT ROOM AT ..`: what reads of the text of this name answer from each place in turn, into the same room.
-pub fn reads(rt: &HostRuntime, script: &Script, words: &[u8]) {
+pub fn reads(out: &mut Answer, script: &Script, words: &[u8]) {
     let text = script.text(parts::word(words, 0));
     let size = parts::number(words, 1) as usize;
-    if let Ok(mut shelf) = shelf_of(rt.alloc(), text, b"") {
-        if let Ok(mut room) = vec![in rt.alloc(); b'.'; size] {
-            print_reads(rt, &mut shelf, &mut room, parts::behind(words, 2));
+    if let Ok(mut shelf) = shelf_of(out.alloc(), text, b"") {
+        if let Ok(mut room) = vec![in out.alloc(); b'.'; size] {
+            print_reads(out, &mut shelf, &mut room, parts::behind(words, 2));
         }
     }
 }
 
-fn print_reads(rt: &HostRuntime, shelf: &mut MemoryShelf, room: &mut [u8], places: &[u8]) {
+fn print_reads(out: &mut Answer, shelf: &mut MemoryShelf, room: &mut [u8], places: &[u8]) {
     for i in 0..parts::count(places, b' ') {
         let answer = shelf.read("a", parts::number(places, i), room);
-        out::debug(rt, "", answer);
-        print_room(rt, room);
-        out::text(rt, "; ");
+        out.debug("", answer);
+        print_room(out, room);
+        out.text("; ");
     }
 }
 
 /// `written_to ROOM MOST K BYTES`: whether all bytes were written to a sink with room for so many, of which each write takes so many
 /// at most and the K-th write fails; and what was.
-pub fn written_to(rt: &HostRuntime, words: &[u8]) {
-    if let Ok(mut sink) = sink_of(rt.alloc(), words) {
+pub fn written_to(out: &mut Answer, words: &[u8]) {
+    if let Ok(mut sink) = sink_of(out.alloc(), words) {
         let whole = write_all(&mut sink, parts::behind(words, 3)).is_ok();
-        out::shown(rt, "whole ", whole);
-        out::text(rt, ": ");
-        out::bytes(rt, sink.bytes());
+        out.shown("whole ", whole);
+        out.text(": ");
+        out.bytes(sink.bytes());
     }
 }
 
@@ -61,28 +62,28 @@ fn sink_of(alloc: Global, words: &[u8]) -> Result<MemorySink, AllocError> {
     MemorySink::new(alloc, room as usize, (most as usize).max(1), fail)
 }
 
-/// `folder`: what is read of files that are written to the folder of the run: one of two pieces; none; the folder itself; one that is
-/// replaced while it is read. And what a stream with room for four bytes says to five.
-pub fn folder(rt: &HostRuntime) {
-    out::shown(rt, "written ", write(rt, "written.txt", "first ", "second"));
-    print_file(rt, "written.txt", 12);
-    print_file(rt, "written.txt", 11);
-    print_file(rt, "absent.txt", 12);
-    print_file(rt, ".", 12);
-    print_file(rt, "written.txt/below", 12);
+/// `folder_of_run`: what is read of files that are written to the folder of the run: one of two pieces; none; the folder itself; one that
+/// is replaced while it is read. And what a stream with room for four bytes says to five.
+pub fn folder(rt: &HostRuntime, out: &mut Answer) {
+    out.shown("written ", write(rt, "written.txt", "first ", "second"));
+    print_file(rt, out, "written.txt", 12);
+    print_file(rt, out, "written.txt", 11);
+    print_file(rt, out, "absent.txt", 12);
+    print_file(rt, out, ".", 12);
+    print_file(rt, out, "written.txt/below", 12);
     remove(rt, "written.txt");
     let mut room = [b'.'; 4];
-    print_replaced(rt, &mut room);
+    print_replaced(rt, out, &mut room);
     let full = write_all(&mut StreamSink::new(room.as_mut_slice()), b"12345").is_ok();
-    out::shown(rt, "\nfive bytes fit into four: ", full);
+    out.shown("\nfive bytes fit into four: ", full);
 }
 
 /// Prints what is read of a file in the folder of the run, of at most so many bytes.
-fn print_file(rt: &HostRuntime, name: &str, cap: u64) {
-    out::text(rt, "\n");
-    out::text(rt, name);
-    out::text(rt, ": ");
-    print_whole(rt, &mut FolderShelf::new(rt), name, cap);
+fn print_file(rt: &HostRuntime, out: &mut Answer, name: &str, cap: u64) {
+    out.text("\n");
+    out.text(name);
+    out.text(": ");
+    print_whole(out, &mut FolderShelf::new(rt), name, cap);
 }
 
 /// Writes a file of two pieces to the folder of the run; whether all was written.
@@ -102,38 +103,35 @@ fn remove(rt: &HostRuntime, name: &str) {
 }
 
 /// What is read of a file, piece by piece, into the room of a piece, that is replaced behind the first piece.
-fn print_replaced(rt: &HostRuntime, room: &mut [u8]) {
+fn print_replaced(rt: &HostRuntime, out: &mut Answer, room: &mut [u8]) {
     let old = write(rt, "old.txt", "old ", "bytes");
     let new = write(rt, "new.txt", "new", "");
-    out::shown(rt, "\nwritten ", (old && new));
-    print_pieces(rt, &mut FolderShelf::new(rt), room);
-    remove(rt, "old.txt");
-}
-
-fn print_pieces<S: Shelf>(rt: &HostRuntime, shelf: &mut S, room: &mut [u8]) {
-    print_piece(rt, shelf, ", first ", 0, room);
+    out.shown("\nwritten ", (old && new));
+    let mut shelf = FolderShelf::new(rt);
+    print_piece(out, &mut shelf, ", first ", 0, room);
     let _ = fs::rename(rt, "new.txt", "old.txt");
-    print_piece(rt, shelf, ", next ", 4, room);
-    print_room(rt, room);
-    print_piece(rt, shelf, ", again ", 0, room);
-    print_room(rt, room);
+    print_piece(out, &mut shelf, ", next ", 4, room);
+    print_room(out, room);
+    print_piece(out, &mut shelf, ", again ", 0, room);
+    print_room(out, room);
+    remove(rt, "old.txt");
 }
 
 /// Reads a piece of the file that is replaced.
 fn print_piece<S: Shelf>(
-    rt: &HostRuntime,
+    out: &mut Answer,
     shelf: &mut S,
     before: &str,
     from: u64,
     room: &mut [u8],
 ) {
     let answer = shelf.read("old.txt", from, room);
-    out::debug(rt, before, answer);
+    out.debug(before, answer);
 }
 
-fn print_room(rt: &HostRuntime, room: &[u8]) {
-    out::text(rt, " ");
-    out::bytes(rt, room);
+fn print_room(out: &mut Answer, room: &[u8]) {
+    out.text(" ");
+    out.bytes(room);
 }
 
 /// A shelf with the file `a`, whose reads of these numbers fail.
@@ -161,13 +159,13 @@ fn numbers_of(alloc: Global, words: &[u8]) -> Result<Vec<u64>, AllocError> {
     Ok(numbers)
 }
 
-fn print_read(rt: &HostRuntime, read: Result<Vec<u8>, ReadFault>) {
+fn print_read(out: &mut Answer, read: Result<Vec<u8>, ReadFault>) {
     match read {
-        Ok(bytes) if bytes.len() < 100 => out::bytes(rt, &bytes),
+        Ok(bytes) if bytes.len() < 100 => out.bytes(&bytes),
         Ok(bytes) => {
-            out::shown(rt, "", bytes.len());
-            out::text(rt, " bytes");
+            out.shown("", bytes.len());
+            out.text(" bytes");
         }
-        Err(fault) => out::debug(rt, "", &fault),
+        Err(fault) => out.debug("", &fault),
     }
 }

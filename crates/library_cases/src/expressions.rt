@@ -1,23 +1,23 @@
 //! Expressions and letters.
 
-use crate::out;
+use case_script::Answer;
 use mode_expression::{Expr, Letter, parse};
 use std::alloc::Global;
 
 /// `expression TEXT`, and `spelled NAME` of the text of this name: the shortest text of what a text spells, which spells the same; or
 /// its fault.
-pub fn expression(rt: &HostRuntime, text: &[u8]) {
-    match parse(rt.alloc(), text) {
-        Ok(expr) => print_expression(rt, &expr),
-        Err(fault) => out::shown(rt, "", &fault),
+pub fn expression(out: &mut Answer, text: &[u8]) {
+    match parse(out.alloc(), text) {
+        Ok(expr) => print_expression(out, &expr),
+        Err(fault) => out.shown("", &fault),
     }
 }
 
-fn print_expression(rt: &HostRuntime, expr: &Expr) {
-    if let Ok(spelled) = expr.to_string(rt.alloc()) {
-        let same = is_spelled_so(rt.alloc(), &spelled);
-        out::text(rt, &spelled);
-        out::shown(rt, ", which spells the same: ", same);
+fn print_expression(out: &mut Answer, expr: &Expr) {
+    if let Ok(spelled) = expr.to_string(out.alloc()) {
+        let same = is_spelled_so(out.alloc(), &spelled);
+        out.text(&spelled);
+        out.shown(", which spells the same: ", same);
     }
 }
 
@@ -38,23 +38,23 @@ fn is_written_so(alloc: Global, expr: &Expr, text: &str) -> bool {
 }
 
 /// `letters`: each letter by its number: its name, whether it is a road's, and whether the name gives it again.
-pub fn letters(rt: &HostRuntime) {
+pub fn letters(out: &mut Answer) {
     for number in 0..16 {
-        out::shown(rt, "", number);
+        out.shown("", number);
         match Letter::from_number(number) {
-            Some(letter) => print_letter(rt, letter),
-            None => out::text(rt, ": no letter\n"),
+            Some(letter) => print_letter(out, letter),
+            None => out.text(": no letter\n"),
         }
     }
-    out::debug(rt, "any: ", Letter::from_name(b"any"));
+    out.debug("any: ", Letter::from_name(b"any"));
 }
 
-fn print_letter(rt: &HostRuntime, letter: Letter) {
+fn print_letter(out: &mut Answer, letter: Letter) {
     let name = letter.name();
     let same = Letter::from_name(name.as_bytes()) == Some(letter);
-    out::shown(rt, ": ", name);
-    out::shown(rt, ", number ", letter.number());
-    out::shown(rt, ", road ", letter.is_road());
-    out::shown(rt, ", by its name ", same);
-    out::text(rt, "\n");
+    out.shown(": ", name);
+    out.shown(", number ", letter.number());
+    out.shown(", road ", letter.is_road());
+    out.shown(", by its name ", same);
+    out.text("\n");
 }

@@ -1,11 +1,11 @@
 //! Timetable feeds.
 
-use crate::{out, parts};
-use case_script::{Script, words};
+use crate::parts;
+use case_script::{Answer, Script, words};
 use gtfs_tables::{Feed, FeedFault, FeedFiles, read_feed};
 
 /// `feed FOLDER [KIND MOST]`: the rows of the feed whose files are the texts in a folder; or its first fault, in both spellings.
-pub fn feed(rt: &HostRuntime, script: &Script, words: &[u8]) {
+pub fn feed(out: &mut Answer, script: &Script, words: &[u8]) {
     let folder = parts::word(words, 0);
     let files = FeedFiles {
         agency: file(script, folder, "/agency.txt"),
@@ -18,9 +18,9 @@ pub fn feed(rt: &HostRuntime, script: &Script, words: &[u8]) {
         stop_times: file(script, folder, "/stop_times.txt"),
     };
     let caps = words::caps(parts::behind(words, 1));
-    match read_feed(rt.alloc(), &files, &caps) {
-        Ok(feed) => print_feed(rt, &feed),
-        Err(fault) => print_fault(rt, &fault),
+    match read_feed(out.alloc(), &files, &caps) {
+        Ok(feed) => print_feed(out, &feed),
+        Err(fault) => print_fault(out, &fault),
     }
 }
 
@@ -34,55 +34,55 @@ fn file<'a>(script: &'a Script, folder: &[u8], name: &str) -> Option<&'a [u8]> {
     None
 }
 
-fn print_fault(rt: &HostRuntime, fault: &FeedFault) {
-    out::debug(rt, "", fault);
-    out::shown(rt, ": ", fault);
+fn print_fault(out: &mut Answer, fault: &FeedFault) {
+    out.debug("", fault);
+    out.shown(": ", fault);
 }
 
-fn print_feed(rt: &HostRuntime, feed: &Feed) {
-    out::text(rt, "a feed");
+fn print_feed(out: &mut Answer, feed: &Feed) {
+    out.text("a feed");
     for row in &feed.stops {
-        print_row(rt, "\nstop ", row.id.as_bytes(), row.row);
-        out::debug(rt, ": ", row.place);
+        print_row(out, "\nstop ", row.id.as_bytes(), row.row);
+        out.debug(": ", row.place);
     }
     for row in &feed.routes {
-        print_row(rt, "\nroute ", row.id.as_bytes(), row.row);
-        out::shown(rt, ": letter ", row.letter);
+        print_row(out, "\nroute ", row.id.as_bytes(), row.row);
+        out.shown(": letter ", row.letter);
     }
-    print_services(rt, feed);
-    print_trips(rt, feed);
+    print_services(out, feed);
+    print_trips(out, feed);
 }
 
 /// Prints the id of a row behind a text, and its number.
-fn print_row(rt: &HostRuntime, before: &str, id: &[u8], row: u64) {
-    out::text(rt, before);
-    out::bytes(rt, id);
-    out::shown(rt, ", row ", row);
+fn print_row(out: &mut Answer, before: &str, id: &[u8], row: u64) {
+    out.text(before);
+    out.bytes(id);
+    out.shown(", row ", row);
 }
 
-fn print_services(rt: &HostRuntime, feed: &Feed) {
+fn print_services(out: &mut Answer, feed: &Feed) {
     for row in &feed.services {
-        print_row(rt, "\nservice ", row.id.as_bytes(), row.row);
-        out::debug(rt, ": ", row.rule);
+        print_row(out, "\nservice ", row.id.as_bytes(), row.row);
+        out.debug(": ", row.rule);
     }
     for row in &feed.dates {
-        print_row(rt, "\ndate of ", row.id.as_bytes(), row.row);
-        out::shown(rt, ": ", row.date);
-        out::shown(rt, ", added ", row.added);
+        print_row(out, "\ndate of ", row.id.as_bytes(), row.row);
+        out.shown(": ", row.date);
+        out.shown(", added ", row.added);
     }
 }
 
-fn print_trips(rt: &HostRuntime, feed: &Feed) {
+fn print_trips(out: &mut Answer, feed: &Feed) {
     for row in &feed.trips {
-        print_row(rt, "\ntrip ", row.id.as_bytes(), row.row);
-        out::shown(rt, ": route ", row.route);
-        out::text(rt, ", service ");
-        out::bytes(rt, row.service.as_bytes());
+        print_row(out, "\ntrip ", row.id.as_bytes(), row.row);
+        out.shown(": route ", row.route);
+        out.text(", service ");
+        out.bytes(row.service.as_bytes());
     }
     for row in &feed.frequencies {
-        out::debug(rt, "\n", row);
+        out.debug("\n", row);
     }
     for row in &feed.calls {
-        out::debug(rt, "\n", row);
+        out.debug("\n", row);
     }
 }

@@ -1,7 +1,7 @@
 //! Hierarchies by their files, and by contraction.
 
-use crate::{out, parts};
-use case_script::{Script, words};
+use crate::parts;
+use case_script::{Answer, Script, words};
 use contractor::{Progress, contract};
 use hierarchy::Hierarchy;
 use hierarchy_file::{decode, encode};
@@ -9,47 +9,47 @@ use mode_network::Network;
 
 /// `hierarchy TEXT NODES`: what a hierarchy says of the first so many nodes, and whether it is written as the same bytes; or the
 /// first fault of the bytes.
-pub fn hierarchy(rt: &HostRuntime, script: &Script, words: &[u8]) {
+pub fn hierarchy(out: &mut Answer, script: &Script, words: &[u8]) {
     let bytes = script.text(parts::word(words, 0));
-    match decode(rt.alloc(), bytes) {
-        Ok(h) => print_hierarchy(rt, &h, bytes, parts::node(words, 1)),
-        Err(fault) => out::debug(rt, "", &fault),
+    match decode(out.alloc(), bytes) {
+        Ok(h) => print_hierarchy(out, &h, bytes, parts::node(words, 1)),
+        Err(fault) => out.debug("", &fault),
     }
 }
 
-fn print_hierarchy(rt: &HostRuntime, h: &Hierarchy, bytes: &[u8], count: u32) {
-    let same = out::is_text(encode(rt.alloc(), h), bytes);
-    out::shown(rt, "written as the same bytes: ", same);
+fn print_hierarchy(out: &mut Answer, h: &Hierarchy, bytes: &[u8], count: u32) {
+    let same = parts::is_text(encode(out.alloc(), h), bytes);
+    out.shown("written as the same bytes: ", same);
     for v in 0..count {
-        print_node(rt, h, v);
+        print_node(out, h, v);
     }
     for u in 0..count {
         for v in 0..count {
-            print_pair(rt, h, u, v);
+            print_pair(out, h, u, v);
         }
     }
 }
 
 /// How high a node is, and which entries lead from it and into it.
-fn print_node(rt: &HostRuntime, h: &Hierarchy, v: u32) {
-    out::shown(rt, "\n", v);
-    out::shown(rt, ": height ", h.height(v));
-    out::shown(rt, ", contracted ", h.contracted(v));
-    out::debug(rt, ", entries from ", h.entries_from(v));
-    out::debug(rt, ", into ", h.entries_into(v));
+fn print_node(out: &mut Answer, h: &Hierarchy, v: u32) {
+    out.shown("\n", v);
+    out.shown(": height ", h.height(v));
+    out.shown(", contracted ", h.contracted(v));
+    out.debug(", entries from ", h.entries_from(v));
+    out.debug(", into ", h.entries_into(v));
 }
 
 /// Of two nodes: which is above the other, their entry, and the witness past node 1.
-fn print_pair(rt: &HostRuntime, h: &Hierarchy, u: u32, v: u32) {
+fn print_pair(out: &mut Answer, h: &Hierarchy, u: u32, v: u32) {
     if let Some(entry) = h.entry(u, v) {
-        out::debug(rt, "\n", entry);
+        out.debug("\n", entry);
     }
     if h.above(u, v) {
-        out::shown(rt, "\n", u);
-        out::shown(rt, " is above ", v);
+        out.shown("\n", u);
+        out.shown(" is above ", v);
     }
     if let Some(witness) = h.witness_for(1, u, v) {
-        out::debug(rt, "\npast 1: ", &witness.nodes);
+        out.debug("\npast 1: ", &witness.nodes);
     }
 }
 
@@ -63,13 +63,13 @@ impl Progress for Silent {
 
 /// `contracted REGION KEEP`: the order in which a contraction that keeps so many nodes takes the others, and how many entries are
 /// arcs and how many shortcuts.
-pub fn contracted(rt: &HostRuntime, network: &Network, keep: &[u8]) {
-    if let Ok(h) = contract(rt.alloc(), network, words::node(keep), &mut Silent) {
+pub fn contracted(out: &mut Answer, network: &Network, keep: &[u8]) {
+    if let Ok(h) = contract(out.alloc(), network, words::node(keep), &mut Silent) {
         let shortcuts = shortcuts(&h);
-        out::debug(rt, "order ", h.order());
-        out::shown(rt, ", ", h.entries().len().saturating_sub(shortcuts));
-        out::shown(rt, " arcs, ", shortcuts);
-        out::text(rt, " shortcuts");
+        out.debug("order ", h.order());
+        out.shown(", ", h.entries().len().saturating_sub(shortcuts));
+        out.shown(" arcs, ", shortcuts);
+        out.text(" shortcuts");
     }
 }
 

@@ -1,6 +1,7 @@
-//! Calls the libraries on the cases of the file `cases`, and prints of each what it answers.
+//! Calls the libraries on the cases of the files in `cases`, and prints which answer otherwise than is wanted.
 //!
-//! A case is a line: the name of a call and its words. The texts that it names stand before it; `case_script` says how.
+//! A case is a line: the name of a call and its words. The texts that it names stand before it, and the wanted answer behind it;
+//! `case_script` says how.
 #![tactic(auto)]
 
 mod arcs;
@@ -14,103 +15,102 @@ mod feeds;
 mod hierarchies;
 mod maps;
 mod networks;
-mod out;
 mod parts;
 mod places;
 mod queries;
 mod roads;
 mod texts;
 
-use case_script::{Script, words};
-use std::alloc::AllocError;
-use std::{fs, io};
+use case_script::{Answer, Calls, Script, play};
+use std::io;
 
 fn main(rt: HostRuntime) -> io::Result<()> {
-    let cases = fs::read(&rt, "cases")?;
-    play(&rt, &cases)?;
-    Ok(())
+    play(&rt, "cases", &mut Libraries { rt: &rt })
 }
 
-/// Prints each case, and what its call answers.
-fn play(rt: &HostRuntime, cases: &[u8]) -> Result<(), AllocError> {
-    let mut script = Script::new(rt.alloc());
-    for line in cases.split(|byte| *byte == b'\n') {
-        if !script.takes(rt.alloc(), line)? {
-            print_case(rt, &script, line);
+/// The calls of the libraries.
+#[derive(Drop)]
+struct Libraries<'a> {
+    rt: &'a HostRuntime,
+}
+
+impl Calls for Libraries<'_> {
+    /// What a call answers, and a line feed behind it.
+    fn answer(
+        &mut self,
+        script: &Script,
+        call: &str,
+        words: &[u8],
+        out: &mut Answer,
+    ) -> io::Result<()> {
+        match call {
+            "folder_of_run" => ends::folder(self.rt, out),
+            _ => answer(out, script, call, words),
         }
-    }
-    Ok(())
-}
-
-/// Prints a case, and what its call answers.
-fn print_case(rt: &HostRuntime, script: &Script, line: &[u8]) {
-    out::bytes(rt, line);
-    out::text(rt, "\n");
-    let (call, words) = words::cut(line);
-    answer(rt, script, out::of(call), words);
-    out::text(rt, "\n");
-}
-
-/// Prints what a call answers that is about texts or files.
-fn answer(rt: &HostRuntime, script: &Script, call: &str, words: &[u8]) {
-    match call {
-        "digits" => texts::digits(rt, words),
-        "written" => texts::written(rt, words),
-        "name" => texts::name(rt, script.text(words)),
-        "lines" => texts::lines(rt, script.text(words)),
-        "whole" => ends::whole(rt, script, words),
-        "reads" => ends::reads(rt, script, words),
-        "written_to" => ends::written_to(rt, words),
-        "folder_of_run" => ends::folder(rt),
-        _ => answer_of_places(rt, script, call, words),
+        out.text("\n");
+        Ok(())
     }
 }
 
-/// Prints what a call answers that is about places, dates or days.
-fn answer_of_places(rt: &HostRuntime, script: &Script, call: &str, words: &[u8]) {
+/// What a call answers that is about texts or files.
+fn answer(out: &mut Answer, script: &Script, call: &str, words: &[u8]) {
     match call {
-        "degrees" => places::degrees(rt, words),
-        "length" => places::length(rt, words),
-        "walk" => places::walk(rt, words),
-        "nearest" => places::nearest(rt, words),
-        "set" => places::set(rt, words),
-        "limits" => places::limits(rt, words),
-        "date" => calendars::date(rt, words),
+        "digits" => texts::digits(out, words),
+        "written" => texts::written(out, words),
+        "name" => texts::name(out, script.text(words)),
+        "lines" => texts::lines(out, script.text(words)),
+        "whole" => ends::whole(out, script, words),
+        "reads" => ends::reads(out, script, words),
+        "written_to" => ends::written_to(out, words),
+        _ => answer_of_places(out, script, call, words),
+    }
+}
+
+/// What a call answers that is about places, dates or days.
+fn answer_of_places(out: &mut Answer, script: &Script, call: &str, words: &[u8]) {
+    match call {
+        "degrees" => places::degrees(out, words),
+        "length" => places::length(out, words),
+        "walk" => places::walk(out, words),
+        "nearest" => places::nearest(out, words),
+        "set" => places::set(out, words),
+        "limits" => places::limits(out, words),
+        "date" => calendars::date(out, words),
         "days" | "day" | "clock" | "moment" | "service" => {
-            calendars::of_days(rt, script, call, words)
+            calendars::of_days(out, script, call, words)
         }
-        _ => answer_of_files(rt, script, call, words),
+        _ => answer_of_files(out, script, call, words),
     }
 }
 
-/// Prints what a call answers that is about a map, a feed, a region, a hierarchy or a certificate.
-fn answer_of_files(rt: &HostRuntime, script: &Script, call: &str, words: &[u8]) {
+/// What a call answers that is about a map, a feed, a region, a hierarchy or a certificate.
+fn answer_of_files(out: &mut Answer, script: &Script, call: &str, words: &[u8]) {
     match call {
-        "map" => maps::map(rt, script, words),
-        "cuts" => maps::cuts(rt, script.text(words)),
-        "bytewise" => maps::bytewise(rt, script.text(words)),
-        "again" => maps::again(rt, script, words),
-        "roads" => roads::roads(rt, script, words),
-        "feed" => feeds::feed(rt, script, words),
-        "region" => networks::region(rt, script, words),
-        "hierarchy" => hierarchies::hierarchy(rt, script, words),
-        "certificate" => certificates::certificate(rt, script.text(words)),
-        _ => answer_of_expressions(rt, script, call, words),
+        "map" => maps::map(out, script, words),
+        "cuts" => maps::cuts(out, script.text(words)),
+        "bytewise" => maps::bytewise(out, script.text(words)),
+        "again" => maps::again(out, script, words),
+        "roads" => roads::roads(out, script, words),
+        "feed" => feeds::feed(out, script, words),
+        "region" => networks::region(out, script, words),
+        "hierarchy" => hierarchies::hierarchy(out, script, words),
+        "certificate" => certificates::certificate(out, script.text(words)),
+        _ => answer_of_expressions(out, script, call, words),
     }
 }
 
-/// Prints what a call answers that is about expressions, automata or drawn graphs, or about a network.
-fn answer_of_expressions(rt: &HostRuntime, script: &Script, call: &str, words: &[u8]) {
+/// What a call answers that is about expressions, automata or drawn graphs, or about a network.
+fn answer_of_expressions(out: &mut Answer, script: &Script, call: &str, words: &[u8]) {
     match call {
-        "expression" => expressions::expression(rt, words),
-        "spelled" => expressions::expression(rt, script.text(words)),
-        "letters" => expressions::letters(rt),
-        "accepts" => automata::accepts(rt, words),
-        "one" => automata::one(rt, words),
-        "size" => automata::size(rt, words),
-        "states" => automata::states(rt, words),
-        "searches" => drawn::searches(rt, words),
-        "lists" => drawn::lists(rt, words),
-        _ => networks::of_network(rt, script, call, words),
+        "expression" => expressions::expression(out, words),
+        "spelled" => expressions::expression(out, script.text(words)),
+        "letters" => expressions::letters(out),
+        "accepts" => automata::accepts(out, words),
+        "one" => automata::one(out, words),
+        "size" => automata::size(out, words),
+        "states" => automata::states(out, words),
+        "searches" => drawn::searches(out, words),
+        "lists" => drawn::lists(out, words),
+        _ => networks::of_network(out, script, call, words),
     }
 }

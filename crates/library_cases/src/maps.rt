@@ -1,30 +1,30 @@
 //! Maps in OPL.
 
-use crate::{out, parts};
-use case_script::{Script, words};
+use crate::parts;
+use case_script::{Answer, Script, words};
 use opl_reader::{Objects, Opl, OplFault, OsmNode, OsmWay};
 use plan_base::Caps;
 use std::alloc::{AllocError, Global};
 
 /// `map TEXT [KIND MOST]`: the objects of a map, or its fault.
-pub fn map(rt: &HostRuntime, script: &Script, words: &[u8]) {
+pub fn map(out: &mut Answer, script: &Script, words: &[u8]) {
     let text = script.text(parts::word(words, 0));
     let caps = words::caps(parts::behind(words, 1));
-    match read(rt.alloc(), caps, text, b"") {
-        Ok(objects) => print_objects(rt, &objects),
-        Err(fault) => out::debug(rt, "", &fault),
+    match read(out.alloc(), caps, text, b"") {
+        Ok(objects) => print_objects(out, &objects),
+        Err(fault) => out.debug("", &fault),
     }
 }
 
 /// `cuts TEXT`: whether each cut of a map into two pieces gives the same as the whole.
-pub fn cuts(rt: &HostRuntime, text: &[u8]) {
-    if let Ok(whole) = told(rt.alloc(), text, b"") {
+pub fn cuts(out: &mut Answer, text: &[u8]) {
+    if let Ok(whole) = told(out.alloc(), text, b"") {
         let mut same = true;
         for cut in 0..=text.len() {
             let (front, back) = text.split_at(cut);
-            same = same && is_told_so(rt.alloc(), front, back, &whole);
+            same = same && is_told_so(out.alloc(), front, back, &whole);
         }
-        out::shown(rt, "all the same: ", same);
+        out.shown("all the same: ", same);
     }
 }
 
@@ -46,9 +46,9 @@ fn tell(alloc: Global, read: &Result<Objects, OplFault>) -> Result<String, Alloc
 }
 
 /// `bytewise TEXT`: whether a map gives the same when it is fed byte by byte.
-pub fn bytewise(rt: &HostRuntime, text: &[u8]) {
-    if let Ok(told) = tell(rt.alloc(), &read_bytewise(rt.alloc(), text)) {
-        out::shown(rt, "the same: ", is_told_so(rt.alloc(), text, b"", &told));
+pub fn bytewise(out: &mut Answer, text: &[u8]) {
+    if let Ok(told) = tell(out.alloc(), &read_bytewise(out.alloc(), text)) {
+        out.shown("the same: ", is_told_so(out.alloc(), text, b"", &told));
     }
 }
 
@@ -62,19 +62,19 @@ fn read_bytewise(alloc: Global, text: &[u8]) -> Result<Objects, OplFault> {
 }
 
 /// `again TEXT [KIND MOST]`: what the reader answers to a map, to a line feed and to nothing behind it, and at the end.
-pub fn again(rt: &HostRuntime, script: &Script, words: &[u8]) {
+pub fn again(out: &mut Answer, script: &Script, words: &[u8]) {
     let caps = words::caps(parts::behind(words, 1));
-    let mut opl = Opl::new(rt.alloc(), caps);
-    out::debug(rt, "", opl.feed(script.text(parts::word(words, 0))).err());
-    out::debug(rt, ", ", opl.feed(b"\n").err());
-    out::debug(rt, ", ", opl.feed(b"").err());
-    print_end(rt, opl.finish().err());
+    let mut opl = Opl::new(out.alloc(), caps);
+    out.debug("", opl.feed(script.text(parts::word(words, 0))).err());
+    out.debug(", ", opl.feed(b"\n").err());
+    out.debug(", ", opl.feed(b"").err());
+    print_end(out, opl.finish().err());
 }
 
-fn print_end(rt: &HostRuntime, end: Option<OplFault>) {
-    out::debug(rt, ", ", &end);
+fn print_end(out: &mut Answer, end: Option<OplFault>) {
+    out.debug(", ", &end);
     if let Some(fault) = end {
-        out::shown(rt, "\n", &fault);
+        out.shown("\n", &fault);
     }
 }
 
@@ -86,32 +86,32 @@ pub fn read(alloc: Global, caps: Caps, front: &[u8], back: &[u8]) -> Result<Obje
     opl.finish()
 }
 
-fn print_objects(rt: &HostRuntime, objects: &Objects) {
+fn print_objects(out: &mut Answer, objects: &Objects) {
     for node in &objects.nodes {
-        print_node(rt, node);
+        print_node(out, node);
     }
     for way in &objects.ways {
-        print_way(rt, way);
+        print_way(out, way);
     }
-    out::text(rt, "no fault");
+    out.text("no fault");
 }
 
-fn print_node(rt: &HostRuntime, node: &OsmNode) {
-    out::shown(rt, "node ", node.id);
-    out::shown(rt, " at ", node.place.lat);
-    out::shown(rt, " ", node.place.lon);
-    out::debug(rt, " ", node.amenity);
-    out::text(rt, "; ");
+fn print_node(out: &mut Answer, node: &OsmNode) {
+    out.shown("node ", node.id);
+    out.shown(" at ", node.place.lat);
+    out.shown(" ", node.place.lon);
+    out.debug(" ", node.amenity);
+    out.text("; ");
 }
 
-fn print_way(rt: &HostRuntime, way: &OsmWay) {
-    out::shown(rt, "way ", way.id);
+fn print_way(out: &mut Answer, way: &OsmWay) {
+    out.shown("way ", way.id);
     for tag in way.tags.as_slice() {
-        out::shown(rt, " ", out::of(tag.0.as_slice()));
-        out::shown(rt, "=", out::of(tag.1.as_slice()));
+        out.shown(" ", words::text(tag.0.as_slice()));
+        out.shown("=", words::text(tag.1.as_slice()));
     }
     for piece in way.pieces.as_slice() {
-        out::debug(rt, " ", piece.as_slice());
+        out.debug(" ", piece.as_slice());
     }
-    out::text(rt, "; ");
+    out.text("; ");
 }

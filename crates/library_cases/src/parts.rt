@@ -1,6 +1,7 @@
 //! The words of a case, and the parts of a word, by their places.
 
 use case_script::words;
+use std::alloc::AllocError;
 
 /// How many parts a byte parts a text into.
 pub fn count(text: &[u8], by: u8) -> u32 {
@@ -42,4 +43,12 @@ pub fn number(line: &[u8], place: u32) -> u64 {
 /// The node that the word at a place spells.
 pub fn node(line: &[u8], place: u32) -> u32 {
     words::node(word(line, place))
+}
+
+/// Whether what was written, if there was memory for it, is this text.
+pub fn is_text(written: Result<Vec<u8>, AllocError>, text: &[u8]) -> bool {
+    match written {
+        Ok(written) => written.as_slice() == text,
+        Err(_) => false,
+    }
 }

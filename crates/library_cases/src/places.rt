@@ -1,40 +1,40 @@
 //! Places, lengths and durations, sets of days, and limits.
 
-use crate::{out, parts};
-use case_script::words;
+use crate::parts;
+use case_script::{Answer, words};
 use geo_length::{Grid, duration_ms, length_mm, read_degrees};
 use plain_texts::read_id;
 use plan_base::{Caps, DaySet, Kind, Place};
 use std::alloc::{AllocError, Global};
 
 /// `degrees MOST TEXT`: the ten-millionths of a degree that a text spells, of at most so many degrees.
-pub fn degrees(rt: &HostRuntime, words: &[u8]) {
+pub fn degrees(out: &mut Answer, words: &[u8]) {
     let most = parts::node(words, 0).min(180);
-    out::debug(rt, "", read_degrees(parts::behind(words, 1), most));
+    out.debug("", read_degrees(parts::behind(words, 1), most));
 }
 
 /// `length LAT LON LAT LON`: the millimetres between two places, and how long a walk takes.
-pub fn length(rt: &HostRuntime, words: &[u8]) {
+pub fn length(out: &mut Answer, words: &[u8]) {
     let (from, to) = (place_at(words, 0), place_at(words, 2));
     if let (Some(from), Some(to)) = (from, to) {
-        print_length(rt, from, to);
+        print_length(out, from, to);
     } else {
-        out::debug(rt, "places ", from);
-        out::debug(rt, ", ", to);
+        out.debug("places ", from);
+        out.debug(", ", to);
     }
 }
 
-fn print_length(rt: &HostRuntime, from: Place, to: Place) {
+fn print_length(out: &mut Answer, from: Place, to: Place) {
     let mm = length_mm(from, to);
-    out::shown(rt, "", mm);
-    out::debug(rt, " mm, ", duration_ms(mm, 1400));
-    out::text(rt, " ms");
+    out.shown("", mm);
+    out.debug(" mm, ", duration_ms(mm, 1400));
+    out.text(" ms");
 }
 
 /// `walk MM`: how long a walk of this length takes.
-pub fn walk(rt: &HostRuntime, words: &[u8]) {
-    out::debug(rt, "", duration_ms(words::number(words).min(1 << 39), 1400));
-    out::text(rt, " ms");
+pub fn walk(out: &mut Answer, words: &[u8]) {
+    out.debug("", duration_ms(words::number(words).min(1 << 39), 1400));
+    out.text(" ms");
 }
 
 /// How often the grid is asked, how often it finds a point, and how often the look at all points agrees.
@@ -47,19 +47,19 @@ struct Asked {
 
 /// `nearest LAT,.. LON,.. : LAT,.. LON,.. : WITHIN ..`: of two points at each of the first latitudes and longitudes, the one nearest
 /// to each place of the others within each length, by the grid; and on how many the look at all points agrees.
-pub fn nearest(rt: &HostRuntime, words: &[u8]) {
-    if let Ok(points) = points_of(rt.alloc(), words) {
-        if let Ok(grid) = Grid::build(rt.alloc(), &points) {
-            print_asked(rt, ask_all(&grid, &points, parts::behind(words, 3)));
+pub fn nearest(out: &mut Answer, words: &[u8]) {
+    if let Ok(points) = points_of(out.alloc(), words) {
+        if let Ok(grid) = Grid::build(out.alloc(), &points) {
+            print_asked(out, ask_all(&grid, &points, parts::behind(words, 3)));
         }
     }
 }
 
-fn print_asked(rt: &HostRuntime, asked: Asked) {
-    out::shown(rt, "", asked.asked);
-    out::shown(rt, " asked, ", asked.found);
-    out::shown(rt, " found, ", asked.agree);
-    out::text(rt, " as a look at all points finds");
+fn print_asked(out: &mut Answer, asked: Asked) {
+    out.shown("", asked.asked);
+    out.shown(" asked, ", asked.found);
+    out.shown(" found, ", asked.agree);
+    out.text(" as a look at all points finds");
 }
 
 /// Asks for the point nearest to each place at the latitudes and longitudes.
@@ -150,41 +150,41 @@ fn place(lat: &[u8], lon: &[u8]) -> Option<Place> {
 }
 
 /// `set DAY,.. : DAY ..`: the set of the first days, and which of the others are in it.
-pub fn set(rt: &HostRuntime, words: &[u8]) {
+pub fn set(out: &mut Answer, words: &[u8]) {
     let (members, asked) = (parts::word(words, 0), parts::behind(words, 2));
     let mut set = DaySet::new();
     for i in 0..parts::count(members, b',') {
         set = set.with_day(words::node(parts::part(members, b',', i)) % 128);
     }
-    out::hexadecimal(rt, "", set.0);
-    out::text(rt, ":");
+    out.hexadecimal("", set.0);
+    out.text(":");
     for i in 0..parts::count(asked, b' ') {
-        out::shown(rt, " ", set.contains(parts::node(asked, i)));
+        out.shown(" ", set.contains(parts::node(asked, i)));
     }
 }
 
 /// `limits [KIND MOST] ..`: the most of each kind, and the most that may be set.
-pub fn limits(rt: &HostRuntime, words: &[u8]) {
+pub fn limits(out: &mut Answer, words: &[u8]) {
     let caps = words::caps(words);
-    limit(rt, &caps, Kind::Nodes);
-    limit(rt, &caps, Kind::Arcs);
-    limit(rt, &caps, Kind::Links);
-    limit(rt, &caps, Kind::Stops);
-    limit(rt, &caps, Kind::Trips);
-    limit(rt, &caps, Kind::Calls);
-    limit(rt, &caps, Kind::OsmNodes);
-    limit(rt, &caps, Kind::Ways);
-    limit(rt, &caps, Kind::Refs);
-    limit(rt, &caps, Kind::Routes);
-    limit(rt, &caps, Kind::Services);
-    limit(rt, &caps, Kind::Dates);
+    limit(out, &caps, Kind::Nodes);
+    limit(out, &caps, Kind::Arcs);
+    limit(out, &caps, Kind::Links);
+    limit(out, &caps, Kind::Stops);
+    limit(out, &caps, Kind::Trips);
+    limit(out, &caps, Kind::Calls);
+    limit(out, &caps, Kind::OsmNodes);
+    limit(out, &caps, Kind::Ways);
+    limit(out, &caps, Kind::Refs);
+    limit(out, &caps, Kind::Routes);
+    limit(out, &caps, Kind::Services);
+    limit(out, &caps, Kind::Dates);
     let same = caps.stops == caps.most(Kind::Stops) && caps.nodes == caps.most(Kind::Nodes);
-    out::shown(rt, "as the fields say: ", same);
+    out.shown("as the fields say: ", same);
 }
 
-fn limit(rt: &HostRuntime, caps: &Caps, kind: Kind) {
-    out::shown(rt, "", kind.name());
-    out::shown(rt, " ", caps.most(kind));
-    out::shown(rt, " of ", kind.most());
-    out::text(rt, "; ");
+fn limit(out: &mut Answer, caps: &Caps, kind: Kind) {
+    out.shown("", kind.name());
+    out.shown(" ", caps.most(kind));
+    out.shown(" of ", kind.most());
+    out.text("; ");
 }

@@ -1,20 +1,20 @@
 //! Road arcs of maps.
 
 use crate::maps::read;
-use crate::{out, parts};
-use case_script::Script;
+use crate::parts;
+use case_script::{Answer, Script};
 use opl_reader::Objects;
 use plan_base::Caps;
 use road_profile::road_arcs;
 use std::alloc::{AllocError, Global};
 
 /// `roads TEXT [TAGS]`: the road arcs of a map; with tags, of the map and a way with these between nodes 1 and 2.
-pub fn roads(rt: &HostRuntime, script: &Script, words: &[u8]) {
+pub fn roads(out: &mut Answer, script: &Script, words: &[u8]) {
     let map = script.text(parts::word(words, 0));
-    if let Ok(way) = way_of(rt.alloc(), parts::behind(words, 1)) {
-        match read(rt.alloc(), Caps::FULL, map, &way) {
-            Ok(objects) => print_arcs(rt, &objects),
-            Err(fault) => out::debug(rt, "", &fault),
+    if let Ok(way) = way_of(out.alloc(), parts::behind(words, 1)) {
+        match read(out.alloc(), Caps::FULL, map, &way) {
+            Ok(objects) => print_arcs(out, &objects),
+            Err(fault) => out.debug("", &fault),
         }
     }
 }
@@ -30,16 +30,16 @@ fn way_of(alloc: Global, tags: &[u8]) -> Result<Vec<u8>, AllocError> {
     Ok(line)
 }
 
-fn print_arcs(rt: &HostRuntime, objects: &Objects) {
-    if let Ok(rows) = road_arcs(rt.alloc(), objects) {
+fn print_arcs(out: &mut Answer, objects: &Objects) {
+    if let Ok(rows) = road_arcs(out.alloc(), objects) {
         for row in &rows {
-            out::shown(rt, "", row.from);
-            out::shown(rt, " to ", row.to);
-            out::text(rt, " by ");
-            out::text(rt, row.mode.name());
-            out::shown(rt, " in ", row.ms);
-            out::text(rt, "; ");
+            out.shown("", row.from);
+            out.shown(" to ", row.to);
+            out.text(" by ");
+            out.text(row.mode.name());
+            out.shown(" in ", row.ms);
+            out.text("; ");
         }
-        out::text(rt, "no more");
+        out.text("no more");
     }
 }

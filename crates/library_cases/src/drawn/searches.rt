@@ -4,30 +4,26 @@ ghost use Rattle.std.specs.Prelude.{◌↔◌, ◌<◌, ◌≤◌, All, IsTrue, 
 
 use super::enumerate::{HORIZON, first_arrival, first_labels, reached_by};
 use super::town::Asked;
-use crate::out;
-use case_script::words;
+use case_script::{Answer, words};
 use product_search::{Found, Hop, Machine, Question, Walk, search};
 use search_laws::{Graph, LETTERS, Labels, Time};
 use std::alloc::Global;
 
 /// `searches COUNT`: how many searches over so many drawn graphs, over each without a bound and with one, answer what the
 /// enumeration of all walks does.
-pub fn searches(rt: &HostRuntime, count: &[u8]) {
+pub fn searches(out: &mut Answer, count: &[u8]) {
     let (mut same, mut searches) = (0u32, 0u32);
     for seed in 0..words::node(count).min(1000) {
         let asked = Asked::new(seed);
         let last = 5 + seed % 20;
-        let plain = is_enumerated(rt.alloc(), &asked, None, HORIZON - 1);
-        let bounded = is_enumerated(rt.alloc(), &asked, Some(Time::from(last)), last);
+        let plain = is_enumerated(out.alloc(), &asked, None, HORIZON - 1);
+        let bounded = is_enumerated(out.alloc(), &asked, Some(Time::from(last)), last);
         searches = searches.saturating_add(2);
         same = same.saturating_add(u32::from(plain) + u32::from(bounded));
     }
-    out::shown(rt, "", same);
-    out::shown(rt, " of ", searches);
-    out::text(
-        rt,
-        " searches answer what the enumeration of all walks does",
-    );
+    out.shown("", same);
+    out.shown(" of ", searches);
+    out.text(" searches answer what the enumeration of all walks does");
 }
 
 /// Whether the nodes are below a limit.

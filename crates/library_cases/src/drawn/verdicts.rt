@@ -6,8 +6,7 @@ ghost use Rattle.search_laws.specs.Times.{time_bound};
 use super::clauses::plain_verdict;
 use super::searches::found_by;
 use super::town::Asked;
-use crate::out;
-use case_script::words;
+use case_script::{Answer, words};
 use product_search::{Found, Label, LabelVerdict, check_labels};
 use search_laws::Time;
 use std::alloc::{AllocError, Global};
@@ -46,29 +45,26 @@ impl Verdicts {
 
 /// `lists COUNT`: on how many of the lists that searches over so many drawn graphs give, and of lists that differ from them in one
 /// place, the verdict is that of the clauses tried one by one; and how many have each clause as the first that fails.
-pub fn lists(rt: &HostRuntime, count: &[u8]) {
+pub fn lists(out: &mut Answer, count: &[u8]) {
     let mut verdicts = Verdicts::new();
     for seed in 0..words::node(count).min(1000) {
         let asked = Asked::new(seed);
-        if let Some(found) = found_by(rt.alloc(), &asked, None) {
-            try_found(rt.alloc(), &asked, &found, &mut verdicts);
+        if let Some(found) = found_by(out.alloc(), &asked, None) {
+            try_found(out.alloc(), &asked, &found, &mut verdicts);
         }
     }
-    print_verdicts(rt, &verdicts);
+    print_verdicts(out, &verdicts);
 }
 
-fn print_verdicts(rt: &HostRuntime, verdicts: &Verdicts) {
-    out::shown(rt, "", verdicts.same);
-    out::shown(rt, " of ", verdicts.lists);
-    out::text(
-        rt,
-        " lists have the verdict of the clauses tried one by one",
-    );
+fn print_verdicts(out: &mut Answer, verdicts: &Verdicts) {
+    out.shown("", verdicts.same);
+    out.shown(" of ", verdicts.lists);
+    out.text(" lists have the verdict of the clauses tried one by one");
     for clause in 0..10 {
         let count = verdicts.of_clause[clause];
         if count > 0 {
-            out::shown(rt, "\nclause ", clause);
-            out::shown(rt, ": ", count);
+            out.shown("\nclause ", clause);
+            out.shown(": ", count);
         }
     }
 }
