@@ -1,114 +1,103 @@
-//! Stories of journey books, each played over a book in memory, and once more over one in a database.
+//! Stories of journey books, each played over a book in memory, and over one in a database.
 
 use crate::runs::{NOTHING, Sinks};
-use case_script::{Given, Script, words, words_and_files};
+use case_script::{Answer, Calls, Given, Script, words, words_and_files};
 use journey_book::{BookOutcome, Keeper, MemoryKeeper, SqliteKeeper, run_book};
 use plan_base::MemoryShelf;
 use planner_core::Ports;
-use sqlite::Connection;
+use sqlite::{Connection, MemStore};
 use std::alloc::{AllocError, Global};
 use std::collections::BTreeMap;
-use std::{fs, io};
+use std::io;
 
-/// A story: which call to the book fails, counted from 1, or 0 for none; and its steps.
+/// The book of a story in memory, and in a database.
 #[derive(Drop)]
-struct Story<'a> {
-    failing: u64,
-    steps: Vec<&'a [u8]>,
+pub struct Books {
+    memory: MemoryKeeper,
+    database: Option<SqliteKeeper<MemStore>>,
 }
 
-impl<'a> Story<'a> {
-    fn new(alloc: Global, failing: u64) -> Story<'a> {
-        Story {
-            failing,
-            steps: Vec::new(alloc),
+impl Books {
+    /// An empty book, in memory alone.
+    pub fn new(alloc: Global) -> Books {
+        Books {
+            memory: MemoryKeeper::new(alloc, BTreeMap::new(alloc), Vec::new(alloc)),
+            database: None,
         }
     }
-}
 
-/// Plays the stories of the file `stories/cases`, and prints what each step does; and whether it does the same to a book in a
-/// database.
-///
-/// A line `book` begins a story with an empty book; `book K` with one in memory alone, whose K-th call fails. A line behind it is
-/// a step: `run WORDS`, the words parted by `|`, or `put NAME TEXT`, which keeps a text unseen. The texts stand before the story
-/// that names them; `case_script` says how.
-pub fn print_stories(rt: &HostRuntime) -> io::Result<()> {
-    let cases = fs::read(rt, "stories/cases")?;
-    let mut script = Script::new(rt.alloc());
-    let mut story = Story::new(rt.alloc(), 0);
-    for line in cases.split(|byte| *byte == b'\n') {
-        if !script.takes(rt.alloc(), line)? {
-            let (call, rest) = words::cut(line);
-            if call == b"book".as_slice() {
-                print_story(rt, &script, &story)?;
-                story = Story::new(rt.alloc(), words::number(rest));
-            } else {
-                story.steps.push(line)?;
+    /// `book`: begins a story with an empty book. `book K`: with one in memory alone, whose K-th call fails.
+    fn begin(&mut self, out: &mut Answer, count: &[u8]) -> Result<(), AllocError> {
+        let alloc = out.alloc();
+        *self = Books::new(alloc);
+        let failing = words::number(count);
+        if failing == 0 {
+            self.database = Some(database(alloc)?);
+            out.text("an empty book\n");
+        } else {
+            let fail = vec![in alloc; failing]?;
+            self.memory = MemoryKeeper::new(alloc, BTreeMap::new(alloc), fail);
+            out.shown("an empty book; its call ", failing);
+            out.text(" fails\n");
+        }
+        Ok(())
+    }
+
+    /// What a step does to the book in memory; and what it does to the one in the database, where that is something else.
+    fn step(
+        &mut self,
+        script: &Script,
+        call: &str,
+        words: &[u8],
+        out: &mut Answer,
+    ) -> Result<(), AllocError> {
+        let does = step(out.alloc(), script, call, words, &mut self.memory)?;
+        out.text(&does);
+        if let Some(database) = &mut self.database {
+            let other = step(out.alloc(), script, call, words, database)?;
+            if other.as_str() != does.as_str() {
+                out.text("in a database: ");
+                out.text(&other);
             }
         }
+        Ok(())
     }
-    print_story(rt, &script, &story)
 }
 
-/// Prints what the steps of a story do.
-fn print_story(rt: &HostRuntime, script: &Script, story: &Story<'_>) -> io::Result<()> {
-    if story.steps.is_empty() {
-        return Ok(());
-    }
-    let told = played_in_memory(rt.alloc(), script, story)?;
-    println!(rt; "{told}")?;
-    if story.failing == 0 {
-        let other = played_in_database(rt.alloc(), script, &story.steps)?;
-        let same = other.as_str() == told.as_str();
-        println!(rt; "the same in a database: {same}\n")?;
-    }
-    Ok(())
-}
-
-fn played_in_memory(
-    alloc: Global,
-    script: &Script,
-    story: &Story<'_>,
-) -> Result<String, AllocError> {
-    let fail = vec![in alloc; story.failing]?;
-    let mut keeper = MemoryKeeper::new(alloc, BTreeMap::new(alloc), fail);
-    played(alloc, script, &story.steps, &mut keeper)
-}
-
-fn played_in_database(
-    alloc: Global,
-    script: &Script,
-    steps: &[&[u8]],
-) -> Result<String, AllocError> {
-    match Connection::open_in_memory(alloc) {
-        Ok(connection) => {
-            let mut keeper = SqliteKeeper::adopt(alloc, connection);
-            played(alloc, script, steps, &mut keeper)
+impl Calls for Books {
+    fn answer(
+        &mut self,
+        script: &Script,
+        call: &str,
+        words: &[u8],
+        out: &mut Answer,
+    ) -> io::Result<()> {
+        match call {
+            "book" => self.begin(out, words)?,
+            "run" | "put" => self.step(script, call, words, out)?,
+            _ => out.break_off("no such step"),
         }
-        Err(_) => String::from_str(alloc, "no database"),
+        Ok(())
     }
 }
 
-/// What the steps do to a book, told step by step.
-fn played<K: Keeper>(
+fn database(alloc: Global) -> Result<SqliteKeeper<MemStore>, AllocError> {
+    let connection = Connection::open_in_memory(alloc)?;
+    Ok(SqliteKeeper::adopt(alloc, connection))
+}
+
+/// What a step does to a book.
+fn step<K: Keeper>(
     alloc: Global,
     script: &Script,
-    steps: &[&[u8]],
+    call: &str,
+    words: &[u8],
     keeper: &mut K,
 ) -> Result<String, AllocError> {
-    let mut told = String::new(alloc);
-    for line in steps {
-        told.push_str(&String::from_utf8_lossy(alloc, line)?)?;
-        told.push_str("\n")?;
-        let (call, rest) = words::cut(line);
-        let does = match call {
-            b"run" => run(alloc, script, rest, keeper)?,
-            b"put" => put(alloc, script, rest, keeper)?,
-            _ => String::from_str(alloc, "no such step\n")?,
-        };
-        told.push_str(&does)?;
+    match call {
+        "put" => put(alloc, script, words, keeper),
+        _ => run(alloc, script, words, keeper),
     }
-    Ok(told)
 }
 
 /// `run WORDS`: how the run ends, and what it writes.

@@ -2,9 +2,8 @@
 
 use crate::drawn::{Dice, push_queries, push_region};
 use crate::runs::output;
-use case_script::{Script, words};
+use case_script::{Answer, Script, words};
 use std::alloc::{AllocError, Global};
-use std::io;
 
 /// How many queries each region is asked, with and without each hierarchy.
 const QUERIES: u64 = 25;
@@ -22,7 +21,7 @@ struct Compared {
 
 /// `equal FIRST END`: contracts the regions that are drawn from the numbers from FIRST on and below END, with no node kept and with
 /// two, and asks each the same queries with the hierarchy and without.
-pub fn equal(rt: &HostRuntime, words: &[u8]) -> io::Result<()> {
+pub fn equal(out: &mut Answer, words: &[u8]) -> Result<(), AllocError> {
     let (first, end) = words::cut(words);
     let mut compared = Compared {
         hierarchies: 0,
@@ -32,18 +31,19 @@ pub fn equal(rt: &HostRuntime, words: &[u8]) -> io::Result<()> {
         alike: 0,
     };
     for seed in words::number(first)..words::number(end) {
-        compare_drawn(rt.alloc(), seed, &mut compared)?;
+        compare_drawn(out.alloc(), seed, &mut compared)?;
     }
-    let Compared {
-        hierarchies,
-        sound,
-        queries,
-        journeys,
-        alike,
-    } = compared;
-    println!(rt;
-        "{sound} of {hierarchies} hierarchies are sound; {journeys} of {queries} queries have a journey, {alike} arrive alike"
-    )
+    tell(out, compared);
+    Ok(())
+}
+
+fn tell(out: &mut Answer, compared: Compared) {
+    out.shown("", compared.sound);
+    out.shown(" of ", compared.hierarchies);
+    out.shown(" hierarchies are sound; ", compared.journeys);
+    out.shown(" of ", compared.queries);
+    out.shown(" queries have a journey, ", compared.alike);
+    out.text(" arrive alike\n");
 }
 
 /// Compares the answers over the region that is drawn from a number.

@@ -1,8 +1,7 @@
 //! The worked examples.
 
 use crate::runs::{NOTHING, Told, run_words};
-use crate::text;
-use case_script::words;
+use case_script::{Answer, words};
 use plan_base::{FolderShelf, MemoryShelf, Shelf};
 use planner_core::Outcome;
 use std::alloc::{AllocError, Global};
@@ -12,17 +11,14 @@ use std::{fs, io};
 /// `example FOLDER [DATE DAYS]`: whether all that is written of an example is as expected, which is a folder with the files
 /// `region`, `queries` and `expected`: the answers to its queries; its region, if it has a first date and a count of days, made of the
 /// map and the feed beside it; and the region again, written as bytes and back.
-pub fn example(rt: &HostRuntime, words: &[u8]) -> io::Result<()> {
+pub fn example(rt: &HostRuntime, out: &mut Answer, words: &[u8]) -> io::Result<()> {
     let (folder, days) = words::cut(words);
-    let (folder, days) = (text(folder), text(days));
-    if answers_as_expected(rt, folder)?
+    let (folder, days) = (words::text(folder), words::text(days));
+    let same = answers_as_expected(rt, folder)?
         && is_compiled_so(rt, folder, days)?
-        && is_written_back(rt, folder)?
-    {
-        println!(rt; "as expected")
-    } else {
-        println!(rt; "DIFFERS")
-    }
+        && is_written_back(rt, folder)?;
+    out.text(if same { "as expected\n" } else { "DIFFERS\n" });
+    Ok(())
 }
 
 fn answers_as_expected(rt: &HostRuntime, folder: &str) -> io::Result<bool> {
