@@ -6,6 +6,7 @@ ghost use Rattle.hierarchy.specs.FirstBroken.{FailsFirst};
 ghost use Rattle.hierarchy_check.specs.Light.{IsLight, FirstUnbridgedAt, FirstUnbridged, RiseIsBridged};
 
 use crate::entries::has_lighter;
+use crate::look::Look;
 use crate::witnesses::has_witness;
 use hierarchy::{Entry, Hierarchy, Rise};
 
@@ -33,8 +34,9 @@ fn unbridged_at(h: &Hierarchy, x: u32) -> Option<(u64, u64)>
         (λ found. FirstUnbridgedAt h.now x found.0 found.1) }
 {
     let entries = h.entries();
+    let mut look = Look::around(h, x);
     for at in h.entries_into(x) {
-        if let Some(by) = unbridged_after(h, x, entries[*at as usize]) {
+        if let Some(by) = unbridged_after(h, x, entries[*at as usize], &mut look) {
             return Some((*at, by));
         }
     }
@@ -42,42 +44,43 @@ fn unbridged_at(h: &Hierarchy, x: u32) -> Option<(u64, u64)>
 }
 
 /// The first entry from a node that is not bridged with this one to it.
-fn unbridged_after(h: &Hierarchy, x: u32, entry: Entry) -> Option<u64>
+fn unbridged_after(h: &Hierarchy, x: u32, entry: Entry, look: &mut Look) -> Option<u64>
     requires light { IsLight h.now.entries }
     requires weight { entry.weight < 2 ^ 56 }
     ensures { MatchOption result
         (PairsAreBridged h.now x entry)
         (FailsFirst (PairIsBridged h.now x entry) h.now.entries) }
 {
-    if !h.above(entry.from, x) || rises_are_bridged(h, x, entry) {
+    if !h.above(entry.from, x) || rises_are_bridged(h, x, entry, look) {
         None
     } else {
         unbridged_from(h, x, entry)
     }
 }
 
-/// Whether an entry to a node is bridged with each entry that leads up from there. Others need no bridge, so that a node with
-/// many entries down costs no more than its entries up.
-fn rises_are_bridged(h: &Hierarchy, x: u32, entry: Entry) -> bool
+/// Whether an entry to a node is found to be bridged with each entry that leads up from there. Others need no bridge, so that
+/// a node with many entries down costs no more than its entries up.
+fn rises_are_bridged(h: &Hierarchy, x: u32, entry: Entry, look: &mut Look) -> bool
     requires light { IsLight h.now.entries }
     requires weight { entry.weight < 2 ^ 56 }
     ensures { IsTrue result → PairsAreBridged h.now x entry }
 {
+    look.begin(h, entry.from);
     for rise in h.rises_from(x) {
-        if !rise_is_bridged(h, x, entry, *rise) {
+        if !rise_is_bridged(h, x, entry, *rise, look) {
             return false;
         }
     }
     true
 }
 
-/// Whether an entry to a node is bridged with one up from there.
-fn rise_is_bridged(h: &Hierarchy, x: u32, entry: Entry, rise: Rise) -> bool
+/// Whether an entry to a node is found to be bridged with one up from there.
+fn rise_is_bridged(h: &Hierarchy, x: u32, entry: Entry, rise: Rise, look: &mut Look) -> bool
     requires first { entry.weight < 2 ^ 56 }
     requires second { rise.weight < 2 ^ 56 }
     ensures { IsTrue result → RiseIsBridged h.now x entry rise }
 {
-    rise.to == entry.from || is_bridged(h, x, entry.from, rise.to, entry.weight + rise.weight)
+    rise.to == entry.from || look.is_bridged(h, x, entry.from, rise.to, entry.weight + rise.weight)
 }
 
 /// The first entry from a node that is not bridged with this one to it.

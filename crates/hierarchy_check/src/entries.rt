@@ -2,10 +2,10 @@
 
 ghost use Rattle.std.specs.Prelude.{◌↔◌, All, IsTrue, MatchOption};
 ghost use Rattle.hierarchy.specs.Soundness.{HasLighter, FitsLayer, IsCovered, IsMade, HasMiddle};
-ghost use Rattle.mode_network.specs.Journeys.{Leads};
 ghost use Rattle.hierarchy.specs.FirstBroken.{FailsFirst};
 ghost use Rattle.hierarchy_check.specs.Light.{IsLight, IsSumOver, IsModeOfBoth};
 
+use crate::arcs::is_arc_past;
 use crate::rows::entry_from;
 use hierarchy::{Entry, Hierarchy};
 use mode_network::{Arc, Network};
@@ -87,32 +87,23 @@ pub(crate) fn first_unmade(network: &Network, h: &Hierarchy) -> Option<u64>
         (FailsFirst (IsMade network.now h.now) h.now.entries) }
 {
     let entries = h.entries();
+    let mut arc = 0;
     for at in 0..entries.len() {
-        if !is_made(network, h, entries[at]) {
+        if !is_made(network, h, entries[at], &mut arc) {
             return Some(at as u64);
         }
     }
     None
 }
 
-fn is_made(network: &Network, h: &Hierarchy, entry: Entry) -> bool
+/// Whether an entry is a road arc, which is looked for from a place on, or a sum of two entries.
+fn is_made(network: &Network, h: &Hierarchy, entry: Entry, arc: &mut usize) -> bool
     requires { IsLight h.now.entries }
     ensures { IsTrue result ↔ IsMade network.now h.now entry }
 {
     match entry.via {
         Some(middle) => has_middle(h, entry, middle),
-        None => is_arc(network, entry.from, entry.to, entry.weight),
-    }
-}
-
-/// Whether a road arc from `u` to `v` takes so many milliseconds.
-fn is_arc(network: &Network, u: u32, v: u32, weight: u64) -> bool
-    ensures { IsTrue result ↔ Leads network.now.arcs u v weight }
-{
-    network.known();
-    match network.arc_ms(u, v) {
-        Some(ms) => ms as u64 == weight,
-        None => false,
+        None => is_arc_past(network, arc, entry.from, entry.to, entry.weight),
     }
 }
 

@@ -1,9 +1,11 @@
 //! Whether a hierarchy is sound for a network, whoever made it.
 #![tactic(auto)]
 
+mod arcs;
 mod bridges;
 mod checking;
 mod entries;
+mod look;
 mod order;
 mod rows;
 mod witnesses;

@@ -1,5 +1,5 @@
 use Rattle.hierarchy_check.proofs.EntryLemmas.{arc_found, arc_missing}
-use Rattle.hierarchy_check.proofs.entries.is_arc.Goals as goal
+use Rattle.hierarchy_check.proofs.arcs.is_arc.Goals as goal
 
 pub returns-in-Some : goal.returns-in-Some
 returns-in-Some c = arc_found c.args.network.now.arcs c.known.ensures.arcs_ascend c.args.u c.args.v c.in-Some.ms c.args.weight c.in-Some.ensures

@@ -1,0 +1,91 @@
+//! Looks through the entries and the witnesses of a hierarchy that go on from pair to pair.
+
+ghost use Rattle.std.specs.Prelude.{IsTrue};
+ghost use Rattle.hierarchy.specs.Soundness.{HasLighter, IsBridged};
+
+use crate::witnesses::{is_witness_at, key_of};
+use hierarchy::{Entry, Hierarchy, Witness};
+
+/// Of so many entries from a node those before the next end are passed one by one; more are halved.
+const FEW: usize = 16;
+
+/// Where a look stands. The pairs of entries around a node come in the order in which entries and witnesses are listed, so each
+/// of these is passed once. Whether what stands at a place is what is looked for, that itself tells.
+#[derive(Drop)]
+pub(crate) struct Look {
+    entry: usize,
+    /// One past the entries of the node that the pairs begin at.
+    end: usize,
+    witness: usize,
+}
+
+impl Look {
+    /// A look before all pairs around a node.
+    pub fn around(h: &Hierarchy, x: u32) -> Look {
+        Look {
+            entry: 0,
+            end: 0,
+            witness: h.witnesses().partition_point(|witness| witness.below < x),
+        }
+    }
+
+    /// Goes on to the pairs that begin at a node.
+    pub fn begin(&mut self, h: &Hierarchy, u: u32) {
+        let (first, end) = h.entries_from(u);
+        self.entry = first as usize;
+        self.end = end as usize;
+    }
+
+    /// Whether an entry, or a witness for `x`, stands next that leads from `u` to `v` and weighs at most the limit.
+    pub fn is_bridged(&mut self, h: &Hierarchy, x: u32, u: u32, v: u32, limit: u64) -> bool
+        ensures { IsTrue result → IsBridged h.now x u v limit }
+    {
+        self.entry = next_entry(h.entries(), self.entry, self.end, v);
+        if is_lighter_at(h.entries(), self.entry, u, v, limit) {
+            return true;
+        }
+        self.witness = next_witness(h.witnesses(), self.witness, (x, u, v));
+        is_witness_at(h, self.witness, x, u, v, limit)
+    }
+}
+
+/// The first place from this one on, up to the end, whose entry does not lead to a node before `v`.
+fn next_entry(entries: &[Entry], place: usize, end: usize, v: u32) -> usize {
+    if place <= end && end <= entries.len() {
+        place.saturating_add(count_before(&entries[place..end], v))
+    } else {
+        end
+    }
+}
+
+/// How many of the entries from a node lead to nodes before `v`.
+fn count_before(entries: &[Entry], v: u32) -> usize {
+    if entries.len() <= FEW {
+        entries
+            .iter()
+            .position(|entry| entry.to >= v)
+            .unwrap_or(entries.len())
+    } else {
+        entries.partition_point(|entry| entry.to < v)
+    }
+}
+
+/// Whether the entry at a place leads from `u` to `v` and weighs at most the limit.
+fn is_lighter_at(entries: &[Entry], place: usize, u: u32, v: u32, limit: u64) -> bool
+    ensures { IsTrue result → HasLighter entries.now u v limit }
+{
+    match entries.get(place) {
+        Some(entry) => entry.from == u && entry.to == v && entry.weight <= limit,
+        None => false,
+    }
+}
+
+/// The first place from this one on whose witness does not stand before the one with this key.
+fn next_witness(witnesses: &[Witness], place: usize, key: (u32, u32, u32)) -> usize {
+    for next in place..witnesses.len() {
+        if key_of(&witnesses[next]) >= key {
+            return next;
+        }
+    }
+    witnesses.len()
+}
