@@ -6,8 +6,9 @@ ghost use Rattle.hierarchy.specs.Soundness.{HasLighter, IsBridged};
 use crate::witnesses::{is_witness_at, key_of};
 use hierarchy::{Entry, Hierarchy, Witness};
 
-/// Of so many entries from a node those before the next end are passed one by one; more are halved.
-const FEW: usize = 16;
+/// Of so many entries from a node those are passed one by one that lead to nodes before the one that is looked for; of more it
+/// is found by halves, so that a node with many costs no more than their logarithm.
+const FEW: usize = 64;
 
 /// Where a look stands. The pairs of entries around a node come in the order in which entries and witnesses are listed, so each
 /// of these is passed once. Whether what stands at a place is what is looked for, that itself tells.
@@ -51,23 +52,21 @@ impl Look {
 
 /// The first place from this one on, up to the end, whose entry does not lead to a node before `v`.
 fn next_entry(entries: &[Entry], place: usize, end: usize, v: u32) -> usize {
-    if place <= end && end <= entries.len() {
-        place.saturating_add(count_before(&entries[place..end], v))
+    if end.saturating_sub(place) > FEW && end <= entries.len() {
+        place.saturating_add(entries[place..end].partition_point(|entry| entry.to < v))
     } else {
-        end
+        next_of_few(entries, place, end, v)
     }
 }
 
-/// How many of the entries from a node lead to nodes before `v`.
-fn count_before(entries: &[Entry], v: u32) -> usize {
-    if entries.len() <= FEW {
-        entries
-            .iter()
-            .position(|entry| entry.to >= v)
-            .unwrap_or(entries.len())
-    } else {
-        entries.partition_point(|entry| entry.to < v)
+/// The same, of few entries.
+fn next_of_few(entries: &[Entry], place: usize, end: usize, v: u32) -> usize {
+    for next in place..end.min(entries.len()) {
+        if entries[next].to >= v {
+            return next;
+        }
     }
+    end
 }
 
 /// Whether the entry at a place leads from `u` to `v` and weighs at most the limit.
