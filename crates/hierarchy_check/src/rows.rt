@@ -12,7 +12,7 @@ pub(crate) fn entry_from(h: &Hierarchy, u: u32, v: u32) -> Option<&Entry>
     h.known();
     let (first, end) = h.entries_from(u);
     let row = &h.entries()[first as usize..end as usize];
-    match row.binary_search_by(|entry| (entry.from, entry.to).cmp(&(u, v))) {
+    match row.binary_search_by(|entry| entry.to.cmp(&v)) {
         Ok(place) => Some(&row[place]),
         Err(_) => None,
     }
