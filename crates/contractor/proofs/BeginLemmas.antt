@@ -4,7 +4,7 @@ use Rattle.std.specs.Prelude.{Option, All, AllPairs, Contains, Vec, slice_get}
 use Rattle.std.specs.declared.alloc.Global.{Global}
 use Rattle.std.proofs.lemmas.Bool.{and_parts, eqb-false, not-true}
 use Rattle.std.proofs.lemmas.Bool.Decides.{nat_tests}
-use Rattle.std.proofs.lemmas.List.{length-take, get_or-take, take_all}
+use Rattle.std.proofs.lemmas.List.{length-take, get_or-take, take_all, get_or_default}
 use Rattle.std.proofs.lemmas.List.Elements.{All-contains, Contains-get_or, All-more}
 use Rattle.std.specs.declared.cmp.Ordering.TheVariants.{Less}
 use Rattle.mode_network.specs.declared.nodes.Arc.{Arc}
@@ -57,6 +57,10 @@ empty_list nodes lists are u = by_get (slice_get lists u) refl where
   by_get : (o : Option (Vec ℕ Global)) → slice_get lists u ≡ o → nodes_in o ≡ []
   by_get None at = refl
   by_get (Some list) at = All-contains (λ (r : Vec ℕ Global). r.items ≡ []) lists list are.empty (contains_place lists u list at)
+
+-- the arc at a place of the list of all arcs
+pub arc_at : (n : NetworkLists) (items : List Arc) (k : ℕ) (d : Arc) → items ≡ n.arcs → k < length items → (k < length n.arcs) × ((e : Arc) → get_or n.arcs k e ≡ get_or items k d)
+arc_at n items k d same lt = (subst (λ (xs : List Arc). k < length xs) same lt, λ e. subst (λ (xs : List Arc). get_or xs k e ≡ get_or items k d) same (get_or_default items k e d lt))
 
 -- nothing is entered yet
 pub no_arcs : (n : NetworkLists) (layer : Layer) → IsNetwork n → layer.order.items ≡ [] → layer.entries.items ≡ [] → layer.walks.items ≡ [] → AreEmptyLists (length (network_nodes n)) layer.rows.items → AreEmptyLists (length (network_nodes n)) layer.into.items

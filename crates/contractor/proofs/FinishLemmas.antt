@@ -1,10 +1,11 @@
 -- The lists of a hierarchy in order.
-use Rattle.std.proofs.Common.{◌≡◌, ℕ, zero, ◌+◌, ◌<◌, ◌⊎◌, inl, inr, Bool, false, nat_eq, ◌&&◌, List, [], ◌∷◌, length, map, get_or, Some, None, refl, sym, subst, arith, Ordering}
+use Rattle.std.proofs.Common.{◌≡◌, ℕ, zero, ◌+◌, ◌<◌, ◌⊎◌, inl, inr, true, false, List, ◌∙◌, ap, [], ◌∷◌, length, map, get_or, Some, None, refl, sym, subst, arith, Ordering}
 use Rattle.std.specs.Prelude.{Option, All, AllPairs, Contains, IfSome, IsPermutation}
 use Rattle.std.specs.Cmp.{IsTotalOrder}
-use Rattle.std.specs.Ordering.{is_lt, nat_cmp, ordering_then}
-use Rattle.std.specs.declared.cmp.Ordering.TheVariants.{Less}
-use Rattle.std.proofs.lemmas.Bool.{cases_Bool, and_parts, eqb-true}
+use Rattle.std.proofs.lemmas.Cmp.{eq_by_cmp_equiv}
+use Rattle.std.specs.Ordering.{is_lt, is_eq, eq_by_cmp, nat_cmp, ordering_reverse, ordering_then}
+use Rattle.std.specs.declared.cmp.Ordering.TheVariants.{Less, Equal, Greater}
+use Rattle.std.proofs.lemmas.Bool.{cases_Bool, false≢true}
 use Rattle.std.proofs.lemmas.Bool.Decides.{nat_tests}
 use Rattle.std.proofs.lemmas.Cmp.{then_total, on_total, nat_cmp_total}
 use Rattle.std.proofs.lemmas.List.{get_or-map, length-map}
@@ -21,6 +22,7 @@ use Rattle.hierarchy.specs.Lists.{HierarchyLists, WitnessLists, height_in, IsCon
 use Rattle.hierarchy.specs.Rules.{IsHierarchy, IsNode, FitsWitness, entry_cmp, witness_cmp}
 use Rattle.hierarchy.specs.Soundness.{HasEntry, IsBridged, FitsLayer, IsMade, IsMadeBy, NodeIsBridged, PairsAreBridged, PairIsBridged, HoldsBelow, MayStandAt, IsSound}
 use Rattle.hierarchy.proofs.HopLemmas.{hops_weaker}
+use Rattle.hierarchy.proofs.LookupLemmas.{entry_total}
 use Rattle.hierarchy.proofs.SoundLemmas.{contracted_free}
 use Rattle.contractor.specs.declared.way.Walk.{Walk}
 use Rattle.contractor.specs.declared.layer.Layer.{Layer}
@@ -82,55 +84,35 @@ module _ (n : NetworkLists) (h h2 : HierarchyLists) (order : h2.order ≡ h.orde
 
 -- ---- sorted, and no two alike
 
-ascends : {X : Type 0} (cmp : X → X → Ordering) → IsTotalOrder cmp → (same : X → X → Bool) → ((a b : X) → same a b ≡ same b a) → ((a b : X) → is_lt (cmp b a) ≡ false → same a b ≡ false → cmp a b ≡ Less)
-    → (old new : List X) → ((i j : ℕ) (d : X) → i < j → j < length old → same (get_or old i d) (get_or old j d) ≡ false) → AreInOrder cmp old new → AllPairs (λ a b. cmp a b ≡ Less) new
-ascends cmp total same flips strict old new apart are = λ i j d lt low. strict (get_or new i d) (get_or new j d)
+ascends : {X : Type 0} (cmp : X → X → Ordering) → IsTotalOrder cmp → (Apart : X → X → Type 0) → ((a b : X) → eq_by_cmp cmp a b ≡ true → Apart a b → ⊥) → (old new : List X) → AllPairs Apart old → AreInOrder cmp old new
+    → AllPairs (λ a b. cmp a b ≡ Less) new
+ascends {X} cmp total Apart differ old new apart are = λ i j d lt low. strict (cmp (get_or new i d) (get_or new j d)) (cmp (get_or new j d) (get_or new i d)) (total.antisymm (get_or new j d) (get_or new i d))
     (sorted_far (λ x y. is_lt (cmp x y)) (ranks_by total (λ x. x)) new are.sorted i j d (omega arith) low)
-    (apart_from_distinct same new i j d (IsDistinct-IsPermutation same flips old new are.moved (IsDistinct-from_apart same old apart)) lt low)
+    (apart_from_distinct (eq_by_cmp cmp) new i j d (IsDistinct-IsPermutation (eq_by_cmp cmp) (eq_by_cmp_equiv total).symm old new are.moved (IsDistinct-from_apart (eq_by_cmp cmp) old untied)) lt low)
+  where
+    untied : (i j : ℕ) (d : X) → i < j → j < length old → eq_by_cmp cmp (get_or old i d) (get_or old j d) ≡ false
+    untied i j d lt low = elim (cases_Bool (eq_by_cmp cmp (get_or old i d) (get_or old j d))) [
+      | inr no_one ↦ no_one
+      | inl tied ↦ absurd (differ (get_or old i d) (get_or old j d) tied (apart i j d lt low))
+    ]
 
-entry_total : IsTotalOrder entry_cmp
-entry_total = then_total (on_total (λ (e : Entry). e.from) nat_cmp_total) (on_total (λ (e : Entry). e.to) nat_cmp_total)
+    strict : (o back : Ordering) → back ≡ ordering_reverse o → is_lt back ≡ false → is_eq o ≡ false → o ≡ Less
+    strict Less back is low apart = refl
+    strict Equal back is low apart = cc
+    strict Greater back is low apart = absurd (false≢true (sym low ∙ ap is_lt is))
 
-same_ends : Entry → Entry → Bool
-same_ends a b = nat_eq a.from b.from && nat_eq a.to b.to
-
-ends_flip : (a b : Entry) → same_ends a b ≡ same_ends b a
-unfolding same_ends
-ends_flip a b = grind (arith, nat_tests)
-
-ends_strict : (a b : Entry) → is_lt (entry_cmp b a) ≡ false → same_ends a b ≡ false → entry_cmp a b ≡ Less
-unfolding same_ends
-ends_strict a b h apart = grind (arith, nat_tests)
-
-ends_apart : (a b : Entry) → HaveOtherEnds a b → same_ends a b ≡ false
-unfolding same_ends
-ends_apart a b apart = elim (cases_Bool (same_ends a b)) [
-  | inr no_one ↦ no_one
-  | inl same ↦ (let parts = and_parts (nat_eq a.from b.from) (nat_eq a.to b.to) same in absurd (apart (eqb-true a.from b.from parts.0) (eqb-true a.to b.to parts.1)))
-]
+ends_differ : (a b : Entry) → eq_by_cmp entry_cmp a b ≡ true → HaveOtherEnds a b → ⊥
+ends_differ a b tied apart = let from : a.from ≡ b.from = grind (arith, nat_tests) in let to : a.to ≡ b.to = grind (arith, nat_tests) in apart from to
 
 walk_total : IsTotalOrder walk_cmp
 walk_total = then_total (then_total (on_total (λ (w : Walk). w.below) nat_cmp_total) (on_total (λ (w : Walk). w.first) nat_cmp_total)) (on_total (λ (w : Walk). w.last) nat_cmp_total)
 
-same_keys : Walk → Walk → Bool
-same_keys a b = nat_eq a.below b.below && (nat_eq a.first b.first && nat_eq a.last b.last)
-
-keys_flip : (a b : Walk) → same_keys a b ≡ same_keys b a
-unfolding same_keys
-keys_flip a b = grind (arith, nat_tests)
-
-keys_strict : (a b : Walk) → is_lt (walk_cmp b a) ≡ false → same_keys a b ≡ false → walk_cmp a b ≡ Less
-unfolding same_keys
-keys_strict a b h apart = grind (arith, nat_tests)
-
-keys_apart : (a b : Walk) → HaveOtherKeys a b → same_keys a b ≡ false
-unfolding same_keys
-keys_apart a b apart = elim (cases_Bool (same_keys a b)) [
-  | inr no_one ↦ no_one
-  | inl same ↦ (let parts = and_parts (nat_eq a.below b.below) (nat_eq a.first b.first && nat_eq a.last b.last) same in
-      let rest = and_parts (nat_eq a.first b.first) (nat_eq a.last b.last) parts.1 in
-      absurd (apart (eqb-true a.below b.below parts.0) (eqb-true a.first b.first rest.0) (eqb-true a.last b.last rest.1)))
-]
+keys_differ : (a b : Walk) → eq_by_cmp walk_cmp a b ≡ true → HaveOtherKeys a b → ⊥
+keys_differ a b tied apart =
+    let below : a.below ≡ b.below = grind (arith, nat_tests) in
+    let first : a.first ≡ b.first = grind (arith, nat_tests) in
+    let last : a.last ≡ b.last = grind (arith, nat_tests) in
+    apart below first last
 
 first_place : {X : Type 0} (xs : List X) → 0 < length xs → (x : X) × Contains xs x
 first_place [] lt = absurd (omega arith)
@@ -175,7 +157,7 @@ module _ (n : NetworkLists) (layer : Layer) (network : IsNetwork n) (state : IsS
       ]
 
   walks_ascend : AllPairs (λ a b. walk_cmp a b ≡ Less) walks
-  walks_ascend = ascends walk_cmp walk_total same_keys keys_flip keys_strict layer.walks.items walks (λ i j d lt low. keys_apart (get_or layer.walks.items i d) (get_or layer.walks.items j d) (state.walks.apart i j d lt low)) walks_in_order
+  walks_ascend = ascends walk_cmp walk_total HaveOtherKeys keys_differ layer.walks.items walks state.walks.apart walks_in_order
 
   witness_fits : All FitsWitness (map witness_of walks)
   witness_fits = All-map FitsWitness witness_of walks (λ k d low. (let w = get_or walks k d in let f = walk_fits k d low in record { below = below_low w (Contains-get_or walks k d low); nodes = f.nodes; is_walk = f.is_walk }))
@@ -202,7 +184,7 @@ module _ (n : NetworkLists) (layer : Layer) (network : IsNetwork n) (state : IsS
     order_fits = λ k d low. (let free = (sound.in_order k low).0 d in node_low (get_or layer.order.items k d) free.mode free.road);
     entries_fit = λ k d low. (let e = get_or entries k d in let f = sound.in_layers k d low in
         record { from = node_low e.from f.mode f.from_mode; to = node_low e.to f.mode f.to_mode; via = via_low e e.via (sound.made k d low) });
-    entries_ascend = ascends entry_cmp entry_total same_ends ends_flip ends_strict layer.entries.items entries (λ i j d lt low. ends_apart (get_or layer.entries.items i d) (get_or layer.entries.items j d) (state.good.apart i j d lt low)) entries_in_order;
+    entries_ascend = ascends entry_cmp entry_total HaveOtherEnds ends_differ layer.entries.items entries state.good.apart entries_in_order;
     witnesses_fit = subst (λ ws. All FitsWitness ws) (sym are) witness_fits;
     witnesses_ascend = subst (λ ws. IsAscending witness_cmp ws) (sym are) witnesses_rise;
   }
