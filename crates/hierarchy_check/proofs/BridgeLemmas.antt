@@ -9,7 +9,7 @@ use Rattle.hierarchy.specs.Lists.{HierarchyLists}
 use Rattle.hierarchy.specs.Lookups.{AreFrom, AreInto}
 use Rattle.hierarchy.specs.Soundness.{HoldsBelow, ArePairAt, PairIsBridged, PairsAreBridged, NodeIsBridged}
 use Rattle.hierarchy.specs.FirstBroken.{FailsFirst}
-use Rattle.hierarchy_check.specs.Light.{FirstUnbridgedAt, FirstUnbridged}
+use Rattle.hierarchy_check.specs.inside.Light.{FirstUnbridgedAt, FirstUnbridged}
 
 -- ---- entries from the node
 

@@ -12,7 +12,7 @@ use Rattle.hierarchy.specs.Rules.{entry_cmp}
 use Rattle.hierarchy.specs.Soundness.{HasEntry, HasLighter}
 use Rattle.hierarchy.specs.Lookups.{IsEntryFor, HasNoEntry}
 use Rattle.hierarchy.proofs.LookupLemmas.{weight_once}
-use Rattle.hierarchy_check.specs.Light.{IsSumOver, CanStep, CanWalk}
+use Rattle.hierarchy_check.specs.inside.Light.{IsSumOver, CanStep, CanWalk}
 
 -- the entry that was found
 pub entry_is : (entries : List Entry) (u v : ℕ) (e : Entry) → IsEntryFor entries u v e → HasEntry entries u v e.weight

@@ -13,7 +13,7 @@ use Rattle.mode_network.specs.Indexes.{is_end_of}
 use Rattle.hierarchy.specs.Soundness.{HoldsBelow, IsFree, MayStandAt}
 use Rattle.hierarchy.specs.FirstBroken.{FailsFirstAt}
 use Rattle.hierarchy_check.proofs.PlaceLemmas.{one_fails}
-use Rattle.hierarchy_check.specs.Meetings.{AreMet, IsFirstMeeting}
+use Rattle.hierarchy_check.specs.inside.Meetings.{AreMet, IsFirstMeeting}
 
 -- ---- links
 

@@ -10,7 +10,7 @@ use Rattle.mode_network.specs.Rules.{IsAscending}
 use Rattle.hierarchy.specs.Rules.{witness_cmp}
 use Rattle.hierarchy.specs.Soundness.{HasEntry, HasWitness}
 use Rattle.hierarchy.specs.Lookups.{IsWitnessFor, HasNoWitness}
-use Rattle.hierarchy_check.specs.Light.{CanWalk}
+use Rattle.hierarchy_check.specs.inside.Light.{CanWalk}
 
 -- the last node of a walk that goes on
 last_on : (u v : ℕ) (nodes : List ℕ) → last_of (u ∷ v ∷ nodes) ≡ last_of (v ∷ nodes)

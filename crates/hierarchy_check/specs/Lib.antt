@@ -1,3 +1,2 @@
-pub mod Light
-pub mod Meetings
 pub mod Nodes
+pub mod inside

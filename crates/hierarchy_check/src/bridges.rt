@@ -3,7 +3,7 @@
 ghost use Rattle.std.specs.Prelude.{◌≡◌, ◌<◌, ◌^◌, ◌↔◌, All, IsTrue, MatchOption};
 ghost use Rattle.hierarchy.specs.Soundness.{IsBridged, ArePairAt, PairIsBridged, PairsAreBridged, NodeIsBridged};
 ghost use Rattle.hierarchy.specs.FirstBroken.{FailsFirst};
-ghost use Rattle.hierarchy_check.specs.Light.{IsLight, FirstUnbridgedAt, FirstUnbridged, RiseIsBridged};
+ghost use Rattle.hierarchy_check.specs.inside.Light.{IsLight, FirstUnbridgedAt, FirstUnbridged, RiseIsBridged};
 
 use crate::entries::has_lighter;
 use crate::look::Look;

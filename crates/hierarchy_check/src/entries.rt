@@ -3,7 +3,7 @@
 ghost use Rattle.std.specs.Prelude.{◌↔◌, All, IsTrue, MatchOption};
 ghost use Rattle.hierarchy.specs.Soundness.{HasLighter, FitsLayer, IsCovered, IsMade, HasMiddle};
 ghost use Rattle.hierarchy.specs.FirstBroken.{FailsFirst};
-ghost use Rattle.hierarchy_check.specs.Light.{IsLight, IsSumOver, IsModeOfBoth};
+ghost use Rattle.hierarchy_check.specs.inside.Light.{IsLight, IsSumOver, IsModeOfBoth};
 
 use crate::arcs::is_arc_past;
 use crate::rows::entry_from;

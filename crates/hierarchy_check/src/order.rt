@@ -4,7 +4,7 @@ ghost use Rattle.std.specs.Prelude.{◌≡◌, ◌↔◌, IfOk, IsTrue, MatchOpt
 ghost use Rattle.mode_network.specs.NetworkLists.{nodes_of};
 ghost use Rattle.hierarchy.specs.Soundness.{HoldsBelow, IsFree, MayStandAt};
 ghost use Rattle.hierarchy.specs.FirstBroken.{FailsFirstAt};
-ghost use Rattle.hierarchy_check.specs.Meetings.{IsFirstMeeting, meets};
+ghost use Rattle.hierarchy_check.specs.inside.Meetings.{IsFirstMeeting, meets};
 
 use mode_network::Network;
 use std::alloc::{AllocError, Global};

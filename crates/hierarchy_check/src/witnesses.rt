@@ -4,7 +4,7 @@ ghost use Rattle.std.specs.Prelude.{◌≡◌, ◌-◌, ◌<◌, ◌≤◌, ◌�
 ghost use Rattle.hierarchy.specs.Lists.{first_of, last_of};
 ghost use Rattle.hierarchy.specs.Lookups.{IsWitnessFor};
 ghost use Rattle.hierarchy.specs.Soundness.{HasWitness};
-ghost use Rattle.hierarchy_check.specs.Light.{CanStep, CanWalk};
+ghost use Rattle.hierarchy_check.specs.inside.Light.{CanStep, CanWalk};
 
 use crate::rows::entry_from;
 use hierarchy::{Hierarchy, Witness};

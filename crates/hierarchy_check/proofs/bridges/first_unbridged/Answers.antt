@@ -2,7 +2,7 @@ use Rattle.std.proofs.Common.{◌<◌, length, List, ℕ, get_or, subst}
 use Rattle.std.specs.List.{HoldsAt}
 use Rattle.std.proofs.lemmas.List.{get_or_default}
 use Rattle.hierarchy.specs.Soundness.{HoldsBelow, NodeIsBridged}
-use Rattle.hierarchy_check.specs.Light.{FirstUnbridgedAt}
+use Rattle.hierarchy_check.specs.inside.Light.{FirstUnbridgedAt}
 use Rattle.hierarchy_check.proofs.PlaceLemmas.{hold_more}
 use Rattle.hierarchy_check.proofs.BridgeLemmas.{first_unbridged}
 use Rattle.hierarchy_check.proofs.bridges.first_unbridged.Goals as goal

@@ -2,7 +2,7 @@ use Rattle.std.proofs.Common.{subst}
 use Rattle.std.specs.List.{HoldsAt}
 use Rattle.std.proofs.lemmas.List.{get_or_default}
 use Rattle.hierarchy.specs.declared.rises.Rise.{Rise}
-use Rattle.hierarchy_check.specs.Light.{RiseIsBridged}
+use Rattle.hierarchy_check.specs.inside.Light.{RiseIsBridged}
 use Rattle.hierarchy_check.proofs.PlaceLemmas.{hold_more}
 use Rattle.hierarchy_check.proofs.bridges.rises_are_bridged.Goals as goal
 

@@ -1,0 +1,3 @@
+-- Parts of the clauses, as the check decides them, and what it has met; the clauses of private calls name them.
+pub mod Light
+pub mod Meetings
