@@ -1,15 +1,19 @@
 -- What a search over the counting automaton finds is a least arrival with few rides.
 use Rattle.std.proofs.Common.{ℕ, ◌+◌, ◌^◌, ◌<◌, ◌≤◌, List, Option, Some, None, sym, subst, arith}
 use Rattle.std.specs.Prelude.{◌↔◌}
-use Rattle.search_laws.specs.LabelLaws.{LabelsMeaning, Accepts}
+use Rattle.search_laws.specs.LabelLaws.{LabelsMeaning, IsLawfulLabels, Accepts}
 use Rattle.search_laws.specs.Walks.{ArrivesAt, IsLeast}
 use Rattle.search_laws.specs.Collapse.{collapse}
 use Rattle.product_search.specs.declared.label.Walk.{Walk}
 use Rattle.product_search.specs.Answer.{IsArrival, IsWalkTo, IsWalkFor}
-use Rattle.automaton.specs.Collapsed.{collapsed, AcceptsCollapsed}
+use Rattle.automaton.specs.Collapsed.{collapsed, FitsCollapsed}
+use Rattle.automaton.specs.CollapsedLaws.{collapsed_lawful}
+use Rattle.automaton.specs.Languages.{CollapsedPositionsAccept}
+use Rattle.automaton.specs.Written.{written}
+use Rattle.automaton.specs.States.{IsPositionAutomaton}
 use Rattle.plain_graph.specs.PlainArcs.{plain_meaning}
 use Rattle.plain_graph.specs.Simulation.{JourneysAreWalks}
-use Rattle.mode_expression.specs.Form.{Form, IsWordOf}
+use Rattle.mode_expression.specs.Form.{Form, IsUsable, IsWordOf}
 use Rattle.timetable_arcs.specs.Patterns.{TableLists}
 use Rattle.mode_network.specs.NetworkLists.{NetworkLists}
 use Rattle.mode_network.specs.Rules.{IsNetwork}
@@ -20,22 +24,25 @@ use Rattle.unpack.specs.Unpacking.{node_after, arrival_after, letters_of}
 use Rattle.unpack.proofs.TakenLemmas as taken
 use Rattle.few_boardings.specs.declared.counted.Side.{Side}
 use Rattle.few_boardings.specs.declared.counted.Side.TheVariants.{AtMost}
-use Rattle.few_boardings.specs.Counted.{counted, transits, IsOnSide, AcceptsCounted}
+use Rattle.few_boardings.specs.Counted.{counted, transits, IsOnSide}
 use Rattle.few_boardings.specs.Boardings.{rides}
 use Rattle.few_boardings.specs.Rounds.{IsLeastBelow, IsFoundUnpacked, IsCountedFor}
 use Rattle.few_boardings.specs.declared.boardings.Found.{Found}
+use Rattle.few_boardings.proofs.CountedLemmas.{accepts_counted}
 use Rattle.few_boardings.proofs.RideLemmas.{letters_count}
 
 -- the automaton accepts the words whose transit letters are on that side of the limit, and whose collapse the form denotes
 abbrev pub IsCountingOf : Form → LabelsMeaning → Side → ℕ → Type 0
 IsCountingOf form l side limit = (word : List ℕ) → Accepts l word ↔ (IsWordOf form (collapse word) × IsOnSide side limit (transits word))
 
-pub counting_of : (form : Form) (inner : LabelsMeaning) (side : Side) (limit : ℕ) → ((word : List ℕ) → Accepts inner word ↔ IsWordOf form word) → AcceptsCollapsed inner
-    → AcceptsCounted (collapsed inner) side limit → IsCountingOf form (counted (collapsed inner) side limit) side limit
-counting_of form inner side limit denotes collapses counts word = (
-  λ accepts. let both = (counts word).0 accepts in ((denotes (collapse word)).0 ((collapses word).0 both.0), both.1),
-  λ both. (counts word).1 ((collapses word).1 ((denotes (collapse word)).1 both.0), both.1),
-)
+pub counting_of : (form : Form) (inner : LabelsMeaning) (side : Side) (limit : ℕ) → CollapsedPositionsAccept → IsUsable form → IsLawfulLabels inner → FitsCollapsed inner
+    → IsPositionAutomaton (written form) inner → IsCountingOf form (counted (collapsed inner) side limit) side limit
+counting_of form inner side limit accept usable lawful fits is word =
+    let denotes = accept form usable inner lawful is word in
+    let counts = accepts_counted (collapsed inner) (collapsed_lawful inner lawful fits) side limit word in (
+      λ accepts. let both = counts.0 accepts in (denotes.0 both.0, both.1),
+      λ both. counts.1 (denotes.1 both.0, both.1),
+    )
 
 module _ (n : NetworkLists) (network : IsNetwork n) (table : TableLists) (q : Asked) (l : LabelsMeaning) (most : ℕ) (starts targets : List ℕ)
     (few : IsCountingOf q.form l AtMost most) (journeys : JourneysAreWalks n table) (from : AreTheCopies n q.from starts) (to : AreTheCopies n q.to targets) where

@@ -8,7 +8,9 @@ ghost use Rattle.few_boardings.specs.Boardings.{IsPrintableFewRow};
 ghost use Rattle.few_boardings.specs.Blocks.{AreBoardingsTold, IsFewText, IsFewBlock};
 
 use crate::boardings::{FewRow, few_with};
+use crate::counting::Counting;
 use journey::{BlockBody, Query, QueryFault, block, framed, push_journey, read_query};
+use kept_automata::Kept;
 use mode_network::Network;
 use plain_texts::{push_decimal, push_line_feed};
 use product_search::Workspace;
@@ -82,38 +84,38 @@ fn rows_block(
     Ok(block)
 }
 
-/// The right block of a line that is this query.
+/// The right block of the line that is this query.
 fn query_block(
     alloc: Global,
     workspace: &mut Workspace,
+    kept: &mut Kept<Counting>,
     network: &Network,
-    line: &[u8],
     query: &Query,
 ) -> Result<Vec<u8>, AllocError>
-    requires asks { IsQuery network.now line.now query.now.from query.now.to query.now.depart
+    requires asks { IsQuery network.now query.now.line query.now.from query.now.to query.now.depart
         (form_of query.now.expr) }
-    requires line { query.now.line ≡ line.now }
     requires usable { IsUsable (form_of query.now.expr) }
     requires soon { query.now.depart < 2 ^ 64 }
-    ensures { IfOk result (λ block. IsFewBlock network.now line.now block.items) }
+    ensures { IfOk result (λ block. IsFewBlock network.now query.now.line block.items) }
 {
-    let rows = few_with(alloc, workspace, network, query)?;
-    let block = rows_block(alloc, network, line, &rows)?;
+    let rows = few_with(alloc, workspace, kept, network, query)?;
+    let block = rows_block(alloc, network, query.line.as_slice(), &rows)?;
     Ok(block)
 }
 
 /// The right block of a query line: that of its refusal, or of the journeys that are worth their boardings. The searches
-/// use the workspace.
+/// use the workspace and what is kept.
 pub fn few_block(
     alloc: Global,
     workspace: &mut Workspace,
+    kept: &mut Kept<Counting>,
     network: &Network,
     line: &[u8],
 ) -> Result<Vec<u8>, AllocError>
     ensures { IfOk result (λ block. IsFewBlock network.now line.now block.items) }
 {
     match read_query(alloc, network, line) {
-        Ok(query) => query_block(alloc, workspace, network, line, &query),
+        Ok(query) => query_block(alloc, workspace, kept, network, &query),
         Err(QueryFault::OutOfMemory) => Err(AllocError),
         Err(fault) => {
             let block = block(alloc, network, line, &BlockBody::Refused(fault))?;

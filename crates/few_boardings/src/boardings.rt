@@ -9,13 +9,15 @@ ghost use Rattle.unpack.specs.Taken.{IsPlainWalk};
 ghost use Rattle.few_boardings.specs.Boardings.{is_ride, AreFewRows, HasNoneByFew, IsPrintableFewRow};
 ghost use Rattle.few_boardings.specs.Rounds.{IsFoundUnpacked, IsLeastBelow, is_later, with_fewer_rides};
 
-use crate::counted::{Counted, Side};
-use automaton::{Collapsed, Positions};
+use crate::counted::Side;
+use crate::counting::Counting;
+use automaton::positions_accept;
 use journey::{Query, copies};
+use kept_automata::Kept;
 use mode_network::{Journey, Network, Step};
 use plain_graph::Plain;
 use plan_base::Time;
-use product_search::{Best, Machine, Question, Walk, Workspace, search_best_with};
+use product_search::{Best, Question, Walk, Workspace, search_best_with};
 use std::alloc::{AllocError, Global};
 use unpack::from_plain;
 
@@ -66,10 +68,11 @@ fn unpacked(
 }
 
 /// A journey that answers a query with fewer rides than the limit, and arrives no later than any such journey; None
-/// exactly where there is none. The search uses the workspace.
+/// exactly where there is none. The search uses the workspace and what is kept.
 pub fn least_below(
     alloc: Global,
     workspace: &mut Workspace,
+    kept: &mut Kept<Counting>,
     network: &Network,
     query: &Query,
     limit: u8,
@@ -88,18 +91,22 @@ pub fn least_below(
     network.known();
     let starts = copies(alloc, network, &query.from)?;
     let targets = copies(alloc, network, &query.to)?;
-    let collapsed = Collapsed::new(Positions::of(alloc, &query.expr)?);
-    let labels = Counted::new(collapsed, Side::AtMost, limit - 1);
-    let machine = Machine::new(alloc, labels)?;
+    positions_accept();
+    let counting = Counting {
+        side: Side::AtMost,
+        limit: limit - 1,
+    };
+    let expressed = kept.take(alloc, counting, query)?;
     let question = Question {
         graph: &plain,
-        machine: &machine,
+        machine: &expressed.made,
         starts: &starts,
         targets: &targets,
         dep: query.depart,
         bound: None,
     };
     let best = search_best_with(alloc, workspace, &question)?;
+    kept.put(expressed)?;
     let Best { arrival, walk } = best;
     let found = unpacked(alloc, &plain, arrival, &walk)?;
     Ok(found)
@@ -140,16 +147,18 @@ pub fn few(alloc: Global, network: &Network, query: &Query) -> Result<Vec<FewRow
     ensures printable { IfOk result (λ rows. All (IsPrintableFewRow network.now) rows.items) }
 {
     let mut workspace = Workspace::new(alloc);
-    few_with(alloc, &mut workspace, network, query)
+    let mut kept = Kept::new(alloc);
+    few_with(alloc, &mut workspace, &mut kept, network, query)
 }
 
-/// The same with a table that is kept for the next search.
+/// The same with a workspace, and with the automata that are kept while the text of the expression stays.
 ///
 /// Each search goes below the rides of the journey that the one before found, so there are as many searches as rows, one
 /// more at the end, and one for each journey that another with fewer rides is as early as.
 pub fn few_with(
     alloc: Global,
     workspace: &mut Workspace,
+    kept: &mut Kept<Counting>,
     network: &Network,
     query: &Query,
 ) -> Result<Vec<FewRow>, AllocError>
@@ -162,9 +171,9 @@ pub fn few_with(
     ensures printable { IfOk result (λ rows. All (IsPrintableFewRow network.now) rows.items) }
 {
     let mut rows = Vec::new(alloc);
-    let mut best = least_below(alloc, workspace, network, query, 9)?;
+    let mut best = least_below(alloc, workspace, kept, network, query, 9)?;
     while let Some(found) = best {
-        let fewer = least_below(alloc, workspace, network, query, found.row.boardings)?;
+        let fewer = least_below(alloc, workspace, kept, network, query, found.row.boardings)?;
         keep(&mut rows, found, &fewer)?;
         best = fewer;
     }

@@ -4,7 +4,9 @@
 mod blocks;
 mod boardings;
 mod counted;
+mod counting;
 
 pub use blocks::few_block;
 pub use boardings::{FewRow, Found, few, few_with, least_below};
 pub use counted::{Counted, Side};
+pub use counting::Counting;

@@ -1,23 +1,25 @@
-use Rattle.std.proofs.Common.{ℕ, List, ◌+◌, ◌-◌, ◌≡◌, ◌≤◌, sym, subst, arith}
-use Rattle.std.specs.Prelude.{◌↔◌}
-use Rattle.search_laws.specs.LabelLaws.{Accepts}
-use Rattle.automaton.specs.Collapsed.{AcceptsCollapsed, collapsed}
+use Rattle.std.proofs.Common.{◌+◌, ◌-◌, ◌≡◌, ◌≤◌, subst, arith}
+use Rattle.automaton.specs.Collapsed.{collapsed}
 use Rattle.automaton.specs.Meanings.{position_meaning}
-use Rattle.automaton.specs.declared.positions.Positions.{Positions}
-use Rattle.mode_expression.specs.Form.{Denotes, form_of}
+use Rattle.mode_expression.specs.Form.{form_of}
 use Rattle.journey.specs.Best.{asked_by}
 use Rattle.unpack.proofs.TakenLemmas.{walk_is_plain}
+use Rattle.kept_automata.proofs.TextLemmas.{query_spells}
 use Rattle.few_boardings.specs.declared.counted.Side.TheVariants.{AtMost}
 use Rattle.few_boardings.specs.Counted.{counted}
 use Rattle.few_boardings.specs.Rounds.{IsLeastBelow}
 use Rattle.few_boardings.proofs.FoundLemmas.{counting_of, found_below}
 use Rattle.few_boardings.proofs.boardings.least_below.Goals as goal
 
+pub take-requires-clause-spelled : goal.take-requires-clause-spelled
+take-requires-clause-spelled c = query_spells c.args.network.now _ _ _ _ _ c.requires.asks
+
 pub unpacked-requires : goal.unpacked-requires
 unpacked-requires c =
     let n = c.args.network.now in
-    let inner = position_meaning c.new-collapsed.result.inner in
-    let walk = rw (c.new-plain.ensures.network, c.deref.ensures.value, c.deref-2.ensures.value, c.in_ok-machine.ensures, c.new-labels.ensures.same, c.new-labels.ensures.side, c.new-labels.ensures.limit) at c.in_ok-best.ensures.walk in
+    let is = c.in_ok-expressed.ensures in
+    let inner = position_meaning c.in_ok-expressed.expressed.made.labels.inner.inner in
+    let walk = rw (c.new-plain.ensures.network, c.deref.ensures.value, c.deref-2.ensures.value, is.on_side, is.limited) at c.in_ok-best.ensures.walk in
     rw c.new-plain.ensures.network (walk_is_plain n c.new-plain.result.timetable.now (asked_by c.args.query.now) (counted (collapsed inner) AtMost (c.args.limit - 1))
     c.in_ok-starts.starts.items c.in_ok-targets.targets.items c.in_ok-starts.ensures.are c.in_ok-targets.ensures.are _ _ walk)
 
@@ -26,14 +28,12 @@ returns c =
     let n = c.args.network.now in
     let q = c.args.query.now in
     let most = c.args.limit - 1 in
-    let collapsing = c.new-collapsed.result in
-    let inner = position_meaning collapsing.inner in
-    let same = sym c.new-collapsed.ensures.same in
-    let denotes = subst (λ (p : Positions). (word : List ℕ) → Accepts (position_meaning p) word ↔ Denotes q.expr word) same c.in_ok-of.ensures.accepts in
-    let collapses = subst (λ (p : Positions). AcceptsCollapsed (position_meaning p)) same c.new-collapsed.ensures.accepts in
-    let few = counting_of (form_of q.expr) inner AtMost most denotes collapses c.new-labels.ensures.accepts in
-    let walk = rw (c.new-plain.ensures.network, c.deref.ensures.value, c.deref-2.ensures.value, c.in_ok-machine.ensures, c.new-labels.ensures.same, c.new-labels.ensures.side, c.new-labels.ensures.limit) at c.in_ok-best.ensures.walk in
-    let arrival = rw (c.new-plain.ensures.network, c.deref.ensures.value, c.deref-2.ensures.value, c.in_ok-machine.ensures, c.new-labels.ensures.same, c.new-labels.ensures.side, c.new-labels.ensures.limit) at c.in_ok-best.ensures.arrival in
+    let is = c.in_ok-expressed.ensures in
+    let reader = c.in_ok-expressed.expressed.made.labels.inner in
+    let inner = position_meaning reader.inner in
+    let few = counting_of (form_of q.expr) inner AtMost most c.positions_accept.ensures.collapsed c.requires.usable reader.inner.lawful reader.fits is.positions in
+    let walk = rw (c.new-plain.ensures.network, c.deref.ensures.value, c.deref-2.ensures.value, is.on_side, is.limited) at c.in_ok-best.ensures.walk in
+    let arrival = rw (c.new-plain.ensures.network, c.deref.ensures.value, c.deref-2.ensures.value, is.on_side, is.limited) at c.in_ok-best.ensures.arrival in
     let found = rw c.new-plain.ensures.network at c.in_ok-found.ensures in
     let limit : most + 1 ≡ c.args.limit = let some = c.if-limit-eq0.false in omega arith in
     let small : most ≤ 8 = let few = c.requires.limit in omega arith in
