@@ -1,5 +1,5 @@
 -- What is known to count is seen to. These are proofs, which a ghost member cites; nothing is defined here that a contract means.
-use Rattle.std.proofs.Common.{◌≡◌, ℕ, true, false, refl, ap}
+use Rattle.std.proofs.Common.{◌≡◌, ℕ, refl, ap}
 use Rattle.std.proofs.Props.{props}
 use Rattle.std.proofs.Math.Logic.{∥∥₁_elim, ∥∥₁_map}
 use Rattle.search_laws.specs.LabelLaws.{LabelsMeaning}

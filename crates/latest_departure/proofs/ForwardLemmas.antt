@@ -6,7 +6,6 @@ use Rattle.search_laws.specs.Walks.{ArrivesAt}
 use Rattle.search_laws.specs.Collapse.{collapse}
 use Rattle.product_search.specs.declared.label.Walk.{Walk}
 use Rattle.product_search.specs.Answer.{IsArrival, IsWalkFor}
-use Rattle.automaton.specs.Collapsed.{collapsed, AcceptsCollapsed}
 use Rattle.plain_graph.specs.PlainArcs.{plain_meaning}
 use Rattle.plain_graph.specs.Simulation.{JourneysAreWalks}
 use Rattle.mode_expression.specs.Form.{Form, IsWordOf}
@@ -23,12 +22,6 @@ use Rattle.latest_departure.specs.Forward.{IsFirstIfAny, IsJourneyUnpacked}
 -- the automaton reads each word whose collapse the form denotes
 abbrev pub IsReaderOf : Form → LabelsMeaning → Type 0
 IsReaderOf form l = (word : List ℕ) → Accepts l word ↔ IsWordOf form (collapse word)
-
-pub reader_of : (form : Form) (inner : LabelsMeaning) → ((word : List ℕ) → Accepts inner word ↔ IsWordOf form word) → AcceptsCollapsed inner → IsReaderOf form (collapsed inner)
-reader_of form inner denotes collapses word = (
-  λ accepts. (denotes (collapse word)).0 ((collapses word).0 accepts),
-  λ denoted. (collapses word).1 ((denotes (collapse word)).1 denoted),
-)
 
 module _ (n : NetworkLists) (network : IsNetwork n) (table : TableLists) (q : Asked) (l : LabelsMeaning) (origins destinations : List ℕ)
     (reads : IsReaderOf q.form l) (journeys : JourneysAreWalks n table) (from : AreTheCopies n q.from origins) (to : AreTheCopies n q.to destinations) where

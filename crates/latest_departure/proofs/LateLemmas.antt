@@ -1,5 +1,5 @@
 -- A least mirrored moment is that of a latest departure.
-use Rattle.std.proofs.Common.{◌≡◌, ℕ, ◌-◌, ◌^◌, ◌<◌, ◌≤◌, ◌∙◌, ◌==◌, ◌&&◌, nat_lt, cond, Bool, true, false, List, [], ◌∷◌, ◌++◌, Option, Some, None, refl, sym, ap, subst, arith}
+use Rattle.std.proofs.Common.{◌≡◌, ℕ, ◌-◌, ◌^◌, ◌≤◌, ◌∙◌, ◌==◌, ◌&&◌, nat_lt, cond, Bool, true, false, List, [], ◌∷◌, ◌++◌, Option, Some, None, refl, sym, ap, subst, arith}
 use Rattle.std.specs.Prelude.{◌↔◌, reverse}
 use Rattle.std.specs.List.{range_with_len}
 use Rattle.std.proofs.lemmas.Bool.Decides.{nat_tests}
@@ -11,7 +11,7 @@ use Rattle.search_laws.specs.GraphLaws.{GraphMeaning}
 use Rattle.search_laws.specs.LabelLaws.{LabelsMeaning, Accepts}
 use Rattle.search_laws.specs.Walks.{wait, ArrivesAt, word_from}
 use Rattle.product_search.specs.Answer.{IsArrival}
-use Rattle.automaton.specs.Collapsed.{collapsed, FitsCollapsed, AcceptsCollapsed}
+use Rattle.automaton.specs.Collapsed.{collapsed, AcceptsCollapsed}
 use Rattle.mode_expression.specs.Form.{Form, IsWordOf}
 use Rattle.mode_network.specs.NetworkLists.{NetworkLists}
 use Rattle.mode_network.specs.declared.steps.Step.{Step}
@@ -23,7 +23,7 @@ use Rattle.latest_departure.specs.Forward.{IsFirst, IsFirstIfAny, leaving}
 use Rattle.latest_departure.specs.Late.{deadline, first_moment, IsInTime, IsBestLate, HasNoneInTime}
 use Rattle.latest_departure.specs.Latest.{IsLate, span}
 use Rattle.latest_departure.specs.Mirrored.{MirrorsAreJourneys, JourneysAreMirrors}
-use Rattle.latest_departure.specs.Reversed.{IsReversed, AcceptsReversed, all_moves}
+use Rattle.latest_departure.specs.Reversed.{AcceptsReversed, all_moves}
 
 pub few_moves : (l : LabelsMeaning) → l.states ≤ 201 → ((q : ℕ) → l.moves q ≤ 200) → all_moves l ≤ 2 ^ 16
 few_moves l states moves =
@@ -80,13 +80,6 @@ collapse_reversed (c ∷ d ∷ word) =
     on_test : (b : Bool) → ends_with b c (reverse (collapse (d ∷ word))) ≡ reverse (cond b (collapse (d ∷ word)) (c ∷ collapse (d ∷ word)))
     on_test true = refl
     on_test false = sym (reverse-append (c ∷ []) (collapse (d ∷ word)))
-
--- a reversed automaton is as small as the other
-pub turned_fits : (l r : LabelsMeaning) → IsReversed l r → l.states ≤ 201 → ((q : ℕ) → q < l.states → r.moves q ≤ 2 ^ 16) → FitsCollapsed r
-turned_fits l r is few moves = record {
-  few_states = let same = is.states in omega arith;
-  few_moves = λ q lt. moves q (subst (λ k. q < k) is.states lt);
-}
 
 -- the automaton reads, from its end, each word whose collapse the form denotes
 abbrev pub IsMirrorOf : Form → LabelsMeaning → Type 0

@@ -22,13 +22,13 @@ use Rattle.latest_departure.proofs.TextLemmas.{late_right}
 
 module _ (b : BackLists) (keeps : IsBackwards b) (q : Asked) (s : LateSearch) (is : IsSearchFor b q s) where
   pub search_has_more : (limit : ℕ)
-      → HasMoreLabels (mirrored b (deadline q)) (collapsed (reversed_meaning s.machine.labels.inner)) s.starts.items s.targets.items 0 (Some (span b.network q)) limit
+      → HasMoreLabels (mirrored b (deadline q)) (collapsed (reversed_meaning s.expressed.made.machine.labels.inner)) s.starts.items s.targets.items 0 (Some (span b.network q)) limit
       → LateSearchHasMore b.network q limit
   search_has_more limit more = record { over = over b keeps q s is; more = more }
 
   pub search_has_at_most : (arrival : Option ℕ) (count : ℕ)
-      → IsArrival (mirrored b (deadline q)) (collapsed (reversed_meaning s.machine.labels.inner)) s.starts.items s.targets.items 0 (Some (span b.network q)) arrival
-      → HasLeastLabels (mirrored b (deadline q)) (collapsed (reversed_meaning s.machine.labels.inner)) s.starts.items 0 (Some (span b.network q)) arrival count
+      → IsArrival (mirrored b (deadline q)) (collapsed (reversed_meaning s.expressed.made.machine.labels.inner)) s.starts.items s.targets.items 0 (Some (span b.network q)) arrival
+      → HasLeastLabels (mirrored b (deadline q)) (collapsed (reversed_meaning s.expressed.made.machine.labels.inner)) s.starts.items 0 (Some (span b.network q)) arrival count
       → (limit : Option ℕ) → IfSome limit (λ most. count ≤ most) → IfSome limit (LateSearchHasAtMost b.network q)
   search_has_at_most arrival count first has None few = tt
   search_has_at_most arrival count first (list, least, counts) (Some limit) few =

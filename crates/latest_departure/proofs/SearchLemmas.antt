@@ -29,7 +29,7 @@ module _ (b : BackLists) (keeps : IsBackwards b) (q : Asked) (s : LateSearch) (i
     keeps = keeps.keeps;
     rows = source_rows b;
     sources = keeps.sources;
-    reversed = reversed_meaning s.machine.labels.inner;
+    reversed = reversed_meaning s.expressed.made.machine.labels.inner;
     reads = is.reads;
     starts = s.starts.items;
     targets = s.targets.items;
@@ -41,10 +41,10 @@ module _ (b : BackLists) (keeps : IsBackwards b) (q : Asked) (s : LateSearch) (i
     g = mirrored b (deadline q)
 
     abbrev l : LabelsMeaning
-    l = collapsed (reversed_meaning s.machine.labels.inner)
+    l = collapsed (reversed_meaning s.expressed.made.machine.labels.inner)
 
     reads : IsMirrorOf q.form l
-    reads = reads_of q usable (reversed_meaning s.machine.labels.inner) is.reads
+    reads = reads_of q usable (reversed_meaning s.expressed.made.machine.labels.inner) is.reads
 
     rises : (v t : ℕ) (steps : List Step) (w u : ℕ) (letters : List ℕ) → AreSteps b.network v t steps w u letters → t ≤ u
     rises = steps_rise b.network keeps.network b.table keeps.keeps keeps.of

@@ -1,6 +1,8 @@
 pub mod Late
 pub mod Blocks
 pub mod Reversed
+pub mod Backward
+pub mod BackwardLaws
 pub mod StateViews
 pub mod Meanings
 pub mod Entries

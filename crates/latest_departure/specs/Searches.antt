@@ -14,5 +14,5 @@ pub record IsSearchFor (b : BackLists) (q : Asked) (s : LateSearch) : Type 0 whe
   pub small : deadline q < 2 ^ 57
   pub not_before : first_moment b.network ≤ deadline q
   pub back_to : s.span ≡ span b.network q
-  pub reads : ReadsFromEnds q (reversed_meaning s.machine.labels.inner)
+  pub reads : ReadsFromEnds q (reversed_meaning s.expressed.made.machine.labels.inner)
   pub ends : AreSwappedEnds b.network q s.starts.items s.targets.items

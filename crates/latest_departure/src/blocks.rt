@@ -11,12 +11,13 @@ ghost use Rattle.latest_departure.specs.Limits.{IsLateBlockWithin};
 
 use crate::backwards::Backwards;
 use crate::departing::find_latest_within;
+use crate::room::LateRoom;
 use journey::{
     BlockBody, Query, QueryFault, block, framed, push_journey, read_query, stopped_block,
 };
 use mode_network::{Journey, Network};
 use plain_texts::push_line_feed;
-use product_search::{Limited, Workspace};
+use product_search::Limited;
 use search_laws::Time;
 use std::alloc::{AllocError, Global};
 
@@ -78,22 +79,22 @@ pub fn answer_block(
     Ok(block)
 }
 
-/// The right late block of a line that is this query, within the limit, if there is one.
+/// The right late block of the line that is this query, within the limit, if there is one.
 fn query_block(
     alloc: Global,
-    workspace: &mut Workspace,
+    room: &mut LateRoom,
     backwards: &Backwards<'_>,
-    line: &[u8],
     query: &Query,
     limit: Option<u64>,
 ) -> Result<Vec<u8>, AllocError>
-    requires asks { IsQuery backwards.now.network line.now query.now.from query.now.to query.now.depart
+    requires asks { IsQuery backwards.now.network query.now.line query.now.from query.now.to query.now.depart
         (form_of query.now.expr) }
-    requires line { query.now.line ≡ line.now }
     requires usable { IsUsable (form_of query.now.expr) }
-    ensures { IfOk result (λ block. IsLateBlockWithin backwards.now.network limit line.now block.items) }
+    ensures { IfOk result (λ block. IsLateBlockWithin backwards.now.network limit query.now.line
+        block.items) }
 {
-    let found = find_latest_within(alloc, workspace, backwards, query, limit)?;
+    let line = query.line.as_slice();
+    let found = find_latest_within(alloc, room, backwards, query, limit)?;
     let journey = match found {
         Limited::Ended(journey) => journey,
         Limited::Stopped(most) => return stopped_block(alloc, line, most),
@@ -104,23 +105,23 @@ fn query_block(
 /// The right late block of a query line: that of its refusal, of the best journey for its deadline, or of the answer that
 /// there is none.
 ///
-/// The table of what leads to each node and the workspace serve many lines.
+/// The table of what leads to each node and the room serve many lines.
 pub fn late_block(
     alloc: Global,
-    workspace: &mut Workspace,
+    room: &mut LateRoom,
     backwards: &Backwards<'_>,
     line: &[u8],
 ) -> Result<Vec<u8>, AllocError>
     ensures { IfOk result (λ block. IsLateBlock backwards.now.network line.now block.items) }
 {
-    late_block_within(alloc, workspace, backwards, line, None)
+    late_block_within(alloc, room, backwards, line, None)
 }
 
 /// The same as [`late_block`], but where the search through mirrored time has more labels than the limit, if there is one, it is
 /// stopped, and the block says so.
 pub fn late_block_within(
     alloc: Global,
-    workspace: &mut Workspace,
+    room: &mut LateRoom,
     backwards: &Backwards<'_>,
     line: &[u8],
     limit: Option<u64>,
@@ -129,7 +130,7 @@ pub fn late_block_within(
 {
     let network = backwards.network();
     match read_query(alloc, network, line) {
-        Ok(query) => query_block(alloc, workspace, backwards, line, &query, limit),
+        Ok(query) => query_block(alloc, room, backwards, &query, limit),
         Err(QueryFault::OutOfMemory) => Err(AllocError),
         Err(fault) => {
             let block = block(alloc, network, line, &BlockBody::Refused(fault))?;

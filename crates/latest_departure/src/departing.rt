@@ -8,6 +8,7 @@ ghost use Rattle.product_search.specs.Limits.{IfEnded, IfStopped};
 ghost use Rattle.automaton.specs.Collapsed.{collapsed};
 ghost use Rattle.journey.specs.Best.{asked_by};
 ghost use Rattle.journey.specs.Queries.{IsQuery};
+ghost use Rattle.kept_automata.specs.Texts.{IsSpelledIn};
 ghost use Rattle.latest_departure.specs.BackLists.{mirrored};
 ghost use Rattle.latest_departure.specs.Latest.{IsLate, AreLateLabels, span};
 ghost use Rattle.latest_departure.specs.Limits.{LateSearchHasAtMost, LateSearchHasMore};
@@ -16,9 +17,11 @@ ghost use Rattle.latest_departure.specs.Searches.{IsSearchFor};
 
 use crate::backwards::Backwards;
 use crate::forward::first_from;
+use crate::room::LateRoom;
 use crate::search::LateSearch;
 use journey::Query;
-use mode_network::{Journey, Network};
+use kept_automata::Room;
+use mode_network::Journey;
 use product_search::{
     Best, Found, FoundWithCount, Label, Limited, Question, Workspace, search_best_with,
     search_counted_within, search_within,
@@ -34,19 +37,20 @@ pub struct Late {
 }
 
 /// The best journey for a deadline, if there is a least mirrored moment within the span: the one that leaves then and arrives
-/// first.
+/// first. The search for it uses the room.
 fn best_at(
     alloc: Global,
-    workspace: &mut Workspace,
+    room: &mut Room,
     backwards: &Backwards<'_>,
     query: &Query,
     search: &LateSearch<'_>,
     moment: Option<Time>,
 ) -> Result<Option<Journey>, AllocError>
     requires usable { IsUsable (form_of query.now.expr) }
+    requires spelled { IsSpelledIn query.now.line (form_of query.now.expr) }
     requires search { IsSearchFor backwards.now (asked_by query.now) search.now }
     requires moment { IsArrival (mirrored backwards.now query.now.depart)
-        (collapsed (reversed_meaning search.now.machine.labels.inner)) search.now.starts.items
+        (collapsed (reversed_meaning search.now.expressed.made.machine.labels.inner)) search.now.starts.items
         search.now.targets.items 0 (Some (span backwards.now.network (asked_by query.now))) moment }
     ensures { IfOk result (IsLate backwards.now.network (asked_by query.now)) }
 {
@@ -54,7 +58,7 @@ fn best_at(
     match moment {
         Some(moment) => {
             let at = query.depart - moment;
-            let journey = first_from(alloc, workspace, backwards.network(), query, search, at)?;
+            let journey = first_from(alloc, room, backwards.network(), query, search, at)?;
             Ok(journey)
         }
         None => Ok(None),
@@ -73,7 +77,7 @@ fn least_moment(
 ) -> Result<Limited<Option<Time>>, AllocError>
     requires { IsSearchFor backwards.now (asked_by query.now) search.now }
     ensures moment { IfEnded result (IsArrival (mirrored backwards.now query.now.depart)
-        (collapsed (reversed_meaning search.now.machine.labels.inner)) search.now.starts.items
+        (collapsed (reversed_meaning search.now.expressed.made.machine.labels.inner)) search.now.starts.items
         search.now.targets.items 0 (Some (span backwards.now.network (asked_by query.now)))) }
     ensures few { IfEnded result (λ _. IfSome limit (LateSearchHasAtMost backwards.now.network
         (asked_by query.now))) }
@@ -83,7 +87,7 @@ fn least_moment(
     backwards.known();
     let question = Question {
         graph: &search.mirror,
-        machine: &search.machine,
+        machine: &search.expressed.made.machine,
         starts: &search.starts,
         targets: &search.targets,
         dep: 0,
@@ -111,10 +115,10 @@ fn least_moment(
 /// arrives first; None exactly where none is in time.
 ///
 /// The time of a query is the deadline. The departure is found by a search through mirrored time, and the journey by one from
-/// there on. The table of what leads to each node and the workspace serve many queries.
+/// there on. The table of what leads to each node and the room serve many queries.
 pub fn find_latest(
     alloc: Global,
-    workspace: &mut Workspace,
+    room: &mut LateRoom,
     backwards: &Backwards<'_>,
     query: &Query,
 ) -> Result<Option<Journey>, AllocError>
@@ -123,7 +127,7 @@ pub fn find_latest(
     requires usable { IsUsable (form_of query.now.expr) }
     ensures { IfOk result (IsLate backwards.now.network (asked_by query.now)) }
 {
-    let found = find_latest_within(alloc, workspace, backwards, query, None)?;
+    let found = find_latest_within(alloc, room, backwards, query, None)?;
     Ok(found.into_answer())
 }
 
@@ -131,7 +135,7 @@ pub fn find_latest(
 /// one, and there alone.
 pub fn find_latest_within(
     alloc: Global,
-    workspace: &mut Workspace,
+    room: &mut LateRoom,
     backwards: &Backwards<'_>,
     query: &Query,
     limit: Option<u64>,
@@ -145,78 +149,89 @@ pub fn find_latest_within(
     ensures stopped { IfStopped result (λ most. (limit ≡ Some most)
         × LateSearchHasMore backwards.now.network (asked_by query.now) most) }
 {
-    let search = LateSearch::new(alloc, backwards, query)?;
+    let search = LateSearch::new(alloc, &mut room.backward, backwards, query)?;
+    let workspace = &mut room.forward.workspace;
     let moment = match least_moment(alloc, workspace, backwards, query, &search, limit)? {
         Limited::Ended(moment) => moment,
-        Limited::Stopped(most) => return Ok(Limited::Stopped(most)),
+        Limited::Stopped(most) => {
+            room.backward.put(search.expressed)?;
+            return Ok(Limited::Stopped(most));
+        }
     };
-    let journey = best_at(alloc, workspace, backwards, query, &search, moment)?;
+    let journey = best_at(alloc, &mut room.forward, backwards, query, &search, moment)?;
+    room.backward.put(search.expressed)?;
     Ok(Limited::Ended(journey))
 }
 
-/// What is answered for a deadline, with a table and a workspace of its own: such a journey, and exactly the labels of the
-/// search through mirrored time, up to the region's first date.
-pub fn latest(alloc: Global, network: &Network, query: &Query) -> Result<Late, AllocError>
-    requires asks { IsQuery network.now query.now.line query.now.from query.now.to query.now.depart
+/// What is answered for a deadline: such a journey, and exactly the labels of the search through mirrored time, up to the
+/// region's first date. The table of what leads to each node and the room serve many queries.
+pub fn latest(
+    alloc: Global,
+    room: &mut LateRoom,
+    backwards: &Backwards<'_>,
+    query: &Query,
+) -> Result<Late, AllocError>
+    requires asks { IsQuery backwards.now.network query.now.line query.now.from query.now.to query.now.depart
         (form_of query.now.expr) }
     requires usable { IsUsable (form_of query.now.expr) }
-    ensures journey { IfOk result (λ late. IsLate network.now (asked_by query.now) late.journey) }
-    ensures labels { IfOk result (λ late. AreLateLabels network.now (asked_by query.now) late.labels.items) }
+    ensures journey { IfOk result (λ late. IsLate backwards.now.network (asked_by query.now) late.journey) }
+    ensures labels { IfOk result (λ late. AreLateLabels backwards.now.network (asked_by query.now)
+        late.labels.items) }
     ensures times { IfOk result (λ late. All (λ x. x.at < time_bound) late.labels.items) }
 {
-    let late = latest_within(alloc, network, query, None)?;
+    let late = latest_within(alloc, room, backwards, query, None)?;
     Ok(late.into_answer())
 }
 
 /// The same as [`latest`], but stopped where the search has more labels than the limit, if there is one, and there alone.
 pub fn latest_within(
     alloc: Global,
-    network: &Network,
+    room: &mut LateRoom,
+    backwards: &Backwards<'_>,
     query: &Query,
     limit: Option<u64>,
 ) -> Result<Limited<Late>, AllocError>
-    requires asks { IsQuery network.now query.now.line query.now.from query.now.to query.now.depart
+    requires asks { IsQuery backwards.now.network query.now.line query.now.from query.now.to query.now.depart
         (form_of query.now.expr) }
     requires usable { IsUsable (form_of query.now.expr) }
-    ensures journey { IfEnded result (λ late. IsLate network.now (asked_by query.now) late.journey) }
-    ensures labels { IfEnded result (λ late. AreLateLabels network.now (asked_by query.now)
+    ensures journey { IfEnded result (λ late. IsLate backwards.now.network (asked_by query.now) late.journey) }
+    ensures labels { IfEnded result (λ late. AreLateLabels backwards.now.network (asked_by query.now)
         late.labels.items) }
     ensures times { IfEnded result (λ late. All (λ x. x.at < time_bound) late.labels.items) }
     ensures few { IfEnded result (λ late. IfSome limit (λ most. length late.labels.items ≤ most)) }
     ensures stopped { IfStopped result (λ most. (limit ≡ Some most)
-        × LateSearchHasMore network.now (asked_by query.now) most) }
+        × LateSearchHasMore backwards.now.network (asked_by query.now) most) }
 {
-    let backwards = Backwards::new(alloc, network)?;
-    let search = LateSearch::new(alloc, &backwards, query)?;
-    let late = late_over(alloc, network, &backwards, query, &search, limit)?;
+    let search = LateSearch::new(alloc, &mut room.backward, backwards, query)?;
+    let late = late_over(alloc, &mut room.forward, backwards, query, &search, limit)?;
+    room.backward.put(search.expressed)?;
     Ok(late)
 }
 
-/// What is answered for a deadline by this search, which goes over the network, unless it is stopped.
+/// What is answered for a deadline by this search, unless it is stopped. The search from the departure uses the room.
 fn late_over(
     alloc: Global,
-    network: &Network,
+    room: &mut Room,
     backwards: &Backwards<'_>,
     query: &Query,
     search: &LateSearch<'_>,
     limit: Option<u64>,
 ) -> Result<Limited<Late>, AllocError>
     requires usable { IsUsable (form_of query.now.expr) }
+    requires spelled { IsSpelledIn query.now.line (form_of query.now.expr) }
     requires search { IsSearchFor backwards.now (asked_by query.now) search.now }
-    requires same { backwards.now.network ≡ network.now }
-    ensures journey { IfEnded result (λ late. IsLate network.now (asked_by query.now) late.journey) }
-    ensures labels { IfEnded result (λ late. AreLateLabels network.now (asked_by query.now)
+    ensures journey { IfEnded result (λ late. IsLate backwards.now.network (asked_by query.now) late.journey) }
+    ensures labels { IfEnded result (λ late. AreLateLabels backwards.now.network (asked_by query.now)
         late.labels.items) }
     ensures times { IfEnded result (λ late. All (λ x. x.at < time_bound) late.labels.items) }
     ensures few { IfEnded result (λ late. IfSome limit (λ most. length late.labels.items ≤ most)) }
     ensures stopped { IfStopped result (λ most. (limit ≡ Some most)
-        × LateSearchHasMore network.now (asked_by query.now) most) }
+        × LateSearchHasMore backwards.now.network (asked_by query.now) most) }
 {
-    let mut workspace = Workspace::new(alloc);
     backwards.known();
     let question = Question {
         graph: &search.mirror,
-        machine: &search.machine,
+        machine: &search.expressed.made.machine,
         starts: &search.starts,
         targets: &search.targets,
         dep: 0,
@@ -232,6 +247,6 @@ fn late_over(
         labels,
         walk: _,
     } = found;
-    let journey = best_at(alloc, &mut workspace, backwards, query, search, arrival)?;
+    let journey = best_at(alloc, room, backwards, query, search, arrival)?;
     Ok(Limited::Ended(Late { journey, labels }))
 }

@@ -4,15 +4,17 @@ ghost use Rattle.std.specs.Prelude.{◌<◌, ◌^◌, IfOk};
 ghost use Rattle.mode_expression.specs.Form.{form_of, IsUsable};
 ghost use Rattle.journey.specs.Best.{asked_by};
 ghost use Rattle.unpack.specs.Taken.{IsPlainWalk};
+ghost use Rattle.kept_automata.specs.Texts.{IsSpelledIn};
 ghost use Rattle.latest_departure.specs.Forward.{IsFirstIfAny, IsJourneyUnpacked, leaving};
 ghost use Rattle.latest_departure.specs.Latest.{AreSwappedEnds};
 
 use crate::search::LateSearch;
-use automaton::{Collapsed, Positions};
+use automaton::positions_accept;
 use journey::Query;
+use kept_automata::{Forward, Room};
 use mode_network::{Journey, Network};
 use plain_graph::Plain;
-use product_search::{Best, Machine, Question, Walk, Workspace, search_best_with};
+use product_search::{Best, Question, Walk, search_best_with};
 use search_laws::Time;
 use std::alloc::{AllocError, Global};
 use unpack::from_plain;
@@ -36,16 +38,17 @@ fn unpacked(
 }
 
 /// Of the journeys that do what a query asks and leave at this time or later, one that leaves then and arrives first; None
-/// exactly where there is none. The search goes between the ends of the other search, and uses the workspace.
+/// exactly where there is none. The search goes between the ends of the other search, and uses the room.
 pub(crate) fn first_from(
     alloc: Global,
-    workspace: &mut Workspace,
+    room: &mut Room,
     network: &Network,
     query: &Query,
     search: &LateSearch<'_>,
     at: Time,
 ) -> Result<Option<Journey>, AllocError>
     requires usable { IsUsable (form_of query.now.expr) }
+    requires spelled { IsSpelledIn query.now.line (form_of query.now.expr) }
     requires ends { AreSwappedEnds network.now (asked_by query.now) search.now.starts.items
         search.now.targets.items }
     requires soon { at < 2 ^ 64 }
@@ -53,17 +56,18 @@ pub(crate) fn first_from(
 {
     network.known();
     let plain = Plain::new(network);
-    let labels = Collapsed::new(Positions::of(alloc, &query.expr)?);
-    let machine = Machine::new(alloc, labels)?;
+    positions_accept();
+    let expressed = room.kept.take(alloc, Forward, query)?;
     let question = Question {
         graph: &plain,
-        machine: &machine,
+        machine: &expressed.made,
         starts: &search.targets,
         targets: &search.starts,
         dep: at,
         bound: None,
     };
-    let best = search_best_with(alloc, workspace, &question)?;
+    let best = search_best_with(alloc, &mut room.workspace, &question)?;
+    room.kept.put(expressed)?;
     let Best { arrival: _, walk } = best;
     let journey = unpacked(alloc, &plain, &walk)?;
     Ok(journey)

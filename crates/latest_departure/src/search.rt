@@ -5,12 +5,11 @@ ghost use Rattle.mode_expression.specs.Form.{form_of, IsUsable};
 ghost use Rattle.journey.specs.Best.{asked_by};
 ghost use Rattle.journey.specs.Queries.{IsQuery};
 
+use crate::backward::Backward;
 use crate::backwards::Backwards;
 use crate::mirror::Mirror;
-use crate::reversed::Reversed;
-use automaton::{Collapsed, Positions};
 use journey::{Query, copies};
-use product_search::Machine;
+use kept_automata::{Expressed, Kept};
 use search_laws::Time;
 use std::alloc::{AllocError, Global};
 
@@ -19,7 +18,7 @@ use std::alloc::{AllocError, Global};
 #[derive(Drop)]
 pub struct LateSearch<'a> {
     pub mirror: Mirror<'a>,
-    pub machine: Machine<Collapsed<Reversed>>,
+    pub expressed: Expressed<Backward>,
     /// The copies of the destination, at which the search starts.
     pub starts: Vec<u32>,
     /// The copies of the origin.
@@ -31,9 +30,10 @@ pub struct LateSearch<'a> {
 impl<'a> LateSearch<'a> {
     ghost use Rattle.latest_departure.specs.Searches.{IsSearchFor};
 
-    /// The search for a query whose time is the deadline.
+    /// The search for a query whose time is the deadline. It takes its automaton out of what is kept.
     pub fn new(
         alloc: Global,
+        kept: &mut Kept<Backward>,
         backwards: &'a Backwards<'a>,
         query: &Query,
     ) -> Result<LateSearch<'a>, AllocError>
@@ -49,12 +49,10 @@ impl<'a> LateSearch<'a> {
         let mirror = Mirror::of(backwards, query.depart);
         let starts = copies(alloc, network, &query.to)?;
         let targets = copies(alloc, network, &query.from)?;
-        let positions = Positions::of(alloc, &query.expr)?;
-        let automaton = Collapsed::new(Reversed::of(alloc, &positions)?);
-        let machine = Machine::new(alloc, automaton)?;
+        let expressed = kept.take(alloc, Backward, query)?;
         Ok(LateSearch {
             mirror,
-            machine,
+            expressed,
             starts,
             targets,
             span,

@@ -1,8 +1,5 @@
-use Rattle.std.proofs.Common.{arith, subst}
-use Rattle.mode_network.specs.NetworkLists.{NetworkLists}
+use Rattle.std.proofs.Common.{arith}
 use Rattle.journey.specs.Best.{asked_by}
-use Rattle.latest_departure.specs.Latest.{AreLateLabels}
-use Rattle.latest_departure.specs.Limits.{LateSearchHasMore}
 use Rattle.latest_departure.proofs.LimitLemmas.{search_has_more}
 use Rattle.latest_departure.proofs.SearchLemmas.{over}
 use Rattle.latest_departure.proofs.departing.late_over.Goals as goal
@@ -15,9 +12,8 @@ returns-in-Stopped-clause-stopped c =
     let is = c.requires.search in
     let stopped = rw c.in-Stopped.is at c.in_ok-found.ensures.stopped in (
       stopped.0,
-      subst (λ (n : NetworkLists). LateSearchHasMore n (asked_by c.args.query.now) c.in-Stopped.most) c.requires.same
-          (search_has_more c.args.backwards.now c.known.ensures (asked_by c.args.query.now) c.args.search.now is c.in-Stopped.most
-          (rw (is.backwards, is.by, is.back_to, c.deref.ensures.value, c.deref-2.ensures.value) at stopped.1)),
+      search_has_more c.args.backwards.now c.known.ensures (asked_by c.args.query.now) c.args.search.now is c.in-Stopped.most
+          (rw (is.backwards, is.by, is.back_to, c.deref.ensures.value, c.deref-2.ensures.value) at stopped.1),
     )
 
 pub returns-clause-labels : goal.returns-clause-labels
@@ -25,13 +21,12 @@ returns-clause-labels c =
     let is = c.requires.search in
     let arrival = rw c.in-Ended.is at c.in_ok-found.ensures.arrival in
     let labels = rw c.in-Ended.is at c.in_ok-found.ensures.labels in
-    let are : AreLateLabels c.args.backwards.now.network (asked_by c.args.query.now) c.in-Ended.found.labels.items = record {
+    record {
       over = over c.args.backwards.now c.known.ensures (asked_by c.args.query.now) c.args.search.now is;
       arrival = c.in-Ended.found.arrival;
       first = rw (is.backwards, is.by, is.back_to, c.deref.ensures.value, c.deref-2.ensures.value) at arrival;
       least = rw (is.backwards, is.by, is.back_to, c.deref.ensures.value) at labels;
-    } in
-    subst (λ (n : NetworkLists). AreLateLabels n (asked_by c.args.query.now) c.in-Ended.found.labels.items) c.requires.same are
+    }
 
 pub returns-clause-times : goal.returns-clause-times
 returns-clause-times c = λ k d lt.

@@ -1,17 +1,11 @@
-use Rattle.std.proofs.Common.{◌≡◌, ◌-◌, ◌∙◌, ap, sym, subst, arith}
+use Rattle.std.proofs.Common.{◌≡◌, ◌-◌, ◌∙◌, ap, subst, arith}
 use Rattle.service_days.specs.DaysMeaning.{DaysMeaning}
 use Rattle.service_days.specs.Days.{AreDays, AreRisingDays, base_of}
-use Rattle.automaton.specs.Collapsed.{FitsCollapsed}
 use Rattle.automaton.specs.Meanings.{position_meaning}
 use Rattle.mode_expression.specs.Form.{form_of}
-use Rattle.latest_departure.specs.declared.reversed.Reversed.{Reversed}
-use Rattle.journey.specs.Best.{asked_by}
+use Rattle.kept_automata.proofs.TextLemmas.{query_spells}
 use Rattle.latest_departure.specs.Late.{first_moment}
-use Rattle.latest_departure.specs.Latest.{ReadsFromEnds}
-use Rattle.latest_departure.specs.Meanings.{reversed_meaning}
-use Rattle.latest_departure.specs.Reversed.{IsReversed}
 use Rattle.latest_departure.proofs.DeadlineLemmas.{deadline_is_late, deadline_is_small}
-use Rattle.latest_departure.proofs.LateLemmas.{few_moves, turned_fits}
 use Rattle.latest_departure.proofs.search.LateSearch.new.Goals as goal
 
 pub overflow_sub-span : goal.overflow_sub-span
@@ -35,8 +29,8 @@ of-mirror-requires c =
     let small = deadline_is_small n days order q.line q.from q.to q.depart (form_of q.expr) c.requires.asks in
     omega arith
 
-pub of-requires-2 : goal.of-requires-2
-of-requires-2 c = few_moves (position_meaning c.in_ok-positions.positions) c.in_ok-positions.ensures.few_states c.in_ok-positions.ensures.few_moves
+pub take-requires-clause-spelled : goal.take-requires-clause-spelled
+take-requires-clause-spelled c = query_spells c.args.backwards.now.network _ _ _ _ _ c.requires.asks
 
 pub returns : goal.returns
 returns c =
@@ -47,24 +41,22 @@ returns c =
     let order = subst AreRisingDays is_days c.known.ensures.order in
     let small = deadline_is_small n days order q.line q.from q.to q.depart (form_of q.expr) c.requires.asks in
     let base : c.from.result ≡ first_moment n = c.from.ensures ∙ c.base.ensures ∙ ap (λ (d : DaysMeaning). base_of d 7) is_days in
-    let positions = position_meaning c.in_ok-positions.positions in
-    let same = sym c.new-automaton.ensures.same in
-    let reads : ReadsFromEnds (asked_by q) (reversed_meaning c.new-automaton.result.inner) = record {
-      automaton = positions;
-      positions = c.in_ok-positions.ensures.states;
-      lawful = c.in_ok-positions.positions.lawful;
-      turned = subst (λ (r : Reversed). IsReversed positions (reversed_meaning r)) same c.in_ok-of.ensures.reversed;
-      turned_lawful = c.new-automaton.result.inner.lawful;
-      fits = subst (λ (r : Reversed). FitsCollapsed (reversed_meaning r)) same
-          (turned_fits positions (reversed_meaning c.in_ok-of.field-0) c.in_ok-of.ensures.reversed c.in_ok-positions.ensures.few_states c.in_ok-of.ensures.few_moves);
-    } in
+    let made = c.in_ok-expressed.expressed.made in
+    let turned = c.in_ok-expressed.ensures in
     record {
       backwards = c.of-mirror.ensures.backwards;
       by = c.of-mirror.ensures.deadline;
       small = omega arith;
       not_before = deadline_is_late n days order q.line q.from q.to q.depart (form_of q.expr) c.requires.asks;
       back_to = ap (λ t. q.depart - t) base;
-      reads = rw c.in_ok-machine.ensures reads;
+      reads = record {
+        automaton = position_meaning made.positions;
+        positions = turned.positions;
+        lawful = made.positions.lawful;
+        turned = turned.turned;
+        turned_lawful = made.machine.labels.inner.lawful;
+        fits = made.machine.labels.fits;
+      };
       ends = record {
         destination = rw c.network-network.ensures at c.in_ok-starts.ensures.are;
         origin = rw c.network-network.ensures at c.in_ok-targets.ensures.are;
