@@ -34,7 +34,7 @@ searched_network s = s.plain.network.now
 
 -- what the automaton of a search answers
 abbrev pub search_labels : RideSearch → LabelsMeaning
-search_labels s = counted (collapsed (position_meaning s.machine.labels.inner.inner)) s.machine.labels.side s.machine.labels.limit
+search_labels s = counted (collapsed (position_meaning s.expressed.made.labels.inner.inner)) s.expressed.made.labels.side s.expressed.made.labels.limit
 
 -- a search for what its query asks
 pub record IsRideSearch (s : RideSearch) : Type 0 where

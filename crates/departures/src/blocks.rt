@@ -14,7 +14,9 @@ use crate::least::LeastTimes;
 use crate::listing::{departures_worth, without_ride};
 use crate::row::Row;
 use crate::search::RideSearch;
+use few_boardings::Counting;
 use journey::{BlockBody, Query, QueryFault, block, framed, push_journey, read_query};
+use kept_automata::Kept;
 use mode_network::{Journey, Network};
 use plain_texts::{push_decimal, push_line_feed};
 use product_search::Workspace;
@@ -144,37 +146,39 @@ fn rows_block(
     Ok(block)
 }
 
-/// The right block of a line that is this query.
+/// The right block of the line that is this query.
 fn query_block(
     alloc: Global,
     workspace: &mut Workspace,
+    kept: &mut Kept<Counting>,
     least: &LeastTimes<'_>,
-    line: &[u8],
     query: &Query,
     window: u32,
 ) -> Result<Vec<u8>, AllocError>
-    requires asks { IsQuery least.now.plain.network.now line.now query.now.from query.now.to query.now.depart
-        (form_of query.now.expr) }
-    requires line { query.now.line ≡ line.now }
+    requires asks { IsQuery least.now.plain.network.now query.now.line query.now.from query.now.to
+        query.now.depart (form_of query.now.expr) }
     requires usable { IsUsable (form_of query.now.expr) }
-    ensures { IfOk result (λ block. IsProfileBlock least.now.plain.network.now window line.now block.items) }
+    ensures { IfOk result (λ block. IsProfileBlock least.now.plain.network.now window query.now.line
+        block.items) }
 {
     let network = least.network();
     network.days().known();
-    let without = without_ride(alloc, workspace, network, query)?;
-    let search = RideSearch::new(alloc, network, query)?;
+    let without = without_ride(alloc, workspace, kept, network, query)?;
+    let search = RideSearch::new(alloc, kept, network, query)?;
     let rows = departures_worth(alloc, workspace, least, &search, without, window)?;
-    let block = rows_block(alloc, network, line, without, &rows)?;
+    kept.put(search.expressed)?;
+    let block = rows_block(alloc, network, query.line.as_slice(), without, &rows)?;
     Ok(block)
 }
 
 /// The right block of a query line: that of its refusal, or of the departures of a window of so many milliseconds,
-/// which opens when the query departs. The least times and the workspace serve many lines.
+/// which opens when the query departs. The least times, the workspace and what is kept serve many lines.
 ///
 /// Fails where memory runs out, alone.
 pub fn profile_block(
     alloc: Global,
     workspace: &mut Workspace,
+    kept: &mut Kept<Counting>,
     least: &LeastTimes<'_>,
     line: &[u8],
     window: u32,
@@ -183,7 +187,7 @@ pub fn profile_block(
 {
     let network = least.network();
     match read_query(alloc, network, line) {
-        Ok(query) => query_block(alloc, workspace, least, line, &query, window),
+        Ok(query) => query_block(alloc, workspace, kept, least, &query, window),
         Err(QueryFault::OutOfMemory) => Err(AllocError),
         Err(fault) => {
             let block = block(alloc, network, line, &BlockBody::Refused(fault))?;

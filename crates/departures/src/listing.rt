@@ -11,8 +11,9 @@ ghost use Rattle.departures.specs.Searching.{searched_network, asked_of, IsRideS
 use crate::least::LeastTimes;
 use crate::row::{Pair, Row};
 use crate::search::RideSearch;
-use few_boardings::least_below;
+use few_boardings::{Counting, least_below};
 use journey::Query;
+use kept_automata::Kept;
 use mode_network::Network;
 use product_search::Workspace;
 use search_laws::Time;
@@ -22,6 +23,7 @@ use std::alloc::{AllocError, Global};
 pub(crate) fn without_ride(
     alloc: Global,
     workspace: &mut Workspace,
+    kept: &mut Kept<Counting>,
     network: &Network,
     query: &Query,
 ) -> Result<Option<Time>, AllocError>
@@ -31,7 +33,7 @@ pub(crate) fn without_ride(
     requires soon { query.now.depart < 2 ^ 64 }
     ensures { IfOk result (IsWithout network.now (asked_by query.now)) }
 {
-    match least_below(alloc, workspace, network, query, 1)? {
+    match least_below(alloc, workspace, kept, network, query, 1)? {
         Some(found) => Ok(Some(found.arrival - query.depart)),
         None => Ok(None),
     }

@@ -3,18 +3,20 @@
 ghost use Rattle.std.specs.Prelude.{◌≡◌, ◌<◌, ◌≤◌, ◌^◌, IfOk, IfSome};
 ghost use Rattle.mode_expression.specs.Form.{form_of, IsUsable};
 ghost use Rattle.unpack.specs.Taken.{IsPlainWalk};
+ghost use Rattle.kept_automata.specs.Texts.{IsSpelledIn};
 ghost use Rattle.departures.specs.Searching.{IsRowUnpacked};
 
 use crate::least::LeastTimes;
 use crate::row::{Pair, Row};
 use crate::setting_off::set_off;
 use crate::transit::reads_transit;
-use automaton::{Collapsed, Positions};
-use few_boardings::{Counted, Side};
+use automaton::positions_accept;
+use few_boardings::{Counting, Side};
 use journey::{Query, copies};
+use kept_automata::{Expressed, Kept};
 use mode_network::Network;
 use plain_graph::Plain;
-use product_search::{Best, Machine, Question, Walk, Workspace, search_best_with};
+use product_search::{Best, Question, Walk, Workspace, search_best_with};
 use search_laws::Time;
 use std::alloc::{AllocError, Global};
 use unpack::from_plain;
@@ -25,7 +27,7 @@ use unpack::from_plain;
 pub struct RideSearch<'a> {
     pub query: &'a Query,
     pub plain: Plain<'a>,
-    pub machine: Machine<Counted<Collapsed<Positions>>>,
+    pub expressed: Expressed<Counting>,
     /// Whether the expression has a letter of transit; else no journey with a ride does what it says.
     pub reads_transit: bool,
     pub origins: Vec<u32>,
@@ -61,13 +63,15 @@ impl<'a> RideSearch<'a> {
     ghost use Rattle.std.specs.Prelude.{false};
     ghost use Rattle.departures.specs.Searching.{searched_network, asked_of, IsRideSearch, IsFirstRowFrom, NoneTakesLess};
 
-    /// The search for what a query asks.
+    /// The search for what a query asks. It takes its automaton out of what is kept.
     pub fn new(
         alloc: Global,
+        kept: &mut Kept<Counting>,
         network: &'a Network,
         query: &'a Query,
     ) -> Result<RideSearch<'a>, AllocError>
-        requires { IsUsable (form_of query.now.expr) }
+        requires usable { IsUsable (form_of query.now.expr) }
+        requires spelled { IsSpelledIn query.now.line (form_of query.now.expr) }
         ensures search { IfOk result IsRideSearch }
         ensures network { IfOk result (λ search. search.plain.network.now ≡ network.now) }
         ensures query { IfOk result (λ search. search.query.now ≡ query.now) }
@@ -75,14 +79,17 @@ impl<'a> RideSearch<'a> {
         let plain = Plain::new(network);
         let origins = copies(alloc, network, &query.from)?;
         let destinations = copies(alloc, network, &query.to)?;
-        let collapsed = Collapsed::new(Positions::of(alloc, &query.expr)?);
-        let reads_transit = reads_transit(&collapsed);
-        let labels = Counted::new(collapsed, Side::AtLeast, 1);
-        let machine = Machine::new(alloc, labels)?;
+        positions_accept();
+        let counting = Counting {
+            side: Side::AtLeast,
+            limit: 1,
+        };
+        let expressed = kept.take(alloc, counting, query)?;
+        let reads_transit = reads_transit(&expressed.made.labels.inner);
         Ok(RideSearch {
             query,
             plain,
-            machine,
+            expressed,
             reads_transit,
             origins,
             destinations,
@@ -107,7 +114,7 @@ impl<'a> RideSearch<'a> {
         }
         let question = Question {
             graph: &self.plain,
-            machine: &self.machine,
+            machine: &self.expressed.made,
             starts: &self.origins,
             targets: &self.destinations,
             dep: at,
@@ -146,7 +153,7 @@ impl<'a> RideSearch<'a> {
         };
         let question = Question {
             graph: least,
-            machine: &self.machine,
+            machine: &self.expressed.made,
             starts: &self.origins,
             targets: &self.destinations,
             dep: self.query.depart,

@@ -2,15 +2,19 @@ use Rattle.std.proofs.Common.{◌∙◌, ap, subst, arith}
 use Rattle.service_days.specs.Days.{AreDays, AreRisingDays}
 use Rattle.mode_network.specs.NetworkLists.{NetworkLists}
 use Rattle.mode_expression.specs.Form.{form_of}
+use Rattle.kept_automata.proofs.TextLemmas.{query_spells}
 use Rattle.latest_departure.proofs.DeadlineLemmas.{deadline_is_small}
 use Rattle.departures.proofs.blocks.query_block.Goals as goal
+
+pub new-requires-clause-spelled : goal.new-requires-clause-spelled
+new-requires-clause-spelled c = query_spells c.args.least.now.plain.network.now _ _ _ _ _ c.requires.asks
 
 pub without_ride-requires-clause-soon : goal.without_ride-requires-clause-soon
 without_ride-requires-clause-soon c =
     let n = c.args.least.now.plain.network.now in
     let q = c.args.query.now in
     let same = c.days.ensures ∙ ap (λ (n : NetworkLists). n.days) c.network-network.ensures in
-    let small = deadline_is_small n (subst AreDays same c.known.ensures.days) (subst AreRisingDays same c.known.ensures.order) c.args.line.now q.from q.to q.depart (form_of q.expr) c.requires.asks in
+    let small = deadline_is_small n (subst AreDays same c.known.ensures.days) (subst AreRisingDays same c.known.ensures.order) c.args.query.now.line q.from q.to q.depart (form_of q.expr) c.requires.asks in
     omega arith
 
 pub departures_worth-requires-clause-soon : goal.departures_worth-requires-clause-soon
@@ -18,5 +22,5 @@ departures_worth-requires-clause-soon c =
     let n = c.args.least.now.plain.network.now in
     let q = c.args.query.now in
     let same = c.days.ensures ∙ ap (λ (n : NetworkLists). n.days) c.network-network.ensures in
-    let small = deadline_is_small n (subst AreDays same c.known.ensures.days) (subst AreRisingDays same c.known.ensures.order) c.args.line.now q.from q.to q.depart (form_of q.expr) c.requires.asks in
+    let small = deadline_is_small n (subst AreDays same c.known.ensures.days) (subst AreRisingDays same c.known.ensures.order) c.args.query.now.line q.from q.to q.depart (form_of q.expr) c.requires.asks in
     rw c.in_ok-search.ensures.query (omega arith)
