@@ -3,4 +3,3 @@ pub mod PlanLemmas
 mod LimitLemmas
 pub mod ArrivalLemmas
 pub mod DestinationLemmas
-pub mod RoomLemmas

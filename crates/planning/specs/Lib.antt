@@ -1,5 +1,4 @@
 pub mod Plans
-pub mod Rooms
 pub mod Searched
 pub mod Settled
 pub mod Limits

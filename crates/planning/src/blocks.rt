@@ -9,9 +9,9 @@ ghost use Rattle.planning.specs.Settled.{IsSettledCount};
 ghost use Rattle.product_search.specs.Limits.{IfEnded, IfStopped};
 
 use crate::plans::{BestPlan, find_best_within};
-use crate::room::Room;
 use hierarchy::Hierarchy;
 use journey::{BlockBody, QueryFault, block, read_query, stopped_block};
+use kept_automata::Room;
 use mode_network::Network;
 use product_search::Limited;
 use std::alloc::{AllocError, Global};

@@ -8,9 +8,10 @@ ghost use Rattle.planning.specs.Plans.{IsRead};
 ghost use Rattle.planning.specs.Destinations.{AddsDestination, AreCopiesTo, AreDestinations, AreListed};
 ghost use Rattle.planning.specs.Destinations.{earlier, earliest, earliest_in};
 
-use crate::room::Room;
+use automaton::positions_accept;
 use hierarchy::Hierarchy;
 use journey::{Query, copies};
+use kept_automata::{Forward, Room};
 use mode_network::Network;
 use phase_graph::{GraphInUse, ends_in, starts_in};
 use plan_base::Time;
@@ -88,19 +89,20 @@ impl<'a> Destinations<'a> {
             times.items) }
     {
         self.network.known();
-        let expressed = room.take(alloc, query)?;
+        positions_accept();
+        let expressed = room.kept.take(alloc, Forward, query)?;
         let origins = copies(alloc, self.network, &query.from)?;
         let starts = starts_in(alloc, self.hierarchy, &origins)?;
         let (graph, table) = (&self.graph, &self.table);
         let times = search_arrivals(
             &mut room.workspace,
             graph,
-            &expressed.machine,
+            &expressed.made,
             &starts,
             table,
             query.depart,
         )?;
-        room.put(expressed);
+        room.kept.put(expressed)?;
         let list = earliest_of_each(alloc, &self.parts, &times)?;
         Ok(list)
     }

@@ -5,11 +5,10 @@
 pub mod blocks;
 pub mod destinations;
 pub mod plans;
-pub mod room;
 
 pub use blocks::{block_of, block_within};
 pub use destinations::Destinations;
+pub use kept_automata::Room;
 pub use plans::{
     BestPlan, FoundPlan, best_arrival, find_best, find_best_within, find_plan, find_plan_within,
 };
-pub use room::Room;

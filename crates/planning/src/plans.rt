@@ -12,9 +12,10 @@ ghost use Rattle.planning.specs.Settled.{HasLabelCount, IsLabelCount, told_count
 ghost use Rattle.planning.specs.Limits.{SearchHasAtMost, SearchHasMore};
 ghost use Rattle.product_search.specs.Limits.{IfEnded, IfStopped};
 
-use crate::room::{Expressed, Room};
+use automaton::positions_accept;
 use hierarchy::Hierarchy;
 use journey::{Query, copies};
+use kept_automata::{Expressed, Forward, Room};
 use mode_network::{Journey, Network};
 use phase_graph::{GraphInUse, ends_in, starts_in};
 use plan_base::Time;
@@ -43,7 +44,7 @@ pub struct BestPlan {
 #[derive(Drop)]
 struct Searched<'a> {
     graph: GraphInUse<'a>,
-    expressed: Expressed,
+    expressed: Expressed<Forward>,
     starts: Vec<u32>,
     ends: Vec<u32>,
 }
@@ -131,14 +132,14 @@ pub fn best_arrival(
     let searched = prepared(alloc, room, network, hierarchy, query)?;
     let question = Question {
         graph: &searched.graph,
-        machine: &searched.expressed.machine,
+        machine: &searched.expressed.made,
         starts: &searched.starts,
         targets: &searched.ends,
         dep: query.depart,
         bound: None,
     };
     let found = search_best_with(alloc, &mut room.workspace, &question)?;
-    room.put(searched.expressed);
+    room.kept.put(searched.expressed)?;
     let Best { arrival, walk: _ } = found;
     Ok(arrival)
 }
@@ -157,7 +158,7 @@ fn find_plain(
     let searched = prepared(alloc, room, network, None, query)?;
     let question = Question {
         graph: &searched.graph,
-        machine: &searched.expressed.machine,
+        machine: &searched.expressed.made,
         starts: &searched.starts,
         targets: &searched.ends,
         dep: query.depart,
@@ -166,7 +167,7 @@ fn find_plain(
     let found = search_best_with(alloc, &mut room.workspace, &question)?;
     let Best { arrival: _, walk } = found;
     let route = unpacked(alloc, &searched.graph, &walk)?;
-    room.put(searched.expressed);
+    room.kept.put(searched.expressed)?;
     Ok(route)
 }
 
@@ -193,7 +194,7 @@ fn find_counted(
     let searched = prepared(alloc, room, network, hierarchy, query)?;
     let question = Question {
         graph: &searched.graph,
-        machine: &searched.expressed.machine,
+        machine: &searched.expressed.made,
         starts: &searched.starts,
         targets: &searched.ends,
         dep: query.depart,
@@ -207,12 +208,12 @@ fn find_counted(
     } = match found {
         Limited::Ended(found) => found,
         Limited::Stopped(most) => {
-            room.put(searched.expressed);
+            room.kept.put(searched.expressed)?;
             return Ok(Limited::Stopped(most));
         }
     };
     let journey = unpacked(alloc, &searched.graph, &walk)?;
-    room.put(searched.expressed);
+    room.kept.put(searched.expressed)?;
     Ok(Limited::Ended(BestPlan {
         journey,
         settled: labels,
@@ -236,14 +237,16 @@ pub fn find_plan(
     ensures certifiable { IfOk result (λ found. IsCertifiable network.now
         (option_map (λ h. h.now) hierarchy.entry) query.now found.best found.labels.items) }
 {
-    let found = find_plan_within(alloc, network, hierarchy, query, None)?;
+    let mut room = Room::new(alloc);
+    let found = find_plan_within(alloc, &mut room, network, hierarchy, query, None)?;
     Ok(found.into_answer())
 }
 
 /// The same as [`find_plan`], but stopped where the search has more labels than the limit, if there is one, and there
-/// alone.
+/// alone. The search uses what the room keeps.
 pub fn find_plan_within(
     alloc: Global,
+    room: &mut Room,
     network: &Network,
     hierarchy: Option<&Hierarchy>,
     query: &Query,
@@ -262,11 +265,10 @@ pub fn find_plan_within(
         × SearchHasMore network.now (option_map (λ h. h.now) hierarchy.entry) (asked_by query.now) most) }
 {
     network.known();
-    let mut room = Room::new(alloc);
-    let searched = prepared(alloc, &mut room, network, hierarchy, query)?;
+    let searched = prepared(alloc, room, network, hierarchy, query)?;
     let question = Question {
         graph: &searched.graph,
-        machine: &searched.expressed.machine,
+        machine: &searched.expressed.made,
         starts: &searched.starts,
         targets: &searched.ends,
         dep: query.depart,
@@ -279,9 +281,13 @@ pub fn find_plan_within(
         walk,
     } = match found {
         Limited::Ended(found) => found,
-        Limited::Stopped(most) => return Ok(Limited::Stopped(most)),
+        Limited::Stopped(most) => {
+            room.kept.put(searched.expressed)?;
+            return Ok(Limited::Stopped(most));
+        }
     };
     let journey = unpacked(alloc, &searched.graph, &walk)?;
+    room.kept.put(searched.expressed)?;
     let best = with_arrival(arrival, journey);
     Ok(Limited::Ended(FoundPlan { best, labels }))
 }
@@ -297,13 +303,14 @@ fn prepared<'a>(
     requires sound { IfSome hierarchy (λ h. IsSound network.now h.now) }
     requires read { IsRead network.now query.now }
     ensures is { IfOk result (λ s. IsSearchSpace network.now (option_map (λ h. h.now) hierarchy.entry)
-        query.now (meaning_in_use s.graph) (position_meaning s.expressed.machine.labels.inner) s.starts.items
+        query.now (meaning_in_use s.graph) (position_meaning s.expressed.made.labels.inner) s.starts.items
         s.ends.items) }
     ensures network { IfOk result (λ s. network_in s.graph ≡ network.now) }
     ensures hierarchy { IfOk result (λ s. hierarchy_in s.graph ≡ option_map (λ h. h.now) hierarchy.entry) }
 {
     network.known();
-    let expressed = room.take(alloc, query)?;
+    positions_accept();
+    let expressed = room.kept.take(alloc, Forward, query)?;
     let origins = copies(alloc, network, &query.from)?;
     let targets = copies(alloc, network, &query.to)?;
     let graph = GraphInUse::new(alloc, network, hierarchy, &targets)?;

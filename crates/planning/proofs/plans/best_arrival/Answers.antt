@@ -17,4 +17,4 @@ returns c =
     let is = c.in_ok-searched.ensures.is in
     let arrival = rw (c.deref.ensures.value, c.deref-2.ensures.value, is.starts_are, is.ends_are) at c.in_ok-found.ensures.arrival in
     best_arrival c.args.network.now c.known.ensures (option_map (λ (x : Bor Hierarchy). x.now) c.args.hierarchy) is.sound is.targets (meaning_in_use s.graph) is.in_use
-    (asked_by c.args.query.now) (collapsed (position_meaning s.expressed.machine.labels.inner)) is.denotes is.origins is.targets is.origin is.destination (λ v there. there) _ arrival
+    (asked_by c.args.query.now) (collapsed (position_meaning s.expressed.made.labels.inner)) is.denotes is.origins is.targets is.origin is.destination (λ v there. there) _ arrival

@@ -18,7 +18,7 @@ unpacked-requires c =
     let s = c.in_ok-searched.searched in
     let h = option_map (λ (x : Bor Hierarchy). x.now) c.args.hierarchy in
     let walk = rw (c.in-Ended.is, c.deref.ensures.value, c.deref-2.ensures.value) at c.in_ok-found.ensures.walk in
-    walk_is_of c.args.network.now c.known.ensures h c.args.query.now (meaning_in_use s.graph) (position_meaning s.expressed.machine.labels.inner) s.starts.items s.ends.items c.in_ok-searched.ensures.is _ _ walk
+    walk_is_of c.args.network.now c.known.ensures h c.args.query.now (meaning_in_use s.graph) (position_meaning s.expressed.made.labels.inner) s.starts.items s.ends.items c.in_ok-searched.ensures.is _ _ walk
 
 pub returns-clause-journey : goal.returns-clause-journey
 returns-clause-journey c =
@@ -28,7 +28,7 @@ returns-clause-journey c =
     let arrival = rw (c.in-Ended.is, c.deref.ensures.value, c.deref-2.ensures.value) at c.in_ok-found.ensures.arrival in
     let time = rw c.in-Ended.is at c.in_ok-found.ensures.time in
     let under = rw (c.in_ok-searched.ensures.network, c.in_ok-searched.ensures.hierarchy) at c.in_ok-journey.ensures in
-    plan_for c.args.network.now c.known.ensures h c.args.query.now (meaning_in_use s.graph) (position_meaning s.expressed.machine.labels.inner) s.starts.items s.ends.items c.in_ok-searched.ensures.is
+    plan_for c.args.network.now c.known.ensures h c.args.query.now (meaning_in_use s.graph) (position_meaning s.expressed.made.labels.inner) s.starts.items s.ends.items c.in_ok-searched.ensures.is
     _ _ _ arrival walk c.requires.read.soon time under
 
 pub returns-clause-labels : goal.returns-clause-labels
@@ -39,7 +39,7 @@ returns-clause-labels c =
     let s = c.in_ok-searched.searched in
     let is = c.in_ok-searched.ensures.is in
     let g = meaning_in_use s.graph in
-    let l = position_meaning s.expressed.machine.labels.inner in
+    let l = position_meaning s.expressed.made.labels.inner in
     let counted = rw (c.in-Ended.is, c.deref.ensures.value, is.starts_are) at c.in_ok-found.ensures.labels in
     let first = rw (c.in-Ended.is, c.deref.ensures.value, c.deref-2.ensures.value, is.starts_are, is.ends_are) at c.in_ok-found.ensures.arrival in (
       counted.0,
@@ -65,6 +65,6 @@ returns-in-Stopped-clause-stopped c =
     let h = option_map (λ (x : Bor Hierarchy). x.now) c.args.hierarchy in
     let stopped = rw (c.in-Stopped.is, c.deref.ensures.value, c.deref-2.ensures.value) at c.in_ok-found.ensures.stopped in (
       stopped.0,
-      has_more c.args.network.now c.known.ensures h c.args.query.now (meaning_in_use s.graph) (position_meaning s.expressed.machine.labels.inner) s.starts.items s.ends.items
+      has_more c.args.network.now c.known.ensures h c.args.query.now (meaning_in_use s.graph) (position_meaning s.expressed.made.labels.inner) s.starts.items s.ends.items
           c.in_ok-searched.ensures.is c.in-Stopped.most stopped.1,
     )

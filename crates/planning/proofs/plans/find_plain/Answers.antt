@@ -11,7 +11,7 @@ pub unpacked-requires : goal.unpacked-requires
 unpacked-requires c =
     let s = c.in_ok-searched.searched in
     let walk = rw (c.deref.ensures.value, c.deref-2.ensures.value) at c.in_ok-found.ensures.walk in
-    walk_is_of c.args.network.now c.known.ensures None c.args.query.now (meaning_in_use s.graph) (position_meaning s.expressed.machine.labels.inner) s.starts.items s.ends.items c.in_ok-searched.ensures.is _ _ walk
+    walk_is_of c.args.network.now c.known.ensures None c.args.query.now (meaning_in_use s.graph) (position_meaning s.expressed.made.labels.inner) s.starts.items s.ends.items c.in_ok-searched.ensures.is _ _ walk
 
 pub returns : goal.returns
 returns c =
@@ -19,5 +19,5 @@ returns c =
     let walk = rw (c.deref.ensures.value, c.deref-2.ensures.value) at c.in_ok-found.ensures.walk in
     let arrival = rw (c.deref.ensures.value, c.deref-2.ensures.value) at c.in_ok-found.ensures.arrival in
     let under = rw (c.in_ok-searched.ensures.network, c.in_ok-searched.ensures.hierarchy) at c.in_ok-route.ensures in
-    plan_for c.args.network.now c.known.ensures None c.args.query.now (meaning_in_use s.graph) (position_meaning s.expressed.machine.labels.inner) s.starts.items s.ends.items c.in_ok-searched.ensures.is
+    plan_for c.args.network.now c.known.ensures None c.args.query.now (meaning_in_use s.graph) (position_meaning s.expressed.made.labels.inner) s.starts.items s.ends.items c.in_ok-searched.ensures.is
     _ _ _ arrival walk c.requires.soon c.in_ok-found.ensures.time under

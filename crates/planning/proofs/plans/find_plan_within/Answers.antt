@@ -23,7 +23,7 @@ unpacked-requires c =
     let s = c.in_ok-searched.searched in
     let h = option_map (λ (x : Bor Hierarchy). x.now) c.args.hierarchy in
     let walk = rw (c.in-Ended.is, c.deref.ensures.value, c.deref-2.ensures.value) at c.in_ok-found.ensures.walk in
-    walk_is_of c.args.network.now c.known.ensures h c.args.query.now (meaning_in_use s.graph) (position_meaning s.expressed.machine.labels.inner) s.starts.items s.ends.items c.in_ok-searched.ensures.is _ _ walk
+    walk_is_of c.args.network.now c.known.ensures h c.args.query.now (meaning_in_use s.graph) (position_meaning s.expressed.made.labels.inner) s.starts.items s.ends.items c.in_ok-searched.ensures.is _ _ walk
 
 pub returns : goal.returns
 returns c =
@@ -33,7 +33,7 @@ returns c =
     let s = c.in_ok-searched.searched in
     let is = c.in_ok-searched.ensures.is in
     let g = meaning_in_use s.graph in
-    let l = position_meaning s.expressed.machine.labels.inner in
+    let l = position_meaning s.expressed.made.labels.inner in
     let listed = c.in-Ended.found.labels.items in
     let walk = rw (c.in-Ended.is, c.deref.ensures.value, c.deref-2.ensures.value) at c.in_ok-found.ensures.walk in
     let arrival = rw (c.in-Ended.is, c.deref.ensures.value, c.deref-2.ensures.value) at c.in_ok-found.ensures.arrival in
@@ -92,6 +92,6 @@ returns-in-Stopped-clause-stopped c =
     let h = option_map (λ (x : Bor Hierarchy). x.now) c.args.hierarchy in
     let stopped = rw (c.in-Stopped.is, c.deref.ensures.value, c.deref-2.ensures.value) at c.in_ok-found.ensures.stopped in (
       stopped.0,
-      has_more c.args.network.now c.known.ensures h c.args.query.now (meaning_in_use s.graph) (position_meaning s.expressed.machine.labels.inner) s.starts.items s.ends.items
+      has_more c.args.network.now c.known.ensures h c.args.query.now (meaning_in_use s.graph) (position_meaning s.expressed.made.labels.inner) s.starts.items s.ends.items
           c.in_ok-searched.ensures.is c.in-Stopped.most stopped.1,
     )

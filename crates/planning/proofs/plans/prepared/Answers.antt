@@ -1,10 +1,12 @@
 use Rattle.std.proofs.Common.{◌∙◌, ◌<◌, List, ℕ, sym, ap, subst, Bor}
 use Rattle.std.specs.Prelude.{option_map, All}
 use Rattle.hierarchy.specs.declared.hierarchy.Hierarchy.{Hierarchy}
+use Rattle.automaton.specs.Meanings.{position_meaning}
+use Rattle.mode_expression.specs.Form.{form_of}
 use Rattle.phase_graph.specs.InUse.{IsInUse, starts_in, ends_in}
 use Rattle.phase_graph.specs.InUseGraph.{meaning_in_use}
+use Rattle.kept_automata.proofs.TextLemmas.{query_spells}
 use Rattle.planning.proofs.PlanLemmas.{starts_low, ends_low}
-use Rattle.planning.proofs.RoomLemmas.{query_spells}
 use Rattle.planning.proofs.plans.prepared.Goals as goal
 
 pub take-requires-clause-spelled : goal.take-requires-clause-spelled
@@ -18,6 +20,7 @@ returns-clause-is c =
     let g = meaning_in_use c.in_ok-graph.graph in
     let origins = c.in_ok-origins.origins.items in
     let targets = c.in_ok-targets.targets.items in
+    let labels = c.in_ok-expressed.expressed.made.labels.inner in
     let starts = c.in_ok-starts.ensures ∙ ap (starts_in h) c.deref-2.ensures.value in
     let ends = c.in_ok-ends.ensures ∙ ap (ends_in h) c.deref-3.ensures.value in
     let in_use = subst (λ (ts : List ℕ). IsInUse n h ts g) c.deref.ensures.value c.in_ok-graph.ensures.is in
@@ -32,7 +35,7 @@ returns-clause-is c =
       ends_are = ends;
       starts_low = subst (All (λ v. v < g.nodes)) (sym starts) (starts_low n h targets g in_use origins c.in_ok-origins.ensures.nodes);
       ends_low = subst (All (λ v. v < g.nodes)) (sym ends) (ends_low n h targets g in_use c.in_ok-targets.ensures.nodes);
-      positions = c.in_ok-expressed.ensures.positions;
-      denotes = c.in_ok-expressed.ensures.denotes;
-      lawful = c.in_ok-expressed.expressed.machine.labels.inner.lawful;
+      positions = c.in_ok-expressed.ensures;
+      denotes = c.positions_accept.ensures.collapsed (form_of q.expr) c.requires.read.usable (position_meaning labels) labels.lawful c.in_ok-expressed.ensures;
+      lawful = labels.lawful;
     }

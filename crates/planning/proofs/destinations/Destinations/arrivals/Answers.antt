@@ -2,12 +2,13 @@ use Rattle.std.proofs.Common.{◌∙◌, ◌<◌, List, ℕ, sym, ap, subst}
 use Rattle.std.specs.Prelude.{All}
 use Rattle.automaton.specs.Collapsed.{collapsed}
 use Rattle.automaton.specs.Meanings.{position_meaning}
+use Rattle.mode_expression.specs.Form.{form_of}
 use Rattle.phase_graph.specs.InUse.{starts_in}
 use Rattle.phase_graph.specs.InUseGraph.{meaning_in_use}
 use Rattle.product_search.specs.Arrivals.{AreArrivals}
 use Rattle.planning.specs.Destinations.{hierarchy_searched}
 use Rattle.planning.proofs.PlanLemmas.{starts_low}
-use Rattle.planning.proofs.RoomLemmas.{query_spells}
+use Rattle.kept_automata.proofs.TextLemmas.{query_spells}
 use Rattle.planning.proofs.DestinationLemmas.{all_arrivals, parts_fit}
 use Rattle.planning.proofs.destinations.Destinations.arrivals.Goals as goal
 
@@ -31,8 +32,9 @@ returns c =
     let d = c.args.self.now in
     let q = c.args.query.now in
     let h = hierarchy_searched d in
-    let l = collapsed (position_meaning c.in_ok-expressed.expressed.machine.labels.inner) in
-    let denotes = c.in_ok-expressed.ensures.denotes in
+    let labels = c.in_ok-expressed.expressed.made.labels.inner in
+    let l = collapsed (position_meaning labels) in
+    let denotes = c.positions_accept.ensures.collapsed (form_of q.expr) c.requires.read.usable (position_meaning labels) labels.lawful c.in_ok-expressed.ensures in
     let starts = c.deref-2.ensures.value ∙ (c.in_ok-starts.ensures ∙ ap (starts_in h) c.deref.ensures.value) in
     let are = subst (λ (ss : List ℕ). AreArrivals (meaning_in_use d.graph) l ss d.table.nodes.items q.depart c.in_ok-times.times.items) starts c.in_ok-times.ensures in
     let list = rw (c.deref-3.ensures.value, c.deref-4.ensures.value) at c.in_ok-list.ensures in
