@@ -72,7 +72,7 @@ module _ (n : NetworkLists) (c : LateClaim) (q : Asked) (asks : Asks n c.line q)
 module _ (b : BackLists) (keeps : IsBackwards b) (q : Asked) (s : LateSearch) (is : IsSearchFor b q s) (n : NetworkLists) (same : b.network ≡ n) (c : LateClaim) where
   abbrev Judged : BackLists → ℕ → List ℕ → List ℕ → ℕ → LabelVerdict → Type 0
   Judged back deadline starts targets bound verdict =
-      IsVerdict (mirrored back deadline) (collapsed (reversed_meaning s.machine.labels.inner)) starts targets 0 (Some bound) c.labels verdict
+      IsVerdict (mirrored back deadline) (collapsed (reversed_meaning s.expressed.made.machine.labels.inner)) starts targets 0 (Some bound) c.labels verdict
 
   pub search_judged : Asks n c.line q → LateHolds n q c.result → (starts targets : List ℕ) → starts ≡ s.starts.items → targets ≡ s.targets.items
       → (bound : ℕ) → bound ≡ late_bound b.network q c.result → (verdict : LabelVerdict) → Judged s.mirror.backwards.now s.mirror.deadline starts targets bound verdict

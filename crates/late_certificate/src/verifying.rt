@@ -20,6 +20,7 @@ use certificate::claimed::{Arrival, Goal, journey_verdict};
 use certificate::state_sets::StateSets;
 use certificate::verifying::{as_verdict, refused};
 use journey::{CertVerdict, Query, read_query};
+use kept_automata::Kept;
 use latest_departure::{Backwards, LateSearch};
 use mode_network::{Journey, Network};
 use plan_base::Time;
@@ -83,7 +84,8 @@ fn verify_claim(
     network.known();
     network.days().known();
     let backwards = Backwards::new(alloc, network)?;
-    let search = LateSearch::new(alloc, &backwards, query)?;
+    let mut kept = Kept::new(alloc);
+    let search = LateSearch::new(alloc, &mut kept, &backwards, query)?;
     let automaton = Collapsed::new(Positions::of(alloc, &query.expr)?);
     let states = StateSets::start(alloc, &automaton)?;
     let first = query.depart - search.span;
@@ -104,7 +106,7 @@ fn verify_claim(
     let ends: &[u32] = &search.targets;
     let verdict = check_labels(
         &search.mirror,
-        &search.machine.labels,
+        &search.expressed.made.machine.labels,
         &search.starts,
         ends,
         0,

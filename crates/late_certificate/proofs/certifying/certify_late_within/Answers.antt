@@ -1,4 +1,6 @@
-use Rattle.std.proofs.Common.{refl, subst}
+use Rattle.std.proofs.Common.{◌∙◌, refl, ap, subst}
+use Rattle.mode_network.specs.NetworkLists.{NetworkLists}
+use Rattle.mode_network.specs.Rules.{IsNetwork}
 use Rattle.service_days.specs.Days.{AreDays, AreRisingDays}
 use Rattle.journey.specs.Best.{Asked, asked_by}
 use Rattle.journey.specs.Rides.{KeepsRules}
@@ -10,13 +12,15 @@ use Rattle.late_certificate.proofs.certifying.certify_late_within.Goals as goal
 
 pub returns-clause-certificate : goal.returns-clause-certificate
 returns-clause-certificate c =
-    let n = c.args.network.now in
+    let n = c.args.backwards.now.network in
     let q = c.args.query in
     let late = c.in-Ended.late in
     let right = rw c.in-Ended.is at c.in_ok-found.ensures.journey in
     let are = rw c.in-Ended.is at c.in_ok-found.ensures.labels in
     let times = rw c.in-Ended.is at c.in_ok-found.ensures.times in
-    let rules : KeepsRules n = record { network = c.known.ensures; days = subst AreDays c.days.ensures c.known-2.ensures.days; order = subst AreRisingDays c.days.ensures c.known-2.ensures.order } in
+    let same = c.network-network.ensures in
+    let days = c.days.ensures ∙ ap (λ (m : NetworkLists). m.days) same in
+    let rules : KeepsRules n = record { network = subst IsNetwork same c.known.ensures; days = subst AreDays days c.known-2.ensures.days; order = subst AreRisingDays days c.known-2.ensures.order } in
     let valid = late_is_valid n rules q.line (asked_by q) c.requires.asks late.journey right late.labels.items are in
     record {
       line_is = refl;
