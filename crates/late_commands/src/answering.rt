@@ -5,14 +5,32 @@ ghost use Rattle.run_steps.specs.Sayings.{end_of};
 ghost use Rattle.late_commands.specs.Commands.{SaysFew, SaysLatest, SaysProfile};
 
 use departures::{LeastTimes, profile_block};
-use few_boardings::few_block;
+use few_boardings::{Counting, few_block};
 use journey::large_block;
-use latest_departure::{Backwards, late_block_within};
+use kept_automata::Kept;
+use latest_departure::{Backwards, LateRoom, late_block_within};
 use mode_network::Network;
 use plan_base::{Caps, Shelf, Sink};
 use product_search::Workspace;
 use run_steps::{FileRole, Limits, LineBlocks, Outcome, Ports, answer_file, read_region};
 use std::alloc::{AllocError, Global};
+
+/// What searches that count rides keep from line to line.
+#[derive(Drop)]
+struct CountingRoom {
+    workspace: Workspace,
+    kept: Kept<Counting>,
+}
+
+impl CountingRoom {
+    /// Takes no memory.
+    fn new(alloc: Global) -> CountingRoom {
+        CountingRoom {
+            workspace: Workspace::new(alloc),
+            kept: Kept::new(alloc),
+        }
+    }
+}
 
 /// The blocks of lines that ask for the journeys that are worth their boardings.
 #[derive(Drop)]
@@ -31,22 +49,23 @@ impl LineBlocks for FewBlocks<'_> {
 
     ghost counts = { λ _. CountsNothing };
 
-    type Room = Workspace;
+    type Room = CountingRoom;
 
-    fn room(&self, alloc: Global) -> Workspace {
-        Workspace::new(alloc)
+    fn room(&self, alloc: Global) -> CountingRoom {
+        CountingRoom::new(alloc)
     }
 
     fn block_of(
         &self,
         alloc: Global,
-        workspace: &mut Workspace,
+        room: &mut CountingRoom,
         line: &[u8],
     ) -> Result<(Vec<u8>, u64), AllocError> {
         if let Some(block) = large_block(alloc, self.network, self.places, line)? {
             return Ok((block, 0));
         }
-        let block = few_block(alloc, workspace, self.network, line)?;
+        let (workspace, kept) = (&mut room.workspace, &mut room.kept);
+        let block = few_block(alloc, workspace, kept, self.network, line)?;
         Ok((block, 0))
     }
 }
@@ -65,23 +84,23 @@ impl LineBlocks for LateBlocks<'_> {
 
     ghost counts = { λ _. CountsNothing };
 
-    type Room = Workspace;
+    type Room = LateRoom;
 
-    fn room(&self, alloc: Global) -> Workspace {
-        Workspace::new(alloc)
+    fn room(&self, alloc: Global) -> LateRoom {
+        LateRoom::new(alloc)
     }
 
     fn block_of(
         &self,
         alloc: Global,
-        workspace: &mut Workspace,
+        room: &mut LateRoom,
         line: &[u8],
     ) -> Result<(Vec<u8>, u64), AllocError> {
         let Limits { places, labels } = self.limits;
         if let Some(block) = large_block(alloc, self.backwards.network(), places, line)? {
             return Ok((block, 0));
         }
-        let block = late_block_within(alloc, workspace, self.backwards, line, labels)?;
+        let block = late_block_within(alloc, room, self.backwards, line, labels)?;
         Ok((block, 0))
     }
 }
@@ -104,22 +123,23 @@ impl LineBlocks for ProfileBlocks<'_> {
 
     ghost counts = { λ _. CountsNothing };
 
-    type Room = Workspace;
+    type Room = CountingRoom;
 
-    fn room(&self, alloc: Global) -> Workspace {
-        Workspace::new(alloc)
+    fn room(&self, alloc: Global) -> CountingRoom {
+        CountingRoom::new(alloc)
     }
 
     fn block_of(
         &self,
         alloc: Global,
-        workspace: &mut Workspace,
+        room: &mut CountingRoom,
         line: &[u8],
     ) -> Result<(Vec<u8>, u64), AllocError> {
         if let Some(block) = large_block(alloc, self.least.network(), self.places, line)? {
             return Ok((block, 0));
         }
-        let block = profile_block(alloc, workspace, self.least, line, self.window)?;
+        let (workspace, kept) = (&mut room.workspace, &mut room.kept);
+        let block = profile_block(alloc, workspace, kept, self.least, line, self.window)?;
         Ok((block, 0))
     }
 }

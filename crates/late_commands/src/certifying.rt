@@ -15,6 +15,7 @@ ghost use Rattle.late_commands.specs.Commands.{SaysCertifyLatest};
 
 use journey::{BlockBody, Query, QueryFault, block, large_block, read_query, stopped_block};
 use late_certificate::{certify_late_within, print_late};
+use latest_departure::{Backwards, LateRoom};
 use mode_network::Network;
 use plan_base::{Caps, Shelf, Sink};
 use product_search::Limited;
@@ -68,21 +69,25 @@ fn certified_late(
     if let Some(block) = large_block(alloc, network, limits.places, line)? {
         return Ok(block);
     }
-    certified_late_within(alloc, network, limits.labels, line)
+    let backwards = Backwards::new(alloc, network)?;
+    let mut room = LateRoom::new(alloc);
+    certified_late_within(alloc, &mut room, &backwards, limits.labels, line)
 }
 
 /// The text of the late certificate of a query line whose search may have so many labels, or its block where the line is
-/// refused or the search has more.
+/// refused or the search has more. The table of what leads to each node and the room serve many lines.
 pub fn certified_late_within(
     alloc: Global,
-    network: &Network,
+    room: &mut LateRoom,
+    backwards: &Backwards<'_>,
     limit: Option<u64>,
     line: &[u8],
 ) -> Result<Vec<u8>, AllocError>
-    ensures { IfOk result (λ text. IsLateCertifiedWithin network.now limit line.now text.items) }
+    ensures { IfOk result (λ text. IsLateCertifiedWithin backwards.now.network limit line.now text.items) }
 {
+    let network = backwards.network();
     match read_query(alloc, network, line) {
-        Ok(query) => certificate_text(alloc, network, limit, line, query),
+        Ok(query) => certificate_text(alloc, room, backwards, limit, line, query),
         Err(fault) => refused(alloc, network, line, fault),
     }
 }
@@ -106,19 +111,21 @@ fn refused(
 /// The text of a late certificate for a line that is this query, or the block of the line where the search has more labels than the limit.
 fn certificate_text(
     alloc: Global,
-    network: &Network,
+    room: &mut LateRoom,
+    backwards: &Backwards<'_>,
     limit: Option<u64>,
     line: &[u8],
     query: Query,
 ) -> Result<Vec<u8>, AllocError>
-    requires asks { IsQuery network.now query.line query.from query.to query.depart (form_of query.expr) }
+    requires asks { IsQuery backwards.now.network query.line query.from query.to query.depart
+        (form_of query.expr) }
     requires usable { IsUsable (form_of query.expr) }
     requires soon { query.depart < 2 ^ 64 }
     requires line { query.line ≡ line.now }
     requires plain { IsLine line.now }
-    ensures { IfOk result (λ text. IsLateCertifiedWithin network.now limit line.now text.items) }
+    ensures { IfOk result (λ text. IsLateCertifiedWithin backwards.now.network limit line.now text.items) }
 {
-    match certify_late_within(alloc, network, query, limit)? {
+    match certify_late_within(alloc, room, backwards, query, limit)? {
         Limited::Ended(certificate) => print_late(alloc, &certificate),
         Limited::Stopped(most) => stopped_block(alloc, line, most),
     }

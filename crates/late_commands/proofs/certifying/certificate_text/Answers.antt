@@ -7,7 +7,7 @@ use Rattle.late_commands.proofs.certifying.certificate_text.Goals as goal
 
 pub returns-in-Ended : goal.returns-in-Ended
 returns-in-Ended c =
-    let n = c.args.network.now in
+    let n = c.args.backwards.now.network in
     let claim = c.in-Ended.certificate in
     let of : IsLateCertificateOf n c.args.query.line claim = rw c.in-Ended.is at c.in_ok-certificate.ensures.certificate in
     let few : IfSome c.args.limit (λ most. length claim.labels ≤ most) = rw c.in-Ended.is at c.in_ok-certificate.ensures.few in

@@ -4,4 +4,7 @@ use Rattle.late_commands.proofs.certifying.certified_late_within.Goals as goal
 
 pub returns-in-Err : goal.returns-in-Err
 returns-in-Err c =
-    IfOk-weaker c.refused.result _ _ (λ text told. refused_within c.args.network.now c.args.line.now text.items c.args.limit c.in-Err.fault c.in-Err.ensures.fault told.0 told.1) c.refused.ensures
+    let same = c.network-network.ensures in
+    IfOk-weaker c.refused.result _ _
+    (λ text told. refused_within c.args.backwards.now.network c.args.line.now text.items c.args.limit c.in-Err.fault (rw same at c.in-Err.ensures.fault) told.0 told.1)
+    (rw same at c.refused.ensures)
