@@ -21,6 +21,7 @@ impl Answer {
         }
     }
 
+    /// What allocates the answer.
     pub fn alloc(&self) -> Global {
         self.alloc
     }

@@ -1,7 +1,7 @@
 //! How bytes are written as lines of a file of cases.
 //!
-//! In a line `\r` stands for a carriage return, `\t` for a tab, `\\` for a backslash and `\xHH` for a byte. A line feed ends it, which
-//! a backslash at its end takes away.
+//! In a line `\r` stands for a carriage return, `\t` for a tab, `\\` for a backslash and `\xHH` for a byte. A line feed ends it,
+//! which a backslash at its end takes away.
 
 use crate::words;
 use std::alloc::{AllocError, Global};
@@ -61,8 +61,8 @@ pub fn escaped(alloc: Global, before: &str, bytes: &[u8]) -> Result<Vec<u8>, All
     Ok(written)
 }
 
-/// Puts a line that stands for bytes without a line feed behind a space, if there are any. Bytes that are no text, and a space at the
-/// end, are written as numbers.
+/// Puts a line that stands for bytes without a line feed behind a space, if there are any. Bytes that are no text, and a space at
+/// the end, are written as numbers.
 fn push_escaped(alloc: Global, written: &mut Vec<u8>, line: &[u8]) -> Result<(), AllocError> {
     let is_text = str::from_utf8(line).is_ok();
     if !line.is_empty() {

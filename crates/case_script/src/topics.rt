@@ -1,8 +1,8 @@
 //! Files of cases, one for each topic, and which of their calls answer otherwise than is wanted.
 //!
-//! A line of such a file is a call and its words. Lines behind it that begin with `>` and a space are those of the wanted answer, written
-//! as those of texts; a call without them differs. The texts that a call names stand before it (`Script` says how); `use NAME` takes
-//! those of the file `texts/NAME`.
+//! A line of such a file is a call and its words. Lines behind it that begin with `>` and a space are those of the wanted answer,
+//! written as those of texts; a call without them differs. The texts that a call names stand before it (`Script` says how), or in
+//! the file `texts/NAME`, whose lines `use NAME` takes.
 
 ghost use Rattle.std.specs.Prelude.{◌<◌, length};
 
@@ -25,9 +25,9 @@ pub trait Calls {
     ) -> io::Result<()>;
 }
 
-/// Plays the topics of a folder, which are the files that the lines of its file `topics` name. Prints each case that differs: the lines
-/// that are wanted behind `-`, those that came behind `+`, and one that begins with `!` where the answer is not whole; and how many
-/// differ of each topic.
+/// Plays the topics of a folder, which are the files that the lines of its file `topics` name. Prints each case that differs: the
+/// lines that are wanted behind `-`, those that came behind `+`, and one that begins with `!` where the answer is not whole; and
+/// how many differ of each topic.
 pub fn play<C: Calls>(rt: &HostRuntime, folder: &str, calls: &mut C) -> io::Result<()> {
     let path = format!(in rt.alloc(); "{folder}/topics")?;
     let names = fs::read(rt, path.as_str())?;
@@ -51,8 +51,8 @@ fn play_topic<C: Calls>(rt: &HostRuntime, path: String, calls: &mut C) -> io::Re
     topic.print_counts()
 }
 
-/// A topic as far as it is played: the texts so far, how many cases there were, and how many of them differ. A file that can't be read
-/// or has no case is a difference, too.
+/// A topic as far as it is played: the texts so far, how many cases there were, and how many of them differ. A file that can't be
+/// read or has no case is a difference, too.
 #[derive(Drop)]
 struct Topic<'a> {
     rt: &'a HostRuntime,

@@ -45,8 +45,8 @@ fn print_reads(out: &mut Answer, shelf: &mut MemoryShelf, room: &mut [u8], place
     }
 }
 
-/// `written_to ROOM MOST K BYTES`: whether all bytes were written to a sink with room for so many, of which each write takes so many
-/// at most and the K-th write fails; and what was.
+/// `written_to ROOM MOST K BYTES`: whether all bytes were written to a sink with room for so many, of which each write takes so
+/// many at most and the K-th write fails; and what was.
 pub fn written_to(out: &mut Answer, words: &[u8]) {
     if let Ok(mut sink) = sink_of(out.alloc(), words) {
         let whole = write_all(&mut sink, parts::behind(words, 3)).is_ok();
@@ -62,8 +62,8 @@ fn sink_of(alloc: Global, words: &[u8]) -> Result<MemorySink, AllocError> {
     MemorySink::new(alloc, room as usize, (most as usize).max(1), fail)
 }
 
-/// `folder_of_run`: what is read of files that are written to the folder of the run: one of two pieces; none; the folder itself; one that
-/// is replaced while it is read. And what a stream with room for four bytes says to five.
+/// `folder_of_run`: what is read of files that are written to the folder of the run: one of two pieces; none; the folder itself;
+/// one that is replaced while it is read. And what a stream with room for four bytes says to five.
 pub fn folder(rt: &HostRuntime, out: &mut Answer) {
     out.shown("written ", write(rt, "written.txt", "first ", "second"));
     print_file(rt, out, "written.txt", 12);

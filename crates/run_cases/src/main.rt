@@ -1,5 +1,5 @@
-//! Runs the program on the cases of the files in `cases`, over files in memory, and on the worked examples, which are folders beside
-//! them; and plays the stories of journey books in `stories`. Prints what answers otherwise than is wanted.
+//! Runs the program on the cases of the files in `cases`, over files in memory, and on the worked examples, which are folders
+//! beside them; and plays the stories of journey books in `stories`. Prints what answers otherwise than is wanted.
 //!
 //! A case is a line: the name of a call and its words. The texts that it names stand before it, and the wanted answer behind it;
 //! `case_script` says how.

@@ -55,7 +55,8 @@ pub struct Told {
     notes: Vec<u8>,
 }
 
-/// `run [read K | piece K | write K | most K | room K | notes K] .. : WORDS`, the words parted by `|`: how the run ends, and what it writes.
+/// `run [read K | piece K | write K | most K | room K | notes K] .. : WORDS`, the words parted by `|`: how the run ends, and what
+/// it writes.
 pub fn run(out: &mut Answer, script: &Script, words: &[u8]) -> Result<(), AllocError> {
     let (failing, line) = cut_failing(words);
     let told = run_over(out.alloc(), script, line, failing)?;
