@@ -19,7 +19,7 @@ use hierarchy::Hierarchy;
 use journey::{BlockBody, Query, QueryFault, block, large_block, read_query, stopped_block};
 use mode_network::Network;
 use plan_base::{Caps, Shelf, Sink};
-use planning::{FoundPlan, find_plan_within};
+use planning::{FoundPlan, Room, find_plan_within};
 use product_search::Limited;
 use run_steps::{Limits, Outcome, Ports, write_text};
 use std::alloc::{AllocError, Global};
@@ -87,13 +87,15 @@ fn certified(
     if let Some(block) = large_block(alloc, network, limits.places, line)? {
         return Ok(block);
     }
-    certified_within(alloc, network, hierarchy, limits.labels, line)
+    let mut room = Room::new(alloc);
+    certified_within(alloc, &mut room, network, hierarchy, limits.labels, line)
 }
 
 /// The text of the certificate of a query line whose search may have so many labels, or its block where the line is refused
-/// or the search has more.
+/// or the search has more. The search uses what the room keeps.
 pub fn certified_within(
     alloc: Global,
+    room: &mut Room,
     network: &Network,
     hierarchy: Option<&Hierarchy>,
     limit: Option<u64>,
@@ -104,7 +106,7 @@ pub fn certified_within(
         limit line.now text.items) }
 {
     match read_query(alloc, network, line) {
-        Ok(query) => certificate_text(alloc, network, hierarchy, limit, query),
+        Ok(query) => certificate_text(alloc, room, network, hierarchy, limit, query),
         Err(fault) => refused(alloc, network, line, fault),
     }
 }
@@ -128,6 +130,7 @@ fn refused(
 /// The text of a query's certificate, or the block of its line where the search has more labels than the limit.
 fn certificate_text(
     alloc: Global,
+    room: &mut Room,
     network: &Network,
     hierarchy: Option<&Hierarchy>,
     limit: Option<u64>,
@@ -140,7 +143,7 @@ fn certificate_text(
         limit query.line text.items) }
 {
     network.known();
-    let found = find_plan_within(alloc, network, hierarchy, &query, limit)?;
+    let found = find_plan_within(alloc, room, network, hierarchy, &query, limit)?;
     let FoundPlan { best, labels } = match found {
         Limited::Ended(found) => found,
         Limited::Stopped(most) => return stopped_block(alloc, query.line.as_slice(), most),

@@ -7,15 +7,33 @@ ghost use Rattle.request_commands.specs.Requests.{IsReply, IsReplyOf, IsReplyWit
 use crate::asked::{LineCommand, asked_by};
 use answer_commands::certified_within;
 use departures::{LeastTimes, profile_block};
-use few_boardings::few_block;
+use few_boardings::{Counting, few_block};
 use hierarchy::Hierarchy;
 use journey::{framed, large_block};
+use kept_automata::Kept;
 use late_commands::certified_late_within;
-use latest_departure::{Backwards, late_block_within};
+use latest_departure::{Backwards, LateRoom, late_block_within};
 use mode_network::Network;
-use planning::{Room, block_within};
+use planning::block_within;
 use run_steps::{Limits, LineBlocks};
 use std::alloc::{AllocError, Global};
+
+/// What is kept from line to line, for all commands.
+#[derive(Drop)]
+pub(crate) struct ReplyRoom {
+    late: LateRoom,
+    counting: Kept<Counting>,
+}
+
+impl ReplyRoom {
+    /// Takes no memory.
+    fn new(alloc: Global) -> ReplyRoom {
+        ReplyRoom {
+            late: LateRoom::new(alloc),
+            counting: Kept::new(alloc),
+        }
+    }
+}
 
 /// The replies to lines: what the commands write within the limits that they name. Best journeys are found by the hierarchy,
 /// if there is one.
@@ -41,16 +59,16 @@ impl LineBlocks for Replies<'_> {
 
     ghost counts = { λ _. CountsNothing };
 
-    type Room = Room;
+    type Room = ReplyRoom;
 
-    fn room(&self, alloc: Global) -> Room {
-        Room::new(alloc)
+    fn room(&self, alloc: Global) -> ReplyRoom {
+        ReplyRoom::new(alloc)
     }
 
     fn block_of(
         &self,
         alloc: Global,
-        room: &mut Room,
+        room: &mut ReplyRoom,
         line: &[u8],
     ) -> Result<(Vec<u8>, u64), AllocError> {
         let reply = self.reply_to(alloc, room, line)?;
@@ -64,7 +82,12 @@ impl LineBlocks for Replies<'_> {
 
 impl Replies<'_> {
     /// The reply to a line.
-    fn reply_to(&self, alloc: Global, room: &mut Room, line: &[u8]) -> Result<Vec<u8>, AllocError>
+    fn reply_to(
+        &self,
+        alloc: Global,
+        room: &mut ReplyRoom,
+        line: &[u8],
+    ) -> Result<Vec<u8>, AllocError>
         requires sound { IfSome self.now.hierarchy (λ h. IsSound self.now.network.now h.now) }
         requires same { self.now.backwards.now.network ≡ self.now.network.now }
         requires least { self.now.least.now.plain.network.now ≡ self.now.network.now }
@@ -81,7 +104,7 @@ impl Replies<'_> {
     fn reply_of(
         &self,
         alloc: Global,
-        room: &mut Room,
+        room: &mut ReplyRoom,
         command: LineCommand,
         query: &[u8],
     ) -> Result<Vec<u8>, AllocError>
@@ -101,7 +124,7 @@ impl Replies<'_> {
     fn reply_within(
         &self,
         alloc: Global,
-        room: &mut Room,
+        room: &mut ReplyRoom,
         command: LineCommand,
         query: &[u8],
     ) -> Result<Vec<u8>, AllocError>
@@ -114,20 +137,29 @@ impl Replies<'_> {
     {
         let (network, hierarchy) = (self.network, self.hierarchy);
         let labels = self.limits.labels;
+        let ReplyRoom { late, counting } = room;
         match command {
             LineCommand::Answer => {
-                let (block, _) = block_within(alloc, room, network, hierarchy, query, labels)?;
+                let forward = &mut late.forward;
+                let (block, _) = block_within(alloc, forward, network, hierarchy, query, labels)?;
                 Ok(block)
             }
-            LineCommand::Few => few_block(alloc, &mut room.workspace, network, query),
-            LineCommand::Latest => {
-                late_block_within(alloc, &mut room.workspace, self.backwards, query, labels)
+            LineCommand::Few => {
+                let workspace = &mut late.forward.workspace;
+                few_block(alloc, workspace, counting, network, query)
             }
+            LineCommand::Latest => late_block_within(alloc, late, self.backwards, query, labels),
             LineCommand::Profile { window } => {
-                profile_block(alloc, &mut room.workspace, self.least, query, window)
+                let workspace = &mut late.forward.workspace;
+                profile_block(alloc, workspace, counting, self.least, query, window)
             }
-            LineCommand::Certify => certified_within(alloc, network, hierarchy, labels, query),
-            LineCommand::CertifyLatest => certified_late_within(alloc, network, labels, query),
+            LineCommand::Certify => {
+                let forward = &mut late.forward;
+                certified_within(alloc, forward, network, hierarchy, labels, query)
+            }
+            LineCommand::CertifyLatest => {
+                certified_late_within(alloc, late, self.backwards, labels, query)
+            }
         }
     }
 }
