@@ -13,7 +13,7 @@ use std::alloc::{AllocError, Global};
 pub fn sweep(out: &mut Answer, script: &Script, line: &[u8]) -> Result<(), AllocError> {
     let alloc = out.alloc();
     let whole = run_over(alloc, script, line, NOTHING)?;
-    let early: &[u8] = if is_in_turn(line) { &whole.out } else { b"" };
+    let early = early(line, &whole.out);
     let (reads, reads_right) = sweep_reads(alloc, script, line, early)?;
     let (writes, writes_right) = sweep_writes(alloc, script, line, &whole.out)?;
     out.debug("", whole.outcome);
@@ -27,6 +27,11 @@ pub fn sweep(out: &mut Answer, script: &Script, line: &[u8]) -> Result<(), Alloc
 
 /// No run of a case reads or writes more often.
 const MOST_CALLS: u64 = 20_000;
+
+/// What a run may have written when a read fails: of all that it writes nothing, or any front, if its command answers a file in turn.
+fn early<'a>(line: &[u8], whole: &'a [u8]) -> &'a [u8] {
+    if is_in_turn(line) { whole } else { b"" }
+}
 
 /// Whether the command of a run answers a file in turn.
 fn is_in_turn(line: &[u8]) -> bool {
