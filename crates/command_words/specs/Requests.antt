@@ -38,22 +38,23 @@ abbrev pub request_of : Command → Request
 request_of (command.Compile map feed days format) = compile map.now feed.now days format
 request_of (command.Migrate region format) = migrate region.now format
 request_of (command.Contract region keep) = contract region.now keep
-request_of (command.Answer region queries hierarchy labels places) =
-    answer region.now queries.now (option_map (λ h. h.now) hierarchy) labels places
-request_of (command.Certify region query hierarchy labels places) =
-    certify region.now query.now (option_map (λ h. h.now) hierarchy) labels places
-request_of (command.Verify region certificate hierarchy) = verify region.now certificate.now (option_map (λ h. h.now) hierarchy)
-request_of (command.Check region hierarchy) = check region.now hierarchy.now
+request_of (command.Answer over hierarchy limits) =
+    answer over.region.now over.subject.now (option_map (λ h. h.now) hierarchy) limits.labels limits.places
+request_of (command.Certify over hierarchy limits) =
+    certify over.region.now over.subject.now (option_map (λ h. h.now) hierarchy) limits.labels limits.places
+request_of (command.Verify over hierarchy) = verify over.region.now over.subject.now (option_map (λ h. h.now) hierarchy)
+request_of (command.Check over) = check over.region.now over.subject.now
 request_of (command.Sample size) = sample size
-request_of (command.Latest region queries labels places) = latest region.now queries.now labels places
-request_of (command.CertifyLatest region query labels places) = certify_latest region.now query.now labels places
-request_of (command.VerifyLatest region certificate) = verify_latest region.now certificate.now
-request_of (command.Few region queries places) = few region.now queries.now places
-request_of (command.Profile region queries window places) = profile region.now queries.now window places
-request_of (command.Matrix region origins destinations date time expr hierarchy places) =
-    matrix region.now origins.now destinations.now date.now time.now expr.now (option_map (λ h. h.now) hierarchy) places
-request_of (command.Requests region lines hierarchy labels places) =
-    requests region.now lines.now (option_map (λ h. h.now) hierarchy) labels places
+request_of (command.Latest over limits) = latest over.region.now over.subject.now limits.labels limits.places
+request_of (command.CertifyLatest over limits) = certify_latest over.region.now over.subject.now limits.labels limits.places
+request_of (command.VerifyLatest over) = verify_latest over.region.now over.subject.now
+request_of (command.Few over places) = few over.region.now over.subject.now places
+request_of (command.Profile over window places) = profile over.region.now over.subject.now window places
+request_of (command.Matrix times) =
+    matrix times.region.now times.origins.now times.destinations.now times.date.now times.time.now times.expr.now
+    (option_map (λ h. h.now) times.hierarchy) times.places
+request_of (command.Requests over hierarchy limits) =
+    requests over.region.now over.subject.now (option_map (λ h. h.now) hierarchy) limits.labels limits.places
 
 -- a number is 1 to 8 digits
 abbrev pub small_number_of_word : List ℕ → Option ℕ

@@ -5,7 +5,7 @@ ghost use Rattle.clap.specs.Words.{first_of, found_of, rows_of};
 ghost use Rattle.command_words.specs.Requests.{answer_at, asking_at, certify_at, certify_latest_at, check_at, compile_at, contract_at, days_and_format_at, few_at, latest_at, limits_at, matrix_at, migrate_at, places_at, profile_at, request_at, request_of, requests_at, sample_at, two_at, verify_at, verify_latest_at};
 ghost use Rattle.command_words.specs.declared.fault.WordsFault.TheVariants.{Refused};
 
-use crate::command::Command;
+use crate::command::{Command, Over, QueryLimits, TimesAsked};
 use crate::fault::WordsFault;
 use crate::values::{
     days_of, format_or, keep_or_none, labels_or_none, places_or_none, read_size,
@@ -66,6 +66,15 @@ fn two<'a>(given: &ArgMatches<'a>) -> Option<(&'a str, &'a str)>
     Some((first, second))
 }
 
+/// A region, and what is worked on over it.
+fn read_over<'a>(given: &ArgMatches<'a>) -> Option<Over<'a>>
+    ensures { option_map (λ it. (it.region.now, it.subject.now)) result ≡ two_at
+        (rows_of (found_of given.now)) }
+{
+    let (region, subject) = two(given)?;
+    Some(Over { region, subject })
+}
+
 /// The limit of places.
 fn places(given: &ArgMatches<'_>) -> Option<Option<u32>>
     ensures { result ≡ places_at (rows_of (found_of given.now)) }
@@ -74,17 +83,10 @@ fn places(given: &ArgMatches<'_>) -> Option<Option<u32>>
 }
 
 /// The limits of labels and of places.
-#[derive(Clone, Copy)]
-struct Limits {
-    labels: Option<u64>,
-    places: Option<u32>,
-}
-
-/// The limits of labels and of places.
-fn read_limits(given: &ArgMatches<'_>) -> Option<Limits>
+fn read_limits(given: &ArgMatches<'_>) -> Option<QueryLimits>
     ensures { option_map (λ it. (it.labels, it.places)) result ≡ limits_at (rows_of (found_of given.now)) }
 {
-    Some(Limits {
+    Some(QueryLimits {
         labels: labels_or_none(said(given, LABELS))?,
         places: places(given)?,
     })
@@ -145,8 +147,8 @@ fn contract<'a>(given: &ArgMatches<'a>) -> Option<Command<'a>>
 fn check<'a>(given: &ArgMatches<'a>) -> Option<Command<'a>>
     ensures { option_map request_of result ≡ check_at (rows_of (found_of given.now)) }
 {
-    let (region, hierarchy) = two(given)?;
-    Some(Command::Check { region, hierarchy })
+    let over = read_over(given)?;
+    Some(Command::Check(over))
 }
 
 /// A sample city, to be made.
@@ -162,107 +164,67 @@ fn sample<'a>(given: &ArgMatches<'a>) -> Option<Command<'a>>
 fn answer<'a>(given: &ArgMatches<'a>) -> Option<Command<'a>>
     ensures { option_map request_of result ≡ answer_at (rows_of (found_of given.now)) }
 {
-    let (region, queries) = two(given)?;
-    let Limits { labels, places } = read_limits(given)?;
-    Some(Command::Answer {
-        region,
-        queries,
-        hierarchy: said(given, HIERARCHY),
-        labels,
-        places,
-    })
+    let over = read_over(given)?;
+    let limits = read_limits(given)?;
+    Some(Command::Answer(over, said(given, HIERARCHY), limits))
 }
 
 /// A query line, to be certified.
 fn certify<'a>(given: &ArgMatches<'a>) -> Option<Command<'a>>
     ensures { option_map request_of result ≡ certify_at (rows_of (found_of given.now)) }
 {
-    let (region, query) = two(given)?;
-    let Limits { labels, places } = read_limits(given)?;
-    Some(Command::Certify {
-        region,
-        query,
-        hierarchy: said(given, HIERARCHY),
-        labels,
-        places,
-    })
+    let over = read_over(given)?;
+    let limits = read_limits(given)?;
+    Some(Command::Certify(over, said(given, HIERARCHY), limits))
 }
 
 /// A certificate, to be checked.
 fn verify<'a>(given: &ArgMatches<'a>) -> Option<Command<'a>>
     ensures { option_map request_of result ≡ verify_at (rows_of (found_of given.now)) }
 {
-    let (region, certificate) = two(given)?;
-    Some(Command::Verify {
-        region,
-        certificate,
-        hierarchy: said(given, HIERARCHY),
-    })
+    let over = read_over(given)?;
+    Some(Command::Verify(over, said(given, HIERARCHY)))
 }
 
 /// Query lines, to be answered by the number of boardings.
 fn few<'a>(given: &ArgMatches<'a>) -> Option<Command<'a>>
     ensures { option_map request_of result ≡ few_at (rows_of (found_of given.now)) }
 {
-    let (region, queries) = two(given)?;
-    Some(Command::Few {
-        region,
-        queries,
-        places: places(given)?,
-    })
+    let over = read_over(given)?;
+    Some(Command::Few(over, places(given)?))
 }
 
 /// Query lines, to be answered with the latest departure.
 fn latest<'a>(given: &ArgMatches<'a>) -> Option<Command<'a>>
     ensures { option_map request_of result ≡ latest_at (rows_of (found_of given.now)) }
 {
-    let (region, queries) = two(given)?;
-    let Limits { labels, places } = read_limits(given)?;
-    Some(Command::Latest {
-        region,
-        queries,
-        labels,
-        places,
-    })
+    let over = read_over(given)?;
+    Some(Command::Latest(over, read_limits(given)?))
 }
 
 /// A query line, whose latest departure is to be certified.
 fn certify_latest<'a>(given: &ArgMatches<'a>) -> Option<Command<'a>>
     ensures { option_map request_of result ≡ certify_latest_at (rows_of (found_of given.now)) }
 {
-    let (region, query) = two(given)?;
-    let Limits { labels, places } = read_limits(given)?;
-    Some(Command::CertifyLatest {
-        region,
-        query,
-        labels,
-        places,
-    })
+    let over = read_over(given)?;
+    Some(Command::CertifyLatest(over, read_limits(given)?))
 }
 
 /// A certificate of a latest departure, to be checked.
 fn verify_latest<'a>(given: &ArgMatches<'a>) -> Option<Command<'a>>
     ensures { option_map request_of result ≡ verify_latest_at (rows_of (found_of given.now)) }
 {
-    let (region, certificate) = two(given)?;
-    Some(Command::VerifyLatest {
-        region,
-        certificate,
-    })
+    let over = read_over(given)?;
+    Some(Command::VerifyLatest(over))
 }
 
 /// Query lines, to be answered with the departures of a window.
 fn profile<'a>(given: &ArgMatches<'a>) -> Option<Command<'a>>
     ensures { option_map request_of result ≡ profile_at (rows_of (found_of given.now)) }
 {
-    let (region, queries) = two(given)?;
+    let over = read_over(given)?;
     let window = window_or_two_hours(said(given, WINDOW))?;
-    Some(Command::Profile {
-        region,
-        queries,
-        window,
-        places: places(given)?,
-    })
+    Some(Command::Profile(over, window, places(given)?))
 }
 
 /// When the journeys of a table depart, and how they travel, as words say it.
@@ -292,7 +254,7 @@ fn matrix<'a>(given: &ArgMatches<'a>) -> Option<Command<'a>>
     let (region, origins) = two(given)?;
     let destinations = said(given, THIRD)?;
     let Asking { date, time, expr } = read_asking(given)?;
-    Some(Command::Matrix {
+    Some(Command::Matrix(TimesAsked {
         region,
         origins,
         destinations,
@@ -301,20 +263,14 @@ fn matrix<'a>(given: &ArgMatches<'a>) -> Option<Command<'a>>
         expr,
         hierarchy: said(given, HIERARCHY),
         places: places(given)?,
-    })
+    }))
 }
 
 /// Lines that begin with a command's name, to be answered.
 fn requests<'a>(given: &ArgMatches<'a>) -> Option<Command<'a>>
     ensures { option_map request_of result ≡ requests_at (rows_of (found_of given.now)) }
 {
-    let (region, lines) = two(given)?;
-    let Limits { labels, places } = read_limits(given)?;
-    Some(Command::Requests {
-        region,
-        lines,
-        hierarchy: said(given, HIERARCHY),
-        labels,
-        places,
-    })
+    let over = read_over(given)?;
+    let limits = read_limits(given)?;
+    Some(Command::Requests(over, said(given, HIERARCHY), limits))
 }

@@ -7,7 +7,7 @@ mod found;
 mod reading;
 mod values;
 
-pub use command::Command;
+pub use command::{Command, Over, QueryLimits, TimesAsked};
 pub use fault::WordsFault;
 pub use reading::read_words;
 pub use values::{

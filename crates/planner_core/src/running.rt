@@ -1,6 +1,6 @@
 //! The top call: what a command with these words does.
 
-ghost use Rattle.std.specs.Prelude.{map, string_bytes};
+ghost use Rattle.std.specs.Prelude.{◌≡◌, map, string_bytes};
 ghost use Rattle.plan_base.specs.declared.limits.Caps.{Caps};
 ghost use Rattle.command_words.specs.Requests.{AsksFor, IsPlainForm, Request, request_of};
 ghost use Rattle.run_steps.specs.Scene.{scene};
@@ -12,7 +12,7 @@ ghost use Rattle.planner_core.specs.Working.{HasSize};
 
 use answer_commands::{answer, certify, verify};
 use command_help::help;
-use command_words::{Command, WordsFault, read_words};
+use command_words::{Command, Over, QueryLimits, TimesAsked, WordsFault, read_words};
 use compile_commands::{compile, migrate};
 use hierarchy_commands::{check, contract};
 use late_commands::{certify_latest, few, latest, profile, verify_latest};
@@ -43,96 +43,80 @@ fn carry_out<F: Shelf, O: Sink, E: Sink>(
         } => compile(ports, map, feed, days, format, caps),
         Command::Migrate { region, format } => { migrate(ports, region, format, caps) }
         Command::Contract { region, keep } => { contract(ports, region, keep, caps) }
-        Command::Answer {
-            region,
-            queries,
-            hierarchy,
-            places,
-            labels,
-        } => {
-            let limits = Limits { places, labels };
-            answer(ports, region, queries, hierarchy, limits, caps)
+        Command::Answer(Over { region, subject }, hierarchy, limits) => {
+            answer(ports, region, subject, hierarchy, limits_of(limits), caps)
         }
-        Command::Certify {
-            region,
-            query,
-            hierarchy,
-            places,
-            labels,
-        } => {
-            let limits = Limits { places, labels };
-            certify(ports, region, query, hierarchy, limits, caps)
+        Command::Certify(Over { region, subject }, hierarchy, limits) => {
+            certify(ports, region, subject, hierarchy, limits_of(limits), caps)
         }
-        Command::Verify {
-            region,
-            certificate: file,
-            hierarchy,
-        } => verify(ports, region, file, hierarchy, caps),
-        Command::Check { region, hierarchy } => { check(ports, region, hierarchy, caps) }
+        Command::Verify(Over { region, subject }, hierarchy) => {
+            verify(ports, region, subject, hierarchy, caps)
+        }
+        Command::Check(Over { region, subject }) => check(ports, region, subject, caps),
         Command::Sample { size } => {
             sample(ports.alloc, size, &mut ports.out, &mut ports.notes, caps)
-        },
-        Command::Latest {
-            region,
-            queries,
-            places,
-            labels,
-        } => latest(ports, region, queries, Limits { places, labels }, caps),
-        Command::CertifyLatest {
-            region,
-            query,
-            places,
-            labels,
-        } => certify_latest(ports, region, query, Limits { places, labels }, caps),
-        Command::VerifyLatest {
-            region,
-            certificate,
-        } => verify_latest(ports, region, certificate, caps),
-        Command::Few {
-            region,
-            queries,
-            places,
-        } => few(ports, region, queries, places, caps),
-        Command::Profile {
-            region,
-            queries,
-            window,
-            places,
-        } => profile(ports, region, queries, window, places, caps),
-        Command::Matrix {
-            region,
-            origins,
-            destinations,
-            date,
-            time,
-            expr,
-            hierarchy,
-            places,
-        } => {
-            let files = TableFiles {
-                region,
-                origins,
-                destinations,
-                hierarchy,
-            };
-            let asking = Asking {
-                date,
-                time,
-                expr,
-                places,
-            };
-            matrix(ports, &files, &asking, caps)
         }
-        Command::Requests {
-            region,
-            lines,
-            hierarchy,
-            places,
-            labels,
-        } => {
-            let limits = Limits { places, labels };
-            requests(ports, region, lines, hierarchy, limits, caps)
+        Command::Latest(Over { region, subject }, limits) => {
+            latest(ports, region, subject, limits_of(limits), caps)
         }
+        Command::CertifyLatest(Over { region, subject }, limits) => {
+            certify_latest(ports, region, subject, limits_of(limits), caps)
+        }
+        Command::VerifyLatest(Over { region, subject }) => {
+            verify_latest(ports, region, subject, caps)
+        }
+        Command::Few(Over { region, subject }, places) => few(ports, region, subject, places, caps),
+        Command::Profile(Over { region, subject }, window, places) => {
+            profile(ports, region, subject, window, places, caps)
+        }
+        Command::Matrix(times) => matrix(ports, &files_of(&times), &asking_of(&times), caps),
+        Command::Requests(Over { region, subject }, hierarchy, limits) => {
+            requests(ports, region, subject, hierarchy, limits_of(limits), caps)
+        }
+    }
+}
+
+/// The limits of a query, as commands take them.
+fn limits_of(limits: QueryLimits) -> Limits
+    ensures { result ≡ record { places = limits.places; labels = limits.labels } }
+{
+    Limits {
+        places: limits.places,
+        labels: limits.labels,
+    }
+}
+
+/// The files of a table of travel times.
+fn files_of<'a>(times: &TimesAsked<'a>) -> TableFiles<'a>
+    ensures { result ≡ record {
+      region = times.now.region;
+      origins = times.now.origins;
+      destinations = times.now.destinations;
+      hierarchy = times.now.hierarchy;
+    } }
+{
+    TableFiles {
+        region: times.region,
+        origins: times.origins,
+        destinations: times.destinations,
+        hierarchy: times.hierarchy,
+    }
+}
+
+/// When its journeys depart, and how they travel.
+fn asking_of<'a>(times: &TimesAsked<'a>) -> Asking<'a>
+    ensures { result ≡ record {
+      date = times.now.date;
+      time = times.now.time;
+      expr = times.now.expr;
+      places = times.now.places;
+    } }
+{
+    Asking {
+        date: times.date,
+        time: times.time,
+        expr: times.expr,
+        places: times.places,
     }
 }
 
