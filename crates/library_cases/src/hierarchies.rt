@@ -1,4 +1,8 @@
-//! Hierarchies by their files, and by contraction.
+//! Hierarchies by their files, and by contraction; and the walks that spare shortcuts.
+
+ghost use Rattle.std.specs.Prelude.{◌≡◌, ◌<◌, length, All, IfOk};
+ghost use Rattle.mode_network.specs.NetworkLists.{nodes_of};
+ghost use Rattle.witness.specs.Rows.{AreEdgeRows, IsEdgeOf};
 
 use crate::parts;
 use case_script::{Answer, Script, words};
@@ -6,6 +10,8 @@ use contractor::{Progress, contract};
 use hierarchy::Hierarchy;
 use hierarchy_file::{decode, encode};
 use mode_network::Network;
+use std::alloc::{AllocError, Global};
+use witness::{Edge, Workspace, find};
 
 /// `hierarchy TEXT NODES`: what a hierarchy says of the first so many nodes, and whether it is written as the same bytes; or the
 /// first fault of the bytes.
@@ -82,4 +88,60 @@ fn shortcuts(h: &Hierarchy) -> usize {
         }
     }
     shortcuts
+}
+
+/// `witness REGION U V LIMIT`: the nodes of a walk by road arcs from one node to another that takes at most so many
+/// milliseconds, or that there is none.
+pub fn witness(out: &mut Answer, network: &Network, words: &[u8]) {
+    let (u, v) = (parts::node(words, 0), parts::node(words, 1));
+    let limit = parts::number(words, 2);
+    if u >= network.nodes() || v >= network.nodes() || limit >= 1 << 57 {
+        return out.text("no such nodes, or no such limit");
+    }
+    if let Ok(rows) = edge_rows(out.alloc(), network) {
+        let mut workspace = Workspace::new(out.alloc());
+        if let Ok(walk) = find(out.alloc(), &mut workspace, &rows, u, v, limit) {
+            out.debug("", &walk);
+        }
+    }
+}
+
+/// The road arcs out of each node, as edges.
+fn edge_rows(alloc: Global, network: &Network) -> Result<Vec<Vec<Edge>>, AllocError>
+    ensures rows { IfOk result (λ rows. AreEdgeRows rows.items) }
+    ensures count { IfOk result (λ rows. length rows.items ≡ length (nodes_of network.now)) }
+{
+    network.known();
+    let mut rows = Vec::new(alloc);
+    'nodes: for v in 0..network.nodes() {
+        rows.push(edge_row(alloc, network, v)?)?;
+    }
+    Ok(rows)
+}
+
+/// The road arcs out of a node, as edges.
+fn edge_row(alloc: Global, network: &Network, v: u32) -> Result<Vec<Edge>, AllocError>
+    requires { v < length (nodes_of network.now) }
+    ensures { IfOk result (λ row. All (IsEdgeOf (length (nodes_of network.now))) row.items) }
+{
+    let (first, end) = network.arcs_from(v);
+    let mut row = Vec::new(alloc);
+    'arcs: for place in first..end {
+        row.push(edge_at(network, place))?;
+    }
+    Ok(row)
+}
+
+/// The road arc at a place of all arcs, as an edge.
+fn edge_at(network: &Network, place: u32) -> Edge
+    requires { place < length network.now.arcs }
+    ensures { IsEdgeOf (length (nodes_of network.now)) result }
+{
+    network.known();
+    let arc = network.arcs()[place as usize];
+    Edge {
+        to: arc.to,
+        entry: place,
+        weight: u64::from(arc.ms),
+    }
 }

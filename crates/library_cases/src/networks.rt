@@ -44,6 +44,7 @@ fn answer(out: &mut Answer, script: &Script, network: &Network, call: &str, word
         "runs" => arcs::runs(out, network, words),
         "query" => queries::query(out, network, words),
         "contracted" => hierarchies::contracted(out, network, words),
+        "witness" => hierarchies::witness(out, network, words),
         "journey" => certificates::journey(out, network, script.text(words)),
         "verdict" => certificates::verdict(out, network, script.text(words)),
         _ => out.break_off("no such call"),
