@@ -8,6 +8,7 @@ use Rattle.std.proofs.lemmas.List.Elements.{All-append, All-nil, All-cons, All-m
 use Rattle.search_laws.specs.GraphLaws.{GraphMeaning}
 use Rattle.search_laws.specs.Ways.{is_open, moving_letters, way_if, way_at, ways_from}
 use Rattle.search_laws.specs.declared.graph.GraphArc.{GraphArc}
+use Rattle.search_laws.specs.declared.graph.Visit.{Visit}
 use Rattle.search_laws.specs.declared.graph.Way.{Way}
 use Rattle.search_laws.specs.declared.given.GivenRun.{GivenRun}
 use Rattle.search_laws.specs.declared.given.GivenRuns.{GivenRuns}
@@ -133,11 +134,6 @@ module _ (v t leaving : ℕ) where
         (λ way moves. elim moves [ inl has ↦ inl (Contains-append_right ms ns way has) | inr stands ↦ inr stands ]) ys second.rest);
   }
 
-  -- all of them may be appended
-  pub adds_moving : (rides : RunRides) (state : ℕ) (old new : GivenRuns) (ways before after : List Way) → AddsFresh rides state old new ways before after
-      → AddsMoving rides state v t leaving old new ways before after
-  adds_moving rides state old new ways before after adds = (ways, moving_all ways, adds)
-
   -- from a place on the arcs without a letter are those that move, where all others stand still
   module _ (g : GraphMeaning) (letters first : ℕ)
       (stand : (k at c : ℕ) → first ≤ k → g.arrive v k t ≡ Some at → (g.arc_at v k).letter ≡ Some c → StandsStill v t leaving (record { place = k; arc = g.arc_at v k; at = at }))
@@ -162,6 +158,11 @@ module _ (v t leaving : ℕ) where
       letterless i (suc n) from =
           moving_append (way_at g v t letters i) (ways_from g v t letters (i + 1) n) (way_at g v t 0 i) (ways_from g v t 0 (i + 1) n)
           (letterless_at i from) (letterless (i + 1) n (omega (arith, from)))
+
+-- all of them may be appended
+pub adds_moving : (rides : RunRides) (visit : Visit) (old new : GivenRuns) (ways before after : List Way) → AddsFresh rides visit.state old new ways before after
+    → AddsMoving rides visit old new ways before after
+adds_moving rides visit old new ways before after adds = (ways, moving_all visit.node visit.at visit.leaving ways, adds)
 
 -- a letter outside a set is no bit of it
 pub closed_unset : (letters c : ℕ) → is_open letters (Some c) ≡ false → IsBitSet letters c → ⊥

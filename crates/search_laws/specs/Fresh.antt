@@ -1,5 +1,6 @@
 -- What a search is given of the arcs of a node where it was given rides of the same runs before.
 use Rattle.std.specs.Prelude.{◌≡◌, ℕ, ◌≤◌, ◌⊎◌, ◌++◌, List, Some, All, Contains, IsBitSet}
+use Rattle.search_laws.specs.declared.graph.Visit.{Visit}
 use Rattle.search_laws.specs.declared.graph.Way.{Way}
 use Rattle.search_laws.specs.declared.given.GivenRun.{GivenRun}
 use Rattle.search_laws.specs.declared.given.GivenRuns.{GivenRuns}
@@ -70,6 +71,6 @@ pub record AreMoving (v t leaving : ℕ) (ways moving : List Way) : Type 0 where
   pub rest : All (λ way. Contains moving way ⊎ StandsStill v t leaving way) ways
 
 -- a list goes on with what is fresh of those that move
-abbrev pub AddsMoving : RunRides → ℕ → ℕ → ℕ → ℕ → GivenRuns → GivenRuns → List Way → List Way → List Way → Type 0
-AddsMoving rides state v t leaving old new ways before after =
-    (moving : List Way) × AreMoving v t leaving ways moving × AddsFresh rides state old new moving before after
+abbrev pub AddsMoving : RunRides → Visit → GivenRuns → GivenRuns → List Way → List Way → List Way → Type 0
+AddsMoving rides visit old new ways before after =
+    (moving : List Way) × AreMoving visit.node visit.at visit.leaving ways moving × AddsFresh rides visit.state old new moving before after

@@ -1,6 +1,6 @@
 //! Time-dependent graphs that never let a later start arrive earlier.
 
-ghost use Rattle.std.specs.Prelude.{◌≡◌, ℕ, ◌<◌, ◌≤◌, ◌^◌, ◌++◌, [], OnOk, IfSome, IfNone};
+ghost use Rattle.std.specs.Prelude.{◌≡◌, ℕ, ◌<◌, ◌≤◌, ◌^◌, ◌++◌, [], OnOk, IfSome, length, slice_index_or};
 ghost use Rattle.search_laws.specs.GraphLaws.{GraphMeaning, IsLawfulGraph};
 ghost use Rattle.search_laws.specs.Letters.{IsLetter};
 ghost use Rattle.search_laws.specs.Ways.{IsLeg, is_open, moving_letters, open_way, ways_past};
@@ -19,21 +19,20 @@ pub struct GraphArc {
     pub letter: Option<u8>,
 }
 
-/// The steady arcs of a node: those at its first places, as many as these, which have one letter, or none, and take as long
-/// whenever they are taken.
-#[derive(Clone, Copy)]
-pub struct Steady {
-    /// Where the graph keeps the first of them, which says nothing to others.
-    pub first: u64,
-    pub count: u64,
-    pub letter: Option<u8>,
-}
-
-/// Where a steady arc leads, and how long it takes, in milliseconds.
+/// Where a steady arc leads, and how long it takes, in milliseconds, in 8 bytes.
 #[derive(Clone, Copy)]
 pub struct Leg {
     pub to: u32,
-    pub ms: u64,
+    pub ms: u32,
+}
+
+/// The steady arcs of a node: those at its first places, which have one letter, or none, and take as long whenever they are
+/// taken.
+#[derive(Clone, Copy)]
+pub struct Steady<'a> {
+    /// For each of them in order where it leads.
+    pub legs: &'a [Leg],
+    pub letter: Option<u8>,
 }
 
 /// An arc that can be taken at some time: its place among those of its node, the arc, and when it arrives.
@@ -42,6 +41,22 @@ pub struct Way {
     pub place: u64,
     pub arc: GraphArc,
     pub at: Time,
+}
+
+/// A search that has come to a node, and what it asks of the arcs there.
+///
+/// Letter c is in a set where bit c of it is 1.
+#[derive(Clone, Copy)]
+pub struct Visit {
+    pub node: u32,
+    /// When the arcs are taken.
+    pub at: Time,
+    /// The state of its automaton.
+    pub state: u32,
+    /// The letters of the arcs that it asks for.
+    pub letters: u32,
+    /// The letters by which some move of the state leads to another one.
+    pub leaving: u32,
 }
 
 /// Whether a letter is in a set, of which it is a bit, or there is none.
@@ -89,7 +104,7 @@ pub fn push_way(
 /// There are at most 2^25 nodes. An arc never arrives before it is taken, and at most 2^57 ms after. Taken later,
 /// it arrives no earlier. Where it cannot be taken any more, it cannot be taken later either.
 pub trait Graph {
-    ghost use Rattle.search_laws.specs.declared.graph.Steady.{Steady};
+    ghost use Rattle.search_laws.specs.declared.graph.Leg.{Leg};
 
     /// What the calls answer, as functions on numbers.
     ghost meaning: { Self → GraphMeaning };
@@ -128,53 +143,43 @@ pub trait Graph {
         self.arcs(v).min(i + 1)
     }
 
-    /// The steady arcs of a node.
-    ghost steady_of: { Self → ℕ → Steady };
+    /// How many steady arcs a node has.
+    ghost steady_count: { Self → ℕ → ℕ };
 
-    /// The steady arcs of the node `v`, which a search takes one by one. A graph may call none so.
-    fn steady(&self, v: u32) -> Steady
+    /// The steady arcs of the node `v`. A graph may call none so.
+    fn steady(&self, v: u32) -> Steady<'_>
         requires { v < (meaning self.now).nodes }
-        ensures is { result ≡ steady_of self.now v }
-        ensures within { result.count ≤ (meaning self.now).arcs v }
-        ensures letter { (i : ℕ) → i < result.count → ((meaning self.now).arc_at v i).letter
-            ≡ result.letter };
-
-    /// The arc at place `i` of those that leave the node `v`, if it is one of the steady arcs of `v`, which are given; None
-    /// exactly where `i` is past them.
-    fn leg(&self, v: u32, steady: Steady, i: u64) -> Option<Leg>
-        requires node { v < (meaning self.now).nodes }
-        requires steady { steady ≡ steady_of self.now v }
-        ensures some { IfSome result (IsLeg (meaning self.now) v i) }
-        ensures none { IfNone result (steady.count ≤ i) };
+        ensures count { length result.legs.now ≡ steady_count self.now v }
+        ensures within { length result.legs.now ≤ (meaning self.now).arcs v }
+        ensures letter { (i : ℕ) → i < length result.legs.now → ((meaning self.now).arc_at v i).letter
+            ≡ result.letter }
+        ensures legs { (i : ℕ) (d : Leg) → i < length result.legs.now → IsLeg (meaning self.now) v i
+            (slice_index_or result.legs.now i d) };
 
     /// The rides of a run of a line to the calls behind one, wherever they stand. A graph may have no lines.
     ghost rides: { Self → RunRides } = { λ _ _ _ _. [] };
 
-    /// Appends the arcs of `v` but its steady ones that arrive if they are taken at `t`, by a letter of the set or by none, in
-    /// order, for a search that has come to `v` in this state of its automaton. It may leave out rides where the state was given
-    /// rides as good, and it notes the runs whose rides it appends. It may also leave out arcs that lead to `v` at once, by a letter
-    /// outside `leaving`: letters by which no move of the state leads to another one.
-    ///
-    /// Letter c is in a set where bit c of it is 1. Fails where memory runs out.
+    /// Appends the arcs of a node but its steady ones that arrive if they are taken at the time of a visit, by a letter that it
+    /// asks for or by none, in order. It may leave out rides where the state was given rides as good, and it notes the runs whose
+    /// rides it appends. It may also leave out arcs that lead to the node itself at once, by a letter by which no move of the state
+    /// leads to another one. Fails where memory runs out.
     fn fresh_ways(
         &self,
-        v: u32,
-        t: Time,
-        letters: u32,
-        leaving: u32,
-        state: u32,
+        visit: Visit,
         given: &mut GivenRuns,
         ways: &mut Vec<Way>,
     ) -> Result<(), AllocError>
-        requires node { v < (meaning self.now).nodes }
-        requires time { t < 2 ^ 127 }
-        ensures { OnOk result (AddsMoving (rides self.now) state v t leaving given.old given.new
-            (ways_past (meaning self.now) v t letters (steady_of self.now v).count) ways.old.items
-            ways.new.items) }
+        requires node { visit.node < (meaning self.now).nodes }
+        requires time { visit.at < 2 ^ 127 }
+        ensures { OnOk result (AddsMoving (rides self.now) visit given.old given.new
+            (ways_past (meaning self.now) visit.node visit.at visit.letters (steady_count self.now visit.node))
+            ways.old.items ways.new.items) }
     {
-        let _ = (leaving, state, given.cells.len());
-        for i in self.steady(v).count..self.arcs(v) {
-            push_way(ways, letters, i, self.arc_at(v, i), self.arrive(v, i, t))?;
+        let _ = given.cells.len();
+        let v = visit.node;
+        for i in self.steady(v).legs.len() as u64..self.arcs(v) {
+            let (arc, at) = (self.arc_at(v, i), self.arrive(v, i, visit.at));
+            push_way(ways, visit.letters, i, arc, at)?;
         }
         Ok(())
     }

@@ -7,7 +7,7 @@ mod graph;
 mod labels;
 
 pub use given::{GivenRun, GivenRuns};
-pub use graph::{Graph, GraphArc, Leg, Steady, Way, is_open, moving_letters, push_way};
+pub use graph::{Graph, GraphArc, Leg, Steady, Visit, Way, is_open, moving_letters, push_way};
 pub use labels::{EVERY_LETTER, LETTERS, Labels, Move, RoadLabels, TRANSIT};
 
 /// A moment, in milliseconds from an origin that the graph fixes.

@@ -4,4 +4,5 @@ use Rattle.search_laws.proofs.graph.Graph.fresh_ways.Given as goal
 
 abbrev pub invariant-loop-i : goal.invariant-loop-i
 invariant-loop-i g l =
-    l.ways.items ≡ l.initial.ways.items ++ ways_from (g.Self.Graph.meaning l.self) l.v l.t l.letters (g.Self.Graph.steady_of l.self l.v).count (l.i - (g.Self.Graph.steady_of l.self l.v).count)
+    let first = g.Self.Graph.steady_count l.self l.visit.node in
+    l.ways.items ≡ l.initial.ways.items ++ ways_from (g.Self.Graph.meaning l.self) l.visit.node l.visit.at l.visit.letters first (l.i - first)
