@@ -20,7 +20,7 @@ use Rattle.plan_base.specs.declared.limits.Caps.{Caps}
 use Rattle.timetable_arcs.specs.TripRules.{AreTrips}
 use Rattle.mode_network.specs.declared.nodes.Node.{Node}
 use Rattle.mode_network.specs.declared.nodes.Arc.{Arc}
-use Rattle.std.specs.Prelude.{slice_get, option_and_then, option_map}
+use Rattle.std.specs.Prelude.{slice_get, option_map}
 use Rattle.std.proofs.lemmas.Option.{option_and_then_some, slice_get_within}
 use Rattle.mode_network.specs.NetworkLists.{NetworkLists, nodes_of, mode_of, mode_at, letter_at}
 use Rattle.mode_network.specs.Rules.{rank_of, node_cmp, name_cmp, arc_cmp, first_unsorted, lists_fault, IsAscending, is_same_mode, AreNamed, AreNames, AreParts, HaveDurations, IsNetwork, or_else, end_or_order_fault, unsorted_fault}

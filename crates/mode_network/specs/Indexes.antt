@@ -1,6 +1,7 @@
 -- What a network keeps beside its lists, so that they are found fast.
-use Rattle.std.specs.Prelude.{◌≡◌, ℕ, ◌+◌, ◌<◌, ◌≤◌, ◌==◌, ◌||◌, nat_lt, Bool, List, length, count_by, slice_index_or}
+use Rattle.std.specs.Prelude.{◌≡◌, ℕ, ◌+◌, ◌<◌, ◌≤◌, ◌==◌, ◌||◌, nat_lt, Bool, List, length, map, count_by, slice_range, slice_index_or}
 use Rattle.std.specs.List.{list_any}
+use Rattle.search_laws.specs.declared.graph.Leg.{Leg}
 use Rattle.mode_network.specs.declared.nodes.Arc.{Arc}
 use Rattle.mode_network.specs.declared.nodes.Node.{Node}
 use Rattle.mode_network.specs.declared.indexes.NodeRow.{NodeRow}
@@ -13,6 +14,14 @@ arcs_begun_below arcs v = count_by (λ arc. nat_lt arc.from v) arcs
 -- where those that begin at v stand in a list that is ordered by `from`: the first place, and one past the last
 abbrev pub range_from : List Arc → ℕ → ℕ × ℕ
 range_from arcs v = (arcs_begun_below arcs v, arcs_begun_below arcs (v + 1))
+
+-- where an arc leads, and how long it takes
+abbrev pub leg_of : Arc → Leg
+leg_of arc = record { to = arc.to; ms = arc.ms }
+
+-- the same of those that begin at v
+abbrev pub legs_from : List Arc → ℕ → List Leg
+legs_from arcs v = slice_range (map leg_of arcs) (range_from arcs v).0 (range_from arcs v).1
 
 -- a range of places of a list
 abbrev pub IsRange : {X : Type 0} → ℕ × ℕ → List X → Type 0

@@ -1,9 +1,10 @@
 -- What the fields of a network show, and what they keep.
+use Rattle.std.specs.Prelude.{◌≡◌, map}
 use Rattle.mode_network.specs.declared.network.Network.TheInside.{Inside}
 use Rattle.mode_network.specs.NetworkLists.{NetworkLists}
 use Rattle.mode_network.specs.Rules.{IsNetwork}
 use Rattle.mode_network.specs.Timetables.{IsTimetableOf}
-use Rattle.mode_network.specs.Indexes.{AreIndexes}
+use Rattle.mode_network.specs.Indexes.{AreIndexes, leg_of}
 use Rattle.mode_network.specs.Copies.{road_points}
 use Rattle.mode_network.specs.Points.{HoldSame}
 
@@ -23,4 +24,5 @@ pub record IsKept (n : Inside) : Type 0 where
   pub rules : IsNetwork (lists_of n)
   pub timetable : IsTimetableOf (lists_of n) n.timetable
   pub indexes : AreIndexes (lists_of n) n.rows.items n.linked.items
+  pub legs : n.legs.items ≡ map leg_of n.arcs.items
   pub grid : HoldSame n.grid (road_points n.roads.items)

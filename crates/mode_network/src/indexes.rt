@@ -1,11 +1,11 @@
 //! Tables that find what a network holds: the mode, the arcs and the links of a node, and the nearest road node.
 
-ghost use Rattle.std.specs.Prelude.{◌≡◌, ◌+◌, ◌<◌, ◌≤◌, ◌^◌, ℕ, length, All, IfOk, slice_index_or};
+ghost use Rattle.std.specs.Prelude.{◌≡◌, ◌+◌, ◌<◌, ◌≤◌, ◌^◌, ℕ, length, map, All, IfOk, slice_index_or};
 ghost use Rattle.std.specs.List.{AllWithin};
 ghost use Rattle.mode_network.specs.declared.nodes.Arc.{Arc};
 ghost use Rattle.mode_network.specs.Rules.{IsAscending, arc_cmp};
 ghost use Rattle.mode_network.specs.Copies.{road_points};
-ghost use Rattle.mode_network.specs.Indexes.{AreNodeRows, AreEndMarks};
+ghost use Rattle.mode_network.specs.Indexes.{AreNodeRows, AreEndMarks, leg_of};
 ghost use Rattle.mode_network.specs.NetworkLists.{mode_of, mode_at};
 ghost use Rattle.mode_network.specs.Points.{HoldSame};
 
@@ -13,6 +13,7 @@ use crate::nodes::{Arc, Node, NodeKey};
 use crate::points::road_grid;
 use geo_length::Grid;
 use plan_base::Mode;
+use search_laws::Leg;
 use std::alloc::{AllocError, Global};
 
 /// What is kept of a node: its mode if it is a road node, and how many arcs and how many links begin at lower nodes.
@@ -28,6 +29,8 @@ pub(crate) struct NodeRow {
 pub(crate) struct Tables {
     /// One for each node, and one past the last.
     pub(crate) rows: Vec<NodeRow>,
+    /// For each arc where it leads.
+    pub(crate) legs: Vec<Leg>,
     pub(crate) linked: Vec<bool>,
     pub(crate) grid: Grid,
 }
@@ -49,11 +52,13 @@ impl Tables {
         requires in_range { All (λ link. (link.from < nodes) × (link.to < nodes)) links.now }
         ensures rows { IfOk result (λ tables. AreNodeRows nodes roads.now arcs.now links.now
             tables.rows.items) }
+        ensures legs { IfOk result (λ tables. tables.legs.items ≡ map leg_of arcs.now) }
         ensures ends { IfOk result (λ tables. AreEndMarks nodes links.now tables.linked.items) }
         ensures grid { IfOk result (λ tables. HoldSame tables.grid (road_points roads.now)) }
     {
         Ok(Tables {
             rows: rows(alloc, nodes, roads, arcs, links)?,
+            legs: legs(alloc, arcs)?,
             linked: ends(alloc, nodes, links)?,
             grid: road_grid(alloc, roads)?,
         })
@@ -102,6 +107,18 @@ fn rows(
         })?;
     }
     Ok(rows)
+}
+
+/// Where each arc leads, and how long it takes.
+fn legs(alloc: Global, arcs: &[Arc]) -> Result<Vec<Leg>, AllocError>
+    ensures { IfOk result (λ legs. legs.items ≡ map leg_of arcs.now) }
+{
+    arcs.iter()
+        .map(|arc| Leg {
+            to: arc.to,
+            ms: arc.ms,
+        })
+        .collect(alloc)
 }
 
 /// The mode of a road node; of any other none.

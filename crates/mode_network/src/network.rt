@@ -8,7 +8,7 @@ ghost use Rattle.plain_texts.specs.Names.{is_name};
 ghost use Rattle.mode_network.specs.Timetables.{IsTimetableOf};
 ghost use Rattle.timetable_arcs.specs.Table.{IsTable};
 ghost use Rattle.mode_network.specs.Copies.{IsNearestRoad, IsNearestIn, IsNearCopy, IsNearCopyIn, IsRoadCopy, IsCopyIn, IsStopCopy, AreExactly, AreCopies, IsPlaceOf};
-ghost use Rattle.mode_network.specs.Indexes.{range_from, IsRange, is_end_of};
+ghost use Rattle.mode_network.specs.Indexes.{range_from, legs_from, IsRange, is_end_of};
 
 use crate::bases::timetable;
 use crate::endpoints::Endpoint;
@@ -22,6 +22,7 @@ use crate::rules;
 use geo_length::Grid;
 use plain_texts::Name;
 use plan_base::{Caps, Mode, Place};
+use search_laws::Leg;
 use service_days::Days;
 use std::alloc::Global;
 use std::marker::Model;
@@ -39,6 +40,7 @@ pub struct Network {
     stops: Vec<Node>,
     switches: Vec<Node>,
     arcs: Vec<Arc>,
+    legs: Vec<Leg>,
     links: Vec<Arc>,
     timetable: Timetable,
     rows: Vec<NodeRow>,
@@ -87,7 +89,13 @@ impl Network {
             trips,
         } = parts;
         let timetable = timetable(alloc, &days, stops.len() as u32, trips, caps)?;
-        let Tables { rows, linked, grid } = Tables::build(alloc, nodes, &roads, &arcs, &links)?;
+        let tables = Tables::build(alloc, nodes, &roads, &arcs, &links)?;
+        let Tables {
+            rows,
+            legs,
+            linked,
+            grid,
+        } = tables;
         Ok(Network {
             days,
             roads,
@@ -95,6 +103,7 @@ impl Network {
             stops,
             switches,
             arcs,
+            legs,
             links,
             timetable,
             rows,
@@ -191,6 +200,16 @@ impl Network {
         ensures within { IsRange result self.now.arcs }
     {
         (self.rows[v as usize].arcs, self.rows[v as usize + 1].arcs)
+    }
+
+    /// Where the road arcs that begin at `v` lead, in the order of [`arcs`](Self::arcs).
+    #[inline(always)]
+    pub fn legs_from(&self, v: u32) -> &[Leg]
+        requires { v < length (nodes_of self.now) }
+        ensures { result.now ≡ legs_from self.now.arcs v }
+    {
+        let (first, past) = self.arcs_from(v);
+        &self.legs[first as usize..past as usize]
     }
 
     /// The links, ascending by (from, to).

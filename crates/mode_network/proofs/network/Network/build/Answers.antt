@@ -74,8 +74,9 @@ invariant_of-result c =
       rules = subst (λ trips. IsNetwork (record (shown c.parts.inside) { trips = trips })) (sym c.in_ok-timetable.ensures.trips) network;
       timetable = subst (λ trips. IsTimetableOf (record (shown c.parts.inside) { trips = trips }) c.in_ok-timetable.timetable) (sym c.in_ok-timetable.ensures.trips) table;
       indexes = record {
-        rows = rw (← count, ← c.deref.ensures.value, ← c.deref-2.ensures.value, ← c.deref-3.ensures.value) c.in_ok-rows.ensures.rows;
-        ends = rw (← count, ← c.deref-3.ensures.value) c.in_ok-rows.ensures.ends;
+        rows = rw (← count, ← c.deref.ensures.value, ← c.deref-2.ensures.value, ← c.deref-3.ensures.value) c.in_ok-tables.ensures.rows;
+        ends = rw (← count, ← c.deref-3.ensures.value) c.in_ok-tables.ensures.ends;
       };
-      grid = rw (← c.deref.ensures.value) c.in_ok-rows.ensures.grid;
+      legs = rw (← c.deref-2.ensures.value) c.in_ok-tables.ensures.legs;
+      grid = rw (← c.deref.ensures.value) c.in_ok-tables.ensures.grid;
     }
