@@ -1,6 +1,6 @@
 -- Sets of states, state by state and letter by letter.
-use Rattle.std.proofs.Common.{◌≡◌, ℕ, ◌<◌, inl, inr, Bool, false, List, [], ◌∷◌, ◌++◌, length, get_or, refl, sym, subst, arith}
-use Rattle.std.specs.Prelude.{IsBitSet, IfSome, Option, Some, None, ◌↔◌}
+use Rattle.std.proofs.Common.{◌≡◌, ℕ, ◌<◌, inl, inr, Bool, false, List, [], ◌∷◌, ◌++◌, length, get_or, refl, sym, ◌∙◌, ap, subst, arith}
+use Rattle.std.specs.Prelude.{IsBitSet}
 use Rattle.std.proofs.lemmas.Bool.{cases_lt}
 use Rattle.std.proofs.lemmas.List.{get_or_past}
 use Rattle.std.proofs.lemmas.Nat.Bits.{bit_at_above}
@@ -8,8 +8,9 @@ use Rattle.search_laws.specs.Letters.{IsLetter, IsLetterSet, letter_count}
 use Rattle.search_laws.specs.LabelLaws.{LabelsMeaning, HasMove, Reads}
 use Rattle.search_laws.proofs.WalkLemmas.{reads_more}
 use Rattle.automaton.specs.CollapsedLaws.{set_bit}
+use Rattle.certificate.specs.declared.state_sets.KnownStep.{KnownStep}
 use Rattle.certificate.specs.declared.state_sets.StateSets.{StateSets}
-use Rattle.certificate.specs.StateSets.{IsInSet, HasMoveFrom, IsStateAfter, IsStill, AreAfter}
+use Rattle.certificate.specs.StateSets.{IsInSet, LeadsTo, IsKnownStep, AreKnown, IsKept, IsStateAfter, AreAfter}
 
 -- ---- sets
 
@@ -45,9 +46,8 @@ module _ (l : LabelsMeaning) where
 
   -- one letter more
   pub after_more : (letters : List ℕ) (c : ℕ) (old new : StateSets) → AreAfter l letters old → length new.reached.items ≡ l.states → length new.next.items ≡ l.states
-      → ((r : ℕ) → IsInSet new.reached.items r ↔ HasMoveFrom l l.states old.reached.items c r) → IfSome new.still (IsStill l new.reached.items)
-      → AreAfter l (letters ++ c ∷ []) new
-  after_more letters c old new after size room followed still = record { size = size; room = room; are = λ r. (there r, back r); still = still } where
+      → LeadsTo l old.reached.items c new.reached.items → AreKnown l new.known.items → AreAfter l (letters ++ c ∷ []) new
+  after_more letters c old new after size room followed known = record { size = size; room = room; are = λ r. (there r, back r); known = known } where
     there : (r : ℕ) → IsInSet new.reached.items r → IsStateAfter l (letters ++ c ∷ []) r
     there r is =
         let (q, below, held, move) = (followed r).0 is in
@@ -59,14 +59,18 @@ module _ (l : LabelsMeaning) where
         let held = (after.are p).1 (record { first = read.first; is_state = read.is_state; is_start = read.is_start; reads = before }) in
         (followed r).1 (p, omega (arith, in_range old.reached.items p held, after.size), held, move)
 
-  -- a letter that leads the states to the same ones leads them to themselves
-  pub stays : (c : ℕ) (before after : List Bool) (found : Option ℕ) → IfSome found (λ d. (d ≡ c) × (before ≡ after))
-      → ((r : ℕ) → IsInSet after r ↔ HasMoveFrom l l.states before c r) → IfSome found (IsStill l after)
-  stays c before after None none leads = tt
-  stays c before after (Some d) (is, same) leads = rw is (subst (λ (s : List Bool). (r : ℕ) → IsInSet after r ↔ HasMoveFrom l l.states s c r) same leads)
+  -- with one step more all are known
+  pub known_more : (old new : List KnownStep) (letter : ℕ) (before after : List Bool) → AreKnown l old → length before ≡ l.states → length after ≡ l.states → LeadsTo l before letter after
+      → length new ≡ length old → ((c : ℕ) (d : KnownStep) → c < length new → IsKept old letter before after c (get_or new c d)) → AreKnown l new
+  known_more old new letter before after known size room leads same kept c d within = elim (kept c d within) [
+    | inl is ↦ subst (IsKnownStep l c) (sym is) (known c (get_or new c d) (omega (arith, within, same)))
+    | inr (here, from, to) ↦ record {
+      before = ap length from ∙ size;
+      after = ap length to ∙ room;
+      leads = rw (from, to, here) leads;
+    }
+  ]
 
-  -- one letter more that leads the states to themselves
-  pub after_still : (letters : List ℕ) (c : ℕ) (sets : StateSets) → AreAfter l letters sets → sets.still ≡ Some c → AreAfter l (letters ++ c ∷ []) sets
-  after_still letters c sets after known = after_more letters c sets sets after after.size after.room still after.still where
-    still : IsStill l sets.reached.items c
-    still = subst (λ (o : Option ℕ). IfSome o (IsStill l sets.reached.items)) known after.still
+  -- from no state a letter leads to none
+  pub none_leads : (before after : List Bool) (c : ℕ) → ((q : ℕ) → IsInSet before q → ⊥) → ((q : ℕ) → IsInSet after q → ⊥) → LeadsTo l before c after
+  none_leads before after c none nobody r = (λ is. absurd (nobody r is), λ found. absurd (let (q, below, held, move) = found in none q held))

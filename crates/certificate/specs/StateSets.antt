@@ -1,6 +1,7 @@
 -- Sets of states of an automaton, and the letters that lead to them.
-use Rattle.std.specs.Prelude.{◌≡◌, ℕ, ◌<◌, ◌↔◌, ◌⊎◌, Bool, true, false, List, length, slice_index_or, IfSome, IsTrue}
+use Rattle.std.specs.Prelude.{◌≡◌, ℕ, ◌<◌, ◌↔◌, ◌⊎◌, Bool, true, false, List, length, slice_index_or, IsTrue}
 use Rattle.search_laws.specs.LabelLaws.{LabelsMeaning, IsMove, HasMove, Reads}
+use Rattle.certificate.specs.declared.state_sets.KnownStep.{KnownStep}
 use Rattle.certificate.specs.declared.state_sets.StateSets.{StateSets}
 
 -- the state is in the set
@@ -26,13 +27,27 @@ pub record IsStateAfter (l : LabelsMeaning) (letters : List ℕ) (r : ℕ) : Typ
   pub is_start : IsTrue (l.is_start first)
   pub reads : Reads l first letters r
 
--- the letter leads the states of the set to just themselves
-abbrev pub IsStill : LabelsMeaning → List Bool → ℕ → Type 0
-IsStill l set c = (r : ℕ) → IsInSet set r ↔ HasMoveFrom l l.states set c r
+-- the letter leads the states of the one set to exactly those of the other
+abbrev pub LeadsTo : LabelsMeaning → List Bool → ℕ → List Bool → Type 0
+LeadsTo l before c after = (r : ℕ) → IsInSet after r ↔ HasMoveFrom l l.states before c r
+
+-- the step is one by the letter
+pub record IsKnownStep (l : LabelsMeaning) (c : ℕ) (step : KnownStep) : Type 0 where
+  pub before : length step.before.items ≡ l.states
+  pub after : length step.after.items ≡ l.states
+  pub leads : LeadsTo l step.before.items c step.after.items
+
+-- for each letter a step by it
+abbrev pub AreKnown : LabelsMeaning → List KnownStep → Type 0
+AreKnown l known = (c : ℕ) (d : KnownStep) → c < length known → IsKnownStep l c (slice_index_or known c d)
+
+-- the step at the place of a letter is what it was, or, at that of this letter, leads from the one set to the other
+abbrev pub IsKept : List KnownStep → ℕ → List Bool → List Bool → ℕ → KnownStep → Type 0
+IsKept old letter before after c step = (step ≡ slice_index_or old c step) ⊎ ((c ≡ letter) × (step.before.items ≡ before) × (step.after.items ≡ after))
 
 -- both sets have a place for each state, and the states that the letters are read to are exactly those of the one
 pub record AreAfter (l : LabelsMeaning) (letters : List ℕ) (sets : StateSets) : Type 0 where
   pub size : length sets.reached.items ≡ l.states
   pub room : length sets.next.items ≡ l.states
   pub are : (r : ℕ) → IsInSet sets.reached.items r ↔ IsStateAfter l letters r
-  pub still : IfSome sets.still (IsStill l sets.reached.items)
+  pub known : AreKnown l sets.known.items

@@ -1,21 +1,29 @@
 //! The states of an automaton that the letters of a journey are read to.
 
-ghost use Rattle.std.specs.Prelude.{◌≡◌, ℕ, ◌<◌, ◌↔◌, ◌++◌, ◌∷◌, [], List, length, IfOk, IfSome, IsTrue, IsBitSet};
+ghost use Rattle.std.specs.Prelude.{◌≡◌, ℕ, ◌<◌, ◌↔◌, ◌++◌, ◌∷◌, [], List, length, slice_index_or, All, IfOk, IsTrue, IsBitSet};
 ghost use Rattle.search_laws.specs.Letters.{IsLetterSet};
 ghost use Rattle.search_laws.specs.LabelLaws.{HasMove, Accepts};
-ghost use Rattle.certificate.specs.StateSets.{IsInSet, AreAdded, HasMoveFrom, AreAfter};
+ghost use Rattle.certificate.specs.StateSets.{IsInSet, AreAdded, HasMoveFrom, AreAfter, AreKnown, IsKept};
 
 use search_laws::{LETTERS, Labels, Move};
 use std::alloc::{AllocError, Global};
 use std::mem::swap;
+
+/// A step that was looked up: its letter leads the states of the one set to exactly those of the other.
+#[derive(Drop)]
+pub struct KnownStep {
+    pub before: Vec<bool>,
+    pub after: Vec<bool>,
+}
 
 /// The states of an automaton that the letters so far are read to, and room for those after one letter more.
 #[derive(Drop)]
 pub struct StateSets {
     pub reached: Vec<bool>,
     pub next: Vec<bool>,
-    /// A letter that leads those states to just themselves, where one is known: it need not be read again.
-    pub still: Option<u8>,
+    /// For each letter the last step by it that was looked up. Where the letter stands behind the same states again, no move
+    /// need be read, so that letters that take turns cost no more than their sets.
+    pub known: Vec<KnownStep>,
 }
 
 impl StateSets {
@@ -26,19 +34,33 @@ impl StateSets {
         Ok(StateSets {
             reached: start_states(alloc, labels)?,
             next: no_states(alloc, labels)?,
-            still: None,
+            known: no_steps(alloc, labels)?,
         })
     }
 
-    /// Reads one letter more. A road letter behind itself is looked up twice at most, however often it stands there.
+    /// Reads one letter more.
     pub fn read<L: Labels>(&mut self, labels: &L, letter: u8)
         requires { (letters : List ℕ) × AreAfter (L.automaton labels.now) letters self.old }
         ensures { (letters : List ℕ) → AreAfter (L.automaton labels.now) letters self.old
             → AreAfter (L.automaton labels.now) (letters ++ letter ∷ []) self.new }
     {
-        match self.still {
-            Some(known) if known == letter => {}
-            _ => self.look_up(labels, letter),
+        if self.knows(letter) {
+            self.reached
+                .copy_from_slice(&self.known[letter as usize].after);
+        } else {
+            self.look_up(labels, letter);
+        }
+    }
+
+    /// Whether the last step by the letter that was looked up is known to be one from these states.
+    fn knows(&self, letter: u8) -> bool
+        ensures there { IsTrue result → letter < length self.now.known.items }
+        ensures same { (d : KnownStep) → IsTrue result
+            → (slice_index_or self.now.known.items letter d).before.items ≡ self.now.reached.items }
+    {
+        match self.known.get(letter as usize) {
+            Some(step) => are_same(&step.before, &self.reached),
+            None => false,
         }
     }
 
@@ -49,7 +71,7 @@ impl StateSets {
             → AreAfter (L.automaton labels.now) (letters ++ letter ∷ []) self.new }
     {
         follow(labels, &self.reached, letter, &mut self.next);
-        self.still = letter_that_stays(letter, &self.reached, &self.next);
+        keep_step(&mut self.known, letter, &self.reached, &self.next);
         swap(&mut self.reached, &mut self.next);
     }
 
@@ -68,11 +90,26 @@ impl StateSets {
     }
 }
 
-/// The letter that led one set to the other, where they are the same.
-fn letter_that_stays(letter: u8, before: &[bool], after: &[bool]) -> Option<u8>
-    ensures { IfSome result (λ c. (c ≡ letter) × (before.now ≡ after.now)) }
+/// Whether two sets are known to be the same.
+fn are_same(one: &[bool], other: &[bool]) -> bool
+    ensures { IsTrue result → one.now ≡ other.now }
 {
-    if before == after { Some(letter) } else { None }
+    one == other
+}
+
+/// Keeps a step by a letter in the place of the one that was kept.
+fn keep_step(known: &mut [KnownStep], letter: u8, before: &[bool], after: &[bool])
+    requires before { All (λ step. length step.before.items ≡ length before.now) known.old }
+    requires after { All (λ step. length step.after.items ≡ length after.now) known.old }
+    ensures length { length known.new ≡ length known.old }
+    ensures each { (c : ℕ) (d : KnownStep) → c < length known.new → IsKept known.old letter before.now after.now
+        c (slice_index_or known.new c d) }
+{
+    if (letter as usize) < known.len() {
+        let step = &mut known[letter as usize];
+        step.before.copy_from_slice(before);
+        step.after.copy_from_slice(after);
+    }
 }
 
 /// Whether each state is a start state.
@@ -88,13 +125,28 @@ fn start_states<L: Labels>(alloc: Global, labels: &L) -> Result<Vec<bool>, Alloc
     Ok(set)
 }
 
-/// A set with a place for each state.
+/// A set with a place for each state, and none in it.
 fn no_states<L: Labels>(alloc: Global, labels: &L) -> Result<Vec<bool>, AllocError>
-    ensures { IfOk result (λ set. length set.items ≡ (L.automaton labels.now).states) }
+    ensures size { IfOk result (λ set. length set.items ≡ (L.automaton labels.now).states) }
+    ensures none { IfOk result (λ set. (q : ℕ) → IsInSet set.items q → ⊥) }
 {
     let mut set = Vec::new(alloc);
     set.resize(labels.states() as usize, false)?;
     Ok(set)
+}
+
+/// For each letter the step from no state to none.
+fn no_steps<L: Labels>(alloc: Global, labels: &L) -> Result<Vec<KnownStep>, AllocError>
+    ensures { IfOk result (λ known. AreKnown (L.automaton labels.now) known.items) }
+{
+    let mut known = Vec::with_capacity(alloc, LETTERS as usize)?;
+    for letter in 0..LETTERS {
+        known.push(KnownStep {
+            before: no_states(alloc, labels)?,
+            after: no_states(alloc, labels)?,
+        })?;
+    }
+    Ok(known)
 }
 
 /// Makes a set hold exactly the states that a move by the letter leads to from one that is reached.

@@ -1,21 +1,24 @@
-use Rattle.std.proofs.Common.{◌≡◌, ℕ, Bool, List, length, ap, sym, ◌∙◌, subst, arith}
-use Rattle.std.specs.Prelude.{◌↔◌}
+use Rattle.std.proofs.Common.{◌≡◌, length, ap, sym, ◌∙◌, subst, arith}
+use Rattle.std.specs.Vec.{with_items}
 use Rattle.std.proofs.lemmas.List.{with_items_is}
 use Rattle.certificate.specs.declared.state_sets.StateSets.{StateSets}
-use Rattle.certificate.specs.StateSets.{IsInSet, HasMoveFrom}
-use Rattle.certificate.proofs.StateLemmas.{after_more, stays}
+use Rattle.certificate.specs.StateSets.{LeadsTo, AreKnown}
+use Rattle.certificate.proofs.StateLemmas.{after_more, known_more}
 use Rattle.certificate.proofs.state_sets.StateSets.look_up.Goals as goal
 
 pub returns : goal.returns
 returns g c = λ letters after.
     let l = g.L.Labels.automaton c.args.labels.now in
     let old = c.args.self.now in
-    let new : StateSets = record { reached = c.swap.new.x; next = c.swap.new.y; still = c.letter_that_stays-self.result } in
-    let full : length c.follow.new.set ≡ old.next.len = omega (arith, old.next.ok.0) in
-    let filled : new.reached.items ≡ c.follow.new.set = ap (λ v. v.items) c.swap.ensures.x_after ∙ with_items_is old.next c.follow.new.set full in
-    let followed = rw c.deref.ensures.value at c.follow.ensures in
-    let leads : (r : ℕ) → IsInSet new.reached.items r ↔ HasMoveFrom l l.states old.reached.items c.args.letter r =
-    subst (λ (s : List Bool). (r : ℕ) → IsInSet s r ↔ HasMoveFrom l l.states old.reached.items c.args.letter r) (sym filled) followed in
-    let same = rw (c.deref-2.ensures.value, c.deref-3.ensures.value, with_items_is old.next c.follow.new.set full, sym filled) at c.letter_that_stays-self.ensures in
-    after_more l letters c.args.letter old new after (ap length filled ∙ omega (arith, after.room)) (ap (λ v. length v.items) c.swap.ensures.y_after ∙ after.size) leads
-    (stays l c.args.letter old.reached.items new.reached.items new.still same leads)
+    let new : StateSets = record { reached = c.swap.new.x; next = c.swap.new.y; known = with_items old.known c.keep_step.new.known } in
+    let set = c.follow.new.set in
+    let full : length set ≡ old.next.len = omega (arith, old.next.ok.0) in
+    let filled : new.reached.items ≡ set = ap (λ v. v.items) c.swap.ensures.x_after ∙ with_items_is old.next set full in
+    let leads : LeadsTo l old.reached.items c.args.letter set = rw c.deref.ensures.value at c.follow.ensures in
+    let room : length set ≡ l.states = omega (arith, after.room) in
+    let kept = rw (c.deref-2.ensures.value, c.deref-3.ensures.value, c.deref_mut-2.ensures.value, with_items_is old.next set full) at c.keep_step.ensures.each in
+    let many : length c.keep_step.new.known ≡ length old.known.items = rw c.deref_mut-2.ensures.value at c.keep_step.ensures.length in
+    let known : AreKnown l c.keep_step.new.known = known_more l old.known.items c.keep_step.new.known c.args.letter old.reached.items set after.known after.size room leads many kept in
+    after_more l letters c.args.letter old new after (ap length filled ∙ room) (ap (λ v. length v.items) c.swap.ensures.y_after ∙ after.size)
+    (subst (LeadsTo l old.reached.items c.args.letter) (sym filled) leads)
+    (subst (AreKnown l) (sym (with_items_is old.known c.keep_step.new.known (omega (arith, many, old.known.ok.0)))) known)

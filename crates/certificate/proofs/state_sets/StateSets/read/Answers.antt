@@ -1,9 +1,19 @@
-use Rattle.std.proofs.Common.{◌≡◌, Some, ap, ◌∙◌, arith}
-use Rattle.std.proofs.lemmas.Bool.Decides.{nat_tests}
-use Rattle.certificate.proofs.StateLemmas.{after_still}
+use Rattle.std.proofs.Common.{◌≡◌, length, ap, sym, ◌∙◌, subst}
+use Rattle.certificate.specs.declared.state_sets.KnownStep.{KnownStep}
+use Rattle.certificate.specs.declared.state_sets.StateSets.{StateSets}
+use Rattle.certificate.specs.StateSets.{LeadsTo, IsKnownStep}
+use Rattle.certificate.proofs.StateLemmas.{after_more}
 use Rattle.certificate.proofs.state_sets.StateSets.read.Goals as goal
 
-pub returns-in-Some : goal.returns-in-Some
-returns-in-Some g c = λ letters after.
-    let same : c.in-Some.known ≡ c.args.letter = grind (arith, nat_tests) in
-    after_still (g.L.Labels.automaton c.args.labels.now) letters c.args.letter c.args.self.now after (c.in-Some.is ∙ ap Some same)
+pub returns-then-knows : goal.returns-then-knows
+returns-then-knows g c = λ letters after.
+    let l = g.L.Labels.automaton c.args.labels.now in
+    let old = c.args.self.now in
+    let letter = c.args.letter in
+    let step = c.index.result.now in
+    let new : StateSets = record { reached = c.copy_from_slice.new.self; next = old.next; known = old.known } in
+    let known : IsKnownStep l letter step = subst (IsKnownStep l letter) (sym c.index.ensures) (after.known letter step (c.knows.ensures.there c.if-knows.true)) in
+    let before : step.before.items ≡ old.reached.items = ap (λ (s : KnownStep). s.before.items) c.index.ensures ∙ c.knows.ensures.same step c.if-knows.true in
+    let items : new.reached.items ≡ step.after.items = c.copy_from_slice.ensures.items ∙ c.deref.ensures.value in
+    after_more l letters letter old new after (ap length items ∙ known.after) after.room
+    (subst (λ set. LeadsTo l set letter new.reached.items) before (subst (LeadsTo l step.before.items letter) (sym items) known.leads)) after.known
