@@ -1,8 +1,11 @@
 -- The road arcs, the links and the arc that stands, as the ways at their places.
 use Rattle.std.proofs.Common.{◌≡◌, ℕ, ◌+◌, ◌-◌, ◌<◌, ◌≤◌, ◌⊎◌, inl, inr, Bool, nat_lt, List, [], ◌∷◌, ◌++◌, length, true, false, cond, Some, None, refl, sym, ◌∙◌, ap, append_assoc, append-nil, arith}
-use Rattle.std.specs.Prelude.{Option, slice_index_or, is_some}
+use Rattle.std.specs.Prelude.{Option, map, slice_index_or, is_some}
 use Rattle.std.proofs.lemmas.Bool.{false≢true, le-ltb, lt-ltb}
-use Rattle.search_laws.specs.Ways.{is_open, open_way, way_at, ways_from}
+use Rattle.std.proofs.lemmas.List.{get_or-map, length-map}
+use Rattle.std.proofs.lemmas.List.Edits.{length-between, get_or-between}
+use Rattle.search_laws.specs.Ways.{is_open, open_way, way_at, ways_from, IsLeg}
+use Rattle.search_laws.specs.declared.graph.Leg.{Leg}
 use Rattle.search_laws.specs.declared.graph.Way.{Way}
 use Rattle.search_laws.specs.Fresh.{StandsStill}
 use Rattle.search_laws.proofs.FreshLemmas.{closed_unset}
@@ -11,7 +14,8 @@ use Rattle.timetable_arcs.specs.Patterns.{TableLists}
 use Rattle.timetable_arcs.specs.Rides.{rides_at, boards_at}
 use Rattle.mode_network.specs.declared.nodes.Arc.{Arc}
 use Rattle.mode_network.specs.NetworkLists.{NetworkLists, letter_at, stop_at}
-use Rattle.mode_network.specs.Indexes.{range_from}
+use Rattle.mode_network.specs.Indexes.{range_from, leg_of, legs_from}
+use Rattle.mode_network.proofs.IndexLemmas.{range_is_range}
 use Rattle.plain_graph.specs.declared.plain.PlainArc.{PlainArc}
 use Rattle.plain_graph.specs.declared.plain.PlainArc.TheVariants.{Road, Link, Stand}
 use Rattle.plain_graph.specs.PlainArcs.{plain_arc, plain_meaning, graph_arc, arrival, count_from, stands_at, rides_of, rides_from_stop, inner_arcs_at, no_arc}
@@ -19,13 +23,30 @@ use Rattle.plain_graph.specs.OutArcs.{stop_found, no_mode}
 use Rattle.plain_graph.specs.BoardWays.{boards_ways}
 use Rattle.plain_graph.proofs.BoardTies.{stop_ways}
 
-module _ (n : NetworkLists) (t : TableLists) (v : ℕ) where
+-- the legs of a node are those of its road arcs
+module _ (n : NetworkLists) (v : ℕ) where
   abbrev road : ℕ → Arc
   road i = slice_index_or n.arcs ((range_from n.arcs v).0 + i) no_arc
 
+  pub legs_count : length (legs_from n.arcs v) ≡ count_from n.arcs v
+  legs_count =
+      length-between (map leg_of n.arcs) (range_from n.arcs v).0 (range_from n.arcs v).1 (omega (arith, (range_is_range n.arcs v).1, length-map n.arcs leg_of))
+
+  pub leg_at : (i : ℕ) (d : Leg) → i < count_from n.arcs v → slice_index_or (legs_from n.arcs v) i d ≡ leg_of (road i)
+  leg_at i d lt =
+      get_or-between (map leg_of n.arcs) (range_from n.arcs v).0 (range_from n.arcs v).1 i d (omega arith)
+      ∙ get_or-map leg_of n.arcs ((range_from n.arcs v).0 + i) no_arc d (omega (arith, (range_is_range n.arcs v).1))
+
+module _ (n : NetworkLists) (t : TableLists) (v : ℕ) where
   -- the first places are the road arcs'
-  pub road_at : (i : ℕ) → i < count_from n.arcs v → plain_arc n t v i ≡ Road (road i)
+  pub road_at : (i : ℕ) → i < count_from n.arcs v → plain_arc n t v i ≡ Road (road n v i)
   road_at i lt = let inside = lt-ltb i (count_from n.arcs v) lt in rw inside refl
+
+  pub road_leg : (i : ℕ) (d : Leg) → i < count_from n.arcs v → IsLeg (plain_meaning n t) v i (slice_index_or (legs_from n.arcs v) i d)
+  road_leg i d lt = record {
+    to = ap (λ (leg : Leg). leg.to) (leg_at n v i d lt) ∙ sym (ap (λ (a : PlainArc). (graph_arc n t v a).to) (road_at i lt));
+    time = λ time. ap (arrival t time) (road_at i lt) ∙ sym (ap (λ (leg : Leg). Some (time + leg.ms)) (leg_at n v i d lt));
+  }
 
 module _ (n : NetworkLists) (t : TableLists) (time letters v : ℕ) where
   abbrev from : ℕ → ℕ → List Way

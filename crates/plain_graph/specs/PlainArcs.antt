@@ -3,7 +3,6 @@
 use Rattle.std.specs.Prelude.{ℕ, ◌+◌, ◌-◌, List, [], length, nat_lt, is_some, Option, Some, None, option_map, if◌then◌else◌, slice_index_or}
 use Rattle.search_laws.specs.GraphLaws.{GraphMeaning}
 use Rattle.search_laws.specs.declared.graph.GraphArc.{GraphArc}
-use Rattle.search_laws.specs.declared.graph.Steady.{Steady}
 use Rattle.timetable_arcs.specs.declared.trips.Call.{Call}
 use Rattle.timetable_arcs.specs.declared.trips.Instance.{Instance}
 use Rattle.timetable_arcs.specs.declared.rides.Ride.{Ride as RideCalls}
@@ -15,12 +14,9 @@ use Rattle.mode_network.specs.Indexes.{range_from}
 use Rattle.plain_graph.specs.declared.plain.PlainArc.{PlainArc}
 use Rattle.plain_graph.specs.declared.plain.PlainArc.TheVariants.{Road, Link, Stand, Ride}
 
+-- how many arcs of a list begin at a node
 abbrev pub count_from : List Arc → ℕ → ℕ
 count_from arcs v = (range_from arcs v).1 - (range_from arcs v).0
-
--- the road arcs, which stand first, are steady
-abbrev pub roads_at : NetworkLists → ℕ → Steady
-roads_at n v = record { first = (range_from n.arcs v).0; count = count_from n.arcs v; letter = letter_at n.roads v }
 
 -- one arc stands at a road node, and none elsewhere
 abbrev pub stands_at : NetworkLists → ℕ → ℕ

@@ -13,7 +13,7 @@ ghost use Rattle.plain_graph.specs.Lawful.{IsLawfulGraph-prop};
 
 use mode_network::{Arc, Network};
 use search_laws::{
-    GivenRun, GivenRuns, Graph, GraphArc, Leg, Steady, Time, Way, is_open, moving_letters,
+    GivenRun, GivenRuns, Graph, GraphArc, Steady, Time, Visit, Way, is_open, moving_letters,
 };
 use std::alloc::AllocError;
 use timetable_arcs::{Board, Call, PlacedRun, Ride, Timetable};
@@ -40,6 +40,13 @@ pub struct Plain<'a> {
     pub ghost kept: { IsNetwork network.now } by { IsNetwork-prop network.now },
     pub ghost of: { IsTimetableOf network.now timetable.now } by { IsTimetableOf-prop network.now timetable.now },
     pub ghost lawful: { IsLawfulGraph (plain_meaning network.now timetable.now) } by { IsLawfulGraph-prop (plain_meaning network.now timetable.now) },
+}
+
+/// A board of a stop, and the place of its first ride among the arcs out of the stop.
+#[derive(Clone, Copy)]
+struct PlacedBoard {
+    board: Board,
+    first: u64,
 }
 
 impl<'a> Plain<'a> {
@@ -233,34 +240,35 @@ impl<'a> Plain<'a> {
         Ok(())
     }
 
-    /// Appends the rides of a run from a board, the first of which is the arc at this place, but for those that the state was
-    /// given by that run or one before it in the pattern, and notes the run.
+    /// Appends the rides of a run from a board, but for those that the state was given by that run or one before it in the
+    /// pattern, and notes the run.
     fn push_fresh_run(
         &self,
-        board: Board,
+        visit: Visit,
+        placed: PlacedBoard,
         next: PlacedRun,
-        first: u64,
-        state: u32,
         given: &mut GivenRuns,
         ways: &mut Vec<Way>,
     ) -> Result<(), AllocError>
-        requires board { IsBoardOf self.now.timetable.now board }
-        requires run { slice_get (runs_of self.now.timetable.now board.pattern) next.place ≡ Some next.run }
-        requires place { first < 2 ^ 63 + 2 ^ 34 }
-        ensures { OnOk result (AddsFresh (plain_rides self.now.network.now self.now.timetable.now) state
-            given.old given.new (run_ways self.now.network.now self.now.timetable.now first board
-            (Some next.run)) ways.old.items ways.new.items) }
+        requires board { IsBoardOf self.now.timetable.now placed.board }
+        requires run { slice_get (runs_of self.now.timetable.now placed.board.pattern) next.place
+            ≡ Some next.run }
+        requires place { placed.first < 2 ^ 63 + 2 ^ 34 }
+        ensures { OnOk result (AddsFresh (plain_rides self.now.network.now self.now.timetable.now) visit.state
+            given.old given.new (run_ways self.now.network.now self.now.timetable.now placed.first
+            placed.board (Some next.run)) ways.old.items ways.new.items) }
     {
         self.timetable.known();
+        let PlacedBoard { board, first } = placed;
         let calls = self.timetable.run_calls(next.run);
-        let past = match given.call(state, board.pattern, next.place as u64) {
+        let past = match given.call(visit.state, board.pattern, next.place as u64) {
             Some(call) if call <= board.call => return Ok(()),
             Some(call) => calls.len().min(call as usize + 1),
             None => calls.len(),
         };
         self.push_rides(board, next.run.day, &calls[..past], first, ways)?;
         given.note(GivenRun {
-            state,
+            state: visit.state,
             line: board.pattern,
             run: next.place as u64,
             call: board.call,
@@ -268,42 +276,40 @@ impl<'a> Plain<'a> {
         Ok(())
     }
 
-    /// The run that one boards at `t`: the next one, if the letter of its pattern is in the set.
-    fn open_run(&self, board: Board, t: Time, letters: u32) -> Option<PlacedRun>
+    /// The run that one boards at a visit: the next one, if the visit asks for the letter of its pattern.
+    fn open_run(&self, visit: Visit, board: Board) -> Option<PlacedRun>
         requires { IsBoardOf self.now.timetable.now board }
-        ensures value { option_map (λ next. next.run) result ≡ open_run self.now.timetable.now t
-            letters board }
+        ensures value { option_map (λ next. next.run) result ≡ open_run self.now.timetable.now visit.at
+            visit.letters board }
         ensures place { IfSome result (λ next. slice_get (runs_of self.now.timetable.now board.pattern)
             next.place ≡ Some next.run) }
     {
         self.timetable.known();
-        if is_open(letters, Some(self.timetable.pattern_letter(board.pattern))) {
-            self.timetable.next_placed(board.pattern, board.call, t)
+        let letter = self.timetable.pattern_letter(board.pattern);
+        if is_open(visit.letters, Some(letter)) {
+            self.timetable
+                .next_placed(board.pattern, board.call, visit.at)
         } else {
             None
         }
     }
 
-    /// Appends the rides from a board that can be taken, the first of which is the arc at this place, but for those that the
-    /// state was given.
+    /// Appends the rides from a board that can be taken, but for those that the state was given.
     fn push_fresh_board(
         &self,
-        board: Board,
-        first: u64,
-        t: Time,
-        letters: u32,
-        state: u32,
+        visit: Visit,
+        placed: PlacedBoard,
         given: &mut GivenRuns,
         ways: &mut Vec<Way>,
     ) -> Result<(), AllocError>
-        requires board { IsBoardOf self.now.timetable.now board }
-        requires place { first < 2 ^ 63 + 2 ^ 34 }
-        ensures { OnOk result (AddsFresh (plain_rides self.now.network.now self.now.timetable.now) state
-            given.old given.new (board_ways self.now.network.now self.now.timetable.now t letters first board)
-            ways.old.items ways.new.items) }
+        requires board { IsBoardOf self.now.timetable.now placed.board }
+        requires place { placed.first < 2 ^ 63 + 2 ^ 34 }
+        ensures { OnOk result (AddsFresh (plain_rides self.now.network.now self.now.timetable.now) visit.state
+            given.old given.new (board_ways self.now.network.now self.now.timetable.now visit.at visit.letters
+            placed.first placed.board) ways.old.items ways.new.items) }
     {
-        if let Some(next) = self.open_run(board, t, letters) {
-            self.push_fresh_run(board, next, first, state, given, ways)?;
+        if let Some(next) = self.open_run(visit, placed.board) {
+            self.push_fresh_run(visit, placed, next, given, ways)?;
         }
         Ok(())
     }
@@ -312,140 +318,136 @@ impl<'a> Plain<'a> {
     /// state was given.
     fn push_fresh_boards(
         &self,
+        visit: Visit,
         stop: u32,
         first: u64,
-        t: Time,
-        letters: u32,
-        state: u32,
         given: &mut GivenRuns,
         ways: &mut Vec<Way>,
     ) -> Result<(), AllocError>
         requires stop { stop < self.now.timetable.now.stops }
         requires place { first < 2 ^ 34 }
-        ensures { OnOk result (AddsFresh (plain_rides self.now.network.now self.now.timetable.now) state
-            given.old given.new (boards_ways self.now.network.now self.now.timetable.now t letters first
-            (boards_at self.now.timetable.now stop)) ways.old.items ways.new.items) }
+        ensures { OnOk result (AddsFresh (plain_rides self.now.network.now self.now.timetable.now) visit.state
+            given.old given.new (boards_ways self.now.network.now self.now.timetable.now visit.at
+            visit.letters first (boards_at self.now.timetable.now stop)) ways.old.items ways.new.items) }
     {
         self.timetable.known();
         for board in self.timetable.boards(stop) {
-            self.push_fresh_board(*board, first + board.before, t, letters, state, given, ways)?;
+            let placed = PlacedBoard {
+                board: *board,
+                first: first + board.before,
+            };
+            self.push_fresh_board(visit, placed, given, ways)?;
         }
         Ok(())
     }
 
-    /// Appends the arcs of `v` but its road arcs that arrive if they are taken at `t`, by a letter of the set or by none,
-    /// in order; but it may leave out rides where the state was given rides as good, and it notes the runs whose rides it
-    /// appends. They stand behind the road arcs. Fails where memory runs out.
+    /// Appends the arcs of the node of a visit but its road arcs that arrive if they are taken then, by a letter that the visit
+    /// asks for or by none, in order; but it may leave out rides where the state was given rides as good, and it notes the runs
+    /// whose rides it appends. They stand behind the road arcs. Fails where memory runs out.
     pub fn push_fresh_past_roads(
         &self,
-        v: u32,
-        t: Time,
-        letters: u32,
-        state: u32,
+        visit: Visit,
         given: &mut GivenRuns,
         ways: &mut Vec<Way>,
     ) -> Result<(), AllocError>
-        requires node { v < length (nodes_of self.now.network.now) }
-        requires time { t < 2 ^ 127 }
-        ensures { OnOk result (AddsFresh (plain_rides self.now.network.now self.now.timetable.now) state
-            given.old given.new (ways_from (plain_meaning self.now.network.now self.now.timetable.now) v t
-            letters (count_from self.now.network.now.arcs v) (count_from self.now.network.now.links v +
-            inner_arcs_at self.now.network.now self.now.timetable.now v)) ways.old.items ways.new.items) }
+        requires node { visit.node < length (nodes_of self.now.network.now) }
+        requires time { visit.at < 2 ^ 127 }
+        ensures { OnOk result (AddsFresh (plain_rides self.now.network.now self.now.timetable.now) visit.state
+            given.old given.new (ways_from (plain_meaning self.now.network.now self.now.timetable.now)
+            visit.node visit.at visit.letters (count_from self.now.network.now.arcs visit.node)
+            (count_from self.now.network.now.links visit.node +
+            inner_arcs_at self.now.network.now self.now.timetable.now visit.node)) ways.old.items
+            ways.new.items) }
     {
-        let (first_arc, past_arc) = self.network.arcs_from(v);
-        let (first_link, past_link) = self.network.links_from(v);
+        let (first_arc, past_arc) = self.network.arcs_from(visit.node);
+        let (first_link, past_link) = self.network.links_from(visit.node);
         let arcs = (past_arc - first_arc) as u64;
         let links = (past_link - first_link) as u64;
-        self.push_links(v, arcs, t, letters, ways)?;
-        self.push_fresh_inner(v, arcs + links, t, letters, state, given, ways)?;
+        self.push_links(visit, arcs, ways)?;
+        self.push_fresh_inner(visit, arcs + links, given, ways)?;
         Ok(())
     }
 
-    /// Appends the links out of `v`, the first of which is the arc at this place.
+    /// Appends the links out of the node of a visit, the first of which is the arc at this place.
     fn push_links(
         &self,
-        v: u32,
+        visit: Visit,
         first_place: u64,
-        t: Time,
-        letters: u32,
         ways: &mut Vec<Way>,
     ) -> Result<(), AllocError>
-        requires node { v < length (nodes_of self.now.network.now) }
-        requires place { first_place ≡ count_from self.now.network.now.arcs v }
-        requires time { t < 2 ^ 127 }
+        requires node { visit.node < length (nodes_of self.now.network.now) }
+        requires place { first_place ≡ count_from self.now.network.now.arcs visit.node }
+        requires time { visit.at < 2 ^ 127 }
         ensures { OnOk result (ways.new.items ≡ ways.old.items ++ ways_from
-            (plain_meaning self.now.network.now self.now.timetable.now) v t letters first_place
-            (count_from self.now.network.now.links v)) }
+            (plain_meaning self.now.network.now self.now.timetable.now) visit.node visit.at visit.letters
+            first_place (count_from self.now.network.now.links visit.node)) }
     {
-        let (first, past) = self.network.links_from(v);
+        let (first, past) = self.network.links_from(visit.node);
         for i in 0..past - first {
             let link = self.network.links()[(first + i) as usize];
             ways.push(Way {
                 place: first_place + u64::from(i),
                 arc: with_letter(link, None),
-                at: t + Time::from(link.ms),
+                at: visit.at + Time::from(link.ms),
             })?;
         }
         Ok(())
     }
 
-    /// Appends the arc that stands at the road node `v`, if its letter is in the set, as the arc at this place.
+    /// Appends the arc that stands at the road node of a visit, if the visit asks for its letter, as the arc at this place.
     fn push_stand(
         &self,
-        v: u32,
+        visit: Visit,
         letter: u8,
         place: u64,
-        t: Time,
-        letters: u32,
         ways: &mut Vec<Way>,
     ) -> Result<(), AllocError>
-        requires node { v < length (nodes_of self.now.network.now) }
-        requires letter { letter_at self.now.network.now.roads v ≡ Some letter }
-        requires place { place ≡ count_from self.now.network.now.arcs v + count_from
-            self.now.network.now.links v }
+        requires node { visit.node < length (nodes_of self.now.network.now) }
+        requires letter { letter_at self.now.network.now.roads visit.node ≡ Some letter }
+        requires place { place ≡ count_from self.now.network.now.arcs visit.node + count_from
+            self.now.network.now.links visit.node }
         ensures { OnOk result (ways.new.items ≡ ways.old.items ++ ways_from
-            (plain_meaning self.now.network.now self.now.timetable.now) v t letters place
-            (inner_arcs_at self.now.network.now self.now.timetable.now v)) }
+            (plain_meaning self.now.network.now self.now.timetable.now) visit.node visit.at visit.letters
+            place (inner_arcs_at self.now.network.now self.now.timetable.now visit.node)) }
     {
-        if is_open(letters, Some(letter)) {
+        if is_open(visit.letters, Some(letter)) {
             ways.push(Way {
                 place,
                 arc: GraphArc {
-                    to: v,
+                    to: visit.node,
                     letter: Some(letter),
                 },
-                at: t,
+                at: visit.at,
             })?;
         }
         Ok(())
     }
 
-    /// Appends the arc that stands at `v`, or the rides that begin there, but for those that the state was given. The first of
-    /// them is the arc at this place.
+    /// Appends the arc that stands at the node of a visit, or the rides that begin there, but for those that the state was
+    /// given. The first of them is the arc at this place.
     fn push_fresh_inner(
         &self,
-        v: u32,
+        visit: Visit,
         first: u64,
-        t: Time,
-        letters: u32,
-        state: u32,
         given: &mut GivenRuns,
         ways: &mut Vec<Way>,
     ) -> Result<(), AllocError>
-        requires node { v < length (nodes_of self.now.network.now) }
-        requires place { first ≡ count_from self.now.network.now.arcs v + count_from
-            self.now.network.now.links v }
+        requires node { visit.node < length (nodes_of self.now.network.now) }
+        requires place { first ≡ count_from self.now.network.now.arcs visit.node + count_from
+            self.now.network.now.links visit.node }
         requires few { first < 2 ^ 34 }
-        ensures { OnOk result (AddsFresh (plain_rides self.now.network.now self.now.timetable.now) state
-            given.old given.new (ways_from (plain_meaning self.now.network.now self.now.timetable.now) v t
-            letters first (inner_arcs_at self.now.network.now self.now.timetable.now v)) ways.old.items
+        ensures { OnOk result (AddsFresh (plain_rides self.now.network.now self.now.timetable.now) visit.state
+            given.old given.new (ways_from (plain_meaning self.now.network.now self.now.timetable.now)
+            visit.node visit.at visit.letters first
+            (inner_arcs_at self.now.network.now self.now.timetable.now visit.node)) ways.old.items
             ways.new.items) }
     {
-        match (self.network.letter(v), self.network.stop_at(v)) {
-            (Some(letter), _) => self.push_stand(v, letter, first, t, letters, ways)?,
-            (None, Some(stop)) => {
-                self.push_fresh_boards(stop, first, t, letters, state, given, ways)?
-            }
+        match (
+            self.network.letter(visit.node),
+            self.network.stop_at(visit.node),
+        ) {
+            (Some(letter), _) => self.push_stand(visit, letter, first, ways)?,
+            (None, Some(stop)) => self.push_fresh_boards(visit, stop, first, given, ways)?,
             (None, None) => {}
         }
         Ok(())
@@ -457,18 +459,6 @@ fn with_letter(arc: Arc, letter: Option<u8>) -> GraphArc
     ensures { result ≡ record { to = arc.to; letter = letter } }
 {
     GraphArc { to: arc.to, letter }
-}
-
-/// Where a road arc leads, and how long it takes.
-#[inline(always)]
-fn leg_of(arc: Arc) -> Leg
-    ensures to { result.to ≡ arc.to }
-    ensures ms { result.ms ≡ arc.ms }
-{
-    Leg {
-        to: arc.to,
-        ms: u64::from(arc.ms),
-    }
 }
 
 /// How many rides begin at a stop.
@@ -503,7 +493,7 @@ fn past_board(timetable: &Timetable, stop: u32, i: u64) -> u64
 }
 
 impl Graph for Plain<'_> {
-    ghost use Rattle.plain_graph.specs.PlainArcs.{plain_meaning, roads_at};
+    ghost use Rattle.plain_graph.specs.PlainArcs.{plain_meaning, count_from};
     ghost use Rattle.plain_graph.specs.BoardWays.{plain_rides};
 
     ghost meaning = { λ g. plain_meaning g.network.now g.timetable.now };
@@ -556,25 +546,13 @@ impl Graph for Plain<'_> {
         }
     }
 
-    ghost steady_of = { λ g v. roads_at g.network.now v };
+    ghost steady_count = { λ g v. count_from g.network.now.arcs v };
 
     #[inline(always)]
-    fn steady(&self, v: u32) -> Steady {
-        let (first, past) = self.network.arcs_from(v);
+    fn steady(&self, v: u32) -> Steady<'_> {
         Steady {
-            first: u64::from(first),
-            count: u64::from(past - first),
+            legs: self.network.legs_from(v),
             letter: self.network.letter(v),
-        }
-    }
-
-    #[inline(always)]
-    fn leg(&self, _v: u32, steady: Steady, i: u64) -> Option<Leg> {
-        if i < steady.count {
-            let arc = self.network.arcs()[steady.first as usize + i as usize];
-            Some(leg_of(arc))
-        } else {
-            None
         }
     }
 
@@ -582,16 +560,13 @@ impl Graph for Plain<'_> {
 
     fn fresh_ways(
         &self,
-        v: u32,
-        t: Time,
-        letters: u32,
-        leaving: u32,
-        state: u32,
+        visit: Visit,
         given: &mut GivenRuns,
         ways: &mut Vec<Way>,
     ) -> Result<(), AllocError> {
-        let moving = moving_letters(letters, leaving, self.network.letter(v));
-        self.push_fresh_past_roads(v, t, moving, state, given, ways)
+        let letter = self.network.letter(visit.node);
+        let letters = moving_letters(visit.letters, visit.leaving, letter);
+        self.push_fresh_past_roads(Visit { letters, ..visit }, given, ways)
     }
 
     ghost lawful = { λ g. g.lawful };

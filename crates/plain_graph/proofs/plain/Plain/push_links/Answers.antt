@@ -9,6 +9,6 @@ loop-i-preserved c =
     let now = c.loop-i.invariant in
     let place = c.requires.place in
     rw place
-    (link_pushed n c.args.self.now.timetable.now c.args.t c.args.letters c.args.v c.loop-i.i c.args.ways.now.items c.loop-i.ways.items c.push.new.self.items
+    (link_pushed n c.args.self.now.timetable.now c.args.visit.at c.args.visit.letters c.args.visit.node c.loop-i.i c.args.ways.now.items c.loop-i.ways.items c.push.new.self.items
     (rw range at test) (rw place at now)
     (rw (c.with_letter.ensures, place, c.from.ensures, c.from-in-loop-i.ensures, c.links.ensures, range) at c.in_ok-push.ensures.items))

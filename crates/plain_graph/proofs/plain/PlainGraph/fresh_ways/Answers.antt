@@ -11,17 +11,18 @@ pub returns : goal.returns
 returns c =
     let n = c.args.self.now.network.now in
     let t = c.args.self.now.timetable.now in
-    let v = c.args.v in
+    let visit = c.args.visit in
+    let v = visit.node in
     let g = plain_meaning n t in
     let roads = count_from n.arcs v in
     let m = count_from n.links v + inner_arcs_at n t v in
     let rest : arcs_at n t v - roads ≡ m = omega arith in
-    let asked : c.moving_letters-moving.result ≡ moving_letters c.args.letters c.args.leaving (letter_at n.roads v) =
-    c.moving_letters-moving.ensures ∙ ap (moving_letters c.args.letters c.args.leaving) c.letter.ensures in
+    let asked : c.moving_letters-letters.result ≡ moving_letters visit.letters visit.leaving (letter_at n.roads v) =
+    c.moving_letters-letters.ensures ∙ ap (moving_letters visit.letters visit.leaving) c.letter-letter.ensures in
     rw rest (on_ok_weaker c.push_fresh_past_roads.result
     (λ adds. (
-      ways_from g v c.args.t (c.moving_letters-moving.result) roads m,
-      rw asked (moving_asked g v c.args.t c.args.letters c.args.leaving roads (letter_at n.roads v) (past_roads_stand n t v c.args.t c.args.leaving) roads m (omega arith)),
+      ways_from g v visit.at (c.moving_letters-letters.result) roads m,
+      rw asked (moving_asked g v visit.at visit.letters visit.leaving roads (letter_at n.roads v) (past_roads_stand n t v visit.at visit.leaving) roads m (omega arith)),
       adds,
     ))
     c.push_fresh_past_roads.ensures)

@@ -1,12 +1,27 @@
-use Rattle.std.proofs.Common.{◌∙◌, ap, sym}
+use Rattle.std.proofs.Common.{◌∙◌, ap, sym, arith}
 use Rattle.plain_graph.specs.declared.plain.PlainArc.{PlainArc}
 use Rattle.plain_graph.specs.PlainArcs.{graph_arc}
-use Rattle.plain_graph.proofs.PlaceTies.{road_at}
+use Rattle.plain_graph.proofs.PlaceTies.{legs_count, road_at, road_leg}
 use Rattle.plain_graph.proofs.plain.PlainGraph.steady.Goals as goal
+
+pub returns-clause-count : goal.returns-clause-count
+returns-clause-count c = rw c.legs_from.ensures (legs_count c.args.self.now.network.now c.args.v)
+
+pub returns-clause-within : goal.returns-clause-within
+returns-clause-within c = rw c.legs_from.ensures (omega (arith, legs_count c.args.self.now.network.now c.args.v))
 
 pub returns-clause-letter : goal.returns-clause-letter
 returns-clause-letter c i lt =
     let n = c.args.self.now.network.now in
     let t = c.args.self.now.timetable.now in
     let v = c.args.v in
-    ap (λ (a : PlainArc). (graph_arc n t v a).letter) (road_at n t v i (rw (c.from-2.ensures, c.arcs_from-first.ensures.range) at lt)) ∙ sym c.letter.ensures
+    let inside = rw (c.legs_from.ensures, legs_count n v) at lt in
+    ap (λ (a : PlainArc). (graph_arc n t v a).letter) (road_at n t v i inside) ∙ sym c.letter.ensures
+
+pub returns-clause-legs : goal.returns-clause-legs
+returns-clause-legs c i d lt =
+    let n = c.args.self.now.network.now in
+    let t = c.args.self.now.timetable.now in
+    let v = c.args.v in
+    let inside = rw (c.legs_from.ensures, legs_count n v) at lt in
+    rw c.legs_from.ensures (road_leg n t v i d inside)
