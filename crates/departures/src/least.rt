@@ -10,7 +10,7 @@ ghost use Rattle.departures.specs.LeastArcs.{least_meaning};
 use crate::fastest::{FastestCall, FastestRun, fastest_call, fastest_runs, ms_to};
 use mode_network::Network;
 use plain_graph::{Plain, PlainArc};
-use search_laws::{GivenRuns, Graph, GraphArc, Leg, Steady, Time, Way, is_open, moving_letters};
+use search_laws::{GivenRuns, Graph, GraphArc, Steady, Time, Visit, Way, is_open, moving_letters};
 use std::alloc::{AllocError, Global};
 use timetable_arcs::{Call, Ride};
 
@@ -112,34 +112,33 @@ impl<'a> LeastTimes<'a> {
         }
     }
 
-    /// Appends the arcs from a place of `v` up to another, which have one letter, or none, if that is in the set.
+    /// Appends the arcs from a place of the node of a visit up to another, which have one letter, or none, if the visit asks for
+    /// that.
     fn push_alike(
         &self,
-        v: u32,
+        visit: Visit,
         first: u64,
         past: u64,
-        t: Time,
-        letters: u32,
         ways: &mut Vec<Way>,
     ) -> Result<(), AllocError>
-        requires node { v < (least_meaning self.now.plain.network.now self.now.plain.timetable.now
+        requires node { visit.node < (least_meaning self.now.plain.network.now self.now.plain.timetable.now
             self.now.runs.items).nodes }
         requires some { first < past }
         requires within { past ≤ (least_meaning self.now.plain.network.now self.now.plain.timetable.now
-            self.now.runs.items).arcs v }
-        requires time { t < 2 ^ 127 }
+            self.now.runs.items).arcs visit.node }
+        requires time { visit.at < 2 ^ 127 }
         requires alike { (k : ℕ) → first ≤ k → k < past → ((least_meaning self.now.plain.network.now
-            self.now.plain.timetable.now self.now.runs.items).arc_at v k).letter
+            self.now.plain.timetable.now self.now.runs.items).arc_at visit.node k).letter
             ≡ ((least_meaning self.now.plain.network.now self.now.plain.timetable.now
-            self.now.runs.items).arc_at v first).letter }
+            self.now.runs.items).arc_at visit.node first).letter }
         ensures { OnOk result (ways.new.items ≡ ways.old.items ++ ways_from
-            (least_meaning self.now.plain.network.now self.now.plain.timetable.now self.now.runs.items) v t
-            letters first (past - first)) }
+            (least_meaning self.now.plain.network.now self.now.plain.timetable.now self.now.runs.items)
+            visit.node visit.at visit.letters first (past - first)) }
     {
-        if is_open(letters, self.plain.arc_at(v, first).letter) {
+        if is_open(visit.letters, self.plain.arc_at(visit.node, first).letter) {
             let mut place = first;
             while place < past {
-                place = self.push_next(v, place, past, t, ways)?;
+                place = self.push_next(visit.node, place, past, visit.at, ways)?;
             }
         }
         Ok(())
@@ -255,7 +254,7 @@ fn ends_before(call: &Call, place: u64, past: u64) -> bool
 }
 
 impl Graph for LeastTimes<'_> {
-    ghost use Rattle.plain_graph.specs.PlainArcs.{roads_at};
+    ghost use Rattle.plain_graph.specs.PlainArcs.{count_from};
     ghost use Rattle.departures.specs.LeastArcs.{least_meaning};
 
     ghost meaning = { λ g. least_meaning g.plain.network.now g.plain.timetable.now g.runs.items };
@@ -280,43 +279,28 @@ impl Graph for LeastTimes<'_> {
         }
     }
 
-    ghost steady_of = { λ g v. roads_at g.plain.network.now v };
+    ghost steady_count = { λ g v. count_from g.plain.network.now.arcs v };
 
     #[inline(always)]
-    fn steady(&self, v: u32) -> Steady {
+    fn steady(&self, v: u32) -> Steady<'_> {
         self.plain.steady(v)
-    }
-
-    #[inline(always)]
-    fn leg(&self, _v: u32, steady: Steady, i: u64) -> Option<Leg> {
-        if i < steady.count {
-            let arc = self.plain.network().arcs()[steady.first as usize + i as usize];
-            Some(Leg {
-                to: arc.to,
-                ms: u64::from(arc.ms),
-            })
-        } else {
-            None
-        }
     }
 
     fn fresh_ways(
         &self,
-        v: u32,
-        t: Time,
-        letters: u32,
-        leaving: u32,
-        state: u32,
+        visit: Visit,
         given: &mut GivenRuns,
         ways: &mut Vec<Way>,
     ) -> Result<(), AllocError> {
-        let _ = (state, given.cells.len());
-        let moving = moving_letters(letters, leaving, self.plain.network().letter(v));
-        let arcs = self.plain.arcs(v);
-        let mut first = self.plain.steady(v).count;
+        let _ = given.cells.len();
+        let letter = self.plain.network().letter(visit.node);
+        let letters = moving_letters(visit.letters, visit.leaving, letter);
+        let moving = Visit { letters, ..visit };
+        let arcs = self.plain.arcs(visit.node);
+        let mut first = self.plain.steady(visit.node).legs.len() as u64;
         while first < arcs {
-            let past = self.plain.past_letter(v, first);
-            self.push_alike(v, first, past, t, moving, ways)?;
+            let past = self.plain.past_letter(visit.node, first);
+            self.push_alike(moving, first, past, ways)?;
             first = past;
         }
         Ok(())

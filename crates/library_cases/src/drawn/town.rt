@@ -1,9 +1,9 @@
 //! A graph and an automaton that are drawn from a number, and what is asked of a search over them.
 
-ghost use Rattle.std.specs.Prelude.{◌≡◌, ◌<◌, ◌≤◌, ◌^◌, None};
+ghost use Rattle.std.specs.Prelude.{◌≡◌, ◌<◌, ◌≤◌, ◌^◌};
 ghost use Rattle.library_cases.specs.Towns.{drawn, letter_drawn, timetabled, town, rules, town_lawful, rules_lawful};
 
-use search_laws::{Graph, GraphArc, Labels, Leg, Move, Steady, Time};
+use search_laws::{Graph, GraphArc, Labels, Move, Steady, Time};
 
 /// A number below `below` that looks random.
 fn draw(seed: u32, v: u32, i: u32, salt: u32, below: u32) -> u32
@@ -67,18 +67,13 @@ impl Graph for Town {
         }
     }
 
-    ghost steady_of = { λ _ _. record { first = 0; count = 0; letter = None } };
+    ghost steady_count = { λ _ _. 0 };
 
-    fn steady(&self, _v: u32) -> Steady {
+    fn steady(&self, _v: u32) -> Steady<'_> {
         Steady {
-            first: 0,
-            count: 0,
+            legs: &[],
             letter: None,
         }
-    }
-
-    fn leg(&self, _v: u32, _steady: Steady, _i: u64) -> Option<Leg> {
-        None
     }
 }
 

@@ -7,7 +7,7 @@ abbrev pub invariant-loop-place : goal.invariant-loop-place
 invariant-loop-place l = record {
   from : l.first ≤ l.place;
   within : l.place ≤ l.past;
-  ways : l.ways.items ≡ l.initial.ways.items ++ ways_from (least_meaning l.self.plain.network.now l.self.plain.timetable.now l.self.runs.items) l.v l.t l.letters l.first (l.place - l.first);
+  ways : l.ways.items ≡ l.initial.ways.items ++ ways_from (least_meaning l.self.plain.network.now l.self.plain.timetable.now l.self.runs.items) l.visit.node l.visit.at l.visit.letters l.first (l.place - l.first);
 }
 
 abbrev pub decreases-loop-place : goal.decreases-loop-place

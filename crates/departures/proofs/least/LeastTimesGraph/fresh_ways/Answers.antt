@@ -15,14 +15,15 @@ loop-first-preserved c =
     let s = c.args.self.now in
     let n = s.plain.network.now in
     let g = least_meaning n s.plain.timetable.now s.runs.items in
+    let visit = c.args.visit in
     let inv = c.loop-first.invariant in
     let past = c.past_letter-past.result in
-    let from : count_from n.arcs c.args.v ≤ past = omega (arith, inv.from, c.past_letter-past.ensures.later) in
+    let from : count_from n.arcs visit.node ≤ past = omega (arith, inv.from, c.past_letter-past.ensures.later) in
     let to : c.loop-first.first ≤ past = omega (arith, c.past_letter-past.ensures.later) in
     record {
       from = from;
       within = c.past_letter-past.ensures.within;
-      ways = more_ways g c.args.v c.args.t c.moving_letters-moving.result (count_from n.arcs c.args.v) c.loop-first.first past c.args.ways.now.items c.loop-first.ways.items c.push_alike.new.ways.items
+      ways = more_ways g visit.node visit.at c.moving_letters-letters.result (count_from n.arcs visit.node) c.loop-first.first past c.args.ways.now.items c.loop-first.ways.items c.push_alike.new.ways.items
           inv.from to inv.ways c.in_ok-push_alike.ensures;
     }
 
@@ -31,16 +32,19 @@ returns c =
     let s = c.args.self.now in
     let n = s.plain.network.now in
     let g = least_meaning n s.plain.timetable.now s.runs.items in
-    let first = count_from n.arcs c.args.v in
+    let visit = c.args.visit in
+    let v = visit.node in
+    let letters = c.moving_letters-letters.result in
+    let first = count_from n.arcs v in
     let inv = c.loop-first.invariant in
-    let all : c.loop-first.first ≡ arcs_at n s.plain.timetable.now c.args.v = omega (arith, inv.within, c.loop-first-test.false, c.arcs-arcs.ensures) in
-    let asked : c.moving_letters-moving.result ≡ moving_letters c.args.letters c.args.leaving (letter_at n.roads c.args.v) =
-    c.moving_letters-moving.ensures ∙ ap (moving_letters c.args.letters c.args.leaving) (c.letter.ensures ∙ ap (λ (x : NetworkLists). letter_at x.roads c.args.v) c.network.ensures) in
-    let ways = ways_past g c.args.v c.args.t c.moving_letters-moving.result first in
+    let all : c.loop-first.first ≡ arcs_at n s.plain.timetable.now v = omega (arith, inv.within, c.loop-first-test.false, c.arcs-arcs.ensures) in
+    let asked : letters ≡ moving_letters visit.letters visit.leaving (letter_at n.roads v) =
+    c.moving_letters-letters.ensures ∙ ap (moving_letters visit.letters visit.leaving) (c.letter-letter.ensures ∙ ap (λ (x : NetworkLists). letter_at x.roads v) c.network.ensures) in
+    let ways = ways_past g v visit.at letters first in
     let before = c.args.ways.now.items in (
       ways,
-      rw asked (moving_asked g c.args.v c.args.t c.args.letters c.args.leaving first (letter_at n.roads c.args.v) (least_stand n s.plain.timetable.now s.runs.items c.args.v c.args.t c.args.leaving)
-          first (arcs_at n s.plain.timetable.now c.args.v - first) (omega arith)),
-      adds_all (rides-default LeastTimes s) c.args.state c.args.given.now ways before c.loop-first.ways.items
-          (inv.ways ∙ ap (λ k. before ++ ways_from g c.args.v c.args.t c.moving_letters-moving.result first (k - first)) all),
+      rw asked (moving_asked g v visit.at visit.letters visit.leaving first (letter_at n.roads v) (least_stand n s.plain.timetable.now s.runs.items v visit.at visit.leaving)
+          first (arcs_at n s.plain.timetable.now v - first) (omega arith)),
+      adds_all (rides-default LeastTimes s) visit.state c.args.given.now ways before c.loop-first.ways.items
+          (inv.ways ∙ ap (λ k. before ++ ways_from g v visit.at letters first (k - first)) all),
     )

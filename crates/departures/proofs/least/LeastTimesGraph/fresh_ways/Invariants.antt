@@ -6,10 +6,10 @@ use Rattle.departures.proofs.least.LeastTimesGraph.fresh_ways.Given as goal
 
 abbrev pub invariant-loop-first : goal.invariant-loop-first
 invariant-loop-first l = record {
-  from : count_from l.self.plain.network.now.arcs l.v ≤ l.first;
-  within : l.first ≤ arcs_at l.self.plain.network.now l.self.plain.timetable.now l.v;
-  ways : l.ways.items ≡ l.initial.ways.items ++ ways_from (least_meaning l.self.plain.network.now l.self.plain.timetable.now l.self.runs.items) l.v l.t l.moving
-      (count_from l.self.plain.network.now.arcs l.v) (l.first - count_from l.self.plain.network.now.arcs l.v);
+  from : count_from l.self.plain.network.now.arcs l.visit.node ≤ l.first;
+  within : l.first ≤ arcs_at l.self.plain.network.now l.self.plain.timetable.now l.visit.node;
+  ways : l.ways.items ≡ l.initial.ways.items ++ ways_from (least_meaning l.self.plain.network.now l.self.plain.timetable.now l.self.runs.items) l.visit.node l.visit.at l.letters
+      (count_from l.self.plain.network.now.arcs l.visit.node) (l.first - count_from l.self.plain.network.now.arcs l.visit.node);
 }
 
 abbrev pub decreases-loop-first : goal.decreases-loop-first

@@ -14,11 +14,11 @@ is_open-requires c =
 
 pub push_run-requires-clause-run : goal.push_run-requires-clause-run
 push_run-requires-clause-run c =
-    let last = subst (λ (found : Option Instance). IsLastRun c.timetable-timetable.result.now c.args.pattern c.args.call (c.args.self.now.deadline - c.args.s) found) c.in-Some.is c.last.ensures.last in
+    let last = subst (λ (found : Option Instance). IsLastRun c.timetable-timetable.result.now c.args.pattern c.args.call (c.args.self.now.deadline - c.args.visit.at) found) c.in-Some.is c.last.ensures.last in
     subst (λ (t : TableLists). IsIn t c.args.pattern c.in-Some.run') c.timetable-timetable.ensures last.is_in
 
 pub push_run-requires-clause-over : goal.push_run-requires-clause-over
 push_run-requires-clause-over c =
-    let last = subst (λ (found : Option Instance). IsLastRun c.timetable-timetable.result.now c.args.pattern c.args.call (c.args.self.now.deadline - c.args.s) found) c.in-Some.is c.last.ensures.last in
+    let last = subst (λ (found : Option Instance). IsLastRun c.timetable-timetable.result.now c.args.pattern c.args.call (c.args.self.now.deadline - c.args.visit.at) found) c.in-Some.is c.last.ensures.last in
     let over = last.in_time in
     subst (λ (t : TableLists). arrives t c.in-Some.run' c.args.call ≤ c.args.self.now.deadline) c.timetable-timetable.ensures (omega arith)

@@ -9,8 +9,9 @@ use Rattle.latest_departure.proofs.mirror.MirrorGraph.fresh_ways.Goals as goal
 pub returns : goal.returns
 returns c =
     let g = mirrored c.args.self.now.backwards.now c.args.self.now.deadline in
-    let ways = ways_past g c.args.v c.args.t c.args.letters 0 in
+    let visit = c.args.visit in
+    let ways = ways_past g visit.node visit.at visit.letters 0 in
     let before = c.args.ways.now.items in
-    adds_moving c.args.v c.args.t c.args.leaving (λ _ _ _. []) c.args.state c.args.given.now c.args.given.now ways before c.push_ways.new.ways.items
-    (adds_all (λ _ _ _. []) c.args.state c.args.given.now ways before c.push_ways.new.ways.items
-    (c.in_ok-push_ways.ensures ∙ ap (λ (ws : List Way). before ++ ws) (sym (past_none g c.args.v c.args.t c.args.letters))))
+    adds_moving (λ _ _ _. []) visit c.args.given.now c.args.given.now ways before c.push_ways.new.ways.items
+    (adds_all (λ _ _ _. []) visit.state c.args.given.now ways before c.push_ways.new.ways.items
+    (c.in_ok-push_ways.ensures ∙ ap (λ (ws : List Way). before ++ ws) (sym (past_none g visit.node visit.at visit.letters))))
