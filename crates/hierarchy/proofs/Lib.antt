@@ -1,9 +1,9 @@
+pub mod PlaceLemmas
 pub mod OffsetLemmas
 pub mod HeightLemmas
-pub mod EndLemmas
-pub mod RiseLemmas
-pub mod RiseLists
+pub mod FallLemmas
 pub mod LookupLemmas
+pub mod RiseLemmas
 pub mod HopLemmas
 pub mod Shapes
 pub mod SoundLemmas

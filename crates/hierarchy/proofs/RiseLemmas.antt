@@ -1,197 +1,230 @@
--- The rises among entries, one entry after the other, and those that begin at one node.
-use Rattle.std.proofs.Common.{◌≡◌, ℕ, ◌+◌, ◌-◌, ◌<◌, ◌≤◌, ◌∙◌, nat_eq, cond, suc, add-one, append_assoc, drop-cons, Bool, true, false, List, [], ◌∷◌, ◌++◌, length, drop, get_or, refl, ap, arith, sym, subst}
-use Rattle.std.specs.Prelude.{All, Contains, slice_range}
+-- The rises among entries, those that begin at one node, and their places.
+use Rattle.std.proofs.Common.{◌≡◌, ℕ, ◌+◌, ◌-◌, ◌<◌, ◌≤◌, ◌∙◌, nat_lt, cond, true, List, ◌++◌, length, length-append, map, take, drop, get_or, ap, arith, sym, subst, inl, inr}
+use Rattle.std.specs.Prelude.{All, AllPairs, Contains, filter, slice_get, slice_range, Some}
+use Rattle.std.specs.List.{range_with_len}
 use Rattle.std.specs.List.Sorted.{IsNonDecreasingBy}
-use Rattle.std.proofs.lemmas.Bool.{eqb-true, eqb-false}
-use Rattle.std.proofs.lemmas.List.{length_push, get_or_push, get_or_append_left, get_or_default, get_or-take, get_or-drop, length-take-le, length-drop}
-use Rattle.std.proofs.lemmas.List.Elements.{All-nil, All-cons, All-weaker}
+use Rattle.std.proofs.lemmas.Bool.{cases_lt, cases_eq}
+use Rattle.std.proofs.lemmas.List.{drop-map, get_or-append-add, get_or-map, get_or_default, length-map, map-append, map-id, take-map}
+use Rattle.std.proofs.lemmas.List.Elements.{All-map}
+use Rattle.std.proofs.lemmas.List.Sums.{sum_by-append}
+use Rattle.std.proofs.lemmas.Option.{slice_get_within, get_or_from_slice_get}
+use Rattle.std.proofs.lemmas.Simd.{map-map}
 use Rattle.hierarchy.specs.declared.entry.Entry.{Entry}
-use Rattle.hierarchy.specs.declared.rises.Rise.{Rise}
 use Rattle.hierarchy.specs.declared.tables.NodeRow.{NodeRow}
 use Rattle.hierarchy.specs.Lists.{HierarchyLists}
-use Rattle.hierarchy.specs.Lookups.{count_below, range_of, from_of}
-use Rattle.hierarchy.specs.Indexes.{AreEndsBelow, AreOffsets}
-use Rattle.hierarchy.specs.Rises.{AreRisesUpTo, AreRiseTables, IsRiseRange, IsRiseOf, is_rise, rise_at, rise_from, rises_among, all_rises}
-use Rattle.hierarchy.specs.Tables.{rise_offsets_of}
-use Rattle.hierarchy.proofs.OffsetLemmas.{read_range, count_rises, count_most, count_all, key_in_range, in_range_of_key}
+use Rattle.hierarchy.specs.Lookups.{ArePlaces, count_below, entry_at, from_of, no_entry, places_before, places_of, range_of}
+use Rattle.hierarchy.specs.Rules.{IsHierarchy}
+use Rattle.hierarchy.specs.Indexes.{AreEndsBelow, AreRows}
+use Rattle.hierarchy.specs.Rises.{AreRises, AreRisesFrom, IsRiseRange, IsRiseOf, Rise, RisesFrom, all_rises, is_rise, place_of, rise_at, rise_from, rise_places_from, rises_in, rises_of}
+use Rattle.hierarchy.proofs.LookupLemmas.{from_rises}
+use Rattle.hierarchy.proofs.OffsetLemmas.{above_stands_after, below_stands_before, count_all, count_most, count_none, count_rises, in_range_of_key, key_in_range}
+use Rattle.hierarchy.proofs.PlaceLemmas.{Contains-map, places_ascend, places_from, places_have, places_pass, places_split, places_within, range_all, range_has, range_length, range_read}
+
+-- ---- all of them
 
 module _ (order : List ℕ) (entries : List Entry) where
-  pub rises_none : AreRisesUpTo order entries 0 []
-  rises_none = record {
-    before = λ k d lt. absurd (omega arith);
-    each = λ k d lt. absurd (omega arith);
-    all = λ k d lt. absurd (omega arith);
-    rising = λ i j d le lt. absurd (omega arith);
-  }
+  abbrev pub make : ℕ → Rise
+  make place = rise_at place (entry_at entries place)
 
-  module _ (n : ℕ) (e : Entry) (rises : List Rise) (within : n < length entries) (is : e ≡ get_or entries n e) (far : AreRisesUpTo order entries n rises) where
-    here : (d : Entry) → get_or entries n d ≡ e
-    here d = sym (is ∙ get_or_default entries n e d within)
+  abbrev pub places : List ℕ
+  places = places_of (is_rise order) entries
 
-    -- an entry more that is no rise
-    pub rises_pass : is_rise order e ≡ false → AreRisesUpTo order entries (n + 1) rises
-    rises_pass level = record {
-      before = λ k d lt. let low = far.before k d lt in omega arith;
-      each = far.each;
-      all = λ k d lt up. by_place k d lt up (nat_eq k n) refl;
-      rising = far.rising;
-    } where
-      by_place : (k : ℕ) (d : Entry) → k < n + 1 → is_rise order (get_or entries k d) ≡ true → (b : Bool) → nat_eq k n ≡ b
-          → Contains rises (rise_at k (get_or entries k d))
-      by_place k d lt up true at =
-          let same : k ≡ n = eqb-true k n at in
-          let also = subst (λ i. is_rise order (get_or entries i d) ≡ true) same up in
-          let both = ap (is_rise order) (here d) in
-          absurd (cc)
-      by_place k d lt up false apart = far.all k d (omega (arith, eqb-false k n apart)) up
+  -- the places of rises tell them
+  pub places_told : map place_of (rises_in order entries) ≡ places
+  places_told = map-map place_of make places ∙ map-id places
 
-    last : Rise
-    last = rise_at n e
+  is_rise_of : (place : ℕ) → place < length entries → is_rise order (entry_at entries place) ≡ true → IsRiseOf order entries (rise_at place (entry_at entries place))
+  is_rise_of place lt up = record {
+    within = lt;
+    begins = λ d. ap from_of (here d);
+    ends = λ d. ap (λ (e : Entry). e.to) (here d);
+    weighs = λ d. ap (λ (e : Entry). e.weight) (here d);
+    leads = λ d. ap (is_rise order) (here d) ∙ up;
+  } where
+    here : (d : Entry) → get_or entries place d ≡ entry_at entries place
+    here d = get_or_default entries place d no_entry lt
 
-    -- an entry more that is one
-    pub rises_more : is_rise order e ≡ true → IsNonDecreasingBy from_of entries → AreRisesUpTo order entries (n + 1) (rises ++ rise_at n e ∷ [])
-    unfolding last
-    rises_more rises_up ascend = record {
-      before = λ k d lt. in_turn (λ (r : Rise). r.place < n + 1) (λ i c h. let low = far.before i c h in omega arith) (omega arith) k d lt;
-      each = λ k d lt. in_turn (IsRiseOf order entries) far.each is_rise_here k d lt;
-      all = λ k d lt up. by_place k d lt up (nat_eq k n) refl;
-      rising = λ i j d le lt. in_order i j d le lt (nat_eq j (length rises)) refl;
-    } where
-      is_rise_here : IsRiseOf order entries last
-      is_rise_here = record {
-        within = within;
-        begins = λ d. ap from_of (here d);
-        ends = λ d. ap (λ (x : Entry). x.to) (here d);
-        weighs = λ d. ap (λ (x : Entry). x.weight) (here d);
-        leads = λ d. ap (is_rise order) (here d) ∙ rises_up;
-      }
+  module _ (ascend : IsNonDecreasingBy from_of entries) where
+    rising : IsNonDecreasingBy rise_from (rises_in order entries)
+    rising i j d le lt =
+        let long = length-map places make in
+        let k = get_or places i 0 in
+        let l = get_or places j 0 in
+        let low : k ≤ l = elim (cases_eq i j) [
+          | inl same ↦ (let e : k ≡ l = ap (λ n. get_or places n 0) same in omega arith)
+          | inr apart ↦ (let up = places_ascend (is_rise order) entries (length entries) i j 0 (omega (arith, apart)) (omega (arith, long)) in omega arith)
+        ] in
+        rw (get_or-map make places i 0 d (omega (arith, long)), get_or-map make places j 0 d (omega (arith, long)))
+        (ascend k l no_entry low (places_within (is_rise order) entries (length entries) j 0 (omega (arith, long))))
 
-      in_turn : (P : Rise → Type 0) → All P rises → P last → (k : ℕ) (d : Rise) → k < length (rises ++ last ∷ []) → P (get_or (rises ++ last ∷ []) k d)
-      in_turn P before there k d lt = by_end (nat_eq k (length rises)) refl
+    pub are_rises : AreRises order entries (rises_in order entries)
+    are_rises = record {
+      each = All-map (IsRiseOf order entries) make places
+          (λ i d lt. is_rise_of (get_or places i d) (places_within (is_rise order) entries (length entries) i d lt) (places_pass (is_rise order) entries (length entries) i d lt));
+      all = λ k d lt up.
+          let here : get_or entries k d ≡ entry_at entries k = get_or_default entries k d no_entry lt in
+          rw here (Contains-map make places k (places_have (is_rise order) entries (length entries) k lt (sym (ap (is_rise order) here) ∙ up)));
+      rising = rising;
+    }
+
+    module _ (v : ℕ) where
+      abbrev n : ℕ
+      n = count_below from_of entries v
+
+      abbrev front : List ℕ
+      front = places_before (is_rise order) entries n
+
+      abbrev back : List ℕ
+      back = filter (λ place. is_rise order (entry_at entries place)) (range_with_len n (length entries - n))
+
+      whole : places ≡ front ++ back
+      whole = places_split (is_rise order) entries n (length entries) (count_most from_of entries v)
+
+      is_low : (k : ℕ) → k < n → (entry_at entries k).from < v
+      is_low k lt = elim (cases_lt (entry_at entries k).from v) [
+        | inl less ↦ less
+        | inr more ↦ (let inside = count_most from_of entries v in let after = above_stands_after from_of entries ascend v k no_entry (omega arith) more in absurd (omega arith))
+      ]
+
+      is_high : (k : ℕ) → n ≤ k → k < length entries → v ≤ (entry_at entries k).from
+      is_high k le lt = elim (cases_lt (entry_at entries k).from v) [
+        | inl less ↦ (let before = below_stands_before from_of entries ascend v k no_entry lt less in absurd (omega arith))
+        | inr more ↦ more
+      ]
+
+      front_low : All (λ (rise : Rise). rise.from < v) (map make front)
+      front_low = All-map (λ (rise : Rise). rise.from < v) make front (λ i d lt. is_low (get_or front i d) (places_within (is_rise order) entries n i d lt))
+
+      inside : All (λ k. k < length entries) back
+      inside i d lt =
+          let long = length-append front back in
+          let there = places_within (is_rise order) entries (length entries) (length front + i) d (omega (arith, long, ap length whole)) in
+          subst (λ k. k < length entries) (ap (λ xs. get_or xs (length front + i) d) whole ∙ get_or-append-add front back i d) there
+
+      back_high : All (λ (rise : Rise). v ≤ rise.from) (map make back)
+      back_high = All-map (λ (rise : Rise). v ≤ rise.from) make back
+          (λ i d lt. is_high (get_or back i d) (places_from (is_rise order) entries n (length entries - n) i d lt) (inside i d lt))
+
+      all_count : count_below rise_from (rises_in order entries) v ≡ length front
+      all_count =
+          ap (λ ks. count_below rise_from (map make ks) v) whole
+          ∙ ap (λ rises. count_below rise_from rises v) (map-append make front back)
+          ∙ sum_by-append (λ (rise : Rise). cond (nat_lt rise.from v) 1 0) (map make front) (map make back)
+          ∙ sums (count_all rise_from (map make front) v front_low) (count_none rise_from (map make back) v back_high) (length-map front make)
         where
-          by_end : (b : Bool) → nat_eq k (length rises) ≡ b → P (get_or (rises ++ last ∷ []) k d)
-          by_end true at = subst P (sym (ap (λ i. get_or (rises ++ last ∷ []) i d) (eqb-true _ _ at) ∙ get_or_push rises last d (length rises) refl)) there
-          by_end false apart =
-              let earlier : k < length rises = omega (arith, eqb-false _ _ apart, length_push rises last) in
-              subst P (sym (get_or_append_left rises (last ∷ []) d k earlier)) (before k d earlier)
+          sums : count_below rise_from (map make front) v ≡ length (map make front) → count_below rise_from (map make back) v ≡ 0 → length (map make front) ≡ length front
+              → count_below rise_from (map make front) v + count_below rise_from (map make back) v ≡ length front
+          sums f b l = omega arith
 
-      by_place : (k : ℕ) (d : Entry) → k < n + 1 → is_rise order (get_or entries k d) ≡ true → (b : Bool) → nat_eq k n ≡ b
-          → Contains (rises ++ last ∷ []) (rise_at k (get_or entries k d))
-      by_place k d lt up true at =
-          let same : k ≡ n = eqb-true k n at in
-          let row : Rise = rise_at k (get_or entries k d) in
-          let e_is : last ≡ row = sym (ap (λ i. rise_at i (get_or entries i d)) same ∙ ap (rise_at n) (here d)) in
-          (length rises, (omega (arith, length_push rises last)), get_or_push rises last row (length rises) refl ∙ e_is)
-      by_place k d lt up false apart =
-          let row : Rise = rise_at k (get_or entries k d) in
-          let found = far.all k d (omega (arith, eqb-false k n apart)) up in
-          (found.0, (omega (arith, found.1, length_push rises last)), get_or_append_left rises (last ∷ []) row found.0 found.1 ∙ found.2)
-
-      in_order : (i j : ℕ) (d : Rise) → i ≤ j → j < length (rises ++ last ∷ []) → (b : Bool) → nat_eq j (length rises) ≡ b
-          → (get_or (rises ++ last ∷ []) i d).from ≤ (get_or (rises ++ last ∷ []) j d).from
-      in_order i j d le lt true at =
-          let end : get_or (rises ++ last ∷ []) j d ≡ last = ap (λ k. get_or (rises ++ last ∷ []) k d) (eqb-true _ _ at) ∙ get_or_push rises last d (length rises) refl in
-          rw end (in_turn (λ (r : Rise). r.from ≤ e.from) (λ k c h. lower k c h) (omega arith) i d (omega arith))
-        where
-          lower : (k : ℕ) (c : Rise) → k < length rises → (get_or rises k c).from ≤ e.from
-          lower k c h =
-              let of = far.each k c h in
-              let low = far.before k c h in
-              let up = ascend (get_or rises k c).place n e (omega arith) within in
-              let first = of.begins e in
-              let second = ap from_of (here e) in
-              omega (arith, up, first, second)
-      in_order i j d le lt false apart =
-          let earlier : j < length rises = omega (arith, eqb-false _ _ apart, length_push rises last) in
-          rw (get_or_append_left rises (last ∷ []) d i (omega arith), get_or_append_left rises (last ∷ []) d j earlier) (far.rising i j d le earlier)
-
--- the list goes on after one entry more
-module _ (order : List ℕ) (entries : List Entry) (n : ℕ) (e : Entry) (rises : List Rise) (within : n < length entries) (is : e ≡ get_or entries n e) (list : List Rise)
-    (far : rises ++ rises_among order n (drop n entries) ≡ list) where
-  next : drop n entries ≡ e ∷ drop (n + 1) entries
-  next = drop-cons entries n e within ∙ ap (λ x. x ∷ drop (suc n) entries) (sym is) ∙ ap (λ k. e ∷ drop k entries) (sym (add-one n))
-
-  pub list_pass : is_rise order e ≡ false → rises ++ rises_among order (n + 1) (drop (n + 1) entries) ≡ list
-  list_pass level = sym (ap (λ xs. rises ++ rises_among order n xs) next ∙ ap (λ b. rises ++ cond b (rise_at n e ∷ rises_among order (n + 1) (drop (n + 1) entries)) (rises_among order (n + 1) (drop (n + 1) entries))) level) ∙ far
-
-  pub list_more : is_rise order e ≡ true → (rises ++ rise_at n e ∷ []) ++ rises_among order (n + 1) (drop (n + 1) entries) ≡ list
-  list_more up =
-      append_assoc rises (rise_at n e ∷ []) (rises_among order (n + 1) (drop (n + 1) entries))
-      ∙ sym (ap (λ xs. rises ++ rises_among order n xs) next ∙ ap (λ b. rises ++ cond b (rise_at n e ∷ rises_among order (n + 1) (drop (n + 1) entries)) (rises_among order (n + 1) (drop (n + 1) entries))) up) ∙ far
+      -- so many rises begin below v as have their place before the entries from v on
+      pub rises_below : length (places_before (is_rise order) entries (count_below from_of entries v)) ≡ count_below rise_from (rises_in order entries) v
+      rises_below = sym all_count
 
 -- ---- those that begin at one node
 
-module _ (h : HierarchyLists) (rises : List Rise) (are : AreRisesUpTo h.order h.entries (length h.entries) rises) (u low high : ℕ)
-    (low_is : low ≡ count_below rise_from rises u) (high_is : high ≡ count_below rise_from rises (u + 1)) where
-  high_most : high ≤ length rises
-  high_most = omega (arith, count_most rise_from rises (u + 1))
+module _ (h : HierarchyLists) (rules : IsHierarchy h) where
+  pub all_are_rises : AreRises h.order h.entries (all_rises h)
+  all_are_rises = are_rises h.order h.entries (from_rises h.entries rules.entries_ascend)
 
-  grows : low ≤ high
-  grows = omega (arith, count_rises rise_from rises u (u + 1) (omega arith))
+  module _ (u : ℕ) where
+    abbrev pub first : ℕ
+    first = count_below rise_from (all_rises h) u
 
-  short : length (slice_range rises low high) ≡ high - low
-  short = length-take-le (high - low) (drop low rises) (omega (arith, length-drop low rises, high_most))
+    abbrev pub past : ℕ
+    past = count_below rise_from (all_rises h) (u + 1)
 
-  read : (k : ℕ) (d : Rise) → k < high - low → get_or (slice_range rises low high) k d ≡ get_or rises (low + k) d
-  read k d lt = get_or-take (high - low) (drop low rises) k d lt ∙ get_or-drop low rises k d
+    past_most : past ≤ length (all_rises h)
+    past_most = count_most rise_from (all_rises h) (u + 1)
 
-  pub rises_from : IsRiseRange h u rises low high
-  rises_from = record {
-    in_order = grows;
-    within = high_most;
-    are = record {
-      each = λ k d lt. let inside : k < high - low = omega (arith, short) in subst (IsRiseOf h.order h.entries) (sym (read k d inside)) (are.each (low + k) d (omega (arith, high_most)));
-      from_u = λ k d lt. let inside : k < high - low = omega (arith, short) in
-          ap rise_from (read k d inside) ∙ key_in_range rise_from rises are.rising u (low + k) d (omega (arith, low_is)) (omega (arith, high_is));
-      all = λ k d lt from up. listed k d lt from up;
-    };
-  }
-    where
-      listed : (k : ℕ) (d : Entry) → k < length h.entries → (get_or h.entries k d).from ≡ u → is_rise h.order (get_or h.entries k d) ≡ true
-          → Contains (slice_range rises low high) (rise_at k (get_or h.entries k d))
-      listed k d lt from up =
-          let row : Rise = rise_at k (get_or h.entries k d) in
-          let there = are.all k d lt up in
-          let inside = in_range_of_key rise_from rises are.rising u there.0 row there.1 (ap rise_from there.2 ∙ from) in
-          let before : there.0 - low < high - low = omega (arith, low_is, high_is, inside.0, inside.1) in
-          let back : low + (there.0 - low) ≡ there.0 = omega (arith, low_is, inside.0) in
-          (there.0 - low, (omega (arith, short)), read (there.0 - low) row before ∙ ap (λ i. get_or rises i row) back ∙ there.2)
+    grows : first ≤ past
+    grows = count_rises rise_from (all_rises h) u (u + 1) (omega arith)
 
--- the rises in order, with the counts of rises, are such tables
-pub are_rise_tables : (h : HierarchyLists) (nodes : ℕ) (offsets : List ℕ) (rises : List Rise) → AreRisesUpTo h.order h.entries (length h.entries) rises
-    → rises ≡ all_rises h → AreOffsets rise_from nodes rises offsets → AreRiseTables h nodes offsets rises
-are_rise_tables h nodes offsets rises are list counts = record {
-  all = list;
-  counts = counts;
-  ranges = λ u d lt. rises_from h rises are u (get_or offsets u d) (get_or offsets (u + 1) d) (counts.counts u d (omega arith)) (counts.counts (u + 1) d (omega arith));
-}
+    pub is_rise_range : IsRiseRange h u (all_rises h) first past
+    is_rise_range = record {
+      in_order = grows;
+      within = past_most;
+      are = record {
+        each = range_all (all_rises h) first past grows past_most (IsRiseOf h.order h.entries) all_are_rises.each;
+        from_u = λ k d lt. let inside : k < past - first = omega (arith, range_length (all_rises h) first past grows past_most) in
+            ap rise_from (range_read (all_rises h) first past grows past_most k d inside) ∙ key_in_range rise_from (all_rises h) all_are_rises.rising u (first + k) d (omega arith) (omega (arith, grows));
+        all = λ k d lt from up. listed k d lt from up;
+      };
+    }
+      where
+        listed : (k : ℕ) (d : Entry) → k < length h.entries → (get_or h.entries k d).from ≡ u → is_rise h.order (get_or h.entries k d) ≡ true
+            → Contains (rises_of h u) (rise_at k (get_or h.entries k d))
+        listed k d lt from up =
+            let row : Rise = rise_at k (get_or h.entries k d) in
+            let there = all_are_rises.all k d lt up in
+            let inside = in_range_of_key rise_from (all_rises h) all_are_rises.rising u there.0 row there.1 (ap rise_from there.2 ∙ from) in
+            range_has (all_rises h) first past grows past_most row there.0 inside.0 inside.1 there.2
 
--- two rows of the table tell where the rises of a node stand
-pub range_found : (h : HierarchyLists) (nodes : ℕ) (table : List NodeRow) (rises : List Rise) → AreRiseTables h nodes (rise_offsets_of table) rises → (u : ℕ) → u < nodes
-    → (first end : NodeRow) → first ≡ get_or table u first → end ≡ get_or table (u + 1) end → (first.rises, end.rises) ≡ range_of rise_from (all_rises h) u
-range_found h nodes table rises tables u lt first end at_first at_end =
-    read_range rise_from (λ (row : NodeRow). row.rises) nodes rises table tables.counts u lt first end at_first at_end
-    ∙ ap (λ rs. range_of rise_from rs u) tables.all
+    pub are_rises_from : AreRisesFrom h u (rises_of h u)
+    are_rises_from = is_rise_range.are
 
--- rises begin where entries do
-among_below : (order : List ℕ) (entries : List Entry) (k v : ℕ) → All (λ (e : Entry). e.from < v) entries → All (λ (r : Rise). r.from < v) (rises_among order k entries)
-among_below order [] k v below = All-nil (λ (r : Rise). r.from < v)
-among_below order (e ∷ entries) k v below =
-    by_test (is_rise order e) (among_below order entries (k + 1) v (λ j d lt. below (suc j) d (omega arith)))
-  where
-    first : Rise
-    first = rise_at k e
+    -- the places of those from u stand side by side among the places of all
+    pub places_ranged : rise_places_from h u ≡ slice_range (places_of (is_rise h.order) h.entries) first past
+    places_ranged =
+        sym (take-map place_of (past - first) (drop first (all_rises h))) ∙ ap (take (past - first)) (sym (drop-map place_of first (all_rises h))) ∙ ap (λ ks. slice_range ks first past) (places_told h.order h.entries)
 
-    by_test : (b : Bool) → All (λ (r : Rise). r.from < v) (rises_among order (k + 1) entries)
-        → All (λ (r : Rise). r.from < v) (cond b (first ∷ rises_among order (k + 1) entries) (rises_among order (k + 1) entries))
-    by_test true more = All-cons (λ (r : Rise). r.from < v) first (rises_among order (k + 1) entries) (below 0 e (omega arith)) more
-    by_test false more = more
+    pub are_rise_places : ArePlaces (RisesFrom h.order u) h.entries (rise_places_from h u)
+    are_rise_places = record {
+      ascending = subst (AllPairs (λ j k. j < k)) (sym places_ranged) ascends;
+      within = All-map (λ k. k < length h.entries) place_of (rises_of h u) (λ i d lt. (are_rises_from.each i d lt).within);
+      each = λ k e there is. rises k e there is;
+      all = λ k e is up.
+          let lt = slice_get_within h.entries k e is in
+          let here = get_or_from_slice_get h.entries k e e is in
+          let found = are_rises_from.all k e lt (ap from_of here ∙ up.begins) (ap (is_rise h.order) here ∙ up.leads) in
+          Contains-map place_of (rises_of h u) (rise_at k (get_or h.entries k e)) found;
+    } where
+      long : past ≤ length (places_of (is_rise h.order) h.entries)
+      long = let same = length-map (places_of (is_rise h.order) h.entries) (make h.order h.entries) in omega (arith, past_most)
 
--- past all nodes nothing begins
-pub range_past : (h : HierarchyLists) (u nodes count : ℕ) → nodes ≤ u → All (AreEndsBelow nodes) h.entries → count ≡ length (all_rises h)
+      ascends : AllPairs (λ j k. j < k) (slice_range (places_of (is_rise h.order) h.entries) first past)
+      ascends i j d lt inside =
+          let after : j < past - first = omega (arith, range_length (places_of (is_rise h.order) h.entries) first past grows long) in
+          rw (range_read (places_of (is_rise h.order) h.entries) first past grows long i d (omega arith), range_read (places_of (is_rise h.order) h.entries) first past grows long j d after)
+          (places_ascend (is_rise h.order) h.entries (length h.entries) (first + i) (first + j) d (omega arith) (omega (arith, long)))
+
+      rises : (k : ℕ) (e : Entry) → Contains (rise_places_from h u) k → slice_get h.entries k ≡ Some e → RisesFrom h.order u e
+      rises k e (i, lt, at) is =
+          let inside : i < length (rises_of h u) = omega (arith, length-map (rises_of h u) place_of) in
+          let nothing : Rise = record { from = 0; to = 0; place = k; weight = 0 } in
+          let rise = get_or (rises_of h u) i nothing in
+          let of = are_rises_from.each i nothing inside in
+          let place : rise.place ≡ k = sym (get_or-map place_of (rises_of h u) i nothing k inside) ∙ at in
+          let here : get_or h.entries rise.place e ≡ e = ap (λ p. get_or h.entries p e) place ∙ get_or_from_slice_get h.entries k e e is in
+          record {
+            begins = sym (ap from_of here) ∙ of.begins e ∙ are_rises_from.from_u i nothing inside;
+            leads = sym (ap (is_rise h.order) here) ∙ of.leads e;
+          }
+
+-- past all nodes no rise begins
+pub range_past : (h : HierarchyLists) (u nodes count : ℕ) → nodes ≤ u → All (AreEndsBelow nodes) h.entries → count ≡ length (places_of (is_rise h.order) h.entries)
     → (count, count) ≡ range_of rise_from (all_rises h) u
 range_past h u nodes count past below is =
-    let lower = λ (v : ℕ) (from : nodes ≤ v). among_below h.order h.entries 0 v (All-weaker (AreEndsBelow nodes) (λ (e : Entry). e.from < v) (λ e ends. let low = ends.0 in omega arith) h.entries below) in
-    let low = is ∙ sym (count_all rise_from (all_rises h) u (lower u past)) in
-    let high = is ∙ sym (count_all rise_from (all_rises h) (u + 1) (lower (u + 1) (omega arith))) in
+    let low = all_below u past in
+    let high = all_below (u + 1) (omega arith) in
     ap (λ n. (n, count)) low ∙ ap (λ n. (count_below rise_from (all_rises h) u, n)) high
+  where
+    lower : (v : ℕ) → nodes ≤ v → All (λ (rise : Rise). rise.from < v) (all_rises h)
+    lower v from = All-map (λ (rise : Rise). rise.from < v) (make h.order h.entries) (places_of (is_rise h.order) h.entries)
+        (λ i d lt. is_low (get_or (places_of (is_rise h.order) h.entries) i d) (places_within (is_rise h.order) h.entries (length h.entries) i d lt))
+      where
+        is_low : (k : ℕ) → k < length h.entries → (entry_at h.entries k).from < v
+        is_low k lt = let less = (below k no_entry lt).0 in omega arith
+
+    all_below : (v : ℕ) → nodes ≤ v → count ≡ count_below rise_from (all_rises h) v
+    all_below v from = is ∙ sym (length-map (places_of (is_rise h.order) h.entries) (make h.order h.entries)) ∙ sym (count_all rise_from (all_rises h) v (lower v from))
+
+-- two rows tell where the rises of a node stand
+pub range_found : (order : List ℕ) (entries : List Entry) (nodes : ℕ) (rows : List NodeRow) → AreRows order entries nodes rows → (u : ℕ) → u < nodes
+    → (first end : NodeRow) → first ≡ get_or rows u first → end ≡ get_or rows (u + 1) end
+    → ((first.rises, end.rises) ≡ range_of rise_from (rises_in order entries) u) × ((first.entries, end.entries) ≡ range_of from_of entries u)
+range_found order entries nodes rows are u lt first end at_first at_end =
+    let one = at_first ∙ are.are u first (omega arith) in
+    let other = at_end ∙ are.are (u + 1) end (omega arith) in (
+      ap (λ (row : NodeRow). (row.rises, end.rises)) one ∙ ap (λ (row : NodeRow). (count_below rise_from (rises_in order entries) u, row.rises)) other,
+      ap (λ (row : NodeRow). (row.entries, end.entries)) one ∙ ap (λ (row : NodeRow). (count_below from_of entries u, row.entries)) other,
+    )

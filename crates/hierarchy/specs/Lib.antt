@@ -3,8 +3,8 @@ pub mod Hops
 pub mod Soundness
 pub mod Rules
 pub mod Lookups
-pub mod Indexes
 pub mod Rises
+pub mod Indexes
 pub mod Tables
 pub mod Inside
 pub mod FirstBroken

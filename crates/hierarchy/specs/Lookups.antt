@@ -1,7 +1,8 @@
 -- What the lists of a hierarchy are asked for.
-use Rattle.std.specs.Prelude.{◌≡◌, ℕ, ◌+◌, ◌<◌, ◌≤◌, nat_lt, List, length, Some, All, AllPairs, Contains, slice_get, count_by}
+use Rattle.std.specs.Prelude.{◌≡◌, ℕ, ◌+◌, ◌<◌, ◌≤◌, nat_lt, Bool, List, length, Some, None, All, AllPairs, Contains, filter, slice_get, slice_index_or, count_by}
+use Rattle.std.specs.List.{range_with_len}
 use Rattle.hierarchy.specs.declared.entry.Entry.{Entry}
-use Rattle.hierarchy.specs.Lists.{WitnessLists, first_of, last_of}
+use Rattle.hierarchy.specs.Lists.{WitnessLists, IsAbove, first_of, is_above, last_of}
 use Rattle.hierarchy.specs.Soundness.{HasEntry}
 
 -- the listed entry leads from u to v
@@ -41,9 +42,33 @@ pub record AreFrom (entries : List Entry) (u low high : ℕ) : Type 0 where
   pub inside : (k : ℕ) (e : Entry) → low ≤ k → k < high → slice_get entries k ≡ Some e → e.from ≡ u
   pub all : (k : ℕ) (e : Entry) → slice_get entries k ≡ Some e → e.from ≡ u → (low ≤ k) × (k < high)
 
--- the entries to x are those at these places
-pub record AreInto (entries : List Entry) (x : ℕ) (places : List ℕ) : Type 0 where
+-- ---- the places of some entries
+
+abbrev pub no_entry : Entry
+no_entry = record { from = 0; to = 0; weight = 0; via = None }
+
+abbrev pub entry_at : List Entry → ℕ → Entry
+entry_at entries place = slice_index_or entries place no_entry
+
+-- of the first n entries the places of those that pass a test
+abbrev pub places_before : (Entry → Bool) → List Entry → ℕ → List ℕ
+places_before passes entries n = filter (λ place. passes (entry_at entries place)) (range_with_len 0 n)
+
+-- and of all entries
+abbrev pub places_of : (Entry → Bool) → List Entry → List ℕ
+places_of passes entries = places_before passes entries (length entries)
+
+-- the entries of which P holds are those at these places
+pub record ArePlaces (P : Entry → Type 0) (entries : List Entry) (places : List ℕ) : Type 0 where
   pub ascending : AllPairs (λ j k. j < k) places
   pub within : All (λ k. k < length entries) places
-  pub to_x : (k : ℕ) (e : Entry) → Contains places k → slice_get entries k ≡ Some e → e.to ≡ x
-  pub all : (k : ℕ) (e : Entry) → slice_get entries k ≡ Some e → e.to ≡ x → Contains places k
+  pub each : (k : ℕ) (e : Entry) → Contains places k → slice_get entries k ≡ Some e → P e
+  pub all : (k : ℕ) (e : Entry) → slice_get entries k ≡ Some e → P e → Contains places k
+
+abbrev pub is_fall : List ℕ → Entry → Bool
+is_fall order e = is_above order e.from e.to
+
+-- the entry leads down to x: it ends there, and begins above it
+pub record FallsTo (order : List ℕ) (x : ℕ) (e : Entry) : Type 0 where
+  pub ends : e.to ≡ x
+  pub above : IsAbove order e.from x

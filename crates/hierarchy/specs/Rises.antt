@@ -1,11 +1,11 @@
 -- The entries that lead up from a node, or along the core.
-use Rattle.std.specs.Prelude.{◌≡◌, ℕ, ◌+◌, ◌<◌, ◌≤◌, ◌==◌, ◌||◌, ◌&&◌, Bool, true, if◌then◌else◌, List, [], ◌∷◌, length, All, Contains, slice_range, slice_index_or}
+use Rattle.std.specs.Prelude.{◌≡◌, ℕ, ◌*◌, ◌^◌, ◌<◌, ◌≤◌, ◌==◌, ◌||◌, ◌&&◌, nat_lt, Bool, true, if◌then◌else◌, List, [], length, map, All, Contains, slice_range, slice_index_or}
+use Rattle.std.specs.List.{list_all}
 use Rattle.std.specs.List.Sorted.{IsNonDecreasingBy}
+use Rattle.search_laws.specs.declared.graph.Leg.{Leg}
 use Rattle.hierarchy.specs.declared.entry.Entry.{Entry}
-use Rattle.hierarchy.specs.declared.rises.Rise.{Rise}
 use Rattle.hierarchy.specs.Lists.{HierarchyLists, height_in, is_above}
-use Rattle.hierarchy.specs.Lookups.{range_of}
-use Rattle.hierarchy.specs.Indexes.{AreOffsets}
+use Rattle.hierarchy.specs.Lookups.{range_of, entry_at, places_of}
 
 abbrev pub is_core : List ℕ → ℕ → Bool
 is_core order v = height_in order v == length order
@@ -17,24 +17,71 @@ leads_up order u v = is_above order v u || (is_core order u && is_core order v)
 abbrev pub is_rise : List ℕ → Entry → Bool
 is_rise order e = leads_up order e.from e.to
 
+-- an entry that leads up or along the core, with its place among the entries
+pub record Rise : Type 0 where
+  pub from : ℕ
+  pub to : ℕ
+  pub place : ℕ
+  pub weight : ℕ
+
 abbrev pub rise_from : Rise → ℕ
 rise_from rise = rise.from
+
+abbrev pub place_of : Rise → ℕ
+place_of rise = rise.place
 
 -- an entry at a place, as a rise
 abbrev pub rise_at : ℕ → Entry → Rise
 rise_at place e = record { from = e.from; to = e.to; place = place; weight = e.weight }
 
--- the rises among entries whose places are those from k on, in order
-abbrev pub rises_among : List ℕ → ℕ → List Entry → List Rise
-rises_among order k [] = []
-rises_among order k (e ∷ entries) = if is_rise order e then rise_at k e ∷ rises_among order (k + 1) entries else rises_among order (k + 1) entries
+-- those at these places
+abbrev pub rises_at : List Entry → List ℕ → List Rise
+rises_at entries places = map (λ place. rise_at place (entry_at entries place)) places
+
+-- all of them, in order
+abbrev pub rises_in : List ℕ → List Entry → List Rise
+rises_in order entries = rises_at entries (places_of (is_rise order) entries)
 
 abbrev pub all_rises : HierarchyLists → List Rise
-all_rises h = rises_among h.order 0 h.entries
+all_rises h = rises_in h.order h.entries
 
 -- those from u: the entries ascend by the node that they leave, so they stand side by side
 abbrev pub rises_of : HierarchyLists → ℕ → List Rise
 rises_of h u = slice_range (all_rises h) (range_of rise_from (all_rises h) u).0 (range_of rise_from (all_rises h) u).1
+
+-- their places among the entries
+abbrev pub rise_places_from : HierarchyLists → ℕ → List ℕ
+rise_places_from h u = map place_of (rises_of h u)
+
+-- the entry begins at u, and leads up or along the core
+pub record RisesFrom (order : List ℕ) (u : ℕ) (e : Entry) : Type 0 where
+  pub begins : e.from ≡ u
+  pub leads : is_rise order e ≡ true
+
+-- ---- rises as legs
+
+-- a node has two numbers in the graph that is searched: this one before the descent, and in it the next
+abbrev pub number_before : ℕ → ℕ
+number_before v = 2 * v
+
+abbrev pub leg_of : Rise → Leg
+leg_of rise = record { to = number_before rise.to; ms = rise.weight }
+
+-- a leg has no room for a greater weight
+abbrev pub is_short : Rise → Bool
+is_short rise = nat_lt rise.weight (2 ^ 32)
+
+abbrev pub has_legs : HierarchyLists → Bool
+has_legs h = list_all is_short (all_rises h)
+
+-- those of rises, if all of them are short
+abbrev pub legs_of_rises : List Rise → List Leg
+legs_of_rises rises = if list_all is_short rises then map leg_of rises else []
+
+abbrev pub legs_from : HierarchyLists → ℕ → List Leg
+legs_from h u = if has_legs h then map leg_of (rises_of h u) else []
+
+-- ---- what rises are
 
 -- a rise is an entry that leads up or along the core, and begins and ends where it says, with its weight
 pub record IsRiseOf (order : List ℕ) (entries : List Entry) (rise : Rise) : Type 0 where
@@ -44,11 +91,10 @@ pub record IsRiseOf (order : List ℕ) (entries : List Entry) (rise : Rise) : Ty
   pub weighs : (d : Entry) → (slice_index_or entries rise.place d).weight ≡ rise.weight
   pub leads : (d : Entry) → is_rise order (slice_index_or entries rise.place d) ≡ true
 
--- the rises among the first so many entries, in order
-pub record AreRisesUpTo (order : List ℕ) (entries : List Entry) (n : ℕ) (rises : List Rise) : Type 0 where
-  pub before : All (λ rise. rise.place < n) rises
+-- all rises among the entries, in order
+pub record AreRises (order : List ℕ) (entries : List Entry) (rises : List Rise) : Type 0 where
   pub each : All (IsRiseOf order entries) rises
-  pub all : (k : ℕ) (d : Entry) → k < n → is_rise order (slice_index_or entries k d) ≡ true → Contains rises (rise_at k (slice_index_or entries k d))
+  pub all : (k : ℕ) (d : Entry) → k < length entries → is_rise order (slice_index_or entries k d) ≡ true → Contains rises (rise_at k (slice_index_or entries k d))
   pub rising : IsNonDecreasingBy rise_from rises
 
 -- the rises from u are these
@@ -63,8 +109,3 @@ pub record IsRiseRange (h : HierarchyLists) (u : ℕ) (rises : List Rise) (low h
   pub in_order : low ≤ high
   pub within : high ≤ length rises
   pub are : AreRisesFrom h u (slice_range rises low high)
-
-pub record AreRiseTables (h : HierarchyLists) (nodes : ℕ) (offsets : List ℕ) (rises : List Rise) : Type 0 where
-  pub all : rises ≡ all_rises h
-  pub counts : AreOffsets rise_from nodes rises offsets
-  pub ranges : (u d : ℕ) → u < nodes → IsRiseRange h u rises (slice_index_or offsets u d) (slice_index_or offsets (u + 1) d)

@@ -1,12 +1,48 @@
 //! The heights of nodes in the order in which they were contracted, as a table, and how long such a table is.
 
-ghost use Rattle.std.specs.Prelude.{◌<◌, ◌≤◌, ◌^◌, All, IfOk};
+ghost use Rattle.std.specs.Prelude.{◌≡◌, ◌<◌, ◌≤◌, ◌^◌, All, IfOk};
 ghost use Rattle.hierarchy.specs.declared.entry.Entry.{Entry};
 ghost use Rattle.hierarchy.specs.Rules.{IsNode, FitsEntry};
 ghost use Rattle.hierarchy.specs.Indexes.{AreHeights, AreEndsBelow};
 
 use crate::entry::Entry;
 use std::alloc::{AllocError, Global};
+
+/// An order, and the height in it of each of so many nodes.
+#[derive(Clone, Copy)]
+pub(crate) struct HeightTable<'a> {
+    pub order: &'a [u32],
+    pub nodes: u32,
+    pub of: &'a [u64],
+}
+
+impl HeightTable<'_> {
+    ghost use Rattle.std.specs.Prelude.{◌≡◌};
+    ghost use Rattle.hierarchy.specs.Lookups.{is_fall};
+    ghost use Rattle.hierarchy.specs.Indexes.{AreEndsBelow, TellHeights};
+    ghost use Rattle.hierarchy.specs.Rises.{is_rise};
+
+    /// Whether an entry leads up, or along the core.
+    pub(crate) fn is_rise(&self, entry: &Entry) -> bool
+        requires heights { TellHeights self.now }
+        requires ends { AreEndsBelow self.now.nodes entry.now }
+        ensures { result ≡ is_rise self.now.order.now entry.now }
+    {
+        let core = self.order.len() as u64;
+        let from = self.of[entry.from as usize];
+        let to = self.of[entry.to as usize];
+        from < to || from == core && to == core
+    }
+
+    /// Whether an entry leads down.
+    pub(crate) fn is_fall(&self, entry: &Entry) -> bool
+        requires heights { TellHeights self.now }
+        requires ends { AreEndsBelow self.now.nodes entry.now }
+        ensures { result ≡ is_fall self.now.order.now entry.now }
+    {
+        self.of[entry.to as usize] < self.of[entry.from as usize]
+    }
+}
 
 /// A number that is above all nodes of an order.
 pub(crate) fn past_order(order: &[u32]) -> u32

@@ -1,15 +1,15 @@
 //! A hierarchy: its lists, and what finds things in them.
 
-ghost use Rattle.std.specs.Prelude.{◌≡◌, All, IfOk, MatchOption};
+ghost use Rattle.std.specs.Prelude.{◌≡◌, IfOk, MatchOption};
 ghost use Rattle.hierarchy.specs.Lists.{height_in, is_above, is_contracted};
 ghost use Rattle.hierarchy.specs.Rules.{IsHierarchy};
-ghost use Rattle.hierarchy.specs.Rises.{AreRisesFrom, IsRiseOf, IsRiseRange, all_rises, rise_from, rises_of};
-ghost use Rattle.hierarchy.specs.Lookups.{IsEntryFor, HasNoEntry, IsWitnessFor, HasNoWitness, AreFrom, AreInto, range_of, from_of};
+ghost use Rattle.hierarchy.specs.Rises.{IsRiseRange, RisesFrom, all_rises, has_legs, legs_from, rise_from, rise_places_from};
+ghost use Rattle.hierarchy.specs.Lookups.{IsEntryFor, HasNoEntry, IsWitnessFor, HasNoWitness, AreFrom, ArePlaces, FallsTo, range_of, from_of};
 
 use crate::entry::{Entry, Witness};
 use crate::lookup::{entry_between, witness_between};
-use crate::rises::Rise;
 use crate::tables::{NodeRow, Tables};
+use search_laws::Leg;
 use std::alloc::{AllocError, Global};
 use std::marker::Model;
 
@@ -22,9 +22,10 @@ pub struct Hierarchy {
     nodes: u32,
     heights: Vec<u64>,
     rows: Vec<NodeRow>,
-    into_offsets: Vec<u64>,
-    into: Vec<u64>,
-    rises: Vec<Rise>,
+    rises: Vec<u64>,
+    legs: Vec<Leg>,
+    fall_offsets: Vec<u64>,
+    falls: Vec<u64>,
 }
 
 impl Model for Hierarchy {
@@ -69,9 +70,10 @@ impl Hierarchy {
             nodes: tables.nodes,
             heights: tables.heights,
             rows: tables.rows,
-            into_offsets: tables.into_offsets,
-            into: tables.into,
             rises: tables.rises,
+            legs: tables.legs,
+            fall_offsets: tables.fall_offsets,
+            falls: tables.falls,
         })
     }
 
@@ -155,30 +157,24 @@ impl Hierarchy {
         }
     }
 
-    /// The places in [`entries`](Self::entries) of those that end at `x`, ascending.
-    pub fn entries_into(&self, x: u32) -> &[u64]
-        ensures { AreInto self.now.entries x result.now }
+    /// The places in [`entries`](Self::entries) of those that lead down to `x`: that end there and begin above it, ascending.
+    /// To a core node none does.
+    pub fn falls_into(&self, x: u32) -> &[u64]
+        ensures { ArePlaces (FallsTo self.now.order x) self.now.entries result.now }
     {
         if x < self.nodes {
-            let first = self.into_offsets[x as usize] as usize;
-            let end = self.into_offsets[x as usize + 1] as usize;
-            &self.into[first..end]
+            let first = self.fall_offsets[x as usize] as usize;
+            let end = self.fall_offsets[x as usize + 1] as usize;
+            &self.falls[first..end]
         } else {
             &[]
         }
     }
 
-    /// The entries that lead to a node above their own, or from one core node to another, in order.
-    pub fn rises(&self) -> &[Rise]
-        ensures list { result.now ≡ all_rises self.now }
-        ensures each { All (IsRiseOf self.now.order self.now.entries) result.now }
-    {
-        &self.rises
-    }
-
-    /// The first place in [`rises`](Self::rises) of those from `u`, and one past the last. Where nothing is from `u`, both
-    /// are the number of those from lower nodes.
-    pub fn rise_places(&self, u: u32) -> (u64, u64)
+    /// Where the entries from `u` that lead to a node above it, or from one core node to another, stand among all that do so:
+    /// their first place, and one past the last.
+    #[inline(always)]
+    fn rise_range(&self, u: u32) -> (u64, u64)
         ensures range { result ≡ range_of rise_from (all_rises self.now) u }
         ensures are { IsRiseRange self.now u (all_rises self.now) result.0 result.1 }
     {
@@ -190,13 +186,36 @@ impl Hierarchy {
         }
     }
 
-    /// The entries from `u` that lead to a node above it, or from one core node to another.
-    pub fn rises_from(&self, u: u32) -> &[Rise]
-        ensures list { result.now ≡ rises_of self.now u }
-        ensures are { AreRisesFrom self.now u result.now }
+    /// The places in [`entries`](Self::entries) of those from `u` that lead to a node above it, or from one core node to another,
+    /// ascending.
+    pub fn rise_places_from(&self, u: u32) -> &[u64]
+        ensures list { result.now ≡ rise_places_from self.now u }
+        ensures are { ArePlaces (RisesFrom self.now.order u) self.now.entries result.now }
     {
-        let (first, end) = self.rise_places(u);
-        &self.rises()[first as usize..end as usize]
+        let (first, end) = self.rise_range(u);
+        &self.rises[first as usize..end as usize]
+    }
+
+    /// Whether each entry that leads to a node above its own, or from one core node to another, takes less than 2^32 ms.
+    #[inline(always)]
+    pub fn has_legs(&self) -> bool
+        ensures { result ≡ has_legs self.now }
+    {
+        self.legs.len() == self.rises.len()
+    }
+
+    /// Where the entries at [`rise_places_from`](Self::rise_places_from) lead, and how long that takes. Nodes are numbered as
+    /// before the descent: `2v` stands for v. Without [`has_legs`](Self::has_legs) there are none.
+    #[inline(always)]
+    pub fn legs_from(&self, u: u32) -> &[Leg]
+        ensures { result.now ≡ legs_from self.now u }
+    {
+        if self.has_legs() {
+            let (first, end) = self.rise_range(u);
+            &self.legs[first as usize..end as usize]
+        } else {
+            &[]
+        }
     }
 
     /// The witness that is listed for `below` from `first` to `last`; None exactly where there is none.

@@ -3,17 +3,16 @@
 #![tactic(auto)]
 
 pub mod entry;
+mod falls;
 mod heights;
 pub mod hierarchy;
 pub mod laws;
 mod lookup;
-pub mod offsets;
-pub mod rises;
+mod rises;
 mod tables;
 pub mod verdict;
 
 pub use entry::{Entry, Witness};
 pub use hierarchy::Hierarchy;
 pub use laws::{contractions_keep_soundness, cores_keep_distances, entries_are_roads};
-pub use rises::Rise;
 pub use verdict::Verdict;

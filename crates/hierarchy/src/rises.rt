@@ -1,72 +1,90 @@
-//! The entries that lead up from a node, or along the core, as a table.
+//! The entries that lead up from a node, or along the core, as tables.
 
-ghost use Rattle.std.specs.Prelude.{◌≡◌, ◌<◌, ◌^◌, All, IfOk, length};
+ghost use Rattle.std.specs.Prelude.{◌≡◌, ◌<◌, ◌≤◌, ◌^◌, All, IfOk, length};
 ghost use Rattle.std.specs.List.Sorted.{IsNonDecreasingBy};
-ghost use Rattle.hierarchy.specs.Lookups.{from_of};
-ghost use Rattle.hierarchy.specs.Indexes.{AreEndsBelow, AreHeights};
-ghost use Rattle.hierarchy.specs.Rises.{AreRisesUpTo, is_rise, rise_from, rises_among};
+ghost use Rattle.hierarchy.specs.Lookups.{count_below, from_of, places_before, places_of};
+ghost use Rattle.hierarchy.specs.Rules.{FitsEntry};
+ghost use Rattle.hierarchy.specs.Indexes.{AreEndsBelow, AreRows, TellHeights};
+ghost use Rattle.hierarchy.specs.Rises.{is_rise, legs_of_rises, rises_at};
 
 use crate::entry::Entry;
-use crate::offsets::Keyed;
+use crate::heights::HeightTable;
+use crate::tables::NodeRow;
+use search_laws::Leg;
 use std::alloc::{AllocError, Global};
 
-/// An entry that leads to a node above its own, or from one core node to another, with its place among the entries. What a
-/// search asks of it stands here, so that it need not read the entry.
-#[derive(Clone, Copy)]
-pub struct Rise {
-    pub from: u32,
-    pub to: u32,
-    pub place: u64,
-    /// In milliseconds.
-    pub weight: u64,
-}
-
-impl Keyed for Rise {
-    ghost key = { rise_from };
-
-    fn key(&self) -> u32 {
-        self.from
-    }
-}
-
-/// Whether an entry leads up, or along the core.
-fn is_rise(heights: &[u64], order: &[u32], nodes: u32, entry: &Entry) -> bool
-    requires heights { AreHeights nodes order.now heights.now }
-    requires ends { AreEndsBelow nodes entry.now }
-    ensures { result ≡ is_rise order.now entry.now }
-{
-    let _ = nodes;
-    let core = order.len() as u64;
-    let from = heights[entry.from as usize];
-    let to = heights[entry.to as usize];
-    from < to || from == core && to == core
-}
-
-/// The entries that lead up or along the core, in order.
-pub(crate) fn rises(
-    alloc: Global,
-    heights: &[u64],
-    order: &[u32],
-    nodes: u32,
+/// Appends the places of those entries from a place on that lead up or along the core and begin below `v`. Tells the first place of
+/// an entry from `v` or from a later node.
+fn push_rises_below(
+    heights: &HeightTable<'_>,
     entries: &[Entry],
-) -> Result<Vec<Rise>, AllocError>
-    requires heights { AreHeights nodes order.now heights.now }
-    requires ends { All (AreEndsBelow nodes) entries.now }
+    v: u32,
+    mut place: usize,
+    rises: &mut Vec<u64>,
+) -> Result<usize, AllocError>
+    requires heights { TellHeights heights.now }
+    requires ends { All (AreEndsBelow heights.now.nodes) entries.now }
     requires rising { IsNonDecreasingBy from_of entries.now }
     requires short { length entries.now < 2 ^ 63 }
-    ensures are { IfOk result (λ rises. AreRisesUpTo order.now entries.now (length entries.now) rises.items) }
-    ensures in_order { IfOk result (λ rises. rises.items ≡ rises_among order.now 0 entries.now) }
+    requires place { place ≤ count_below from_of entries.now v }
+    requires rises { rises.old.items ≡ places_before (is_rise heights.now.order.now) entries.now place }
+    ensures place { IfOk result (λ place. place ≡ count_below from_of entries.now v) }
+    ensures rises { IfOk result (λ place. rises.new.items
+        ≡ places_before (is_rise heights.now.order.now) entries.now place) }
 {
-    let mut rises = Vec::new(alloc);
-    for (place, entry) in entries.iter().enumerate() {
-        if is_rise(heights, order, nodes, entry) {
-            rises.push(Rise {
-                from: entry.from,
-                to: entry.to,
-                place: place as u64,
-                weight: entry.weight,
-            })?;
+    while place < entries.len() && entries[place].from < v {
+        if heights.is_rise(&entries[place]) {
+            rises.push(place as u64)?;
         }
+        place += 1;
     }
-    Ok(rises)
+    Ok(place)
+}
+
+/// The rows of all nodes, and the places of the entries that lead up or along the core, in order.
+pub(crate) fn rows(
+    alloc: Global,
+    heights: &HeightTable<'_>,
+    entries: &[Entry],
+) -> Result<(Vec<NodeRow>, Vec<u64>), AllocError>
+    requires heights { TellHeights heights.now }
+    requires few_nodes { heights.now.nodes < 2 ^ 31 }
+    requires ends { All (AreEndsBelow heights.now.nodes) entries.now }
+    requires rising { IsNonDecreasingBy from_of entries.now }
+    requires short { length entries.now < 2 ^ 63 }
+    ensures rows { IfOk result (λ made. AreRows heights.now.order.now entries.now heights.now.nodes made.0.items) }
+    ensures rises { IfOk result (λ made. made.1.items
+        ≡ places_of (is_rise heights.now.order.now) entries.now) }
+{
+    let mut rows = Vec::with_capacity(alloc, heights.nodes as usize + 1)?;
+    let mut rises = Vec::new(alloc);
+    let mut place = 0;
+    for v in 0..heights.nodes + 1 {
+        place = push_rises_below(heights, entries, v, place, &mut rises)?;
+        rows.push(NodeRow {
+            entries: place as u64,
+            rises: rises.len() as u64,
+        })?;
+    }
+    Ok((rows, rises))
+}
+
+/// Where the entries at these places lead, and how long that takes; or nothing, if one of them takes 2^32 ms or longer.
+pub(crate) fn legs(alloc: Global, entries: &[Entry], rises: &[u64]) -> Result<Vec<Leg>, AllocError>
+    requires fit { All FitsEntry entries.now }
+    requires within { All (λ k. k < length entries.now) rises.now }
+    ensures { IfOk result (λ legs. legs.items ≡ legs_of_rises (rises_at entries.now rises.now)) }
+{
+    let mut legs = Vec::with_capacity(alloc, rises.len())?;
+    for place in rises {
+        let entry = &entries[*place as usize];
+        let Ok(ms) = u32::try_from(entry.weight) else {
+            return Ok(Vec::new(alloc));
+        };
+        legs.push(Leg {
+            to: 2 * entry.to,
+            ms,
+        })?;
+    }
+    Ok(legs)
 }

@@ -2,12 +2,12 @@ use Rattle.std.proofs.Common.{◌≡◌, ℕ, ◌+◌, ◌<◌, ◌∙◌, lengt
 use Rattle.std.specs.Prelude.{All}
 use Rattle.std.proofs.lemmas.List.Elements.{All-weaker}
 use Rattle.hierarchy.specs.declared.entry.Entry.{Entry}
-use Rattle.hierarchy.specs.declared.tables.NodeRow.{NodeRow}
 use Rattle.hierarchy.specs.Lists.{HierarchyLists}
 use Rattle.hierarchy.specs.Lookups.{AreFrom, count_below, range_of, from_of}
 use Rattle.hierarchy.specs.Indexes.{AreEndsBelow}
 use Rattle.hierarchy.proofs.LookupLemmas.{from_rises}
-use Rattle.hierarchy.proofs.OffsetLemmas.{are_from, none_from, count_all, read_range}
+use Rattle.hierarchy.proofs.OffsetLemmas.{are_from, none_from, count_all}
+use Rattle.hierarchy.proofs.RiseLemmas.{range_found}
 use Rattle.hierarchy.proofs.hierarchy.Hierarchy.entries_from.Goals as goal
 
 below : (entries : _) (nodes : ℕ) → All (AreEndsBelow nodes) entries → All (λ (e : Entry). e.from < nodes) entries
@@ -15,13 +15,13 @@ below entries nodes all = All-weaker (AreEndsBelow nodes) (λ (e : Entry). e.fro
 
 pub returns-then-u-self-clause-range : goal.returns-then-u-self-clause-range
 returns-then-u-self-clause-range c =
-    let range = read_range from_of (λ (row : NodeRow). row.entries) c.self.inside.nodes c.self.inside.entries.items c.self.inside.rows.items c.self.invariant.from c.args.u c.if-u-self.true _ _ c.index.ensures c.index-then-u-self.ensures in
-    subst (λ (h : HierarchyLists). (c.index.result.now.entries, c.index-then-u-self.result.now.entries) ≡ range_of from_of h.entries c.args.u) c.self.view_is range
+    subst (λ (h : HierarchyLists). (c.index.result.now.entries, c.index-then-u-self.result.now.entries) ≡ range_of from_of h.entries c.args.u) c.self.view_is
+    (range_found c.self.inside.order.items c.self.inside.entries.items c.self.inside.nodes c.self.inside.rows.items c.self.invariant.rows c.args.u c.if-u-self.true c.index.result.now c.index-then-u-self.result.now c.index.ensures c.index-then-u-self.ensures).1
 
 pub returns-then-u-self-clause-are : goal.returns-then-u-self-clause-are
 returns-then-u-self-clause-are c =
     let entries = c.self.inside.entries.items in
-    let range = read_range from_of (λ (row : NodeRow). row.entries) c.self.inside.nodes entries c.self.inside.rows.items c.self.invariant.from c.args.u c.if-u-self.true _ _ c.index.ensures c.index-then-u-self.ensures in
+    let range = (range_found c.self.inside.order.items entries c.self.inside.nodes c.self.inside.rows.items c.self.invariant.rows c.args.u c.if-u-self.true c.index.result.now c.index-then-u-self.result.now c.index.ensures c.index-then-u-self.ensures).1 in
     subst (λ (h : HierarchyLists). AreFrom h.entries c.args.u c.index.result.now.entries c.index-then-u-self.result.now.entries) c.self.view_is
     (subst (λ (r : ℕ × ℕ). AreFrom entries c.args.u r.0 r.1) (sym range) (are_from entries (from_rises entries c.self.invariant.rules.entries_ascend) c.args.u))
 
