@@ -5,31 +5,37 @@ use Rattle.std.proofs.lemmas.List.Elements.{All-weaker, All-contains}
 use Rattle.search_laws.specs.LabelLaws.{LabelsMeaning, AllAfter}
 use Rattle.search_laws.specs.Fresh.{HoldsRun, IsAsGood, HasAsGood, RunRides, AreFresh, AreMoving, AddsMoving}
 use Rattle.search_laws.specs.declared.graph.GraphArc.{GraphArc}
+use Rattle.search_laws.specs.declared.graph.Visit.{Visit}
 use Rattle.search_laws.specs.declared.graph.Way.{Way}
 use Rattle.search_laws.specs.declared.given.GivenRun.{GivenRun}
 use Rattle.search_laws.specs.declared.given.GivenRuns.{GivenRuns}
 use Rattle.product_search.specs.declared.frontier.Reached.{Reached}
+use Rattle.product_search.specs.declared.frontier.Settled.{Settled}
 use Rattle.product_search.specs.declared.frontier.Frontier.{Frontier}
 use Rattle.product_search.specs.Exploring.{IsReachedBy, Offers, WayIsReached, AreGivenReached}
 use Rattle.product_search.proofs.OfferLemmas.{reached_keeps, all_after_weaker}
 use Rattle.product_search.proofs.ReachLemmas.{within_down}
 
+-- the settled product state as a visit
+abbrev pub visit_by : Settled → ℕ → ℕ → Visit
+visit_by s letters leaving = record { node = s.node; at = s.at; state = s.state; letters = letters; leaving = leaving }
+
 -- the ways that were read are what is fresh of those that move
-pub record AreRead (rides : RunRides) (state v t leaving : ℕ) (old new : GivenRuns) (ways read : List Way) : Type 0 where
+pub record AreRead (rides : RunRides) (visit : Visit) (old new : GivenRuns) (ways read : List Way) : Type 0 where
   pub moving : List Way
-  pub parts : AreMoving v t leaving ways moving
-  pub fresh : AreFresh rides state old new moving read
+  pub parts : AreMoving visit.node visit.at visit.leaving ways moving
+  pub fresh : AreFresh rides visit.state old new moving read
 
 -- an empty list goes on with them alone
-pub read_alone : {rides : RunRides} {state v t leaving : ℕ} {old new : GivenRuns} {ways before after read : List Way} → AddsMoving rides state v t leaving old new ways before after
-    → before ≡ [] → read ≡ after → AreRead rides state v t leaving old new ways read
-read_alone {rides} {state} {old = old} {new = new} (moving, parts, (fresh, is, are)) empty same = record {
+pub read_alone : {rides : RunRides} (visit : Visit) {old new : GivenRuns} {ways before after read : List Way} → AddsMoving rides visit old new ways before after
+    → before ≡ [] → read ≡ after → AreRead rides visit old new ways read
+read_alone {rides} visit {old = old} {new = new} (moving, parts, (fresh, is, are)) empty same = record {
   moving = moving;
   parts = parts;
-  fresh = subst (AreFresh rides state old new moving) (sym (same ∙ is ∙ ap (λ (xs : List Way). xs ++ fresh) empty)) are;
+  fresh = subst (AreFresh rides visit.state old new moving) (sym (same ∙ is ∙ ap (λ (xs : List Way). xs ++ fresh) empty)) are;
 }
 
-pub read_among : {rides : RunRides} {state v t leaving : ℕ} {old new : GivenRuns} {ways read : List Way} → AreRead rides state v t leaving old new ways read → All (Contains ways) read
+pub read_among : {rides : RunRides} {visit : Visit} {old new : GivenRuns} {ways read : List Way} → AreRead rides visit old new ways read → All (Contains ways) read
 read_among {ways = ways} {read = read} are =
     All-weaker (Contains are.moving) (Contains ways) (λ way has. All-contains (Contains ways) are.moving way are.parts.are has) read are.fresh.are
 

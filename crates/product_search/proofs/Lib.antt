@@ -6,6 +6,7 @@ mod QueueLemmas
 mod OfferLemmas
 mod SumLemmas
 mod GivenLemmas
+mod LegLemmas
 mod TakenLemmas
 mod StepLemmas
 mod ReachLemmas

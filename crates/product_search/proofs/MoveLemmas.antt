@@ -1,6 +1,6 @@
--- The table of the moves of an automaton, and the states that it has after the letter of steady arcs.
+-- The table of the moves of an automaton, and the states that it has after a letter.
 use Rattle.std.proofs.Common.{◌≡◌, ◌≢◌, ◌==◌, ◌⊎◌, Bool, true, false, if◌then◌else◌, ℕ, zero, suc, ◌+◌, ◌^◌, ◌<◌, ◌≤◌, ◌++◌, ◌∷◌, [], List, Some, length, get_or, add-one, ap, refl, sym, ◌∙◌, subst, inl, inr, arith}
-use Rattle.std.specs.Prelude.{Option, All, Contains, IfSome, IsBitSet, slice_index_or, slice_set}
+use Rattle.std.specs.Prelude.{All, Contains, IsBitSet, slice_index_or, slice_set}
 use Rattle.std.specs.Int.{bit_at}
 use Rattle.std.specs.Int.Bits.{bit_and}
 use Rattle.std.proofs.Math.Seq.{get_or-append_seam}
@@ -8,16 +8,13 @@ use Rattle.std.proofs.lemmas.Bool.{cases_lt, eq-eqb, eqb-true}
 use Rattle.std.proofs.lemmas.List.{append-nil, get_or_append_left, get_or-set_same, get_or-set_other, length-set}
 use Rattle.std.proofs.lemmas.List.Elements.{All-contains, All-push, Contains-push, Contains-append_left}
 use Rattle.search_laws.specs.Letters.{IsLetter, letter_count}
-use Rattle.search_laws.specs.GraphLaws.{GraphMeaning, IsLawfulGraph}
-use Rattle.search_laws.specs.LabelLaws.{LabelsMeaning, HasMove, Follows, AllAfter}
-use Rattle.search_laws.specs.declared.graph.Steady.{Steady}
+use Rattle.search_laws.specs.LabelLaws.{LabelsMeaning, HasMove, AllAfter}
 use Rattle.product_search.specs.declared.frontier.Frontier.{Frontier}
 use Rattle.product_search.specs.declared.frontier.Reached.{Reached}
-use Rattle.product_search.specs.declared.frontier.Settled.{Settled}
 use Rattle.search_laws.specs.declared.labels.Move.{Move}
 use Rattle.product_search.specs.MoveTables.{AreTargets, AreTargetsWith, target_by, targets_below}
 use Rattle.product_search.proofs.LetterLemmas.{bit_from_set, set_from_bit}
-use Rattle.product_search.specs.Exploring.{IsReachedBy, IsGiven, LeadsTo, Offers, ArcIsReached, LegIsReached}
+use Rattle.product_search.specs.Exploring.{IsGiven, LeadsTo, Offers}
 use Rattle.product_search.proofs.OfferLemmas.{offers_more, offers_weaker}
 
 -- what holds of each element at its place, after one more
@@ -167,25 +164,3 @@ module _ (l : LabelsMeaning) (q c : ℕ) where
       offers_more old mid new (LeadsTo l to q (Some c) way) first
       (offers_weaker mid new (IsGiven to (slice_index_or targets k d) way) (LeadsTo l to q (Some c) way)
       (λ w r x given. record { node = given.node; state = subst (HasMove l q c) (sym given.state) (are.are k d lt); as_given = given.as_given }) next)
-
--- the steady arcs of a settled node, which have the letter c
-module _ (g : GraphMeaning) (l : LabelsMeaning) (s : Settled) (steady : Steady) (same : (i : ℕ) → i < steady.count → (g.arc_at s.node i).letter ≡ steady.letter)
-    (c : ℕ) (is : steady.letter ≡ Some c) where
-  -- which is one
-  pub steady_letter : IsLawfulGraph g → s.node < g.nodes → 0 < steady.count → steady.count ≤ g.arcs s.node → IsLetter c
-  steady_letter lawful node some within =
-      subst (λ (o : Option ℕ). IfSome o IsLetter) (same 0 some ∙ is) (lawful.letter_in_range s.node 0 (record { node = node; arc = omega arith }))
-
-  -- each of the states follows each of them
-  pub steady_follow : (targets : List ℕ) → AreTargets l s.state c targets
-      → All (λ next. (i : ℕ) → i < steady.count → Follows l s.state (g.arc_at s.node i).letter next) targets
-  steady_follow targets are k d lt i inside =
-      subst (λ (o : Option ℕ). Follows l s.state o (slice_index_or targets k d)) (sym (same i inside ∙ is)) (are.are k d lt)
-
-  -- what they lead to is reached, if it is in each of the states
-  pub steady_reached : (bound : Option ℕ) (f : Frontier) (targets : List ℕ) → AreTargets l s.state c targets
-      → All (λ next. (i : ℕ) → i < steady.count → LegIsReached g bound f s next i) targets
-      → (i : ℕ) → i < steady.count → ArcIsReached g l bound f s.node s.state s.at i
-  steady_reached bound f targets are all i inside u e within =
-      subst (λ (o : Option ℕ). AllAfter l s.state o (λ r. IsReachedBy f (g.arc_at s.node i).to r u)) (sym (same i inside ∙ is))
-      (targets_after l s.state c targets are (λ r. IsReachedBy f (g.arc_at s.node i).to r u) (λ k d lt. all k d lt i inside u e within))

@@ -16,6 +16,7 @@ use Rattle.product_search.specs.declared.row.Row.{Row}
 use Rattle.product_search.specs.declared.frontier.Settled.{Settled}
 use Rattle.product_search.specs.declared.frontier.Frontier.{Frontier}
 use Rattle.product_search.specs.declared.key.Key.{Key}
+use Rattle.product_search.specs.Exploring.{IsReachedBy, IsSettledBy}
 use Rattle.product_search.specs.Queued.{entry_of, Queued, TakesIn, GivesLeast, GivesNone}
 use Rattle.product_search.specs.Waiting.{state_eq, made, settled_now, keyed, rows, reached_in, reached_at, waits_at, IsAt, IsNowhere, IsApart, KeepsNumbers, chain_of, chain_in, IsIndexed, IsClear, HasChainsFrom, IsLast, Waits, IsQueueRight, is_same, offered, IsOffered, IsSetAt, NobodyWaits, SameReached, SettlesLeast, HaveKeys, bar_of, key_of}
 use Rattle.product_search.proofs.RowLemmas.{key_read, entry_read}
@@ -543,31 +544,50 @@ at_top x way top before = grind (arith, nat_tests)
 from_top : (x way : Reached) → x.at ≤ way.at → offered (Some x) way ≡ Some x
 from_top x way from = grind (arith, nat_tests)
 
+-- by a time that is not too late it is reached where the bar is at most that and 1
+reached_bar : (x : Reached) (u : ℕ) → u < 2 ^ 64 - 2 → bar_of x ≤ u + 1 → (x.settled ≡ true → x.at ≤ u) → x.at ≤ u
+reached_bar x u early bar by = grind (arith, nat_tests, by)
+
+bar_reached : (x : Reached) (u : ℕ) → u < 2 ^ 64 - 2 → x.at ≤ u → bar_of x ≤ u + 1
+bar_reached x u early le = grind (arith, nat_tests)
+
 -- what the bar says of the product state whose key was read
-module _ (f : Frontier) (right : IsQueueRight f) (v q k : ℕ) (there : IsAt (rows f) v q k) (x : Key) (read : x ≡ get_or f.keys.items k x) (way : Reached) where
+module _ (f : Frontier) (right : IsQueueRight f) (v q k : ℕ) (there : IsAt (rows f) v q k) (x : Key) (read : x ≡ get_or f.keys.items k x) where
   known_here : reached_at f v q ≡ Some (there.row).known
   known_here = at_known (rows f) right.apart v q k there
 
   bar_here : x.bar ≡ bar_of (there.row).known
   bar_here = ap (λ (y : Key). y.bar) (key_read f.keys.items f.entries.items k x (there.row) right.kept read there.known)
 
-  pub better_here : way.at < x.bar - 1 → offered (reached_at f v q) way ≡ Some way
-  better_here before = ap (λ o. offered o way) known_here ∙ before_bar (there.row).known way (omega (arith, before, bar_here))
+  module _ (u : ℕ) (early : u < 2 ^ 64 - 2) where
+    pub reached_here : IsSettledBy f u → x.bar ≤ u + 1 → IsReachedBy f v q u
+    reached_here by bar =
+        ((there.row).known, known_here, reached_bar (there.row).known u early (subst (λ b. b ≤ u + 1) bar_here bar) (by v q (there.row).known known_here))
 
-  pub kept_here : (x.bar ≡ 2 ^ 64 - 1 → ⊥) → x.bar - 1 ≤ way.at → offered (reached_at f v q) way ≡ reached_at f v q
-  kept_here other from =
-      ap (λ o. offered o way) known_here ∙ from_bar (there.row).known way (omega (arith, from, bar_here)) (λ e. other (bar_here ∙ e)) ∙ sym known_here
+    pub here_reached : IsReachedBy f v q u → x.bar ≤ u + 1
+    here_reached (y, is, le) =
+        let h : Some y ≡ Some (there.row).known = sym is ∙ known_here in
+        let same : y ≡ (there.row).known = cc in
+        subst (λ b. b ≤ u + 1) (sym bar_here) (bar_reached (there.row).known u early (subst (λ (z : Reached). z.at ≤ u) same le))
 
-  -- and what the entry says where the bar doesn't tell
-  module _ (y : Entry) (also : y ≡ get_or f.entries.items k y) where
-    at_here : y.at ≡ (there.row).known.at
-    at_here = ap (λ (z : Entry). z.at) (entry_read f.keys.items f.entries.items k y (there.row) also there.known)
+  module _ (way : Reached) where
+    pub better_here : way.at < x.bar - 1 → offered (reached_at f v q) way ≡ Some way
+    better_here before = ap (λ o. offered o way) known_here ∙ before_bar (there.row).known way (omega (arith, before, bar_here))
 
-    pub better_top : x.bar ≡ 2 ^ 64 - 1 → way.at < y.at → offered (reached_at f v q) way ≡ Some way
-    better_top top before = ap (λ o. offered o way) known_here ∙ at_top (there.row).known way (sym bar_here ∙ top) (omega (arith, before, at_here))
+    pub kept_here : (x.bar ≡ 2 ^ 64 - 1 → ⊥) → x.bar - 1 ≤ way.at → offered (reached_at f v q) way ≡ reached_at f v q
+    kept_here other from =
+        ap (λ o. offered o way) known_here ∙ from_bar (there.row).known way (omega (arith, from, bar_here)) (λ e. other (bar_here ∙ e)) ∙ sym known_here
 
-    pub kept_top : y.at ≤ way.at → offered (reached_at f v q) way ≡ reached_at f v q
-    kept_top from = ap (λ o. offered o way) known_here ∙ from_top (there.row).known way (omega (arith, from, at_here)) ∙ sym known_here
+    -- and what the entry says where the bar doesn't tell
+    module _ (y : Entry) (also : y ≡ get_or f.entries.items k y) where
+      at_here : y.at ≡ (there.row).known.at
+      at_here = ap (λ (z : Entry). z.at) (entry_read f.keys.items f.entries.items k y (there.row) also there.known)
+
+      pub better_top : x.bar ≡ 2 ^ 64 - 1 → way.at < y.at → offered (reached_at f v q) way ≡ Some way
+      better_top top before = ap (λ o. offered o way) known_here ∙ at_top (there.row).known way (sym bar_here ∙ top) (omega (arith, before, at_here))
+
+      pub kept_top : y.at ≤ way.at → offered (reached_at f v q) way ≡ reached_at f v q
+      kept_top from = ap (λ o. offered o way) known_here ∙ from_top (there.row).known way (omega (arith, from, at_here)) ∙ sym known_here
 
 -- ---- a chain
 

@@ -1,6 +1,7 @@
 -- What the arcs out of a settled product state add to what is reached.
-use Rattle.std.specs.Prelude.{◌≡◌, ℕ, ◌<◌, ◌≤◌, true, false, ⊤, ◌⊎◌, List, Option, Some, None, IsTrue, Contains}
+use Rattle.std.specs.Prelude.{◌≡◌, ℕ, ◌+◌, ◌<◌, ◌≤◌, true, false, ⊤, ◌⊎◌, List, Option, Some, None, IsTrue, Contains, slice_get}
 use Rattle.search_laws.specs.GraphLaws.{GraphMeaning, HasArc}
+use Rattle.search_laws.specs.declared.graph.Leg.{Leg}
 use Rattle.search_laws.specs.declared.graph.Way.{Way}
 use Rattle.search_laws.specs.LabelLaws.{LabelsMeaning, Follows, AllAfter}
 use Rattle.search_laws.specs.Fresh.{RunRides, WasGiven}
@@ -49,6 +50,27 @@ pub record LeadsTo (l : LabelsMeaning) (to q : ℕ) (letter : Option ℕ) (way :
 abbrev pub way_by : Settled → ℕ → ℕ → Reached
 way_by s i u = record { at = u; parent = s.link; arc = i; settled = false }
 
+-- x is the way to w and r by the leg at place i of the settled product state s, in the state next, within the bound
+pub record IsByLeg (bound : Option ℕ) (s : Settled) (next i : ℕ) (leg : Leg) (w r : ℕ) (x : Reached) : Type 0 where
+  pub within : IsWithin bound (s.at + leg.ms)
+  pub given : IsGiven leg.to next (way_by s i (s.at + leg.ms)) w r x
+
+-- the same by one of some legs
+abbrev pub IsByLegs : Option ℕ → Settled → ℕ → List Leg → ℕ → ℕ → Reached → Type 0
+IsByLegs bound s next legs w r x = (i : ℕ) × (leg : Leg) × (slice_get legs i ≡ Some leg) × IsByLeg bound s next i leg w r x
+
+-- the same in one of some states
+abbrev pub IsByLegsIn : Option ℕ → Settled → List ℕ → List Leg → ℕ → ℕ → Reached → Type 0
+IsByLegsIn bound s states legs w r x = (next : ℕ) × Contains states next × IsByLegs bound s next legs w r x
+
+-- what the leg leads to in the state next, if it is taken at t, is reached by then
+abbrev pub IsReachedAfter : Frontier → ℕ → ℕ → Leg → Type 0
+IsReachedAfter f next t leg = IsReachedBy f leg.to next (t + leg.ms)
+
+-- the same within the bound
+abbrev pub LegIsReached : Option ℕ → Frontier → ℕ → ℕ → Leg → Type 0
+LegIsReached bound f next t leg = IsWithin bound (t + leg.ms) → IsReachedAfter f next t leg
+
 -- x is the way to w and r by an arc that can be taken from s, within the bound
 pub record IsByWay (l : LabelsMeaning) (bound : Option ℕ) (s : Settled) (way : Way) (w r : ℕ) (x : Reached) : Type 0 where
   pub within : IsWithin bound way.at
@@ -80,10 +102,6 @@ pub record IsSuccessor (g : GraphMeaning) (l : LabelsMeaning) (bound : Option �
 abbrev pub ArcIsReached : GraphMeaning → LabelsMeaning → Option ℕ → Frontier → ℕ → ℕ → ℕ → ℕ → Type 0
 ArcIsReached g l bound f v q t i = (u : ℕ) → g.arrive v i t ≡ Some u → IsWithin bound u
     → AllAfter l q (g.arc_at v i).letter (λ r. IsReachedBy f (g.arc_at v i).to r u)
-
--- the same in the state r alone, for the arc at place i of the settled product state s
-abbrev pub LegIsReached : GraphMeaning → Option ℕ → Frontier → Settled → ℕ → ℕ → Type 0
-LegIsReached g bound f s r i = (u : ℕ) → g.arrive s.node i s.at ≡ Some u → IsWithin bound u → IsReachedBy f (g.arc_at s.node i).to r u
 
 -- ---- starts
 

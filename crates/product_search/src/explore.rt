@@ -1,23 +1,24 @@
 //! The arcs out of a settled product state, each offered to the frontier.
 
-ghost use Rattle.std.specs.Prelude.{◌≡◌, ℕ, ◌+◌, ◌<◌, ◌≤◌, ◌^◌, false, None, Some, All, OnOk, IfSome, IsTrue, IsBitSet, ◌↔◌};
+ghost use Rattle.std.specs.Prelude.{◌≡◌, ℕ, ◌+◌, ◌<◌, ◌≤◌, ◌^◌, false, None, Some, All, OnOk, IfSome, IsTrue, IsBitSet, ◌↔◌, length};
+ghost use Rattle.std.specs.List.{AllWithin};
 ghost use Rattle.search_laws.specs.Letters.{IsLetter};
-ghost use Rattle.search_laws.specs.LabelLaws.{AllAfter, Follows};
+ghost use Rattle.search_laws.specs.LabelLaws.{AllAfter};
 ghost use Rattle.product_search.specs.Reach.{IsWithin};
 ghost use Rattle.product_search.specs.Waiting.{IsQueueRight};
-ghost use Rattle.product_search.specs.Exploring.{IsReachedBy, IsSettledBy, Offers, LeadsTo, IsByWay, IsByWays, WayIsReached, IsSuccessor, ArcIsReached, LegIsReached, AreGivenReached, IsGiven, way_by};
+ghost use Rattle.product_search.specs.Exploring.{IsReachedBy, IsSettledBy, Offers, LeadsTo, IsByWay, IsByWays, WayIsReached, IsByLeg, IsByLegs, IsByLegsIn, LegIsReached, IsReachedAfter, IsSuccessor, ArcIsReached, AreGivenReached, IsGiven, way_by};
 
 use crate::frontier::{Frontier, Reached, Settled};
 use crate::machine::Machine;
 use crate::product::Product;
-use search_laws::{GivenRuns, Graph, GraphArc, Labels, Steady, Time, Way};
+use search_laws::{GivenRuns, Graph, GraphArc, Labels, Leg, Time, Visit, Way};
 use std::alloc::AllocError;
 
 /// Offers what each arc out of a settled product state leads to within the bound, but for rides as good as those that its
 /// state was given and arcs that lead back to it at once, as what these lead to is reached already. Notes the runs whose rides it
 /// offers. What `ways` holds is lost.
 ///
-/// The steady arcs are offered one by one, and the others from a list.
+/// The steady arcs are offered first, and the others from a list.
 pub(crate) fn explore<G: Graph, L: Labels>(
     frontier: &mut Frontier,
     given: &mut GivenRuns,
@@ -44,13 +45,16 @@ pub(crate) fn explore<G: Graph, L: Labels>(
         (L.automaton product.entry.machine.now.labels) product.entry.bound frontier.new given.new) }
 {
     let (graph, machine) = (product.graph, product.machine);
-    let steady = graph.steady(from.node);
-    explore_steady(frontier, product, from, steady)?;
+    explore_steady(frontier, product, from)?;
+    let visit = Visit {
+        node: from.node,
+        at: from.at,
+        state: from.state,
+        letters: machine.letters_of(from.state),
+        leaving: machine.leaving(from.state),
+    };
     ways.clear();
-    let state = from.state;
-    let letters = machine.letters_of(state);
-    let leaving = machine.leaving(state);
-    graph.fresh_ways(from.node, from.at, letters, leaving, state, given, ways)?;
+    graph.fresh_ways(visit, given, ways)?;
     explore_ways(frontier, machine, product.bound, from, ways)?;
     Ok(())
 }
@@ -61,132 +65,148 @@ fn explore_steady<G: Graph, L: Labels>(
     frontier: &mut Frontier,
     product: Product<'_, G, L>,
     from: Settled,
-    steady: Steady,
 ) -> Result<(), AllocError>
     requires node { from.node < (G.meaning product.graph.now).nodes }
     requires state { from.state < (L.automaton product.machine.now.labels).states }
     requires time { from.at < 2 ^ 127 }
-    requires steady { steady ≡ G.steady_of product.graph.now from.node }
-    requires within { steady.count ≤ (G.meaning product.graph.now).arcs from.node }
-    requires letter { (i : ℕ) → i < steady.count → ((G.meaning product.graph.now).arc_at from.node i).letter
-        ≡ steady.letter }
     requires right { IsQueueRight frontier.old }
     requires settled { IsSettledBy frontier.old from.at }
     ensures right { OnOk result (IsQueueRight frontier.new) }
     ensures offers { OnOk result (Offers frontier.old frontier.new (IsSuccessor
         (G.meaning product.entry.graph.now) (L.automaton product.entry.machine.now.labels) product.entry.bound
         from)) }
-    ensures reached { OnOk result ((i : ℕ) → i < steady.count → ArcIsReached
-        (G.meaning product.entry.graph.now) (L.automaton product.entry.machine.now.labels) product.entry.bound
-        frontier.new from.node from.state from.at i) }
+    ensures within { G.steady_count product.entry.graph.now from.node ≤ (G.meaning
+        product.entry.graph.now).arcs from.node }
+    ensures reached { OnOk result ((i : ℕ) → i < G.steady_count product.entry.graph.now from.node →
+        ArcIsReached (G.meaning product.entry.graph.now) (L.automaton product.entry.machine.now.labels)
+        product.entry.bound frontier.new from.node from.state from.at i) }
 {
-    if steady.count == 0 {
+    let steady = product.graph.steady(from.node);
+    if steady.legs.is_empty() {
         return Ok(());
     }
     match steady.letter {
         None => {
-            offer_legs(frontier, product, from, from.state, steady)?;
+            offer_legs(frontier, product.bound, from, from.state, steady.legs)?;
         }
         Some(letter) => {
-            let targets = product.machine.targets_of(from.state, letter);
-            offer_to_states(frontier, product, from, targets, steady)?;
+            let states = product.machine.targets_of(from.state, letter);
+            offer_to_states(frontier, product.bound, from, states, steady.legs)?;
         }
     }
     Ok(())
 }
 
-/// Offers what the steady arcs of a settled node lead to, in each of some states after their letter.
+/// Offers what legs of a settled node lead to within the bound, in each of some states.
 #[inline(always)]
-fn offer_to_states<G: Graph, L: Labels>(
+fn offer_to_states(
     frontier: &mut Frontier,
-    product: Product<'_, G, L>,
+    bound: Option<Time>,
     from: Settled,
     states: &[u32],
-    steady: Steady,
+    legs: &[Leg],
 ) -> Result<(), AllocError>
-    requires node { from.node < (G.meaning product.graph.now).nodes }
     requires time { from.at < 2 ^ 127 }
-    requires steady { steady ≡ G.steady_of product.graph.now from.node }
-    requires within { steady.count ≤ (G.meaning product.graph.now).arcs from.node }
-    requires follow { All (λ next. (i : ℕ) → i < steady.count → Follows
-        (L.automaton product.machine.now.labels) from.state ((G.meaning product.graph.now).arc_at from.node
-        i).letter next) states.now }
     requires right { IsQueueRight frontier.old }
     requires settled { IsSettledBy frontier.old from.at }
     ensures right { OnOk result (IsQueueRight frontier.new) }
-    ensures offers { OnOk result (Offers frontier.old frontier.new (IsSuccessor
-        (G.meaning product.entry.graph.now) (L.automaton product.entry.machine.now.labels) product.entry.bound
-        from)) }
-    ensures reached { OnOk result (All (λ next. (i : ℕ) → i < steady.count → LegIsReached
-        (G.meaning product.entry.graph.now) product.entry.bound frontier.new from next i) states.now) }
+    ensures offers { OnOk result (Offers frontier.old frontier.new
+        (IsByLegsIn bound from states.now legs.now)) }
+    ensures reached { OnOk result (All (λ next. All (LegIsReached bound frontier.new next from.at) legs.now)
+        states.now) }
 {
     for next in states {
-        offer_legs(frontier, product, from, *next, steady)?;
+        offer_legs(frontier, bound, from, *next, legs)?;
     }
     Ok(())
 }
 
-/// Offers what the steady arcs of a settled node lead to, in a state after their letter.
+/// Offers what legs of a settled node lead to within the bound, in a state.
+///
+/// Over a hierarchy most lead to what is reached by then already. A loop of its own, over which the frontier stays as it is,
+/// passes over these.
 #[inline(always)]
-fn offer_legs<G: Graph, L: Labels>(
+fn offer_legs(
     frontier: &mut Frontier,
-    product: Product<'_, G, L>,
+    bound: Option<Time>,
     from: Settled,
     next: u32,
-    steady: Steady,
+    legs: &[Leg],
 ) -> Result<(), AllocError>
-    requires node { from.node < (G.meaning product.graph.now).nodes }
     requires time { from.at < 2 ^ 127 }
-    requires steady { steady ≡ G.steady_of product.graph.now from.node }
-    requires within { steady.count ≤ (G.meaning product.graph.now).arcs from.node }
-    requires follows { (i : ℕ) → i < steady.count → Follows (L.automaton product.machine.now.labels)
-        from.state ((G.meaning product.graph.now).arc_at from.node i).letter next }
     requires right { IsQueueRight frontier.old }
     requires settled { IsSettledBy frontier.old from.at }
     ensures right { OnOk result (IsQueueRight frontier.new) }
-    ensures offers { OnOk result (Offers frontier.old frontier.new (IsSuccessor
-        (G.meaning product.entry.graph.now) (L.automaton product.entry.machine.now.labels) product.entry.bound
-        from)) }
-    ensures reached { OnOk result ((i : ℕ) → i < steady.count
-        → LegIsReached (G.meaning product.entry.graph.now) product.entry.bound frontier.new from next i) }
+    ensures offers { OnOk result (Offers frontier.old frontier.new (IsByLegs bound from next legs.now)) }
+    ensures reached { OnOk result (All (LegIsReached bound frontier.new next from.at) legs.now) }
 {
-    for i in 0..steady.count {
-        offer_leg(frontier, product, from, next, steady, i)?;
-    }
-    Ok(())
-}
-
-/// Offers what one steady arc of a settled node leads to, in a state after its letter, if it arrives within the bound.
-#[inline(always)]
-fn offer_leg<G: Graph, L: Labels>(
-    frontier: &mut Frontier,
-    product: Product<'_, G, L>,
-    from: Settled,
-    next: u32,
-    steady: Steady,
-    i: u64,
-) -> Result<(), AllocError>
-    requires node { from.node < (G.meaning product.graph.now).nodes }
-    requires time { from.at < 2 ^ 127 }
-    requires steady { steady ≡ G.steady_of product.graph.now from.node }
-    requires place { i < steady.count }
-    requires arc { i < (G.meaning product.graph.now).arcs from.node }
-    requires follows { Follows (L.automaton product.machine.now.labels) from.state
-        ((G.meaning product.graph.now).arc_at from.node i).letter next }
-    requires right { IsQueueRight frontier.old }
-    requires settled { IsSettledBy frontier.old from.at }
-    ensures right { OnOk result (IsQueueRight frontier.new) }
-    ensures offers { OnOk result (Offers frontier.old frontier.new (IsSuccessor
-        (G.meaning product.entry.graph.now) (L.automaton product.entry.machine.now.labels) product.entry.bound
-        from)) }
-    ensures reached { OnOk result (LegIsReached (G.meaning product.entry.graph.now) product.entry.bound
-        frontier.new from next i) }
-{
-    if let Some(leg) = product.graph.leg(from.node, steady, i) {
-        let at = from.at + Time::from(leg.ms);
-        if is_within(product.bound, at) {
-            offer_next(frontier, leg.to, next, way_by(from, i, at))?;
+    let mut i = 0;
+    'turns: while i < legs.len() {
+        i = past_useless(frontier, legs, next, from.at, i);
+        if i < legs.len() {
+            offer_leg(frontier, bound, from, next, legs[i], i as u64)?;
+            i += 1;
         }
+    }
+    Ok(())
+}
+
+/// The first place from `i` on of a leg that may be of use in a state if it is taken at `at`: what those before it lead to is
+/// reached by then. For times past 63 bits, of which few searches have any, it is `i` itself.
+#[inline(always)]
+fn past_useless(frontier: &Frontier, legs: &[Leg], state: u32, at: Time, i: usize) -> usize
+    requires right { IsQueueRight frontier.now }
+    requires settled { IsSettledBy frontier.now at }
+    requires within { i ≤ length legs.now }
+    ensures later { i ≤ result }
+    ensures within { result ≤ length legs.now }
+    ensures reached { AllWithin (IsReachedAfter frontier.now state at) legs.now i result }
+{
+    if at >= 1 << 63 {
+        return i;
+    }
+    let start = at as u64;
+    let mut place = i;
+    'useless: while place < legs.len() {
+        if !is_useless(frontier, legs[place], state, start) {
+            return place;
+        }
+        place += 1;
+    }
+    place
+}
+
+/// Whether what a leg leads to in a state, if it is taken at `start`, is reached by then already.
+#[inline(always)]
+fn is_useless(frontier: &Frontier, leg: Leg, state: u32, start: u64) -> bool
+    requires right { IsQueueRight frontier.now }
+    requires settled { IsSettledBy frontier.now start }
+    requires early { start < 2 ^ 63 }
+    ensures { IsTrue result ↔ IsReachedAfter frontier.now state start leg }
+{
+    frontier.is_reached_by(leg.to, state, start + u64::from(leg.ms))
+}
+
+/// Offers what a leg of a settled node leads to, in a state, if it arrives within the bound.
+#[inline(always)]
+fn offer_leg(
+    frontier: &mut Frontier,
+    bound: Option<Time>,
+    from: Settled,
+    next: u32,
+    leg: Leg,
+    place: u64,
+) -> Result<(), AllocError>
+    requires time { from.at < 2 ^ 127 }
+    requires right { IsQueueRight frontier.old }
+    requires settled { IsSettledBy frontier.old from.at }
+    ensures right { OnOk result (IsQueueRight frontier.new) }
+    ensures offers { OnOk result (Offers frontier.old frontier.new (IsByLeg bound from next place leg)) }
+    ensures reached { OnOk result (LegIsReached bound frontier.new next from.at leg) }
+{
+    let at = from.at + Time::from(leg.ms);
+    if is_within(bound, at) {
+        offer_next(frontier, leg.to, next, way_by(from, place, at))?;
     }
     Ok(())
 }

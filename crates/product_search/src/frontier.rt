@@ -1,6 +1,7 @@
 //! What a search has reached, and the queue of those product states that it has not settled.
 
-ghost use Rattle.std.specs.Prelude.{◌≡◌, ◌≢◌, ℕ, ◌<◌, ◌^◌, ◌++◌, false, true, None, Some, IfSome, IfNone, IfOk, OnOk, IsTrue, IsFalse, MatchOption, ◌∷◌, [], slice_get, slice_index, slice_set, ◌+◌, length};
+ghost use Rattle.std.specs.Prelude.{◌≡◌, ◌≢◌, ℕ, ◌<◌, ◌^◌, ◌++◌, false, true, None, Some, IfSome, IfNone, IfOk, OnOk, IsTrue, IsFalse, MatchOption, ◌∷◌, [], slice_get, slice_index, slice_set, ◌+◌, ◌-◌, ◌↔◌, length};
+ghost use Rattle.product_search.specs.Exploring.{IsReachedBy, IsSettledBy};
 ghost use Rattle.product_search.specs.Waiting.{IsQueueRight, IsOffered, SettlesLeast, NobodyWaits, SameReached, KeepsNumbers, rows, rows_of, reached_at, offered, IsAt, IsNowhere, IsClear, HasChainsFrom, settled_now, Waits, HaveKeys, is_waiting};
 
 use crate::chains::Chains;
@@ -201,6 +202,20 @@ impl Frontier {
             way.at < self.entries[number as usize].at
         } else {
             way.at < Time::from(bar.saturating_sub(1))
+        }
+    }
+
+    /// Whether a product state is reached by then. Its key tells, as no settled one is later.
+    #[inline(always)]
+    pub fn is_reached_by(&self, node: u32, state: u32, at: u64) -> bool
+        requires right { IsQueueRight self.now }
+        requires settled { IsSettledBy self.now at }
+        requires early { at < 2 ^ 64 - 2 }
+        ensures { IsTrue result ↔ IsReachedBy self.now node state at }
+    {
+        match self.find(node, state) {
+            None => false,
+            Some(number) => self.keys[number as usize].bar <= at + 1,
         }
     }
 

@@ -1,12 +1,17 @@
-use Rattle.std.proofs.Common.{ℕ, ◌<◌}
+use Rattle.std.proofs.Common.{◌-◌, ◌≤◌, length}
+use Rattle.std.specs.List.{AllWithin}
 use Rattle.product_search.specs.Waiting.{IsQueueRight}
-use Rattle.product_search.specs.Exploring.{IsSettledBy, Offers, IsSuccessor, LegIsReached}
+use Rattle.product_search.specs.Exploring.{IsSettledBy, Offers, IsByLegs, LegIsReached}
 use Rattle.product_search.proofs.explore.offer_legs.Given as goal
 
-abbrev pub invariant-loop-i : goal.invariant-loop-i
-invariant-loop-i g l = record {
+abbrev pub invariant-turns : goal.invariant-turns
+invariant-turns l = record {
+  within : l.i ≤ length l.legs;
   right : IsQueueRight l.frontier;
   settled : IsSettledBy l.frontier l.from.at;
-  offers : Offers l.initial.frontier l.frontier (IsSuccessor (g.G.Graph.meaning l.product.graph.now) (g.L.Labels.automaton l.product.machine.now.labels) l.product.bound l.from);
-  reached : (j : ℕ) → j < l.i → LegIsReached (g.G.Graph.meaning l.product.graph.now) l.product.bound l.frontier l.from l.next j;
+  offers : Offers l.initial.frontier l.frontier (IsByLegs l.bound l.from l.next l.legs);
+  reached : AllWithin (LegIsReached l.bound l.frontier l.next l.from.at) l.legs 0 l.i;
 }
+
+abbrev pub decreases-turns : goal.decreases-turns
+decreases-turns l = length l.legs - l.i

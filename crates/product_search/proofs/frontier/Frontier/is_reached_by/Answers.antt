@@ -1,0 +1,19 @@
+use Rattle.std.proofs.Common.{◌≡◌, ◌+◌, Some, None, sym, ◌∙◌}
+use Rattle.std.proofs.lemmas.Bool.{false≢true, leb-true, le-leb}
+use Rattle.product_search.specs.Waiting.{rows}
+use Rattle.product_search.proofs.QueueLemmas.{none_known, reached_here, here_reached}
+use Rattle.product_search.proofs.frontier.Frontier.is_reached_by.Goals as goal
+
+pub returns-in-None : goal.returns-in-None
+returns-in-None c =
+    let f = c.args.self.now in
+    (λ no. absurd (false≢true no), λ reached. let h : None ≡ Some reached.0 = sym (none_known (rows f) c.args.node c.args.state c.in-None.ensures) ∙ reached.1 in absurd cc)
+
+pub returns-in-Some : goal.returns-in-Some
+returns-in-Some c =
+    let f = c.args.self.now in (
+      λ low. reached_here f c.requires.right c.args.node c.args.state c.in-Some.number c.in-Some.ensures c.index.result.now c.index.ensures c.args.at c.requires.early
+          c.requires.settled (leb-true c.index.result.now.bar (c.args.at + 1) low),
+      λ reached. le-leb c.index.result.now.bar (c.args.at + 1)
+          (here_reached f c.requires.right c.args.node c.args.state c.in-Some.number c.in-Some.ensures c.index.result.now c.index.ensures c.args.at c.requires.early reached),
+    )
