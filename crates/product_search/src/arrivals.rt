@@ -74,7 +74,7 @@ fn settle_targets<G: Graph, L: Labels>(
     };
     let mut given = GivenRuns::new(alloc);
     let mut ways = Vec::new(alloc);
-    while let Some(settled) = frontier.settle_least() {
+    'search: while let Some(settled) = frontier.settle_least()? {
         if noted.note_end(&machine.labels, targets, settled) {
             return Ok(Arrived { frontier, noted });
         }

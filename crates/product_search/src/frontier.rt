@@ -220,25 +220,25 @@ impl Frontier {
     }
 
     /// Takes one with the least time from the queue, and settles it.
-    pub fn settle_least(&mut self) -> Option<Settled>
+    pub fn settle_least(&mut self) -> Result<Option<Settled>, AllocError>
         requires { IsQueueRight self.old }
-        ensures right { IsQueueRight self.new }
-        ensures least { IfSome result (λ s. SettlesLeast self.old self.new s) }
-        ensures none { IfNone result (NobodyWaits self.old) }
-        ensures same { IfNone result (SameReached self.old self.new) }
-        ensures numbers { IfNone result (KeepsNumbers self.old self.new) }
+        ensures right { OnOk result (IsQueueRight self.new) }
+        ensures least { IfOk result (λ r. IfSome r (λ s. SettlesLeast self.old self.new s)) }
+        ensures none { IfOk result (λ r. IfNone r (NobodyWaits self.old)) }
+        ensures same { IfOk result (λ r. IfNone r (SameReached self.old self.new)) }
+        ensures numbers { IfOk result (λ r. IfNone r (KeepsNumbers self.old self.new)) }
     {
-        while let Some((at, number)) = self.queue.pop() {
+        while let Some((at, number)) = self.queue.pop()? {
             if let Some(row) = settle(&self.entries, &mut self.keys, number, at) {
-                return Some(Settled {
+                return Ok(Some(Settled {
                     node: row.node,
                     state: row.state,
                     at,
                     link: number + 1,
-                });
+                }));
             }
         }
-        None
+        Ok(None)
     }
 }
 

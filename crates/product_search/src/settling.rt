@@ -46,7 +46,7 @@ pub(crate) fn settle_all<G: Graph, L: Labels>(
     let mut given = GivenRuns::new(alloc);
     let mut ways = Vec::new(alloc);
     let mut pace = Pace::new(question.dep);
-    while let Some(settled) = frontier.settle_least() {
+    'search: while let Some(settled) = frontier.settle_least()? {
         if is_end(labels, &ends, settled) {
             return Ok(Explored {
                 frontier,

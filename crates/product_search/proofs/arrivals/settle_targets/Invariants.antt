@@ -4,8 +4,8 @@ use Rattle.product_search.specs.Searching.{unsettled, IsSearching}
 use Rattle.product_search.specs.Noting.{AreNoted, AreReached}
 use Rattle.product_search.proofs.arrivals.settle_targets.Given as goal
 
-abbrev pub invariant-loop-settled : goal.invariant-loop-settled
-invariant-loop-settled g l = record {
+abbrev pub invariant-search : goal.invariant-search
+invariant-search g l = record {
   searching : IsSearching (g.G.Graph.meaning l.graph) (g.L.Labels.automaton l.machine.labels) l.starts [] l.dep None l.frontier;
   given : AreGivenReached (g.G.Graph.rides l.graph) (g.L.Labels.automaton l.machine.labels) None l.frontier l.given;
   one_each : length l.noted.times.items ≡ length l.targets.nodes.items;
@@ -13,5 +13,5 @@ invariant-loop-settled g l = record {
   noted : AreNoted (g.G.Graph.meaning l.graph) (g.L.Labels.automaton l.machine.labels) l.starts l.dep l.targets.places.items l.frontier l.noted.times.items;
 }
 
-abbrev pub decreases-loop-settled : goal.decreases-loop-settled
-decreases-loop-settled g l = unsettled (g.G.Graph.meaning l.graph) (g.L.Labels.automaton l.machine.labels) l.frontier
+abbrev pub decreases-search : goal.decreases-search
+decreases-search g l = unsettled (g.G.Graph.meaning l.graph) (g.L.Labels.automaton l.machine.labels) l.frontier

@@ -5,8 +5,8 @@ use Rattle.product_search.proofs.EndLemmas.{searching_begins, searched_to, ended
 use Rattle.product_search.proofs.LimitLemmas.{more_settled}
 use Rattle.product_search.proofs.settling.settle_all.Goals as goal
 
-pub loop-settled-init : goal.loop-settled-init
-loop-settled-init g c =
+pub search-init : goal.search-init
+search-init g c =
     let labels = g.L.Labels.automaton c.args.question.now.machine.now.labels in
     record {
       searching = searching_begins (g.G.Graph.meaning c.args.question.now.graph.now) labels c.args.question.now.starts.now c.args.question.now.targets.now c.args.question.now.dep c.args.question.now.bound
@@ -20,12 +20,12 @@ returns-then-is_end g c =
     let graph = g.G.Graph.meaning c.args.question.now.graph.now in
     let labels = g.L.Labels.automaton c.args.question.now.machine.now.labels in
     let s = c.in-Some.settled in
-    let least = c.in-Some.ensures.least in
+    let least = (rw c.in-Some.is at c.in_ok-settled.ensures.least) in
     let end = end_parts c.args.question.now.targets.now c.in_ok-ends.ends s.node (labels.accepts s.state) c.in_ok-ends.ensures c.if-is_end.ensures in (
       searched_to graph (g.met.G.Graph.lawful c.args.question.now.graph.now) labels (g.met.L.Labels.lawful c.args.question.now.machine.now.labels) c.args.question.now.starts.now c.args.question.now.targets.now c.args.question.now.dep c.args.question.now.bound
-          c.loop-settled.frontier c.settle_least.new.self s c.loop-settled.invariant.searching c.in-Some.ensures.right least,
+          c.search.frontier c.settle_least.new.self s c.search.invariant.searching c.in_ok-settled.ensures.right least,
       ended graph (g.met.G.Graph.lawful c.args.question.now.graph.now) labels (g.met.L.Labels.lawful c.args.question.now.machine.now.labels) c.args.question.now.starts.now c.args.question.now.targets.now c.args.question.now.dep c.args.question.now.bound
-          c.loop-settled.frontier c.settle_least.new.self s c.loop-settled.invariant.searching c.in-Some.ensures.right least end.0 end.1,
+          c.search.frontier c.settle_least.new.self s c.search.invariant.searching c.in_ok-settled.ensures.right least end.0 end.1,
     )
 
 pub returns-in-Some-passed_before : goal.returns-in-Some-passed_before
@@ -34,10 +34,10 @@ returns-in-Some-passed_before g c =
     let labels = g.L.Labels.automaton c.args.question.now.machine.now.labels in
     let s = c.in-Some.settled in
     let searched = searched_to graph (g.met.G.Graph.lawful c.args.question.now.graph.now) labels (g.met.L.Labels.lawful c.args.question.now.machine.now.labels) c.args.question.now.starts.now c.args.question.now.targets.now c.args.question.now.dep c.args.question.now.bound
-    c.loop-settled.frontier c.settle_least.new.self s c.loop-settled.invariant.searching c.in-Some.ensures.right c.in-Some.ensures.least in
+    c.search.frontier c.settle_least.new.self s c.search.invariant.searching c.in_ok-settled.ensures.right (rw c.in-Some.is at c.in_ok-settled.ensures.least) in
     let passed = c.in-Some-passed_before.ensures in
     record {
-      right = c.in-Some.ensures.right;
+      right = c.in_ok-settled.ensures.right;
       limit_is = passed.0;
       more = more_settled graph labels c.args.question.now.starts.now c.args.question.now.targets.now c.args.question.now.dep c.args.question.now.bound s.at c.settle_least.new.self searched c.in-Some-passed_before.most passed.1;
     }
@@ -45,36 +45,36 @@ returns-in-Some-passed_before g c =
 pub explore-requires-clause-settled : goal.explore-requires-clause-settled
 explore-requires-clause-settled g c =
     settled_by (g.G.Graph.meaning c.args.question.now.graph.now) (g.L.Labels.automaton c.args.question.now.machine.now.labels) c.args.question.now.starts.now c.args.question.now.targets.now c.args.question.now.dep c.args.question.now.bound
-    c.loop-settled.frontier c.settle_least.new.self c.in-Some.settled c.loop-settled.invariant.searching c.in-Some.ensures.least
+    c.search.frontier c.settle_least.new.self c.in-Some.settled c.search.invariant.searching (rw c.in-Some.is at c.in_ok-settled.ensures.least)
 
 pub explore-requires-clause-here : goal.explore-requires-clause-here
 explore-requires-clause-here g c =
     let s = c.in-Some.settled in
-    let least = c.in-Some.ensures.least in
-    reached_stays c.loop-settled.frontier c.settle_least.new.self s least s.node s.state s.at (least.entry, least.waited, omega (arith, least.at))
+    let least = (rw c.in-Some.is at c.in_ok-settled.ensures.least) in
+    reached_stays c.search.frontier c.settle_least.new.self s least s.node s.state s.at (least.entry, least.waited, omega (arith, least.at))
 
 pub explore-requires-clause-given : goal.explore-requires-clause-given
 explore-requires-clause-given g c =
-    given_stays (g.L.Labels.automaton c.args.question.now.machine.now.labels) c.args.question.now.bound (g.G.Graph.rides c.args.question.now.graph.now) c.loop-settled.frontier c.settle_least.new.self c.loop-settled.given
-    (reached_stays c.loop-settled.frontier c.settle_least.new.self c.in-Some.settled c.in-Some.ensures.least) c.loop-settled.invariant.given
+    given_stays (g.L.Labels.automaton c.args.question.now.machine.now.labels) c.args.question.now.bound (g.G.Graph.rides c.args.question.now.graph.now) c.search.frontier c.settle_least.new.self c.search.given
+    (reached_stays c.search.frontier c.settle_least.new.self c.in-Some.settled (rw c.in-Some.is at c.in_ok-settled.ensures.least)) c.search.invariant.given
 
-pub loop-settled-smaller : goal.loop-settled-smaller
-loop-settled-smaller g c =
+pub search-smaller : goal.search-smaller
+search-smaller g c =
     omega (
       arith,
       one_less (g.G.Graph.meaning c.args.question.now.graph.now) (g.met.G.Graph.lawful c.args.question.now.graph.now) (g.L.Labels.automaton c.args.question.now.machine.now.labels) (g.met.L.Labels.lawful c.args.question.now.machine.now.labels)
-          c.args.question.now.starts.now c.args.question.now.targets.now c.args.question.now.dep c.args.question.now.bound c.loop-settled.frontier c.settle_least.new.self c.explore.new.frontier c.in-Some.settled
-          c.loop-settled.invariant.searching c.in-Some.ensures.least c.in_ok-explore.ensures.offers,
+          c.args.question.now.starts.now c.args.question.now.targets.now c.args.question.now.dep c.args.question.now.bound c.search.frontier c.settle_least.new.self c.explore.new.frontier c.in-Some.settled
+          c.search.invariant.searching (rw c.in-Some.is at c.in_ok-settled.ensures.least) c.in_ok-explore.ensures.offers,
     )
 
-pub loop-settled-preserved : goal.loop-settled-preserved
-loop-settled-preserved g c =
+pub search-preserved : goal.search-preserved
+search-preserved g c =
     let labels = g.L.Labels.automaton c.args.question.now.machine.now.labels in
     let s = c.in-Some.settled in
     record {
       searching = searching_on (g.G.Graph.meaning c.args.question.now.graph.now) (g.met.G.Graph.lawful c.args.question.now.graph.now) labels (g.met.L.Labels.lawful c.args.question.now.machine.now.labels)
-          c.args.question.now.starts.now c.args.question.now.targets.now c.args.question.now.dep c.args.question.now.bound c.loop-settled.frontier c.settle_least.new.self c.explore.new.frontier s
-          c.loop-settled.invariant.searching c.in-Some.ensures.least c.in_ok-explore.ensures.offers c.in_ok-explore.ensures.right c.in_ok-explore.ensures.reached
+          c.args.question.now.starts.now c.args.question.now.targets.now c.args.question.now.dep c.args.question.now.bound c.search.frontier c.settle_least.new.self c.explore.new.frontier s
+          c.search.invariant.searching (rw c.in-Some.is at c.in_ok-settled.ensures.least) c.in_ok-explore.ensures.offers c.in_ok-explore.ensures.right c.in_ok-explore.ensures.reached
           (no_end c.args.question.now.targets.now c.in_ok-ends.ends s.node (labels.accepts s.state) c.in_ok-ends.ensures c.if-is_end.ensures);
       given = c.in_ok-explore.ensures.given;
     }
@@ -82,5 +82,5 @@ loop-settled-preserved g c =
 pub returns : goal.returns
 returns g c =
     searched_all (g.G.Graph.meaning c.args.question.now.graph.now) (g.met.G.Graph.lawful c.args.question.now.graph.now) (g.L.Labels.automaton c.args.question.now.machine.now.labels) (g.met.L.Labels.lawful c.args.question.now.machine.now.labels)
-    c.args.question.now.starts.now c.args.question.now.targets.now c.args.question.now.dep c.args.question.now.bound c.loop-settled.frontier c.settle_least.new.self
-    c.loop-settled.invariant.searching c.in_default.ensures.right c.in_default.ensures.none c.in_default.ensures.same c.in_default.ensures.numbers
+    c.args.question.now.starts.now c.args.question.now.targets.now c.args.question.now.dep c.args.question.now.bound c.search.frontier c.settle_least.new.self
+    c.search.invariant.searching c.in_ok-settled.ensures.right (rw c.in_default.is at c.in_ok-settled.ensures.none) (rw c.in_default.is at c.in_ok-settled.ensures.same) (rw c.in_default.is at c.in_ok-settled.ensures.numbers)

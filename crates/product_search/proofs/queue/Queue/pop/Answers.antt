@@ -1,20 +1,15 @@
-use Rattle.std.proofs.Common.{◌<◌, ◌^◌, ◌∙◌, refl, subst}
-use Rattle.product_search.proofs.HeapLemmas.{gives_near, gives_far}
+use Rattle.std.specs.Prelude.{Option, None, Some, IfNone}
+use Rattle.std.proofs.lemmas.Option.{IfSome_then}
+use Rattle.product_search.proofs.HeapLemmas.{least_of_same, none_of_same}
 use Rattle.product_search.proofs.queue.Queue.pop.Goals as goal
-
-pub returns-in-Some-clause-some : goal.returns-in-Some-clause-some
-returns-in-Some-clause-some c =
-    let x = c.in-Some.top.0 in
-    let old = c.args.self.now in
-    let new = record old { near = c.pop.new.self } in
-    rw c.widened.ensures.same
-    (gives_near old new x.0 x.1 c.requires (subst (λ s. s < 2 ^ 64) c.widened.ensures.same c.widened.ensures.small) refl
-    c.in-Some.ensures.len c.in-Some.ensures.permutation c.in-Some.ensures.heap_order)
 
 pub returns-clause-some : goal.returns-clause-some
 returns-clause-some c =
-    let x = c.in_ok-top.top.0 in
-    let old = c.args.self.now in
-    let new = record old { near = c.pop.new.self; far = c.pop-2.new.self } in
-    gives_far old new x.0 x.1 c.requires c.in_default.ensures.none (c.in_default.ensures.unchanged.1 ∙ c.in_default.ensures.none) c.in_default.ensures.unchanged.0
-    c.in_ok-top.ensures.len c.in_ok-top.ensures.permutation c.in_ok-top.ensures.heap_order
+    IfSome_then c.pop_first.result c.pop_first.ensures.some (λ x. least_of_same c.args.self.now c.fill.new.self c.pop_first.new.self c.in_ok-fill.ensures.same x.0 x.1)
+
+IfNone_then : {X : Type 0} (r : Option X) {P Q : Type 0} → IfNone r P → (P → Q) → IfNone r Q
+IfNone_then None holds then' = then' holds
+IfNone_then (Some x) holds then' = tt
+
+pub returns-clause-none : goal.returns-clause-none
+returns-clause-none c = IfNone_then c.pop_first.result c.pop_first.ensures.none (none_of_same c.args.self.now c.fill.new.self c.pop_first.new.self c.in_ok-fill.ensures.same)
