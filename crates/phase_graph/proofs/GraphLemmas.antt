@@ -1,7 +1,9 @@
 -- The arcs of the phase graph are its moves, and keep the laws of graphs.
-use Rattle.std.proofs.Common.{◌≡◌, ℕ, ◌+◌, ◌-◌, ◌*◌, ◌/◌, ◌%◌, ◌^◌, ◌<◌, ◌≤◌, ◌∙◌, cond, nat_lt, nat_eq, Bool, true, false, List, length, get_or, Option, Some, None, refl, ap, arith}
+use Rattle.std.proofs.Common.{◌≡◌, ℕ, ◌+◌, ◌-◌, ◌*◌, ◌/◌, ◌%◌, ◌^◌, ◌<◌, ◌≤◌, cond, nat_lt, nat_eq, Bool, true, false, List, length, get_or, Option, Some, None, refl, ap, arith, sym}
 use Rattle.std.specs.Prelude.{IfSome}
 use Rattle.std.proofs.lemmas.Bool.{eqb-true, eqb-false, ltb-true, ltb-false}
+use Rattle.std.proofs.lemmas.List.{get_or_default}
+use Rattle.std.proofs.lemmas.Option.{slice_get-get_or}
 use Rattle.search_laws.specs.Letters.{IsLetter}
 use Rattle.search_laws.specs.GraphLaws.{GraphMeaning, HasArc, IsLawfulGraph}
 use Rattle.timetable_arcs.specs.Patterns.{TableLists}
@@ -18,7 +20,7 @@ use Rattle.hierarchy.specs.Rises.{is_rise}
 use Rattle.hierarchy.specs.Soundness.{IsSound, FitsLayer}
 use Rattle.hierarchy.specs.Lookups.{from_of}
 use Rattle.hierarchy.proofs.LookupLemmas.{from_rises}
-use Rattle.hierarchy.proofs.RiseLists.{are_rises_from}
+use Rattle.hierarchy.proofs.RiseLemmas.{are_rise_places}
 use Rattle.hierarchy.proofs.OffsetLemmas.{count_most, key_in_range}
 use Rattle.plain_graph.specs.PlainArcs.{plain_meaning, arcs_at}
 use Rattle.plain_graph.specs.Lawful.{plain_lawful}
@@ -26,7 +28,7 @@ use Rattle.phase_graph.specs.declared.phases.PhaseArc.{PhaseArc}
 use Rattle.phase_graph.specs.declared.phases.PhaseArc.TheVariants.{Up, Down, Other}
 use Rattle.phase_graph.specs.Arcs.{phase_node}
 use Rattle.phase_graph.specs.Marks.{is_fall}
-use Rattle.phase_graph.specs.PhaseArcs.{phase_meaning, phase_arc, phase_arcs_at, arc_of, phase_arrival, entry_at, rises_at, first_entry, entries_at, others_at, first_other, no_rise, no_entry, node_of, is_down}
+use Rattle.phase_graph.specs.PhaseArcs.{phase_meaning, phase_arc, phase_arcs_at, arc_of, phase_arrival, entry_at, rises_at, first_entry, entries_at, others_at, first_other, no_entry, node_of, is_down}
 
 -- ---- the numbers of nodes
 
@@ -96,18 +98,20 @@ module _ (n : NetworkLists) (h : HierarchyLists) (network : IsNetwork n) (rules 
   abbrev IsKnown : ℕ → Bool → PhaseArc → Type 0
   IsKnown v down a = IsArcAt n h t v down a
 
-  up_at : (v i : ℕ) (down : Bool) → i < length (rises_at h v down) → IsKnown v down (Up (get_or (rises_at h v down) i no_rise).place)
+  up_at : (v i : ℕ) (down : Bool) → i < length (rises_at h v down) → IsKnown v down (Up (get_or (rises_at h v down) i 0))
   up_at v i true lt = absurd (omega arith)
   up_at v i false lt =
-      let r = are_rises_from h rules v in
-      let x = r.each i no_rise lt in
-      (refl, x.within, x.begins no_entry ∙ r.from_u i no_rise lt, x.leads no_entry)
+      let are = are_rise_places h rules v in
+      let place = get_or (rises_at h v false) i 0 in
+      let within = are.within i 0 lt in
+      let rises = are.each place (entry_at h place) (i, lt, sym (get_or_default (rises_at h v false) i 0 place lt)) (slice_get-get_or h.entries place no_entry within) in
+      (refl, within, rises.begins, rises.leads)
 
   pub arc_is : (v i : ℕ) (down : Bool) → i < phase_arcs_at n t h v down → IsKnown v down (phase_arc n h v down i)
   arc_is v i down lt = by_kind (nat_lt i (length (rises_at h v down))) refl (nat_lt (i - length (rises_at h v down)) (entries_at h v)) refl
     where
       by_kind : (b : Bool) → nat_lt i (length (rises_at h v down)) ≡ b → (c : Bool) → nat_lt (i - length (rises_at h v down)) (entries_at h v) ≡ c
-          → IsKnown v down (cond b (Up (get_or (rises_at h v down) i no_rise).place)
+          → IsKnown v down (cond b (Up (get_or (rises_at h v down) i 0))
           (cond c (Down (first_entry h v + (i - length (rises_at h v down)))) (Other (first_other n v down + (i - length (rises_at h v down) - entries_at h v)))))
       by_kind true e c f = up_at v i down (ltb-true _ _ e)
       by_kind false e true f = let inside = ltb-true _ _ f in (entry_inside h v (i - length (rises_at h v down)) inside, entry_begins h rules v (i - length (rises_at h v down)) inside)

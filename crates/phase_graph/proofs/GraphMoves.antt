@@ -3,6 +3,7 @@ use Rattle.std.proofs.Common.{◌≡◌, ℕ, ◌+◌, ◌-◌, ◌*◌, ◌<◌
 use Rattle.std.specs.Prelude.{option_map, is_some}
 use Rattle.std.proofs.lemmas.Bool.{cases_lt, eqb-true, ltb-true, lt-ltb, le-ltb, eq-eqb}
 use Rattle.std.proofs.lemmas.List.{get_or_default}
+use Rattle.std.proofs.lemmas.Option.{slice_get-get_or}
 use Rattle.search_laws.specs.GraphLaws.{GraphMeaning, HasArc}
 use Rattle.search_laws.specs.declared.graph.GraphArc.{GraphArc}
 use Rattle.timetable_arcs.specs.declared.trips.Instance.{Instance}
@@ -20,16 +21,15 @@ use Rattle.mode_network.specs.Timetables.{IsTimetableOf}
 use Rattle.mode_network.specs.Journeys.{IsStep}
 use Rattle.mode_network.proofs.RuleLemmas.{letter_of, some_is, both}
 use Rattle.hierarchy.specs.declared.entry.Entry.{Entry}
-use Rattle.hierarchy.specs.declared.rises.Rise.{Rise}
 use Rattle.hierarchy.specs.Hops.{Hop}
 use Rattle.hierarchy.specs.Lists.{HierarchyLists, height_in, is_above, IsAbove, IsCore}
 use Rattle.hierarchy.specs.Rules.{IsHierarchy}
-use Rattle.hierarchy.specs.Rises.{is_rise, is_core, leads_up, rise_at, rises_of}
+use Rattle.hierarchy.specs.Rises.{is_core, leads_up}
 use Rattle.hierarchy.specs.Soundness.{HasEntry, IsSound}
 use Rattle.hierarchy.specs.Lookups.{from_of}
 use Rattle.hierarchy.specs.Indexes.{AreEndsBelow}
 use Rattle.hierarchy.proofs.LookupLemmas.{from_rises}
-use Rattle.hierarchy.proofs.RiseLists.{are_rises_from}
+use Rattle.hierarchy.proofs.RiseLemmas.{are_rise_places}
 use Rattle.hierarchy.proofs.SoundLemmas.{fits}
 use Rattle.hierarchy.proofs.OffsetLemmas.{in_range_of_key}
 use Rattle.plain_graph.specs.declared.plain.PlainArc.{PlainArc}
@@ -44,7 +44,7 @@ use Rattle.phase_graph.specs.declared.phases.PhaseArc.TheVariants.{Up, Down, Oth
 use Rattle.phase_graph.specs.Moves.{PhaseMove, rest, rise, fall, cross, stand, IsPhaseMove, IsRise, IsCrossing, IsMarked}
 use Rattle.phase_graph.specs.Arcs.{phase_node, IsResting, IsArcBy, IsArcOfMove, IsPhaseGraph}
 use Rattle.phase_graph.specs.Marks.{AreMarksFor, has_mark, is_fall}
-use Rattle.phase_graph.specs.PhaseArcs.{phase_meaning, phase_arc, phase_arcs_at, arc_of, phase_arrival, entry_at, rises_at, first_entry, entries_at, others_at, first_other, no_rise, no_entry}
+use Rattle.phase_graph.specs.PhaseArcs.{phase_meaning, phase_arc, phase_arcs_at, arc_of, phase_arrival, entry_at, rises_at, first_entry, entries_at, others_at, first_other, no_entry}
 use Rattle.phase_graph.proofs.GraphLemmas.{half, phase_of, in_nodes, road_inside, IsArcAt, arc_is, taken, place_fits}
 use Rattle.phase_graph.proofs.MarkLemmas.{marked_by_fall}
 use Rattle.phase_graph.proofs.PlaceLemmas.{up_is, down_is, other_is}
@@ -248,10 +248,9 @@ module _ (n : NetworkLists) (h : HierarchyLists) (targets : List ℕ) (network :
       → (i : ℕ) × (a : ℕ) × IsArcBy g (phase_node v false) time (phase_node hop.to false) (time + hop.weight) (letter_at n.roads v) i a
   up_there v time hop (via, (k, lt, is)) up =
       let e : Entry = record { from = v; to = hop.to; weight = hop.weight; via = via } in
-      let found = (are_rises_from h rules v).all k e lt (ap (λ (x : Entry). x.from) is) (ap (is_rise h.order) is ∙ up_of v hop.to up) in
+      let found = (are_rise_places h rules v).all k e (slice_get-get_or h.entries k e lt ∙ ap Some is) (record { begins = refl; leads = up_of v hop.to up }) in
       let i = found.0 in
-      let row : Rise = rise_at k (get_or h.entries k e) in
-      let place : (get_or (rises_of h v) i no_rise).place ≡ k = ap (λ (r : Rise). r.place) (get_or_default (rises_of h v) i no_rise row found.1 ∙ found.2) in
+      let place : get_or (rises_at h v false) i 0 ≡ k = get_or_default (rises_at h v false) i 0 k found.1 ∙ found.2 in
       let entry : entry_at h k ≡ e = get_or_default h.entries k no_entry e lt ∙ is in
       arc_there v false time i (phase_node hop.to false) (time + hop.weight) (time + hop.weight) (letter_at n.roads v) (Up k) (entry_node v hop.to hop.weight (via, (k, lt, is)))
       (let within = found.1 in omega (arith, within)) (up_is n h v false i k found.1 place)

@@ -6,6 +6,7 @@ pub mod ArcLemmas
 pub mod MarkLemmas
 pub mod GraphLemmas
 pub mod PlaceLemmas
+pub mod LegLemmas
 pub mod GraphMoves
 mod WayTies
 pub mod WalkedLemmas

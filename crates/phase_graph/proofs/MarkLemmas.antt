@@ -1,20 +1,19 @@
 -- How marks are set, and that the marked nodes are all from which a chain of entries leads down to a target.
 use Rattle.std.proofs.Common.{◌≡◌, ℕ, ◌+◌, ◌<◌, ◌≤◌, ◌⊎◌, inl, inr, ◌∙◌, nat_eq, cond, Some, Bool, true, false, not, List, [], ◌∷◌, ◌++◌, length, set, get_or, refl, ap, arith, sym, subst}
 use Rattle.std.specs.Prelude.{All, Contains}
-use Rattle.std.proofs.lemmas.Bool.{eqb-true, eqb-false, ltb-false}
+use Rattle.std.proofs.lemmas.Bool.{eqb-true, eqb-false}
 use Rattle.std.proofs.lemmas.List.{length_push, get_or_default, get_or-set_same, get_or-set_other, length-set}
 use Rattle.std.proofs.lemmas.List.Elements.{Contains-append_left, Contains-append_right, Contains-append_cases, All-contains}
 use Rattle.std.proofs.lemmas.List.Sums.{sum_by-set}
 use Rattle.hierarchy.specs.declared.entry.Entry.{Entry}
 use Rattle.hierarchy.specs.Hops.{Hop, AreHops, IsDescent}
-use Rattle.hierarchy.specs.Lists.{HierarchyLists, height_in, is_contracted, IsAbove}
+use Rattle.hierarchy.specs.Lists.{HierarchyLists, height_in, IsAbove}
 use Rattle.hierarchy.specs.Soundness.{HasEntry}
 use Rattle.std.proofs.lemmas.Option.{slice_get-get_or}
 use Rattle.hierarchy.specs.Indexes.{AreBelow, AreEndsBelow}
-use Rattle.hierarchy.specs.Lookups.{AreInto}
-use Rattle.hierarchy.proofs.HeightLemmas.{height_most}
+use Rattle.hierarchy.specs.Lookups.{ArePlaces, FallsTo}
 use Rattle.phase_graph.specs.Moves.{IsMarked}
-use Rattle.phase_graph.specs.Marks.{AreMarksFor, has_mark}
+use Rattle.phase_graph.specs.Marks.{AreMarksFor}
 use Rattle.phase_graph.specs.Marking.{AreMarks, IsMarking, Extends, AreOldOr, IsFollowedAt, IsFollowed}
 
 -- ---- one mark
@@ -98,10 +97,6 @@ module _ (h : HierarchyLists) (targets queue : List ℕ) (nodes : ℕ) (below : 
     all = λ v low marked. far.are.set v (by_chain marked.hops v marked.end marked.ends_there marked.chain marked.falls (omega (arith, low, far.are.one_each)));
   }
 
--- to a core node nothing leads down
-pub core_followed : (h : HierarchyLists) (queue : List ℕ) (x : ℕ) → is_contracted h.order x ≡ false → IsFollowed h queue x
-core_followed h queue x core k e lt is to above = let high = ltb-false _ _ core in let most = height_most h.order e.from in absurd (omega (arith, above, high, most))
-
 -- ---- one entry more is followed
 
 -- what is followed stays so
@@ -122,20 +117,6 @@ module _ (h : HierarchyLists) (targets : List ℕ) (nodes x : ℕ) (places : Lis
       let at : get_or places j d ≡ k = ap (λ i. get_or places i d) (eqb-true j n same) ∙ k_is d in
       sym (e_is e2) ∙ ap (λ i. get_or h.entries i e2) (sym at) ∙ is
 
-  -- an entry from a node that is not above
-  pub following_pass : (IsAbove h.order e.from x → ⊥) → IsFollowing h targets nodes x places marks queue queue0 (n + 1)
-  following_pass level = record { marking = far.marking; kept = far.kept; followed = λ j d lt. by_place j d lt (nat_eq j n) refl } where
-    by_place : (j d : ℕ) → j < n + 1 → (b : Bool) → nat_eq j n ≡ b → IsFollowedAt h queue x (get_or places j d)
-    by_place j d lt false apart = far.followed j d (omega (arith, eqb-false j n apart))
-    by_place j d lt true same = λ e2 lt2 is to above. absurd (level (subst (λ (y : Entry). IsAbove h.order y.from x) (sym (one_is j d same e2 is)) above))
-
-  -- an entry from a node that has its mark
-  pub following_known : has_mark marks e.from ≡ true → IsFollowing h targets nodes x places marks queue queue0 (n + 1)
-  following_known set = record { marking = far.marking; kept = far.kept; followed = λ j d lt. by_place j d lt (nat_eq j n) refl } where
-    by_place : (j d : ℕ) → j < n + 1 → (b : Bool) → nat_eq j n ≡ b → IsFollowedAt h queue x (get_or places j d)
-    by_place j d lt false apart = far.followed j d (omega (arith, eqb-false j n apart))
-    by_place j d lt true same = λ e2 lt2 is to above. subst (λ (y : Entry). Contains queue y.from) (one_is j d same e2 is) (far.marking.are.listed e.from set)
-
   -- an entry from a node above, which gets a mark
   pub following_more : IsAbove h.order e.from x → IsMarked h targets x → (marks2 : List Bool) (queue2 : List ℕ) → AreMarks nodes marks2 queue2 → Contains queue2 e.from
       → Extends queue queue2 → AreOldOr e.from queue queue2 → IsFollowing h targets nodes x places marks2 queue2 queue0 (n + 1)
@@ -149,8 +130,8 @@ module _ (h : HierarchyLists) (targets : List ℕ) (nodes x : ℕ) (places : Lis
     by_place j d lt true same = λ e2 lt2 is to above2. subst (λ (y : Entry). Contains queue2 y.from) (one_is j d same e2 is) here
 
 -- where all places into x are followed x is
-pub followed_all : (h : HierarchyLists) (queue : List ℕ) (x : ℕ) (places : List ℕ) → AreInto h.entries x places → (n : ℕ) → length places ≤ n → ((j d : ℕ) → j < n → IsFollowedAt h queue x (get_or places j d))
+pub followed_all : (h : HierarchyLists) (queue : List ℕ) (x : ℕ) (places : List ℕ) → ArePlaces (FallsTo h.order x) h.entries places → (n : ℕ) → length places ≤ n → ((j d : ℕ) → j < n → IsFollowedAt h queue x (get_or places j d))
     → IsFollowed h queue x
 followed_all h queue x places into n past far k e lt is to above =
-    let there = into.all k e (slice_get-get_or h.entries k e lt ∙ ap Some is) to in
+    let there = into.all k e (slice_get-get_or h.entries k e lt ∙ ap Some is) (record { ends = to; above = above }) in
     far there.0 k (omega (arith, there.1)) e (subst (λ i. i < length h.entries) (sym there.2) lt) (ap (λ i. get_or h.entries i e) there.2 ∙ is) to above

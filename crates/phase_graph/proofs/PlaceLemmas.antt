@@ -6,7 +6,7 @@ use Rattle.mode_network.specs.NetworkLists.{NetworkLists}
 use Rattle.hierarchy.specs.Lists.{HierarchyLists}
 use Rattle.plain_graph.specs.PlainArcs.{arcs_at}
 use Rattle.phase_graph.specs.declared.phases.PhaseArc.TheVariants.{Up, Down, Other}
-use Rattle.phase_graph.specs.PhaseArcs.{phase_arc, rises_at, first_entry, entries_at, first_other, others_at, no_rise}
+use Rattle.phase_graph.specs.PhaseArcs.{phase_arc, rises_at, first_entry, entries_at, first_other, others_at}
 
 module _ (n : NetworkLists) (h : HierarchyLists) (v : ℕ) (down : Bool) where
   abbrev ups : ℕ
@@ -15,7 +15,7 @@ module _ (n : NetworkLists) (h : HierarchyLists) (v : ℕ) (down : Bool) where
   abbrev downs : ℕ
   downs = entries_at h v
 
-  pub up_known : (i : ℕ) → i < ups → phase_arc n h v down i ≡ Up (get_or (rises_at h v down) i no_rise).place
+  pub up_known : (i : ℕ) → i < ups → phase_arc n h v down i ≡ Up (get_or (rises_at h v down) i 0)
   up_known i lt = rw (lt-ltb i ups lt) refl
 
   pub down_known : (i : ℕ) → ups ≤ i → i - ups < downs → phase_arc n h v down i ≡ Down (first_entry h v + (i - ups))
@@ -24,7 +24,7 @@ module _ (n : NetworkLists) (h : HierarchyLists) (v : ℕ) (down : Bool) where
   pub other_known : (i : ℕ) → ups ≤ i → downs ≤ i - ups → phase_arc n h v down i ≡ Other (first_other n v down + (i - ups - downs))
   other_known i past behind = rw (le-ltb i ups past, le-ltb (i - ups) downs behind) refl
 
-  pub up_is : (i place : ℕ) → i < ups → (get_or (rises_at h v down) i no_rise).place ≡ place → phase_arc n h v down i ≡ Up place
+  pub up_is : (i place : ℕ) → i < ups → (get_or (rises_at h v down) i 0) ≡ place → phase_arc n h v down i ≡ Up place
   up_is i place lt e = up_known i lt ∙ ap Up e
 
   pub down_is : (i place : ℕ) → i < downs → first_entry h v + i ≡ place → phase_arc n h v down (ups + i) ≡ Down place

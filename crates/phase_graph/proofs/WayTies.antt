@@ -231,20 +231,29 @@ module _ (n : NetworkLists) (h : HierarchyLists) (t : TableLists) (marks : List 
         stays = stand.stays;
       }
 
-  -- those that fall, and what is fresh of the others, of which those that stand still are not asked for
-  pub moving_joined : (asked leaving state : ℕ) (old new : GivenRuns) (before first second : List Way) → asked ≡ moving_letters letters leaving letter → first ≡ before ++ from ups downs
-      → AddsFresh (phase_rides n t) state old new (ways_from g p time asked (ups + downs) (others_at n t (node_of p) (is_down p))) first second
-      → AddsMoving (phase_rides n t) state p time leaving old new (ways_past g p time letters ups) before second
-  moving_joined asked leaving state old new before first second is falls adds =
+  -- those that lead up, and then those that fall
+  pub all_along : (before first second : List Way) → first ≡ before ++ from 0 ups → second ≡ first ++ from ups downs → second ≡ before ++ from 0 (ups + downs)
+  all_along before first second rises falls =
+      let here : 0 + ups ≡ ups = omega arith in
+      falls ∙ ap (λ (ws : List Way). ws ++ from ups downs) rises ∙ append_assoc before (from 0 ups) (from ups downs)
+      ∙ ap (λ (ws : List Way). before ++ ws) (sym (ways_split g p time letters 0 ups downs ∙ ap (λ k. from 0 ups ++ from k downs) here))
+
+  -- those along entries from one place on, and what is fresh of the others, of which those that stand still are not asked for
+  pub moving_joined : (asked leaving state start count : ℕ) (old new : GivenRuns) (before first second : List Way) → asked ≡ moving_letters letters leaving letter → start + count ≡ ups + downs
+      → first ≡ before ++ from start count → AddsFresh (phase_rides n t) state old new (ways_from g p time asked (ups + downs) (others_at n t (node_of p) (is_down p))) first second
+      → AddsMoving (phase_rides n t) (record { node = p; at = time; state = state; letters = letters; leaving = leaving }) old new (ways_past g p time letters start) before second
+  moving_joined asked leaving state start count old new before first second is whole along adds =
       let others = others_at n t (node_of p) (is_down p) in
-      let rest : ups + downs + others - ups ≡ downs + others = omega arith in
-      let moving : List Way = ways_from g p time asked (ups + downs) others in (
-        from ups downs ++ moving,
-        subst (λ (ws : List Way). AreMoving p time leaving ws (from ups downs ++ moving)) (sym (ap (from ups) rest ∙ ways_split g p time letters ups downs others))
-            (moving_append p time leaving (from ups downs) (from (ups + downs) others) (from ups downs) moving (moving_all p time leaving (from ups downs))
+      let rest : ups + downs + others - start ≡ count + others = omega (arith, whole) in
+      let moving : List Way = ways_from g p time asked (ups + downs) others in
+      let split : ways_past g p time letters start ≡ from start count ++ from (ups + downs) others =
+      ap (from start) rest ∙ ways_split g p time letters start count others ∙ ap (λ k. from start count ++ from k others) whole in (
+        from start count ++ moving,
+        subst (λ (ws : List Way). AreMoving p time leaving ws (from start count ++ moving)) (sym split)
+            (moving_append p time leaving (from start count) (from (ups + downs) others) (from start count) moving (moving_all p time leaving (from start count))
             (subst (λ x. AreMoving p time leaving (from (ups + downs) others) (ways_from g p time x (ups + downs) others)) (sym is)
             (moving_asked g p time letters leaving (ups + downs) letter (others_stand leaving) (ups + downs) others (omega arith)))),
-        adds_more (phase_rides n t) state old old new (from ups downs) moving before first second (adds_all (phase_rides n t) state old (from ups downs) before first falls) adds,
+        adds_more (phase_rides n t) state old old new (from start count) moving before first second (adds_all (phase_rides n t) state old (from start count) before first along) adds,
       )
 
   -- in the descent: the one that stands

@@ -1,15 +1,16 @@
 -- The phase graph as a graph of numbered nodes and arcs.
-use Rattle.std.specs.Prelude.{◌≡◌, ℕ, ◌+◌, ◌*◌, ◌≤◌, Bool, true, false, List, Option, Some}
+use Rattle.std.specs.Prelude.{◌≡◌, ℕ, ◌+◌, ◌≤◌, Bool, true, false, List, Option, Some}
 use Rattle.search_laws.specs.GraphLaws.{GraphMeaning, HasArc}
 use Rattle.search_laws.specs.Walks.{WalkStep, IsWalk, word_from}
 use Rattle.mode_network.specs.NetworkLists.{NetworkLists}
 use Rattle.hierarchy.specs.Lists.{HierarchyLists}
+use Rattle.hierarchy.specs.Rises.{number_before}
 use Rattle.phase_graph.specs.Moves.{PhaseMove, rest, rise, fall, cross, stand, IsPhaseMove, AreMoves}
 
 -- each node has two numbers: before the descent, and in it
 abbrev pub phase_node : ℕ → Bool → ℕ
-phase_node v false = 2 * v
-phase_node v true = 2 * v + 1
+phase_node v false = number_before v
+phase_node v true = number_before v + 1
 
 abbrev pub IsResting : PhaseMove → Type 0
 IsResting (rest until) = Unit {0}

@@ -1,24 +1,23 @@
 -- What the graph in use answers, and what it is made of.
-use Rattle.std.specs.Prelude.{ℕ, Option, Some, None}
+use Rattle.std.specs.Prelude.{ℕ, length, Option, Some, None}
 use Rattle.search_laws.specs.Fresh.{RunRides}
 use Rattle.search_laws.specs.GraphLaws.{GraphMeaning, IsLawfulGraph}
-use Rattle.search_laws.specs.declared.graph.Steady.{Steady}
 use Rattle.mode_network.specs.NetworkLists.{NetworkLists}
 use Rattle.hierarchy.specs.Lists.{HierarchyLists}
 use Rattle.plain_graph.specs.BoardWays.{plain_rides}
-use Rattle.plain_graph.specs.PlainArcs.{plain_meaning, roads_at}
+use Rattle.plain_graph.specs.PlainArcs.{plain_meaning, count_from}
 use Rattle.phase_graph.specs.declared.in_use.GraphInUse.{GraphInUse}
 use Rattle.phase_graph.specs.declared.in_use.GraphInUse.TheVariants.{Plain, Phases}
-use Rattle.phase_graph.specs.PhaseArcs.{phase_meaning, phase_rides, steady_rises, node_of, is_down}
+use Rattle.phase_graph.specs.PhaseArcs.{phase_meaning, phase_rides, legs_at, node_of, is_down}
 
 abbrev pub meaning_in_use : GraphInUse → GraphMeaning
 meaning_in_use (Plain p) = plain_meaning p.network.now p.timetable.now
 meaning_in_use (Phases p) = phase_meaning p.plain.network.now p.plain.timetable.now p.hierarchy.now p.marks.items
 
--- the steady arcs of a node: its road arcs, or the entries that lead up from it or along the core
-abbrev pub steady_in_use : GraphInUse → ℕ → Steady
-steady_in_use (Plain p) v = roads_at p.network.now v
-steady_in_use (Phases p) v = steady_rises p.plain.network.now p.hierarchy.now (node_of v) (is_down v)
+-- how many steady arcs a node has: its road arcs, or the entries that lead up from it or along the core
+abbrev pub steady_in_use : GraphInUse → ℕ → ℕ
+steady_in_use (Plain p) v = count_from p.network.now.arcs v
+steady_in_use (Phases p) v = length (legs_at p.hierarchy.now (node_of v) (is_down v))
 
 abbrev pub rides_in_use : GraphInUse → RunRides
 rides_in_use (Plain p) = plain_rides p.network.now p.timetable.now

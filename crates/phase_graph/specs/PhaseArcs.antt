@@ -5,16 +5,14 @@ use Rattle.std.specs.Prelude.{◌≡◌, ℕ, ◌+◌, ◌-◌, ◌*◌, ◌/◌
 use Rattle.search_laws.specs.Fresh.{RunRides}
 use Rattle.search_laws.specs.GraphLaws.{GraphMeaning}
 use Rattle.search_laws.specs.declared.graph.GraphArc.{GraphArc}
-use Rattle.search_laws.specs.declared.graph.Steady.{Steady}
+use Rattle.search_laws.specs.declared.graph.Leg.{Leg}
 use Rattle.search_laws.specs.declared.graph.Way.{Way}
 use Rattle.timetable_arcs.specs.Patterns.{TableLists}
 use Rattle.mode_network.specs.NetworkLists.{NetworkLists, nodes_of, letter_at}
 use Rattle.hierarchy.specs.declared.entry.Entry.{Entry}
-use Rattle.hierarchy.specs.declared.rises.Rise.{Rise}
 use Rattle.hierarchy.specs.Lists.{HierarchyLists}
 use Rattle.hierarchy.specs.Lookups.{range_of, from_of}
-use Rattle.hierarchy.specs.Rises.{all_rises, rise_from, rises_of}
-use Rattle.hierarchy.specs.Rules.{IsNode}
+use Rattle.hierarchy.specs.Rises.{legs_from, rise_places_from}
 use Rattle.plain_graph.specs.BoardWays.{plain_rides}
 use Rattle.plain_graph.specs.PlainArcs.{plain_meaning, count_from, stands_at, inner_arcs_at, arcs_at, plain_arc}
 use Rattle.plain_graph.specs.declared.plain.PlainArc.{PlainArc}
@@ -26,26 +24,19 @@ use Rattle.phase_graph.specs.declared.phases.PhaseStep.TheVariants as step
 use Rattle.phase_graph.specs.Arcs.{phase_node}
 use Rattle.phase_graph.specs.Marks.{is_fall}
 
-abbrev pub no_rise : Rise
-no_rise = record { from = 0; to = 0; place = 0; weight = 0 }
-
 abbrev pub no_entry : Entry
 no_entry = record { from = 0; to = 0; weight = 0; via = None }
 
 abbrev pub entry_at : HierarchyLists → ℕ → Entry
 entry_at h place = slice_index_or h.entries place no_entry
 
--- in the descent nothing leads up
-abbrev pub rises_at : HierarchyLists → ℕ → Bool → List Rise
-rises_at h v down = if down then [] else rises_of h v
+-- the places of the entries that lead up or along the core; in the descent nothing leads up
+abbrev pub rises_at : HierarchyLists → ℕ → Bool → List ℕ
+rises_at h v down = if down then [] else rise_places_from h v
 
--- where these begin among all that lead up or along the core
-abbrev pub first_rise : HierarchyLists → ℕ → Bool → ℕ
-first_rise h v down = if down then 0 else (range_of rise_from (all_rises h) v).0
-
--- they are steady
-abbrev pub steady_rises : NetworkLists → HierarchyLists → ℕ → Bool → Steady
-steady_rises n h v down = record { first = first_rise h v down; count = length (rises_at h v down); letter = letter_at n.roads v }
+-- they are steady, if the hierarchy has legs
+abbrev pub legs_at : HierarchyLists → ℕ → Bool → List Leg
+legs_at h v down = if down then [] else legs_from h v
 
 -- the entries out of a node stand side by side: where they begin, and how many they are
 abbrev pub first_entry : HierarchyLists → ℕ → ℕ
@@ -63,7 +54,7 @@ others_at n t v down = if down then stands_at n v else count_from n.links v + in
 
 abbrev pub phase_arc : NetworkLists → HierarchyLists → ℕ → Bool → ℕ → PhaseArc
 phase_arc n h v down i =
-    if nat_lt i (length (rises_at h v down)) then Up (slice_index_or (rises_at h v down) i no_rise).place
+    if nat_lt i (length (rises_at h v down)) then Up (slice_index_or (rises_at h v down) i 0)
     else (if nat_lt (i - length (rises_at h v down)) (entries_at h v)
     then Down (first_entry h v + (i - length (rises_at h v down)))
     else Other (first_other n v down + (i - length (rises_at h v down) - entries_at h v)))
@@ -74,12 +65,6 @@ phase_arcs_at n t h v down = length (rises_at h v down) + entries_at h v + other
 -- the entry at this place leaves v
 abbrev pub BeginsAt : HierarchyLists → ℕ → ℕ → Type 0
 BeginsAt h v place = (place < length h.entries) × ((entry_at h place).from ≡ v)
-
--- a rise has the end, which is a node's number, and the weight of the entry at its place
-pub record TellsEntry (h : HierarchyLists) (rise : Rise) : Type 0 where
-  pub ends : (entry_at h rise.place).to ≡ rise.to
-  pub weighs : (entry_at h rise.place).weight ≡ rise.weight
-  pub node : IsNode rise.to
 
 -- an arc out of v whose place is one
 abbrev pub IsArcOutOf : NetworkLists → TableLists → HierarchyLists → ℕ → PhaseArc → Type 0

@@ -10,7 +10,7 @@ use crate::phases::{Phases, number_of};
 use hierarchy::Hierarchy;
 use mode_network::Network;
 use plain_graph::Plain;
-use search_laws::{GivenRuns, Graph, GraphArc, Leg, Steady, Time, Way};
+use search_laws::{GivenRuns, Graph, GraphArc, Steady, Time, Visit, Way};
 use std::alloc::{AllocError, Global};
 
 /// The graph of a network, or the phase graph of a hierarchy for some targets.
@@ -90,21 +90,13 @@ impl Graph for GraphInUse<'_> {
         }
     }
 
-    ghost steady_of = { steady_in_use };
+    ghost steady_count = { steady_in_use };
 
     #[inline(always)]
-    fn steady(&self, v: u32) -> Steady {
+    fn steady(&self, v: u32) -> Steady<'_> {
         match self {
             GraphInUse::Plain(plain) => plain.steady(v),
             GraphInUse::Phases(phases) => phases.steady(v),
-        }
-    }
-
-    #[inline(always)]
-    fn leg(&self, v: u32, steady: Steady, i: u64) -> Option<Leg> {
-        match self {
-            GraphInUse::Plain(plain) => plain.leg(v, steady, i),
-            GraphInUse::Phases(phases) => phases.leg(v, steady, i),
         }
     }
 
@@ -112,21 +104,13 @@ impl Graph for GraphInUse<'_> {
 
     fn fresh_ways(
         &self,
-        v: u32,
-        t: Time,
-        letters: u32,
-        leaving: u32,
-        state: u32,
+        visit: Visit,
         given: &mut GivenRuns,
         ways: &mut Vec<Way>,
     ) -> Result<(), AllocError> {
         match self {
-            GraphInUse::Plain(plain) => {
-                plain.fresh_ways(v, t, letters, leaving, state, given, ways)
-            }
-            GraphInUse::Phases(phases) => {
-                phases.fresh_ways(v, t, letters, leaving, state, given, ways)
-            }
+            GraphInUse::Plain(plain) => plain.fresh_ways(visit, given, ways),
+            GraphInUse::Phases(phases) => phases.fresh_ways(visit, given, ways),
         }
     }
 

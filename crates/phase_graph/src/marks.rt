@@ -66,7 +66,7 @@ fn mark(nodes: u32, v: u32, marks: &mut Vec<bool>, queue: &mut Vec<u32>) -> Resu
     Ok(())
 }
 
-/// Marks the nodes from which entries lead down to a marked node. To a core node none does.
+/// Marks the nodes from which entries lead down to a marked node.
 fn follow(
     h: &Hierarchy,
     nodes: u32,
@@ -82,34 +82,8 @@ fn follow(
     ensures followed { OnOk result (IsFollowed h.now queue.new.items x) }
     ensures kept { OnOk result (Extends queue.old.items queue.new.items) }
 {
-    if h.contracted(x) {
-        mark_above(h, nodes, targets, x, marks, queue)
-    } else {
-        Ok(())
-    }
-}
-
-/// Marks the nodes from which entries lead down to a marked node.
-fn mark_above(
-    h: &Hierarchy,
-    nodes: u32,
-    targets: &[u32],
-    x: u32,
-    marks: &mut Vec<bool>,
-    queue: &mut Vec<u32>,
-) -> Result<(), AllocError>
-    requires below { AreBelow h.now nodes }
-    requires marked { IsMarked h.now targets.now x }
-    requires marking { IsMarking h.now targets.now nodes marks.old.items queue.old.items }
-    ensures marking { OnOk result (IsMarking h.now targets.now nodes marks.new.items queue.new.items) }
-    ensures followed { OnOk result (IsFollowed h.now queue.new.items x) }
-    ensures kept { OnOk result (Extends queue.old.items queue.new.items) }
-{
-    for place in h.entries_into(x) {
-        let from = h.entries()[*place as usize].from;
-        if !marks[from as usize] && h.above(from, x) {
-            mark(nodes, from, marks, queue)?;
-        }
+    for place in h.falls_into(x) {
+        mark(nodes, h.entries()[*place as usize].from, marks, queue)?;
     }
     Ok(())
 }

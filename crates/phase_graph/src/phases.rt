@@ -10,10 +10,12 @@ ghost use Rattle.phase_graph.specs.Arcs.{phase_node};
 ghost use Rattle.phase_graph.specs.PhaseArcs.{phase_meaning, node_of, is_down, renumbered, FitsAnew};
 
 use crate::marks::marks;
-use hierarchy::{Entry, Hierarchy, Rise};
+use hierarchy::{Entry, Hierarchy};
 use mode_network::Network;
 use plain_graph::{Plain, PlainArc};
-use search_laws::{GivenRuns, Graph, GraphArc, Leg, Steady, Time, Way, is_open, moving_letters};
+use search_laws::{
+    GivenRuns, Graph, GraphArc, Leg, Steady, Time, Visit, Way, is_open, moving_letters, push_way,
+};
 use std::alloc::{AllocError, Global};
 
 /// An arc out of a node of the phase graph.
@@ -54,8 +56,6 @@ pub struct Phases<'a> {
 
 impl<'a> Phases<'a> {
     ghost use Rattle.std.specs.Prelude.{◌≡◌, ◌<◌, ◌+◌, ◌*◌, ◌^◌, ◌++◌, Bool, true, false, All, IfOk, OnOk, length, slice_index_or};
-    ghost use Rattle.hierarchy.specs.Rises.{all_rises};
-    ghost use Rattle.hierarchy.specs.declared.rises.Rise.{Rise};
     ghost use Rattle.search_laws.specs.Fresh.{AddsFresh};
     ghost use Rattle.search_laws.specs.Ways.{ways_from, is_open};
     ghost use Rattle.mode_network.specs.NetworkLists.{nodes_of, letter_at};
@@ -64,7 +64,7 @@ impl<'a> Phases<'a> {
     ghost use Rattle.hierarchy.specs.Lookups.{AreFrom};
     ghost use Rattle.timetable_arcs.specs.Table.{IsTable};
     ghost use Rattle.phase_graph.specs.Walked.{JourneysHaveWalks, WalksHaveJourneys};
-    ghost use Rattle.phase_graph.specs.PhaseArcs.{phase_meaning, rises_at, first_rise, no_rise, first_entry, entries_at, others_at, first_other, phase_arc, phase_arcs_at, IsArcOutOf, BeginsAt, TellsEntry, entry_at, fall_arrival, fall_ways, phase_step, phase_rides, node_of, is_down};
+    ghost use Rattle.phase_graph.specs.PhaseArcs.{phase_meaning, rises_at, legs_at, first_entry, entries_at, others_at, first_other, phase_arc, phase_arcs_at, IsArcOutOf, BeginsAt, entry_at, fall_arrival, fall_ways, phase_step, phase_rides, node_of, is_down};
     ghost use Rattle.plain_graph.specs.PlainArcs.{plain_meaning, arcs_at};
 
     /// The phase graph of a sound hierarchy for these targets, which are nodes of the network. For each journey to a
@@ -120,43 +120,29 @@ impl<'a> Phases<'a> {
         self.hierarchy
     }
 
-    /// The entries that lead up from a node of the network, or along the core; in the descent there are none.
+    /// The places of the entries that lead up from a node of the network, or along the core; in the descent there are none.
     #[inline(always)]
-    fn rises_at(&self, v: u32, down: bool) -> &'a [Rise]
+    fn rises_at(&self, v: u32, down: bool) -> &'a [u64]
         ensures list { result.now ≡ rises_at self.now.hierarchy.now v down }
-        ensures each { All (λ rise. BeginsAt self.now.hierarchy.now v rise.place) result.now }
-        ensures tell { All (TellsEntry self.now.hierarchy.now) result.now }
+        ensures each { All (BeginsAt self.now.hierarchy.now v) result.now }
     {
-        self.hierarchy.known();
         if down {
             &[]
         } else {
-            self.hierarchy.rises_from(v)
+            self.hierarchy.rise_places_from(v)
         }
     }
 
-    /// Where these begin among all entries that lead up or along the core, and one past their last place.
+    /// Where these lead, and how long that takes; nothing, if the hierarchy has no legs.
     #[inline(always)]
-    fn rise_places(&self, v: u32, down: bool) -> (u64, u64)
-        ensures first { result.0 ≡ first_rise self.now.hierarchy.now v down }
-        ensures past { result.1 ≡ result.0 + length (rises_at self.now.hierarchy.now v down) }
+    fn legs_at(&self, v: u32, down: bool) -> &'a [Leg]
+        ensures { result.now ≡ legs_at self.now.hierarchy.now v down }
     {
         if down {
-            (0, 0)
+            &[]
         } else {
-            self.hierarchy.rise_places(v)
+            self.hierarchy.legs_from(v)
         }
-    }
-
-    /// Among all entries that lead up or along the core, the one that stands so many places behind a first one.
-    #[inline(always)]
-    fn rise(&self, first: u64, i: u64) -> Rise
-        requires { first + i < length (all_rises self.now.hierarchy.now) }
-        ensures is { result ≡ slice_index_or (all_rises self.now.hierarchy.now) (first + i) no_rise }
-        ensures tells { TellsEntry self.now.hierarchy.now result }
-    {
-        self.hierarchy.known();
-        self.hierarchy.rises()[first as usize + i as usize]
     }
 
     /// The place of the first entry that leaves a node of the network, and how many there are, side by side.
@@ -238,7 +224,7 @@ impl<'a> Phases<'a> {
         let ups = rises.len() as u64;
         let (first, entries) = self.entries_at(v);
         if i < ups {
-            PhaseArc::Up(rises[i as usize].place)
+            PhaseArc::Up(rises[i as usize])
         } else if i - ups < entries {
             PhaseArc::Down(first + (i - ups))
         } else {
@@ -330,30 +316,45 @@ impl<'a> Phases<'a> {
         }
     }
 
-    /// Appends those of the entries that leave the node `p` that lead down from a node with a mark to another, whose letter is
-    /// in the set. The places of all entries stand behind those of the entries up and along the core.
-    fn push_open_falls(
-        &self,
-        p: u32,
-        t: Time,
-        letters: u32,
-        ways: &mut Vec<Way>,
-    ) -> Result<(), AllocError>
-        requires time { t < 2 ^ 127 }
-        requires opens { is_open letters (letter_at self.now.plain.network.now.roads (node_of p)) ≡ true }
+    /// Appends the entries that lead up from the node of a visit, or along the core.
+    fn push_rises(&self, visit: Visit, ways: &mut Vec<Way>) -> Result<(), AllocError>
+        requires node { node_of visit.node < length (nodes_of self.now.plain.network.now) }
+        requires time { visit.at < 2 ^ 127 }
         ensures { OnOk result (ways.new.items ≡ ways.old.items ++ ways_from
             (phase_meaning self.now.plain.network.now self.now.plain.timetable.now self.now.hierarchy.now
-            self.now.marks.items) p t letters (length (rises_at self.now.hierarchy.now (node_of p)
-            (is_down p))) (entries_at self.now.hierarchy.now (node_of p))) }
+            self.now.marks.items) visit.node visit.at visit.letters 0
+            (length (rises_at self.now.hierarchy.now (node_of visit.node) (is_down visit.node)))) }
+    {
+        let p = visit.node;
+        let (v, down) = split(p);
+        let ups = self.rises_at(v, down).len() as u64;
+        for i in 0..ups {
+            let (arc, at) = (self.arc_at(p, i), self.arrive(p, i, visit.at));
+            push_way(ways, visit.letters, i, arc, at)?;
+        }
+        Ok(())
+    }
+
+    /// Appends those of the entries that leave the node of a visit that lead down from a node with a mark to another, whose letter
+    /// is in the set. The places of all entries stand behind those of the entries up and along the core.
+    fn push_open_falls(&self, visit: Visit, ways: &mut Vec<Way>) -> Result<(), AllocError>
+        requires time { visit.at < 2 ^ 127 }
+        requires opens { is_open visit.letters (letter_at self.now.plain.network.now.roads
+            (node_of visit.node)) ≡ true }
+        ensures { OnOk result (ways.new.items ≡ ways.old.items ++ ways_from
+            (phase_meaning self.now.plain.network.now self.now.plain.timetable.now self.now.hierarchy.now
+            self.now.marks.items) visit.node visit.at visit.letters (length (rises_at self.now.hierarchy.now
+            (node_of visit.node) (is_down visit.node))) (entries_at self.now.hierarchy.now
+            (node_of visit.node))) }
     {
         self.hierarchy.known();
-        let (v, down) = split(p);
+        let (v, down) = split(visit.node);
         let letter = self.network().letter(v);
         let ups = self.rises_at(v, down).len() as u64;
         let (first, count) = self.entries_at(v);
         if self.has_mark(v) {
             for i in 0..count {
-                self.push_fall(letter, first + i, ups + i, t, ways)?;
+                self.push_fall(letter, first + i, ups + i, visit.at, ways)?;
             }
         }
         Ok(())
@@ -389,117 +390,101 @@ impl<'a> Phases<'a> {
         Ok(())
     }
 
-    /// Appends those of the entries that leave the node `p` that lead down from a node with a mark to another, if their letter
-    /// is in the set.
-    fn push_falls(
-        &self,
-        p: u32,
-        t: Time,
-        letters: u32,
-        ways: &mut Vec<Way>,
-    ) -> Result<(), AllocError>
-        requires time { t < 2 ^ 127 }
+    /// Appends those of the entries that leave the node of a visit that lead down from a node with a mark to another, if their
+    /// letter is in the set.
+    fn push_falls(&self, visit: Visit, ways: &mut Vec<Way>) -> Result<(), AllocError>
+        requires time { visit.at < 2 ^ 127 }
         ensures { OnOk result (ways.new.items ≡ ways.old.items ++ ways_from
             (phase_meaning self.now.plain.network.now self.now.plain.timetable.now self.now.hierarchy.now
-            self.now.marks.items) p t letters (length (rises_at self.now.hierarchy.now (node_of p)
-            (is_down p))) (entries_at self.now.hierarchy.now (node_of p))) }
+            self.now.marks.items) visit.node visit.at visit.letters (length (rises_at self.now.hierarchy.now
+            (node_of visit.node) (is_down visit.node))) (entries_at self.now.hierarchy.now
+            (node_of visit.node))) }
     {
-        if is_open(letters, self.network().letter(p / 2)) {
-            self.push_open_falls(p, t, letters, ways)
+        if is_open(visit.letters, self.network().letter(visit.node / 2)) {
+            self.push_open_falls(visit, ways)
         } else {
             Ok(())
         }
     }
 
-    /// Appends what leaves the node `p` along no entry, which stands behind the entries; but it may leave out rides where the
-    /// state was given rides as good, and it notes the runs whose rides it appends.
+    /// Appends what leaves the node of a visit along no entry, which stands behind the entries; but it may leave out rides where
+    /// the state was given rides as good, and it notes the runs whose rides it appends.
     fn push_fresh_others(
         &self,
-        p: u32,
-        t: Time,
-        letters: u32,
-        state: u32,
+        visit: Visit,
         given: &mut GivenRuns,
         ways: &mut Vec<Way>,
     ) -> Result<(), AllocError>
-        requires node { node_of p < length (nodes_of self.now.plain.network.now) }
-        requires time { t < 2 ^ 127 }
+        requires node { node_of visit.node < length (nodes_of self.now.plain.network.now) }
+        requires time { visit.at < 2 ^ 127 }
         ensures { OnOk result (AddsFresh (phase_rides self.now.plain.network.now self.now.plain.timetable.now)
-            state given.old given.new (ways_from (phase_meaning self.now.plain.network.now
-            self.now.plain.timetable.now self.now.hierarchy.now self.now.marks.items) p t letters
-            (length (rises_at self.now.hierarchy.now (node_of p) (is_down p)) + entries_at
-            self.now.hierarchy.now (node_of p)) (others_at self.now.plain.network.now
-            self.now.plain.timetable.now (node_of p) (is_down p))) ways.old.items ways.new.items) }
+            visit.state given.old given.new (ways_from (phase_meaning self.now.plain.network.now
+            self.now.plain.timetable.now self.now.hierarchy.now self.now.marks.items) visit.node visit.at
+            visit.letters (length (rises_at self.now.hierarchy.now (node_of visit.node) (is_down visit.node))
+            + entries_at self.now.hierarchy.now (node_of visit.node)) (others_at self.now.plain.network.now
+            self.now.plain.timetable.now (node_of visit.node) (is_down visit.node))) ways.old.items
+            ways.new.items) }
     {
-        let (v, down) = split(p);
+        let (v, down) = split(visit.node);
         let first = self.rises_at(v, down).len() as u64 + self.entries_at(v).1;
         if down {
-            self.push_stand(p, first, t, letters, ways)
+            self.push_stand(visit, first, ways)
         } else {
-            self.push_fresh_plain(p, first, t, letters, state, given, ways)
+            self.push_fresh_plain(visit, first, given, ways)
         }
     }
 
-    /// Appends what leaves the node `p` before the descent along no entry: the plain graph's arcs but its road arcs. It may
+    /// Appends what leaves the node of a visit before the descent along no entry: the plain graph's arcs but its road arcs. It may
     /// leave out rides where the state was given rides as good, and it notes the runs whose rides it appends.
     fn push_fresh_plain(
         &self,
-        p: u32,
+        visit: Visit,
         first: u64,
-        t: Time,
-        letters: u32,
-        state: u32,
         given: &mut GivenRuns,
         ways: &mut Vec<Way>,
     ) -> Result<(), AllocError>
-        requires node { node_of p < length (nodes_of self.now.plain.network.now) }
-        requires phase { is_down p ≡ false }
-        requires first { first ≡ length (rises_at self.now.hierarchy.now (node_of p) (is_down p)) + entries_at
-            self.now.hierarchy.now (node_of p) }
+        requires node { node_of visit.node < length (nodes_of self.now.plain.network.now) }
+        requires phase { is_down visit.node ≡ false }
+        requires first { first ≡ length (rises_at self.now.hierarchy.now (node_of visit.node)
+            (is_down visit.node)) + entries_at self.now.hierarchy.now (node_of visit.node) }
         requires few { first < 2 ^ 62 }
-        requires time { t < 2 ^ 127 }
+        requires time { visit.at < 2 ^ 127 }
         ensures { OnOk result (AddsFresh (phase_rides self.now.plain.network.now self.now.plain.timetable.now)
-            state given.old given.new (ways_from (phase_meaning self.now.plain.network.now
-            self.now.plain.timetable.now self.now.hierarchy.now self.now.marks.items) p t letters first
-            (others_at self.now.plain.network.now self.now.plain.timetable.now (node_of p) (is_down p)))
-            ways.old.items ways.new.items) }
+            visit.state given.old given.new (ways_from (phase_meaning self.now.plain.network.now
+            self.now.plain.timetable.now self.now.hierarchy.now self.now.marks.items) visit.node visit.at
+            visit.letters first (others_at self.now.plain.network.now self.now.plain.timetable.now
+            (node_of visit.node) (is_down visit.node))) ways.old.items ways.new.items) }
     {
         self.plain.timetable().known();
-        let v = p / 2;
+        let node = visit.node / 2;
         let before = ways.len();
-        let (first_arc, past_arc) = self.network().arcs_from(v);
+        let (first_arc, past_arc) = self.network().arcs_from(node);
         self.plain
-            .push_fresh_past_roads(v, t, letters, state, given, ways)?;
+            .push_fresh_past_roads(Visit { node, ..visit }, given, ways)?;
         renumber(ways, before, (past_arc - first_arc) as u64, first);
         Ok(())
     }
 
-    /// Appends what leaves the node `p` in the descent along no entry: the arc that stands, if it is a road node's.
-    fn push_stand(
-        &self,
-        p: u32,
-        first: u64,
-        t: Time,
-        letters: u32,
-        ways: &mut Vec<Way>,
-    ) -> Result<(), AllocError>
-        requires phase { is_down p ≡ true }
-        requires first { first ≡ length (rises_at self.now.hierarchy.now (node_of p) (is_down p)) + entries_at
-            self.now.hierarchy.now (node_of p) }
+    /// Appends what leaves the node of a visit in the descent along no entry: the arc that stands, if it is a road node's.
+    fn push_stand(&self, visit: Visit, first: u64, ways: &mut Vec<Way>) -> Result<(), AllocError>
+        requires phase { is_down visit.node ≡ true }
+        requires first { first ≡ length (rises_at self.now.hierarchy.now (node_of visit.node)
+            (is_down visit.node)) + entries_at self.now.hierarchy.now (node_of visit.node) }
         ensures { OnOk result (ways.new.items ≡ ways.old.items ++ ways_from
             (phase_meaning self.now.plain.network.now self.now.plain.timetable.now self.now.hierarchy.now
-            self.now.marks.items) p t letters first (others_at self.now.plain.network.now
-            self.now.plain.timetable.now (node_of p) (is_down p))) }
+            self.now.marks.items) visit.node visit.at visit.letters first
+            (others_at self.now.plain.network.now self.now.plain.timetable.now (node_of visit.node)
+            (is_down visit.node))) }
     {
-        if let Some(mode) = self.network().letter(p / 2) {
-            if is_open(letters, Some(mode)) {
+        if let Some(mode) = self.network().letter(visit.node / 2) {
+            if is_open(visit.letters, Some(mode)) {
                 ways.push(Way {
                     place: first,
                     arc: GraphArc {
-                        to: p,
+                        to: visit.node,
                         letter: Some(mode),
                     },
-                    at: t,
+                    at: visit.at,
                 })?;
             }
         }
@@ -508,7 +493,7 @@ impl<'a> Phases<'a> {
 }
 
 impl Graph for Phases<'_> {
-    ghost use Rattle.phase_graph.specs.PhaseArcs.{phase_meaning, phase_rides, steady_rises, node_of, is_down};
+    ghost use Rattle.phase_graph.specs.PhaseArcs.{phase_meaning, phase_rides, legs_at, node_of, is_down};
 
     ghost meaning = { λ g. phase_meaning g.plain.network.now g.plain.timetable.now g.hierarchy.now
         g.marks.items };
@@ -541,29 +526,15 @@ impl Graph for Phases<'_> {
         }
     }
 
-    ghost steady_of = { λ g p. steady_rises g.plain.network.now g.hierarchy.now (node_of p) (is_down p) };
+    ghost steady_count = { λ g p. length (legs_at g.hierarchy.now (node_of p) (is_down p)) };
 
     #[inline(always)]
-    fn steady(&self, p: u32) -> Steady {
+    fn steady(&self, p: u32) -> Steady<'_> {
+        self.hierarchy.known();
         let (v, down) = split(p);
-        let (first, past) = self.rise_places(v, down);
         Steady {
-            first,
-            count: past - first,
+            legs: self.legs_at(v, down),
             letter: self.network().letter(v),
-        }
-    }
-
-    #[inline(always)]
-    fn leg(&self, _p: u32, steady: Steady, i: u64) -> Option<Leg> {
-        if i < steady.count {
-            let rise = self.rise(steady.first, i);
-            Some(Leg {
-                to: number_of(rise.to, false),
-                ms: rise.weight,
-            })
-        } else {
-            None
         }
     }
 
@@ -571,17 +542,17 @@ impl Graph for Phases<'_> {
 
     fn fresh_ways(
         &self,
-        p: u32,
-        t: Time,
-        letters: u32,
-        leaving: u32,
-        state: u32,
+        visit: Visit,
         given: &mut GivenRuns,
         ways: &mut Vec<Way>,
     ) -> Result<(), AllocError> {
-        let moving = moving_letters(letters, leaving, self.network().letter(p / 2));
-        self.push_falls(p, t, letters, ways)?;
-        self.push_fresh_others(p, t, moving, state, given, ways)
+        let letter = self.network().letter(visit.node / 2);
+        let letters = moving_letters(visit.letters, visit.leaving, letter);
+        if !self.hierarchy.has_legs() {
+            self.push_rises(visit, ways)?;
+        }
+        self.push_falls(visit, ways)?;
+        self.push_fresh_others(Visit { letters, ..visit }, given, ways)
     }
 
     ghost lawful = { λ g. g.lawful };

@@ -10,6 +10,6 @@ returns-else-is_open c =
     let table = self.plain.timetable.now in
     let h = self.hierarchy.now in
     let marks = self.marks.items in
-    let p = c.args.p in
+    let p = c.args.visit.node in
     let mode = rw c.network.ensures at c.letter.ensures in
-    falls_closed n h table marks p c.args.t c.args.letters c.args.ways.now.items (ap (is_open c.args.letters) (sym mode) ∙ sym c.if-is_open.ensures)
+    falls_closed n h table marks p c.args.visit.at c.args.visit.letters c.args.ways.now.items (ap (is_open c.args.visit.letters) (sym mode) ∙ sym c.if-is_open.ensures)

@@ -7,12 +7,12 @@ use Rattle.phase_graph.proofs.phases.Phases.push_fresh_others.Goals as goal
 
 pub overflow_add-first : goal.overflow_add-first
 overflow_add-first c =
-    let ups : length c.rises_at.result.now * 24 < 2 ^ 63 = c.rises_at.type_inv.1 in
+    let ups : length c.rises_at.result.now * 8 < 2 ^ 63 = c.rises_at.type_inv.1 in
     omega (arith, c.entries_at.ensures.few, ups)
 
 pub push_fresh_plain-requires-clause-few : goal.push_fresh_plain-requires-clause-few
 push_fresh_plain-requires-clause-few c =
-    let ups : length c.rises_at.result.now * 24 < 2 ^ 63 = c.rises_at.type_inv.1 in
+    let ups : length c.rises_at.result.now * 8 < 2 ^ 63 = c.rises_at.type_inv.1 in
     omega (arith, c.entries_at.ensures.few, ups)
 
 pub push_stand-requires-clause-first : goal.push_stand-requires-clause-first
@@ -33,12 +33,12 @@ returns-then-down c =
     let n = self.plain.network.now in
     let table = self.plain.timetable.now in
     let h = self.hierarchy.now in
-    let v = node_of c.args.p in
-    let down = is_down c.args.p in
+    let v = node_of c.args.visit.node in
+    let down = is_down c.args.visit.node in
     let rises = rw c.split-v.ensures at c.rises_at.ensures.list in
     let entries = rw c.split-v.ensures at c.entries_at.ensures.count in
     on_ok_weaker c.push_stand.result
-    (adds_all (phase_rides n table) c.args.state c.args.given.now (ways_from (phase_meaning n table h self.marks.items) c.args.p c.args.t c.args.letters (length (rises_at h v down) + entries_at h v) (others_at n table v down))
+    (adds_all (phase_rides n table) c.args.visit.state c.args.given.now (ways_from (phase_meaning n table h self.marks.items) c.args.visit.node c.args.visit.at c.args.visit.letters (length (rises_at h v down) + entries_at h v) (others_at n table v down))
     c.args.ways.now.items c.push_stand.new.ways.items)
     (rw (rises, entries) at c.push_stand.ensures)
 

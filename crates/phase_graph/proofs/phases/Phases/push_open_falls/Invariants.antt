@@ -5,6 +5,6 @@ use Rattle.phase_graph.proofs.phases.Phases.push_open_falls.Given as goal
 
 abbrev pub invariant-loop-i : goal.invariant-loop-i
 invariant-loop-i l = record {
-  far : l.ways.items ≡ l.initial.ways.items ++ ways_from (phase_meaning l.self.plain.network.now l.self.plain.timetable.now l.self.hierarchy.now l.self.marks.items) l.p l.t l.letters l.ups l.i;
+  far : l.ways.items ≡ l.initial.ways.items ++ ways_from (phase_meaning l.self.plain.network.now l.self.plain.timetable.now l.self.hierarchy.now l.self.marks.items) l.visit.node l.visit.at l.visit.letters l.ups l.i;
   within : l.i ≤ l.count;
 }

@@ -1,13 +1,14 @@
-use Rattle.std.proofs.Common.{subst}
-use Rattle.std.proofs.lemmas.List.Elements.{All-weaker}
-use Rattle.hierarchy.specs.Rises.{IsRiseOf}
-use Rattle.hierarchy.specs.Rules.{IsNode}
-use Rattle.phase_graph.specs.PhaseArcs.{TellsEntry, no_entry}
+use Rattle.std.proofs.Common.{get_or, sym}
+use Rattle.std.proofs.lemmas.List.{get_or_default}
+use Rattle.std.proofs.lemmas.Option.{slice_get-get_or}
+use Rattle.phase_graph.specs.PhaseArcs.{entry_at, no_entry}
 use Rattle.phase_graph.proofs.phases.Phases.rises_at.Goals as goal
 
-pub returns-else-down-clause-tell : goal.returns-else-down-clause-tell
-returns-else-down-clause-tell c =
+pub returns-else-down-clause-each : goal.returns-else-down-clause-each
+returns-else-down-clause-each c k d lt =
     let h = c.args.self.now.hierarchy.now in
-    All-weaker (IsRiseOf h.order h.entries) (TellsEntry h)
-    (λ rise of. record { ends = of.ends no_entry; weighs = of.weighs no_entry; node = subst IsNode (of.ends no_entry) (c.known.ensures.entries_fit rise.place no_entry of.within).to })
-    c.rises_from.result.now c.rises_from.ensures.are.each
+    let places = c.rise_places_from.result.now in
+    let are = c.rise_places_from.ensures.are in
+    let place = get_or places k d in
+    let within = are.within k d lt in
+    (within, (are.each place (entry_at h place) (k, lt, sym (get_or_default places k d place lt)) (slice_get-get_or h.entries place no_entry within)).begins)

@@ -1,16 +1,49 @@
-use Rattle.std.proofs.Common.{◌≡◌}
+use Rattle.std.proofs.Common.{◌≡◌, ◌+◌, ◌++◌, ◌∙◌, ℕ, List, ap, arith, length, sym, subst, true, false}
+use Rattle.std.specs.Prelude.{OnOk}
 use Rattle.std.proofs.lemmas.Result.{on_ok_weaker}
-use Rattle.search_laws.specs.Ways.{moving_letters}
+use Rattle.search_laws.specs.Fresh.{AddsMoving}
+use Rattle.search_laws.specs.Ways.{moving_letters, ways_from, ways_past}
+use Rattle.search_laws.specs.declared.graph.Way.{Way}
 use Rattle.mode_network.specs.NetworkLists.{letter_at}
-use Rattle.phase_graph.specs.PhaseArcs.{node_of}
-use Rattle.phase_graph.proofs.WayTies.{moving_joined}
+use Rattle.hierarchy.specs.Rises.{has_legs}
+use Rattle.phase_graph.specs.PhaseArcs.{entries_at, is_down, legs_at, node_of, phase_meaning, phase_rides, rises_at}
+use Rattle.phase_graph.proofs.LegLemmas.{legs_none, legs_whole}
+use Rattle.phase_graph.proofs.WayTies.{all_along, moving_joined}
 use Rattle.phase_graph.proofs.phases.PhasesGraph.fresh_ways.Goals as goal
+use Rattle.phase_graph.proofs.phases.PhasesGraph.fresh_ways.Goals.{then-not-has_legs+in_ok-push_rises, else-not-has_legs}
 
 pub returns : goal.returns
 returns c =
     let self = c.args.self.now in
-    let asked : c.moving_letters-moving.result ≡ moving_letters c.args.letters c.args.leaving (letter_at self.plain.network.now.roads (node_of c.args.p)) = cc in
-    on_ok_weaker c.push_fresh_others.result
-    (moving_joined self.plain.network.now self.hierarchy.now self.plain.timetable.now self.marks.items c.args.p c.args.t c.args.letters c.moving_letters-moving.result c.args.leaving c.args.state
-    c.args.given.now c.push_fresh_others.new.given c.args.ways.now.items c.push_falls.new.ways.items c.push_fresh_others.new.ways.items asked c.in_ok-push_falls.ensures)
-    c.push_fresh_others.ensures
+    let n = self.plain.network.now in
+    let t = self.plain.timetable.now in
+    let h = self.hierarchy.now in
+    let marks = self.marks.items in
+    let visit = c.args.visit in
+    let p = visit.node in
+    let g = phase_meaning n t h marks in
+    let v = node_of p in
+    let down = is_down p in
+    let ups = length (rises_at h v down) in
+    let downs = entries_at h v in
+    let before = c.args.ways.now.items in
+    let falls = c.in_ok-push_falls.ensures in
+    let asked : c.moving_letters-letters.result ≡ moving_letters visit.letters visit.leaving (letter_at n.roads v) = cc in
+    let joined = λ (start count : ℕ) (is : start ≡ length (legs_at h v down)) (whole : start + count ≡ ups + downs) (along : c.push_falls.new.ways.items ≡ before ++ ways_from g p visit.at visit.letters start count).
+    subst (λ (k : ℕ). OnOk c.push_fresh_others.result (AddsMoving (phase_rides n t) visit c.args.given.now c.push_fresh_others.new.given (ways_past g p visit.at visit.letters k) before c.push_fresh_others.new.ways.items)) is
+    (on_ok_weaker c.push_fresh_others.result
+    (moving_joined n h t marks p visit.at visit.letters c.moving_letters-letters.result visit.leaving visit.state start count c.args.given.now c.push_fresh_others.new.given before c.push_falls.new.ways.items
+    c.push_fresh_others.new.ways.items asked whole along)
+    c.push_fresh_others.ensures) in
+    elim c.if-not-has_legs.branch [
+      | then-not-has_legs+in_ok-push_rises w ↦ (
+          let none : has_legs h ≡ false = sym c.has_legs.ensures ∙ w.if-not-has_legs.true in
+          let rises = ap (λ ways. ways.items) w.ways-is ∙ w.in_ok-push_rises.ensures in
+          joined 0 (ups + downs) (sym (legs_none h v down none)) (omega arith) (all_along n h t marks p visit.at visit.letters before c.if-not-has_legs.ways.items c.push_falls.new.ways.items rises falls)
+          )
+      | else-not-has_legs w ↦ (
+          let has : has_legs h ≡ true = sym c.has_legs.ensures ∙ w.if-not-has_legs.false in
+          let same = ap (λ ways. ways.items) w.ways-is in
+          joined ups downs (sym (legs_whole h v down has)) (omega arith) (falls ∙ ap (λ (ws : List Way). ws ++ ways_from g p visit.at visit.letters ups downs) same)
+          )
+    ]
