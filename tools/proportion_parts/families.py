@@ -8,6 +8,7 @@ from . import texts
 from .texts import both_ways, grid, hierarchy, opl, region
 
 NOON = 43_200
+FIRST = 28_802  # two seconds past eight
 UNREACHED = "n1 ss0000001 20240701 08:00:00 foot"  # a query whose stop has no link
 LINE = "n1 n{last} 20240701 08:00:00 {expr}"
 
@@ -43,6 +44,20 @@ def standing(expr: str) -> Callable[[int], str]:
     steps = "stand\n"
     head = f"modeplan certificate 1\nquery {LINE.format(last=1, expr=expr)}\ngraph plain\n"
     return lambda n: f"{head}arrive 633600000\nstart 0 633600000\n{steps * n}labels 0\nend\n"
+
+
+def in_turn(n: int) -> str:
+    """A bus and a tram in turn between two stops, n in all, each of which leaves when the one before arrives."""
+    trips = [(("bus", "tram")[k % 2], [(k % 2, FIRST + k), ((k + 1) % 2, FIRST + k + 1)]) for k in range(n)]
+    return region(1, [], 2, [(0, 1, 1000)], trips)
+
+
+def riding_in_turn(expr: str) -> Callable[[int], str]:
+    """A certificate of a ride on each of them, and no labels."""
+    query = "query n1 ss{last:07} 20240701 08:00:00 " + expr
+    head = f"modeplan certificate 1\n{query}\ngraph plain\narrive {{at}}\nstart 0 633600000\nlink 1\n"
+    return lambda n: head.format(last=n % 2, at=604_800_000 + 1000 * (FIRST + n)) + "".join(
+        f"ride {k} 7 0 1\n" for k in range(n)) + "labels 0\nend\n"
 
 
 def calls_at_one_stop(n: int) -> str:
@@ -118,6 +133,8 @@ FAMILIES = [
         hierarchy=lambda n: hierarchy([*range(n + 1, 2 * n + 1), 0], hub(n)))),
     Family("certificate with many steps", 4_000, over_region(
         "verify", "certificate", region=lambda n: region(2, [(0, 1, 1000)]), certificate=standing("any? " * 199 + "any?"))),
+    Family("certificate of rides by letters in turn", 1_000, over_region(
+        "verify", "certificate", region=in_turn, certificate=riding_in_turn("(" + "any? " * 199 + "any?)*"))),
     Family("certify over calls at one stop", 1_000, over_region("certify", UNREACHED, region=calls_at_one_stop)),
     Family("verify over calls at one stop", 1_000, over_region("verify", "certificate", region=calls_at_one_stop),
            before=("certify", "region", UNREACHED)),
