@@ -1,15 +1,16 @@
 -- The entries that are visited are those that matter.
-use Rattle.std.proofs.Common.{◌≡◌, ℕ, ◌+◌, ◌<◌, ◌≤◌, ◌⊎◌, inl, inr, List, length, get_or, ◌∙◌, ap, subst, arith}
+use Rattle.std.proofs.Common.{◌≡◌, ℕ, ◌+◌, ◌<◌, ◌≤◌, ◌⊎◌, inl, inr, ◌||◌, ◌&&◌, true, List, length, get_or, ◌∙◌, ap, subst, sym, arith}
 use Rattle.std.specs.List.{HoldsAt}
-use Rattle.std.proofs.lemmas.Bool.{cases_lt, cases_eq}
+use Rattle.std.proofs.lemmas.Bool.{cases_lt, cases_eq, lt-ltb}
 use Rattle.std.proofs.lemmas.List.{get_or_default}
 use Rattle.std.proofs.lemmas.Option.{slice_get-get_or}
 use Rattle.hierarchy.specs.declared.entry.Entry.{Entry}
-use Rattle.hierarchy.specs.Lists.{HierarchyLists}
-use Rattle.hierarchy.specs.Lookups.{AreFrom, AreInto}
+use Rattle.hierarchy.specs.Lists.{HierarchyLists, height_in}
+use Rattle.hierarchy.specs.Lookups.{ArePlaces, AreFrom, FallsTo, entry_at, no_entry}
+use Rattle.hierarchy.specs.Rises.{RisesFrom, is_rise, is_core}
 use Rattle.hierarchy.specs.Soundness.{HoldsBelow, ArePairAt, PairIsBridged, PairsAreBridged, NodeIsBridged}
 use Rattle.hierarchy.specs.FirstBroken.{FailsFirst}
-use Rattle.hierarchy_check.specs.inside.Light.{FirstUnbridgedAt, FirstUnbridged}
+use Rattle.hierarchy_check.specs.inside.Light.{FirstUnbridgedAt, FirstUnbridged, RiseIsBridged}
 
 -- ---- entries from the node
 
@@ -32,29 +33,41 @@ module _ (h : HierarchyLists) (x : ℕ) (a : Entry) (low high : ℕ) (are : AreF
     | inr higher ↦ not_from k lt (inr (omega arith)) d
   ]
 
+-- where an entry to the node is bridged with all that lead up from there, it is with all
+pub rises_bridge : (h : HierarchyLists) (x : ℕ) (a : Entry) (places : List ℕ) → ArePlaces (RisesFrom h.order x) h.entries places
+    → ((i : ℕ) → i < length places → RiseIsBridged h x a (entry_at h.entries (get_or places i 0))) → PairsAreBridged h x a
+rises_bridge h x a places are each k d lt pair =
+    let e = get_or h.entries k d in
+    let higher : height_in h.order e.from < height_in h.order e.to = subst (λ y. height_in h.order y < height_in h.order e.to) (sym pair.from_x) pair.end_above in
+    let up : is_rise h.order e ≡ true = ap (λ b. b || (is_core h.order e.from && is_core h.order e.to)) (lt-ltb (height_in h.order e.from) (height_in h.order e.to) higher) in
+    let found = are.all k e (slice_get-get_or h.entries k d lt) (record { begins = pair.from_x; leads = up }) in
+    let place : get_or places found.0 0 ≡ k = get_or_default places found.0 0 k found.1 ∙ found.2 in
+    let here : entry_at h.entries (get_or places found.0 0) ≡ e = ap (entry_at h.entries) place ∙ get_or_default h.entries k no_entry d lt in
+    subst (RiseIsBridged h x a) here (each found.0 found.1) (λ same. pair.differ (sym same))
+
 -- ---- entries to the node
 
 -- the entries at the first so many places are bridged
 abbrev pub BridgedSoFar : HierarchyLists → ℕ → List ℕ → ℕ → Type 0
 BridgedSoFar h x places j = (i d : ℕ) → i < j → HoldsAt (PairsAreBridged h x) h.entries (get_or places i d)
 
-module _ (h : HierarchyLists) (x : ℕ) (places : List ℕ) (are : AreInto h.entries x places) where
+module _ (h : HierarchyLists) (x : ℕ) (places : List ℕ) (are : ArePlaces (FallsTo h.order x) h.entries places) where
   -- so are all entries that stand before the next place
   pub all_before : (j k : ℕ) → j ≤ length places → BridgedSoFar h x places j → k < length h.entries → ((d : ℕ) → j < length places → k < get_or places j d) → HoldsAt (PairsAreBridged h x) h.entries k
-  all_before j k le so_far lt before d = elim (cases_eq (get_or h.entries k d).to x) [
-    | inr other ↦ (λ i e inside pair. absurd (other pair.to_x))
-    | inl to ↦ (let there = are.all k (get_or h.entries k d) (slice_get-get_or h.entries k d lt) to in at_place there.0 there.1 there.2 d)
-  ] where
-    at_place : (i : ℕ) → i < length places → get_or places i k ≡ k → (d : Entry) → PairsAreBridged h x (get_or h.entries k d)
-    at_place i inside is d = elim (cases_lt i j) [
-      | inl earlier ↦ subst (λ p. PairsAreBridged h x (get_or h.entries p d)) is (so_far i k earlier d)
-      | inr later ↦ absurd (late i inside is later)
-    ] where
-      late : (i : ℕ) → i < length places → get_or places i k ≡ k → j ≤ i → ⊥
-      late i inside is later = elim (cases_eq j i) [
-        | inl same ↦ (let next = before k (omega arith) in let here : get_or places j k ≡ k = ap (λ p. get_or places p k) same ∙ is in omega arith)
-        | inr apart ↦ (let next = before k (omega arith) in let up = are.ascending j i k (omega (arith, apart)) inside in omega arith)
-      ]
+  all_before j k le so_far lt before d i e inside pair =
+      let there = are.all k (get_or h.entries k d) (slice_get-get_or h.entries k d lt) (record { ends = pair.to_x; above = pair.start_above }) in
+      at_place there.0 there.1 there.2 d i e inside pair
+    where
+      at_place : (i : ℕ) → i < length places → get_or places i k ≡ k → (d : Entry) → PairsAreBridged h x (get_or h.entries k d)
+      at_place i inside is d = elim (cases_lt i j) [
+        | inl earlier ↦ subst (λ p. PairsAreBridged h x (get_or h.entries p d)) is (so_far i k earlier d)
+        | inr later ↦ absurd (late i inside is later)
+      ] where
+        late : (i : ℕ) → i < length places → get_or places i k ≡ k → j ≤ i → ⊥
+        late i inside is later = elim (cases_eq j i) [
+          | inl same ↦ (let next = before k (omega arith) in let here : get_or places j k ≡ k = ap (λ p. get_or places p k) same ∙ is in omega arith)
+          | inr apart ↦ (let next = before k (omega arith) in let up = are.ascending j i k (omega (arith, apart)) inside in omega arith)
+        ]
 
   pub node_bridged : (j : ℕ) → length places ≤ j → j ≤ length places → BridgedSoFar h x places j → NodeIsBridged h x
   node_bridged j ge le so_far k d lt = all_before j k le so_far lt (λ e h. absurd (omega arith)) d

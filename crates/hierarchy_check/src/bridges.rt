@@ -8,7 +8,7 @@ ghost use Rattle.hierarchy_check.specs.inside.Light.{IsLight, FirstUnbridgedAt, 
 use crate::entries::has_lighter;
 use crate::look::Look;
 use crate::witnesses::has_witness;
-use hierarchy::{Entry, Hierarchy, Rise};
+use hierarchy::{Entry, Hierarchy};
 
 /// The place in the order of the first node with two entries that are not bridged, and the places of these.
 pub(crate) fn first_unbridged(h: &Hierarchy) -> Option<(u64, u64, u64)>
@@ -26,7 +26,7 @@ pub(crate) fn first_unbridged(h: &Hierarchy) -> Option<(u64, u64, u64)>
     None
 }
 
-/// The first entry to a node that is not bridged with one from it, and the first of these.
+/// The first entry down to a node that is not bridged with one from it, and the first of these.
 fn unbridged_at(h: &Hierarchy, x: u32) -> Option<(u64, u64)>
     requires { IsLight h.now.entries }
     ensures { MatchOption result
@@ -35,7 +35,7 @@ fn unbridged_at(h: &Hierarchy, x: u32) -> Option<(u64, u64)>
 {
     let entries = h.entries();
     let mut look = Look::around(h, x);
-    for at in h.entries_into(x) {
+    for at in h.falls_into(x) {
         if let Some(by) = unbridged_after(h, x, entries[*at as usize], &mut look) {
             return Some((*at, by));
         }
@@ -51,7 +51,7 @@ fn unbridged_after(h: &Hierarchy, x: u32, entry: Entry, look: &mut Look) -> Opti
         (PairsAreBridged h.now x entry)
         (FailsFirst (PairIsBridged h.now x entry) h.now.entries) }
 {
-    if !h.above(entry.from, x) || rises_are_bridged(h, x, entry, look) {
+    if rises_are_bridged(h, x, entry, look) {
         None
     } else {
         unbridged_from(h, x, entry)
@@ -66,8 +66,8 @@ fn rises_are_bridged(h: &Hierarchy, x: u32, entry: Entry, look: &mut Look) -> bo
     ensures { IsTrue result → PairsAreBridged h.now x entry }
 {
     look.begin(h, entry.from);
-    for rise in h.rises_from(x) {
-        if !rise_is_bridged(h, x, entry, *rise, look) {
+    for place in h.rise_places_from(x) {
+        if !rise_is_bridged(h, x, entry, h.entries()[*place as usize], look) {
             return false;
         }
     }
@@ -75,7 +75,7 @@ fn rises_are_bridged(h: &Hierarchy, x: u32, entry: Entry, look: &mut Look) -> bo
 }
 
 /// Whether an entry to a node is found to be bridged with one up from there.
-fn rise_is_bridged(h: &Hierarchy, x: u32, entry: Entry, rise: Rise, look: &mut Look) -> bool
+fn rise_is_bridged(h: &Hierarchy, x: u32, entry: Entry, rise: Entry, look: &mut Look) -> bool
     requires first { entry.weight < 2 ^ 56 }
     requires second { rise.weight < 2 ^ 56 }
     ensures { IsTrue result → RiseIsBridged h.now x entry rise }

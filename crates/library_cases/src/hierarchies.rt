@@ -36,13 +36,19 @@ fn print_hierarchy(out: &mut Answer, h: &Hierarchy, bytes: &[u8], count: u32) {
     }
 }
 
-/// How high a node is, and which entries lead from it and into it.
+/// How high a node is, which entries lead from it, where those of them lead that lead up or along the core, and which lead down
+/// to it.
 fn print_node(out: &mut Answer, h: &Hierarchy, v: u32) {
     out.shown("\n", v);
     out.shown(": height ", h.height(v));
     out.shown(", contracted ", h.contracted(v));
     out.debug(", entries from ", h.entries_from(v));
-    out.debug(", into ", h.entries_into(v));
+    out.debug(", up ", h.rise_places_from(v));
+    for leg in h.legs_from(v) {
+        out.shown(", to ", leg.to);
+        out.shown(" in ", leg.ms);
+    }
+    out.debug(", down to it ", h.falls_into(v));
 }
 
 /// Of two nodes: which is above the other, their entry, and the witness past node 1.

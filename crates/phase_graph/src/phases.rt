@@ -206,8 +206,9 @@ impl<'a> Phases<'a> {
         (past - first) as u64 + links as u64
     }
 
-    /// The arc at place `i` of those out of the node `p`: first come the entries up and along the core, then all entries, of
-    /// which those arrive that lead down from a node with a mark to another, and then what the plain graph has in common with this one.
+    /// The arc at place `i` of those out of the node `p`: first come the entries up and along the core, then all entries,
+    /// of which those arrive that lead down from a node with a mark to another, and then what the plain graph has in
+    /// common with this one.
     pub fn phase_arc(&self, p: u32, i: u64) -> PhaseArc
         requires node { p < (phase_meaning self.now.plain.network.now self.now.plain.timetable.now
             self.now.hierarchy.now self.now.marks.items).nodes }
@@ -335,8 +336,8 @@ impl<'a> Phases<'a> {
         Ok(())
     }
 
-    /// Appends those of the entries that leave the node of a visit that lead down from a node with a mark to another, whose letter
-    /// is in the set. The places of all entries stand behind those of the entries up and along the core.
+    /// Appends those of the entries that leave the node of a visit that lead down from a node with a mark to another,
+    /// whose letter is in the set. The places of all entries stand behind those of the entries up and along the core.
     fn push_open_falls(&self, visit: Visit, ways: &mut Vec<Way>) -> Result<(), AllocError>
         requires time { visit.at < 2 ^ 127 }
         requires opens { is_open visit.letters (letter_at self.now.plain.network.now.roads
@@ -434,8 +435,8 @@ impl<'a> Phases<'a> {
         }
     }
 
-    /// Appends what leaves the node of a visit before the descent along no entry: the plain graph's arcs but its road arcs. It may
-    /// leave out rides where the state was given rides as good, and it notes the runs whose rides it appends.
+    /// Appends what leaves the node of a visit before the descent along no entry: the plain graph's arcs but its road
+    /// arcs. It may leave out rides where the state was given rides as good, and it notes the runs whose rides it appends.
     fn push_fresh_plain(
         &self,
         visit: Visit,

@@ -2,7 +2,6 @@
 use Rattle.std.specs.Prelude.{◌≡◌, ◌≢◌, ℕ, ◌+◌, ◌-◌, ◌<◌, ◌≤◌, ◌^◌, List, [], ◌∷◌, Option, Some, All, slice_get}
 use Rattle.plan_base.specs.declared.modes.Mode.{Mode}
 use Rattle.hierarchy.specs.declared.entry.Entry.{Entry}
-use Rattle.hierarchy.specs.declared.rises.Rise.{Rise}
 use Rattle.hierarchy.specs.Lists.{HierarchyLists, IsAbove}
 use Rattle.hierarchy.specs.Soundness.{HasEntry, IsBridged, PairsAreBridged, PairIsBridged, NodeIsBridged}
 use Rattle.hierarchy.specs.FirstBroken.{FailsFirst}
@@ -37,8 +36,8 @@ CanWalk h x u [] have = Unit {0}
 CanWalk h x u (y ∷ nodes) have = (left : ℕ) × CanStep h x u y have left × CanWalk h x y nodes left
 
 -- an entry to x is bridged with one up from there
-abbrev pub RiseIsBridged : HierarchyLists → ℕ → Entry → Rise → Type 0
-RiseIsBridged h x a rise = rise.to ≢ a.from → IsBridged h x a.from rise.to (a.weight + rise.weight)
+abbrev pub RiseIsBridged : HierarchyLists → ℕ → Entry → Entry → Type 0
+RiseIsBridged h x a b = b.to ≢ a.from → IsBridged h x a.from b.to (a.weight + b.weight)
 
 -- the first entry to x, and the first entry from x, that are not bridged
 pub record FirstUnbridgedAt (h : HierarchyLists) (x at by : ℕ) : Type 0 where

@@ -1,17 +1,18 @@
-use Rattle.std.proofs.Common.{subst}
-use Rattle.std.specs.List.{HoldsAt}
-use Rattle.std.proofs.lemmas.List.{get_or_default}
-use Rattle.hierarchy.specs.declared.rises.Rise.{Rise}
+use Rattle.std.proofs.Common.{ℕ, arith, get_or}
+use Rattle.hierarchy.specs.Lookups.{entry_at}
 use Rattle.hierarchy_check.specs.inside.Light.{RiseIsBridged}
+use Rattle.hierarchy_check.proofs.BridgeLemmas.{rises_bridge}
 use Rattle.hierarchy_check.proofs.PlaceLemmas.{hold_more}
 use Rattle.hierarchy_check.proofs.bridges.rises_are_bridged.Goals as goal
 
-abbrev nothing : Rise
-nothing = record { from = 0; to = 0; place = 0; weight = 0 }
+pub loop-place-preserved : goal.loop-place-preserved
+loop-place-preserved c =
+    let h = c.args.h.now in
+    let places = c.rise_places_from-place-items.result.now in
+    hold_more c.loop-place.place-index (λ (i : ℕ). RiseIsBridged h c.args.x c.args.entry (entry_at h.entries (get_or places i 0))) c.loop-place.invariant
+    (rw c.entries.ensures at c.rise_is_bridged.ensures c.if-not-rise_is_bridged.false)
 
-pub loop-rise-preserved : goal.loop-rise-preserved
-loop-rise-preserved c =
-    let rises = c.rises_from-rise-items.result.now in
-    let IsBridged = RiseIsBridged c.args.h.now c.args.x c.args.entry in
-    hold_more c.loop-rise.rise-index (HoldsAt IsBridged rises) c.loop-rise.invariant
-    (λ d. subst IsBridged (get_or_default rises c.loop-rise.rise-index nothing d c.loop-rise-test.true) (c.rise_is_bridged.ensures c.if-not-rise_is_bridged.false))
+pub returns : goal.returns
+returns c =
+    let places = c.rise_places_from-place-items.result.now in
+    λ _. rises_bridge c.args.h.now c.args.x c.args.entry places c.rise_places_from-place-items.ensures.are (λ i lt. c.loop-place.invariant i (omega (arith, lt, c.loop-place-test.false)))

@@ -1,7 +1,8 @@
-use Rattle.std.specs.List.{HoldsAt}
+use Rattle.std.proofs.Common.{get_or}
+use Rattle.hierarchy.specs.Lookups.{entry_at}
 use Rattle.hierarchy.specs.Soundness.{HoldsBelow}
 use Rattle.hierarchy_check.specs.inside.Light.{RiseIsBridged}
 use Rattle.hierarchy_check.proofs.bridges.rises_are_bridged.Given as goal
 
-abbrev pub invariant-loop-rise : goal.invariant-loop-rise
-invariant-loop-rise l = HoldsBelow l.rise-index (HoldsAt (RiseIsBridged l.h l.x l.entry) l.rise-items)
+abbrev pub invariant-loop-place : goal.invariant-loop-place
+invariant-loop-place l = HoldsBelow l.place-index (λ i. RiseIsBridged l.h l.x l.entry (entry_at l.h.entries (get_or l.place-items i 0)))
