@@ -2,8 +2,8 @@
 use Rattle.std.proofs.Common.{◌≡◌, ℕ, ◌+◌, ◌-◌, Bool, true, false, ◌&&◌, ◌||◌, ◌==◌, List, [], ◌∷◌, ◌++◌, reverse, refl, sym, ap, ◌∙◌, subst, append_assoc, append-nil, arith}
 use Rattle.std.proofs.lemmas.List.{reverse-append}
 use Rattle.automaton.specs.Written.{Written, nothing, nowhere, letter, sequence, choice, optional, plus, size, nullable, first}
-use Rattle.automaton.specs.Rows.{PositionRow, entry, position_rows}
-use Rattle.automaton.specs.Builds.{Built, grown, Adds}
+use Rattle.automaton.specs.inside.Rows.{PositionRow, entry, position_rows}
+use Rattle.automaton.specs.inside.Builds.{Built, grown, Adds}
 
 grown-twice : (dry : Bool) (list more again : List PositionRow) → grown dry (grown dry list more) again ≡ grown dry list (more ++ again)
 grown-twice true list more again = refl

@@ -3,7 +3,7 @@ use Rattle.std.proofs.Common.{◌≡◌, ℕ, zero, suc, ◌+◌, ◌<◌, Bool,
 use Rattle.std.proofs.lemmas.Bool.Decides.{nat_tests}
 use Rattle.mode_expression.specs.Form.{IsJoined, IsPower}
 use Rattle.automaton.specs.Written.{Written, nothing, nowhere, letter, sequence, choice, optional, plus, size, nullable, first, IsWritten}
-use Rattle.automaton.specs.Rows.{entry}
+use Rattle.automaton.specs.inside.Rows.{entry}
 
 pub or_in : (a b : Bool) → IsTrue a ⊎ IsTrue b → IsTrue (a || b)
 or_in true b either = refl

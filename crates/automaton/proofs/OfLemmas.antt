@@ -4,8 +4,8 @@ use Rattle.std.proofs.lemmas.List.{reverse-reverse}
 use Rattle.search_laws.specs.LabelLaws.{Accepts, IsLawfulLabels}
 use Rattle.mode_expression.specs.Form.{Form, IsUsable, IsWordOf, places}
 use Rattle.automaton.specs.Written.{written, size}
-use Rattle.automaton.specs.Rows.{entry, position_rows}
-use Rattle.automaton.specs.Builds.{Built, ArePositionsAdded, Adds, grown}
+use Rattle.automaton.specs.inside.Rows.{entry, position_rows}
+use Rattle.automaton.specs.inside.Builds.{Built, ArePositionsAdded, Adds, grown}
 use Rattle.automaton.specs.States.{StateView, meaning_of_states, states_for, IsPositionAutomaton}
 use Rattle.automaton.proofs.RowLemmas.{length-rows}
 use Rattle.automaton.proofs.WrittenLemmas.{denoted_of_written, written_of_denoted, size_written, letters_below}

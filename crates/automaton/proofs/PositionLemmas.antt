@@ -9,7 +9,7 @@ use Rattle.search_laws.specs.Letters.{IsLetterSet}
 use Rattle.search_laws.specs.declared.labels.Move.{Move}
 use Rattle.search_laws.specs.LabelLaws.{LabelsMeaning, HasMove, Reads, Accepts, IsLawfulLabels}
 use Rattle.automaton.specs.Written.{Written, nothing, nowhere, letter, sequence, choice, optional, plus, size, nullable, first, last, follow, IsWritten}
-use Rattle.automaton.specs.Rows.{PositionRow, entry, position_rows, position_row, no_row}
+use Rattle.automaton.specs.inside.Rows.{PositionRow, entry, position_rows, position_row, no_row}
 use Rattle.automaton.specs.States.{no_move, no_view, view_at, meaning_of_states, moves_upto, state_for, states_for, next_position, may_end, letters_at, IsPositionAutomaton}
 use Rattle.automaton.proofs.LanguageLemmas.{or_out, and_out, first_above, From, Agrees, read_is_written}
 use Rattle.automaton.proofs.RowLemmas.{length-rows, letters-rows, agrees_of_rows, next_is}

@@ -4,7 +4,7 @@ use Rattle.std.proofs.lemmas.Bool.Decides.{nat_tests}
 use Rattle.std.proofs.lemmas.List.{map-append}
 use Rattle.std.proofs.Math.Seq.{get_or-append_seam}
 use Rattle.automaton.specs.Written.{Written, nothing, nowhere, letter, sequence, choice, optional, plus, size, nullable, first, last, follow, letters_written}
-use Rattle.automaton.specs.Rows.{PositionRow, entry, position_rows, position_row, no_row}
+use Rattle.automaton.specs.inside.Rows.{PositionRow, entry, position_rows, position_row, no_row}
 use Rattle.automaton.proofs.LanguageLemmas.{Agrees}
 
 pub length-rows : (e : Written) (o : ℕ) (K : ℕ → Bool) → length (position_rows e o K) ≡ size e

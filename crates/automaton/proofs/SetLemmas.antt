@@ -6,7 +6,7 @@ use Rattle.std.proofs.lemmas.Nat.{pow_below}
 use Rattle.std.proofs.Math.Nat.{mod-eq_of_lt}
 use Rattle.std.proofs.lemmas.Nat.Bits.{bit_at_or, bit_at-lt, bit_at-zero, bit_at-pow_same, bit_at-pow_other}
 use Rattle.automaton.specs.declared.position_set.PositionSet.{PositionSet}
-use Rattle.automaton.specs.Sets.{has}
+use Rattle.automaton.specs.inside.Sets.{has}
 
 either_bit : (x y : ℕ) → x < 2 → y < 2 → (max x y == 1) ≡ ((x == 1) || (y == 1))
 either_bit zero zero p q = refl

@@ -5,9 +5,9 @@ use Rattle.std.proofs.lemmas.Grind.{reverse_onto}
 use Rattle.search_laws.specs.declared.labels.Move.{Move}
 use Rattle.automaton.specs.declared.builder.Draft.{Draft}
 use Rattle.automaton.specs.declared.state.State.{State}
-use Rattle.automaton.specs.Builds.{draft_row}
-use Rattle.automaton.specs.Rows.{PositionRow, position_row, no_row}
-use Rattle.automaton.specs.Sets.{has}
+use Rattle.automaton.specs.inside.Builds.{draft_row}
+use Rattle.automaton.specs.inside.Rows.{PositionRow, position_row, no_row}
+use Rattle.automaton.specs.inside.Sets.{has}
 use Rattle.automaton.specs.States.{StateView, view_of, view_at, no_view, moves_upto, state_for, states_for}
 
 pub map-reverse : {X Y : Type 0} → (f : X → Y) (xs : List X) → map f (reverse xs) ≡ reverse (map f xs)

@@ -1,10 +1,8 @@
 pub mod Written
-pub mod Rows
-pub mod Sets
-pub mod Builds
 pub mod States
 pub mod Meanings
 pub mod Collapsed
 pub mod CollapsedLaws
 pub mod OneStateLaws
 pub mod Languages
+pub mod inside

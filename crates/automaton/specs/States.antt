@@ -4,7 +4,7 @@ use Rattle.search_laws.specs.declared.labels.Move.{Move}
 use Rattle.search_laws.specs.LabelLaws.{LabelsMeaning, HasMove}
 use Rattle.automaton.specs.declared.state.State.{State}
 use Rattle.automaton.specs.Written.{Written, size, nullable, first, last, follow, letters_written}
-use Rattle.automaton.specs.Rows.{PositionRow, position_row}
+use Rattle.automaton.specs.inside.Rows.{PositionRow, position_row}
 
 -- a state as contracts see it
 pub record StateView : Type 0 where

@@ -25,7 +25,7 @@ pub struct Builder {
 }
 
 impl Builder {
-    ghost use Rattle.automaton.specs.Builds.{AddsTo, built_of, draft_row, grown};
+    ghost use Rattle.automaton.specs.inside.Builds.{AddsTo, built_of, draft_row, grown};
 
     pub fn new(alloc: Global, positions: u8) -> Builder
         ensures { built_of result ≡ record { at = positions; dry = false; rows = [] } }

@@ -8,7 +8,7 @@ pub struct PositionSet {
 }
 
 impl PositionSet {
-    ghost use Rattle.automaton.specs.Sets.{has};
+    ghost use Rattle.automaton.specs.inside.Sets.{has};
 
     pub fn empty() -> PositionSet
         ensures { has result ≡ (λ (q : ℕ). false) }

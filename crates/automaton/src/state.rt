@@ -1,6 +1,6 @@
 ghost use Rattle.std.specs.Prelude.{◌≡◌, ◌≤◌, map, length, IfOk};
-ghost use Rattle.automaton.specs.Builds.{draft_row};
-ghost use Rattle.automaton.specs.Sets.{has};
+ghost use Rattle.automaton.specs.inside.Builds.{draft_row};
+ghost use Rattle.automaton.specs.inside.Sets.{has};
 ghost use Rattle.automaton.specs.States.{moves_upto, state_for, states_for, view_of};
 
 use crate::builder::Draft;

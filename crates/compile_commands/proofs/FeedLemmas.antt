@@ -18,7 +18,7 @@ use Rattle.run_steps.specs.declared.outcome.SourceFault.TheVariants as source
 use Rattle.gtfs_tables.specs.declared.files.FeedFile.TheVariants as file
 use Rattle.std.proofs.Math.Seq.{drop-cons}
 use Rattle.std.proofs.lemmas.List.{take-append-drop, take_more}
-use Rattle.compile_commands.specs.Working.{IsFeedOutcome, IsListsOutcome}
+use Rattle.compile_commands.specs.inside.Working.{IsFeedOutcome, IsListsOutcome}
 use Rattle.run_steps.proofs.Steps.{told_before, unread_before, unreadable_before}
 use Rattle.compile_commands.specs.Feeds.{AreTables, IsFeedUnread, IsFileOfFeed, IsTableUnread, in_order, lent, may_be_absent, path_of}
 

@@ -14,7 +14,7 @@ use Rattle.run_steps.specs.declared.outcome.SourceFault.TheVariants as source
 use Rattle.run_steps.specs.Sayings.{IsUnread, most_bytes}
 use Rattle.run_steps.proofs.Steps.{unread_before}
 use Rattle.compile_commands.specs.Maps.{BeginsSo}
-use Rattle.compile_commands.specs.Working.{HasFed, IsEndOutcome, IsMapOutcome, IsPieceRefusal}
+use Rattle.compile_commands.specs.inside.Working.{HasFed, IsEndOutcome, IsMapOutcome, IsPieceRefusal}
 
 -- nothing is a front of any file
 front_nothing : (held : Option (List ℕ)) → IsFrontOf [] held

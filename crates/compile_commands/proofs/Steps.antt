@@ -19,7 +19,7 @@ use Rattle.run_steps.proofs.Steps.{not_earlier}
 use Rattle.compile_commands.specs.Maps.{OnObjects, OnMap}
 use Rattle.compile_commands.specs.Feeds.{OnLists, OnFeed}
 use Rattle.compile_commands.specs.Builds.{OnBuild}
-use Rattle.compile_commands.specs.Working.{HasMap, HasFeed, IsMapOutcome, IsFeedOutcome, IsBuildOutcome}
+use Rattle.compile_commands.specs.inside.Working.{HasMap, HasFeed, IsMapOutcome, IsFeedOutcome, IsBuildOutcome}
 
 module _ (caps : Caps) (old mid new : ShelfMeaning) (before after : SinkMeaning) (name : List ℕ) where
   -- the map was not read

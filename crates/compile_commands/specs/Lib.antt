@@ -2,6 +2,6 @@ pub mod Maps
 pub mod Feeds
 pub mod Builds
 pub mod Complete
-pub mod Working
 pub mod Outputs
 pub mod Commands
+pub mod inside

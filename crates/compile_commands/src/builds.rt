@@ -5,7 +5,7 @@ ghost use Rattle.opl_reader.specs.ObjectLists.{AreObjects};
 ghost use Rattle.gtfs_tables.specs.Sound.{IsFeed};
 ghost use Rattle.mode_network.specs.Rules.{first_fault};
 ghost use Rattle.region_build.specs.Answers.{IsCompiled};
-ghost use Rattle.compile_commands.specs.Working.{IsBuildOutcome};
+ghost use Rattle.compile_commands.specs.inside.Working.{IsBuildOutcome};
 
 use fault_notes::bad_build;
 use gtfs_tables::Feed;

@@ -7,7 +7,7 @@ ghost use Rattle.gtfs_tables.specs.Feeds.{feed_of};
 ghost use Rattle.gtfs_tables.specs.Files.{file_name};
 ghost use Rattle.gtfs_tables.specs.Sound.{IsFeed};
 ghost use Rattle.compile_commands.specs.Feeds.{AreTables, IsFeedUnread, IsFileOfFeed, IsTableUnread, feed_files_of, may_be_absent, order_of_file, path_of, text_of};
-ghost use Rattle.compile_commands.specs.Working.{HasFeed, IsFeedOutcome, IsListsOutcome};
+ghost use Rattle.compile_commands.specs.inside.Working.{HasFeed, IsFeedOutcome, IsListsOutcome};
 
 use fault_notes::bad_feed;
 use gtfs_tables::{Feed, FeedFault, FeedFile, FeedFiles, read_feed};

@@ -8,7 +8,7 @@ ghost use Rattle.opl_reader.specs.Objects.{objects_of};
 ghost use Rattle.opl_reader.specs.Readings.{HasTaken};
 ghost use Rattle.run_steps.specs.Sayings.{IsUnread};
 ghost use Rattle.run_steps.specs.declared.outcome.FileRole.TheVariants as role;
-ghost use Rattle.compile_commands.specs.Working.{HasMap, IsEndOutcome, IsMapOutcome, IsPieceRefusal};
+ghost use Rattle.compile_commands.specs.inside.Working.{HasMap, IsEndOutcome, IsMapOutcome, IsPieceRefusal};
 
 use fault_notes::bad_map;
 use memchr::memchr_iter;

@@ -17,11 +17,11 @@ use Rattle.mode_network.specs.Indexes.{range_from}
 use Rattle.plain_graph.specs.declared.plain.PlainArc.{PlainArc}
 use Rattle.plain_graph.specs.declared.plain.PlainArc.TheVariants.{Road, Link, Ride}
 use Rattle.plain_graph.specs.PlainArcs.{plain_arc, graph_arc, count_from, arcs_at, stands_at, rides_of, rides_from_stop, no_arc, no_ride, pattern_call}
-use Rattle.plain_graph.specs.OutArcs.{IsOut, IsRideFrom, out_of, stop_is_found, no_mode}
+use Rattle.plain_graph.specs.inside.OutArcs.{IsOut, IsRideFrom, out_of, stop_is_found, no_mode}
 use Rattle.plain_graph.proofs.PlaceTies.{road_at}
 use Rattle.departures.specs.declared.fastest.FastestCall.{FastestCall}
 use Rattle.departures.specs.LeastArcs.{least_arrival, least_meaning}
-use Rattle.departures.specs.BoardRides.{ride_to, least_way, least_ways, ends_from, AddsAlike}
+use Rattle.departures.specs.inside.BoardRides.{ride_to, least_way, least_ways, ends_from, AddsAlike}
 use Rattle.departures.proofs.BoardLemmas.{ride_behind, one_end}
 
 module _ (n : NetworkLists) (t : TableLists) (v : ℕ) where

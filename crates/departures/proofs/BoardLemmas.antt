@@ -16,7 +16,7 @@ use Rattle.mode_network.specs.NetworkLists.{NetworkLists}
 use Rattle.mode_network.proofs.RuleLemmas.{both}
 use Rattle.plain_graph.specs.PlainArcs.{no_ride, pattern_call}
 use Rattle.departures.specs.declared.fastest.FastestCall.{FastestCall}
-use Rattle.departures.specs.BoardRides.{ride_to, least_way, least_ways, ends_from}
+use Rattle.departures.specs.inside.BoardRides.{ride_to, least_way, least_ways, ends_from}
 
 -- ---- the calls at which one may alight
 

@@ -15,7 +15,7 @@ use Rattle.timetable_arcs.specs.Runs.{IsFirstFrom}
 use Rattle.departures.specs.declared.fastest.FastestCall.{FastestCall}
 use Rattle.departures.specs.declared.fastest.Stretch.{Stretch}
 use Rattle.departures.specs.Fastest.{fastest_call, ride_ms, least_ms, IsNoFaster}
-use Rattle.departures.specs.Stretches.{AreShortened, FitBetweenCalls, calls_from}
+use Rattle.departures.specs.inside.Stretches.{AreShortened, FitBetweenCalls, calls_from}
 use Rattle.departures.proofs.StretchLemmas.{next_is}
 
 module _ (t : TableLists) (table : IsTable t) (p : ℕ) (run : Instance) (is_in : IsIn t p run) (stretches : List Stretch) (within : FitBetweenCalls (trip_at t run.trip).calls stretches) where

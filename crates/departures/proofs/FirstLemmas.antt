@@ -32,8 +32,8 @@ use Rattle.few_boardings.proofs.RideLemmas.{letters_count}
 use Rattle.departures.specs.declared.row.Pair.{Pair}
 use Rattle.departures.specs.declared.row.Row.{Row}
 use Rattle.departures.specs.Departures.{SetsOff, IsPair, IsRidden}
-use Rattle.departures.specs.SettingOff.{IsSetOff}
-use Rattle.departures.specs.Searching.{ReadsRides, IsRowFor, IsRowUnpacked, IsFirstRow, IsFirstRowFrom}
+use Rattle.departures.specs.inside.SettingOff.{IsSetOff}
+use Rattle.departures.specs.inside.Searching.{ReadsRides, IsRowFor, IsRowUnpacked, IsFirstRow, IsFirstRowFrom}
 use Rattle.departures.proofs.ReaderLemmas.{pair_rises}
 use Rattle.departures.proofs.SettingOffLemmas.{sets_off, same_rides, have_times, has_time}
 

@@ -14,7 +14,7 @@ use Rattle.mode_network.proofs.RuleLemmas.{some_is}
 use Rattle.plain_graph.specs.declared.plain.PlainArc.{PlainArc}
 use Rattle.plain_graph.specs.declared.plain.PlainArc.TheVariants.{Road, Link, Stand, Ride}
 use Rattle.plain_graph.specs.PlainArcs.{plain_arc, plain_meaning, arrival}
-use Rattle.plain_graph.specs.OutArcs.{IsOut, out_of}
+use Rattle.plain_graph.specs.inside.OutArcs.{IsOut, out_of}
 use Rattle.plain_graph.specs.Rides.{alights_within}
 use Rattle.plain_graph.specs.Lawful.{plain_lawful}
 use Rattle.departures.specs.declared.fastest.FastestCall.{FastestCall}

@@ -18,7 +18,7 @@ use Rattle.departures.specs.declared.row.Pair.{Pair}
 use Rattle.departures.specs.Departures.{IsPair, IsListed, IsRow, AreRows}
 use Rattle.departures.specs.Fastest.{NoneIsFaster}
 use Rattle.departures.specs.LeastArcs.{least_meaning}
-use Rattle.departures.specs.Searching.{ReadsRides, NoneTakesLess}
+use Rattle.departures.specs.inside.Searching.{ReadsRides, NoneTakesLess}
 use Rattle.departures.proofs.FirstLemmas.{arrives}
 use Rattle.departures.proofs.LeastWalkLemmas.{walk_as_fast}
 use Rattle.departures.proofs.OrderLemmas.{le_or_above, not_before}

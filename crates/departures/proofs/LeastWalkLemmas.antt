@@ -15,11 +15,11 @@ use Rattle.plain_graph.specs.declared.plain.PlainArc.{PlainArc}
 use Rattle.plain_graph.specs.declared.plain.PlainArc.TheVariants.{Road, Link, Stand, Ride}
 use Rattle.plain_graph.specs.PlainArcs.{plain_arc, plain_meaning, graph_arc, arrival, run_at}
 use Rattle.plain_graph.specs.Rides.{alights_within, takes}
-use Rattle.plain_graph.specs.OutArcs.{IsOut, out_of}
+use Rattle.plain_graph.specs.inside.OutArcs.{IsOut, out_of}
 use Rattle.departures.specs.declared.fastest.FastestCall.{FastestCall}
 use Rattle.departures.specs.Fastest.{least_ms, NoneIsFaster}
 use Rattle.departures.specs.LeastArcs.{least_arrival}
-use Rattle.departures.specs.LeastWalks.{HasWalkAsFast}
+use Rattle.departures.specs.inside.LeastWalks.{HasWalkAsFast}
 
 module _ (n : NetworkLists) (network : IsNetwork n) (t : TableLists) (table : IsTable t) (of : IsTimetableOf n t) (runs : List (List FastestCall)) (none : NoneIsFaster t runs) where
   -- an arc that is taken at s arrives no later than if it took as long as from time to u

@@ -11,8 +11,8 @@ use Rattle.journey.specs.Best.{Asked}
 use Rattle.departures.specs.declared.row.Pair.{Pair}
 use Rattle.departures.specs.declared.row.Row.{Row}
 use Rattle.departures.specs.Departures.{IsPair, IsShorter, IsListed, AreDepartures, IsRow, pair_of, AreRows}
-use Rattle.departures.specs.Searching.{IsPrintableRow, IsFirstRow, IsFirstRowFrom}
-use Rattle.departures.specs.Listing.{next_moment, is_shorter, is_later_row, with_departure}
+use Rattle.departures.specs.inside.Searching.{IsPrintableRow, IsFirstRow, IsFirstRowFrom}
+use Rattle.departures.specs.inside.Listing.{next_moment, is_shorter, is_later_row, with_departure}
 use Rattle.departures.proofs.OrderLemmas.{le_or_above, same_pair, not_before}
 use Rattle.departures.proofs.ListLemmas.{here}
 

@@ -18,7 +18,7 @@ use Rattle.unpack.specs.Unpacking.{IsSoon}
 use Rattle.few_boardings.specs.Boardings.{is_ride}
 use Rattle.few_boardings.proofs.RideLemmas.{rides_more}
 use Rattle.departures.specs.Departures.{SetsOff}
-use Rattle.departures.specs.SettingOff.{with_step_unless_wait, unwaited, waiting, MayLeaveLater}
+use Rattle.departures.specs.inside.SettingOff.{with_step_unless_wait, unwaited, waiting, MayLeaveLater}
 
 -- ---- what the steps are
 

@@ -4,7 +4,7 @@ use Rattle.std.specs.Prelude.{min}
 use Rattle.departures.specs.declared.fastest.FastestCall.{FastestCall}
 use Rattle.departures.specs.declared.fastest.Stretch.{Stretch}
 use Rattle.departures.specs.Fastest.{fastest_call}
-use Rattle.departures.specs.Stretches.{stretch_at, calls_from}
+use Rattle.departures.specs.inside.Stretches.{stretch_at, calls_from}
 
 -- it passes and rides to the call behind k no later than by the stretch there
 pub record IsNext (calls : List FastestCall) (stretch : Stretch) (k next : ℕ) : Type 0 where

@@ -8,7 +8,7 @@ use Rattle.few_boardings.specs.declared.counted.Side.TheVariants.{AtLeast}
 use Rattle.few_boardings.specs.Counted.{transits, counted, AcceptsCounted}
 use Rattle.few_boardings.specs.CountedLaws.{added_road}
 use Rattle.few_boardings.proofs.CountedLemmas.{transits_more}
-use Rattle.departures.specs.Transit.{IsTransit, ReadsNoTransit}
+use Rattle.departures.specs.inside.Transit.{IsTransit, ReadsNoTransit}
 use Rattle.departures.proofs.OrderLemmas.{le_or_above}
 
 -- a set without the bits of the letters of transit has none of them

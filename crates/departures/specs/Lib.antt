@@ -1,13 +1,6 @@
 pub mod Departures
 pub mod Laws
-pub mod SettingOff
-pub mod Transit
-pub mod Searching
-pub mod Listing
 pub mod Fastest
-pub mod Stretches
 pub mod LeastArcs
-pub mod BoardRides
-pub mod LeastWalks
-pub mod LeastLaws
 pub mod Blocks
+pub mod inside

@@ -8,7 +8,7 @@ ghost use Rattle.journey.specs.Blocks.{AddsText, IsFramed, IsPrintable};
 ghost use Rattle.journey.specs.Queries.{IsQuery};
 ghost use Rattle.latest_departure.specs.Blocks.{IsLateJourneyText};
 ghost use Rattle.departures.specs.Blocks.{AreRowsTold, without_line, IsProfileText, IsProfileBlock};
-ghost use Rattle.departures.specs.Searching.{IsPrintableRow};
+ghost use Rattle.departures.specs.inside.Searching.{IsPrintableRow};
 
 use crate::least::LeastTimes;
 use crate::listing::{departures_worth, without_ride};

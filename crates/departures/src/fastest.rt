@@ -4,7 +4,7 @@ ghost use Rattle.std.specs.Prelude.{◌≡◌, ◌<◌, ◌-◌, ◌*◌, ◌^�
 ghost use Rattle.timetable_arcs.specs.declared.trips.Instance.{Instance};
 ghost use Rattle.timetable_arcs.specs.Patterns.{IsIn, trip_at};
 ghost use Rattle.departures.specs.Fastest.{NoneIsFaster, fastest_call};
-ghost use Rattle.departures.specs.Stretches.{stretch_at, shortened, AreShortened, FitBetweenCalls, calls_from};
+ghost use Rattle.departures.specs.inside.Stretches.{stretch_at, shortened, AreShortened, FitBetweenCalls, calls_from};
 
 use std::alloc::{AllocError, Global};
 use std::marker::Model;

@@ -4,7 +4,7 @@ ghost use Rattle.std.specs.Prelude.{◌≡◌, ◌&&◌, nat_lt, IfOk};
 ghost use Rattle.search_laws.specs.GraphLaws.{IsLawfulGraph};
 ghost use Rattle.plain_graph.specs.Lawful.{IsLawfulGraph-prop};
 ghost use Rattle.departures.specs.Fastest.{NoneIsFaster};
-ghost use Rattle.departures.specs.LeastLaws.{NoneIsFaster-prop};
+ghost use Rattle.departures.specs.inside.LeastLaws.{NoneIsFaster-prop};
 ghost use Rattle.departures.specs.LeastArcs.{least_meaning};
 
 use crate::fastest::{FastestCall, FastestRun, fastest_call, fastest_runs, ms_to};
@@ -34,7 +34,7 @@ impl<'a> LeastTimes<'a> {
     ghost use Rattle.departures.specs.Fastest.{least_ms};
     ghost use Rattle.mode_network.specs.NetworkLists.{stop_node};
     ghost use Rattle.departures.specs.LeastArcs.{least_meaning};
-    ghost use Rattle.departures.specs.BoardRides.{AddsAlike, ends_from, least_ways};
+    ghost use Rattle.departures.specs.inside.BoardRides.{AddsAlike, ends_from, least_ways};
 
     /// How long the rides of a network take at least. Fails where memory runs out.
     pub fn new(alloc: Global, network: &'a Network) -> Result<LeastTimes<'a>, AllocError>

@@ -5,8 +5,8 @@ ghost use Rattle.journey.specs.Best.{asked_by};
 ghost use Rattle.journey.specs.Queries.{IsQuery};
 ghost use Rattle.mode_expression.specs.Form.{form_of, IsUsable};
 ghost use Rattle.departures.specs.Departures.{IsWithout, AreRows};
-ghost use Rattle.departures.specs.Listing.{next_moment, is_shorter, is_later_row, with_departure};
-ghost use Rattle.departures.specs.Searching.{searched_network, asked_of, IsRideSearch, IsPrintableRow};
+ghost use Rattle.departures.specs.inside.Listing.{next_moment, is_shorter, is_later_row, with_departure};
+ghost use Rattle.departures.specs.inside.Searching.{searched_network, asked_of, IsRideSearch, IsPrintableRow};
 
 use crate::least::LeastTimes;
 use crate::row::{Pair, Row};

@@ -4,7 +4,7 @@ ghost use Rattle.std.specs.Prelude.{◌≡◌, ◌<◌, ◌≤◌, ◌^◌, IfOk
 ghost use Rattle.mode_expression.specs.Form.{form_of, IsUsable};
 ghost use Rattle.unpack.specs.Taken.{IsPlainWalk};
 ghost use Rattle.kept_automata.specs.Texts.{IsSpelledIn};
-ghost use Rattle.departures.specs.Searching.{IsRowUnpacked};
+ghost use Rattle.departures.specs.inside.Searching.{IsRowUnpacked};
 
 use crate::least::LeastTimes;
 use crate::row::{Pair, Row};
@@ -61,7 +61,7 @@ fn unpacked(
 
 impl<'a> RideSearch<'a> {
     ghost use Rattle.std.specs.Prelude.{false};
-    ghost use Rattle.departures.specs.Searching.{searched_network, asked_of, IsRideSearch, IsFirstRowFrom, NoneTakesLess};
+    ghost use Rattle.departures.specs.inside.Searching.{searched_network, asked_of, IsRideSearch, IsFirstRowFrom, NoneTakesLess};
 
     /// The search for what a query asks. It takes its automaton out of what is kept.
     pub fn new(

@@ -4,7 +4,7 @@ ghost use Rattle.std.specs.Prelude.{◌≡◌, ◌+◌, ◌<◌, All, IfOk, OnOk
 ghost use Rattle.search_laws.specs.Times.{time_bound};
 ghost use Rattle.few_boardings.specs.Boardings.{is_ride};
 ghost use Rattle.journey.specs.Ends.{HasTime, HasTimes};
-ghost use Rattle.departures.specs.SettingOff.{is_wait, with_step_unless_wait, unwaited, waiting, MayLeaveLater, IsSetOff};
+ghost use Rattle.departures.specs.inside.SettingOff.{is_wait, with_step_unless_wait, unwaited, waiting, MayLeaveLater, IsSetOff};
 
 use journey::step_end;
 use mode_network::{Journey, Network, Step};

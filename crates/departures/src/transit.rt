@@ -1,7 +1,7 @@
 //! Whether an automaton reads letters of transit.
 
 ghost use Rattle.std.specs.Prelude.{◌≡◌, ◌<◌, false};
-ghost use Rattle.departures.specs.Transit.{NoneByTransit, ReadsNoTransit};
+ghost use Rattle.departures.specs.inside.Transit.{NoneByTransit, ReadsNoTransit};
 
 use search_laws::{Labels, TRANSIT};
 

@@ -41,12 +41,7 @@ pub fn bad_feed(
             let asked = ("an id of ", column.table());
             wrong_field(alloc, folder, files, (file, row, column), asked)
         }
-        FeedFault::RepeatedKey { file, row } => {
-            let (name, key) = (file.name(), key_of(file));
-            format!(in alloc;
-                "{folder}/{name}, row {row}: an earlier row has the same {key}, and no two rows may"
-            )
-        }
+        FeedFault::RepeatedKey { file, row } => repeated_key(alloc, folder, files, file, row),
         FeedFault::MixedZones { row } => {
             let at = (FeedFile::Agency, row, Column::AgencyTimezone);
             wrong_field(alloc, folder, files, at, ("", "that of the first row"))
@@ -85,16 +80,53 @@ fn wrong_field(
     format!(in alloc; "{folder}/{name}, row {row}: {title} is {field}: it must be {kind}{what}")
 }
 
-/// Which columns of a file no two rows have alike.
-fn key_of(file: FeedFile) -> &'static str {
-    match file {
-        FeedFile::CalendarDates => "service_id and date",
-        FeedFile::StopTimes => "trip_id and stop_sequence",
-        FeedFile::Stops => "stop_id",
-        FeedFile::Routes => "route_id",
-        FeedFile::Trips => "trip_id",
-        _ => "service_id",
+/// A row of a file has the key that an earlier one has, which is looked for by its text.
+fn repeated_key(
+    alloc: Global,
+    folder: &str,
+    files: &FeedFiles<'_>,
+    file: FeedFile,
+    row: u64,
+) -> Result<String, AllocError> {
+    let columns = key_of(file);
+    let one = raw_field(alloc, files, file, row, columns.0)?;
+    let other = raw_field(alloc, files, file, row, columns.1)?;
+    let key = key_shown(alloc, columns, (&one, &other))?;
+    let name = file.name();
+    match first_row(alloc, files, file, columns, (&one, &other)) {
+        Some(first) if first < row => format!(in alloc;
+            "{folder}/{name}, row {row}: {key}, as in row {first}: no two rows may have the same"
+        ),
+        _ => format!(in alloc;
+            "{folder}/{name}, row {row}: {key}, as in an earlier row: no two rows may have the same"
+        ),
     }
+}
+
+/// The columns of a file that no two rows have alike; the same one twice, where it is one.
+fn key_of(file: FeedFile) -> (Column, Column) {
+    match file {
+        FeedFile::CalendarDates => (Column::ServiceId, Column::Date),
+        FeedFile::StopTimes => (Column::TripId, Column::StopSequence),
+        FeedFile::Stops => (Column::StopId, Column::StopId),
+        FeedFile::Routes => (Column::RouteId, Column::RouteId),
+        FeedFile::Trips => (Column::TripId, Column::TripId),
+        _ => (Column::ServiceId, Column::ServiceId),
+    }
+}
+
+/// A key in words, as people can read it.
+fn key_shown(
+    alloc: Global,
+    columns: (Column, Column),
+    fields: (&[u8], &[u8]),
+) -> Result<String, AllocError> {
+    let (one, first) = (columns.0.name(), shown(alloc, fields.0)?);
+    if columns.0 == columns.1 {
+        return format!(in alloc; "{one} is {first}");
+    }
+    let (other, second) = (columns.1.name(), shown(alloc, fields.1)?);
+    format!(in alloc; "{one} is {first} and {other} is {second}")
 }
 
 fn text_of<'a>(files: &FeedFiles<'a>, file: FeedFile) -> Option<&'a [u8]> {
@@ -118,6 +150,18 @@ fn field_at(
     row: u64,
     column: Column,
 ) -> Result<String, AllocError> {
+    let field = raw_field(alloc, files, file, row, column)?;
+    shown(alloc, &field)
+}
+
+/// The bytes of the field of a row, counted from 1 at the header, in a column. A field that is not there is empty.
+fn raw_field(
+    alloc: Global,
+    files: &FeedFiles<'_>,
+    file: FeedFile,
+    row: u64,
+    column: Column,
+) -> Result<Vec<u8>, AllocError> {
     let mut place = None;
     let mut number: u64 = 0;
     let reader = ReaderBuilder::new()
@@ -134,10 +178,45 @@ fn field_at(
         }
         if number == row {
             let field = place.and_then(|place| record.get(place)).unwrap_or(&[]);
-            return shown(alloc, field);
+            return Ok(Vec::from_slice(alloc, field)?);
         }
     }
-    shown(alloc, &[])
+    Ok(Vec::new(alloc))
+}
+
+/// The first row behind the header that has these fields in these columns.
+fn first_row(
+    alloc: Global,
+    files: &FeedFiles<'_>,
+    file: FeedFile,
+    columns: (Column, Column),
+    fields: (&[u8], &[u8]),
+) -> Option<u64> {
+    let mut places = None;
+    let mut number: u64 = 0;
+    let reader = ReaderBuilder::new()
+        .has_headers(false)
+        .flexible(true)
+        .from_reader(alloc, text_of(files, file).unwrap_or(&[]));
+    for record in reader.into_byte_records() {
+        let Ok(record) = record else {
+            break;
+        };
+        number = number.saturating_add(1);
+        if number == 1 {
+            let one = column_in(&record, columns.0.name().as_bytes())?;
+            let other = column_in(&record, columns.1.name().as_bytes())?;
+            places = Some((one, other));
+        } else if places.is_some_and(|places| has_fields(&record, places, fields)) {
+            return Some(number);
+        }
+    }
+    None
+}
+
+/// Whether a row has these fields at these places.
+fn has_fields(record: &ByteRecord, places: (usize, usize), fields: (&[u8], &[u8])) -> bool {
+    record.get(places.0) == Some(fields.0) && record.get(places.1) == Some(fields.1)
 }
 
 /// Where a header names a column first.

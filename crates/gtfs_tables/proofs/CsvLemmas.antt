@@ -19,7 +19,7 @@ use Rattle.csv.specs.declared.parser.Action.{Action}
 use Rattle.csv.specs.declared.parser.Action.TheVariants as act
 use Rattle.csv.specs.declared.parser.Terminator.TheVariants as term
 use Rattle.gtfs_tables.specs.Columns.{Row}
-use Rattle.gtfs_tables.specs.RowsLeft.{HasStepped, IsWant, Source, TakesRows, rows_from}
+use Rattle.gtfs_tables.specs.inside.RowsLeft.{HasStepped, IsWant, Source, TakesRows, rows_from}
 
 -- where a byte ends a row, the next state stands between two rows
 abbrev StandsBetween : State × Action → Type 0

@@ -16,7 +16,7 @@ use Rattle.gtfs_tables.specs.Calls as Calls
 use Rattle.gtfs_tables.specs.FeedLists.{FeedLists, bytes_of}
 use Rattle.gtfs_tables.specs.Feeds.{feed_of, missing_file, tables_of}
 use Rattle.gtfs_tables.specs.Frequencies as Frequencies
-use Rattle.gtfs_tables.specs.Holding.{AreRead}
+use Rattle.gtfs_tables.specs.inside.Holding.{AreRead}
 use Rattle.gtfs_tables.specs.Routes as Routes
 use Rattle.gtfs_tables.specs.ServiceDates as Dates
 use Rattle.gtfs_tables.specs.Services as Services

@@ -26,7 +26,7 @@ use Rattle.gtfs_tables.specs.declared.trips.TripRow.{TripRow}
 use Rattle.gtfs_tables.specs.Calls.{StopTime, call_between, call_if_timed, call_row_of, calls, times_in, times_of, visit_in}
 use Rattle.gtfs_tables.specs.Forms.{added_at, feed_id_at, headway_at, hours_and_part, is_id, is_usual_at, letter_of_type, minutes_and_seconds_at, optional_time_at, positive, service_time_at, trimmed, up_to_nine_digits_at}
 use Rattle.gtfs_tables.specs.Frequencies.{Frequency, frequencies, frequency_of, frequency_over, span_in}
-use Rattle.gtfs_tables.specs.Holding.{AreRead}
+use Rattle.gtfs_tables.specs.inside.Holding.{AreRead}
 use Rattle.gtfs_tables.specs.Routes.{routes}
 use Rattle.gtfs_tables.specs.ServiceDates.{dates}
 use Rattle.gtfs_tables.specs.Services.{rule_in, services}

@@ -9,7 +9,7 @@ use Rattle.std.proofs.lemmas.Map.Keys.{IsDistinct-push}
 use Rattle.gtfs_tables.specs.Answers.{◌>>=◌, faultless}
 use Rattle.gtfs_tables.specs.Columns.{Row}
 use Rattle.gtfs_tables.specs.TableRows.{TableRow}
-use Rattle.gtfs_tables.specs.Holding.{AreRead}
+use Rattle.gtfs_tables.specs.inside.Holding.{AreRead}
 use Rattle.gtfs_tables.specs.Tables.{Table, first_dangling, row_fault, judged, row_of, rows_behind, header_in, rows_below, missing_column, rows_of_file}
 use Rattle.gtfs_tables.proofs.CallLemmas.{one_more_known}
 

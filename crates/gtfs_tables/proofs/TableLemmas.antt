@@ -16,7 +16,7 @@ use Rattle.gtfs_tables.specs.Answers.{◌>>=◌, faultless, IsFaultOf, IsWantOr}
 use Rattle.gtfs_tables.specs.Columns.{Row}
 use Rattle.gtfs_tables.specs.TableRows.{TableRow}
 use Rattle.gtfs_tables.specs.Tables.{IsWithinLimit, Table, limit_fault, first_dangling, has_first_zone, row_fault, judged, rows_behind}
-use Rattle.gtfs_tables.specs.Holding.{Holds, IsTaken, IsOnTheWay}
+use Rattle.gtfs_tables.specs.inside.Holding.{Holds, IsTaken, IsOnTheWay}
 use Rattle.gtfs_tables.proofs.ListLemmas.{list_any-map}
 
 past_limit : (limit : Option (Kind × ℕ)) (kind : Kind) (most count : ℕ) → limit ≡ Some (kind, most) → most < count → limit_fault limit count ≡ Some (TooMany kind)

@@ -12,7 +12,7 @@ use Rattle.gtfs_tables.specs.declared.calls.Visit.{Visit}
 use Rattle.gtfs_tables.specs.declared.calls.Times.{Times}
 use Rattle.gtfs_tables.specs.Answers.{◌>>=◌}
 use Rattle.gtfs_tables.specs.Forms.{up_to_nine_digits_at, optional_time_at, is_usual_at}
-use Rattle.gtfs_tables.specs.Holding.{Holds}
+use Rattle.gtfs_tables.specs.inside.Holding.{Holds}
 use Rattle.gtfs_tables.specs.TableRows.{TableRow, id_in, value_in}
 use Rattle.gtfs_tables.specs.Tables.{Table}
 use Rattle.gtfs_tables.specs.Trips.{place_among}

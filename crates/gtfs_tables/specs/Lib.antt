@@ -1,4 +1,4 @@
--- What a feed means: Feeds, with a page for each table, and Sound. RowsLeft, Finding, Holding and ReadTables tell what is kept while rows and tables are read.
+-- What a feed means: Feeds, with a page for each table, and Sound. The pages of inside tell what is kept while rows and tables are read.
 pub mod Answers
 pub mod Columns
 pub mod Files
@@ -16,7 +16,4 @@ pub mod Frequencies
 pub mod Calls
 pub mod Feeds
 pub mod Sound
-pub mod RowsLeft
-pub mod Finding
-pub mod Holding
-pub mod ReadTables
+pub mod inside

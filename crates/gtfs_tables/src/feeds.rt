@@ -3,7 +3,7 @@
 ghost use Rattle.std.specs.Prelude.{◌≡◌, None, Ok, IfOk, IfErr};
 ghost use Rattle.gtfs_tables.specs.Answers.{IsFaultOf};
 ghost use Rattle.gtfs_tables.specs.Feeds.{feed_of, first_absent, required};
-ghost use Rattle.gtfs_tables.specs.ReadTables.{AreTripTables, IsBasis, feed_rows};
+ghost use Rattle.gtfs_tables.specs.inside.ReadTables.{AreTripTables, IsBasis, feed_rows};
 ghost use Rattle.gtfs_tables.specs.Sound.{IsFeed};
 
 use crate::agencies::check_agencies;

@@ -4,7 +4,7 @@ ghost use Rattle.std.specs.Prelude.{◌≡◌, ◌≤◌, ◌^◌, [], ◌∷◌
 ghost use Rattle.gtfs_tables.specs.Answers.{IsFaultOf};
 ghost use Rattle.gtfs_tables.specs.FeedLists.{bytes_of};
 ghost use Rattle.gtfs_tables.specs.Frequencies as spec;
-ghost use Rattle.gtfs_tables.specs.Holding.{AreRead};
+ghost use Rattle.gtfs_tables.specs.inside.Holding.{AreRead};
 ghost use Rattle.gtfs_tables.specs.Tables.{records_of};
 
 use crate::columns::Column;

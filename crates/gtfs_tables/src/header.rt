@@ -4,7 +4,7 @@ ghost use Rattle.std.specs.Prelude.{◌≡◌, None, Some, IfErr, IfOk, OnOk};
 ghost use Rattle.csv.specs.Records.{fields_of};
 ghost use Rattle.gtfs_tables.specs.Columns.{place_of_column};
 ghost use Rattle.gtfs_tables.specs.Answers.{IsWantOr};
-ghost use Rattle.gtfs_tables.specs.Finding.{AreFound};
+ghost use Rattle.gtfs_tables.specs.inside.Finding.{AreFound};
 ghost use Rattle.gtfs_tables.specs.Tables.{header_in, missing_column, rows_below};
 
 use crate::columns::{Column, first_missing, place_of};
@@ -25,7 +25,7 @@ pub(crate) struct Header {
 impl Model for Header {
     ghost use Rattle.csv.specs.Records.{fields_of};
     ghost use Rattle.gtfs_tables.specs.Columns.{Row};
-    ghost use Rattle.gtfs_tables.specs.Finding.{AreFound};
+    ghost use Rattle.gtfs_tables.specs.inside.Finding.{AreFound};
 
     ghost Value = { Row };
 

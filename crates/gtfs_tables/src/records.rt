@@ -3,7 +3,7 @@
 ghost use Rattle.std.specs.Prelude.{◌≡◌, ◌∷◌, [], IfOk, MatchOption};
 ghost use Rattle.csv.specs.Reading.{error_kind};
 ghost use Rattle.csv.specs.Records.{fields_of};
-ghost use Rattle.gtfs_tables.specs.RowsLeft.{HasStepped, IsWant, TakesRows};
+ghost use Rattle.gtfs_tables.specs.inside.RowsLeft.{HasStepped, IsWant, TakesRows};
 ghost use Rattle.gtfs_tables.specs.Tables.{rows_of_file};
 
 use csv::{ByteRecord, ByteRecordsIntoIter, Error, ErrorKind, ReaderBuilder};
@@ -20,7 +20,7 @@ pub(crate) struct Rows<'a> {
 impl<'a> Model for Rows<'a> {
     ghost use Rattle.std.specs.Prelude.{List};
     ghost use Rattle.gtfs_tables.specs.Columns.{Row};
-    ghost use Rattle.gtfs_tables.specs.RowsLeft.{TakesRowsUnless, rows_left};
+    ghost use Rattle.gtfs_tables.specs.inside.RowsLeft.{TakesRowsUnless, rows_left};
 
     ghost Value = { List Row };
 

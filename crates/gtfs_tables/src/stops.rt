@@ -4,7 +4,7 @@ ghost use Rattle.std.specs.Prelude.{◌≡◌, [], ◌∷◌, ◌++◌, map, fal
 ghost use Rattle.std.specs.List.{list_any};
 ghost use Rattle.gtfs_tables.specs.Answers.{IsFaultOf};
 ghost use Rattle.gtfs_tables.specs.FeedLists.{bytes_of};
-ghost use Rattle.gtfs_tables.specs.Holding.{AreRead, HoldsListed};
+ghost use Rattle.gtfs_tables.specs.inside.Holding.{AreRead, HoldsListed};
 ghost use Rattle.gtfs_tables.specs.Stops as spec;
 ghost use Rattle.gtfs_tables.specs.Tables.{records_of};
 

@@ -3,7 +3,7 @@
 ghost use Rattle.std.specs.Prelude.{◌≡◌, ◌<◌, ◌≤◌, [], ◌++◌, List, length, option_to_list, Some, IfErr, IfOk, MatchResult, OnOk};
 ghost use Rattle.gtfs_tables.specs.Answers.{IsFaultOf, IsWantOr};
 ghost use Rattle.gtfs_tables.specs.FeedLists.{bytes_of};
-ghost use Rattle.gtfs_tables.specs.Holding.{AreTaken, IsRead, TakesRow};
+ghost use Rattle.gtfs_tables.specs.inside.Holding.{AreTaken, IsRead, TakesRow};
 ghost use Rattle.gtfs_tables.specs.Tables.{Table, records_of, rows_behind};
 ghost use Rattle.gtfs_tables.specs.declared.faults.FeedFault.TheVariants.{TooMany};
 

@@ -3,7 +3,7 @@
 ghost use Rattle.std.specs.Prelude.{◌≡◌, ◌≤◌, ◌^◌, [], ◌∷◌, ◌++◌, length, map, Ok, Err, IfErr, IfOk, MatchResult, OnOk};
 ghost use Rattle.gtfs_tables.specs.Answers.{IsFaultOf};
 ghost use Rattle.gtfs_tables.specs.FeedLists.{bytes_of};
-ghost use Rattle.gtfs_tables.specs.Holding.{AreRead, HoldsListed};
+ghost use Rattle.gtfs_tables.specs.inside.Holding.{AreRead, HoldsListed};
 ghost use Rattle.gtfs_tables.specs.Tables.{records_of};
 ghost use Rattle.gtfs_tables.specs.Trips as spec;
 

@@ -52,7 +52,8 @@ pub(crate) fn rows(
     requires ends { All (AreEndsBelow heights.now.nodes) entries.now }
     requires rising { IsNonDecreasingBy from_of entries.now }
     requires short { length entries.now < 2 ^ 63 }
-    ensures rows { IfOk result (λ made. AreRows heights.now.order.now entries.now heights.now.nodes made.0.items) }
+    ensures rows { IfOk result (λ made. AreRows heights.now.order.now entries.now heights.now.nodes
+        made.0.items) }
     ensures rises { IfOk result (λ made. made.1.items
         ≡ places_of (is_rise heights.now.order.now) entries.now) }
 {

@@ -4,7 +4,7 @@ ghost use Rattle.std.specs.Prelude.{◌<◌, ◌^◌, All, IfOk, length};
 ghost use Rattle.std.specs.List.Sorted.{IsNonDecreasingBy};
 ghost use Rattle.hierarchy.specs.Rules.{IsNode, FitsEntry};
 ghost use Rattle.hierarchy.specs.Lookups.{from_of};
-ghost use Rattle.hierarchy.specs.Tables.{AreTablesOf};
+ghost use Rattle.hierarchy.specs.inside.Tables.{AreTablesOf};
 
 use crate::entry::Entry;
 use crate::falls::fall_tables;

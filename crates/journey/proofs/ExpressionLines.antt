@@ -10,7 +10,7 @@ use Rattle.mode_expression.specs.declared.token.Token.TheVariants.{Unknown}
 use Rattle.mode_expression.specs.declared.place.Place.{Place}
 use Rattle.mode_expression.specs.declared.place.Place.TheVariants.{NeedsAtom, AfterAtom, AfterItem, Least, AfterLeast, Most, AfterMost}
 use Rattle.mode_expression.specs.Form.{Form}
-use Rattle.mode_expression.specs.Machine.{Reading, step_at, empty_reading}
+use Rattle.mode_expression.specs.inside.Machine.{Reading, step_at, empty_reading}
 use Rattle.mode_expression.specs.Tokens.{joins, widened, lexemes, Lexeme, placed_token, token_of, tokens_of}
 use Rattle.mode_expression.specs.Reading.{token, Spells}
 use Rattle.mode_expression.proofs.MachineLemmas.{accept, accept_sentence}

@@ -25,7 +25,7 @@ use Rattle.mode_network.proofs.RuleLemmas.{both, some_is, same_mode_is}
 use Rattle.plain_graph.specs.declared.plain.PlainArc.{PlainArc}
 use Rattle.plain_graph.specs.declared.plain.PlainArc.TheVariants.{Road, Link, Stand, Ride}
 use Rattle.plain_graph.specs.PlainArcs.{pattern_call, plain_arc, graph_arc, arrival, run_at, no_arc}
-use Rattle.plain_graph.specs.OutArcs.{IsArcFrom, IsRideFrom, IsOut, out_of}
+use Rattle.plain_graph.specs.inside.OutArcs.{IsArcFrom, IsRideFrom, IsOut, out_of}
 use Rattle.plain_graph.specs.Simulation.{IsNoWait}
 use Rattle.plain_graph.proofs.Same.{step_at, steps_are_arcs}
 use Rattle.latest_departure.specs.declared.source.Source.{Source}

@@ -23,7 +23,7 @@ use Rattle.journey.specs.Large.{IsSmall}
 use Rattle.journey.proofs.LargeLemmas.{same_size}
 use Rattle.planning.specs.Arrivals.{asked_to}
 use Rattle.matrix_commands.specs.Cells.{query_line_of}
-use Rattle.matrix_commands.specs.Working.{IsEndQuery, IsField}
+use Rattle.matrix_commands.specs.inside.Working.{IsEndQuery, IsField}
 
 -- ---- the fields of the query line
 

@@ -2,4 +2,4 @@ pub mod Cells
 pub mod Rows
 pub mod Commands
 pub mod Complete
-pub mod Working
+pub mod inside

@@ -2,7 +2,7 @@
 
 ghost use Rattle.std.specs.Prelude.{◌≡◌, ◌∷◌, ◌++◌, ◌==◌, ◌↔◌, [], IfOk, IfSome, IsTrue, OnOk, map, position};
 ghost use Rattle.matrix_commands.specs.Cells.{query_line_of};
-ghost use Rattle.matrix_commands.specs.Working.{AreEndQueries, IsEndIfAny, IsField};
+ghost use Rattle.matrix_commands.specs.inside.Working.{AreEndQueries, IsEndIfAny, IsField};
 
 use journey::{Query, QueryFault, large_places, read_query};
 use mode_network::Network;
@@ -21,7 +21,7 @@ pub struct Asking<'a> {
 impl Asking<'_> {
     ghost use Rattle.std.specs.Prelude.{◌≡◌, ◌↔◌, IfOk, IsTrue};
     ghost use Rattle.matrix_commands.specs.Cells.{query_line_of};
-    ghost use Rattle.matrix_commands.specs.Working.{IsField};
+    ghost use Rattle.matrix_commands.specs.inside.Working.{IsField};
 
     /// The query line of an origin and a destination.
     pub(crate) fn line_of(

@@ -5,7 +5,7 @@ ghost use Rattle.hierarchy.specs.Soundness.{IsSound};
 ghost use Rattle.plain_texts.specs.Lines.{with_feed};
 ghost use Rattle.matrix_commands.specs.Cells.{IsRightCell, cell_text};
 ghost use Rattle.matrix_commands.specs.Rows.{row_text};
-ghost use Rattle.matrix_commands.specs.Working.{cell_of_arrival};
+ghost use Rattle.matrix_commands.specs.inside.Working.{cell_of_arrival};
 
 use hierarchy::Hierarchy;
 use journey::{QueryFault, large_places, push_refusal, read_query};

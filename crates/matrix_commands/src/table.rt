@@ -1,7 +1,7 @@
 //! The rows of a table of times.
 
 ghost use Rattle.std.specs.Prelude.{◌≡◌, ◌<◌, [], IfOk, length, slice_index_or};
-ghost use Rattle.matrix_commands.specs.Working.{AreRowsIn, IsCellIn, IsOrigin, IsReadyTable, lines_in};
+ghost use Rattle.matrix_commands.specs.inside.Working.{AreRowsIn, IsCellIn, IsOrigin, IsReadyTable, lines_in};
 
 use crate::asking::{Asking, read_end};
 use crate::cell::{Cell, cell_of, push_row, timed};
@@ -30,7 +30,7 @@ struct Origin<'a> {
 
 impl LineBlocks for Table<'_> {
     ghost use Rattle.std.specs.Prelude.{◌≡◌};
-    ghost use Rattle.matrix_commands.specs.Working.{AreRowsIn, IsReadyTable};
+    ghost use Rattle.matrix_commands.specs.inside.Working.{AreRowsIn, IsReadyTable};
 
     ghost may = { IsReadyTable };
 

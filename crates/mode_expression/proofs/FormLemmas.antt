@@ -6,8 +6,8 @@ use mathlib.Core.Former.{Count}
 use Rattle.mode_expression.specs.declared.expr.Expr.{Expr, Seq, Seq', Alt, Alt', Repeat, Row_of-Expr, end_of-Expr, more_of-Expr, items-the_row-Expr, items_hidden-the_row-Expr-0}
 use Rattle.mode_expression.specs.Form.{Form, form_of, form_in_turn, form_of_one, in_turn, one_of, both, either, repeated}
 use Rattle.mode_expression.specs.Grammar.{sequence, alternative}
-use Rattle.mode_expression.specs.Machine.{Frame, in_order_onto, with_choice, group_of}
-use Rattle.mode_expression.specs.Views.{latest}
+use Rattle.mode_expression.specs.inside.Machine.{Frame, in_order_onto, with_choice, group_of}
+use Rattle.mode_expression.specs.inside.Views.{latest}
 
 abbrev row_of : Expr → (n : Count) × Row_of-Expr n
 row_of (Seq' _ row) = (_, row)

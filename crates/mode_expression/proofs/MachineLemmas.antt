@@ -7,7 +7,7 @@ use Rattle.mode_expression.specs.declared.place.Place.{Place}
 use Rattle.mode_expression.specs.declared.place.Place.TheVariants.{NeedsAtom, AfterAtom, AfterItem, Least, AfterLeast, Most, AfterMost}
 use Rattle.mode_expression.specs.Form.{Form, letters}
 use Rattle.mode_expression.specs.Grammar.{Suffix, star, plus, question, exactly, between, Choice, only, or, Row, last, next, Item, plain, counted, Atom, name, group, suffix_tokens, choice_tokens, row_tokens, item_tokens, atom_tokens, sequence, alternative, counted_form, choice_forms, row_forms, item_form, atom_form, IsSentence}
-use Rattle.mode_expression.specs.Machine.{Frame, Reading, in_order_onto, step, step_atom, step_item, step_suffix, step_least, step_after_least, step_most, step_after_most, repeat_last, finish, empty_reading}
+use Rattle.mode_expression.specs.inside.Machine.{Frame, Reading, in_order_onto, step, step_atom, step_item, step_suffix, step_least, step_after_least, step_most, step_after_most, repeat_last, finish, empty_reading}
 
 abbrev pub reading : List Frame → List Form → List Form → Place → Reading
 reading outer choices parts place = record { outer = outer; frame = record { choices = choices; parts = parts }; place = place }

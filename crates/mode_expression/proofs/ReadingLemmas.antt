@@ -9,7 +9,7 @@ use Rattle.mode_expression.specs.declared.place.Place.TheVariants.{NeedsAtom, Af
 use Rattle.mode_expression.specs.Form.{Form, letters, repeated}
 use Rattle.mode_expression.specs.Grammar.{sequence, alternative, IsSentence, BeginsSentence}
 use Rattle.mode_expression.specs.Tokens.{Placed, tokens_of}
-use Rattle.mode_expression.specs.Machine.{Frame, Reading, in_order_onto, step, step_atom, step_item, step_suffix, step_least, step_after_least, step_most, step_after_most, repeat_last, finish, empty_reading, read_from, read_on, ok_or_at}
+use Rattle.mode_expression.specs.inside.Machine.{Frame, Reading, in_order_onto, step, step_atom, step_item, step_suffix, step_least, step_after_least, step_most, step_after_most, repeat_last, finish, empty_reading, read_from, read_on, ok_or_at}
 use Rattle.mode_expression.specs.Reading.{token, Spells, IsMisplaced, IsUnfinished, IsReadAs, reading_of}
 use Rattle.mode_expression.proofs.MachineLemmas.{reading, accept, EndsItem, accept_close, finish_ends, accept_sentence, sentence_of_accepted}
 

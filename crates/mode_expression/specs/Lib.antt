@@ -2,6 +2,5 @@ pub mod Form
 pub mod Letters
 pub mod Tokens
 pub mod Grammar
-pub mod Machine
 pub mod Reading
-pub mod Views
+pub mod inside

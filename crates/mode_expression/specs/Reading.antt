@@ -6,7 +6,7 @@ use Rattle.mode_expression.specs.declared.token.Token.{Token}
 use Rattle.mode_expression.specs.Form.{Form, IsUsable, places}
 use Rattle.mode_expression.specs.Grammar.{IsSentence, BeginsSentence}
 use Rattle.mode_expression.specs.Tokens.{Placed, tokens_of}
-use Rattle.mode_expression.specs.Machine.{empty_reading, read_from}
+use Rattle.mode_expression.specs.inside.Machine.{empty_reading, read_from}
 
 abbrev pub token : Placed → Token
 token t = t.token

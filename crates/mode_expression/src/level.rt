@@ -1,8 +1,8 @@
 ghost use Rattle.std.specs.Prelude.{◌≡◌, ◌≢◌, map, IfOk, OnOk, IfErr, OnErr, length, ◌∷◌, []};
 ghost use Rattle.mode_expression.specs.Form.{form_of};
 ghost use Rattle.mode_expression.specs.Grammar.{sequence, alternative};
-ghost use Rattle.mode_expression.specs.Machine.{empty_frame, with_part, with_choice};
-ghost use Rattle.mode_expression.specs.Machine.{group_of, repeat_in};
+ghost use Rattle.mode_expression.specs.inside.Machine.{empty_frame, with_part, with_choice};
+ghost use Rattle.mode_expression.specs.inside.Machine.{group_of, repeat_in};
 
 use crate::expr::Expr;
 use std::alloc::{AllocError, Global};
@@ -48,7 +48,7 @@ fn make_alternative(parts: Vec<Expr>) -> Expr
 }
 
 impl Level {
-    ghost use Rattle.mode_expression.specs.Views.{frame_of, IsLevelAfter};
+    ghost use Rattle.mode_expression.specs.inside.Views.{frame_of, IsLevelAfter};
 
     pub fn new(alloc: Global) -> Level
         ensures { frame_of result ≡ empty_frame }

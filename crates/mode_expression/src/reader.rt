@@ -1,9 +1,9 @@
 ghost use Rattle.std.specs.Prelude.{◌≡◌, IfOk, OnOk, Some, option_map, true};
 ghost use Rattle.mode_expression.specs.Form.{form_of};
-ghost use Rattle.mode_expression.specs.Machine.{empty_reading, finish, at_place};
-ghost use Rattle.mode_expression.specs.Machine.{put_atom, open_group, close_group, end_row, repeat_last};
-ghost use Rattle.mode_expression.specs.Machine.{step, step_atom, step_item, step_suffix};
-ghost use Rattle.mode_expression.specs.Machine.{step_after_least, step_most};
+ghost use Rattle.mode_expression.specs.inside.Machine.{empty_reading, finish, at_place};
+ghost use Rattle.mode_expression.specs.inside.Machine.{put_atom, open_group, close_group, end_row, repeat_last};
+ghost use Rattle.mode_expression.specs.inside.Machine.{step, step_atom, step_item, step_suffix};
+ghost use Rattle.mode_expression.specs.inside.Machine.{step_after_least, step_most};
 
 use crate::expr::Expr;
 use crate::level::Level;
@@ -23,7 +23,7 @@ pub struct Reader {
 }
 
 impl Reader {
-    ghost use Rattle.mode_expression.specs.Views.{IsAfter, state_of_reader};
+    ghost use Rattle.mode_expression.specs.inside.Views.{IsAfter, state_of_reader};
 
     pub fn new(alloc: Global) -> Reader
         ensures { state_of_reader result ≡ empty_reading }

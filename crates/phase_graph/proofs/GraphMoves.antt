@@ -35,7 +35,7 @@ use Rattle.hierarchy.proofs.OffsetLemmas.{in_range_of_key}
 use Rattle.plain_graph.specs.declared.plain.PlainArc.{PlainArc}
 use Rattle.plain_graph.specs.declared.plain.PlainArc.TheVariants.{Road, Link, Stand, Ride}
 use Rattle.plain_graph.specs.PlainArcs.{plain_meaning, plain_arc, count_from, stands_at, run_at, arrival, graph_arc, no_arc}
-use Rattle.plain_graph.specs.OutArcs.{IsOut, IsArcFrom, out_of, no_mode}
+use Rattle.plain_graph.specs.inside.OutArcs.{IsOut, IsArcFrom, out_of, no_mode}
 use Rattle.plain_graph.specs.Simulation.{IsNoWait}
 use Rattle.plain_graph.proofs.PlaceTies.{stand_at}
 use Rattle.plain_graph.proofs.Same.{step_at, steps_are_arcs}

@@ -19,7 +19,7 @@ use Rattle.mode_network.proofs.IndexLemmas.{range_is_range}
 use Rattle.plain_graph.specs.declared.plain.PlainArc.{PlainArc}
 use Rattle.plain_graph.specs.declared.plain.PlainArc.TheVariants.{Road, Link, Stand}
 use Rattle.plain_graph.specs.PlainArcs.{plain_arc, plain_meaning, graph_arc, arrival, count_from, stands_at, rides_of, rides_from_stop, inner_arcs_at, no_arc}
-use Rattle.plain_graph.specs.OutArcs.{stop_found, no_mode}
+use Rattle.plain_graph.specs.inside.OutArcs.{stop_found, no_mode}
 use Rattle.plain_graph.specs.BoardWays.{boards_ways}
 use Rattle.plain_graph.proofs.BoardTies.{stop_ways}
 

@@ -25,7 +25,7 @@ use Rattle.plain_graph.specs.declared.plain.PlainArc.{PlainArc}
 use Rattle.plain_graph.specs.declared.plain.PlainArc.TheVariants.{Road, Link, Stand, Ride}
 use Rattle.plain_graph.specs.PlainArcs.{plain_arc, plain_meaning, graph_arc, run_at, arrival, no_arc, pattern_call}
 use Rattle.plain_graph.specs.Simulation.{step_of, WalksAreJourneys, HasPlainWalk, JourneysAreWalks, ArcsAreSteps, HasArcBy, IsNoWait, StepsAreArcs}
-use Rattle.plain_graph.specs.OutArcs.{IsArcFrom, IsRideFrom, IsOut, out_of, place_of}
+use Rattle.plain_graph.specs.inside.OutArcs.{IsArcFrom, IsRideFrom, IsOut, out_of, place_of}
 use Rattle.plain_graph.specs.Rides.{takes, alights_within}
 use Rattle.plain_graph.specs.Lawful.{node_of, plain_lawful}
 use Rattle.mode_network.proofs.RuleLemmas.{some_is}

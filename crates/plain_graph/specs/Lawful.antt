@@ -23,7 +23,7 @@ use Rattle.mode_network.proofs.RuleLemmas.{both, some_is, links_in_range, arcs_i
 use Rattle.plain_graph.specs.declared.plain.PlainArc.{PlainArc}
 use Rattle.plain_graph.specs.declared.plain.PlainArc.TheVariants.{Road, Link, Stand, Ride}
 use Rattle.plain_graph.specs.PlainArcs.{pattern_call, plain_arc, plain_meaning, graph_arc, run_at, arrival, no_arc}
-use Rattle.plain_graph.specs.OutArcs.{IsOut, out_of}
+use Rattle.plain_graph.specs.inside.OutArcs.{IsOut, out_of}
 use Rattle.plain_graph.specs.Rides.{alights_within, rides_on, takes}
 
 -- there is one proof at most that a graph is lawful

@@ -7,7 +7,7 @@ use Rattle.mode_network.proofs.RuleLemmas.{both}
 use Rattle.region_file.specs.declared.format.Format.TheVariants.{Binary}
 use Rattle.command_line.specs.Description.{modeplan}
 use Rattle.command_words.specs.Requests.{Request, AsksFor, small_number_of_word, size_of_word, format_or, keep_or_none, commands, request_at, two_at, days_and_format_at, compile_at, migrate_at, contract_at, check_at, sample_at, answer_at, certify_at, verify_at, few_at, latest_at, certify_latest_at, verify_latest_at, asking_at, limits_at, places_at, profile_at, matrix_at, requests_at, window_or_two_hours, compile, migrate, contract, answer, certify, verify, check, sample, latest, certify_latest, verify_latest, few, profile, matrix, requests}
-use Rattle.planner_core.specs.Working.{HasSize}
+use Rattle.planner_core.specs.inside.Working.{HasSize}
 
 in_range : (n size : ℕ) (fits : Bool) → nat_le 1 n && nat_le n 300 ≡ fits → (if fits then Some n else None) ≡ Some size → (1 ≤ size) × (size ≤ 300)
 in_range n size true fits e =

@@ -1,4 +1,4 @@
 pub mod Commands
 pub mod Outcomes
 pub mod Complete
-pub mod Working
+pub mod inside

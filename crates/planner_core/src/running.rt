@@ -8,7 +8,7 @@ ghost use Rattle.run_steps.specs.Sayings.{end_of};
 ghost use Rattle.planner_core.specs.Commands.{says};
 ghost use Rattle.planner_core.specs.Outcomes.{IsOutcome, AreFull};
 ghost use Rattle.planner_core.specs.Complete.{IsComplete};
-ghost use Rattle.planner_core.specs.Working.{HasSize};
+ghost use Rattle.planner_core.specs.inside.Working.{HasSize};
 
 use answer_commands::{answer, certify, verify};
 use command_help::help;

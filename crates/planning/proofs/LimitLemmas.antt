@@ -16,7 +16,7 @@ use Rattle.journey.specs.Queries.{IsRefused}
 use Rattle.journey.specs.Best.{Asked, asked_by}
 use Rattle.planning.specs.Settled.{HasLabelCount, IsLabelCount, told_count}
 use Rattle.planning.specs.Limits.{SearchHasMore, SearchHasAtMost, IsLineWithin, IsWithinLabels}
-use Rattle.planning.specs.Searched.{IsSearchSpace}
+use Rattle.planning.specs.inside.Searched.{IsSearchSpace}
 use Rattle.planning.proofs.AnyGraph.{more_over}
 
 pub has_more : (n : NetworkLists) → IsNetwork n → (h : Option HierarchyLists) (q : Query) (g : GraphMeaning) (l : LabelsMeaning) (starts ends : List ℕ)

@@ -38,7 +38,7 @@ use Rattle.certificate.specs.Verdicts.{claim_on}
 use Rattle.certificate.proofs.UniqueLemmas.{journey_once}
 use Rattle.certificate.proofs.VerifyLemmas.{best_result}
 use Rattle.planning.specs.Plans.{IsCertifiable, IsPlan, both, route_of}
-use Rattle.planning.specs.Searched.{IsSearchSpace, IsWalkOf, IsJourneyUnder, LiesUnder}
+use Rattle.planning.specs.inside.Searched.{IsSearchSpace, IsWalkOf, IsJourneyUnder, LiesUnder}
 
 -- ---- numbers of the graph in use
 

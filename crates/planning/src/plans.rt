@@ -7,7 +7,7 @@ ghost use Rattle.journey.specs.Best.{asked_by};
 ghost use Rattle.phase_graph.specs.InUseGraph.{meaning_in_use, network_in, hierarchy_in};
 ghost use Rattle.planning.specs.Arrivals.{IsBestArrival};
 ghost use Rattle.planning.specs.Plans.{IsRead, IsPlan, AreTheLabels, IsCertifiable, both, route_of};
-ghost use Rattle.planning.specs.Searched.{IsSearchSpace, IsWalkOf, IsJourneyUnder};
+ghost use Rattle.planning.specs.inside.Searched.{IsSearchSpace, IsWalkOf, IsJourneyUnder};
 ghost use Rattle.planning.specs.Settled.{HasLabelCount, IsLabelCount, told_count};
 ghost use Rattle.planning.specs.Limits.{SearchHasAtMost, SearchHasMore};
 ghost use Rattle.product_search.specs.Limits.{IfEnded, IfStopped};

@@ -5,7 +5,7 @@ use Rattle.search_laws.specs.Letters.{transit_letters}
 use Rattle.search_laws.specs.declared.labels.Move.{Move}
 use Rattle.search_laws.specs.LabelLaws.{LabelsMeaning, HasMove}
 use Rattle.automaton.specs.Written.{Written}
-use Rattle.automaton.specs.Rows.{position_rows, entry}
+use Rattle.automaton.specs.inside.Rows.{position_rows, entry}
 use Rattle.automaton.specs.States.{IsPositionAutomaton}
 use Rattle.automaton.specs.Collapsed.{move_by, stay, other_move, collapsed}
 use Rattle.automaton.specs.CollapsedLaws.{and_set, set_and, no_bits, move_to}

@@ -8,7 +8,7 @@ use Rattle.plan_base.specs.declared.places.Place.{Place}
 use Rattle.geo_length.specs.Nearest.{Point, IsNearest, ExtendsNearest, length_to, nearer_of}
 use Rattle.geo_length.proofs.NearestLaws.{takes_append, takes_none, takes_point}
 use Rattle.mode_network.specs.declared.nodes.Node.{Node}
-use Rattle.region_build.specs.Layers.{near_of, nearest_of}
+use Rattle.region_build.specs.inside.Layers.{near_of, nearest_of}
 use Rattle.region_build.specs.Links.{FindsNearest, layer}
 
 takes_all : (place : Place) (points : List Point) (best : Option (ℤ × ℕ)) → ExtendsNearest points place 500000 best (fold (λ (best : Option (ℤ × ℕ)) (point : Point). nearer_of 500000 best point.0 (length_to place point)) best points)

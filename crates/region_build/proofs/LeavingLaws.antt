@@ -14,7 +14,7 @@ use Rattle.std.proofs.lemmas.Nat.{mul-le}
 use Rattle.gtfs_tables.specs.declared.calls.CallRow.{CallRow}
 use Rattle.gtfs_tables.specs.declared.frequencies.FrequencyRow.{FrequencyRow}
 use Rattle.region_build.specs.Copies.{departing, departures_by, departures_of, first_departure, is_copy_early, is_kept, leaves_of, runs}
-use Rattle.region_build.specs.Leaving.{kept_before, kept_by, late_by, latest_of, leaves_by}
+use Rattle.region_build.specs.inside.Leaving.{kept_before, kept_by, late_by, latest_of, leaves_by}
 use Rattle.region_build.specs.Left.{late_copies}
 use Rattle.region_build.specs.Sources.{SourceLists}
 

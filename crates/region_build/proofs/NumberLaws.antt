@@ -3,7 +3,7 @@ use Rattle.std.proofs.Common.{◌≡◌, ℕ, nat_eq, Bool, true, false, Option,
 use Rattle.region_build.specs.declared.stops.StopEntry.{StopEntry}
 use Rattle.region_build.specs.StopNames.{number_from}
 use Rattle.std.specs.Option.{option_or}
-use Rattle.region_build.specs.Numbers.{number_with}
+use Rattle.region_build.specs.inside.Numbers.{number_with}
 
 -- a key that is noted now stands before the later ones
 pub noted_before : (old : Option ℕ) (key number other : ℕ) (later : Option ℕ)

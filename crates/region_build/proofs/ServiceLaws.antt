@@ -17,7 +17,7 @@ use Rattle.plan_base.specs.declared.days.DaySet.{DaySet}
 use Rattle.gtfs_tables.specs.FeedLists.{FeedLists}
 use Rattle.gtfs_tables.specs.declared.dates.DateRow.{DateRow}
 use Rattle.gtfs_tables.specs.declared.services.ServiceRow.{ServiceRow}
-use Rattle.region_build.specs.ByService.{KnowDays, TellServices, rule_with}
+use Rattle.region_build.specs.inside.ByService.{KnowDays, TellServices, rule_with}
 use Rattle.region_build.specs.Services.{AreDaysBy, AreDaysOf, dates_of, is_change, rule_of}
 
 -- one service more

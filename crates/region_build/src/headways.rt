@@ -4,7 +4,7 @@ ghost use Rattle.std.specs.Prelude.{◌≡◌, ◌<◌, ◌≤◌, ◌-◌, ◌+
 ghost use Rattle.std.specs.Int.{div_ceil};
 ghost use Rattle.std.specs.List.{AllByRecursion, flat_map, list_all};
 ghost use Rattle.region_build.specs.Copies as spec;
-ghost use Rattle.region_build.specs.Leaving.{kept_before, kept_by, late_by, latest_of, leaves_by};
+ghost use Rattle.region_build.specs.inside.Leaving.{kept_before, kept_by, late_by, latest_of, leaves_by};
 ghost use Rattle.region_build.specs.Left.{late_copies};
 ghost use Rattle.region_build.specs.Sources.{lists_of};
 

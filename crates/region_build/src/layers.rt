@@ -5,7 +5,7 @@ ghost use Rattle.plan_base.specs.declared.places.Place.{Place};
 ghost use Rattle.geo_length.specs.Nearest.{IsNearest};
 ghost use Rattle.mode_network.specs.declared.nodes.Node.{Node};
 ghost use Rattle.region_build.specs.Links as spec;
-ghost use Rattle.region_build.specs.Layers.{near_of};
+ghost use Rattle.region_build.specs.inside.Layers.{near_of};
 
 use geo_length::Grid;
 use mode_network::{Node, NodeKey};
@@ -65,7 +65,7 @@ fn layer_of(alloc: Global, mode: Mode, roads: &[Node]) -> Result<Grid, AllocErro
 impl Layers {
     ghost use Rattle.std.specs.Prelude.{◌≡◌, IfOk, IfSome, ◌≤◌, ◌^◌, ◌<◌};
     ghost use Rattle.region_build.specs.Links.{FindsNearest};
-    ghost use Rattle.region_build.specs.Layers.{near_of, points_by};
+    ghost use Rattle.region_build.specs.inside.Layers.{near_of, points_by};
 
     /// The layers of these road nodes.
     pub(crate) fn of(alloc: Global, roads: &[Node]) -> Result<Layers, AllocError>

@@ -3,7 +3,7 @@
 ghost use Rattle.std.specs.Prelude.{◌≡◌, ◌+◌, ◌≤◌, ◌<◌, ◌^◌, ◌++◌, ◌∷◌, [], length, true, false, if◌then◌else◌, IfOk, OnOk};
 ghost use Rattle.region_build.specs.Links as spec;
 ghost use Rattle.region_build.specs.Ends.{number_of_end};
-ghost use Rattle.region_build.specs.Layers.{near_of};
+ghost use Rattle.region_build.specs.inside.Layers.{near_of};
 
 use crate::ends::Ends;
 use crate::layers::Layers;

@@ -1,7 +1,7 @@
 //! The days on which the services of a feed run.
 
 ghost use Rattle.std.specs.Prelude.{◌≡◌, ◌++◌, ◌∷◌, [], ℕ, List, bytes_eq, if◌then◌else◌, IfOk, OnOk};
-ghost use Rattle.region_build.specs.ByService.{at, listed, rule_with};
+ghost use Rattle.region_build.specs.inside.ByService.{at, listed, rule_with};
 ghost use Rattle.region_build.specs.Services as spec;
 
 use gtfs_tables::{DateRow, Feed, ServiceRow};
@@ -86,7 +86,7 @@ fn dates_of(
 
 impl<'a> Services<'a> {
     ghost use Rattle.std.specs.Prelude.{IfOk};
-    ghost use Rattle.region_build.specs.ByService.{KnowDays, TellServices, at, listed};
+    ghost use Rattle.region_build.specs.inside.ByService.{KnowDays, TellServices, at, listed};
     ghost use Rattle.region_build.specs.Services.{AreDaysBy};
 
     /// What the tables of a feed say of its services.

@@ -8,7 +8,7 @@ ghost use Rattle.plain_texts.specs.Escape.{escaped};
 ghost use Rattle.gtfs_tables.specs.Sound.{IsFeedId};
 ghost use Rattle.mode_network.specs.Rules.{name_cmp};
 ghost use Rattle.region_build.specs.StopNames as spec;
-ghost use Rattle.region_build.specs.Numbers.{number_with};
+ghost use Rattle.region_build.specs.inside.Numbers.{number_with};
 
 use gtfs_tables::StopRow;
 use mode_network::{Node, NodeKey};

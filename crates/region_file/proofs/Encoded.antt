@@ -20,7 +20,7 @@ use Rattle.region_file.specs.declared.lines.Line.{Line}
 use Rattle.region_file.specs.declared.lines.Line.TheVariants as line
 use Rattle.region_file.specs.Bytes.{arc_bytes, counts_of, head_bytes, record_bytes, region_bytes}
 use Rattle.region_file.specs.Lines.{head_line, key_line, node_line, region_lines, region_text, spelled, stop_line, trip_lines}
-use Rattle.region_file.specs.Texts.{line_text, name_at, named_line, node_line_text, node_record, trip_records, trip_text}
+use Rattle.region_file.specs.inside.Texts.{line_text, name_at, named_line, node_line_text, node_record, trip_records, trip_text}
 
 -- One element more of a list.
 module _ {X : Type 0} (xs : List X) (k : ℕ) (x : X) (within : k < length xs) (is : get_or xs k x ≡ x) where

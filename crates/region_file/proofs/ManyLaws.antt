@@ -9,7 +9,7 @@ use Rattle.timetable_arcs.specs.Trips.{TripLists}
 use Rattle.region_file.specs.Bytes.{call_bytes, trip_bytes}
 use Rattle.region_file.specs.Fronts.{call_front, trip_front}
 use Rattle.region_file.specs.Lines.{FitsCall, FitsTrip}
-use Rattle.region_file.specs.Texts.{trip_records}
+use Rattle.region_file.specs.inside.Texts.{trip_records}
 use Rattle.region_file.specs.Records.{◌>>=◌, many, one, or_left, trip_read}
 use Rattle.region_file.proofs.FrontLaws.{IsBytes, Takes, Takes-then}
 use Rattle.region_file.proofs.LoopLemmas.{many_ok, onto}

@@ -23,7 +23,7 @@ use Rattle.region_file.specs.declared.section.Section.TheVariants as section
 use Rattle.region_file.specs.Bytes.{arc_bytes, call_bytes, record_bytes}
 use Rattle.region_file.specs.Due.{Due, announce, next_behind, record_after}
 use Rattle.region_file.specs.Lines.{FitsArc, FitsCall, FitsLine, key_line, node_line, trip_lines}
-use Rattle.region_file.specs.Texts.{trip_records}
+use Rattle.region_file.specs.inside.Texts.{trip_records}
 use Rattle.region_file.proofs.Fits.{both_fit, road_fits, switch_fits}
 use Rattle.region_file.proofs.ManyLaws.{CallsStop, FitsRow, OneStop, StopsAt, TripStop}
 use Rattle.region_file.proofs.RecordLaws.{FitsHead, IsNamed, IsRoadNode, IsSwitchNode, head_bytes_of, node_bytes, stop_bytes}

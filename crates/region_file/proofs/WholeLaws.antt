@@ -21,7 +21,7 @@ use Rattle.region_file.specs.declared.lines.Line.TheVariants as line
 use Rattle.region_file.specs.Bytes.{arc_bytes, counts_of, record_bytes}
 use Rattle.region_file.specs.Fronts.{arc_front, road_front, stop_front, switch_front}
 use Rattle.region_file.specs.Lines.{FitsArc, FitsCall, FitsDays, FitsLine, IsRegion, node_line, region_lines, stop_line, trip_lines}
-use Rattle.region_file.specs.Texts.{trip_records}
+use Rattle.region_file.specs.inside.Texts.{trip_records}
 use Rattle.region_file.specs.Records.{many, network_records, one, stop_nodes, stops_read, trip_read}
 use Rattle.region_file.proofs.Fits.{both_fit, road_fits, switch_fits}
 use Rattle.region_file.proofs.FrontLaws.{IsBytes, Takes, Takes-then}

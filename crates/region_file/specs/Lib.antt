@@ -7,4 +7,4 @@ pub mod Fronts
 pub mod Records
 pub mod Due
 pub mod Regions
-pub mod Texts
+pub mod inside

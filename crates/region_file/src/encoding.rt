@@ -7,7 +7,7 @@ ghost use Rattle.mode_network.specs.NetworkLists.{nodes_of};
 ghost use Rattle.mode_network.specs.Rules.{first_fault};
 ghost use Rattle.region_file.specs.Bytes.{arc_bytes, call_bytes, counts_of, region_bytes};
 ghost use Rattle.region_file.specs.Regions.{IsDecoded, spelling};
-ghost use Rattle.region_file.specs.Texts.{IsNamedKey, node_record, trip_records};
+ghost use Rattle.region_file.specs.inside.Texts.{IsNamedKey, node_record, trip_records};
 
 use crate::counts::Counts;
 use crate::format::Format;

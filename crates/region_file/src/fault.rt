@@ -10,14 +10,16 @@ use std::alloc::{AllocError, AllocFailed};
 /// The first thing that is wrong with the bytes of a region.
 #[derive(Clone, Copy, Debug, PartialEq, Eq)]
 pub enum RegionFault {
-    /// The bytes do not begin with the head line.
+    /// The bytes begin neither with the head line of a text nor with a head of records.
     BadHead,
-    /// This line, counted from 1, is the first that may not stand there. Where the text ends too early it is
-    /// the line after the last whole one.
+    /// Of a text, this line, counted from 1, is the first that may not stand there; where the text ends too early it
+    /// is the line after the last whole one. Of records, the first that may not stand there, or is cut short, begins
+    /// at this byte, counted from 0.
     BadRecord { at: u64 },
-    /// Each line may stand where it does, but the network breaks a rule.
+    /// Each line or record may stand where it does, but the network breaks a rule.
     Network(NetFault),
-    /// Bytes follow the last line; this line, counted from 1, is where they begin.
+    /// Bytes follow the last line or record. Where they begin: this line, counted from 1, of a text, and this byte,
+    /// counted from 0, of records.
     Trailing { at: u64 },
     /// Memory ran out.
     OutOfMemory,

@@ -5,7 +5,7 @@ ghost use Rattle.std.specs.Fmt.{signed_decimal};
 ghost use Rattle.plain_texts.specs.Hexadecimal.{hexadecimal};
 ghost use Rattle.plain_texts.specs.Lines.{spaced};
 ghost use Rattle.region_file.specs.Lines.{arc_words, flags_of, mode_name, place_words};
-ghost use Rattle.region_file.specs.Texts.{call_text, line_text};
+ghost use Rattle.region_file.specs.inside.Texts.{call_text, line_text};
 ghost use Rattle.region_file.specs.declared.lines.Line.TheVariants as line;
 
 use crate::letters::letter_name;

@@ -7,7 +7,7 @@ ghost use Rattle.mode_network.specs.NetworkLists.{nodes_of};
 ghost use Rattle.mode_network.specs.Rules.{first_fault};
 ghost use Rattle.region_file.specs.Lines.{region_text};
 ghost use Rattle.region_file.specs.Regions.{IsDecoded};
-ghost use Rattle.region_file.specs.Texts.{IsNamedKey, call_text, line_text, node_line_text, trip_text};
+ghost use Rattle.region_file.specs.inside.Texts.{IsNamedKey, call_text, line_text, node_line_text, trip_text};
 ghost use Rattle.region_file.specs.declared.lines.Line.TheVariants as line;
 
 use crate::lines::HEAD;

@@ -22,9 +22,9 @@ use Rattle.plan_base.proofs.MoreWritten.{stays_so}
 use Rattle.run_steps.specs.Sayings.{Saying}
 use Rattle.run_steps.specs.QueryLines.{queries_among, query_lines}
 use Rattle.run_steps.specs.Blocks.{BlockRule, AreBlocks, WroteBlocks, WroteFront, AreCounted}
-use Rattle.run_steps.specs.BlockCauses.{IsBlocksOutcome}
+use Rattle.run_steps.specs.inside.BlockCauses.{IsBlocksOutcome}
 use Rattle.run_steps.specs.InTurn.{HasAnswered, InTurn, HasReadLines, HasReadTo, IsLost, IsReadTo, IsShort, StopsInTurn}
-use Rattle.run_steps.specs.TurnCauses.{AreAnswered, AreEnded, IsBegun, IsPieceOutcome, IsSumWith, IsUpToDate, fault_at}
+use Rattle.run_steps.specs.inside.TurnCauses.{AreAnswered, AreEnded, IsBegun, IsPieceOutcome, IsSumWith, IsUpToDate, fault_at}
 use Rattle.run_steps.specs.Working.{outcome_of}
 use Rattle.run_steps.proofs.Steps.{later_twice, not_earlier, rose_over, told_before}
 use Rattle.run_steps.proofs.JoinLemmas.{counted_join, queries_join, wrote_none, wrote_on, wrote_twice}

@@ -9,10 +9,10 @@ use Rattle.run_steps.specs.declared.outcome.FileRole.{FileRole}
 use Rattle.run_steps.specs.declared.outcome.Outcome.{Outcome}
 use Rattle.run_steps.specs.declared.outcome.Outcome.TheVariants.{Done, Usage, Missing, ReadFault, TooLong, WriteFault, BadRegion, BadFeed, Invalid, BadCertificate, BadHierarchy, Unsound, OutOfMemory}
 use Rattle.run_steps.specs.QueryLines.{as_query, queries_among, without_return}
-use Rattle.run_steps.specs.BlockCauses.{IsBlockOutcome, IsBlocksOutcome}
+use Rattle.run_steps.specs.inside.BlockCauses.{IsBlockOutcome, IsBlocksOutcome}
 use Rattle.run_steps.specs.Blocks.{BlockRule, WroteBlocks, WroteFront, AreCounted}
 use Rattle.run_steps.specs.InTurn.{IsReadTo, IsShort, WroteFor}
-use Rattle.run_steps.specs.TurnCauses.{AreAnswered, IsKeepOutcome, IsLineOutcome, IsPieceOutcome}
+use Rattle.run_steps.specs.inside.TurnCauses.{AreAnswered, IsKeepOutcome, IsLineOutcome, IsPieceOutcome}
 use Rattle.run_steps.proofs.Steps.{rose_over}
 use Rattle.run_steps.proofs.JoinLemmas.{counted_join, queries_join, query_alone, text_join, wrote_none, wrote_nothing, wrote_on, wrote_part, wrote_stays, wrote_twice}
 

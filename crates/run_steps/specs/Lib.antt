@@ -8,6 +8,5 @@ pub mod Certificates
 pub mod Complete
 pub mod Statuses
 pub mod Working
-pub mod BlockCauses
-pub mod TurnCauses
 pub mod CertificateCauses
+pub mod inside

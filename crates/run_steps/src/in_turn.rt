@@ -6,9 +6,9 @@ ghost use Rattle.run_steps.specs.Scene.{Scene, scene};
 ghost use Rattle.run_steps.specs.Sayings.{end_of, most_bytes};
 ghost use Rattle.run_steps.specs.QueryLines.{queries_among, query_lines};
 ghost use Rattle.run_steps.specs.Blocks.{WroteBlock, WroteBlocks, AreCounted};
-ghost use Rattle.run_steps.specs.BlockCauses.{IsBlockOutcome, IsBlocksOutcome};
+ghost use Rattle.run_steps.specs.inside.BlockCauses.{IsBlockOutcome, IsBlocksOutcome};
 ghost use Rattle.run_steps.specs.InTurn.{AnswersFile, HasAnswered, StopsInTurn};
-ghost use Rattle.run_steps.specs.TurnCauses.{AreAnswered, AreEnded, IsBegun, IsKeepOutcome, IsLineOutcome, IsPieceOutcome, IsSumWith, IsUpToDate, fault_at};
+ghost use Rattle.run_steps.specs.inside.TurnCauses.{AreAnswered, AreEnded, IsBegun, IsKeepOutcome, IsLineOutcome, IsPieceOutcome, IsSumWith, IsUpToDate, fault_at};
 
 use crate::blocks::LineBlocks;
 use crate::files::{MOST_BYTES, refused};

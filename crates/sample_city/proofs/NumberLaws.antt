@@ -2,7 +2,7 @@
 use Rattle.std.proofs.Common.{◌≡◌, ℕ, Bool, true, false, Option, None, Some, if◌then◌else◌, refl, sym, ◌∙◌, ◌<◌, List, [], ◌∷◌, length, arith}
 use Rattle.mode_network.specs.declared.nodes.Node.{Node}
 use Rattle.std.specs.Option.{option_or}
-use Rattle.sample_city.specs.Numbers.{number_if_here}
+use Rattle.sample_city.specs.inside.Numbers.{number_if_here}
 use Rattle.sample_city.specs.Roads.{RoadNodeKey, road_number_from}
 
 -- a number that is noted now stands before the later ones

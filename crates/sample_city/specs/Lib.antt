@@ -1,6 +1,6 @@
 pub mod Corners
-pub mod Numbers
 pub mod Roads
 pub mod Stops
 pub mod Trips
 pub mod SampleCity
+pub mod inside

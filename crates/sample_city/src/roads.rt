@@ -4,7 +4,7 @@ ghost use Rattle.std.specs.Prelude.{◌≡◌, ◌+◌, ◌<◌, ◌^◌, ◌++�
 ghost use Rattle.std.specs.HashMap.{get};
 ghost use Rattle.std.specs.List.{flat_map};
 ghost use Rattle.sample_city.specs.Roads as spec;
-ghost use Rattle.sample_city.specs.Numbers.{number_if_here};
+ghost use Rattle.sample_city.specs.inside.Numbers.{number_if_here};
 
 use crate::corners::{Corner, has_cars, place_at};
 use mode_network::{Node, NodeKey};

@@ -7,7 +7,7 @@ use Rattle.jiff_core.proofs.DateLemmas.{epoch_day_injective}
 use Rattle.jiff_core.proofs.CalendarLemmas.{days_in_month_bounds}
 use Rattle.jiff_core.proofs.SignedLemmas.{signed_arith}
 use Rattle.service_days.specs.Dates.{year_of, month_of, day_of_month, epoch_day_of, date_after, date_before}
-use Rattle.service_days.specs.Numbers.{number_of_date}
+use Rattle.service_days.specs.inside.Numbers.{number_of_date}
 use Rattle.service_days.proofs.CivilDates.{HasCivilParts, dated, epoch_day_of-dated, number_of_parts, after_date, before_date}
 
 pub pos-unsigned_abs : (z : ℤ) → pos 0 ≤ℤ z → pos (unsigned_abs z) ≡ z

@@ -5,7 +5,7 @@ use Rattle.jiff_core.specs.Date.{IsYmd}
 use Rattle.jiff_core.specs.declared.civil.date.Date.{Date}
 use Rattle.service_days.specs.DaysMeaning.{DaysMeaning}
 use Rattle.service_days.specs.Dates.{year_of, month_of, day_of_month, later_date, earlier_date, date_after, date_before}
-use Rattle.service_days.specs.Numbers.{number_of_date}
+use Rattle.service_days.specs.inside.Numbers.{number_of_date}
 use Rattle.service_days.specs.Rising.{Rise}
 use Rattle.service_days.proofs.RisingLists.{rise_by_steps}
 use Rattle.service_days.specs.Days.{AreDays, plain_days, date_on, is_first_date, is_day_count}

@@ -3,8 +3,8 @@ pub mod Dates
 pub mod Days
 pub mod DaysMeaning
 pub mod Noons
-pub mod Numbers
 pub mod ReadClock
 pub mod Rising
 pub mod Services
 pub mod Zones
+pub mod inside

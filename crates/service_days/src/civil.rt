@@ -3,7 +3,7 @@
 ghost use Rattle.std.specs.Prelude.{◌≡◌, ◌+◌, ◌<◌, ◌≤◌, true, pos, ◌+ℤ◌, ◌≤ℤ◌, ◌<ℤ◌, IfSome};
 ghost use Rattle.jiff_core.specs.Date.{IsYmd};
 ghost use Rattle.service_days.specs.Dates.{year_of, month_of, day_of_month, is_civil, date_after, date_at, date_before};
-ghost use Rattle.service_days.specs.Numbers.{number_of_date};
+ghost use Rattle.service_days.specs.inside.Numbers.{number_of_date};
 
 use jiff_core::civil::{self, Date};
 use plain_texts::read_fixed;

@@ -5,7 +5,7 @@ ghost use Rattle.std.specs.List.{position, range_with_len};
 ghost use Rattle.service_days.specs.Dates.{earlier_date};
 ghost use Rattle.service_days.specs.Days.{date_on, is_first_date, last_not_later};
 ghost use Rattle.service_days.specs.Rising.{Rise};
-ghost use Rattle.service_days.specs.Numbers.{number_of_date};
+ghost use Rattle.service_days.specs.inside.Numbers.{number_of_date};
 
 use crate::civil::{civil_date, date_number, last_date, next_date};
 use crate::clock::{push_time, read_short, read_spaced_hundreds};

@@ -17,7 +17,7 @@ use Rattle.timetable_arcs.specs.declared.faults.TableFault.TheVariants.{TooMany}
 use Rattle.timetable_arcs.specs.Trips.{TripLists, IsRunOf}
 use Rattle.timetable_arcs.specs.TripRules.{table_fault, trips_fault, calls_of, AreTrips}
 use Rattle.timetable_arcs.specs.Patterns.{TableLists, plain_table, trip_at, pattern_trip, runs_of, no_run, no_trip, IsIn, IsBehind, AreAlike, ArePatterns}
-use Rattle.timetable_arcs.specs.Sorting.{runs_from, sum_all, IsPattern}
+use Rattle.timetable_arcs.specs.inside.Sorting.{runs_from, sum_all, IsPattern}
 use Rattle.timetable_arcs.specs.declared.rides.Board.{Board}
 use Rattle.timetable_arcs.specs.declared.rides.Ride.{Ride}
 use Rattle.timetable_arcs.specs.Rides.{rides_along, rides_from, rides_at, boards_along, boards_from}

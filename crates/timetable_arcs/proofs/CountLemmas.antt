@@ -10,7 +10,7 @@ use Rattle.timetable_arcs.specs.declared.trips.Instance.{Instance}
 use Rattle.timetable_arcs.specs.Trips.{TripLists}
 use Rattle.timetable_arcs.specs.TripRules.{calls_of}
 use Rattle.timetable_arcs.specs.Patterns.{no_trip}
-use Rattle.timetable_arcs.specs.Sorting.{runs_below, runs_from}
+use Rattle.timetable_arcs.specs.inside.Sorting.{runs_below, runs_from}
 
 -- some element has a part in a sum that is not 0
 pub some_part : {X : Type 0} (f : X → ℕ) (xs : List X) (d : X) → 0 < sum_by f xs → (k : ℕ) × (k < length xs) × (0 < f (get_or xs k d))

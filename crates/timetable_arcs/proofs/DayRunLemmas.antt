@@ -8,7 +8,7 @@ use Rattle.plan_base.specs.DaySets.{contains_day}
 use Rattle.timetable_arcs.specs.declared.trips.Instance.{Instance}
 use Rattle.timetable_arcs.specs.Trips.{TripLists}
 use Rattle.timetable_arcs.specs.Patterns.{no_trip}
-use Rattle.timetable_arcs.specs.Sorting.{runs_below, runs_from, weight_on}
+use Rattle.timetable_arcs.specs.inside.Sorting.{runs_below, runs_from, weight_on}
 
 -- one number more
 pub range_more : (a n : ℕ) → range_with_len a (n + 1) ≡ range_with_len a n ++ (a + n) ∷ []

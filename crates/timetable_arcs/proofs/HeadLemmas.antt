@@ -4,7 +4,7 @@ use Rattle.std.specs.List.{range_with_len}
 use Rattle.std.specs.Prelude.{◌⊎◌, slice_get, slice_set}
 use Rattle.timetable_arcs.specs.Trips.{TripLists}
 use Rattle.timetable_arcs.specs.Patterns.{plain_table, trip_at, AreAlike}
-use Rattle.timetable_arcs.specs.Sorting.{AreHeads, HaveSameHead}
+use Rattle.timetable_arcs.specs.inside.Sorting.{AreHeads, HaveSameHead}
 use Rattle.timetable_arcs.proofs.PatternLemmas.{alike_itself}
 
 -- trips that one trip is alike are alike

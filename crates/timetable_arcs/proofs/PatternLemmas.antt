@@ -9,7 +9,7 @@ use Rattle.std.proofs.lemmas.List.Quantifiers.{all_pairs_push}
 use Rattle.std.proofs.lemmas.List.Sums.{sum_by-set, sum_by_push}
 use Rattle.timetable_arcs.specs.declared.trips.Instance.{Instance}
 use Rattle.timetable_arcs.specs.Patterns.{TableLists, trip_at, no_run, AreAlike, IsBehind}
-use Rattle.timetable_arcs.specs.Sorting.{IsPattern, MayJoinPattern, sum_all}
+use Rattle.timetable_arcs.specs.inside.Sorting.{IsPattern, MayJoinPattern, sum_all}
 
 pub alike_itself : (t : TableLists) (place : ℕ) → AreAlike (trip_at t place) (trip_at t place)
 alike_itself t place = record { letter = refl; calls = refl; each = λ k d lt. record { stop = refl; board = refl; alight = refl } }

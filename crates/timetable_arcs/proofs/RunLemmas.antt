@@ -10,7 +10,7 @@ use Rattle.std.proofs.lemmas.List.{get_or_default, get_or_past}
 use Rattle.std.proofs.lemmas.List.Folds.{find_at}
 use Rattle.std.proofs.lemmas.List.Sums.{fails_before_first, passes_at_first, position_or_len_is}
 use Rattle.timetable_arcs.specs.declared.trips.Instance.{Instance}
-use Rattle.timetable_arcs.specs.Sorting.{IsFirstFrom}
+use Rattle.timetable_arcs.specs.inside.Sorting.{IsFirstFrom}
 use Rattle.timetable_arcs.specs.Patterns.{TableLists, trip_at, runs_of, pattern_trip, arrives, departs, last_arrived, IsIn, IsBehind, ArePatterns}
 
 -- where a search finds an element: the test passes there, and fails before

@@ -1,9 +1,9 @@
 pub mod Trips
 pub mod TripRules
 pub mod Patterns
-pub mod Sorting
 pub mod Rides
 pub mod RideTables
 pub mod Table
 pub mod Inside
 pub mod Runs
+pub mod inside

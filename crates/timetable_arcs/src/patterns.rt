@@ -5,7 +5,7 @@ ghost use Rattle.std.specs.Bool.{OnTrue};
 ghost use Rattle.timetable_arcs.specs.declared.trips.Instance.{Instance};
 ghost use Rattle.plan_base.specs.DaySets.{contains_day};
 ghost use Rattle.timetable_arcs.specs.Patterns.{plain_table, trip_at};
-ghost use Rattle.timetable_arcs.specs.Sorting.{AreHeads, IsPattern, MayJoinPattern, sum_all, runs_from, weight_on};
+ghost use Rattle.timetable_arcs.specs.inside.Sorting.{AreHeads, IsPattern, MayJoinPattern, sum_all, runs_from, weight_on};
 
 use crate::runs::{departs, is_behind, narrowed};
 use crate::sorting::{have_same_head, heads_of, trips_in_order};
@@ -75,7 +75,8 @@ struct Headed<'a> {
 #[tactic(auto, using(crate::proofs::HeadLemmas::heads_alike))]
 fn follows(given: &Headed, runs: &[Instance], run: Instance) -> bool
     requires { AreHeads given.now.trips.now given.now.heads.now }
-    ensures { OnTrue result (MayJoinPattern (plain_table given.now.bases.now given.now.trips.now) runs.now run) }
+    ensures { OnTrue result (MayJoinPattern (plain_table given.now.bases.now given.now.trips.now)
+        runs.now run) }
 {
     match (runs.first(), runs.last()) {
         (Some(first), Some(last)) => {

@@ -3,7 +3,7 @@
 ghost use Rattle.std.specs.Prelude.{◌≡◌, ◌+◌, ◌*◌, ◌^◌, ◌<◌, ◌≤◌, [], nat_le, find, slice_get, slice_index};
 ghost use Rattle.std.specs.List.Sorted.{IsNonDecreasingBy};
 ghost use Rattle.std.specs.Bool.{OnTrue};
-ghost use Rattle.timetable_arcs.specs.Sorting.{IsFirstFrom};
+ghost use Rattle.timetable_arcs.specs.inside.Sorting.{IsFirstFrom};
 ghost use Rattle.timetable_arcs.specs.Patterns.{plain_table, trip_at, call_of, arrives, departs, last_arrived, IsAlike, AreAlike, IsBehind};
 
 use crate::trips::{Call, Instance, Trip};

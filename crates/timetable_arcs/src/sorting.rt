@@ -3,7 +3,7 @@
 ghost use Rattle.std.specs.Prelude.{◌≡◌, ◌<◌, ◌^◌, [], length, IfOk, IsPermutation, slice_set};
 ghost use Rattle.std.specs.Bool.{OnTrue};
 ghost use Rattle.timetable_arcs.specs.Patterns.{plain_table, trip_at, AreAlike};
-ghost use Rattle.timetable_arcs.specs.Sorting.{AreHeads, HaveSameHead};
+ghost use Rattle.timetable_arcs.specs.inside.Sorting.{AreHeads, HaveSameHead};
 ghost use Rattle.std.specs.List.{range_with_len};
 
 use crate::runs::have_alike_calls;

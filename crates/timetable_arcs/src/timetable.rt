@@ -5,7 +5,7 @@ ghost use Rattle.timetable_arcs.specs.declared.trips.Instance.{Instance};
 ghost use Rattle.timetable_arcs.specs.TripRules.{IsFaultOf, table_fault};
 ghost use Rattle.timetable_arcs.specs.Patterns.{plain_table, runs_of, trip_at, pattern_trip, no_run, next_run, last_run, arrives, departs};
 ghost use Rattle.timetable_arcs.specs.Runs.{IsNextRun, IsLastRun};
-ghost use Rattle.timetable_arcs.specs.Sorting.{IsPattern, sum_all, runs_from};
+ghost use Rattle.timetable_arcs.specs.inside.Sorting.{IsPattern, sum_all, runs_from};
 ghost use Rattle.timetable_arcs.specs.Rides.{rides_at, boards_at};
 ghost use Rattle.timetable_arcs.specs.Table.{AreBases, IsTable};
 

@@ -32,7 +32,7 @@ use Rattle.hierarchy.proofs.LookupLemmas.{weight_once}
 use Rattle.hierarchy.proofs.RoadLemmas.{Roads, roads_under}
 use Rattle.product_search.specs.declared.label.Hop.{Hop}
 use Rattle.plain_graph.specs.PlainArcs.{plain_meaning, plain_arc, arcs_at, arrival, graph_arc, no_arc}
-use Rattle.plain_graph.specs.OutArcs.{out_of}
+use Rattle.plain_graph.specs.inside.OutArcs.{out_of}
 use Rattle.plain_graph.specs.Simulation.{step_of}
 use Rattle.plain_graph.proofs.Same.{step_at}
 use Rattle.phase_graph.specs.declared.phases.PhaseArc.{PhaseArc}

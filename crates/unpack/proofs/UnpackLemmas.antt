@@ -26,7 +26,7 @@ use Rattle.plain_graph.specs.declared.plain.PlainArc.{PlainArc}
 use Rattle.plain_graph.specs.declared.plain.PlainArc.TheVariants.{Road as RoadArc, Link as LinkArc, Stand as StandArc, Ride as RideArc}
 use Rattle.plain_graph.specs.PlainArcs.{plain_meaning, plain_arc, graph_arc, run_at}
 use Rattle.plain_graph.specs.Simulation.{step_of}
-use Rattle.plain_graph.specs.OutArcs.{IsOut, out_of}
+use Rattle.plain_graph.specs.inside.OutArcs.{IsOut, out_of}
 use Rattle.plain_graph.specs.Rides.{alights_within, takes}
 use Rattle.plain_graph.proofs.Same.{step_at}
 use Rattle.unpack.specs.PhaseUnpacking.{letters_in}

@@ -1,5 +1,5 @@
 use Rattle.std.proofs.Common.{sym, ap, ◌∙◌}
-use Rattle.automaton.specs.Sets.{has}
+use Rattle.automaton.specs.inside.Sets.{has}
 use Rattle.automaton.proofs.StateLemmas.{moves_more, moves_same}
 use Rattle.automaton.proofs.state.make_moves.Goals as goal
 use Rattle.automaton.proofs.state.make_moves.Goals.{then-contains+in_ok-push, else-contains}

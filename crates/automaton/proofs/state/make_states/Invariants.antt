@@ -1,6 +1,6 @@
 use Rattle.std.proofs.Common.{◌≡◌, ◌∷◌, map, take}
-use Rattle.automaton.specs.Builds.{draft_row}
-use Rattle.automaton.specs.Sets.{has}
+use Rattle.automaton.specs.inside.Builds.{draft_row}
+use Rattle.automaton.specs.inside.Sets.{has}
 use Rattle.automaton.specs.States.{state_for, view_of}
 use Rattle.automaton.proofs.state.make_states.Given as goal
 

@@ -1,6 +1,6 @@
 use Rattle.std.proofs.Common.{ℕ, List, Option, map, Global, Vec, subst}
 use Rattle.std.specs.Prelude.{option_map}
-use Rattle.compile_commands.specs.Working.{IsListsOutcome}
+use Rattle.compile_commands.specs.inside.Working.{IsListsOutcome}
 use Rattle.compile_commands.proofs.FeedLemmas.{lists_fail}
 use Rattle.compile_commands.proofs.ResultLemmas.{err_more}
 use Rattle.compile_commands.proofs.feeds.read_feed_in.Goals as goal

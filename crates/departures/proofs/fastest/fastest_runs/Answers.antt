@@ -3,7 +3,7 @@ use Rattle.timetable_arcs.specs.declared.trips.Instance.{Instance}
 use Rattle.timetable_arcs.specs.declared.rides.Ride.{Ride}
 use Rattle.departures.specs.declared.fastest.FastestCall.{FastestCall}
 use Rattle.departures.specs.Fastest.{IsNoFaster}
-use Rattle.departures.specs.Stretches.{calls_from}
+use Rattle.departures.specs.inside.Stretches.{calls_from}
 use Rattle.departures.proofs.FastestLemmas.{none_faster_more}
 use Rattle.departures.proofs.fastest.fastest_runs.Goals as goal
 

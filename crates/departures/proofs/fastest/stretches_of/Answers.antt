@@ -7,7 +7,7 @@ use Rattle.timetable_arcs.proofs.TableLemmas.{trip_of_pattern, departs_small}
 use Rattle.timetable_arcs.proofs.TripLemmas.{trip_well}
 use Rattle.plain_graph.proofs.RunLemmas.{is_there}
 use Rattle.departures.specs.declared.fastest.Stretch.{Stretch}
-use Rattle.departures.specs.Stretches.{AreShortened, FitBetweenCalls}
+use Rattle.departures.specs.inside.Stretches.{AreShortened, FitBetweenCalls}
 use Rattle.departures.proofs.FastestLemmas.{AreShort, shorter}
 use Rattle.departures.proofs.fastest.stretches_of.Goals as goal
 

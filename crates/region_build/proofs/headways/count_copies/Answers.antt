@@ -2,7 +2,7 @@ use Rattle.std.proofs.Common.{◌≡◌, ◌<◌, length, true, false, nat_lt, s
 use Rattle.std.specs.List.{list_all}
 use Rattle.std.proofs.lemmas.Bool.Decides.{nat_tests}
 use Rattle.region_build.specs.Copies.{first_departure, runs}
-use Rattle.region_build.specs.Leaving.{kept_before}
+use Rattle.region_build.specs.inside.Leaving.{kept_before}
 use Rattle.region_build.specs.Sources.{lists_of}
 use Rattle.region_build.proofs.LeavingLaws.{kept_exact, late_exact, late_inexact, late_late, late_never, late_once, leaves_inexact, leaves_late, leaves_never, leaves_once}
 use Rattle.region_build.proofs.headways.count_copies.Goals as goal

@@ -1,6 +1,6 @@
 use Rattle.std.proofs.Common.{◌≡◌, ◌+◌, ◌≤◌, length}
 use Rattle.std.specs.List.{AllByRecursion}
-use Rattle.region_build.specs.Leaving.{kept_by, late_by}
+use Rattle.region_build.specs.inside.Leaving.{kept_by, late_by}
 use Rattle.region_build.proofs.headways.count_rows.Given as goal
 
 abbrev pub decreases-loop-rest : goal.decreases-loop-rest

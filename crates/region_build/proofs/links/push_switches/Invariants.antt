@@ -1,5 +1,5 @@
 use Rattle.std.proofs.Common.{◌≡◌, ◌+◌, ◌++◌, length}
-use Rattle.region_build.specs.Layers.{near_of}
+use Rattle.region_build.specs.inside.Layers.{near_of}
 use Rattle.region_build.specs.Links.{switch_links}
 use Rattle.region_build.proofs.links.push_switches.Given as goal
 

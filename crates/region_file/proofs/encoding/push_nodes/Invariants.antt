@@ -1,7 +1,7 @@
 use Rattle.std.proofs.Common.{◌≡◌, ◌++◌, take}
 use Rattle.std.specs.List.{flat_map}
 use Rattle.mode_network.specs.NetworkLists.{nodes_of}
-use Rattle.region_file.specs.Texts.{node_record}
+use Rattle.region_file.specs.inside.Texts.{node_record}
 use Rattle.region_file.proofs.encoding.push_nodes.Given as goal
 
 abbrev pub invariant-loop-v : goal.invariant-loop-v

@@ -1,5 +1,5 @@
 use Rattle.std.proofs.Common.{sym}
-use Rattle.region_file.specs.Texts.{trip_records}
+use Rattle.region_file.specs.inside.Texts.{trip_records}
 use Rattle.region_file.proofs.Encoded.{text_more}
 use Rattle.region_file.proofs.encoding.push_trips.Goals as goal
 

@@ -1,6 +1,6 @@
 use Rattle.std.proofs.Common.{◌≡◌, ◌++◌, take}
 use Rattle.std.specs.List.{flat_map}
-use Rattle.region_file.specs.Texts.{trip_records}
+use Rattle.region_file.specs.inside.Texts.{trip_records}
 use Rattle.region_file.proofs.encoding.push_trips.Given as goal
 
 abbrev pub invariant-loop-trip : goal.invariant-loop-trip

@@ -5,7 +5,7 @@ use Rattle.std.specs.List.{flat_map}
 use Rattle.service_days.specs.Zones.{AreKept}
 use Rattle.mode_network.specs.NetworkLists.{nodes_of}
 use Rattle.region_file.specs.Bytes.{arc_bytes, counts_of, head_bytes}
-use Rattle.region_file.specs.Texts.{node_record, trip_records}
+use Rattle.region_file.specs.inside.Texts.{node_record, trip_records}
 use Rattle.region_file.proofs.Encoded.{records_written}
 use Rattle.region_file.proofs.Fits.{counts_fit, few_calls, is_region}
 use Rattle.region_file.proofs.encoding.records_of.Goals as goal

@@ -1,7 +1,7 @@
 use Rattle.std.proofs.Common.{◌≡◌, ◌++◌, take}
 use Rattle.std.specs.List.{flat_map}
 use Rattle.region_file.specs.declared.lines.Line.TheVariants as line
-use Rattle.region_file.specs.Texts.{line_text}
+use Rattle.region_file.specs.inside.Texts.{line_text}
 use Rattle.region_file.proofs.texting.push_links.Given as goal
 
 abbrev pub invariant-loop-link : goal.invariant-loop-link

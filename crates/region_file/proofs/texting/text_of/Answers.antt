@@ -4,7 +4,7 @@ use Rattle.service_days.specs.Zones.{AreKept}
 use Rattle.mode_network.specs.NetworkLists.{nodes_of}
 use Rattle.region_file.specs.declared.lines.Line.TheVariants as line
 use Rattle.region_file.specs.Lines.{head_line}
-use Rattle.region_file.specs.Texts.{line_text, node_line_text, trip_text}
+use Rattle.region_file.specs.inside.Texts.{line_text, node_line_text, trip_text}
 use Rattle.region_file.proofs.Encoded.{written}
 use Rattle.region_file.proofs.Fits.{is_region}
 use Rattle.region_file.proofs.texting.text_of.Goals as goal

@@ -6,8 +6,8 @@ use Rattle.run_steps.specs.declared.outcome.Outcome.{Outcome}
 use Rattle.run_steps.specs.Scene.{scene}
 use Rattle.run_steps.specs.QueryLines.{queries_among}
 use Rattle.run_steps.specs.Blocks.{BlockRule, WroteBlocks}
-use Rattle.run_steps.specs.BlockCauses.{IsBlocksOutcome}
-use Rattle.run_steps.specs.TurnCauses.{IsSumWith}
+use Rattle.run_steps.specs.inside.BlockCauses.{IsBlocksOutcome}
+use Rattle.run_steps.specs.inside.TurnCauses.{IsSumWith}
 use Rattle.run_steps.proofs.PieceLemmas.{last_answered, last_fails, none_last}
 use Rattle.run_steps.proofs.in_turn.write_in_turn.Goals as goal
 use Rattle.run_steps.proofs.in_turn.write_in_turn.Goals.{then-not-is_empty+in_ok-answer_line, else-not-is_empty}

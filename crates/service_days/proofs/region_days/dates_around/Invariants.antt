@@ -1,7 +1,7 @@
 use Rattle.std.proofs.Common.{◌≡◌, map, pos, ◌+ℤ◌, ◌≤ℤ◌}
 use Rattle.std.specs.List.{range_with_len}
 use Rattle.service_days.specs.Days.{date_on}
-use Rattle.service_days.specs.Numbers.{number_of_date}
+use Rattle.service_days.specs.inside.Numbers.{number_of_date}
 use Rattle.service_days.proofs.region_days.dates_around.Given as goal
 
 -- the dates so far, and the next one, a few years on at most

@@ -1,6 +1,6 @@
 use Rattle.std.proofs.Common.{◌≡◌, pos, ◌+ℤ◌, ◌≤ℤ◌}
 use Rattle.service_days.specs.Dates.{earlier_date}
-use Rattle.service_days.specs.Numbers.{number_of_date}
+use Rattle.service_days.specs.inside.Numbers.{number_of_date}
 use Rattle.service_days.proofs.region_days.week_before.Given as goal
 
 -- so many days before the first date, and not many years

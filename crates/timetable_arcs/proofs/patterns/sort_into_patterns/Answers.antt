@@ -1,6 +1,6 @@
 use Rattle.std.proofs.Common.{ℕ, ◌+◌, ◌∙◌, ap, sym, arith}
 use Rattle.std.specs.Prelude.{sum_by}
-use Rattle.timetable_arcs.specs.Sorting.{runs_from, weight_on}
+use Rattle.timetable_arcs.specs.inside.Sorting.{runs_from, weight_on}
 use Rattle.timetable_arcs.proofs.DayRunLemmas.{no_days, day_in_order}
 use Rattle.timetable_arcs.proofs.patterns.sort_into_patterns.Goals as goal
 

@@ -2,8 +2,8 @@ use Rattle.std.proofs.Common.{◌-◌, map, IfOk, true, false, drop, None, refl,
 use Rattle.std.proofs.lemmas.Result.{IfOk-weaker}
 use Rattle.mode_expression.specs.Form.{form_of, in_turn, one_of}
 use Rattle.automaton.specs.Written.{written, plus, copies_in_turn, options, sequence, optional, repeat}
-use Rattle.automaton.specs.Builds.{Adds, built_of, Built}
-use Rattle.automaton.specs.Sets.{has}
+use Rattle.automaton.specs.inside.Builds.{Adds, built_of, Built}
+use Rattle.automaton.specs.inside.Sets.{has}
 use Rattle.automaton.proofs.AddLemmas.{adds_nothing, adds_nowhere, adds_sequence, adds_choice, adds_optional, adds_plus, adds_plus_dry, adds_same}
 use Rattle.automaton.proofs.PartLemmas.{written_seq, written_alt, drop_less, drop_none}
 use Rattle.automaton.proofs.builder.Builder.+build.Goals as goal

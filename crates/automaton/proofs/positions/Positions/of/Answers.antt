@@ -1,8 +1,8 @@
 use Rattle.std.proofs.Common.{ℕ, ◌∙◌, [], false, ap, subst, map, length, arith}
 use Rattle.std.proofs.lemmas.List.{length-map}
 use Rattle.mode_expression.specs.Form.{form_of}
-use Rattle.automaton.specs.Builds.{Built, built_of, draft_row, Adds}
-use Rattle.automaton.specs.Sets.{has}
+use Rattle.automaton.specs.inside.Builds.{Built, built_of, draft_row, Adds}
+use Rattle.automaton.specs.inside.Sets.{has}
 use Rattle.automaton.specs.Written.{written}
 use Rattle.automaton.specs.States.{view_of, states_for}
 use Rattle.automaton.proofs.PositionLemmas.{end}

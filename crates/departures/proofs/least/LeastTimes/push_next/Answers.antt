@@ -1,7 +1,7 @@
 use Rattle.std.proofs.Common.{◌≡◌, ◌+◌, ◌-◌, ◌<◌, ◌≤◌, ◌++◌, length, sym, arith}
 use Rattle.std.proofs.lemmas.Result.{IfOk-weaker}
 use Rattle.departures.specs.LeastArcs.{least_meaning}
-use Rattle.departures.specs.BoardRides.{ends_from, least_ways, AddsAlike}
+use Rattle.departures.specs.inside.BoardRides.{ends_from, least_ways, AddsAlike}
 use Rattle.departures.proofs.BoardArcLemmas.{count_within, one_at_least, adds_rides, if_both}
 use Rattle.departures.proofs.least.LeastTimes.push_next.Goals as goal
 

@@ -2,7 +2,7 @@ use Rattle.std.proofs.Common.{◌∙◌, sym, subst, arith}
 use Rattle.mode_network.specs.NetworkLists.{NetworkLists}
 use Rattle.journey.specs.Best.{asked_by}
 use Rattle.journey.specs.CopyLists.{AreTheCopies}
-use Rattle.departures.specs.Searching.{search_labels, NoneTakesLess}
+use Rattle.departures.specs.inside.Searching.{search_labels, NoneTakesLess}
 use Rattle.departures.proofs.FirstLemmas.{none_accepted}
 use Rattle.departures.proofs.LeastLemmas.{none_found}
 use Rattle.departures.proofs.OrderLemmas.{not_before}

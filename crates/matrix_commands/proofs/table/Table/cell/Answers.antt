@@ -4,7 +4,7 @@ use Rattle.std.proofs.lemmas.List.{get_or_default, length-map}
 use Rattle.journey.specs.declared.query.Query.{Query}
 use Rattle.planning.specs.Arrivals.{IsArrivalTo, asked_to}
 use Rattle.matrix_commands.specs.Cells.{IsCellOf, query_line_of}
-use Rattle.matrix_commands.specs.Working.{HasArrivals, IsCellIn, IsEndIfAny, cell_of_arrival, lines_in}
+use Rattle.matrix_commands.specs.inside.Working.{HasArrivals, IsCellIn, IsEndIfAny, cell_of_arrival, lines_in}
 use Rattle.matrix_commands.proofs.CellLemmas.{timed_right}
 use Rattle.matrix_commands.proofs.PairLemmas.{line_at, pair_asks, pair_small}
 use Rattle.matrix_commands.proofs.table.Table.cell.Goals as goal

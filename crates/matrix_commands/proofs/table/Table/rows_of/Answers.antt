@@ -2,7 +2,7 @@ use Rattle.std.proofs.Common.{◌≡◌, ◌<◌, ◌++◌, ◌∷◌, [], List,
 use Rattle.std.proofs.lemmas.List.{length-map, take_more}
 use Rattle.matrix_commands.specs.Cells.{cell_text}
 use Rattle.matrix_commands.specs.Rows.{AreRowsOf, row_text}
-use Rattle.matrix_commands.specs.Working.{IsCellIn, lines_in}
+use Rattle.matrix_commands.specs.inside.Working.{IsCellIn, lines_in}
 use Rattle.matrix_commands.proofs.CellLemmas.{rows_more}
 use Rattle.matrix_commands.proofs.PairLemmas.{line_at}
 use Rattle.matrix_commands.proofs.table.Table.rows_of.Goals as goal

@@ -2,7 +2,7 @@ use Rattle.std.proofs.Common.{◌≡◌, ℕ, ◌+◌, ◌∙◌, List, ◌∷�
 use Rattle.std.proofs.lemmas.List.Elements.{All-nil}
 use Rattle.std.proofs.lemmas.Result.{err_from_is_err_and, IfErr-weaker}
 use Rattle.plain_texts.specs.Lines.{IsLine}
-use Rattle.run_steps.specs.TurnCauses.{AreAnswered, IsBegun}
+use Rattle.run_steps.specs.inside.TurnCauses.{AreAnswered, IsBegun}
 use Rattle.run_steps.proofs.LineLemmas.{line_join}
 use Rattle.run_steps.proofs.TurnLemmas.{answered_twice, keep_fails, line_answered, line_fails, none_answered, piece_fails}
 use Rattle.run_steps.proofs.in_turn.Turn.answer_piece.Goals as goal

@@ -1,5 +1,5 @@
 use Rattle.std.proofs.Common.{◌≡◌, ℕ, ◌+◌, ◌*◌, ◌^◌, ◌≤◌, ◌++◌, length}
-use Rattle.run_steps.specs.TurnCauses.{AreAnswered, IsBegun}
+use Rattle.run_steps.specs.inside.TurnCauses.{AreAnswered, IsBegun}
 use Rattle.run_steps.proofs.TurnLemmas.{none_answered}
 use Rattle.run_steps.proofs.in_turn.Turn.answer_piece.Given as goal
 

@@ -19,7 +19,7 @@ use Rattle.departures.specs.declared.row.Pair.{Pair}
 use Rattle.departures.specs.declared.row.Row.{Row}
 use Rattle.departures.specs.declared.search.RideSearch.{RideSearch}
 use Rattle.departures.specs.Departures.{IsPair, IsRow}
-use Rattle.departures.specs.SettingOff.{IsSetOff}
+use Rattle.departures.specs.inside.SettingOff.{IsSetOff}
 
 -- the automaton accepts the words that have a transit letter, and whose collapse the form denotes
 abbrev pub ReadsRides : Form → LabelsMeaning → Type 0

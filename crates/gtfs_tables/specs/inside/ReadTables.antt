@@ -14,7 +14,7 @@ use Rattle.gtfs_tables.specs.Frequencies as Frequencies
 use Rattle.gtfs_tables.specs.Calls as Calls
 use Rattle.gtfs_tables.specs.FeedLists.{FeedLists, bytes_of}
 use Rattle.gtfs_tables.specs.Feeds.{first_absent, required}
-use Rattle.gtfs_tables.specs.Holding.{AreRead}
+use Rattle.gtfs_tables.specs.inside.Holding.{AreRead}
 
 -- no file is absent that must be there, and those down to the dates were read
 pub record IsBasis (caps : Caps) (files : FeedFiles) (basis : Basis) : Type 0 where

@@ -12,7 +12,7 @@ use Rattle.run_steps.specs.Scene.{Scene}
 use Rattle.run_steps.specs.Sayings.{most_bytes}
 use Rattle.run_steps.specs.QueryLines.{queries_among}
 use Rattle.run_steps.specs.Blocks.{BlockRule, AreBlocks, BeginsBlocks, WroteBlocks, AreCounted}
-use Rattle.run_steps.specs.BlockCauses.{IsBlocksOutcome}
+use Rattle.run_steps.specs.inside.BlockCauses.{IsBlocksOutcome}
 use Rattle.run_steps.specs.InTurn.{HasReadTo, IsReadTo, IsShort, WroteFor}
 use Rattle.run_steps.specs.declared.outcome.FileRole.{FileRole}
 use Rattle.run_steps.specs.declared.outcome.Outcome.{Outcome}

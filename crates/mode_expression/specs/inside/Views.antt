@@ -4,7 +4,7 @@ use Rattle.mode_expression.specs.declared.expr.Expr.{Expr}
 use Rattle.mode_expression.specs.declared.level.Level.{Level}
 use Rattle.mode_expression.specs.Form.{Form, form_of}
 use Rattle.mode_expression.specs.declared.reader.Reader.{Reader}
-use Rattle.mode_expression.specs.Machine.{Frame, Reading}
+use Rattle.mode_expression.specs.inside.Machine.{Frame, Reading}
 
 -- the forms, the latest first
 abbrev pub latest : List Expr → List Form

@@ -4,8 +4,8 @@ use Rattle.automaton.specs.declared.builder.Draft.{Draft}
 use Rattle.automaton.specs.declared.builder.Builder.{Builder}
 use Rattle.automaton.specs.declared.position_set.PositionSet.{PositionSet}
 use Rattle.automaton.specs.Written.{Written, size}
-use Rattle.automaton.specs.Rows.{PositionRow, entry, position_rows}
-use Rattle.automaton.specs.Sets.{has}
+use Rattle.automaton.specs.inside.Rows.{PositionRow, entry, position_rows}
+use Rattle.automaton.specs.inside.Sets.{has}
 
 abbrev pub draft_row : Draft → PositionRow
 draft_row draft = record { letters = draft.letters; next = has draft.next }
