@@ -1,0 +1,3 @@
+pub mod Builds
+pub mod Rows
+pub mod Sets

@@ -1,0 +1,4 @@
+pub mod ByService
+pub mod Layers
+pub mod Leaving
+pub mod Numbers

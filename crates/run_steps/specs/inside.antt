@@ -1,0 +1,2 @@
+pub mod BlockCauses
+pub mod TurnCauses
