@@ -5,7 +5,6 @@ pub mod Rules
 pub mod Lookups
 pub mod Rises
 pub mod Indexes
-pub mod Inside
 pub mod FirstBroken
 pub mod Contraction
 pub mod inside

@@ -33,7 +33,7 @@ impl Model for Hierarchy {
 
     ghost Value = { HierarchyLists };
 
-    ghost use Rattle.hierarchy.specs.Inside.{lists_of, IsKept};
+    ghost use Rattle.hierarchy.specs.inside.Fields.{lists_of, IsKept};
 
     ghost view = { lists_of };
 

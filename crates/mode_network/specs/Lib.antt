@@ -4,6 +4,6 @@ pub mod Rules
 pub mod Journeys
 pub mod Indexes
 pub mod Timetables
-pub mod Inside
 pub mod Copies
 pub mod Points
+pub mod inside

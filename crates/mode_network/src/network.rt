@@ -53,7 +53,7 @@ impl Model for Network {
 
     ghost Value = { NetworkLists };
 
-    ghost use Rattle.mode_network.specs.Inside.{lists_of, IsKept};
+    ghost use Rattle.mode_network.specs.inside.Fields.{lists_of, IsKept};
 
     ghost view = { lists_of };
 

@@ -4,6 +4,5 @@ pub mod Patterns
 pub mod Rides
 pub mod RideTables
 pub mod Table
-pub mod Inside
 pub mod Runs
 pub mod inside

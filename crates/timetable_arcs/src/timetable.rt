@@ -36,7 +36,7 @@ impl Model for Timetable {
 
     ghost Value = { TableLists };
 
-    ghost use Rattle.timetable_arcs.specs.Inside.{lists_of, IsKept};
+    ghost use Rattle.timetable_arcs.specs.inside.Fields.{lists_of, IsKept};
 
     ghost view = { lists_of };
 

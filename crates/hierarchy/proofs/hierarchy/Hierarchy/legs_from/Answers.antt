@@ -2,7 +2,7 @@ use Rattle.std.proofs.Common.{◌≡◌, ◌∙◌, ◌-◌, cond, [], List, ℕ
 use Rattle.std.specs.Prelude.{slice_range}
 use Rattle.std.proofs.lemmas.List.{drop-map, take-map}
 use Rattle.search_laws.specs.declared.graph.Leg.{Leg}
-use Rattle.hierarchy.specs.Inside.{lists_of}
+use Rattle.hierarchy.specs.inside.Fields.{lists_of}
 use Rattle.hierarchy.specs.Lists.{HierarchyLists}
 use Rattle.hierarchy.specs.Lookups.{range_of}
 use Rattle.hierarchy.specs.Rises.{all_rises, has_legs, leg_of, legs_from, rise_from, rises_of}

@@ -1,6 +1,6 @@
 use Rattle.std.proofs.Common.{◌≡◌, ◌∙◌, List, ℕ, ap, subst, sym}
 use Rattle.std.specs.Prelude.{slice_range}
-use Rattle.hierarchy.specs.Inside.{lists_of}
+use Rattle.hierarchy.specs.inside.Fields.{lists_of}
 use Rattle.hierarchy.specs.Lists.{HierarchyLists}
 use Rattle.hierarchy.specs.Lookups.{ArePlaces, places_of, range_of}
 use Rattle.hierarchy.specs.Rises.{RisesFrom, all_rises, is_rise, rise_from, rise_places_from}

@@ -1,5 +1,5 @@
 use Rattle.std.proofs.Common.{◌≡◌, ◌∙◌, ℕ, length, ap, rules, subst, sym}
-use Rattle.hierarchy.specs.Inside.{lists_of}
+use Rattle.hierarchy.specs.inside.Fields.{lists_of}
 use Rattle.hierarchy.specs.Lists.{HierarchyLists}
 use Rattle.hierarchy.specs.Lookups.{range_of}
 use Rattle.hierarchy.specs.Rises.{IsRiseRange, all_rises, rise_from}

@@ -1,5 +1,5 @@
 use Rattle.std.proofs.Common.{◌≡◌, ◌<◌, ◌∙◌, length, subst, sym, []}
-use Rattle.timetable_arcs.specs.Inside.{lists_of}
+use Rattle.timetable_arcs.specs.inside.Fields.{lists_of}
 use Rattle.timetable_arcs.specs.Patterns.{TableLists, pattern_trip, last_run}
 use Rattle.timetable_arcs.specs.Runs.{IsLastRun}
 use Rattle.timetable_arcs.proofs.TableLemmas.{last_in_words}

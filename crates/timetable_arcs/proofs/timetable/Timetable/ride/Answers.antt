@@ -2,7 +2,7 @@ use Rattle.std.proofs.Common.{◌≡◌, ◌<◌, ◌-◌, ◌∙◌, ap, sym, s
 use Rattle.std.specs.Prelude.{slice_get}
 use Rattle.std.proofs.lemmas.Fn.{always_returns_same}
 use Rattle.timetable_arcs.specs.declared.rides.Board.{Board}
-use Rattle.timetable_arcs.specs.Inside.{lists_of}
+use Rattle.timetable_arcs.specs.inside.Fields.{lists_of}
 use Rattle.timetable_arcs.specs.Patterns.{TableLists}
 use Rattle.timetable_arcs.specs.Rides.{rides_at}
 use Rattle.timetable_arcs.specs.RideTables.{rides_end}
