@@ -6,6 +6,7 @@ mod arc_check;
 mod arrivals;
 mod chains;
 mod checking;
+mod claim;
 mod end_check;
 mod explore;
 mod frontier;
@@ -32,6 +33,7 @@ mod workspace;
 
 pub use arrivals::search_arrivals;
 pub use checking::check_labels;
+pub use claim::LabelClaim;
 pub use label::{Best, Found, FoundWithCount, Hop, Label, Walk};
 pub use limit::{Limited, stops_are_due};
 pub use machine::Machine;
