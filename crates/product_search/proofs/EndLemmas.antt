@@ -19,9 +19,9 @@ use Rattle.product_search.specs.declared.frontier.Settled.{Settled}
 use Rattle.product_search.specs.declared.frontier.Frontier.{Frontier}
 use Rattle.product_search.specs.Reach.{IsReachedAt, IsWithin, IsToList}
 use Rattle.product_search.specs.Answer.{IsArrival}
-use Rattle.product_search.specs.Waiting.{reached_at, KeepsNumbers, IsQueueRight, NobodyWaits, SameReached, SettlesLeast, is_same}
-use Rattle.product_search.specs.Exploring.{IsSettledBy, Offers, IsStartAmong, IsSuccessor, StartIsReached}
-use Rattle.product_search.specs.Searching.{unsettled, unsettled_at, count_unless, is_settled, IsTracedTo, IsSearching, IsSearched, IsSettledAt, IsEnd, IsExplored, end_arrival}
+use Rattle.product_search.specs.inside.Waiting.{reached_at, KeepsNumbers, IsQueueRight, NobodyWaits, SameReached, SettlesLeast, is_same}
+use Rattle.product_search.specs.inside.Exploring.{IsSettledBy, Offers, IsStartAmong, IsSuccessor, StartIsReached}
+use Rattle.product_search.specs.inside.Searching.{unsettled, unsettled_at, count_unless, is_settled, IsTracedTo, IsSearching, IsSearched, IsSettledAt, IsEnd, IsExplored, end_arrival}
 use Rattle.product_search.proofs.QueueLemmas.{same_parts}
 use Rattle.product_search.proofs.OfferLemmas.{offers_none}
 use Rattle.product_search.proofs.SumLemmas.{sum_below-le}

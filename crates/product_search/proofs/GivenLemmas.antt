@@ -12,7 +12,7 @@ use Rattle.search_laws.specs.declared.given.GivenRuns.{GivenRuns}
 use Rattle.product_search.specs.declared.frontier.Reached.{Reached}
 use Rattle.product_search.specs.declared.frontier.Settled.{Settled}
 use Rattle.product_search.specs.declared.frontier.Frontier.{Frontier}
-use Rattle.product_search.specs.Exploring.{IsReachedBy, Offers, WayIsReached, AreGivenReached}
+use Rattle.product_search.specs.inside.Exploring.{IsReachedBy, Offers, WayIsReached, AreGivenReached}
 use Rattle.product_search.proofs.OfferLemmas.{reached_keeps, all_after_weaker}
 use Rattle.product_search.proofs.ReachLemmas.{within_down}
 

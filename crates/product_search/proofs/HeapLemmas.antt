@@ -10,7 +10,7 @@ use Rattle.std.proofs.lemmas.List.{nil_from_length}
 use Rattle.std.proofs.lemmas.List.Elements.{All-append, All-cons, All-tail, All-same, All-nil, All-push, All-contains, All-weaker, All-from_recursion, Contains-append_right, Contains-append_cases}
 use Rattle.std.proofs.lemmas.List.Sorted.{All-permutation, Contains-permutation, IsPermutation-trans, IsPermutation-sym, IsPermutation-middle, IsPermutation-to_front, IsPermutation-append_left, IsPermutation-append_right, IsPermutation-swap_remove, length_permutation}
 use Rattle.product_search.specs.declared.queue.Queue.{Queue}
-use Rattle.product_search.specs.Queued.{entry_of, queue_cmp, queue_items, Queued, HasHeaps, IsQueue, IsFilled, SameQueued, TakesIn, GivesLeast, GivesNone}
+use Rattle.product_search.specs.inside.Queued.{entry_of, queue_cmp, queue_items, Queued, HasHeaps, IsQueue, IsFilled, SameQueued, TakesIn, GivesLeast, GivesNone}
 
 -- ---- one more in one of several lists
 

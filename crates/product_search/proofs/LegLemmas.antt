@@ -11,7 +11,7 @@ use Rattle.search_laws.specs.declared.graph.Leg.{Leg}
 use Rattle.product_search.specs.declared.frontier.Reached.{Reached}
 use Rattle.product_search.specs.declared.frontier.Settled.{Settled}
 use Rattle.product_search.specs.declared.frontier.Frontier.{Frontier}
-use Rattle.product_search.specs.Exploring.{IsReachedBy, Offers, IsByLegs, IsReachedAfter, LegIsReached, IsSuccessor, ArcIsReached, way_by}
+use Rattle.product_search.specs.inside.Exploring.{IsReachedBy, Offers, IsByLegs, IsReachedAfter, LegIsReached, IsSuccessor, ArcIsReached, way_by}
 use Rattle.product_search.proofs.OfferLemmas.{reached_keeps, all_after_weaker}
 
 abbrev pub no_leg : Leg

@@ -11,7 +11,7 @@ use Rattle.std.proofs.lemmas.Nat.{bit_set_by_shift, leading_length}
 use Rattle.std.proofs.lemmas.Nat.Bits.{bit_at_or, shr_and_one}
 use Rattle.search_laws.specs.Letters.{IsLetterSet, letter_count}
 use Rattle.search_laws.specs.LabelLaws.{LabelsMeaning}
-use Rattle.product_search.specs.MoveTables.{HasLettersBelow, HasLeavingBelow}
+use Rattle.product_search.specs.inside.MoveTables.{HasLettersBelow, HasLeavingBelow}
 
 pub bit_from_set : (n k : ℕ) → IsBitSet n k → bit_at n k ≡ 1
 bit_from_set n k set = sym (shr_and_one n k) ∙ (bit_set_by_shift n k).1 set

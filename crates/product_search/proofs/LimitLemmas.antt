@@ -13,8 +13,8 @@ use Rattle.product_search.specs.Reach.{IsLeastAt, IsWithin, IsToList}
 use Rattle.product_search.specs.Listed.{AreLeastLabels}
 use Rattle.product_search.specs.Answer.{IsArrival}
 use Rattle.product_search.specs.Limits.{IsLabel, HasMoreLabels, StopsAreDue}
-use Rattle.product_search.specs.Waiting.{rows}
-use Rattle.product_search.specs.Searching.{IsSearched, HasMoreSettled, label_of_row}
+use Rattle.product_search.specs.inside.Waiting.{rows}
+use Rattle.product_search.specs.inside.Searching.{IsSearched, HasMoreSettled, label_of_row}
 use Rattle.product_search.proofs.EndLemmas.{none_listed}
 use Rattle.product_search.proofs.LabelLemmas.{SubList, no_longer}
 use Rattle.product_search.proofs.ListLemmas.{least_labels}

@@ -24,8 +24,8 @@ use Rattle.product_search.specs.Reach.{IsReachedAt, IsLeastAt, IsWithin, IsToLis
 use Rattle.product_search.specs.Listed.{label_of, label_order, IsBelow, AreAscendingLabels, AreLeastLabels}
 use Rattle.product_search.specs.Answer.{last_time}
 use Rattle.product_search.specs.Closed.{IsListedBy}
-use Rattle.product_search.specs.Waiting.{state_eq, made, keyed, rows, keyed_rows, reached_in, reached_at, IsApart}
-use Rattle.product_search.specs.Searching.{IsSearched, listed_label, label_of_row}
+use Rattle.product_search.specs.inside.Waiting.{state_eq, made, keyed, rows, keyed_rows, reached_in, reached_at, IsApart}
+use Rattle.product_search.specs.inside.Searching.{IsSearched, listed_label, label_of_row}
 use Rattle.product_search.proofs.QueueLemmas.{same_parts, found_in, keys_differ}
 use Rattle.product_search.proofs.ReachLemmas.{tight, within_down}
 use Rattle.product_search.proofs.TrailLemmas.{same_entry}

@@ -12,9 +12,9 @@ use Rattle.search_laws.specs.LabelLaws.{LabelsMeaning, HasMove, AllAfter}
 use Rattle.product_search.specs.declared.frontier.Frontier.{Frontier}
 use Rattle.product_search.specs.declared.frontier.Reached.{Reached}
 use Rattle.search_laws.specs.declared.labels.Move.{Move}
-use Rattle.product_search.specs.MoveTables.{AreTargets, AreTargetsWith, target_by, targets_below}
+use Rattle.product_search.specs.inside.MoveTables.{AreTargets, AreTargetsWith, target_by, targets_below}
 use Rattle.product_search.proofs.LetterLemmas.{bit_from_set, set_from_bit}
-use Rattle.product_search.specs.Exploring.{IsGiven, LeadsTo, Offers}
+use Rattle.product_search.specs.inside.Exploring.{IsGiven, LeadsTo, Offers}
 use Rattle.product_search.proofs.OfferLemmas.{offers_more, offers_weaker}
 
 -- what holds of each element at its place, after one more

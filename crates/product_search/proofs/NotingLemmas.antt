@@ -8,12 +8,12 @@ use Rattle.search_laws.specs.GraphLaws.{GraphMeaning, IsLawfulGraph}
 use Rattle.search_laws.specs.LabelLaws.{LabelsMeaning, IsLawfulLabels}
 use Rattle.product_search.specs.declared.frontier.Settled.{Settled}
 use Rattle.product_search.specs.declared.frontier.Frontier.{Frontier}
-use Rattle.product_search.specs.Waiting.{IsQueueRight, NobodyWaits, SameReached, KeepsNumbers, SettlesLeast}
-use Rattle.product_search.specs.Exploring.{Offers, IsSuccessor, ArcIsReached}
-use Rattle.product_search.specs.Searching.{IsSearching, IsExplored}
+use Rattle.product_search.specs.inside.Waiting.{IsQueueRight, NobodyWaits, SameReached, KeepsNumbers, SettlesLeast}
+use Rattle.product_search.specs.inside.Exploring.{Offers, IsSuccessor, ArcIsReached}
+use Rattle.product_search.specs.inside.Searching.{IsSearching, IsExplored}
 use Rattle.product_search.specs.Arrivals.{IsArrivalAt, AreArrivals}
-use Rattle.product_search.specs.Places.{IsPlaced, ArePlaces}
-use Rattle.product_search.specs.Noting.{time_by, time_of, AreReached, first_time, IsNoted, IsEndNoted, AreNoted, AreAllTimes}
+use Rattle.product_search.specs.inside.Places.{IsPlaced, ArePlaces}
+use Rattle.product_search.specs.inside.Noting.{time_by, time_of, AreReached, first_time, IsNoted, IsEndNoted, AreNoted, AreAllTimes}
 use Rattle.product_search.proofs.StepLemmas.{searching_on}
 use Rattle.product_search.proofs.EndLemmas.{searched_to, searched_all, ended, arrives}
 use Rattle.product_search.proofs.TrailLemmas.{arrival_in_time}

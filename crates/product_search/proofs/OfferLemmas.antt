@@ -4,8 +4,8 @@ use Rattle.std.specs.Prelude.{Option, List, length, slice_index, Contains}
 use Rattle.std.proofs.lemmas.Bool.{false≢true, leb-true, leb-false, or_parts}
 use Rattle.product_search.specs.declared.frontier.Reached.{Reached}
 use Rattle.product_search.specs.declared.frontier.Frontier.{Frontier}
-use Rattle.product_search.specs.Waiting.{reached_at, offered, IsOffered}
-use Rattle.product_search.specs.Exploring.{IsReachedBy, IsSettledBy, CanHasten, IsHastened, Offers, WayIsReached, ArcIsReached, IsStartAt, IsStartAmong, StartIsReached}
+use Rattle.product_search.specs.inside.Waiting.{reached_at, offered, IsOffered}
+use Rattle.product_search.specs.inside.Exploring.{IsReachedBy, IsSettledBy, CanHasten, IsHastened, Offers, WayIsReached, ArcIsReached, IsStartAt, IsStartAmong, StartIsReached}
 use Rattle.search_laws.specs.GraphLaws.{GraphMeaning}
 use Rattle.search_laws.specs.declared.graph.Way.{Way}
 use Rattle.search_laws.specs.LabelLaws.{LabelsMeaning, AllAfter}

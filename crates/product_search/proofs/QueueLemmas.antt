@@ -16,9 +16,9 @@ use Rattle.product_search.specs.declared.row.Row.{Row}
 use Rattle.product_search.specs.declared.frontier.Settled.{Settled}
 use Rattle.product_search.specs.declared.frontier.Frontier.{Frontier}
 use Rattle.product_search.specs.declared.key.Key.{Key}
-use Rattle.product_search.specs.Exploring.{IsReachedBy, IsSettledBy}
-use Rattle.product_search.specs.Queued.{entry_of, Queued, TakesIn, GivesLeast, GivesNone}
-use Rattle.product_search.specs.Waiting.{state_eq, made, settled_now, keyed, rows, reached_in, reached_at, waits_at, IsAt, IsNowhere, IsApart, KeepsNumbers, chain_of, chain_in, IsIndexed, IsClear, HasChainsFrom, IsLast, Waits, IsQueueRight, is_same, offered, IsOffered, IsSetAt, NobodyWaits, SameReached, SettlesLeast, HaveKeys, bar_of, key_of}
+use Rattle.product_search.specs.inside.Exploring.{IsReachedBy, IsSettledBy}
+use Rattle.product_search.specs.inside.Queued.{entry_of, Queued, TakesIn, GivesLeast, GivesNone}
+use Rattle.product_search.specs.inside.Waiting.{state_eq, made, settled_now, keyed, rows, reached_in, reached_at, waits_at, IsAt, IsNowhere, IsApart, KeepsNumbers, chain_of, chain_in, IsIndexed, IsClear, HasChainsFrom, IsLast, Waits, IsQueueRight, is_same, offered, IsOffered, IsSetAt, NobodyWaits, SameReached, SettlesLeast, HaveKeys, bar_of, key_of}
 use Rattle.product_search.proofs.RowLemmas.{key_read, entry_read}
 
 -- ---- equal keys

@@ -10,9 +10,9 @@ use Rattle.search_laws.proofs.WalkLemmas.{reads_more, reads_one, walk_more, word
 use Rattle.product_search.specs.declared.frontier.Reached.{Reached}
 use Rattle.product_search.specs.declared.frontier.Frontier.{Frontier}
 use Rattle.product_search.specs.Reach.{IsReachedAt, IsWithin}
-use Rattle.product_search.specs.Waiting.{reached_at, waits_at}
-use Rattle.product_search.specs.Exploring.{IsReachedBy}
-use Rattle.product_search.specs.Searching.{IsTraced, IsTracedTo, IsSearching, IsSettledAt}
+use Rattle.product_search.specs.inside.Waiting.{reached_at, waits_at}
+use Rattle.product_search.specs.inside.Exploring.{IsReachedBy}
+use Rattle.product_search.specs.inside.Searching.{IsTraced, IsTracedTo, IsSearching, IsSettledAt}
 use Rattle.product_search.proofs.OfferLemmas.{all_after_weaker}
 
 -- ---- walks

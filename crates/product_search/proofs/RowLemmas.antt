@@ -10,7 +10,7 @@ use Rattle.product_search.specs.declared.frontier.Reached.{Reached}
 use Rattle.product_search.specs.declared.frontier.Entry.{Entry}
 use Rattle.product_search.specs.declared.key.Key.{Key}
 use Rattle.product_search.specs.declared.row.Row.{Row}
-use Rattle.product_search.specs.Waiting.{keyed_row, rows_of, bar_of, key_of, slim, settled_now, HaveKeys, Waits, is_waiting}
+use Rattle.product_search.specs.inside.Waiting.{keyed_row, rows_of, bar_of, key_of, slim, settled_now, HaveKeys, Waits, is_waiting}
 
 -- ---- a row, its entry and its key
 

@@ -9,9 +9,9 @@ use Rattle.product_search.specs.declared.frontier.Settled.{Settled}
 use Rattle.product_search.specs.declared.frontier.Frontier.{Frontier}
 use Rattle.product_search.specs.declared.row.Row.{Row}
 use Rattle.product_search.specs.Reach.{IsWithin}
-use Rattle.product_search.specs.Waiting.{rows, reached_at, waits_at, is_same, IsAt, KeepsNumbers, IsQueueRight, SettlesLeast}
-use Rattle.product_search.specs.Exploring.{IsReachedBy, CanHasten, Offers, IsSuccessor, ArcIsReached}
-use Rattle.product_search.specs.Searching.{is_settled, count_unless, unsettled_at, unsettled, IsTracedTo, IsSearching}
+use Rattle.product_search.specs.inside.Waiting.{rows, reached_at, waits_at, is_same, IsAt, KeepsNumbers, IsQueueRight, SettlesLeast}
+use Rattle.product_search.specs.inside.Exploring.{IsReachedBy, CanHasten, Offers, IsSuccessor, ArcIsReached}
+use Rattle.product_search.specs.inside.Searching.{is_settled, count_unless, unsettled_at, unsettled, IsTracedTo, IsSearching}
 use Rattle.product_search.proofs.QueueLemmas.{same_itself, same_parts, if_same, if_other}
 use Rattle.product_search.proofs.OfferLemmas.{reached_keeps, all_after_weaker}
 use Rattle.product_search.proofs.SumLemmas.{sum_below_same, sum_below_one}

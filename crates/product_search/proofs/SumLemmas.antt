@@ -1,7 +1,7 @@
 -- Sums over the numbers below a limit, and the count of what is not settled.
 use Rattle.std.proofs.Common.{◌≡◌, ℕ, zero, suc, ◌+◌, ◌*◌, ◌<◌, ◌≤◌, inl, inr, refl, arith}
 use Rattle.std.proofs.lemmas.Bool.{cases_eq}
-use Rattle.product_search.specs.Searching.{sum_below}
+use Rattle.product_search.specs.inside.Searching.{sum_below}
 
 pub sum_below_same : (n : ℕ) (f h : ℕ → ℕ) → ((i : ℕ) → i < n → f i ≡ h i) → sum_below n f ≡ sum_below n h
 sum_below_same zero f h same = refl

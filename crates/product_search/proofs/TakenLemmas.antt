@@ -16,8 +16,8 @@ use Rattle.search_laws.proofs.WayLemmas.{ways_are, ways_there}
 use Rattle.product_search.specs.declared.frontier.Reached.{Reached}
 use Rattle.product_search.specs.declared.frontier.Settled.{Settled}
 use Rattle.product_search.specs.declared.frontier.Frontier.{Frontier}
-use Rattle.product_search.specs.MoveTables.{HasLeaving}
-use Rattle.product_search.specs.Exploring.{IsReachedBy, IsByWays, WayIsReached, IsSuccessor, ArcIsReached, AreGivenReached, way_by}
+use Rattle.product_search.specs.inside.MoveTables.{HasLeaving}
+use Rattle.product_search.specs.inside.Exploring.{IsReachedBy, IsByWays, WayIsReached, IsSuccessor, ArcIsReached, AreGivenReached, way_by}
 use Rattle.product_search.proofs.GivenLemmas.{among_reached}
 
 not_false : (b : Bool) → not b ≡ false → b ≡ true

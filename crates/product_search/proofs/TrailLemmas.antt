@@ -11,12 +11,12 @@ use Rattle.product_search.specs.declared.frontier.Reached.{Reached}
 use Rattle.product_search.specs.declared.frontier.Settled.{Settled}
 use Rattle.product_search.specs.declared.frontier.Frontier.{Frontier}
 use Rattle.product_search.specs.declared.row.Row.{Row}
-use Rattle.product_search.specs.Waiting.{rows, reached_at, IsAt, IsLink, IsQueueRight}
+use Rattle.product_search.specs.inside.Waiting.{rows, reached_at, IsAt, IsLink, IsQueueRight}
 use Rattle.product_search.specs.Answer.{IsHop, AreWalkHops, IsWalkFor, IsWalkTo, last_time}
-use Rattle.product_search.specs.Searching.{IsFromParent, IsFromStart, IsTraced, IsTracedTo, IsEnd, IsExplored, IsSearched, end_arrival}
+use Rattle.product_search.specs.inside.Searching.{IsFromParent, IsFromStart, IsTraced, IsTracedTo, IsEnd, IsExplored, IsSearched, end_arrival}
 use Rattle.product_search.proofs.QueueLemmas.{same_place, found_in, within}
 use Rattle.product_search.proofs.RowLemmas.{kept_length}
-use Rattle.product_search.specs.Trail.{HasParents, IsBackWithin, IsRowOf, IsTrailHop, AreTrail, IsTrailIfAny, IsTrailTo}
+use Rattle.product_search.specs.inside.Trail.{HasParents, IsBackWithin, IsRowOf, IsTrailHop, AreTrail, IsTrailIfAny, IsTrailTo}
 
 pub same_entry : (f : Frontier) (v q : ℕ) (x y : Reached) → reached_at f v q ≡ Some x → reached_at f v q ≡ Some y → x ≡ y
 same_entry f v q x y is also = let e : Some x ≡ Some y = sym is ∙ also in cc

@@ -5,11 +5,4 @@ pub mod Arrivals
 pub mod Closed
 pub mod Limits
 pub mod Questions
-pub mod Queued
-pub mod Waiting
-pub mod MoveTables
-pub mod Exploring
-pub mod Searching
-pub mod Trail
-pub mod Places
-pub mod Noting
+pub mod inside

@@ -2,8 +2,8 @@
 
 ghost use Rattle.std.specs.Prelude.{◌≡◌, ◌<◌, ◌^◌, All, IfOk, map};
 ghost use Rattle.product_search.specs.Arrivals.{AreArrivals};
-ghost use Rattle.product_search.specs.Noting.{AreAllTimes, time_of};
-ghost use Rattle.product_search.specs.Waiting.{IsQueueRight};
+ghost use Rattle.product_search.specs.inside.Noting.{AreAllTimes, time_of};
+ghost use Rattle.product_search.specs.inside.Waiting.{IsQueueRight};
 
 use crate::explore::explore;
 use crate::frontier::Frontier;

@@ -15,7 +15,7 @@ pub(crate) struct Chains {
 
 impl Chains {
     ghost use Rattle.std.specs.Prelude.{◌≡◌};
-    ghost use Rattle.product_search.specs.Waiting.{chain_of};
+    ghost use Rattle.product_search.specs.inside.Waiting.{chain_of};
 
     /// One up to 63 states of an automaton, so that most searches look through one short chain; then one for each eight states,
     /// but fewer in a graph with so many nodes that the table would be large. There is an odd number of them, as related

@@ -5,8 +5,8 @@ ghost use Rattle.std.specs.List.{AllWithin};
 ghost use Rattle.search_laws.specs.Letters.{IsLetter};
 ghost use Rattle.search_laws.specs.LabelLaws.{AllAfter};
 ghost use Rattle.product_search.specs.Reach.{IsWithin};
-ghost use Rattle.product_search.specs.Waiting.{IsQueueRight};
-ghost use Rattle.product_search.specs.Exploring.{IsReachedBy, IsSettledBy, Offers, LeadsTo, IsByWay, IsByWays, WayIsReached, IsByLeg, IsByLegs, IsByLegsIn, LegIsReached, IsReachedAfter, IsSuccessor, ArcIsReached, AreGivenReached, IsGiven, way_by};
+ghost use Rattle.product_search.specs.inside.Waiting.{IsQueueRight};
+ghost use Rattle.product_search.specs.inside.Exploring.{IsReachedBy, IsSettledBy, Offers, LeadsTo, IsByWay, IsByWays, WayIsReached, IsByLeg, IsByLegs, IsByLegsIn, LegIsReached, IsReachedAfter, IsSuccessor, ArcIsReached, AreGivenReached, IsGiven, way_by};
 
 use crate::frontier::{Frontier, Reached, Settled};
 use crate::machine::Machine;

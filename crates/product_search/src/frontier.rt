@@ -1,8 +1,8 @@
 //! What a search has reached, and the queue of those product states that it has not settled.
 
 ghost use Rattle.std.specs.Prelude.{◌≡◌, ◌≢◌, ℕ, ◌<◌, ◌^◌, ◌++◌, false, true, None, Some, IfSome, IfNone, IfOk, OnOk, IsTrue, IsFalse, MatchOption, ◌∷◌, [], slice_get, slice_index, slice_set, ◌+◌, ◌-◌, ◌↔◌, length};
-ghost use Rattle.product_search.specs.Exploring.{IsReachedBy, IsSettledBy};
-ghost use Rattle.product_search.specs.Waiting.{IsQueueRight, IsOffered, SettlesLeast, NobodyWaits, SameReached, KeepsNumbers, rows, rows_of, reached_at, offered, IsAt, IsNowhere, IsClear, HasChainsFrom, settled_now, Waits, HaveKeys, is_waiting};
+ghost use Rattle.product_search.specs.inside.Exploring.{IsReachedBy, IsSettledBy};
+ghost use Rattle.product_search.specs.inside.Waiting.{IsQueueRight, IsOffered, SettlesLeast, NobodyWaits, SameReached, KeepsNumbers, rows, rows_of, reached_at, offered, IsAt, IsNowhere, IsClear, HasChainsFrom, settled_now, Waits, HaveKeys, is_waiting};
 
 use crate::chains::Chains;
 use crate::key::Key;

@@ -1,7 +1,7 @@
 //! What an offer compares of a product state, in few bytes.
 
 ghost use Rattle.std.specs.Prelude.{◌≡◌};
-ghost use Rattle.product_search.specs.Waiting.{bar_of, key_of};
+ghost use Rattle.product_search.specs.inside.Waiting.{bar_of, key_of};
 
 use crate::frontier::Reached;
 use crate::row::Row;

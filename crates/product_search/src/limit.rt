@@ -2,7 +2,7 @@
 
 ghost use Rattle.std.specs.Prelude.{◌≡◌, ◌<◌, ◌≤◌, Some, IfSome, IfNone};
 ghost use Rattle.product_search.specs.declared.limit.Limited.TheVariants.{Ended};
-ghost use Rattle.product_search.specs.Searching.{HasMoreSettled};
+ghost use Rattle.product_search.specs.inside.Searching.{HasMoreSettled};
 ghost use Rattle.product_search.specs.Limits.{HasEnded, StopsAreDue};
 
 use crate::frontier::Frontier;

@@ -3,8 +3,8 @@
 ghost use Rattle.std.specs.Prelude.{◌≡◌, ◌↔◌, All, Some, IfOk, filter_map, IsSorted, IsPermutation, IsTrue, OnOk, ◌++◌, length, option_to_list};
 ghost use Rattle.product_search.specs.Listed.{label_order};
 ghost use Rattle.product_search.specs.Reach.{IsBefore, is_before};
-ghost use Rattle.product_search.specs.Searching.{label_of_row};
-ghost use Rattle.product_search.specs.Waiting.{rows};
+ghost use Rattle.product_search.specs.inside.Searching.{label_of_row};
+ghost use Rattle.product_search.specs.inside.Waiting.{rows};
 
 use crate::frontier::Frontier;
 use crate::label::Label;

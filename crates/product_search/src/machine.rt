@@ -1,7 +1,7 @@
 //! An automaton as searches go through it.
 
 ghost use Rattle.std.specs.Prelude.{◌≡◌, ◌<◌, IfOk};
-ghost use Rattle.product_search.specs.MoveTables.{IsTableOf};
+ghost use Rattle.product_search.specs.inside.MoveTables.{IsTableOf};
 
 use crate::moves::{StateMoves, move_table};
 use search_laws::Labels;
@@ -27,7 +27,7 @@ impl<L: Labels + Drop> Machine<L> {
 
 impl<L: Labels> Machine<L> {
     ghost use Rattle.search_laws.specs.Letters.{IsLetter};
-    ghost use Rattle.product_search.specs.MoveTables.{AreTargets, HasLeaving, HasLetters};
+    ghost use Rattle.product_search.specs.inside.MoveTables.{AreTargets, HasLeaving, HasLetters};
 
     /// The letters of the moves that leave a state, as bits.
     pub(crate) fn letters_of(&self, state: u32) -> u32

@@ -3,7 +3,7 @@
 ghost use Rattle.std.specs.Prelude.{◌≡◌, [], ◌+◌, ◌<◌, ◌≤◌, ◌++◌, ◌∷◌, ℕ, length, IfOk, OnOk, IsBitSet};
 ghost use Rattle.search_laws.specs.Letters.{IsLetterSet, letter_count};
 ghost use Rattle.search_laws.specs.LabelLaws.{LabelsMeaning};
-ghost use Rattle.product_search.specs.MoveTables.{AreMoves, AreMovesBelow, AreTargetsWith, HasLetters, IsTableOf};
+ghost use Rattle.product_search.specs.inside.MoveTables.{AreMoves, AreMovesBelow, AreTargetsWith, HasLetters, IsTableOf};
 
 use search_laws::{LETTERS, Labels, Move};
 use std::alloc::{AllocError, Global};

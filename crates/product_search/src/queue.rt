@@ -1,8 +1,8 @@
 //! The queue of those that wait: numbers by their times.
 
 ghost use Rattle.std.specs.Prelude.{◌≡◌, ℕ, ◌<◌, ◌^◌, [], Contains, IfOk, IfSome, IfNone, IsTrue, OnOk};
-ghost use Rattle.product_search.specs.Queued.{entry_of, queue_items, IsQueue, HasHeaps, IsFilled, SameQueued};
-ghost use Rattle.product_search.specs.Queued.{TakesIn, GivesLeast, GivesNone};
+ghost use Rattle.product_search.specs.inside.Queued.{entry_of, queue_items, IsQueue, HasHeaps, IsFilled, SameQueued};
+ghost use Rattle.product_search.specs.inside.Queued.{TakesIn, GivesLeast, GivesNone};
 
 use search_laws::Time;
 use std::alloc::{AllocError, Global};

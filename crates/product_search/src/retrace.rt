@@ -1,8 +1,8 @@
 //! The way back from an end to a start.
 
 ghost use Rattle.std.specs.Prelude.{IfOk, IfSome};
-ghost use Rattle.product_search.specs.Waiting.{IsLink, IsQueueRight};
-ghost use Rattle.product_search.specs.Trail.{HasParents, IsTrailIfAny, IsTrailTo};
+ghost use Rattle.product_search.specs.inside.Waiting.{IsLink, IsQueueRight};
+ghost use Rattle.product_search.specs.inside.Trail.{HasParents, IsTrailIfAny, IsTrailTo};
 
 use crate::frontier::{Frontier, Settled};
 use crate::label::{Hop, Walk};

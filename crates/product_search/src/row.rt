@@ -1,7 +1,7 @@
 //! An entry and its key, read together.
 
 ghost use Rattle.std.specs.Prelude.{◌≡◌};
-ghost use Rattle.product_search.specs.Waiting.{keyed_row, slim};
+ghost use Rattle.product_search.specs.inside.Waiting.{keyed_row, slim};
 
 use crate::frontier::{Entry, Reached};
 use crate::key::Key;

@@ -4,7 +4,7 @@ ghost use Rattle.std.specs.Prelude.{◌≡◌, ◌≤◌, IfOk, IfSome, None, So
 ghost use Rattle.product_search.specs.Answer.{IsByLastTime, last_time};
 ghost use Rattle.product_search.specs.Questions.{question_of, FindsArrival, FindsWalk, ListsLabels, CountsLabels, ListsClosed, HasMore};
 ghost use Rattle.product_search.specs.Limits.{IfEnded, IfStopped};
-ghost use Rattle.product_search.specs.Searching.{IsSettlementWithin};
+ghost use Rattle.product_search.specs.inside.Searching.{IsSettlementWithin};
 
 use crate::frontier::Frontier;
 use crate::label::{Best, Found, FoundWithCount};

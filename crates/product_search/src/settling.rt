@@ -4,7 +4,7 @@ ghost use Rattle.std.specs.Prelude.{◌≡◌, ◌<◌, ◌&&◌, IfOk};
 ghost use Rattle.std.specs.BTreeSet as sorted;
 ghost use Rattle.std.specs.Ordering.{nat_cmp};
 ghost use Rattle.product_search.specs.Questions.{question_of};
-ghost use Rattle.product_search.specs.Searching.{IsExploredWithin, end_arrival};
+ghost use Rattle.product_search.specs.inside.Searching.{IsExploredWithin, end_arrival};
 
 use crate::explore::explore;
 use crate::frontier::{Frontier, Settled};

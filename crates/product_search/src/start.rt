@@ -1,8 +1,8 @@
 //! The product states from which walks may leave, offered to the frontier.
 
 ghost use Rattle.std.specs.Prelude.{◌≡◌, ℕ, ◌<◌, length, slice_index, Contains, OnOk, IsTrue};
-ghost use Rattle.product_search.specs.Waiting.{IsQueueRight};
-ghost use Rattle.product_search.specs.Exploring.{IsSettledBy, Offers, IsStartAt, IsStartAmong, StartIsReached, IsReachedBy};
+ghost use Rattle.product_search.specs.inside.Waiting.{IsQueueRight};
+ghost use Rattle.product_search.specs.inside.Exploring.{IsSettledBy, Offers, IsStartAt, IsStartAmong, StartIsReached, IsReachedBy};
 
 use crate::frontier::{Frontier, Reached};
 use search_laws::{Labels, Time};

@@ -1,8 +1,8 @@
 //! The targets of a search for many arrivals, and when each is reached.
 
 ghost use Rattle.std.specs.Prelude.{◌≡◌, ◌<◌, ◌≤◌, length, slice_index, IfOk, IsTrue, None, replicate};
-ghost use Rattle.product_search.specs.Places.{ArePlaces};
-ghost use Rattle.product_search.specs.Noting.{IsNoted, IsEndNoted, AreReached, time_of, first_time};
+ghost use Rattle.product_search.specs.inside.Places.{ArePlaces};
+ghost use Rattle.product_search.specs.inside.Noting.{IsNoted, IsEndNoted, AreReached, time_of, first_time};
 
 use crate::frontier::{Settled, grow, number_of};
 use search_laws::{Labels, Time};

@@ -1,7 +1,7 @@
 //! What searches keep for the next one.
 
 ghost use Rattle.std.specs.Prelude.{◌≡◌, []};
-ghost use Rattle.product_search.specs.Waiting.{IsClear, IsQueueRight};
+ghost use Rattle.product_search.specs.inside.Waiting.{IsClear, IsQueueRight};
 
 use crate::frontier::{Entry, Frontier, cleared};
 use crate::key::Key;

@@ -7,7 +7,7 @@ use super::clauses::plain_verdict;
 use super::searches::found_by;
 use super::town::Asked;
 use case_script::{Answer, words};
-use product_search::{Found, Label, LabelVerdict, check_labels};
+use product_search::{Found, Label, LabelClaim, LabelVerdict, check_labels};
 use search_laws::Time;
 use std::alloc::{AllocError, Global};
 
@@ -97,15 +97,14 @@ fn verdict(asked: &Asked, arrival: Option<Time>, list: &[Label]) -> LabelVerdict
     requires times { All (λ x. x.at < time_bound) list.now }
     requires arrival { IfSome arrival (λ a. a < time_bound) }
 {
-    check_labels(
-        &asked.town,
-        &asked.rules,
-        &asked.starts,
-        &asked.targets,
-        Time::from(asked.dep),
+    let claim = LabelClaim {
+        starts: &asked.starts,
+        targets: &asked.targets,
+        departure: Time::from(asked.dep),
         arrival,
         list,
-    )
+    };
+    check_labels(&asked.town, &asked.rules, &claim)
 }
 
 /// Tries a list that was made, if there was memory for it.

@@ -1,6 +1,6 @@
 use Rattle.std.proofs.Common.{ℕ, List, None, [], ◌∷◌, ◌∙◌, length, ap, subst, sym, arith}
 use Rattle.std.proofs.lemmas.List.{length-replicate}
-use Rattle.product_search.specs.Noting.{AreNoted}
+use Rattle.product_search.specs.inside.Noting.{AreNoted}
 use Rattle.product_search.proofs.GivenLemmas.{none_given, given_stays}
 use Rattle.product_search.proofs.StepLemmas.{searching_on, one_less, reached_stays}
 use Rattle.product_search.proofs.EndLemmas.{searching_begins, settled_by}

@@ -1,7 +1,7 @@
 use Rattle.std.proofs.Common.{◌≡◌, [], length, None}
-use Rattle.product_search.specs.Exploring.{AreGivenReached}
-use Rattle.product_search.specs.Searching.{unsettled, IsSearching}
-use Rattle.product_search.specs.Noting.{AreNoted, AreReached}
+use Rattle.product_search.specs.inside.Exploring.{AreGivenReached}
+use Rattle.product_search.specs.inside.Searching.{unsettled, IsSearching}
+use Rattle.product_search.specs.inside.Noting.{AreNoted, AreReached}
 use Rattle.product_search.proofs.arrivals.settle_targets.Given as goal
 
 abbrev pub invariant-search : goal.invariant-search

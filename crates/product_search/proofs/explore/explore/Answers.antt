@@ -1,5 +1,5 @@
 use Rattle.std.proofs.Common.{arith}
-use Rattle.product_search.specs.Exploring.{IsByWays, IsSuccessor}
+use Rattle.product_search.specs.inside.Exploring.{IsByWays, IsSuccessor}
 use Rattle.product_search.proofs.OfferLemmas.{arc_keeps, reached_keeps, offers_more, offers_weaker}
 use Rattle.product_search.proofs.GivenLemmas.{visit_by, read_alone, read_among, given_keeps, given_more}
 use Rattle.product_search.proofs.TakenLemmas.{ways_letters, ways_times, by_ways, arcs_reached}

@@ -2,7 +2,7 @@ use Rattle.std.proofs.Common.{Some, ◌∙◌, arith}
 use Rattle.std.specs.Prelude.{All}
 use Rattle.std.proofs.lemmas.List.Elements.{All-contains}
 use Rattle.search_laws.specs.LabelLaws.{Follows}
-use Rattle.product_search.specs.Exploring.{IsByLegsIn, IsSuccessor, LegIsReached}
+use Rattle.product_search.specs.inside.Exploring.{IsByLegsIn, IsSuccessor, LegIsReached}
 use Rattle.product_search.proofs.LegLemmas.{by_legs, legs_reached}
 use Rattle.product_search.proofs.MoveLemmas.{targets_after}
 use Rattle.product_search.proofs.OfferLemmas.{offers_weaker}

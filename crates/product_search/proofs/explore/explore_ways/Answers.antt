@@ -2,7 +2,7 @@ use Rattle.std.proofs.Common.{◌≡◌, ◌<◌, length, None, inl, inr, get_or
 use Rattle.std.proofs.lemmas.Bool.{cases_lt}
 use Rattle.std.proofs.lemmas.List.{get_or_default}
 use Rattle.search_laws.specs.declared.graph.Way.{Way}
-use Rattle.product_search.specs.Exploring.{IsByWay, WayIsReached}
+use Rattle.product_search.specs.inside.Exploring.{IsByWay, WayIsReached}
 use Rattle.product_search.proofs.OfferLemmas.{settled_keeps, offers_more, offers_weaker, way_keeps}
 use Rattle.product_search.proofs.explore.explore_ways.Goals as goal
 

@@ -1,8 +1,8 @@
 use Rattle.std.proofs.Common.{ℕ, ◌<◌}
 use Rattle.std.specs.Prelude.{slice_index_or}
 use Rattle.search_laws.specs.declared.graph.Way.{Way}
-use Rattle.product_search.specs.Waiting.{IsQueueRight}
-use Rattle.product_search.specs.Exploring.{IsSettledBy, Offers, IsByWays, WayIsReached}
+use Rattle.product_search.specs.inside.Waiting.{IsQueueRight}
+use Rattle.product_search.specs.inside.Exploring.{IsSettledBy, Offers, IsByWays, WayIsReached}
 use Rattle.product_search.proofs.explore.explore_ways.Given as goal
 
 abbrev pub invariant-loop-way : goal.invariant-loop-way

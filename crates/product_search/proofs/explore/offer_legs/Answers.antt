@@ -2,7 +2,7 @@ use Rattle.std.proofs.Common.{get_or, subst, arith}
 use Rattle.std.proofs.lemmas.List.{get_or_default}
 use Rattle.std.proofs.lemmas.List.Elements.{AllWithin-more}
 use Rattle.std.proofs.lemmas.Option.{slice_get-get_or}
-use Rattle.product_search.specs.Exploring.{IsByLeg, IsByLegs, LegIsReached}
+use Rattle.product_search.specs.inside.Exploring.{IsByLeg, IsByLegs, LegIsReached}
 use Rattle.product_search.proofs.LegLemmas.{no_leg, legs_passed, legs_keep}
 use Rattle.product_search.proofs.OfferLemmas.{offers_more, offers_weaker, settled_keeps}
 use Rattle.product_search.proofs.explore.offer_legs.Goals as goal

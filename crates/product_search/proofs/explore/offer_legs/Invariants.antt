@@ -1,7 +1,7 @@
 use Rattle.std.proofs.Common.{◌-◌, ◌≤◌, length}
 use Rattle.std.specs.List.{AllWithin}
-use Rattle.product_search.specs.Waiting.{IsQueueRight}
-use Rattle.product_search.specs.Exploring.{IsSettledBy, Offers, IsByLegs, LegIsReached}
+use Rattle.product_search.specs.inside.Waiting.{IsQueueRight}
+use Rattle.product_search.specs.inside.Exploring.{IsSettledBy, Offers, IsByLegs, LegIsReached}
 use Rattle.product_search.proofs.explore.offer_legs.Given as goal
 
 abbrev pub invariant-turns : goal.invariant-turns

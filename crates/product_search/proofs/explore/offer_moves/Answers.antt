@@ -1,7 +1,7 @@
 use Rattle.std.proofs.Common.{◌≡◌, ◌<◌, length, ◌∙◌, sym, subst, inl, inr, get_or, arith}
 use Rattle.std.proofs.lemmas.Bool.{cases_lt}
 use Rattle.std.proofs.lemmas.List.{get_or_default}
-use Rattle.product_search.specs.Exploring.{IsGiven, IsReachedBy}
+use Rattle.product_search.specs.inside.Exploring.{IsGiven, IsReachedBy}
 use Rattle.product_search.proofs.MoveLemmas.{next_offered}
 use Rattle.product_search.proofs.OfferLemmas.{reached_keeps, settled_keeps}
 use Rattle.product_search.proofs.explore.offer_moves.Goals as goal

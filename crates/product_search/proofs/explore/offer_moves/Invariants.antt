@@ -1,7 +1,7 @@
 use Rattle.std.proofs.Common.{ℕ, ◌<◌, Some}
 use Rattle.std.specs.Prelude.{slice_index}
-use Rattle.product_search.specs.Waiting.{IsQueueRight}
-use Rattle.product_search.specs.Exploring.{IsReachedBy, IsSettledBy, Offers, LeadsTo}
+use Rattle.product_search.specs.inside.Waiting.{IsQueueRight}
+use Rattle.product_search.specs.inside.Exploring.{IsReachedBy, IsSettledBy, Offers, LeadsTo}
 use Rattle.product_search.proofs.explore.offer_moves.Given as goal
 
 abbrev pub invariant-loop-next : goal.invariant-loop-next

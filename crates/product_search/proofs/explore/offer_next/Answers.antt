@@ -1,5 +1,5 @@
 use Rattle.std.proofs.Common.{refl}
-use Rattle.product_search.specs.Exploring.{IsGiven}
+use Rattle.product_search.specs.inside.Exploring.{IsGiven}
 use Rattle.product_search.proofs.OfferLemmas.{offers_one, offered_reached}
 use Rattle.product_search.proofs.explore.offer_next.Goals as goal
 

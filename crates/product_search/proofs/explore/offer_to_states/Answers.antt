@@ -1,7 +1,7 @@
 use Rattle.std.proofs.Common.{◌+◌, get_or, arith, below_more}
 use Rattle.std.specs.Prelude.{All}
 use Rattle.std.proofs.lemmas.List.Elements.{All-from_get_or, Contains-get_or}
-use Rattle.product_search.specs.Exploring.{IsByLegs, IsByLegsIn, LegIsReached}
+use Rattle.product_search.specs.inside.Exploring.{IsByLegs, IsByLegsIn, LegIsReached}
 use Rattle.product_search.proofs.OfferLemmas.{offers_more, offers_weaker, reached_keeps, settled_keeps}
 use Rattle.product_search.proofs.explore.offer_to_states.Goals as goal
 

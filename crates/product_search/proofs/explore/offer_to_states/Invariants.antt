@@ -1,7 +1,7 @@
 use Rattle.std.proofs.Common.{ℕ, ◌<◌}
 use Rattle.std.specs.Prelude.{All, slice_index}
-use Rattle.product_search.specs.Waiting.{IsQueueRight}
-use Rattle.product_search.specs.Exploring.{IsSettledBy, Offers, IsByLegsIn, LegIsReached}
+use Rattle.product_search.specs.inside.Waiting.{IsQueueRight}
+use Rattle.product_search.specs.inside.Exploring.{IsSettledBy, Offers, IsByLegsIn, LegIsReached}
 use Rattle.product_search.proofs.explore.offer_to_states.Given as goal
 
 abbrev pub invariant-loop-next : goal.invariant-loop-next

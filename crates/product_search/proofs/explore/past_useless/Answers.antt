@@ -1,7 +1,7 @@
 use Rattle.std.proofs.Common.{subst, arith}
 use Rattle.std.proofs.lemmas.List.{get_or_default}
 use Rattle.std.proofs.lemmas.List.Elements.{AllWithin-more}
-use Rattle.product_search.specs.Exploring.{IsReachedAfter}
+use Rattle.product_search.specs.inside.Exploring.{IsReachedAfter}
 use Rattle.product_search.proofs.LegLemmas.{no_leg}
 use Rattle.product_search.proofs.explore.past_useless.Goals as goal
 

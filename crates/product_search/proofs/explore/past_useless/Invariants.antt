@@ -1,6 +1,6 @@
 use Rattle.std.proofs.Common.{◌-◌, ◌≤◌, length}
 use Rattle.std.specs.List.{AllWithin}
-use Rattle.product_search.specs.Exploring.{IsReachedAfter}
+use Rattle.product_search.specs.inside.Exploring.{IsReachedAfter}
 use Rattle.product_search.proofs.explore.past_useless.Given as goal
 
 abbrev pub invariant-useless : goal.invariant-useless

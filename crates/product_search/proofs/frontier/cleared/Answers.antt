@@ -1,7 +1,7 @@
 use Rattle.std.proofs.Common.{sym, ◌∙◌, ap, arith}
 use Rattle.std.specs.Prelude.{slice_index}
 use Rattle.std.proofs.lemmas.Option.{slice_get-get_or}
-use Rattle.product_search.specs.Waiting.{rows_of}
+use Rattle.product_search.specs.inside.Waiting.{rows_of}
 use Rattle.product_search.proofs.RowLemmas.{row_there, rows_length}
 use Rattle.product_search.proofs.QueueLemmas.{behind_next, behind_all}
 use Rattle.product_search.proofs.frontier.cleared.Goals as goal

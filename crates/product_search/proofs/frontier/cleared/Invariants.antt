@@ -1,4 +1,4 @@
-use Rattle.product_search.specs.Waiting.{rows_of, HasChainsFrom}
+use Rattle.product_search.specs.inside.Waiting.{rows_of, HasChainsFrom}
 use Rattle.product_search.proofs.frontier.cleared.Given as goal
 
 abbrev pub invariant-clear : goal.invariant-clear

@@ -1,6 +1,6 @@
 use Rattle.std.proofs.Common.{refl, arith}
 use Rattle.std.proofs.lemmas.Slice.Zip.{either_empty_from_Zip}
-use Rattle.product_search.specs.Searching.{label_of_row}
+use Rattle.product_search.specs.inside.Searching.{label_of_row}
 use Rattle.product_search.proofs.RowLemmas.{counted_none, counted_all, few_listed}
 use Rattle.product_search.proofs.listing.count_labels.Goals as goal
 

@@ -1,6 +1,6 @@
 use Rattle.std.proofs.Common.{refl}
 use Rattle.std.proofs.lemmas.Slice.Zip.{either_empty_from_Zip}
-use Rattle.product_search.specs.Searching.{label_of_row}
+use Rattle.product_search.specs.inside.Searching.{label_of_row}
 use Rattle.product_search.proofs.RowLemmas.{listed_next, listed_all}
 use Rattle.product_search.proofs.listing.settled_labels.Goals as goal
 

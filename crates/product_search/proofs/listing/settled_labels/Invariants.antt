@@ -1,8 +1,8 @@
 use Rattle.std.proofs.Common.{◌≡◌, ◌++◌, filter_map}
 use Rattle.std.specs.Iterator.Adapters.{zip_first, zip_second}
 use Rattle.std.specs.Slice.Iter.{iter_rest}
-use Rattle.product_search.specs.Waiting.{rows, rows_of}
-use Rattle.product_search.specs.Searching.{label_of_row}
+use Rattle.product_search.specs.inside.Waiting.{rows, rows_of}
+use Rattle.product_search.specs.inside.Searching.{label_of_row}
 use Rattle.product_search.proofs.listing.settled_labels.Given as goal
 
 abbrev pub invariant-rows : goal.invariant-rows

@@ -1,6 +1,6 @@
 use Rattle.std.proofs.Common.{◌-◌, ◌^◌, vec_len}
 use Rattle.std.specs.Prelude.{reverse}
-use Rattle.product_search.specs.Trail.{AreTrail, IsBackWithin, IsRowOf}
+use Rattle.product_search.specs.inside.Trail.{AreTrail, IsBackWithin, IsRowOf}
 use Rattle.product_search.proofs.retrace.retrace.Given as goal
 
 abbrev pub invariant-back : goal.invariant-back

@@ -1,7 +1,7 @@
 use Rattle.std.proofs.Common.{◌∙◌, sym, filter_map, subst, ◌<◌}
 use Rattle.std.proofs.lemmas.List.Sorted.{length_permutation}
-use Rattle.product_search.specs.Searching.{label_of_row}
-use Rattle.product_search.specs.Waiting.{rows}
+use Rattle.product_search.specs.inside.Searching.{label_of_row}
+use Rattle.product_search.specs.inside.Waiting.{rows}
 use Rattle.product_search.proofs.ListLemmas.{least_labels}
 use Rattle.product_search.proofs.LimitLemmas.{more_listed}
 use Rattle.product_search.proofs.SortLemmas.{sorted, sorted_moves, sorted_in_order}

@@ -1,5 +1,5 @@
-use Rattle.product_search.specs.Exploring.{AreGivenReached}
-use Rattle.product_search.specs.Searching.{unsettled, IsSearching}
+use Rattle.product_search.specs.inside.Exploring.{AreGivenReached}
+use Rattle.product_search.specs.inside.Searching.{unsettled, IsSearching}
 use Rattle.product_search.proofs.settling.settle_all.Given as goal
 
 abbrev pub invariant-search : goal.invariant-search

@@ -1,7 +1,7 @@
 use Rattle.std.proofs.Common.{ℕ, ◌<◌}
 use Rattle.std.specs.Prelude.{IsTrue}
-use Rattle.product_search.specs.Waiting.{IsQueueRight}
-use Rattle.product_search.specs.Exploring.{IsReachedBy, IsSettledBy, Offers, IsStartAt}
+use Rattle.product_search.specs.inside.Waiting.{IsQueueRight}
+use Rattle.product_search.specs.inside.Exploring.{IsReachedBy, IsSettledBy, Offers, IsStartAt}
 use Rattle.product_search.proofs.start.offer_start.Given as goal
 
 abbrev pub invariant-loop-state : goal.invariant-loop-state

@@ -1,4 +1,4 @@
-use Rattle.product_search.specs.Exploring.{way_from}
+use Rattle.product_search.specs.inside.Exploring.{way_from}
 use Rattle.product_search.proofs.OfferLemmas.{offered_reached}
 use Rattle.product_search.proofs.start.offer_start_state.Goals as goal
 

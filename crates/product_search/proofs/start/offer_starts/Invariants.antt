@@ -1,6 +1,6 @@
 use Rattle.std.proofs.Common.{ℕ, ◌<◌, slice_index}
-use Rattle.product_search.specs.Waiting.{IsQueueRight}
-use Rattle.product_search.specs.Exploring.{IsSettledBy, Offers, IsStartAmong, StartIsReached}
+use Rattle.product_search.specs.inside.Waiting.{IsQueueRight}
+use Rattle.product_search.specs.inside.Exploring.{IsSettledBy, Offers, IsStartAmong, StartIsReached}
 use Rattle.product_search.proofs.start.offer_starts.Given as goal
 
 abbrev pub invariant-loop-node : goal.invariant-loop-node

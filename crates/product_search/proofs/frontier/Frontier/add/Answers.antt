@@ -1,7 +1,7 @@
 use Rattle.std.proofs.Common.{◌≡◌, ◌+◌, length, slice_index, ◌∷◌, [], ◌∙◌, sym, ap, arith}
 use Rattle.std.proofs.lemmas.List.{length-append, get_or-set_same, get_or-set_other}
 use Rattle.product_search.specs.declared.frontier.Frontier.{Frontier}
-use Rattle.product_search.specs.Waiting.{rows, made}
+use Rattle.product_search.specs.inside.Waiting.{rows, made}
 use Rattle.product_search.proofs.RowLemmas.{kept_length}
 use Rattle.product_search.proofs.QueueLemmas.{changes_push, right_put, indexed_more, none_known, offered_none}
 use Rattle.product_search.proofs.frontier.Frontier.add.Goals as goal

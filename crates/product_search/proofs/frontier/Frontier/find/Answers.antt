@@ -1,5 +1,5 @@
 use Rattle.std.proofs.Common.{◌∙◌, ap, slice_index, arith}
-use Rattle.product_search.specs.Waiting.{rows}
+use Rattle.product_search.specs.inside.Waiting.{rows}
 use Rattle.product_search.proofs.RowLemmas.{kept_length}
 use Rattle.product_search.proofs.QueueLemmas.{sought_first, sought_found, sought_next, sought_smaller, sought_within}
 use Rattle.product_search.proofs.frontier.Frontier.find.Goals as goal

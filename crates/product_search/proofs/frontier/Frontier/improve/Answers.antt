@@ -1,7 +1,7 @@
 use Rattle.std.proofs.Common.{length, refl, sym, ◌∙◌, ap, arith}
 use Rattle.std.proofs.lemmas.List.{length-set}
 use Rattle.product_search.specs.declared.key.Key.{Key}
-use Rattle.product_search.specs.Waiting.{rows, made}
+use Rattle.product_search.specs.inside.Waiting.{rows, made}
 use Rattle.product_search.proofs.RowLemmas.{kept_length, key_read}
 use Rattle.product_search.proofs.QueueLemmas.{changes_set, right_put, indexed_links, links_set, offered_set, offered_kept, within}
 use Rattle.product_search.proofs.frontier.Frontier.improve.Goals as goal

@@ -1,6 +1,6 @@
 use Rattle.std.proofs.Common.{arith}
 use Rattle.std.proofs.lemmas.Bool.Decides.{nat_tests}
-use Rattle.product_search.specs.Waiting.{rows}
+use Rattle.product_search.specs.inside.Waiting.{rows}
 use Rattle.product_search.proofs.RowLemmas.{kept_length}
 use Rattle.product_search.proofs.QueueLemmas.{within, better_here, kept_here, better_top, kept_top}
 use Rattle.product_search.proofs.frontier.Frontier.is_improved.Goals as goal

@@ -1,6 +1,6 @@
 use Rattle.std.proofs.Common.{◌≡◌, ◌+◌, Some, None, sym, ◌∙◌}
 use Rattle.std.proofs.lemmas.Bool.{false≢true, leb-true, le-leb}
-use Rattle.product_search.specs.Waiting.{rows}
+use Rattle.product_search.specs.inside.Waiting.{rows}
 use Rattle.product_search.proofs.QueueLemmas.{none_known, reached_here, here_reached}
 use Rattle.product_search.proofs.frontier.Frontier.is_reached_by.Goals as goal
 

@@ -1,5 +1,5 @@
 use Rattle.std.proofs.Common.{refl, sym, ◌∙◌, ap, subst}
-use Rattle.product_search.specs.Waiting.{rows_of, IsAt}
+use Rattle.product_search.specs.inside.Waiting.{rows_of, IsAt}
 use Rattle.product_search.proofs.QueueLemmas.{right_stale, right_settled, settles, same_stale, right_same, nobody}
 use Rattle.product_search.proofs.frontier.Frontier.settle_least.Goals as goal
 

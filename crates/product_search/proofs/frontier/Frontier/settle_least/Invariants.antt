@@ -1,5 +1,5 @@
-use Rattle.product_search.specs.Queued.{queue_len}
-use Rattle.product_search.specs.Waiting.{IsQueueRight, KeepsNumbers, SameReached}
+use Rattle.product_search.specs.inside.Queued.{queue_len}
+use Rattle.product_search.specs.inside.Waiting.{IsQueueRight, KeepsNumbers, SameReached}
 use Rattle.product_search.proofs.frontier.Frontier.settle_least.Given as goal
 
 abbrev pub invariant-loop-at : goal.invariant-loop-at

@@ -2,7 +2,7 @@ use Rattle.std.proofs.Common.{arith}
 use Rattle.std.specs.BinaryHeap.{heap_items}
 use Rattle.std.proofs.lemmas.List.Sorted.{Contains-permutation}
 use Rattle.std.proofs.lemmas.List.Elements.{Contains-append_left, Contains-append_right}
-use Rattle.product_search.specs.Queued.{entry_of}
+use Rattle.product_search.specs.inside.Queued.{entry_of}
 use Rattle.product_search.proofs.HeapLemmas.{one_is_near}
 use Rattle.product_search.proofs.queue.Queue.move_horizon.Goals as goal
 

@@ -1,7 +1,7 @@
 use Rattle.std.proofs.Common.{◌++◌, ◌∷◌, arith}
 use Rattle.std.specs.BinaryHeap.{heap_items}
 use Rattle.std.proofs.lemmas.List.Sorted.{IsPermutation-append_left}
-use Rattle.product_search.specs.Queued.{entry_of}
+use Rattle.product_search.specs.inside.Queued.{entry_of}
 use Rattle.product_search.proofs.HeapLemmas.{takes_in, takes_later, takes_far}
 use Rattle.product_search.proofs.queue.Queue.push.Goals as goal
 

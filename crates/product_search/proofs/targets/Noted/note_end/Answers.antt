@@ -1,5 +1,5 @@
 use Rattle.std.proofs.Common.{sym, subst}
-use Rattle.product_search.specs.Noting.{AreReached}
+use Rattle.product_search.specs.inside.Noting.{AreReached}
 use Rattle.product_search.proofs.NotingLemmas.{reached_stays}
 use Rattle.product_search.proofs.targets.Noted.note_end.Goals as goal
 

@@ -1,4 +1,4 @@
-use Rattle.product_search.specs.Waiting.{rows}
+use Rattle.product_search.specs.inside.Waiting.{rows}
 use Rattle.product_search.proofs.QueueLemmas.{behind_first}
 use Rattle.product_search.proofs.workspace.Workspace.put.Goals as goal
 

@@ -10,7 +10,7 @@ use Rattle.product_search.specs.declared.frontier.Reached.{Reached}
 use Rattle.product_search.specs.declared.frontier.Settled.{Settled}
 use Rattle.product_search.specs.declared.frontier.Frontier.{Frontier}
 use Rattle.product_search.specs.Reach.{IsWithin}
-use Rattle.product_search.specs.Waiting.{reached_at, KeepsNumbers}
+use Rattle.product_search.specs.inside.Waiting.{reached_at, KeepsNumbers}
 
 -- the product state is reached by then
 abbrev pub IsReachedBy : Frontier → ℕ → ℕ → ℕ → Type 0

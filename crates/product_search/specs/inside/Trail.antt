@@ -6,7 +6,7 @@ use Rattle.product_search.specs.declared.frontier.Reached.{Reached}
 use Rattle.product_search.specs.declared.frontier.Frontier.{Frontier}
 use Rattle.product_search.specs.declared.frontier.Settled.{Settled}
 use Rattle.product_search.specs.declared.row.Row.{Row}
-use Rattle.product_search.specs.Waiting.{rows, reached_at, IsAt, IsLink}
+use Rattle.product_search.specs.inside.Waiting.{rows, reached_at, IsAt, IsLink}
 
 -- what an entry was reached from is reached too, and nearer to a start
 pub record HasParents (f : Frontier) : Type 0 where

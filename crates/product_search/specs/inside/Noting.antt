@@ -4,9 +4,9 @@ use Rattle.search_laws.specs.GraphLaws.{GraphMeaning}
 use Rattle.search_laws.specs.LabelLaws.{LabelsMeaning}
 use Rattle.product_search.specs.declared.frontier.Settled.{Settled}
 use Rattle.product_search.specs.declared.frontier.Frontier.{Frontier}
-use Rattle.product_search.specs.Searching.{IsSearching}
+use Rattle.product_search.specs.inside.Searching.{IsSearching}
 use Rattle.product_search.specs.Arrivals.{IsArrivalAt}
-use Rattle.product_search.specs.Places.{IsPlaced}
+use Rattle.product_search.specs.inside.Places.{IsPlaced}
 
 -- the time at a place, where 0 is none
 abbrev pub time_by : List (Option ℕ) → ℕ → Option ℕ

@@ -14,8 +14,8 @@ use Rattle.product_search.specs.Answer.{IsArrival, IsWalkFor, last_time}
 use Rattle.product_search.specs.declared.limit.Limited.{Limited}
 use Rattle.product_search.specs.declared.limit.Limited.TheVariants.{Ended, Stopped}
 use Rattle.product_search.specs.Questions.{QuestionMeaning, HasMore}
-use Rattle.product_search.specs.Waiting.{keyed, rows, reached_at, waits_at, IsAt, IsLink, IsQueueRight}
-use Rattle.product_search.specs.Exploring.{StartIsReached, ArcIsReached}
+use Rattle.product_search.specs.inside.Waiting.{keyed, rows, reached_at, waits_at, IsAt, IsLink, IsQueueRight}
+use Rattle.product_search.specs.inside.Exploring.{StartIsReached, ArcIsReached}
 
 -- ---- how many product states are not settled
 
