@@ -18,6 +18,7 @@ use Rattle.mode_network.proofs.RuleLemmas.{some_is}
 use Rattle.mode_network.specs.declared.steps.Step.TheVariants.{Ride}
 use Rattle.mode_network.specs.Journeys.{IsStep}
 use Rattle.journey.specs.declared.rides.AllowedRide.{AllowedRide}
+use Rattle.journey.specs.declared.rides.NamedRide.{NamedRide}
 use Rattle.journey.specs.Rides.{KeepsRules, IsAllowed, letter_and_stop}
 
 -- a set of days that is below a power of two has no day from its exponent on
@@ -69,21 +70,21 @@ pub record AreThere (n : NetworkLists) (day : ℕ) (ride : AllowedRide) : Type 0
   pub on : ride.on.stop < length n.stop_names
   pub off : ride.off.stop < length n.stop_names
 
-pub allowed_there : (n : NetworkLists) → KeepsRules n → (trips : List TripLists) → trips ≡ n.trips → (place day board alight : ℕ) (ride : AllowedRide)
-    → IsAllowed trips place day board alight (Some ride) → AreThere n day ride
-allowed_there n rules trips same place day board alight ride allowed =
-    let is = subst (λ (ts : List TripLists). IsAllowed ts place day board alight (Some ride)) same allowed in
+pub allowed_there : (n : NetworkLists) → KeepsRules n → (trips : List TripLists) → trips ≡ n.trips → (named : NamedRide) (ride : AllowedRide)
+    → IsAllowed trips named (Some ride) → AreThere n named.day ride
+allowed_there n rules trips same named ride allowed =
+    let is = subst (λ (ts : List TripLists). IsAllowed ts named (Some ride)) same allowed in
     record {
-      day_there = run_within n rules place day is.0 is.1.run;
-      on = call_named n rules.network place is.0 is.1.run.is board ride.on is.1.on_is;
-      off = call_named n rules.network place is.0 is.1.run.is alight ride.off is.1.off_is;
+      day_there = run_within n rules named.trip named.day is.0 is.1.run;
+      on = call_named n rules.network named.trip is.0 is.1.run.is named.board ride.on is.1.on_is;
+      off = call_named n rules.network named.trip is.0 is.1.run.is named.alight ride.off is.1.off_is;
     }
 
 -- where the run allows none, the step is none
-pub no_ride : (n : NetworkLists) (trips : List TripLists) → trips ≡ n.trips → (v t place day board alight : ℕ) → IsAllowed trips place day board alight None
-    → (w u : ℕ) (letter : Option ℕ) → IsStep n v t (Ride place day board alight) w u letter → ⊥
-no_ride n trips same v t place day board alight none w u letter (run, on, off, ride, at, soon, there, then, read) =
-    subst (λ (ts : List TripLists). IsAllowed ts place day board alight None) same none run on off ride
+pub no_ride : (n : NetworkLists) (trips : List TripLists) → trips ≡ n.trips → (v t : ℕ) (named : NamedRide) → IsAllowed trips named None
+    → (w u : ℕ) (letter : Option ℕ) → IsStep n v t (Ride named.trip named.day named.board named.alight) w u letter → ⊥
+no_ride n trips same v t named none w u letter (run, on, off, ride, at, soon, there, then, read) =
+    subst (λ (ts : List TripLists). IsAllowed ts named None) same none run on off ride
 
 -- the stop of a trip's call has a name
 pub stop_named : (n : NetworkLists) → IsNetwork n → (trips : List TripLists) → trips ≡ n.trips → (place k letter stop : ℕ)

@@ -6,6 +6,7 @@ use Rattle.timetable_arcs.specs.Trips.{TripLists, IsRide}
 use Rattle.mode_network.specs.NetworkLists.{NetworkLists, stop_node}
 use Rattle.mode_network.specs.Rules.{IsNetwork}
 use Rattle.journey.specs.declared.rides.AllowedRide.{AllowedRide}
+use Rattle.journey.specs.declared.rides.NamedRide.{NamedRide}
 
 -- the rules that the lists of a network keep, and those that its days keep
 pub record KeepsRules (n : NetworkLists) : Type 0 where
@@ -22,9 +23,9 @@ letter_and_stop trips place k =
 abbrev pub alighting : NetworkLists → ℕ → ℕ → Option (ℕ × ℕ)
 alighting n place alight = option_map (λ x. (stop_node n x.1, x.0)) (letter_and_stop n.trips place alight)
 
--- the ride that a run allows between two of its calls, with its letter; or the run allows none
-abbrev pub IsAllowed : List TripLists → ℕ → ℕ → ℕ → ℕ → Option AllowedRide → Type 0
-IsAllowed trips place day board alight (Some ride) =
-    (trip : TripLists) × IsRide trips place day board alight trip ride.on ride.off × (ride.letter ≡ trip.letter)
-IsAllowed trips place day board alight None =
-    (trip : TripLists) (on off : Call) → IsRide trips place day board alight trip on off → ⊥
+-- the named ride, with the letter of its trip, as its run allows it; or the run allows none
+abbrev pub IsAllowed : List TripLists → NamedRide → Option AllowedRide → Type 0
+IsAllowed trips named (Some ride) =
+    (trip : TripLists) × IsRide trips named.trip named.day named.board named.alight trip ride.on ride.off × (ride.letter ≡ trip.letter)
+IsAllowed trips named None =
+    (trip : TripLists) (on off : Call) → IsRide trips named.trip named.day named.board named.alight trip on off → ⊥

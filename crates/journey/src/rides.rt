@@ -27,6 +27,15 @@ pub(crate) fn trips(network: &Network) -> &[Trip]
     network.timetable().trips()
 }
 
+/// A ride as a step names it: the run of this trip on this day, from the call at which it boards to a later one.
+#[derive(Clone, Copy)]
+pub(crate) struct NamedRide {
+    pub trip: u32,
+    pub day: u32,
+    pub board: u32,
+    pub alight: u32,
+}
+
 /// A ride that a run allows: the letter of its trip, and the calls at which it boards and alights.
 #[derive(Clone, Copy)]
 pub(crate) struct AllowedRide {
@@ -35,15 +44,15 @@ pub(crate) struct AllowedRide {
     pub off: Call,
 }
 
-/// The ride that a run allows between two of its calls; None exactly where the trip does not run on the day, the
-/// calls are none of its calls in turn, or boarding or alighting is not allowed there.
-fn allowed_ride(trips: &[Trip], trip: u32, day: u32, board: u32, alight: u32) -> Option<AllowedRide>
-    ensures { IsAllowed trips.now trip day board alight result }
+/// The named ride, if its run allows it; None exactly where the trip does not run on the day, the calls are none of its
+/// calls in turn, or boarding or alighting is not allowed there.
+fn allowed_ride(trips: &[Trip], named: NamedRide) -> Option<AllowedRide>
+    ensures { IsAllowed trips.now named result }
 {
-    let trip = trips.get(trip as usize)?;
-    let on = trip.calls.get(board as usize)?;
-    let off = trip.calls.get(alight as usize)?;
-    if trip.days.contains(day) && board < alight && on.board && off.alight {
+    let trip = trips.get(named.trip as usize)?;
+    let on = trip.calls.get(named.board as usize)?;
+    let off = trip.calls.get(named.alight as usize)?;
+    if trip.days.contains(named.day) && named.board < named.alight && on.board && off.alight {
         Some(AllowedRide {
             letter: trip.letter,
             on: *on,
@@ -82,26 +91,18 @@ fn clock_at(days: &Days, day: u32, seconds: u32) -> Time
 }
 
 /// The end of a ride that is taken from `v` at `t`; None exactly where the network has no such step.
-pub(crate) fn ride_end(
-    network: &Network,
-    v: u32,
-    t: Time,
-    trip: u32,
-    day: u32,
-    board: u32,
-    alight: u32,
-) -> Option<StepEnd>
-    ensures { IsStepEnd network.now v t (Ride trip day board alight) result }
+pub(crate) fn ride_end(network: &Network, v: u32, t: Time, named: NamedRide) -> Option<StepEnd>
+    ensures { IsStepEnd network.now v t (Ride named.trip named.day named.board named.alight) result }
 {
     keeps_rules(network);
-    let ride = allowed_ride(trips(network), trip, day, board, alight)?;
-    let departure = clock_at(network.days(), day, ride.on.dep);
+    let ride = allowed_ride(trips(network), named)?;
+    let departure = clock_at(network.days(), named.day, ride.on.dep);
     if network.stop_node(ride.on.stop) != v || departure < t {
         return None;
     }
     Some(StepEnd {
         node: network.stop_node(ride.off.stop),
-        at: clock_at(network.days(), day, ride.off.arr),
+        at: clock_at(network.days(), named.day, ride.off.arr),
         letter: Some(ride.letter),
     })
 }

@@ -3,7 +3,7 @@
 ghost use Rattle.std.specs.Prelude.{◌<◌, ◌^◌};
 ghost use Rattle.journey.specs.Ends.{IsStepEnd};
 
-use crate::rides::ride_end;
+use crate::rides::{NamedRide, ride_end};
 use mode_network::{Network, Step};
 use plan_base::Time;
 
@@ -67,6 +67,14 @@ pub fn step_end(network: &Network, v: u32, t: Time, step: Step) -> Option<StepEn
             day,
             board,
             alight,
-        } => ride_end(network, v, t, trip, day, board, alight),
+        } => {
+            let named = NamedRide {
+                trip,
+                day,
+                board,
+                alight,
+            };
+            ride_end(network, v, t, named)
+        }
     }
 }
