@@ -4,7 +4,7 @@ use Rattle.std.specs.Prelude.{slice_get}
 use Rattle.std.proofs.lemmas.Bool.{eqb-true}
 use Rattle.mode_network.proofs.RuleLemmas.{both}
 use Rattle.search_laws.specs.Collapse.{collapse}
-use Rattle.journey.specs.Words.{appended}
+use Rattle.journey.specs.inside.Words.{appended}
 
 -- the last of a list
 abbrev last_of : ℕ → List ℕ → ℕ

@@ -6,7 +6,7 @@ use Rattle.service_days.specs.Clock.{clock_text_of}
 use Rattle.mode_network.specs.declared.steps.Step.{Step}
 use Rattle.mode_network.specs.NetworkLists.{NetworkLists}
 use Rattle.journey.specs.declared.telling.Told.{Told}
-use Rattle.journey.specs.Telling.{IsTold}
+use Rattle.journey.specs.inside.Telling.{IsTold}
 use Rattle.journey.specs.Texts.{IsJourneyText, word_text, place_text, block_text}
 use Rattle.journey.specs.Blocks.{AddsText, IsFramed}
 

@@ -10,7 +10,7 @@ use Rattle.mode_network.specs.NetworkLists.{NetworkLists, nodes_of}
 use Rattle.mode_network.specs.Journeys.{IsStep}
 use Rattle.journey.specs.Rides.{KeepsRules}
 use Rattle.journey.specs.Ends.{AreTaken, HasTime}
-use Rattle.journey.specs.Words.{with_letter}
+use Rattle.journey.specs.inside.Words.{with_letter}
 use Rattle.journey.specs.Texts.{step_text, AreTold}
 use Rattle.journey.proofs.CollapseLemmas.{collapse_more}
 use Rattle.journey.proofs.StepLemmas.{told_more, taken_on, step_in_range, step_in_time, on_time}

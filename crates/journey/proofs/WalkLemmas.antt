@@ -13,7 +13,7 @@ use Rattle.mode_network.specs.Journeys.{Route, IsStep, AreSteps}
 use Rattle.mode_network.proofs.RuleLemmas.{some_is}
 use Rattle.journey.specs.Rides.{KeepsRules}
 use Rattle.journey.specs.Ends.{AreTaken, HasTime}
-use Rattle.journey.specs.Words.{with_letter}
+use Rattle.journey.specs.inside.Words.{with_letter}
 use Rattle.journey.specs.Real.{IsFirstBad, FirstBad, IsReal, EndsAt, HasWord, IsSpelt, AlwaysLeadsTo}
 use Rattle.journey.proofs.StepLemmas.{steps_more, taken_on, step_in_time, on_time}
 use Rattle.journey.proofs.ToldLemmas.{next_step, with_more}

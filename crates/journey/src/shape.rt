@@ -2,7 +2,7 @@
 
 ghost use Rattle.std.specs.Prelude.{◌≡◌, ◌==◌, option_map, position, IfOk, IfSome, ◌<◌, ◌^◌};
 ghost use Rattle.journey.specs.Shapes.{at_byte, at_space, place_at, near_in_at, endpoint_of, shape_of, part_at, millis_at, time_at, departure_on, fields_of};
-ghost use Rattle.journey.specs.Shown.{shape_shown};
+ghost use Rattle.journey.specs.inside.Shown.{shape_shown};
 ghost use Rattle.journey.specs.Shapes.{departs_at};
 
 use crate::fault::QueryFault;

@@ -4,10 +4,10 @@ ghost use Rattle.std.specs.Prelude.{◌≡◌, OnOk, IfOk, ◌<◌, ◌++◌, le
 ghost use Rattle.plain_texts.specs.Lines.{with_feed};
 ghost use Rattle.mode_network.specs.NetworkLists.{nodes_of};
 ghost use Rattle.search_laws.specs.Times.{time_bound};
-ghost use Rattle.journey.specs.Words.{repeats_road, appended, with_letter};
+ghost use Rattle.journey.specs.inside.Words.{repeats_road, appended, with_letter};
 ghost use Rattle.journey.specs.Texts.{IsThere, step_text};
 ghost use Rattle.journey.specs.Ends.{HasTime, AreTaken};
-ghost use Rattle.journey.specs.Telling.{IsTold};
+ghost use Rattle.journey.specs.inside.Telling.{IsTold};
 
 use crate::rides::keeps_rules;
 use crate::step_ends::{StepEnd, step_end};
