@@ -3,18 +3,18 @@ use Rattle.std.proofs.Common.{ℕ, ◌≤◌, inl, inr, List, Option, Some, None
 use Rattle.std.specs.Prelude.{Contains, ◌↔◌}
 use Rattle.search_laws.specs.LabelLaws.{LabelsMeaning, Accepts}
 use Rattle.search_laws.specs.Collapse.{collapse}
-use Rattle.mode_expression.specs.Form.{form_of, IsWordOf}
+use Rattle.mode_expression.specs.Form.{IsWordOf}
 use Rattle.mode_network.specs.NetworkLists.{NetworkLists}
 use Rattle.mode_network.specs.Journeys.{Route}
 use Rattle.mode_network.specs.Copies.{IsCopy}
-use Rattle.journey.specs.declared.query.Query.{Query}
 use Rattle.journey.specs.declared.verdict.CertVerdict.TheVariants.{Valid, Invalid}
-use Rattle.journey.specs.CopyLists.{AreTheCopies}
 use Rattle.certificate.specs.declared.walked.Walked.{Walked}
 use Rattle.certificate.specs.declared.claimed.Goal.{Goal}
+use Rattle.certificate.specs.declared.claimed.JourneyCheck.{JourneyCheck}
 use Rattle.journey.specs.Best.{Asked, Answers, asked_by}
 use Rattle.certificate.specs.Claimed.{IsTimely, StartsWell, FailsFirstOfThree, IsFirstFailing, IsAsClaimed, IsClaimVerdict}
-use Rattle.certificate.specs.Verdicts.{AreDenoted, goal_of}
+use Rattle.certificate.specs.Checks.{IsSetUp}
+use Rattle.certificate.specs.Verdicts.{goal_of}
 use Rattle.certificate.specs.StateSets.{AreAfter}
 use Rattle.certificate.specs.Walked.{IsWalkedTo}
 
@@ -24,18 +24,23 @@ fails_same P Q R P2 R2 p r at (inl (is, none)) = inl (is, λ h. none (p.1 h))
 fails_same P Q R P2 R2 p r at (inr (inl (is, first, none))) = inr (inl (is, p.0 first, none))
 fails_same P Q R P2 R2 p r at (inr (inr (is, first, second, none))) = inr (inr (is, p.0 first, second, λ h. none (r.1 h)))
 
-module _ (n : NetworkLists) (q : Query) (l : LabelsMeaning) (origins destinations : List ℕ) (from : AreTheCopies n q.from origins) (to : AreTheCopies n q.to destinations)
-    (denotes : AreDenoted (form_of q.expr) l) (goal : Goal) (j : Route) where
-  starts_well : Contains origins j.start × (goal.earliest ≤ j.at) → StartsWell n (asked_by q) goal j
-  starts_well (listed, later) = record { at_copy = (from.are j.start).0 listed; not_before = later }
+module _ {L : Type 0} (l : LabelsMeaning) (check : JourneyCheck L) (set_up : IsSetUp l check) (goal : Goal) (j : Route) where
+  abbrev n : NetworkLists
+  n = check.network.now
+
+  abbrev q : Asked
+  q = asked_by check.query.now
+
+  starts_well : Contains check.origins.now j.start × (goal.earliest ≤ j.at) → StartsWell n q goal j
+  starts_well (listed, later) = record { at_copy = (set_up.origins.are j.start).0 listed; not_before = later }
 
   -- how far a journey that was walked ends as is claimed
   abbrev EndIs : Walked → Option ℕ → Type 0
   EndIs walked place =
-      (letters : List ℕ) → AreAfter l letters walked.states → IsFirstFailing (Contains destinations walked.node) (IsTimely goal.arrival walked.at) (Accepts l letters) place
+      (letters : List ℕ) → AreAfter l letters walked.states → IsFirstFailing (Contains check.destinations.now walked.node) (IsTimely goal.arrival walked.at) (Accepts l letters) place
 
-  pub end_fails : Contains origins j.start × (goal.earliest ≤ j.at) → (walked : Walked) → IsWalkedTo n l j.start j.at j.steps walked → (at : ℕ) → EndIs walked (Some at)
-      → IsClaimVerdict n (asked_by q) goal j (Invalid 5 at)
+  pub end_fails : Contains check.origins.now j.start × (goal.earliest ≤ j.at) → (walked : Walked) → IsWalkedTo n l j.start j.at j.steps walked → (at : ℕ) → EndIs walked (Some at)
+      → IsClaimVerdict n q goal j (Invalid 5 at)
   end_fails start walked is at fails = inr (inr (record {
     clause_is = refl;
     starts = starts_well start;
@@ -43,12 +48,12 @@ module _ (n : NetworkLists) (q : Query) (l : LabelsMeaning) (origins destination
     time = walked.at;
     word = collapse is.letters;
     real = record { letters = is.letters; steps = is.are; word_is = refl };
-    bad = fails_same (Contains destinations walked.node) (IsTimely goal.arrival walked.at) (Accepts l is.letters) (IsCopy n q.to walked.node)
-        (IsWordOf (form_of q.expr) (collapse is.letters)) (to.are walked.node) (denotes is.letters) at (fails is.letters is.states);
+    bad = fails_same (Contains check.destinations.now walked.node) (IsTimely goal.arrival walked.at) (Accepts l is.letters) (IsCopy n q.to walked.node)
+        (IsWordOf q.form (collapse is.letters)) (set_up.destinations.are walked.node) (set_up.denotes is.letters) at (fails is.letters is.states);
   }))
 
-  pub as_claimed : Contains origins j.start × (goal.earliest ≤ j.at) → (walked : Walked) → IsWalkedTo n l j.start j.at j.steps walked → EndIs walked None
-      → IsClaimVerdict n (asked_by q) goal j Valid
+  pub as_claimed : Contains check.origins.now j.start × (goal.earliest ≤ j.at) → (walked : Walked) → IsWalkedTo n l j.start j.at j.steps walked → EndIs walked None
+      → IsClaimVerdict n q goal j Valid
   as_claimed start walked is ends =
       let (at_target, timely, accepts) = ends is.letters is.states in
       record {
@@ -57,9 +62,9 @@ module _ (n : NetworkLists) (q : Query) (l : LabelsMeaning) (origins destination
         time = walked.at;
         word = collapse is.letters;
         real = record { letters = is.letters; steps = is.are; word_is = refl };
-        ends_at_copy = (to.are walked.node).0 at_target;
+        ends_at_copy = (set_up.destinations.are walked.node).0 at_target;
         timely = timely;
-        denoted = (denotes is.letters).0 accepts;
+        denoted = (set_up.denotes is.letters).0 accepts;
       }
 
 -- a journey that answers at an arrival is as that is claimed

@@ -9,4 +9,5 @@ pub mod Valid
 pub mod Claimed
 pub mod Verdicts
 pub mod StateSets
+pub mod Checks
 pub mod Walked

@@ -1,14 +1,12 @@
 //! The check of a journey that is claimed.
 
-ghost use Rattle.std.specs.Prelude.{◌≤◌, ◌↔◌, ℕ, List, [], Contains, IsTrue};
+ghost use Rattle.std.specs.Prelude.{◌≤◌, ◌↔◌, ℕ, List, Contains, IsTrue};
 ghost use Rattle.search_laws.specs.LabelLaws.{Accepts};
-ghost use Rattle.mode_expression.specs.Form.{form_of};
 ghost use Rattle.journey.specs.Best.{asked_by};
-ghost use Rattle.journey.specs.CopyLists.{AreTheCopies};
 ghost use Rattle.journey.specs.Ends.{HasTimes};
 ghost use Rattle.certificate.specs.Claimed.{IsClaimVerdict, IsFirstFailing, IsTimely};
+ghost use Rattle.certificate.specs.Checks.{IsSetUp};
 ghost use Rattle.certificate.specs.StateSets.{AreAfter};
-ghost use Rattle.certificate.specs.Verdicts.{AreDenoted};
 
 use crate::state_sets::StateSets;
 use crate::walked::{Walked, walk};
@@ -33,34 +31,43 @@ pub struct Goal {
     pub arrival: Arrival,
 }
 
-/// The verdict on a journey that is claimed, by clauses 3 to 5: it starts at one of the origins, no earlier than is claimed; each
-/// step is one of the network; it ends at one of the destinations, arrives as is claimed, and has a word that is denoted.
-pub fn journey_verdict<L: Labels>(
-    network: &Network,
-    query: &Query,
-    goal: Goal,
-    labels: &L,
-    origins: &[u32],
-    destinations: &[u32],
-    states: StateSets,
-    journey: &Journey,
-) -> CertVerdict
-    requires times { HasTimes journey.now }
-    requires origins { AreTheCopies network.now query.now.from origins.now }
-    requires destinations { AreTheCopies network.now query.now.to destinations.now }
-    requires denotes { AreDenoted (form_of query.now.expr) (L.automaton labels.now) }
-    requires states { AreAfter (L.automaton labels.now) [] states }
-    ensures { IsClaimVerdict network.now (asked_by query.now) goal journey.now result }
-{
-    if !starts_well(goal.earliest, origins, journey) {
-        return CertVerdict::Invalid { clause: 3, at: 0 };
-    }
-    match walk(network, labels, journey, states) {
-        Ok(walked) => match first_bad_end(labels, destinations, goal.arrival, &walked) {
-            Some(at) => CertVerdict::Invalid { clause: 5, at },
-            None => CertVerdict::Valid,
-        },
-        Err(at) => CertVerdict::Invalid { clause: 4, at },
+/// What a journey that is claimed of a query is checked by.
+#[derive(Drop)]
+pub struct JourneyCheck<'a, L: Labels> {
+    pub network: &'a Network,
+    pub query: &'a Query,
+    /// The automaton of the query's expression.
+    pub labels: &'a L,
+    /// The copies of the query's origin.
+    pub origins: &'a [u32],
+    /// The copies of its destination.
+    pub destinations: &'a [u32],
+    /// The states in which the automaton starts.
+    pub states: StateSets,
+}
+
+impl<'a, L: Labels> JourneyCheck<'a, L> {
+    /// The verdict on a journey that is claimed, by clauses 3 to 5: it starts at one of the origins, no earlier than is
+    /// claimed; each step is one of the network; it ends at one of the destinations, arrives as is claimed, and has a
+    /// word that is denoted.
+    pub fn verdict(self, goal: Goal, journey: &Journey) -> CertVerdict
+        requires set_up { IsSetUp (L.automaton self.labels.now) self }
+        requires times { HasTimes journey.now }
+        ensures { IsClaimVerdict self.entry.network.now (asked_by self.entry.query.now) goal
+            journey.now result }
+    {
+        if !starts_well(goal.earliest, self.origins, journey) {
+            return CertVerdict::Invalid { clause: 3, at: 0 };
+        }
+        match walk(self.network, self.labels, journey, self.states) {
+            Ok(walked) => {
+                match first_bad_end(self.labels, self.destinations, goal.arrival, &walked) {
+                    Some(at) => CertVerdict::Invalid { clause: 5, at },
+                    None => CertVerdict::Valid,
+                }
+            }
+            Err(at) => CertVerdict::Invalid { clause: 4, at },
+        }
     }
 }
 

@@ -102,8 +102,8 @@ fn keep_step(known: &mut [KnownStep], letter: u8, before: &[bool], after: &[bool
     requires before { All (λ step. length step.before.items ≡ length before.now) known.old }
     requires after { All (λ step. length step.after.items ≡ length after.now) known.old }
     ensures length { length known.new ≡ length known.old }
-    ensures each { (c : ℕ) (d : KnownStep) → c < length known.new → IsKept known.old letter before.now after.now
-        c (slice_index_or known.new c d) }
+    ensures each { (c : ℕ) (d : KnownStep) → c < length known.new
+        → IsKept known.old letter before.now after.now c (slice_index_or known.new c d) }
 {
     if (letter as usize) < known.len() {
         let step = &mut known[letter as usize];

@@ -1,19 +1,18 @@
 //! The check of a certificate.
 
-ghost use Rattle.std.specs.Prelude.{◌≡◌, ◌↔◌, ℕ, Some, [], IfOk, IfSome, IsTrue, is_some, option_map};
+ghost use Rattle.std.specs.Prelude.{◌≡◌, ◌↔◌, ℕ, Some, IfOk, IfSome, IsTrue, is_some, option_map};
 ghost use Rattle.mode_expression.specs.Form.{form_of, IsUsable};
 ghost use Rattle.hierarchy.specs.Soundness.{IsSound};
 ghost use Rattle.journey.specs.Best.{Asks, asked_by};
-ghost use Rattle.journey.specs.CopyLists.{AreTheCopies};
 ghost use Rattle.journey.specs.declared.verdict.CertVerdict.TheVariants.{Valid, Invalid};
 ghost use Rattle.journey.specs.Ends.{HasTimes};
 ghost use Rattle.journey.specs.Faults.{number_of};
 ghost use Rattle.certificate.specs.Valid.{HaveTimes, Proves, claimed_arrival};
-ghost use Rattle.certificate.specs.Verdicts.{claim_on, AreDenoted, IsCertVerdict, IsResultVerdict, as_verdict};
-ghost use Rattle.certificate.specs.StateSets.{AreAfter};
+ghost use Rattle.certificate.specs.Verdicts.{claim_on, IsCertVerdict, IsResultVerdict, as_verdict};
+ghost use Rattle.certificate.specs.Checks.{IsSetUp};
 
 use crate::certificate::Certificate;
-use crate::claimed::{Arrival, Goal, journey_verdict};
+use crate::claimed::{Arrival, Goal, JourneyCheck};
 use crate::state_sets::StateSets;
 use automaton::{Collapsed, Positions};
 use hierarchy::Hierarchy;
@@ -21,7 +20,7 @@ use journey::{CertVerdict, Query, QueryFault, copies, read_query};
 use mode_network::{Journey, Network};
 use phase_graph::{GraphInUse, ends_in, starts_in};
 use plan_base::Time;
-use product_search::{Label, LabelVerdict, check_labels};
+use product_search::{Label, LabelClaim, LabelVerdict, check_labels};
 use search_laws::Labels;
 use std::alloc::{AllocError, Global};
 
@@ -118,51 +117,44 @@ fn verify_claim(
     let graph = GraphInUse::new(alloc, network, hierarchy, &targets)?;
     let starts = starts_in(alloc, hierarchy, &origins)?;
     let ends = ends_in(alloc, hierarchy, &targets)?;
-    let states = StateSets::start(alloc, &automaton)?;
-    if let CertVerdict::Invalid { clause, at } = result_verdict(
-        network, query, &automaton, &origins, &targets, states, claimed,
-    ) {
+    let check = JourneyCheck {
+        network,
+        query,
+        labels: &automaton,
+        origins: &origins,
+        destinations: &targets,
+        states: StateSets::start(alloc, &automaton)?,
+    };
+    if let CertVerdict::Invalid { clause, at } = result_verdict(check, claimed) {
         return Ok(CertVerdict::Invalid { clause, at });
     }
-    let arrival = claimed_arrival(claimed);
-    let verdict = check_labels(
-        &graph,
-        &automaton,
-        &starts,
-        &ends,
-        query.depart,
-        arrival,
-        labels,
-    );
+    let claim = LabelClaim {
+        starts: &starts,
+        targets: &ends,
+        departure: query.depart,
+        arrival: claimed_arrival(claimed),
+        list: labels,
+    };
+    let verdict = check_labels(&graph, &automaton, &claim);
     Ok(as_verdict(verdict))
 }
 
 /// The verdict by clauses 3 to 5; they are skipped where it is claimed that no journey answers.
 fn result_verdict<L: Labels>(
-    network: &Network,
-    query: &Query,
-    labels: &L,
-    starts: &[u32],
-    targets: &[u32],
-    states: StateSets,
+    check: JourneyCheck<'_, L>,
     claimed: &Option<(Time, Journey)>,
 ) -> CertVerdict
+    requires set_up { IsSetUp (L.automaton check.labels.now) check }
     requires times { IfSome claimed.now (λ claimed. HasTimes claimed.1) }
-    requires starts { AreTheCopies network.now query.now.from starts.now }
-    requires targets { AreTheCopies network.now query.now.to targets.now }
-    requires denotes { AreDenoted (form_of query.now.expr) (L.automaton labels.now) }
-    requires states { AreAfter (L.automaton labels.now) [] states }
-    ensures { IsResultVerdict network.now (asked_by query.now) claimed.now result }
+    ensures { IsResultVerdict check.entry.network.now (asked_by check.entry.query.now) claimed.now result }
 {
     match claimed {
         Some((arrival, journey)) => {
             let goal = Goal {
-                earliest: query.depart,
+                earliest: check.query.depart,
                 arrival: Arrival::At(*arrival),
             };
-            journey_verdict(
-                network, query, goal, labels, starts, targets, states, journey,
-            )
+            check.verdict(goal, journey)
         }
         None => CertVerdict::Valid,
     }

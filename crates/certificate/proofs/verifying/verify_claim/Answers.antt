@@ -18,9 +18,13 @@ starts_in-requires c = rw c.deref-2.ensures.value (low_nodes c.args.network.now 
 pub ends_in-requires : goal.ends_in-requires
 ends_in-requires c = rw c.deref-3.ensures.value (low_nodes c.args.network.now c.known.ensures c.in_ok-targets.targets.items c.in_ok-targets.ensures.nodes)
 
-pub result_verdict-requires-clause-denotes : goal.result_verdict-requires-clause-denotes
-result_verdict-requires-clause-denotes c =
-    automaton_denotes c.args.query.now.expr c.new-automaton.result.inner _ c.new-automaton.ensures.same c.new-automaton.ensures.accepts c.in_ok-of.ensures.accepts
+pub result_verdict-requires-clause-set_up : goal.result_verdict-requires-clause-set_up
+result_verdict-requires-clause-set_up c = record {
+  origins = rw c.deref-4.ensures.value c.in_ok-origins.ensures.are;
+  destinations = rw c.deref-5.ensures.value c.in_ok-targets.ensures.are;
+  denotes = automaton_denotes c.args.query.now.expr c.new-automaton.result.inner _ c.new-automaton.ensures.same c.new-automaton.ensures.accepts c.in_ok-of.ensures.accepts;
+  states = c.in_ok-start.ensures;
+}
 
 pub check_labels-verdict-requires-clause-few : goal.check_labels-verdict-requires-clause-few
 check_labels-verdict-requires-clause-few c =
@@ -37,7 +41,7 @@ returns-clause-verdict c =
     let starts = c.in_ok-starts.ensures ∙ ap (starts_in h) c.deref-2.ensures.value in
     let ends = c.in_ok-ends.ensures ∙ ap (ends_in h) c.deref-3.ensures.value in
     let in_use = subst (λ (ts : List ℕ). IsInUse n h ts (meaning_in_use c.in_ok-graph.graph)) c.deref.ensures.value c.in_ok-graph.ensures.is in
-    let verdict = rw (c.deref-6.ensures.value, c.deref-7.ensures.value, starts, ends, c.claimed_arrival-arrival.ensures) at c.check_labels-verdict.ensures.verdict in
+    let verdict = rw (c.deref-6.ensures.value, c.deref-7.ensures.value, starts, ends, c.claimed_arrival.ensures) at c.check_labels-verdict.ensures.verdict in
     let positions = subst (λ (p : Positions). IsPositionAutomaton (written (form_of q.expr)) (position_meaning p)) (sym c.new-automaton.ensures.same) c.in_ok-of.ensures.states in
     rw c.as_verdict.ensures (labels_judged n h (claim_on q h c.args.claimed.now c.args.labels.now) q c.requires.asks refl
     (position_meaning c.new-automaton.result.inner) positions c.new-automaton.result.inner.lawful
