@@ -1,13 +1,11 @@
 //! The check of a late certificate.
 
-ghost use Rattle.std.specs.Prelude.{◌≡◌, ◌<◌, ◌≤◌, ◌^◌, [], IfOk, IfSome};
+ghost use Rattle.std.specs.Prelude.{◌≡◌, ◌<◌, ◌≤◌, ◌^◌, IfOk, IfSome};
 ghost use Rattle.mode_expression.specs.Form.{form_of, IsUsable};
 ghost use Rattle.journey.specs.Best.{Asked, Asks, asked_by};
-ghost use Rattle.journey.specs.CopyLists.{AreTheCopies};
 ghost use Rattle.journey.specs.declared.verdict.CertVerdict.TheVariants.{Valid};
 ghost use Rattle.journey.specs.Ends.{HasTimes};
-ghost use Rattle.certificate.specs.StateSets.{AreAfter};
-ghost use Rattle.certificate.specs.Verdicts.{AreDenoted};
+ghost use Rattle.certificate.specs.Checks.{IsSetUp};
 ghost use Rattle.latest_departure.specs.Late.{first_moment};
 ghost use Rattle.latest_departure.specs.Latest as late;
 ghost use Rattle.latest_departure.specs.ValidLate.{ProvesLate, late_bound};
@@ -16,7 +14,7 @@ ghost use Rattle.late_certificate.specs.Verdicts.{claim_on, HaveTimes, IsLateVer
 
 use crate::late::LateCertificate;
 use automaton::{Collapsed, Positions};
-use certificate::claimed::{Arrival, Goal, journey_verdict};
+use certificate::claimed::{Arrival, Goal, JourneyCheck};
 use certificate::state_sets::StateSets;
 use certificate::verifying::{as_verdict, refused};
 use journey::{CertVerdict, Query, read_query};
@@ -24,7 +22,7 @@ use kept_automata::Kept;
 use latest_departure::{Backwards, LateSearch};
 use mode_network::{Journey, Network};
 use plan_base::Time;
-use product_search::{Label, check_labels};
+use product_search::{Label, LabelClaim, check_labels};
 use search_laws::Labels;
 use std::alloc::{AllocError, Global};
 
@@ -87,31 +85,31 @@ fn verify_claim(
     let mut kept = Kept::new(alloc);
     let search = LateSearch::new(alloc, &mut kept, &backwards, query)?;
     let automaton = Collapsed::new(Positions::of(alloc, &query.expr)?);
-    let states = StateSets::start(alloc, &automaton)?;
-    let first = query.depart - search.span;
-    if let CertVerdict::Invalid { clause, at } = result_verdict(
+    let check = JourneyCheck {
         network,
         query,
-        first,
-        &automaton,
-        &search.targets,
-        &search.starts,
-        states,
-        claimed,
-    ) {
+        labels: &automaton,
+        origins: &search.targets,
+        destinations: &search.starts,
+        states: StateSets::start(alloc, &automaton)?,
+    };
+    if let CertVerdict::Invalid { clause, at } = result_verdict(check, claimed) {
         return Ok(CertVerdict::Invalid { clause, at });
     }
     backwards.known();
     let bound = late_bound(query.depart, search.span, claimed);
     let ends: &[u32] = &search.targets;
+    let claim = LabelClaim {
+        starts: &search.starts,
+        targets: ends,
+        departure: 0,
+        arrival: Some(bound),
+        list: labels,
+    };
     let verdict = check_labels(
         &search.mirror,
         &search.expressed.made.machine.labels,
-        &search.starts,
-        ends,
-        0,
-        Some(bound),
-        labels,
+        &claim,
     );
     Ok(as_verdict(verdict))
 }
@@ -130,41 +128,28 @@ fn late_bound(deadline: Time, span: Time, claimed: &Option<Journey>) -> Time
 }
 
 /// The verdict by clauses 3 to 5; they are skipped where it is claimed that none is in time.
-fn result_verdict<L: Labels>(
-    network: &Network,
-    query: &Query,
-    first: Time,
-    labels: &L,
-    origins: &[u32],
-    destinations: &[u32],
-    states: StateSets,
-    claimed: &Option<Journey>,
-) -> CertVerdict
+fn result_verdict<L: Labels>(check: JourneyCheck<'_, L>, claimed: &Option<Journey>) -> CertVerdict
+    requires set_up { IsSetUp (L.automaton check.labels.now) check }
     requires times { IfSome claimed.now HasTimes }
-    requires first { first ≡ first_moment network.now }
-    requires origins { AreTheCopies network.now query.now.from origins.now }
-    requires destinations { AreTheCopies network.now query.now.to destinations.now }
-    requires denotes { AreDenoted (form_of query.now.expr) (L.automaton labels.now) }
-    requires states { AreAfter (L.automaton labels.now) [] states }
-    ensures { IsResultVerdict network.now (asked_by query.now) claimed.now result }
+    ensures { IsResultVerdict check.entry.network.now (asked_by check.entry.query.now) claimed.now result }
 {
     match claimed {
         Some(journey) => {
             let goal = Goal {
-                earliest: first,
-                arrival: Arrival::By(query.depart),
+                earliest: first_moment(check.network),
+                arrival: Arrival::By(check.query.depart),
             };
-            journey_verdict(
-                network,
-                query,
-                goal,
-                labels,
-                origins,
-                destinations,
-                states,
-                journey,
-            )
+            check.verdict(goal, journey)
         }
         None => CertVerdict::Valid,
     }
+}
+
+/// When the first date of a region begins: seven lead days stand before it.
+fn first_moment(network: &Network) -> Time
+    ensures { result ≡ first_moment network.now }
+{
+    let days = network.days();
+    days.known();
+    Time::from(days.base(7))
 }

@@ -5,17 +5,23 @@ use Rattle.service_days.specs.Days.{AreDays, AreRisingDays}
 use Rattle.journey.specs.Best.{asked_by}
 use Rattle.journey.specs.Rides.{KeepsRules}
 use Rattle.certificate.proofs.VerifyLemmas.{automaton_denotes, few_copies}
+use Rattle.latest_departure.specs.Latest.{AreSwappedEnds}
 use Rattle.latest_departure.proofs.ValidLemmas.{valid_late_proves}
 use Rattle.late_certificate.specs.Verdicts.{IsLateVerdict, claim_on}
 use Rattle.late_certificate.proofs.VerifyLemmas.{result_holds, starts_by, bound_small, search_judged}
 use Rattle.late_certificate.proofs.verifying.verify_claim.Goals as goal
 
-pub overflow_sub-first : goal.overflow_sub-first
-overflow_sub-first c = let span = c.in_ok-search.ensures.back_to in let late = c.in_ok-search.ensures.not_before in omega arith
-
-pub result_verdict-requires-clause-denotes : goal.result_verdict-requires-clause-denotes
-result_verdict-requires-clause-denotes c =
-    automaton_denotes c.args.query.now.expr c.new-automaton.result.inner _ c.new-automaton.ensures.same c.new-automaton.ensures.accepts c.in_ok-of.ensures.accepts
+pub result_verdict-requires-clause-set_up : goal.result_verdict-requires-clause-set_up
+result_verdict-requires-clause-set_up c =
+    let q = c.args.query.now in
+    let s = c.in_ok-search.search in
+    let ends = subst (λ (n : NetworkLists). AreSwappedEnds n (asked_by q) s.starts.items s.targets.items) c.in_ok-backwards.ensures c.in_ok-search.ensures.ends in
+    record {
+      origins = rw c.deref.ensures.value ends.origin;
+      destinations = rw c.deref-2.ensures.value ends.destination;
+      denotes = automaton_denotes q.expr c.new-automaton.result.inner _ c.new-automaton.ensures.same c.new-automaton.ensures.accepts c.in_ok-of.ensures.accepts;
+      states = c.in_ok-start.ensures;
+    }
 
 pub late_bound-bound-requires-clause-in_time : goal.late_bound-bound-requires-clause-in_time
 late_bound-bound-requires-clause-in_time c =
