@@ -10,6 +10,7 @@ from .texts import both_ways, grid, hierarchy, opl, region
 NOON = 43_200
 FIRST = 28_802  # two seconds past eight
 UNREACHED = "n1 ss0000001 20240701 08:00:00 foot"  # a query whose stop has no link
+INTO_ONE = "n1 ss0000000 20240701 23:00:00 transit+"  # a query by any line into the first stop
 LINE = "n1 n{last} 20240701 08:00:00 {expr}"
 
 
@@ -67,6 +68,11 @@ def calls_at_one_stop(n: int) -> str:
 
 def calls_of_one_trip(n: int) -> str:
     return region(1, [], n, [(0, 1, 1000)], [("bus", [(call, NOON + call) for call in range(n)])])
+
+
+def lines_into_one_stop(n: int) -> str:
+    """n lines into the first stop, each from a stop of its own; a link leads to the first of those."""
+    return region(1, [], n + 1, [(0, 2, 1000)], [("bus", [(stop, NOON), (0, NOON + 60)]) for stop in range(1, n + 1)])
 
 
 def overtaking(n: int) -> str:
@@ -140,6 +146,10 @@ FAMILIES = [
            before=("certify", "region", UNREACHED)),
     Family("verify-latest over calls at one stop", 1_000, over_region(
         "verify-latest", "certificate", region=calls_at_one_stop), before=("certify-latest", "region", UNREACHED)),
+    Family("certify-latest over many lines into one stop", 1_000, over_region(
+        "certify-latest", INTO_ONE, region=lines_into_one_stop)),
+    Family("verify-latest over many lines into one stop", 1_000, over_region(
+        "verify-latest", "certificate", region=lines_into_one_stop), before=("certify-latest", "region", INTO_ONE)),
     Family("answer over calls of one trip", 1_000, over_region(
         "answer", "queries", region=calls_of_one_trip,
         queries=lambda n: f"n1 ss{n - 1:07} 20240701 08:00:00 transit+\n" * 10)),

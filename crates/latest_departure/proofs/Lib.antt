@@ -6,6 +6,7 @@ pub mod ReversedLemmas
 pub mod TurnedLemmas
 pub mod EntryLemmas
 pub mod RowLemmas
+pub mod SumLemmas
 pub mod WayLemmas
 pub mod DeadlineLemmas
 pub mod ForwardLemmas

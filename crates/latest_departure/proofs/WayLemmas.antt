@@ -1,9 +1,7 @@
 -- The arcs out of a node in mirrored time, row by row.
-use Rattle.std.proofs.Common.{◌≡◌, ℕ, zero, suc, ◌+◌, ◌-◌, ◌<◌, ◌≤◌, ◌&&◌, nat_le, Bool, true, false, cond, List, [], ◌∷◌, ◌++◌, length, map, take, drop, get_or, Option, Some, None, refl, sym, ap, ◌∙◌, subst, arith, append_assoc, append-nil}
+use Rattle.std.proofs.Common.{◌≡◌, ℕ, zero, suc, ◌+◌, ◌-◌, ◌<◌, ◌≤◌, ◌&&◌, nat_le, Bool, true, false, cond, List, [], ◌∷◌, ◌++◌, length, take, get_or, Option, Some, None, refl, sym, ap, ◌∙◌, subst, arith, append_assoc, append-nil}
 use Rattle.std.specs.Prelude.{slice_index_or, sum_by, option_map}
 use Rattle.std.specs.List.{flat_map, range_with_len}
-use Rattle.std.proofs.lemmas.Grind.{flat_map-append}
-use Rattle.std.proofs.lemmas.List.{take-append-drop, map-append, get_or-append-add}
 use Rattle.search_laws.specs.Ways.{is_open, way_if, open_way, way_at, ways_from, ways_of}
 use Rattle.search_laws.specs.declared.graph.Way.{Way}
 use Rattle.search_laws.proofs.WayLemmas.{ways_more, ways_split}
@@ -16,28 +14,15 @@ use Rattle.plain_graph.specs.PlainArcs.{pattern_call}
 use Rattle.latest_departure.specs.declared.source.Source.{Source}
 use Rattle.latest_departure.specs.declared.source.Source.TheVariants as source
 use Rattle.latest_departure.specs.declared.source.Entry.{Entry}
-use Rattle.latest_departure.specs.MirrorArcs.{plain_arcs_of, count_of, plain_arc_of, arcs_into, arc_into, mirror_arc, mirror_meaning, begins}
+use Rattle.latest_departure.specs.MirrorArcs.{count_of, plain_arc_of, arcs_into, arc_into, mirror_arc, mirror_meaning, begins}
 use Rattle.latest_departure.specs.MirrorWays.{mirror_ride_ways, mirror_run_ways, ride_calls, source_ways}
 use Rattle.latest_departure.specs.Entries.{row_entries}
 use Rattle.latest_departure.specs.BackLists.{BackLists, source_rows, mirrored}
-use Rattle.latest_departure.specs.Known.{source_of, entry_count}
-use Rattle.latest_departure.proofs.RowLemmas.{arcs_along, total, found}
+use Rattle.latest_departure.specs.Known.{entry_count}
+use Rattle.latest_departure.proofs.RowLemmas.{arcs_along, total, source_at}
 use Rattle.latest_departure.proofs.TurnedLemmas.{pieces_more}
 
 -- ---- places of a row
-along_append : (xs ys : List Entry) → arcs_along (xs ++ ys) ≡ arcs_along xs ++ arcs_along ys
-along_append xs ys = ap (flat_map plain_arcs_of) (map-append source_of xs ys) ∙ flat_map-append plain_arcs_of (map source_of xs) (map source_of ys)
-
--- what an entry of a row stands for are the arcs from the place on at which the entries before it end
-source_at : (row : List Entry) (k : ℕ) (entry : Entry) → k < length row → entry ≡ get_or row k entry → (i : ℕ) → i < count_of entry.source
-    → slice_index_or (arcs_along row) (sum_by entry_count (take k row) + i) Stand ≡ plain_arc_of entry.source i
-source_at row k entry within is i lt =
-    ap (λ (xs : List Entry). slice_index_or (arcs_along xs) (sum_by entry_count (take k row) + i) Stand) (sym (take-append-drop k row))
-    ∙ ap (λ (xs : List PlainArc). slice_index_or xs (sum_by entry_count (take k row) + i) Stand) (along_append (take k row) (drop k row))
-    ∙ ap (λ j. slice_index_or (arcs_along (take k row) ++ arcs_along (drop k row)) (j + i) Stand) (sym (total (take k row)))
-    ∙ get_or-append-add (arcs_along (take k row)) (arcs_along (drop k row)) i Stand
-    ∙ found row k i entry within is lt
-
 take_all : (k : ℕ) (row : List Entry) → length row ≤ k → take k row ≡ row
 take_all zero [] past = refl
 take_all zero (entry ∷ row) past = absurd (omega arith)

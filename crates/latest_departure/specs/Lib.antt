@@ -9,7 +9,7 @@ pub mod Entries
 pub mod MirrorArcs
 pub mod Known
 pub mod BackLists
-pub mod Inside
+pub mod inside
 pub mod MirrorWays
 pub mod Mirrored
 pub mod Latest

@@ -18,7 +18,7 @@ push_source-requires-clause-leads c =
     let place = c.loop-entry.entry-index in
     let within = subst (λ (row : List Entry). place < length row) c.row-entry-items.ensures c.loop-entry-test.true in
     subst (λ (row : List Entry). LeadsInto b.network b.table c.args.visit.node (source_of (get_or row place no_source_entry))) (sym c.row-entry-items.ensures)
-    (entry_leads b.network b.table k.keeps b.entries b.places k.sources c.args.visit.node c.requires.node place no_source_entry within)
+    (entry_leads b.network b.table b.entries b.places k.sources c.args.visit.node c.requires.node place no_source_entry within)
 
 pub push_source-requires-clause-few : goal.push_source-requires-clause-few
 push_source-requires-clause-few c =
