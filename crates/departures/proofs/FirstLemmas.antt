@@ -25,7 +25,7 @@ use Rattle.journey.proofs.CopyLemmas.{copy_in_range}
 use Rattle.journey.proofs.StepLemmas.{steps_once}
 use Rattle.unpack.specs.Unpacking.{IsSoon, node_after, arrival_after, letters_of}
 use Rattle.unpack.proofs.TakenLemmas as taken
-use Rattle.latest_departure.specs.Forward.{leaving}
+use Rattle.latest_departure.specs.inside.Forward.{leaving}
 use Rattle.few_boardings.specs.Counted.{transits}
 use Rattle.few_boardings.specs.Boardings.{is_ride, rides}
 use Rattle.few_boardings.proofs.RideLemmas.{letters_count}

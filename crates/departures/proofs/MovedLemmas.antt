@@ -10,7 +10,7 @@ use Rattle.few_boardings.specs.declared.boardings.Found.{Found}
 use Rattle.few_boardings.specs.Boardings.{is_ride, rides}
 use Rattle.few_boardings.specs.Rounds.{IsLeastBelow}
 use Rattle.few_boardings.proofs.RideLemmas.{rides_more}
-use Rattle.latest_departure.specs.Forward.{leaving}
+use Rattle.latest_departure.specs.inside.Forward.{leaving}
 use Rattle.departures.specs.Departures.{IsWithout}
 use Rattle.departures.specs.Laws.{IsAsLong, WithoutIsTheSame}
 

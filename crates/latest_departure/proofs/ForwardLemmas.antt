@@ -17,7 +17,7 @@ use Rattle.journey.specs.Best.{Asked, Answers}
 use Rattle.journey.specs.CopyLists.{AreTheCopies}
 use Rattle.unpack.specs.Unpacking.{letters_of}
 use Rattle.unpack.proofs.TakenLemmas as taken
-use Rattle.latest_departure.specs.Forward.{IsFirstIfAny, IsJourneyUnpacked}
+use Rattle.latest_departure.specs.inside.Forward.{IsFirstIfAny, IsJourneyUnpacked}
 
 -- the automaton reads each word whose collapse the form denotes
 abbrev pub IsReaderOf : Form → LabelsMeaning → Type 0

@@ -19,7 +19,7 @@ use Rattle.mode_network.specs.Journeys.{Route, AreSteps}
 use Rattle.mode_network.proofs.RuleLemmas.{both}
 use Rattle.journey.specs.Best.{Asked, Answers}
 use Rattle.journey.specs.CopyLists.{AreTheCopies}
-use Rattle.latest_departure.specs.Forward.{IsFirst, IsFirstIfAny, leaving}
+use Rattle.latest_departure.specs.inside.Forward.{IsFirst, IsFirstIfAny, leaving}
 use Rattle.latest_departure.specs.Late.{deadline, first_moment, IsInTime, IsBestLate, HasNoneInTime}
 use Rattle.latest_departure.specs.Latest.{IsLate, span}
 use Rattle.latest_departure.specs.Mirrored.{MirrorsAreJourneys, JourneysAreMirrors}

@@ -12,7 +12,7 @@ use Rattle.latest_departure.specs.declared.search.LateSearch.{LateSearch}
 use Rattle.latest_departure.specs.BackLists.{BackLists, IsBackwards, source_rows, mirrored}
 use Rattle.latest_departure.specs.Late.{deadline, HasNoneInTime}
 use Rattle.latest_departure.specs.Latest.{IsLate, span, Mirroring}
-use Rattle.latest_departure.specs.Forward.{IsFirstIfAny, leaving}
+use Rattle.latest_departure.specs.inside.Forward.{IsFirstIfAny, leaving}
 use Rattle.latest_departure.specs.Mirrored.{MirrorsAreJourneys, JourneysAreMirrors}
 use Rattle.latest_departure.specs.Meanings.{reversed_meaning}
 use Rattle.latest_departure.specs.Searches.{IsSearchFor}

@@ -15,7 +15,7 @@ use Rattle.latest_departure.specs.declared.source.Source.{Source}
 use Rattle.latest_departure.specs.declared.source.Source.TheVariants as source
 use Rattle.latest_departure.specs.declared.source.Entry.{Entry}
 use Rattle.latest_departure.specs.MirrorArcs.{count_of, plain_arc_of, arcs_into, arc_into, mirror_arc, mirror_meaning, begins}
-use Rattle.latest_departure.specs.MirrorWays.{mirror_ride_ways, mirror_run_ways, ride_calls, source_ways}
+use Rattle.latest_departure.specs.inside.MirrorWays.{mirror_ride_ways, mirror_run_ways, ride_calls, source_ways}
 use Rattle.latest_departure.specs.Entries.{row_entries}
 use Rattle.latest_departure.specs.BackLists.{BackLists, source_rows, mirrored}
 use Rattle.latest_departure.specs.Known.{entry_count}

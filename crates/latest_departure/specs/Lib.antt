@@ -10,10 +10,8 @@ pub mod MirrorArcs
 pub mod Known
 pub mod BackLists
 pub mod inside
-pub mod MirrorWays
 pub mod Mirrored
 pub mod Latest
-pub mod Forward
 pub mod Searches
 pub mod ValidLate
 pub mod Limits

@@ -1,2 +1,4 @@
 pub mod Fields
 pub mod Sums
+pub mod Forward
+pub mod MirrorWays

@@ -5,7 +5,7 @@ ghost use Rattle.mode_expression.specs.Form.{form_of, IsUsable};
 ghost use Rattle.journey.specs.Best.{asked_by};
 ghost use Rattle.unpack.specs.Taken.{IsPlainWalk};
 ghost use Rattle.kept_automata.specs.Texts.{IsSpelledIn};
-ghost use Rattle.latest_departure.specs.Forward.{IsFirstIfAny, IsJourneyUnpacked, leaving};
+ghost use Rattle.latest_departure.specs.inside.Forward.{IsFirstIfAny, IsJourneyUnpacked, leaving};
 ghost use Rattle.latest_departure.specs.Latest.{AreSwappedEnds};
 
 use crate::search::LateSearch;

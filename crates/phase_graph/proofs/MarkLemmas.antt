@@ -14,7 +14,7 @@ use Rattle.hierarchy.specs.Indexes.{AreBelow, AreEndsBelow}
 use Rattle.hierarchy.specs.Lookups.{ArePlaces, FallsTo}
 use Rattle.phase_graph.specs.Moves.{IsMarked}
 use Rattle.phase_graph.specs.Marks.{AreMarksFor}
-use Rattle.phase_graph.specs.Marking.{AreMarks, IsMarking, Extends, AreOldOr, IsFollowedAt, IsFollowed}
+use Rattle.phase_graph.specs.inside.Marking.{AreMarks, IsMarking, Extends, AreOldOr, IsFollowedAt, IsFollowed}
 
 -- ---- one mark
 

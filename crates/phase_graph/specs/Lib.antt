@@ -2,8 +2,8 @@ pub mod Moves
 pub mod Laws
 pub mod Arcs
 pub mod Marks
-pub mod Marking
 pub mod PhaseArcs
 pub mod Walked
 pub mod InUse
 pub mod InUseGraph
+pub mod inside

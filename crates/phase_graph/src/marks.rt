@@ -4,7 +4,7 @@ ghost use Rattle.std.specs.Prelude.{◌≡◌, ◌<◌, [], All, Contains, IfOk,
 ghost use Rattle.hierarchy.specs.Indexes.{AreBelow};
 ghost use Rattle.phase_graph.specs.Marks.{AreMarksFor};
 ghost use Rattle.phase_graph.specs.Moves.{IsMarked};
-ghost use Rattle.phase_graph.specs.Marking.{AreMarks, IsMarking, IsFollowed, Extends, AreOldOr};
+ghost use Rattle.phase_graph.specs.inside.Marking.{AreMarks, IsMarking, IsFollowed, Extends, AreOldOr};
 
 use hierarchy::Hierarchy;
 use std::alloc::{AllocError, Global};

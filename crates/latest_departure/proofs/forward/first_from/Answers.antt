@@ -2,7 +2,7 @@ use Rattle.automaton.specs.Collapsed.{collapsed}
 use Rattle.automaton.specs.Meanings.{position_meaning}
 use Rattle.journey.specs.Best.{asked_by}
 use Rattle.unpack.proofs.TakenLemmas.{walk_is_plain}
-use Rattle.latest_departure.specs.Forward.{leaving}
+use Rattle.latest_departure.specs.inside.Forward.{leaving}
 use Rattle.latest_departure.proofs.ForwardLemmas.{found_first}
 use Rattle.latest_departure.proofs.forward.first_from.Goals as goal
 

@@ -1,5 +1,5 @@
 use Rattle.std.specs.Prelude.{ℕ, ◌<◌, Contains, slice_index_or}
-use Rattle.phase_graph.specs.Marking.{IsMarking}
+use Rattle.phase_graph.specs.inside.Marking.{IsMarking}
 use Rattle.phase_graph.proofs.marks.mark_targets.Given as goal
 
 abbrev pub invariant-loop-v : goal.invariant-loop-v

@@ -3,7 +3,7 @@ use Rattle.std.specs.Prelude.{Contains}
 use Rattle.std.proofs.lemmas.Bool.{eqb-true, eqb-false}
 use Rattle.std.proofs.lemmas.List.{get_or_default}
 use Rattle.std.proofs.lemmas.List.Elements.{All-contains}
-use Rattle.phase_graph.specs.Marking.{IsFollowed}
+use Rattle.phase_graph.specs.inside.Marking.{IsFollowed}
 use Rattle.phase_graph.proofs.MarkLemmas.{extends_contains, still_followed, are_marks}
 use Rattle.phase_graph.proofs.marks.marks.Goals as goal
 
