@@ -56,7 +56,7 @@ pub(crate) fn runs(source: &Source<'_>) -> bool
     source.calls.len() >= 2 && source.days.0 > 0
 }
 
-#[tactic(auto, unfolding(crate::specs::Leaving::leaves_by))]
+#[tactic(auto, unfolding(crate::specs::inside::Leaving::leaves_by))]
 fn push_leaves(times: &mut Vec<u64>, before: u64, row: &FrequencyRow) -> Result<(), AllocError>
     ensures { OnOk result (times.new.items ≡ times.old.items ++ leaves_by before row.now) }
 {
