@@ -4,6 +4,7 @@ pub mod JourneyLemmas
 pub mod RoadLemmas
 pub mod ArcLemmas
 pub mod MarkLemmas
+mod FallLemmas
 pub mod GraphLemmas
 pub mod PlaceLemmas
 pub mod LegLemmas

@@ -1,6 +1,7 @@
 -- The ways out of a node of the phase graph: along entries, and those that the plain graph has too.
 use Rattle.std.proofs.Common.{◌≡◌, ℕ, ◌+◌, ◌-◌, ◌^◌, ◌<◌, ◌≤◌, Bool, true, false, cond, ◌&&◌, List, [], ◌∷◌, ◌++◌, length, take, drop, set, get_or, zero, suc, Option, Some, None, refl, sym, ◌∙◌, ap, subst, append_assoc, append-nil, arith}
-use Rattle.std.specs.Prelude.{All, Contains, map, is_some}
+use Rattle.std.specs.Prelude.{All, Contains, filter, map, is_some}
+use Rattle.std.specs.List.{range_with_len}
 use Rattle.std.proofs.Math.Seq.{set-append_seam, get_or-append_seam, drop-append_seam, take-append_seam}
 use Rattle.std.proofs.lemmas.List.{drop_more, drop_all, take_more, take_all, take-append-drop, length-append, length-map, length-take-le, length-drop, get_or-drop, map-append}
 use Rattle.std.proofs.lemmas.List.Elements.{All-cons, All-nil, All-append, All-contains, All-weaker}
@@ -11,7 +12,7 @@ use Rattle.search_laws.specs.declared.given.GivenRuns.{GivenRuns}
 use Rattle.search_laws.specs.declared.graph.GraphArc.{GraphArc}
 use Rattle.search_laws.specs.declared.graph.Way.{Way}
 use Rattle.search_laws.proofs.FreshLemmas.{LeadsElsewhere, adds_all, adds_more, fresh_elsewhere, moving_all, moving_append, moving_asked}
-use Rattle.search_laws.proofs.WayLemmas.{ways_more, ways_split}
+use Rattle.search_laws.proofs.WayLemmas.{ways_split}
 use Rattle.timetable_arcs.specs.Patterns.{TableLists}
 use Rattle.timetable_arcs.specs.Table.{IsTable}
 use Rattle.timetable_arcs.proofs.TableLemmas.{rides_few}
@@ -26,11 +27,13 @@ use Rattle.plain_graph.specs.PlainArcs.{plain_meaning, count_from, inner_arcs_at
 use Rattle.plain_graph.specs.Lawful.{plain_lawful}
 use Rattle.plain_graph.specs.declared.plain.PlainArc.{PlainArc}
 use Rattle.plain_graph.proofs.PlaceTies.{stand_at, past_roads_stand}
+use Rattle.phase_graph.specs.declared.falls.Fall.{Fall}
 use Rattle.phase_graph.specs.declared.phases.PhaseArc.{PhaseArc}
 use Rattle.phase_graph.specs.declared.phases.PhaseArc.TheVariants.{Down, Other}
 use Rattle.phase_graph.specs.Arcs.{phase_node}
 use Rattle.phase_graph.specs.Marks.{has_mark, is_fall}
-use Rattle.phase_graph.specs.PhaseArcs.{phase_meaning, phase_arc, arc_of, phase_arrival, rises_at, first_entry, entries_at, entry_at, others_at, first_other, node_of, is_down, before_descent, renumbered, phase_rides, fall_way, fall_ways, FitsAnew}
+use Rattle.phase_graph.specs.PhaseArcs.{phase_meaning, phase_arc, arc_of, phase_arrival, rises_at, first_entry, entries_at, entry_at, others_at, first_other, node_of, is_down, before_descent, renumbered, phase_rides, FitsAnew}
+use Rattle.phase_graph.specs.inside.Falls.{fall_at, fall_way, falls_from}
 use Rattle.phase_graph.proofs.GraphLemmas.{whole, entry_begins}
 use Rattle.phase_graph.proofs.PlaceLemmas.{down_is, other_is}
 
@@ -65,6 +68,12 @@ module _ (n : NetworkLists) (h : HierarchyLists) (t : TableLists) (marks : List 
   abbrev downs : ℕ
   downs = entries_at h (node_of p)
 
+  abbrev begin : ℕ
+  begin = first_entry h (node_of p)
+
+  abbrev as_way : Fall → Way
+  as_way fall = fall_way letter time begin ups fall
+
   abbrev arc_there : ℕ → PhaseArc
   arc_there i = phase_arc n h (node_of p) (is_down p) i
 
@@ -72,26 +81,42 @@ module _ (n : NetworkLists) (h : HierarchyLists) (t : TableLists) (marks : List 
   way_is : (i : ℕ) (a : PhaseArc) → arc_there i ≡ a → way_at g p time letters i ≡ open_way letters i (arc_of n t h (node_of p) (is_down p) a) (phase_arrival n t h marks (node_of p) time a)
   way_is i a is = ap (λ (x : PhaseArc). open_way letters i (arc_of n t h (node_of p) (is_down p) x) (phase_arrival n t h marks (node_of p) time x)) is
 
-  -- one arc more
-  pushed : (start i : ℕ) (one before now next : List Way) → now ≡ before ++ from start i → way_at g p time letters (start + i) ≡ one → next ≡ now ++ one → next ≡ before ++ from start (i + 1)
-  pushed start i one before now next first is push =
-      push ∙ ap (λ (ws : List Way). ws ++ one) first ∙ append_assoc before (from start i) one
-      ∙ ap (λ (ws : List Way). before ++ (from start i ++ ws)) (sym is) ∙ ap (λ (ws : List Way). before ++ ws) (sym (ways_more g p time letters start i))
-
   -- ---- entries
 
-  pub fall_pushed : (i : ℕ) (before now next : List Way) → i < downs → is_open letters letter ≡ true → now ≡ before ++ from ups i
-      → next ≡ now ++ fall_ways h marks letter time (ups + i) (first_entry h (node_of p) + i) → next ≡ before ++ from ups (i + 1)
-  fall_pushed i before now next lt opens first push =
-      let place = first_entry h (node_of p) + i in
-      let is : way_at g p time letters (ups + i) ≡ fall_ways h marks letter time (ups + i) place =
-      way_is (ups + i) (Down place) (down_is n h (node_of p) (is_down p) i place lt refl) ∙ rw opens (by_test place (is_fall h marks (entry_at h place))) in
-      pushed ups i (fall_ways h marks letter time (ups + i) place) before now next first is push
+  -- one entry that leaves a node, as a way where it falls
+  one_falls : is_open letters letter ≡ true → (i : ℕ) → i < downs
+      → way_at g p time letters (ups + i) ≡ cond (is_fall h marks (entry_at h (begin + i))) (as_way (fall_at h (begin + i)) ∷ []) []
+  one_falls opens i lt =
+      way_is (ups + i) (Down (begin + i)) (down_is n h (node_of p) (is_down p) i (begin + i) lt refl) ∙ rw opens (by_test (is_fall h marks (entry_at h (begin + i))))
     where
-      by_test : (place : ℕ) (b : Bool) → way_if (ups + i) (arc_of n t h (node_of p) (is_down p) (Down place)) (cond b (Some (time + (entry_at h place).weight)) None)
-          ≡ cond b (fall_way h letter time (ups + i) place ∷ []) []
-      by_test place true = refl
-      by_test place false = refl
+      by_test : (b : Bool) → way_if (ups + i) (arc_of n t h (node_of p) (is_down p) (Down (begin + i))) (cond b (Some (time + (entry_at h (begin + i)).weight)) None)
+          ≡ cond b (as_way (fall_at h (begin + i)) ∷ []) []
+      by_test false = refl
+      by_test true =
+          let same : ups + i ≡ begin + i - begin + ups = omega arith in
+          ap (λ k. record { place = k; arc = record { to = phase_node (entry_at h (begin + i)).to true; letter = letter }; at = time + (entry_at h (begin + i)).weight } ∷ []) same
+
+  falls_are : is_open letters letter ≡ true → (i k : ℕ) → i + k ≤ downs → map as_way (falls_from h marks (begin + i) k) ≡ from (ups + i) k
+  falls_are opens i zero within = refl
+  falls_are opens i (suc k) within =
+      let next : begin + i + 1 ≡ begin + (i + 1) = omega arith in
+      let there : ups + (i + 1) ≡ ups + i + 1 = omega arith in
+      by_test (is_fall h marks (entry_at h (begin + i))) ∙ ap (λ (ws : List Way). ws ++ map as_way (falls_from h marks (begin + i + 1) k)) (sym (one_falls opens i (omega arith)))
+      ∙ ap (λ (ws : List Way). way_at g p time letters (ups + i) ++ ws) (ap (λ x. map as_way (falls_from h marks x k)) next ∙ falls_are opens (i + 1) k (omega arith) ∙ ap (λ x. from x k) there)
+    where
+      later : List ℕ
+      later = filter (λ place. is_fall h marks (entry_at h place)) (range_with_len (begin + i + 1) k)
+
+      by_test : (b : Bool) → map as_way (map (fall_at h) (cond b ((begin + i) ∷ later) later)) ≡ cond b (as_way (fall_at h (begin + i)) ∷ []) [] ++ map as_way (map (fall_at h) later)
+      by_test true = refl
+      by_test false = refl
+
+  -- the falls of a node are its ways along entries down
+  pub fall_ways : is_open letters letter ≡ true → map as_way (falls_from h marks begin downs) ≡ from ups downs
+  fall_ways opens =
+      let here : begin ≡ begin + 0 = omega arith in
+      let there : ups + 0 ≡ ups = omega arith in
+      ap (λ x. map as_way (falls_from h marks x downs)) here ∙ falls_are opens 0 downs (omega arith) ∙ ap (λ x. from x downs) there
 
   -- from a node without a mark nothing falls
   no_fall : IsHierarchy h → has_mark marks (node_of p) ≡ false → (i : ℕ) → i < downs → way_at g p time letters (ups + i) ≡ []

@@ -1,7 +1,7 @@
 -- The arcs of the phase graph: out of each node, before the descent, its entries up and along the core; then all its entries, of which
 -- those arrive that lead down from a node with a mark to another; and then the arcs of the network that are no road arcs, of which in the descent
 -- there is one that stands at most.
-use Rattle.std.specs.Prelude.{◌≡◌, ℕ, ◌+◌, ◌-◌, ◌*◌, ◌/◌, ◌%◌, ◌^◌, ◌==◌, ◌<◌, ◌≤◌, nat_lt, Bool, true, false, List, [], ◌∷◌, length, map, Option, Some, None, if◌then◌else◌, slice_index_or}
+use Rattle.std.specs.Prelude.{◌≡◌, ℕ, ◌+◌, ◌-◌, ◌*◌, ◌/◌, ◌%◌, ◌^◌, ◌==◌, ◌<◌, ◌≤◌, nat_lt, Bool, true, false, List, [], length, map, Option, Some, None, if◌then◌else◌, slice_index_or}
 use Rattle.search_laws.specs.Fresh.{RunRides}
 use Rattle.search_laws.specs.GraphLaws.{GraphMeaning}
 use Rattle.search_laws.specs.declared.graph.GraphArc.{GraphArc}
@@ -87,14 +87,6 @@ abbrev pub phase_arrival : NetworkLists → TableLists → HierarchyLists → Li
 phase_arrival n t h marks v time (Up place) = Some (time + (entry_at h place).weight)
 phase_arrival n t h marks v time (Down place) = fall_arrival h marks place time
 phase_arrival n t h marks v time (Other place) = (plain_meaning n t).arrive v place time
-
--- an entry down as a way, at a place among the arcs of its node
-abbrev pub fall_way : HierarchyLists → Option ℕ → ℕ → ℕ → ℕ → Way
-fall_way h letter time i place = record { place = i; arc = record { to = phase_node (entry_at h place).to true; letter = letter }; at = time + (entry_at h place).weight }
-
--- the same, if it leads down from a node with a mark to another
-abbrev pub fall_ways : HierarchyLists → List Bool → Option ℕ → ℕ → ℕ → ℕ → List Way
-fall_ways h marks letter time i place = if is_fall h marks (entry_at h place) then fall_way h letter time i place ∷ [] else []
 
 -- an arc of the plain graph as one before the descent
 abbrev pub before_descent : GraphArc → GraphArc

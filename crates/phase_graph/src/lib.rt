@@ -2,6 +2,7 @@
 //! and down, and the laws that tie this to journeys.
 #![tactic(auto)]
 
+mod falls;
 pub mod in_use;
 mod marks;
 pub mod phases;

@@ -4,20 +4,28 @@ ghost use Rattle.std.specs.Prelude.{◌≡◌, ◌<◌, [], All, Contains, IfOk,
 ghost use Rattle.hierarchy.specs.Indexes.{AreBelow};
 ghost use Rattle.phase_graph.specs.Marks.{AreMarksFor};
 ghost use Rattle.phase_graph.specs.Moves.{IsMarked};
-ghost use Rattle.phase_graph.specs.inside.Marking.{AreMarks, IsMarking, IsFollowed, Extends, AreOldOr};
+ghost use Rattle.phase_graph.specs.inside.Marking.{AreMarked, AreMarks, IsMarking, IsFollowed, Extends, AreOldOr};
 
 use hierarchy::Hierarchy;
 use std::alloc::{AllocError, Global};
 
-/// For each node whether it has a mark for these targets. All nodes of the hierarchy are below `nodes`.
-pub(crate) fn marks(
+/// For each node whether it has a mark, and the nodes that have one.
+#[derive(Drop)]
+pub(crate) struct Marks {
+    pub flags: Vec<bool>,
+    pub nodes: Vec<u32>,
+}
+
+/// The marks for these targets. All nodes of the hierarchy are below `nodes`.
+pub(crate) fn mark_nodes(
     alloc: Global,
     nodes: u32,
     h: &Hierarchy,
     targets: &[u32],
-) -> Result<Vec<bool>, AllocError>
+) -> Result<Marks, AllocError>
     requires below { AreBelow h.now nodes }
-    ensures { IfOk result (λ marks. AreMarksFor h.now targets.now marks.items) }
+    ensures marks { IfOk result (λ marks. AreMarksFor h.now targets.now marks.flags.items) }
+    ensures nodes { IfOk result (λ marks. AreMarked h.now marks.flags.items marks.nodes.items) }
 {
     let mut marks = vec![in alloc; false; nodes as usize]?;
     let mut queue = Vec::new(alloc);
@@ -28,7 +36,10 @@ pub(crate) fn marks(
         follow(h, nodes, targets, x, &mut marks, &mut queue)?;
         next += 1;
     }
-    Ok(marks)
+    Ok(Marks {
+        flags: marks,
+        nodes: queue,
+    })
 }
 
 /// Marks the targets.

@@ -8,8 +8,10 @@ ghost use Rattle.hierarchy.specs.Soundness.{IsSound};
 ghost use Rattle.plain_graph.specs.Lawful.{IsLawfulGraph-prop};
 ghost use Rattle.phase_graph.specs.Arcs.{phase_node};
 ghost use Rattle.phase_graph.specs.PhaseArcs.{phase_meaning, node_of, is_down, renumbered, FitsAnew};
+ghost use Rattle.phase_graph.specs.inside.Falls.{all_falls, fall_way};
 
-use crate::marks::marks;
+use crate::falls::{Fall, falls};
+use crate::marks::mark_nodes;
 use hierarchy::{Entry, Hierarchy};
 use mode_network::Network;
 use plain_graph::{Plain, PlainArc};
@@ -50,6 +52,8 @@ pub struct Phases<'a> {
     plain: Plain<'a>,
     hierarchy: &'a Hierarchy,
     marks: Vec<bool>,
+    falls: Vec<Fall>,
+    ghost listed: { falls.items ≡ all_falls hierarchy.now marks.items },
     pub ghost sound: { ∥ IsSound plain.network.now hierarchy.now ∥₁ },
     pub ghost lawful: { IsLawfulGraph (phase_meaning plain.network.now plain.timetable.now hierarchy.now marks.items) } by { IsLawfulGraph-prop (phase_meaning plain.network.now plain.timetable.now hierarchy.now marks.items) },
 }
@@ -64,7 +68,8 @@ impl<'a> Phases<'a> {
     ghost use Rattle.hierarchy.specs.Lookups.{AreFrom};
     ghost use Rattle.timetable_arcs.specs.Table.{IsTable};
     ghost use Rattle.phase_graph.specs.Walked.{JourneysHaveWalks, WalksHaveJourneys};
-    ghost use Rattle.phase_graph.specs.PhaseArcs.{phase_meaning, rises_at, legs_at, first_entry, entries_at, others_at, first_other, phase_arc, phase_arcs_at, IsArcOutOf, BeginsAt, entry_at, fall_arrival, fall_ways, phase_step, phase_rides, node_of, is_down};
+    ghost use Rattle.phase_graph.specs.PhaseArcs.{phase_meaning, rises_at, legs_at, first_entry, entries_at, others_at, first_other, phase_arc, phase_arcs_at, IsArcOutOf, BeginsAt, entry_at, fall_arrival, phase_step, phase_rides, node_of, is_down};
+    ghost use Rattle.phase_graph.specs.inside.Falls.{IsFallFrom, falls_from};
     ghost use Rattle.plain_graph.specs.PlainArcs.{plain_meaning, arcs_at};
 
     /// The phase graph of a sound hierarchy for these targets, which are nodes of the network. For each journey to a
@@ -90,12 +95,14 @@ impl<'a> Phases<'a> {
     {
         network.known();
         hierarchy.known();
-        let marks = marks(alloc, network.nodes(), hierarchy, targets)?;
+        let marks = mark_nodes(alloc, network.nodes(), hierarchy, targets)?;
+        let falls = falls(alloc, hierarchy, &marks)?;
         let plain = Plain::new(network);
         Ok(Phases {
             plain,
             hierarchy,
-            marks,
+            marks: marks.flags,
+            falls,
         })
     }
 
@@ -354,41 +361,30 @@ impl<'a> Phases<'a> {
         let ups = self.rises_at(v, down).len() as u64;
         let (first, count) = self.entries_at(v);
         if self.has_mark(v) {
-            for i in 0..count {
-                self.push_fall(letter, first + i, ups + i, visit.at, ways)?;
+            for fall in self.falls_from(first, count) {
+                ways.push(fall_way(letter, visit.at, first, ups, fall))?;
             }
         }
         Ok(())
     }
 
-    /// Appends the entry at a place as the arc at place `i` of its node, if it leads down from a node with a mark to another.
-    #[inline(always)]
-    fn push_fall(
-        &self,
-        letter: Option<u8>,
-        place: u64,
-        i: u64,
-        t: Time,
-        ways: &mut Vec<Way>,
-    ) -> Result<(), AllocError>
-        requires place { place < length self.now.hierarchy.now.entries }
-        requires time { t < 2 ^ 127 }
-        ensures { OnOk result (ways.new.items ≡ ways.old.items
-            ++ fall_ways self.now.hierarchy.now self.now.marks.items letter t i place) }
+    /// The falls at so many places, from one on.
+    fn falls_from(&self, first: u64, count: u64) -> &[Fall]
+        requires within { first + count ≤ length self.now.hierarchy.now.entries }
+        requires few { first + count < 2 ^ 60 }
+        ensures list { result.now ≡ falls_from self.now.hierarchy.now self.now.marks.items first count }
+        ensures each { All (IsFallFrom first count) result.now }
     {
-        self.hierarchy.known();
-        let entry = &self.hierarchy.entries()[place as usize];
-        if self.is_fall(entry) {
-            ways.push(Way {
-                place: i,
-                arc: GraphArc {
-                    to: number_of(entry.to, true),
-                    letter,
-                },
-                at: t + Time::from(entry.weight),
-            })?;
-        }
-        Ok(())
+        &self.falls[self.falls_before(first)..self.falls_before(first + count)]
+    }
+
+    /// How many falls come before a place.
+    fn falls_before(&self, place: u64) -> usize
+        requires { place ≤ length self.now.hierarchy.now.entries }
+        ensures count { result ≡ length (falls_from self.now.hierarchy.now self.now.marks.items 0 place) }
+        ensures within { result ≤ length self.now.falls.items }
+    {
+        self.falls.partition_point(|fall| fall.place < place)
     }
 
     /// Appends those of the entries that leave the node of a visit that lead down from a node with a mark to another, if their
@@ -572,6 +568,23 @@ pub(crate) fn number_of(v: u32, down: bool) -> u32
     ensures { result ≡ phase_node v down }
 {
     if down { 2 * v + 1 } else { 2 * v }
+}
+
+/// A fall as a way, where the places that began at `first` begin at `now`.
+fn fall_way(letter: Option<u8>, t: Time, first: u64, now: u64, fall: &Fall) -> Way
+    requires place { first ≤ fall.now.place }
+    requires few { fall.now.place + now < 2 ^ 63 }
+    requires time { t < 2 ^ 127 }
+    ensures { result ≡ fall_way letter t first now fall.now }
+{
+    Way {
+        place: fall.place - first + now,
+        arc: GraphArc {
+            to: fall.to,
+            letter,
+        },
+        at: t + Time::from(fall.weight),
+    }
 }
 
 /// Numbers the ways from one on anew: they lead to nodes before the descent, and their places begin at `first` where they

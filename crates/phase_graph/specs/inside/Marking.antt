@@ -31,3 +31,9 @@ IsFollowedAt h queue x k = (e : Entry) → k < length h.entries → slice_index_
 
 abbrev pub IsFollowed : HierarchyLists → List ℕ → ℕ → Type 0
 IsFollowed h queue x = (k : ℕ) → IsFollowedAt h queue x k
+
+-- the nodes are those with a mark, and whatever leads down to one of them leaves another
+pub record AreMarked (h : HierarchyLists) (marks : List Bool) (nodes : List ℕ) : Type 0 where
+  pub listed : (v : ℕ) → has_mark marks v ≡ true → Contains nodes v
+  pub set : (v : ℕ) → Contains nodes v → has_mark marks v ≡ true
+  pub followed : (x : ℕ) → Contains nodes x → IsFollowed h nodes x

@@ -9,15 +9,16 @@ use Rattle.phase_graph.proofs.GraphMoves.{is_phase_graph}
 use Rattle.phase_graph.proofs.WalkedLemmas.{journeys_have_walks, walks_have_journeys}
 use Rattle.phase_graph.proofs.phases.Phases.new.Goals as goal
 
-pub marks-requires : goal.marks-requires
-marks-requires c = record { below = subst (AreBelow c.args.hierarchy.now) (sym c.nodes.ensures) (below_nodes c.args.network.now c.args.hierarchy.now c.known.ensures c.requires) }
+pub mark_nodes-requires : goal.mark_nodes-requires
+mark_nodes-requires c = record { below = subst (AreBelow c.args.hierarchy.now) (sym c.nodes.ensures) (below_nodes c.args.network.now c.args.hierarchy.now c.known.ensures c.requires) }
 
 pub invariant_of-result : goal.invariant_of-result
 invariant_of-result c =
     let table = c.new-plain.result.timetable.now in
-    let marks = c.in_ok-marks.marks.items in
+    let marks = c.in_ok-marks.marks.flags.items in
     let laws = lawful c.args.network.now c.args.hierarchy.now c.known.ensures c.known-2.ensures c.requires table c.new-plain.ensures.keeps c.new-plain.ensures.of marks in
     record {
+      listed = c.in_ok-falls.ensures;
       sound = ∣ subst (λ (n : NetworkLists). IsSound n c.args.hierarchy.now) (sym c.new-plain.ensures.network) c.requires ∣₁;
       lawful = subst (λ (n : NetworkLists). IsLawfulGraph (phase_meaning n table c.args.hierarchy.now marks)) (sym c.new-plain.ensures.network) laws;
     }
@@ -25,7 +26,7 @@ invariant_of-result c =
 pub returns-clause-is : goal.returns-clause-is
 returns-clause-is c =
     is_phase_graph c.args.network.now c.args.hierarchy.now c.args.targets.now c.known.ensures c.known-2.ensures c.requires c.new-plain.result.timetable.now c.new-plain.ensures.keeps
-    c.new-plain.ensures.of c.in_ok-marks.marks.items c.in_ok-marks.ensures
+    c.new-plain.ensures.of c.in_ok-marks.marks.flags.items c.in_ok-marks.ensures.marks
 
 pub returns-clause-journeys : goal.returns-clause-journeys
 returns-clause-journeys c = journeys_have_walks c.args.network.now c.args.hierarchy.now c.args.targets.now c.known.ensures c.requires _ (returns-clause-is c)

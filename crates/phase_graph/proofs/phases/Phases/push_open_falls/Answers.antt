@@ -1,43 +1,27 @@
-use Rattle.std.proofs.Common.{◌≡◌, ◌∙◌, ◌*◌, ◌^◌, ◌<◌, ◌++◌, ℕ, length, sym, subst, arith}
-use Rattle.search_laws.specs.Ways.{ways_from}
-use Rattle.phase_graph.specs.PhaseArcs.{phase_meaning, rises_at, node_of, is_down}
-use Rattle.phase_graph.proofs.WayTies.{fall_pushed, none_falls}
+use Rattle.std.proofs.Common.{◌*◌, ◌∙◌, ◌^◌, ◌<◌, ◌++◌, List, length, ap, sym, arith}
+use Rattle.std.proofs.lemmas.List.{take_all}
+use Rattle.search_laws.specs.declared.graph.Way.{Way}
+use Rattle.phase_graph.proofs.WayTies.{fall_ways, none_falls}
 use Rattle.phase_graph.proofs.phases.Phases.push_open_falls.Goals as goal
 
-pub overflow_add-first : goal.overflow_add-first
-overflow_add-first c = omega (arith, c.entries_at-first.ensures.few, c.loop-i-test.true)
-
-pub overflow_add-ups : goal.overflow_add-ups
-overflow_add-ups c =
+pub fall_way-requires-clause-few : goal.fall_way-requires-clause-few
+fall_way-requires-clause-few c =
     let ups : length c.rises_at.result.now * 8 < 2 ^ 63 = c.rises_at.type_inv.1 in
-    omega (arith, c.entries_at-first.ensures.few, c.loop-i-test.true, ups)
+    let each = c.falls_from-fall-items.ensures.each c.loop-fall.fall-index (record { place = 0; to = 0; weight = 0 }) c.loop-fall-test.true in
+    omega (arith, c.entries_at-first.ensures.few, ups, each)
 
-pub loop-i-preserved : goal.loop-i-preserved
-loop-i-preserved c =
+pub returns-after-loop-fall : goal.returns-after-loop-fall
+returns-after-loop-fall c =
     let self = c.args.self.now in
     let n = self.plain.network.now in
-    let table = self.plain.timetable.now in
     let h = self.hierarchy.now in
-    let p = c.args.visit.node in
     let rises = rw c.split-v.ensures at c.rises_at.ensures.list in
     let first = rw c.split-v.ensures at c.entries_at-first.ensures.first in
     let count = rw c.split-v.ensures at c.entries_at-first.ensures.count in
-    let lt = rw count at c.loop-i-test.true in
-    let push = rw (c.letter-letter.ensures, c.network.ensures, c.split-v.ensures, rises, first) at c.in_ok-push_fall.ensures in
-    let far = rw rises at c.loop-i.invariant.far in
-    record {
-      far = rw rises (fall_pushed n h table self.marks.items p c.args.visit.at c.args.visit.letters c.loop-i.i c.args.ways.now.items c.loop-i.ways.items c.push_fall.new.ways.items lt c.requires.opens far push);
-      within = (let test = c.loop-i-test.true in omega (arith, test));
-    }
-
-pub returns-after-loop-i : goal.returns-after-loop-i
-returns-after-loop-i c =
-    let self = c.args.self.now in
-    let rises = rw c.split-v.ensures at c.rises_at.ensures.list in
-    let count = rw c.split-v.ensures at c.entries_at-first.ensures.count in
-    let ended : c.loop-i.i ≡ c.entries_at-first.result.1 = omega (arith, c.loop-i-test.false, c.loop-i.invariant.within) in
-    subst (λ (k : ℕ). c.loop-i.ways.items ≡ c.args.ways.now.items ++ ways_from (phase_meaning self.plain.network.now self.plain.timetable.now self.hierarchy.now self.marks.items) c.args.visit.node c.args.visit.at c.args.visit.letters (length (rises_at self.hierarchy.now (node_of c.args.visit.node) (is_down c.args.visit.node))) k)
-    (ended ∙ count) (rw rises at c.loop-i.invariant.far)
+    let letter = rw (c.network.ensures, c.split-v.ensures) at c.letter-letter.ensures in
+    let all = take_all c.loop-fall.fall-index c.falls_from-fall-items.result.now c.loop-fall-test.false ∙ rw (first, count) at c.falls_from-fall-items.ensures.list in
+    let far = rw (all, letter, first, rises) at c.loop-fall.invariant in
+    far ∙ ap (λ (ws : List Way). c.args.ways.now.items ++ ws) (fall_ways n h self.plain.timetable.now self.marks.items c.args.visit.node c.args.visit.at c.args.visit.letters c.requires.opens)
 
 pub returns-else-has_mark : goal.returns-else-has_mark
 returns-else-has_mark c =

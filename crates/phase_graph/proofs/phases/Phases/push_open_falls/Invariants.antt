@@ -1,10 +1,6 @@
-use Rattle.std.proofs.Common.{◌≡◌, ◌≤◌, ◌++◌}
-use Rattle.search_laws.specs.Ways.{ways_from}
-use Rattle.phase_graph.specs.PhaseArcs.{phase_meaning}
+use Rattle.std.proofs.Common.{◌≡◌, ◌++◌, map, take}
+use Rattle.phase_graph.specs.inside.Falls.{fall_way}
 use Rattle.phase_graph.proofs.phases.Phases.push_open_falls.Given as goal
 
-abbrev pub invariant-loop-i : goal.invariant-loop-i
-invariant-loop-i l = record {
-  far : l.ways.items ≡ l.initial.ways.items ++ ways_from (phase_meaning l.self.plain.network.now l.self.plain.timetable.now l.self.hierarchy.now l.self.marks.items) l.visit.node l.visit.at l.visit.letters l.ups l.i;
-  within : l.i ≤ l.count;
-}
+abbrev pub invariant-loop-fall : goal.invariant-loop-fall
+invariant-loop-fall l = l.ways.items ≡ l.initial.ways.items ++ map (fall_way l.letter l.visit.at l.first l.ups) (take l.fall-index l.fall-items)

@@ -5,7 +5,7 @@ use Rattle.std.proofs.lemmas.List.{get_or_default}
 use Rattle.std.proofs.lemmas.List.Elements.{All-contains}
 use Rattle.phase_graph.specs.inside.Marking.{IsFollowed}
 use Rattle.phase_graph.proofs.MarkLemmas.{extends_contains, still_followed, are_marks}
-use Rattle.phase_graph.proofs.marks.marks.Goals as goal
+use Rattle.phase_graph.proofs.marks.mark_nodes.Goals as goal
 
 pub loop-next-preserved : goal.loop-next-preserved
 loop-next-preserved c = record {
@@ -29,10 +29,11 @@ loop-next-preserved c = record {
       subst (IsFollowed c.args.h.now c.follow.new.queue.items) (sym x_is) c.in_ok-follow.ensures.followed
 
 pub returns : goal.returns
-returns c =
-    are_marks c.args.h.now c.args.targets.now c.loop-next.queue.items c.args.nodes c.requires.below all_followed
-    (λ v there. All-contains (λ u. u < c.args.nodes → Contains c.loop-next.queue.items u) c.args.targets.now v c.loop-next.invariant.started there)
-    c.loop-next.marks.items c.loop-next.invariant.marking
-  where
-    all_followed : (x : ℕ) → Contains c.loop-next.queue.items x → IsFollowed c.args.h.now c.loop-next.queue.items x
-    all_followed x (i, lt, is) = subst (IsFollowed c.args.h.now c.loop-next.queue.items) is (c.loop-next.invariant.followed i x (omega (arith, lt, c.loop-next-test.false, c.len.ensures)))
+returns c = record {
+  marks = are_marks c.args.h.now c.args.targets.now c.loop-next.queue.items c.args.nodes c.requires.below all_followed
+      (λ v there. All-contains (λ u. u < c.args.nodes → Contains c.loop-next.queue.items u) c.args.targets.now v c.loop-next.invariant.started there)
+      c.loop-next.marks.items c.loop-next.invariant.marking;
+  nodes = (let are = c.loop-next.invariant.marking.are in record { listed = are.listed; set = are.set; followed = all_followed });
+} where
+  all_followed : (x : ℕ) → Contains c.loop-next.queue.items x → IsFollowed c.args.h.now c.loop-next.queue.items x
+  all_followed x (i, lt, is) = subst (IsFollowed c.args.h.now c.loop-next.queue.items) is (c.loop-next.invariant.followed i x (omega (arith, lt, c.loop-next-test.false, c.len.ensures)))

@@ -1,6 +1,6 @@
 use Rattle.std.specs.Prelude.{ℕ, ◌-◌, ◌<◌, All, Contains, slice_index_or}
 use Rattle.phase_graph.specs.inside.Marking.{IsMarking, IsFollowed}
-use Rattle.phase_graph.proofs.marks.marks.Given as goal
+use Rattle.phase_graph.proofs.marks.mark_nodes.Given as goal
 
 abbrev pub invariant-loop-next : goal.invariant-loop-next
 invariant-loop-next l = record {
