@@ -152,16 +152,18 @@ module _ (h : HierarchyLists) (marks : List Bool) where
   abbrev passes : ℕ → Bool
   passes k = is_fall h marks (entry_at h k)
 
-  -- falls behind others
+  -- those up to a place, and then those behind it
   falls_split : (first count : ℕ) → first + count ≤ n → falls_from h marks 0 (first + count) ≡ falls_from h marks 0 first ++ falls_from h marks first count
   falls_split first count inside =
       let long : first + count - first ≡ count = omega arith in
       ap (map (fall_at h)) (places_split (is_fall h marks) h.entries first (first + count) (omega arith) ∙ ap (λ k. filter passes (range_with_len 0 first) ++ filter passes (range_with_len first k)) long)
       ∙ map-append (fall_at h) (filter passes (range_with_len 0 first)) (filter passes (range_with_len first count))
 
+  -- up to a later place there are as many or more
   pub falls_grow : (first count : ℕ) → first + count ≤ n → length (falls_from h marks 0 first) ≤ length (falls_from h marks 0 (first + count))
   falls_grow first count inside = omega (arith, ap length (falls_split first count inside), length-append (falls_from h marks 0 first) (falls_from h marks first count))
 
+  -- each is at one of the places
   pub falls_within : (first count : ℕ) → All (IsFallFrom first count) (falls_from h marks first count)
   falls_within first count = All-map (IsFallFrom first count) (fall_at h) (filter passes (range_with_len first count))
       (All-filter passes (λ k. IsFallFrom first count (fall_at h k)) (range_with_len first count) (λ i d lt.

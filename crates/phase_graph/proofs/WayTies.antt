@@ -83,7 +83,7 @@ module _ (n : NetworkLists) (h : HierarchyLists) (t : TableLists) (marks : List 
 
   -- ---- entries
 
-  -- one entry that leaves a node, as a way where it falls
+  -- an entry of the node is a way where it falls
   one_falls : is_open letters letter ≡ true → (i : ℕ) → i < downs
       → way_at g p time letters (ups + i) ≡ cond (is_fall h marks (entry_at h (begin + i))) (as_way (fall_at h (begin + i)) ∷ []) []
   one_falls opens i lt =
@@ -96,6 +96,7 @@ module _ (n : NetworkLists) (h : HierarchyLists) (t : TableLists) (marks : List 
           let same : ups + i ≡ begin + i - begin + ups = omega arith in
           ap (λ k. record { place = k; arc = record { to = phase_node (entry_at h (begin + i)).to true; letter = letter }; at = time + (entry_at h (begin + i)).weight } ∷ []) same
 
+  -- so the falls of some of its entries are their ways
   falls_are : is_open letters letter ≡ true → (i k : ℕ) → i + k ≤ downs → map as_way (falls_from h marks (begin + i) k) ≡ from (ups + i) k
   falls_are opens i zero within = refl
   falls_are opens i (suc k) within =
@@ -111,7 +112,7 @@ module _ (n : NetworkLists) (h : HierarchyLists) (t : TableLists) (marks : List 
       by_test true = refl
       by_test false = refl
 
-  -- the falls of a node are its ways along entries down
+  -- and those of all are its ways along entries down
   pub fall_ways : is_open letters letter ≡ true → map as_way (falls_from h marks begin downs) ≡ from ups downs
   fall_ways opens =
       let here : begin ≡ begin + 0 = omega arith in

@@ -31,7 +31,7 @@ pub(crate) fn falls(alloc: Global, h: &Hierarchy, marks: &Marks) -> Result<Vec<F
     falls_at(alloc, h, &places)
 }
 
-/// The places of the entries that lead down to a node with a mark. Each of them leaves one.
+/// The places of the entries that lead down to a node with a mark. Each of them leaves another.
 fn gather(alloc: Global, h: &Hierarchy, marks: &Marks) -> Result<Vec<u64>, AllocError>
     requires { AreMarked h.now marks.now.flags.items marks.now.nodes.items }
     ensures { IfOk result (λ places. HaveFalls h.now marks.now.flags.items places.items) }
@@ -43,7 +43,7 @@ fn gather(alloc: Global, h: &Hierarchy, marks: &Marks) -> Result<Vec<u64>, Alloc
     Ok(places)
 }
 
-/// The entries at these places.
+/// The entries at these places, as falls.
 fn falls_at(alloc: Global, h: &Hierarchy, places: &[u64]) -> Result<Vec<Fall>, AllocError>
     requires { All (λ place. place < length h.now.entries) places.now }
     ensures { IfOk result (λ falls. falls.items ≡ map (fall_at h.now) places.now) }

@@ -368,7 +368,8 @@ impl<'a> Phases<'a> {
         Ok(())
     }
 
-    /// The falls at so many places, from one on.
+    /// The falls at `count` places, from the place `first` on.
+    #[tactic(auto, using(crate::proofs::FallLemmas::falls_grow))]
     fn falls_from(&self, first: u64, count: u64) -> &[Fall]
         requires within { first + count ≤ length self.now.hierarchy.now.entries }
         requires few { first + count < 2 ^ 60 }

@@ -1,16 +1,6 @@
-use Rattle.std.proofs.Common.{◌≤◌, ◌∙◌, arith, refl}
-use Rattle.phase_graph.proofs.FallLemmas.{falls_between, falls_grow, falls_within}
+use Rattle.std.proofs.Common.{◌∙◌, refl}
+use Rattle.phase_graph.proofs.FallLemmas.{falls_between, falls_within}
 use Rattle.phase_graph.proofs.phases.Phases.falls_from.Goals as goal
-
-pub slice_bounds-result-count : goal.slice_bounds-result-count
-slice_bounds-result-count c =
-    omega (arith, c.falls_before.ensures.count, c.falls_before-2.ensures.count, falls_grow c.args.self.now.hierarchy.now c.args.self.now.marks.items c.args.first c.args.count c.requires.within)
-
-pub slice_bounds-result-start : goal.slice_bounds-result-start
-slice_bounds-result-start c =
-    let grow : c.falls_before.result ≤ c.falls_before-2.result =
-    omega (arith, c.falls_before.ensures.count, c.falls_before-2.ensures.count, falls_grow c.args.self.now.hierarchy.now c.args.self.now.marks.items c.args.first c.args.count c.requires.within) in
-    grow
 
 pub returns : goal.returns
 returns c =
