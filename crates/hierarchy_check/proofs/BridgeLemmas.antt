@@ -1,7 +1,8 @@
 -- The entries that are visited are those that matter.
-use Rattle.std.proofs.Common.{◌≡◌, ℕ, ◌+◌, ◌<◌, ◌≤◌, ◌⊎◌, inl, inr, ◌||◌, ◌&&◌, true, List, length, get_or, ◌∙◌, ap, subst, sym, arith}
+use Rattle.std.proofs.Common.{◌≡◌, ℕ, ◌+◌, ◌<◌, below_more, ◌≤◌, ◌⊎◌, inl, inr, ◌||◌, ◌&&◌, true, false, List, length, get_or, Some, None, is_some, refl, ◌∙◌, ap, subst, sym, arith}
+use Rattle.std.specs.Prelude.{All, Option, MatchOption}
 use Rattle.std.specs.List.{HoldsAt}
-use Rattle.std.proofs.lemmas.Bool.{cases_lt, cases_eq, lt-ltb}
+use Rattle.std.proofs.lemmas.Bool.{false≢true, cases_lt, cases_eq, lt-ltb}
 use Rattle.std.proofs.lemmas.List.{get_or_default}
 use Rattle.std.proofs.lemmas.Option.{slice_get-get_or}
 use Rattle.hierarchy.specs.declared.entry.Entry.{Entry}
@@ -10,7 +11,8 @@ use Rattle.hierarchy.specs.Lookups.{ArePlaces, AreFrom, FallsTo, entry_at, no_en
 use Rattle.hierarchy.specs.Rises.{RisesFrom, is_rise, is_core}
 use Rattle.hierarchy.specs.Soundness.{HoldsBelow, ArePairAt, PairIsBridged, PairsAreBridged, NodeIsBridged}
 use Rattle.hierarchy.specs.FirstBroken.{FailsFirst}
-use Rattle.hierarchy_check.specs.inside.Light.{FirstUnbridgedAt, FirstUnbridged, RiseIsBridged}
+use Rattle.hierarchy.proofs.HeightLemmas.{height_is, height_least}
+use Rattle.hierarchy_check.specs.inside.Light.{FirstUnbridgedAt, RiseIsBridged}
 
 -- ---- entries from the node
 
@@ -95,15 +97,40 @@ module _ (h : HierarchyLists) (x : ℕ) (places : List ℕ) (are : ArePlaces (Fa
 
 -- ---- nodes of the order
 
-pub first_unbridged : (h : HierarchyLists) (place at by d : ℕ) → place < length h.order → HoldsBelow place (HoldsAt (NodeIsBridged h) h.order) → FirstUnbridgedAt h (get_or h.order place d) at by
-    → FirstUnbridged h place at by
-first_unbridged h place at by d lt before pair = record {
-  x = get_or h.order place d;
-  node_is = slice_get-get_or h.order place d lt;
-  node_fails = record {
-    place = lt;
-    fails = λ holds. pair.entry_fails.fails (λ e. holds d at e pair.entry_fails.place);
-    before = before;
-  };
-  pair = pair;
-}
+-- the nodes below x that are lower than this place are bridged, and the node at it, if there is one, is not
+pub record LowestSoFar (h : HierarchyLists) (x lowest : ℕ) : Type 0 where
+  pub within : lowest ≤ length h.order
+  pub before : (y : ℕ) → y < x → height_in h.order y < lowest → NodeIsBridged h y
+  pub fails : lowest < length h.order → HoldsAt (NodeIsBridged h) h.order lowest → ⊥
+
+module _ (h : HierarchyLists) (x lowest : ℕ) (so_far : LowestSoFar h x lowest) where
+  pub lowest_kept : (height_in h.order x < lowest → NodeIsBridged h x) → LowestSoFar h (x + 1) lowest
+  lowest_kept here = record {
+    within = so_far.within;
+    before = below_more (λ y. height_in h.order y < lowest → NodeIsBridged h y) x so_far.before here;
+    fails = so_far.fails;
+  }
+
+  pub lowest_here : height_in h.order x < lowest → (NodeIsBridged h x → ⊥) → LowestSoFar h (x + 1) (height_in h.order x)
+  lowest_here lower fails = record {
+    within = omega arith;
+    before = below_more (λ y. height_in h.order y < height_in h.order x → NodeIsBridged h y) x
+        (λ y lt low. so_far.before y lt (omega arith)) (λ low. absurd (omega arith));
+    fails = λ lt holds. fails (subst (NodeIsBridged h) (height_is h.order x 0 lt) (holds 0));
+  }
+
+  -- past all nodes, those at all lower places are bridged
+  pub lowest_of_all : (nodes : ℕ) → nodes ≤ x → All (λ v. v < nodes) h.order → HoldsBelow lowest (HoldsAt (NodeIsBridged h) h.order)
+  lowest_of_all nodes le below k lt d =
+      let inside : k < length h.order = omega (arith, so_far.within) in
+      so_far.before (get_or h.order k d) (omega (arith, below k d inside)) (omega (arith, height_least h.order (get_or h.order k d) k d inside refl))
+
+-- what was found at a node tells whether it is bridged
+module _ (h : HierarchyLists) (x : ℕ) where
+  pub bridged_at : (found : Option (ℕ × ℕ)) → MatchOption found (NodeIsBridged h x) (λ pair. FirstUnbridgedAt h x pair.0 pair.1) → is_some found ≡ false → NodeIsBridged h x
+  bridged_at (Some pair) fails e = absurd (false≢true (sym e))
+  bridged_at None bridged e = bridged
+
+  pub unbridged_at : (found : Option (ℕ × ℕ)) → MatchOption found (NodeIsBridged h x) (λ pair. FirstUnbridgedAt h x pair.0 pair.1) → is_some found ≡ true → NodeIsBridged h x → ⊥
+  unbridged_at (Some pair) fails e holds = fails.entry_fails.fails (λ d. holds pair.0 d fails.entry_fails.place)
+  unbridged_at None bridged e holds = false≢true e

@@ -1,6 +1,6 @@
 -- Which node may stand at a place of the order, by those that were met before.
 use Rattle.std.proofs.Common.{◌≡◌, ℕ, ◌+◌, ◌<◌, ◌==◌, ◌||◌, Bool, true, false, not, nat_eq, List, ◌++◌, length, get_or, set, replicate, Some, inl, inr, refl, sym, ◌∙◌, subst, arith}
-use Rattle.std.specs.Prelude.{IsTrue, ◌↔◌, slice_get}
+use Rattle.std.specs.Prelude.{All, IsTrue, ◌↔◌, slice_get}
 use Rattle.std.proofs.lemmas.Bool.{false≢true, both_ways, not-true, not_from_false, eqb-true, eqb-false, eq-eqb, ne_eqb, or_from, or_left, or_right, cases_lt, cases_Bool}
 use Rattle.std.proofs.lemmas.Option.{option_and_then_some, slice_get_within}
 use Rattle.std.proofs.lemmas.List.{length-append, get_or-replicate, get_or_past, get_or-set_same, get_or-set_other, length-set, length-replicate}
@@ -100,6 +100,10 @@ free_below n x free =
     option_and_then_some (λ (node : Node). mode_of node.key) (slice_get n.roads x) free.mode free.road
     (λ node at moded. let within : x < length (n.roads ++ n.stops ++ n.switches) =
     omega (arith, slice_get_within n.roads x node at, length-append n.roads n.stops, length-append (n.roads ++ n.stops) n.switches) in within)
+
+-- so are all nodes that may stand in an order
+pub order_below : (n : NetworkLists) (order : List ℕ) → HoldsBelow (length order) (MayStandAt n order) → All (λ x. x < length (nodes_of n)) order
+order_below n order may k d lt = free_below n (get_or order k d) ((may k lt).0 d)
 
 -- the first who is not met for the first time may not stand there, and all before may
 pub misplaced : (n : NetworkLists) (order : List ℕ) (k x : ℕ) (met : List Bool) → AreMet n order k met → k < length order → ((d : ℕ) → get_or order k d ≡ x)

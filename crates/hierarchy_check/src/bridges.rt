@@ -1,7 +1,8 @@
 //! Clause 4: whatever two entries lead by way of a contracted node, another way is no heavier.
 
-ghost use Rattle.std.specs.Prelude.{◌≡◌, ◌<◌, ◌^◌, ◌↔◌, All, IsTrue, MatchOption};
-ghost use Rattle.hierarchy.specs.Soundness.{IsBridged, ArePairAt, PairIsBridged, PairsAreBridged, NodeIsBridged};
+ghost use Rattle.std.specs.Prelude.{◌≡◌, ◌<◌, ◌^◌, ◌↔◌, All, IsTrue, MatchOption, length};
+ghost use Rattle.std.specs.List.{HoldsAt};
+ghost use Rattle.hierarchy.specs.Soundness.{HoldsBelow, IsBridged, ArePairAt, PairIsBridged, PairsAreBridged, NodeIsBridged};
 ghost use Rattle.hierarchy.specs.FirstBroken.{FailsFirst};
 ghost use Rattle.hierarchy_check.specs.inside.Light.{IsLight, FirstUnbridgedAt, FirstUnbridged, RiseIsBridged};
 
@@ -11,32 +12,48 @@ use crate::witnesses::has_witness;
 use hierarchy::{Entry, Hierarchy};
 
 /// The place in the order of the first node with two entries that are not bridged, and the places of these.
-pub(crate) fn first_unbridged(h: &Hierarchy) -> Option<(u64, u64, u64)>
-    requires { IsLight h.now.entries }
+pub(crate) fn first_unbridged(nodes: u32, h: &Hierarchy) -> Option<(u64, u64, u64)>
+    requires light { IsLight h.now.entries }
+    requires below { All (λ x. x < nodes) h.now.order }
     ensures { MatchOption result
         (All (NodeIsBridged h.now) h.now.order)
         (λ found. FirstUnbridged h.now found.0 found.1 found.2) }
 {
-    let order = h.order();
-    for place in 0..order.len() {
-        if let Some((at, by)) = unbridged_at(h, order[place]) {
-            return Some((place as u64, at, by));
+    let place = lowest_unbridged(nodes, h);
+    let x = h.order().get(place as usize)?;
+    let (at, by) = unbridged_at(h, *x, &mut Look::before_all())?;
+    Some((place, at, by))
+}
+
+/// The first place in the order whose node has two entries that are not bridged, or the length of the order. Nodes are looked
+/// at by their numbers: those that are near by number are near on the map, and witnesses are listed by number.
+fn lowest_unbridged(nodes: u32, h: &Hierarchy) -> u64
+    requires light { IsLight h.now.entries }
+    requires below { All (λ x. x < nodes) h.now.order }
+    ensures before { HoldsBelow result (HoldsAt (NodeIsBridged h.now) h.now.order) }
+    ensures fails { result < length h.now.order → HoldsAt (NodeIsBridged h.now) h.now.order result → ⊥ }
+{
+    let mut look = Look::before_all();
+    let mut lowest = h.order().len() as u64;
+    for x in 0..nodes {
+        let place = h.height(x);
+        if place < lowest && unbridged_at(h, x, &mut look).is_some() {
+            lowest = place;
         }
     }
-    None
+    lowest
 }
 
 /// The first entry down to a node that is not bridged with one from it, and the first of these.
-fn unbridged_at(h: &Hierarchy, x: u32) -> Option<(u64, u64)>
+fn unbridged_at(h: &Hierarchy, x: u32, look: &mut Look) -> Option<(u64, u64)>
     requires { IsLight h.now.entries }
     ensures { MatchOption result
         (NodeIsBridged h.now x)
         (λ found. FirstUnbridgedAt h.now x found.0 found.1) }
 {
     let entries = h.entries();
-    let mut look = Look::around(h, x);
     for at in h.falls_into(x) {
-        if let Some(by) = unbridged_after(h, x, entries[*at as usize], &mut look) {
+        if let Some(by) = unbridged_after(h, x, entries[*at as usize], look) {
             return Some((*at, by));
         }
     }

@@ -64,7 +64,7 @@ pub fn check_ways(network: &Network, h: &Hierarchy) -> Verdict
     if let Some(at) = first_unmade(network, h) {
         return broken(3, at);
     }
-    match first_unbridged(h) {
+    match first_unbridged(network.nodes(), h) {
         Some((_, at, by)) => Verdict::Broken { clause: 4, at, by },
         None => Verdict::Sound,
     }

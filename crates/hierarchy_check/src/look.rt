@@ -10,8 +10,9 @@ use hierarchy::{Entry, Hierarchy, Witness};
 /// is found by halves, so that a node with many costs no more than their logarithm.
 const FEW: usize = 64;
 
-/// Where a look stands. The pairs of entries around a node come in the order in which entries and witnesses are listed, so each
-/// of these is passed once. Whether what stands at a place is what is looked for, that itself tells.
+/// Where a look stands. Nodes come by their numbers, and the pairs of entries around a node in the order in which entries and
+/// witnesses are listed. So each witness is passed once, and each entry once for each node that the pairs lead by. Whether what
+/// stands at a place is what is looked for, that itself tells.
 #[derive(Drop)]
 pub(crate) struct Look {
     entry: usize,
@@ -21,12 +22,12 @@ pub(crate) struct Look {
 }
 
 impl Look {
-    /// A look before all pairs around a node.
-    pub fn around(h: &Hierarchy, x: u32) -> Look {
+    /// A look before all pairs.
+    pub fn before_all() -> Look {
         Look {
             entry: 0,
             end: 0,
-            witness: h.witnesses().partition_point(|witness| witness.below < x),
+            witness: 0,
         }
     }
 

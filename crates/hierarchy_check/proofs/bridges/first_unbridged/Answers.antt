@@ -1,21 +1,21 @@
-use Rattle.std.proofs.Common.{◌<◌, length, List, ℕ, get_or, subst}
-use Rattle.std.specs.List.{HoldsAt}
-use Rattle.std.proofs.lemmas.List.{get_or_default}
-use Rattle.hierarchy.specs.Soundness.{HoldsBelow, NodeIsBridged}
-use Rattle.hierarchy_check.specs.inside.Light.{FirstUnbridgedAt}
-use Rattle.hierarchy_check.proofs.PlaceLemmas.{hold_more}
-use Rattle.hierarchy_check.proofs.BridgeLemmas.{first_unbridged}
+use Rattle.std.proofs.Common.{length, refl, subst}
+use Rattle.std.proofs.lemmas.Option.{slice_get_read}
+use Rattle.hierarchy.specs.Soundness.{NodeIsBridged}
 use Rattle.hierarchy_check.proofs.bridges.first_unbridged.Goals as goal
 
-pub returns-in-Some : goal.returns-in-Some
-returns-in-Some c =
-    let h = c.args.h.now in
-    first_unbridged h c.loop-place.place c.in-Some.at c.in-Some.by 0
-    (subst (λ (order : List ℕ). c.loop-place.place < length order) c.order-order.ensures c.loop-place-test.true)
-    (subst (λ (order : List ℕ). HoldsBelow c.loop-place.place (HoldsAt (NodeIsBridged h) order)) c.order-order.ensures c.loop-place.invariant)
-    (subst (λ (order : List ℕ). FirstUnbridgedAt h (get_or order c.loop-place.place 0) c.in-Some.at c.in-Some.by) c.order-order.ensures c.in-Some.ensures)
+pub returns-in_err-at : goal.returns-in_err-at
+returns-in_err-at c =
+    let at = rw c.order.ensures at c.in_ok-x.ensures.lookup.3 in
+    absurd (c.lowest_unbridged-place.ensures.fails at.0 (λ d. subst (NodeIsBridged c.args.h.now) (at.1 d) c.in_err-at.ensures))
 
-pub loop-place-preserved : goal.loop-place-preserved
-loop-place-preserved c =
-    hold_more c.loop-place.place (HoldsAt (NodeIsBridged c.args.h.now) c.order-order.result.now) c.loop-place.invariant
-    (λ d. subst (NodeIsBridged c.args.h.now) (get_or_default c.order-order.result.now c.loop-place.place 0 d c.loop-place-test.true) c.in_default.ensures)
+pub returns : goal.returns
+returns c =
+    let order = c.args.h.now.order in
+    let place = c.lowest_unbridged-place.result in
+    let at = rw c.order.ensures at c.in_ok-x.ensures.lookup.3 in
+    record {
+      x = c.in_ok-x.x.now;
+      node_is = slice_get_read order (length order) place c.in_ok-x.x.now refl at.0 (at.1 c.in_ok-x.x.now);
+      node_fails = record { place = at.0; fails = c.lowest_unbridged-place.ensures.fails at.0; before = c.lowest_unbridged-place.ensures.before };
+      pair = c.in_ok-at.ensures;
+    }
