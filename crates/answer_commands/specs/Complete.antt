@@ -7,8 +7,9 @@ use Rattle.certificate.specs.Texts.{IsCertText}
 use Rattle.certificate.specs.Valid.{IsValid}
 use Rattle.hierarchy.specs.Lists.{HierarchyLists}
 use Rattle.hierarchy_commands.specs.Complete.{IsSoundIfNamed}
+use Rattle.run_steps.specs.declared.outcome.FileRole.TheVariants as role
 use Rattle.run_steps.specs.declared.limits.Limits.{Limits}
-use Rattle.run_steps.specs.Complete.{Files, AreLinesHeld, IsHeld, SpellsNetwork, Completes}
+use Rattle.run_steps.specs.Complete.{Files, AreLinesHeld, IsHeld, IsRegionHeld, Completes}
 use Rattle.answer_commands.specs.Commands.{SaysAnswer, SaysCertify, SaysVerify}
 
 -- the bytes spell a certificate that is valid
@@ -17,14 +18,14 @@ SpellsValid n h bytes = (claim : Claim) × IsCertText bytes claim × IsValid n h
 
 abbrev pub CanAnswer : Caps → Files → List ℕ → List ℕ → Option (List ℕ) → Type 0
 CanAnswer caps files region queries hierarchy =
-    IsHeld files region (SpellsNetwork caps (λ n. IsSoundIfNamed files n hierarchy (λ h. AreLinesHeld files queries)))
+    IsRegionHeld caps files region (λ n. IsSoundIfNamed files n hierarchy (λ h. AreLinesHeld files queries))
 
 abbrev pub CanCertify : Caps → Files → List ℕ → List ℕ → Option (List ℕ) → Type 0
-CanCertify caps files region query hierarchy = IsHeld files region (SpellsNetwork caps (λ n. IsSoundIfNamed files n hierarchy (λ h. Unit {0})))
+CanCertify caps files region query hierarchy = IsRegionHeld caps files region (λ n. IsSoundIfNamed files n hierarchy (λ h. Unit {0}))
 
 abbrev pub CanVerify : Caps → Files → List ℕ → List ℕ → Option (List ℕ) → Type 0
 CanVerify caps files region certificate hierarchy =
-    IsHeld files region (SpellsNetwork caps (λ n. IsSoundIfNamed files n hierarchy (λ h. IsHeld files certificate (SpellsValid n h))))
+    IsRegionHeld caps files region (λ n. IsSoundIfNamed files n hierarchy (λ h. IsHeld role.Certificate files certificate (SpellsValid n h)))
 
 -- where that can be done which is asked for, and no count of faults rose, all of it is done, unless memory ran out
 abbrev pub AnswerCompletes : Type 0

@@ -35,7 +35,7 @@ module _ (files : Files) where
 
   -- a map without fault is not refused early
   pub map_completes : (caps : Caps) (name : List ℕ) (P : ObjectLists → Type 0) (rest : ObjectLists → Saying) → ((objects : ObjectLists) → Completes files (P objects) (rest objects))
-      → Completes files (IsHeld files name (SpellsObjects caps P)) (OnMap caps name rest)
+      → Completes files (IsHeld role.Opl files name (SpellsObjects caps P)) (OnMap caps name rest)
   map_completes caps name P rest more held old new outcome tells quiet (inl (fault, shows, ends)) =
       let front = told_held old.shelf files name held.bytes tells held.held (λ h. IsSomeAnd h (BeginsSo shows.bytes)) shows.front in
       let bad = shows.first.stays front.0 in

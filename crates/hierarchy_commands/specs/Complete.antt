@@ -5,7 +5,8 @@ use Rattle.mode_network.specs.NetworkLists.{NetworkLists}
 use Rattle.hierarchy.specs.Lists.{HierarchyLists}
 use Rattle.hierarchy.specs.Soundness.{IsSound}
 use Rattle.hierarchy_file.specs.Causes.{SpellHierarchy}
-use Rattle.run_steps.specs.Complete.{Files, IsHeld, SpellsNetwork, Completes}
+use Rattle.run_steps.specs.declared.outcome.FileRole.TheVariants as role
+use Rattle.run_steps.specs.Complete.{Files, IsHeld, IsRegionHeld, Completes}
 use Rattle.hierarchy_commands.specs.Commands.{SaysCheck, SaysContract}
 
 -- the bytes spell a hierarchy that is sound for the network and has P
@@ -15,13 +16,13 @@ SpellsSound n P bytes = (h : HierarchyLists) × SpellHierarchy bytes h × IsSoun
 -- a hierarchy that is sound and has P is there, where its file is named
 abbrev pub IsSoundIfNamed : Files → NetworkLists → Option (List ℕ) → (Option HierarchyLists → Type 0) → Type 0
 IsSoundIfNamed files n None P = P None
-IsSoundIfNamed files n (Some name) P = IsHeld files name (SpellsSound n (λ h. P (Some h)))
+IsSoundIfNamed files n (Some name) P = IsHeld role.Hierarchy files name (SpellsSound n (λ h. P (Some h)))
 
 abbrev pub CanCheck : Caps → Files → List ℕ → List ℕ → Type 0
-CanCheck caps files region hierarchy = IsHeld files region (SpellsNetwork caps (λ n. IsHeld files hierarchy (SpellsSound n (λ h. Unit {0}))))
+CanCheck caps files region hierarchy = IsRegionHeld caps files region (λ n. IsHeld role.Hierarchy files hierarchy (SpellsSound n (λ h. Unit {0})))
 
 abbrev pub CanContract : Caps → Files → List ℕ → ℕ → Type 0
-CanContract caps files region keep = IsHeld files region (SpellsNetwork caps (λ n. Unit {0}))
+CanContract caps files region keep = IsRegionHeld caps files region (λ n. Unit {0})
 
 -- where that can be done which is asked for, and no count of faults rose, all of it is done, unless memory ran out
 abbrev pub CheckCompletes : Type 0

@@ -11,7 +11,7 @@ use Rattle.hierarchy_file.specs.Causes.{IsNoHierarchy, SpellHierarchy}
 use Rattle.run_steps.specs.declared.outcome.FileRole.TheVariants.{Hierarchy}
 use Rattle.run_steps.specs.declared.outcome.Outcome.{Outcome}
 use Rattle.run_steps.specs.declared.outcome.Outcome.TheVariants.{BadHierarchy, Unsound, OutOfMemory}
-use Rattle.run_steps.specs.Sayings.{IsUnread, most_bytes}
+use Rattle.run_steps.specs.Sayings.{IsUnread, most_of}
 
 -- the bytes spell a hierarchy that is sound for the network
 abbrev pub AreSound : NetworkLists → List ℕ → HierarchyLists → Type 0
@@ -44,14 +44,14 @@ AreUnsound n bytes _ = ⊥
 -- the file was read, and spells a hierarchy that is sound for the network
 pub record HasSound (old new : ShelfMeaning) (n : NetworkLists) (name : List ℕ) (h : HierarchyLists) : Type 0 where
   pub bytes : List ℕ
-  pub file : HasRead old name most_bytes bytes
+  pub file : HasRead old name (most_of Hierarchy) bytes
   pub later : IsLater old new
   pub sound : AreSound n bytes h
 
 -- the file was read, and spells none
 pub record HasUnsound (old new : ShelfMeaning) (n : NetworkLists) (name : List ℕ) (outcome : Outcome) : Type 0 where
   pub bytes : List ℕ
-  pub file : HasRead old name most_bytes bytes
+  pub file : HasRead old name (most_of Hierarchy) bytes
   pub later : IsLater old new
   pub unsound : AreUnsound n bytes outcome
 

@@ -10,7 +10,7 @@ use hierarchy::Hierarchy;
 use hierarchy_file::encode;
 use mode_network::Network;
 use plan_base::{Caps, Shelf, Sink};
-use run_steps::{Outcome, Ports, read_region, tell, write_text};
+use run_steps::{FileRole, Outcome, Ports, most_of, read_region, tell, write_text};
 use std::alloc::{AllocError, Global};
 
 /// Reads the region of this name, contracts its road layers, and writes the hierarchy. `notes` is told how far it is.
@@ -60,7 +60,12 @@ fn told_at_end(
     let core = u64::from(network.nodes()).saturating_sub(contracted);
     let entries = h.entries().len();
     let witnesses = h.witnesses().len();
+    let unread = if bytes as u64 > most_of(FileRole::Hierarchy) {
+        ", which is more than any command reads; keep more nodes"
+    } else {
+        ""
+    };
     format!(in alloc;
-        "{contracted} nodes are contracted, and {core} are left as the core; {entries} entries and {witnesses} witnesses, in {bytes} bytes"
+        "{contracted} nodes are contracted, and {core} are left as the core; {entries} entries and {witnesses} witnesses, in {bytes} bytes{unread}"
     )
 }

@@ -2,7 +2,7 @@
 use Rattle.std.specs.Prelude.{ℕ, List, Option}
 use Rattle.plan_base.specs.declared.limits.Caps.{Caps}
 use Rattle.hierarchy_commands.specs.Complete.{IsSoundIfNamed}
-use Rattle.run_steps.specs.Complete.{Files, IsDoneOrMemory, IsHeld, SpellsNetwork}
+use Rattle.run_steps.specs.Complete.{Files, IsDoneOrMemory, IsRegionHeld}
 use Rattle.answer_commands.specs.Complete.{CanVerify}
 use Rattle.journey_book.specs.Requests.{BookRequest, keep, drop, list, show, recheck, review}
 use Rattle.journey_book.specs.declared.outcome.BookOutcome.{BookOutcome}
@@ -11,7 +11,7 @@ use Rattle.journey_book.specs.declared.outcome.BookOutcome.TheVariants.{Common, 
 -- a region is there, and a hierarchy that is sound for it, if one is named
 abbrev pub AreHeld : Caps → Files → List ℕ → Option (List ℕ) → Type 0
 AreHeld caps files region hierarchy =
-    IsHeld files region (SpellsNetwork caps (λ n. IsSoundIfNamed files n hierarchy (λ h. Unit {0})))
+    IsRegionHeld caps files region (λ n. IsSoundIfNamed files n hierarchy (λ h. Unit {0}))
 
 -- each file that is asked for is there and without fault; a certificate is kept where `verify` could be done
 abbrev pub CanBeDone : Caps → Files → BookRequest → Type 0

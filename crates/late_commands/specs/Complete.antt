@@ -4,8 +4,9 @@ use Rattle.plan_base.specs.declared.limits.Caps.{Caps}
 use Rattle.mode_network.specs.NetworkLists.{NetworkLists}
 use Rattle.latest_departure.specs.ValidLate.{LateClaim, IsValidLate}
 use Rattle.late_certificate.specs.Texts.{IsLateText}
+use Rattle.run_steps.specs.declared.outcome.FileRole.TheVariants as role
 use Rattle.run_steps.specs.declared.limits.Limits.{Limits}
-use Rattle.run_steps.specs.Complete.{Files, AreLinesHeld, IsHeld, SpellsNetwork, Completes}
+use Rattle.run_steps.specs.Complete.{Files, AreLinesHeld, IsHeld, IsRegionHeld, Completes}
 use Rattle.late_commands.specs.Commands.{SaysFew, SaysLatest, SaysProfile, SaysCertifyLatest, SaysVerifyLatest}
 
 -- the bytes spell a late certificate that is valid
@@ -13,19 +14,19 @@ abbrev pub SpellsValidLate : NetworkLists → List ℕ → Type 0
 SpellsValidLate n bytes = (claim : LateClaim) × IsLateText bytes claim × IsValidLate n claim
 
 abbrev pub CanFew : Caps → Files → List ℕ → List ℕ → Type 0
-CanFew caps files region queries = IsHeld files region (SpellsNetwork caps (λ n. AreLinesHeld files queries))
+CanFew caps files region queries = IsRegionHeld caps files region (λ n. AreLinesHeld files queries)
 
 abbrev pub CanLatest : Caps → Files → List ℕ → List ℕ → Type 0
-CanLatest caps files region queries = IsHeld files region (SpellsNetwork caps (λ n. AreLinesHeld files queries))
+CanLatest caps files region queries = IsRegionHeld caps files region (λ n. AreLinesHeld files queries)
 
 abbrev pub CanProfile : Caps → Files → List ℕ → List ℕ → Type 0
-CanProfile caps files region queries = IsHeld files region (SpellsNetwork caps (λ n. AreLinesHeld files queries))
+CanProfile caps files region queries = IsRegionHeld caps files region (λ n. AreLinesHeld files queries)
 
 abbrev pub CanCertifyLatest : Caps → Files → List ℕ → List ℕ → Type 0
-CanCertifyLatest caps files region query = IsHeld files region (SpellsNetwork caps (λ n. Unit {0}))
+CanCertifyLatest caps files region query = IsRegionHeld caps files region (λ n. Unit {0})
 
 abbrev pub CanVerifyLatest : Caps → Files → List ℕ → List ℕ → Type 0
-CanVerifyLatest caps files region certificate = IsHeld files region (SpellsNetwork caps (λ n. IsHeld files certificate (SpellsValidLate n)))
+CanVerifyLatest caps files region certificate = IsRegionHeld caps files region (λ n. IsHeld role.Certificate files certificate (SpellsValidLate n))
 
 -- where that can be done which is asked for, and no count of faults rose, all of it is done, unless memory ran out
 abbrev pub FewCompletes : Type 0

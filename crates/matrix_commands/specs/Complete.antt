@@ -2,12 +2,13 @@
 use Rattle.std.specs.Prelude.{ℕ, List, Option}
 use Rattle.plan_base.specs.declared.limits.Caps.{Caps}
 use Rattle.hierarchy_commands.specs.Complete.{IsSoundIfNamed}
-use Rattle.run_steps.specs.Complete.{Files, AreLinesHeld, IsHeld, SpellsNetwork, Completes}
+use Rattle.run_steps.specs.declared.outcome.FileRole.TheVariants as role
+use Rattle.run_steps.specs.Complete.{Files, AreLinesHeld, IsHeld, IsRegionHeld, Completes}
 use Rattle.matrix_commands.specs.Commands.{SaysMatrix}
 
 abbrev pub CanMatrix : Caps → Files → (region origins destinations : List ℕ) → Option (List ℕ) → Type 0
 CanMatrix caps files region origins destinations hierarchy =
-    IsHeld files region (SpellsNetwork caps (λ n. IsSoundIfNamed files n hierarchy (λ h. IsHeld files destinations (λ bytes. AreLinesHeld files origins))))
+    IsRegionHeld caps files region (λ n. IsSoundIfNamed files n hierarchy (λ h. IsHeld role.Destinations files destinations (λ bytes. AreLinesHeld files origins)))
 
 -- where that can be done which is asked for, and no count of faults rose, all of it is done, unless memory ran out
 abbrev pub MatrixCompletes : Type 0

@@ -2,7 +2,8 @@
 use Rattle.std.specs.Prelude.{◌≡◌, ℕ, List, Some}
 use Rattle.plan_base.specs.declared.limits.Caps.{Caps}
 use Rattle.command_words.specs.Requests.{Request, AsksFor, compile, migrate, contract, answer, certify, verify, check, sample, latest, certify_latest, verify_latest, few, profile, matrix, requests}
-use Rattle.run_steps.specs.Complete.{Files, IsHeld, IsQuiet, SpellsNetwork, IsDoneOrMemory}
+use Rattle.run_steps.specs.declared.outcome.FileRole.TheVariants as role
+use Rattle.run_steps.specs.Complete.{Files, IsHeld, IsRegionHeld, IsQuiet, IsDoneOrMemory}
 use Rattle.run_steps.specs.Sayings.{Saying}
 use Rattle.compile_commands.specs.Complete.{GivesRegion, IsFeedHeld, SpellsObjects}
 use Rattle.hierarchy_commands.specs.Complete.{CanCheck, CanContract}
@@ -13,8 +14,8 @@ use Rattle.matrix_commands.specs.Complete.{CanMatrix}
 
 -- all that is asked for can be done: each file is there and without fault
 abbrev pub CanBeDone : Caps → Files → Request → Type 0
-CanBeDone caps files (compile map feed days format) = IsHeld files map (SpellsObjects caps (λ objects. IsFeedHeld caps files feed (GivesRegion caps objects days)))
-CanBeDone caps files (migrate region format) = IsHeld files region (SpellsNetwork caps (λ n. Unit {0}))
+CanBeDone caps files (compile map feed days format) = IsHeld role.Opl files map (SpellsObjects caps (λ objects. IsFeedHeld caps files feed (GivesRegion caps objects days)))
+CanBeDone caps files (migrate region format) = IsRegionHeld caps files region (λ n. Unit {0})
 CanBeDone caps files (contract region keep) = CanContract caps files region keep
 CanBeDone caps files (answer region queries hierarchy labels places) = CanAnswer caps files region queries hierarchy
 CanBeDone caps files (certify region query hierarchy labels places) = CanCertify caps files region query hierarchy

@@ -4,6 +4,7 @@ use Rattle.hierarchy.specs.Lists.{HierarchyLists}
 use Rattle.hierarchy_file.specs.Causes.{SpellHierarchy}
 use Rattle.mode_network.specs.NetworkLists.{NetworkLists}
 use Rattle.run_steps.specs.declared.limits.Limits.{Limits}
+use Rattle.run_steps.specs.declared.outcome.FileRole.TheVariants as role
 use Rattle.run_steps.specs.Sayings.{WritesText}
 use Rattle.run_steps.specs.Complete.{IsHeld}
 use Rattle.hierarchy_commands.specs.Commands.{IsContraction, OnHierarchyIfNamed}
@@ -53,7 +54,7 @@ what_certify_prints_verify_accepts caps limits files later region query name out
     let rest = λ (n : NetworkLists). OnHierarchyIfNamed n hierarchy (λ h. WritesText (IsCertified n h limits query)) in
     let read = region_done files caps region rest run.old run.new run.told run.said in
     let n = read.network in
-    let P = λ (h : Option HierarchyLists). IsHeld later name (SpellsValid n h) in
+    let P = λ (h : Option HierarchyLists). IsHeld role.Certificate later name (SpellsValid n h) in
     let both = named_done files later n hierarchy (λ h. WritesText (IsCertified n h limits query)) P _ run.new read.tells stays read.says in
     let wrote = both.says in
     let same = same_output run.old.out run.new.out run.before wrote.out out run.stood wrote.appended run.stands in

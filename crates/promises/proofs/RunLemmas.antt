@@ -13,9 +13,9 @@ use Rattle.run_steps.specs.declared.outcome.FileRole.{FileRole}
 use Rattle.run_steps.specs.declared.outcome.FileRole.TheVariants.{Region, Hierarchy}
 use Rattle.run_steps.specs.declared.outcome.Outcome.TheVariants.{Done}
 use Rattle.run_steps.specs.Scene.{Scene, with_shelf}
-use Rattle.run_steps.specs.Sayings.{Saying, OnFile, most_bytes}
+use Rattle.run_steps.specs.Sayings.{Saying, OnFile, most_of}
 use Rattle.run_steps.specs.Regions.{OnNetwork, OnRegion, SpellThis}
-use Rattle.run_steps.specs.Complete.{Files, IsHeld, SpellsNetwork}
+use Rattle.run_steps.specs.Complete.{Files, IsRegionHeld}
 use Rattle.hierarchy_commands.specs.Commands.{OnSound, OnHierarchyIfNamed}
 use Rattle.hierarchy_commands.specs.Complete.{IsSoundIfNamed}
 use Rattle.promises.specs.Runs.{StaysIfNamed}
@@ -32,16 +32,16 @@ same_output old new before one other stood appended stands =
 
 module _ (files : Files) where
   -- a file was read, and the rest was done
-  pub record DidRead (name : List ℕ) (rest : List ℕ → Saying) (old new : Scene ⊤) : Type 0 where
+  pub record DidRead (role : FileRole) (name : List ℕ) (rest : List ℕ → Saying) (old new : Scene ⊤) : Type 0 where
     pub bytes : List ℕ
     pub held : files name ≡ Some bytes
-    pub within : length bytes ≤ most_bytes
+    pub within : length bytes ≤ most_of role
     pub mid : ShelfMeaning
     pub tells : mid.files ≡ Some files
     pub says : rest bytes (with_shelf old mid) new Done
 
   pub file_done : (file : FileRole) (name : List ℕ) (rest : List ℕ → Saying) (old new : Scene ⊤) → old.shelf.files ≡ Some files
-      → OnFile file name rest old new Done → DidRead name rest old new
+      → OnFile file name rest old new Done → DidRead file name rest old new
   file_done file name rest old new tells (inl (unread, same)) = absurd unread
   file_done file name rest old new tells (inr on) = record {
     bytes = on.bytes;
@@ -56,7 +56,7 @@ module _ (files : Files) where
   pub record DidReadRegion (caps : Caps) (name : List ℕ) (rest : NetworkLists → Saying) (old new : Scene ⊤) : Type 0 where
     pub bytes : List ℕ
     pub held : files name ≡ Some bytes
-    pub within : length bytes ≤ most_bytes
+    pub within : length bytes ≤ most_of Region
     pub network : NetworkLists
     pub spells : SpellThis caps bytes network
     pub rules : IsNetwork network
@@ -68,7 +68,7 @@ module _ (files : Files) where
       → OnRegion caps name rest old new Done → DidReadRegion caps name rest old new
   region_done caps name rest old new tells said = spelled read.says
     where
-      read : DidRead name (OnNetwork caps rest) old new
+      read : DidRead Region name (OnNetwork caps rest) old new
       read = file_done Region name (OnNetwork caps rest) old new tells said
 
       spelled : OnNetwork caps rest read.bytes (with_shelf old read.mid) new Done → DidReadRegion caps name rest old new
@@ -87,7 +87,7 @@ module _ (files : Files) where
 
   -- the region is there later too, and spells a network that has P
   pub region_again : (later : Files) (caps : Caps) (name : List ℕ) (rest : NetworkLists → Saying) (old new : Scene ⊤) (read : DidReadRegion caps name rest old new)
-      → later name ≡ files name → (P : NetworkLists → Type 0) → P read.network → IsHeld later name (SpellsNetwork caps P)
+      → later name ≡ files name → (P : NetworkLists → Type 0) → P read.network → IsRegionHeld caps later name P
   region_again later caps name rest old new read stays P p =
       record { bytes = read.bytes; held = stays ∙ read.held; within = read.within; fine = (read.network, read.spells.decoded, p) }
 
@@ -103,7 +103,7 @@ module _ (files : Files) where
   named_done later n None rest P old new tells stays says = record { hierarchy = None; mid = old.shelf; says = says; again = λ p. p }
   named_done later n (Some name) rest P old new tells stays said = spelled read.says
     where
-      read : DidRead name (OnSound n (λ h. rest (Some h))) old new
+      read : DidRead Hierarchy name (OnSound n (λ h. rest (Some h))) old new
       read = file_done Hierarchy name (OnSound n (λ h. rest (Some h))) old new tells said
 
       spelled : OnSound n (λ h. rest (Some h)) read.bytes (with_shelf old read.mid) new Done → DidReadSound later n (Some name) rest P old new

@@ -3,6 +3,7 @@ use Rattle.std.specs.Prelude.{◌≡◌, ℕ, ◌⊎◌, List, Option}
 use Rattle.plan_base.specs.declared.limits.Caps.{Caps}
 use Rattle.journey.specs.Texts.{block_text}
 use Rattle.run_steps.specs.declared.limits.Limits.{Limits}
+use Rattle.run_steps.specs.declared.outcome.FileRole.TheVariants as role
 use Rattle.run_steps.specs.Complete.{Files}
 use Rattle.hierarchy_commands.specs.Commands.{SaysCheck, SaysContract}
 use Rattle.answer_commands.specs.Commands.{SaysCertify, SaysVerify}
@@ -12,7 +13,7 @@ use Rattle.promises.specs.Runs.{Wrote, Succeeds, IsStored, StaysIfNamed}
 -- what `contract` wrote of a region, kept in a file, `check` calls sound for this region
 abbrev pub WhatContractWritesCheckAccepts : Type 0
 WhatContractWritesCheckAccepts = (caps : Caps) (files later : Files) (region name out : List ℕ) (keep : ℕ)
-    → Wrote (SaysContract caps region keep) files out → IsStored files later region name out
+    → Wrote (SaysContract caps region keep) files out → IsStored role.Hierarchy files later region name out
     → Succeeds (SaysCheck caps region name) later
 
 -- a block of this line, with some body
@@ -25,12 +26,12 @@ abbrev pub WhatCertifyPrintsVerifyAccepts : Type 0
 WhatCertifyPrintsVerifyAccepts = (caps : Caps) (limits : Limits) (files later : Files)
     → (region query name out : List ℕ)
     → (hierarchy : Option (List ℕ)) → Wrote (SaysCertify caps limits region query hierarchy) files out
-    → IsStored files later region name out → StaysIfNamed files later hierarchy
+    → IsStored role.Certificate files later region name out → StaysIfNamed files later hierarchy
     → IsBlockOf query out ⊎ Succeeds (SaysVerify caps region name hierarchy) later
 
 -- and so it is of the latest departure
 abbrev pub WhatCertifyLatestPrintsVerifyLatestAccepts : Type 0
 WhatCertifyLatestPrintsVerifyLatestAccepts = (caps : Caps) (limits : Limits) (files later : Files)
     → (region query name out : List ℕ) → Wrote (SaysCertifyLatest caps limits region query) files out
-    → IsStored files later region name out
+    → IsStored role.Certificate files later region name out
     → IsBlockOf query out ⊎ Succeeds (SaysVerifyLatest caps region name) later

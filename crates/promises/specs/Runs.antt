@@ -1,9 +1,10 @@
 -- Runs of the planner whose shelf and whose output tell what they hold.
 use Rattle.std.specs.Prelude.{◌≡◌, ℕ, ◌≤◌, ⊤, List, ◌++◌, length, Option, Some, IfSome}
+use Rattle.run_steps.specs.declared.outcome.FileRole.{FileRole}
 use Rattle.run_steps.specs.declared.outcome.Outcome.{Outcome}
 use Rattle.run_steps.specs.declared.outcome.Outcome.TheVariants.{Done}
 use Rattle.run_steps.specs.Scene.{Scene}
-use Rattle.run_steps.specs.Sayings.{Saying, most_bytes}
+use Rattle.run_steps.specs.Sayings.{Saying, most_of}
 use Rattle.run_steps.specs.Complete.{Files, IsQuiet, IsDoneOrMemory}
 
 -- a run of which this is said had these files, did all of its work, and wrote this
@@ -23,11 +24,11 @@ Succeeds S files = (old new : Scene ⊤) (outcome : Outcome)
     → old.shelf.files ≡ Some files → IsQuiet old new → S old new outcome → IsDoneOrMemory outcome
 
 -- Later the region stands as it did, and this name holds what was written, which is no longer than a file
--- that is read whole may be.
-pub record IsStored (files later : Files) (region name out : List ℕ) : Type 0 where
+-- with this role may be.
+pub record IsStored (role : FileRole) (files later : Files) (region name out : List ℕ) : Type 0 where
   pub region_stays : later region ≡ files region
   pub held : later name ≡ Some out
-  pub within : length out ≤ most_bytes
+  pub within : length out ≤ most_of role
 
 -- the file stands as it did, where one is named
 abbrev pub StaysIfNamed : Files → Files → Option (List ℕ) → Type 0

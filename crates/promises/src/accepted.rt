@@ -4,7 +4,7 @@ ghost use Rattle.promises.specs.Accepted.{WhatCertifyLatestPrintsVerifyLatestAcc
 ghost use Rattle.promises.specs.Accepted.{WhatCertifyPrintsVerifyAccepts, WhatContractWritesCheckAccepts};
 
 /// What `contract` wrote of a region `check` calls sound for it: over the same region, and with the
-/// hierarchy in a file of at most 2^30 bytes, it ends Done where no count of faults rises, unless memory
+/// hierarchy in a file of at most 2^34 bytes, it ends Done where no count of faults rises, unless memory
 /// runs out.
 pub fn what_contract_writes_check_accepts()
     ensures { WhatContractWritesCheckAccepts }

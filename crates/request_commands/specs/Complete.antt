@@ -3,11 +3,11 @@ use Rattle.std.specs.Prelude.{ℕ, List, Option}
 use Rattle.plan_base.specs.declared.limits.Caps.{Caps}
 use Rattle.hierarchy_commands.specs.Complete.{IsSoundIfNamed}
 use Rattle.run_steps.specs.declared.limits.Limits.{Limits}
-use Rattle.run_steps.specs.Complete.{Files, AreLinesHeld, IsHeld, SpellsNetwork, Completes}
+use Rattle.run_steps.specs.Complete.{Files, AreLinesHeld, IsRegionHeld, Completes}
 use Rattle.request_commands.specs.Commands.{SaysRequests}
 
 abbrev pub CanRequests : Caps → Files → List ℕ → List ℕ → Option (List ℕ) → Type 0
-CanRequests caps files region file hierarchy = IsHeld files region (SpellsNetwork caps (λ n. IsSoundIfNamed files n hierarchy (λ h. AreLinesHeld files file)))
+CanRequests caps files region file hierarchy = IsRegionHeld caps files region (λ n. IsSoundIfNamed files n hierarchy (λ h. AreLinesHeld files file))
 
 -- where that can be done which is asked for, and no count of faults rose, all of it is done, unless memory ran out
 abbrev pub RequestsCompletes : Type 0

@@ -1,5 +1,6 @@
 -- A certificate's file that is there, of a certificate that is valid, is verified.
 use Rattle.std.proofs.Common.{ℕ, inl, inr, List}
+use Rattle.run_steps.specs.declared.outcome.FileRole.TheVariants.{Certificate}
 use Rattle.run_steps.specs.Complete.{Files, IsHeld, Completes}
 use Rattle.run_steps.proofs.CompleteSteps.{file_completes, writes_completes}
 use Rattle.run_steps.specs.Certificates.{CertificateKind, OnCertificate, SaysVerified, TellsValid}
@@ -14,5 +15,5 @@ module _ (files : Files) (kind : CertificateKind) (IsValid : List ℕ → Type 0
   valid_completes bytes valid old new outcome tells quiet (inr (inr wrote)) = writes_completes files _ _ tt old new outcome tells quiet wrote
 
   -- it can be verified, and is, unless memory runs out
-  pub verified_completes : (name : List ℕ) → Completes files (IsHeld files name IsValid) (SaysVerified kind name)
+  pub verified_completes : (name : List ℕ) → Completes files (IsHeld Certificate files name IsValid) (SaysVerified kind name)
   verified_completes name = file_completes files _ name _ _ valid_completes

@@ -13,7 +13,7 @@ use Rattle.run_steps.specs.declared.outcome.FileRole.{FileRole}
 use Rattle.run_steps.specs.declared.outcome.Outcome.{Outcome}
 use Rattle.run_steps.specs.declared.outcome.Outcome.TheVariants.{Done, Usage, Missing, ReadFault, TooLong, WriteFault, BadRegion, BadFeed, Invalid, BadCertificate, BadHierarchy, Unsound, OutOfMemory}
 use Rattle.run_steps.specs.Scene.{Scene, with_shelf}
-use Rattle.run_steps.specs.Sayings.{Saying, IsUnread, OnFile, Writes, most_bytes}
+use Rattle.run_steps.specs.Sayings.{Saying, IsUnread, OnFile, Writes, most_of}
 use Rattle.run_steps.specs.Regions.{OnNetwork}
 use Rattle.run_steps.specs.Complete.{Files, IsHeld, IsQuiet, SpellsNetwork, IsDoneOrMemory, Completes}
 use Rattle.run_steps.proofs.Steps.{rose_over}
@@ -36,14 +36,14 @@ no_region caps bytes n no.OutOfMemory is none = none
 
 module _ (files : Files) where
   -- a file that is held is read
-  pub unread : (old new : ShelfMeaning) (file : FileRole) (name : List ℕ) (P : List ℕ → Type 0) (held : IsHeld files name P) → old.files ≡ Some files
+  pub unread : (old new : ShelfMeaning) (file : FileRole) (name : List ℕ) (P : List ℕ → Type 0) (held : IsHeld file files name P) → old.files ≡ Some files
       → (Rose old.faults new.faults → ⊥) → (outcome : Outcome) → IsUnread old new name file outcome → IsDoneOrMemory outcome
   unread old new file name P held tells quiet (Missing other) (e, (rose, told)) =
       let none = told_held old files name held.bytes tells held.held (λ h. h ≡ None) told in
       absurd (cc)
   unread old new file name P held tells quiet (ReadFault other) (e, rose) = absurd (quiet rose)
   unread old new file name P held tells quiet (TooLong other) (e, told) =
-      let long = told_held old files name held.bytes tells held.held (λ h. IsSomeAnd h (λ bytes. most_bytes < length bytes)) told in
+      let long = told_held old files name held.bytes tells held.held (λ h. IsSomeAnd h (λ bytes. most_of file < length bytes)) told in
       let within = held.within in
       absurd (omega arith)
   unread old new file name P held tells quiet OutOfMemory none = none
@@ -58,7 +58,7 @@ module _ (files : Files) where
   unread old new file name P held tells quiet (Unsound clause at by) none = none
 
   pub file_completes : (file : FileRole) (name : List ℕ) (P : List ℕ → Type 0) (rest : List ℕ → Saying) → ((bytes : List ℕ) → Completes files (P bytes) (rest bytes))
-      → Completes files (IsHeld files name P) (OnFile file name rest)
+      → Completes files (IsHeld file files name P) (OnFile file name rest)
   file_completes file name P rest more held old new outcome tells quiet (inl (not, same)) = unread old.shelf new.shelf file name P held tells quiet.shelf outcome not
   file_completes file name P rest more held old new outcome tells quiet (inr on) =
       let file_is = told_held old.shelf files name held.bytes tells held.held (λ h. h ≡ Some on.bytes) on.file.file in

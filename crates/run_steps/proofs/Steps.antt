@@ -12,8 +12,9 @@ use Rattle.region_file.specs.Regions.{IsRefusedRegion}
 use Rattle.run_steps.specs.declared.outcome.Outcome.{Outcome}
 use Rattle.run_steps.specs.declared.outcome.Outcome.TheVariants.{Done, Usage, Missing, ReadFault, TooLong, WriteFault, BadRegion, BadFeed, Invalid, BadCertificate, BadHierarchy, Unsound, OutOfMemory}
 use Rattle.run_steps.specs.declared.outcome.FileRole.{FileRole}
+use Rattle.run_steps.specs.declared.outcome.FileRole.TheVariants.{Region}
 use Rattle.run_steps.specs.Scene.{scene}
-use Rattle.run_steps.specs.Sayings.{Saying, IsUnread, IsUnreadable, WritesText, end_of, most_bytes}
+use Rattle.run_steps.specs.Sayings.{Saying, IsUnread, IsUnreadable, WritesText, end_of, most_of}
 use Rattle.run_steps.specs.Regions.{OnRegion}
 use Rattle.run_steps.specs.Working.{HasRegion, IsRegionOutcome, IsTextOutcome, region_outcome}
 
@@ -30,7 +31,7 @@ told_before old mid later name P told = subst (λ (files : Option (List ℕ → 
 pub unreadable_before : (old mid new : ShelfMeaning) → IsLater old mid → (name : List ℕ) (file : FileRole) (outcome : Outcome)
     → IsUnreadable mid new name file outcome → IsUnreadable old new name file outcome
 unreadable_before old mid new later name file (ReadFault other) (e, rose) = (e, rose_over old.faults mid.faults new.faults later.faults rose)
-unreadable_before old mid new later name file (TooLong other) (e, told) = (e, told_before old mid later name (λ held. IsSomeAnd held (λ bytes. most_bytes < length bytes)) told)
+unreadable_before old mid new later name file (TooLong other) (e, told) = (e, told_before old mid later name (λ held. IsSomeAnd held (λ bytes. most_of file < length bytes)) told)
 unreadable_before old mid new later name file OutOfMemory none = none
 unreadable_before old mid new later name file Done none = none
 unreadable_before old mid new later name file Usage none = none
@@ -100,7 +101,7 @@ pub not_earlier : (shelf : ShelfMeaning) → IsLater shelf shelf
 not_earlier shelf = record { files = refl; misses = search rules; faults = search rules }
 
 -- a region that was refused
-pub region_refused : (caps : Caps) (old new : ShelfMeaning) (name bytes : List ℕ) → HasRead old name most_bytes bytes → (fault : RegionFault) → IsRefusedRegion caps bytes fault
+pub region_refused : (caps : Caps) (old new : ShelfMeaning) (name bytes : List ℕ) → HasRead old name (most_of Region) bytes → (fault : RegionFault) → IsRefusedRegion caps bytes fault
     → IsRegionOutcome caps old new name (region_outcome fault)
 region_refused caps old new name bytes file no.BadHead why = record { bytes = bytes; file = file; why = why }
 region_refused caps old new name bytes file (no.BadRecord at) why = record { bytes = bytes; file = file; why = why }

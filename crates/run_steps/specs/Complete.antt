@@ -5,21 +5,23 @@ use Rattle.plan_base.specs.Counts.{Rose}
 use Rattle.plan_base.specs.declared.limits.Caps.{Caps}
 use Rattle.mode_network.specs.NetworkLists.{NetworkLists}
 use Rattle.region_file.specs.Regions.{IsDecoded}
+use Rattle.run_steps.specs.declared.outcome.FileRole.{FileRole}
+use Rattle.run_steps.specs.declared.outcome.FileRole.TheVariants.{Region}
 use Rattle.run_steps.specs.declared.outcome.Outcome.{Outcome}
 use Rattle.run_steps.specs.declared.outcome.Outcome.TheVariants.{Done, OutOfMemory}
 use Rattle.run_steps.specs.Scene.{Scene}
-use Rattle.run_steps.specs.Sayings.{Saying, most_bytes}
+use Rattle.run_steps.specs.Sayings.{Saying, most_of}
 use Rattle.run_steps.specs.InTurn.{IsShort, most_file_places}
 
 -- what a shelf that tells holds under each name
 abbrev pub Files : Type 0
 Files = List ℕ → Option (List ℕ)
 
--- a file of this name is there; it has not too many bytes, and they have P
-pub record IsHeld (files : Files) (name : List ℕ) (P : List ℕ → Type 0) : Type 0 where
+-- a file of this name is there; it has not too many bytes for its role, and they have P
+pub record IsHeld (role : FileRole) (files : Files) (name : List ℕ) (P : List ℕ → Type 0) : Type 0 where
   pub bytes : List ℕ
   pub held : files name ≡ Some bytes
-  pub within : length bytes ≤ most_bytes
+  pub within : length bytes ≤ most_of role
   pub fine : P bytes
 
 -- a file of this name is there, and no line of it has too many bytes; whole it may have as many as have a place
@@ -32,6 +34,10 @@ pub record AreLinesHeld (files : Files) (name : List ℕ) : Type 0 where
 -- the bytes spell a network within the limits that has P
 abbrev pub SpellsNetwork : Caps → (NetworkLists → Type 0) → List ℕ → Type 0
 SpellsNetwork caps P bytes = (n : NetworkLists) × IsDecoded caps bytes n × P n
+
+-- a region of this name is there, which spells a network within the limits that has P
+abbrev pub IsRegionHeld : Caps → Files → List ℕ → (NetworkLists → Type 0) → Type 0
+IsRegionHeld caps files region P = IsHeld Region files region (SpellsNetwork caps P)
 
 abbrev pub IsDoneOrMemory : Outcome → Type 0
 IsDoneOrMemory Done = Unit {0}

@@ -5,6 +5,7 @@ use Rattle.plan_base.specs.Shelves.{ShelfMeaning, IsLater, Told, HasRead}
 use Rattle.plan_base.specs.Sinks.{SinkMeaning, Appended, Stays}
 use Rattle.run_steps.specs.Scene.{Scene, SayingOf, with_shelf}
 use Rattle.run_steps.specs.declared.outcome.FileRole.{FileRole}
+use Rattle.run_steps.specs.declared.outcome.FileRole.TheVariants.{Region, Hierarchy}
 use Rattle.run_steps.specs.declared.outcome.Outcome.{Outcome}
 use Rattle.run_steps.specs.declared.outcome.Outcome.TheVariants.{Done, Missing, ReadFault, TooLong, WriteFault, OutOfMemory}
 
@@ -19,14 +20,20 @@ end_of (Err outcome) = outcome
 
 -- ---- reading
 
--- a file has at most so many bytes
+-- a line of a file has at most so many bytes
 abbrev pub most_bytes : ℕ
 most_bytes = 2 ^ 30
+
+-- a file that is read whole has at most so many bytes: regions and hierarchies more than others
+abbrev pub most_of : FileRole → ℕ
+most_of Region = 2 ^ 34
+most_of Hierarchy = 2 ^ 34
+most_of _ = most_bytes
 
 -- why the file of this name, which has this role, was not read whole though it may be there
 abbrev pub IsUnreadable : ShelfMeaning → ShelfMeaning → List ℕ → FileRole → Outcome → Type 0
 IsUnreadable old new name file (ReadFault other) = (other ≡ file) × Rose old.faults new.faults
-IsUnreadable old new name file (TooLong other) = (other ≡ file) × Told old name (λ held. IsSomeAnd held (λ bytes. most_bytes < length bytes))
+IsUnreadable old new name file (TooLong other) = (other ≡ file) × Told old name (λ held. IsSomeAnd held (λ bytes. most_of file < length bytes))
 IsUnreadable old new name file OutOfMemory = Unit {0}
 IsUnreadable old new name file _ = ⊥
 
@@ -44,9 +51,9 @@ abbrev pub Ends : Outcome → Saying
 Ends end old new outcome = (outcome ≡ end) × Stays old.out new.out
 
 -- the file was read whole, and the rest of the run says this of its bytes
-pub record HasGoneOn (name : List ℕ) (rest : List ℕ → Saying) (old new : Scene ⊤) (outcome : Outcome) : Type 0 where
+pub record HasGoneOn (role : FileRole) (name : List ℕ) (rest : List ℕ → Saying) (old new : Scene ⊤) (outcome : Outcome) : Type 0 where
   pub bytes : List ℕ
-  pub file : HasRead old.shelf name most_bytes bytes
+  pub file : HasRead old.shelf name (most_of role) bytes
   pub mid : ShelfMeaning
   pub later : IsLater old.shelf mid
   pub says : rest bytes (with_shelf old mid) new outcome
@@ -54,7 +61,7 @@ pub record HasGoneOn (name : List ℕ) (rest : List ℕ → Saying) (old new : S
 -- a file is read: it was not read whole, or the rest says this of its bytes
 abbrev pub OnFile : FileRole → List ℕ → (List ℕ → Saying) → Saying
 OnFile file name rest old new outcome =
-    (IsUnread old.shelf new.shelf name file outcome × Stays old.out new.out) ⊎ HasGoneOn name rest old new outcome
+    (IsUnread old.shelf new.shelf name file outcome × Stays old.out new.out) ⊎ HasGoneOn file name rest old new outcome
 
 -- ---- writing
 

@@ -16,7 +16,7 @@ use Rattle.run_steps.specs.declared.outcome.FileRole.TheVariants.{Region}
 use Rattle.run_steps.specs.declared.outcome.Outcome.{Outcome}
 use Rattle.run_steps.specs.declared.outcome.Outcome.TheVariants.{Missing, ReadFault, TooLong, WriteFault, BadRegion, OutOfMemory}
 use Rattle.run_steps.specs.Regions.{SpellThis}
-use Rattle.run_steps.specs.Sayings.{most_bytes, IsAbsent, IsUnread}
+use Rattle.run_steps.specs.Sayings.{most_of, IsAbsent, IsUnread}
 
 -- how a run ends where a file can't be read
 abbrev pub outcome_of : FileRole → ReadCause → Outcome
@@ -26,21 +26,21 @@ outcome_of file (cause.TooLong cap) = TooLong file
 outcome_of file cause.OutOfMemory = OutOfMemory
 
 -- a file that may be absent was read, or is absent
-abbrev pub IsFound : ShelfMeaning → ShelfMeaning → List ℕ → Option (List ℕ) → Type 0
-IsFound old new name (Some bytes) = HasRead old name most_bytes bytes
-IsFound old new name None = IsAbsent old new name
+abbrev pub IsFound : ShelfMeaning → ShelfMeaning → List ℕ → FileRole → Option (List ℕ) → Type 0
+IsFound old new name file (Some bytes) = HasRead old name (most_of file) bytes
+IsFound old new name file None = IsAbsent old new name
 
 -- the region file was read, and spells this network within the limits, which keeps the rules of networks
 pub record HasRegion (caps : Caps) (shelf : ShelfMeaning) (name : List ℕ) (n : NetworkLists) : Type 0 where
   pub bytes : List ℕ
-  pub file : HasRead shelf name most_bytes bytes
+  pub file : HasRead shelf name (most_of Region) bytes
   pub spells : SpellThis caps bytes n
   pub rules : IsNetwork n
 
 -- the region file was read, and spells none, for this reason
 pub record HasBadRegion (caps : Caps) (shelf : ShelfMeaning) (name : List ℕ) (fault : RegionFault) : Type 0 where
   pub bytes : List ℕ
-  pub file : HasRead shelf name most_bytes bytes
+  pub file : HasRead shelf name (most_of Region) bytes
   pub why : IsNoRegion caps bytes fault
 
 -- how a run ends where a region is refused

@@ -2,7 +2,7 @@
 
 ghost use Rattle.std.specs.Prelude.{◌≡◌, IfOk, IfErr, option_map};
 ghost use Rattle.plan_base.specs.Shelves.{IsLater, HasRead};
-ghost use Rattle.run_steps.specs.Sayings.{IsUnread, IsUnreadable, most_bytes};
+ghost use Rattle.run_steps.specs.Sayings.{IsUnread, IsUnreadable, most_of};
 ghost use Rattle.run_steps.specs.Working.{HasRegion, IsFound, IsRegionOutcome, outcome_of, region_outcome};
 
 use crate::notes::tell;
@@ -13,8 +13,21 @@ use plan_base::{Caps, ReadFault, Shelf, Sink, read_whole};
 use region_file::{RegionFault, decode};
 use std::alloc::{AllocError, Global};
 
-/// The most bytes that a file may have, and a line of one that is answered in turn.
+/// The most bytes that a line of a file may have, and a file that is read whole but for a region and a hierarchy.
 pub const MOST_BYTES: u64 = 1 << 30;
+
+/// The most bytes that a region may have, and a hierarchy: that of the largest metropolis with few nodes kept passes 2^30.
+const MOST_OF_NETWORKS: u64 = 1 << 34;
+
+/// The most bytes that a file with this role may have where it is read whole.
+pub fn most_of(file: FileRole) -> u64
+    ensures { result ≡ most_of file }
+{
+    match file {
+        FileRole::Region | FileRole::Hierarchy => MOST_OF_NETWORKS,
+        _ => MOST_BYTES,
+    }
+}
 
 /// A file, whole. If it can't be had, `notes` is told why.
 pub fn read_file<F: Shelf, E: Sink>(
@@ -25,10 +38,10 @@ pub fn read_file<F: Shelf, E: Sink>(
     notes: &mut E,
 ) -> Result<Vec<u8>, Outcome>
     ensures later { IsLater (F.meaning shelf.old) (F.meaning shelf.new) }
-    ensures ok { IfOk result (λ bytes. HasRead (F.meaning shelf.old) name.now most_bytes bytes.items) }
+    ensures ok { IfOk result (λ bytes. HasRead (F.meaning shelf.old) name.now (most_of file) bytes.items) }
     ensures err { IfErr result (IsUnread (F.meaning shelf.old) (F.meaning shelf.new) name.now file) }
 {
-    match read_whole(alloc, shelf, name, MOST_BYTES) {
+    match read_whole(alloc, shelf, name, most_of(file)) {
         Ok(bytes) => Ok(bytes),
         Err(ReadFault::OutOfMemory) => Err(Outcome::OutOfMemory),
         Err(fault) => Err(refused(alloc, name, file, fault, notes)),
@@ -44,11 +57,11 @@ pub fn read_file_if_there<F: Shelf, E: Sink>(
     notes: &mut E,
 ) -> Result<Option<Vec<u8>>, Outcome>
     ensures later { IsLater (F.meaning shelf.old) (F.meaning shelf.new) }
-    ensures ok { IfOk result (λ found. IsFound (F.meaning shelf.old) (F.meaning shelf.new) name.now
+    ensures ok { IfOk result (λ found. IsFound (F.meaning shelf.old) (F.meaning shelf.new) name.now file
         (option_map (λ bytes. bytes.items) found)) }
     ensures err { IfErr result (IsUnreadable (F.meaning shelf.old) (F.meaning shelf.new) name.now file) }
 {
-    match read_whole(alloc, shelf, name, MOST_BYTES) {
+    match read_whole(alloc, shelf, name, most_of(file)) {
         Ok(bytes) => Ok(Some(bytes)),
         Err(ReadFault::Missing) => Ok(None),
         Err(ReadFault::OutOfMemory) => Err(Outcome::OutOfMemory),

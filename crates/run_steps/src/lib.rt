@@ -19,7 +19,7 @@ mod texts;
 
 pub use blocks::LineBlocks;
 pub use certificates::{Certificates, write_verified};
-pub use files::{MOST_BYTES, read_file, read_file_if_there, read_region, refused};
+pub use files::{MOST_BYTES, most_of, read_file, read_file_if_there, read_region, refused};
 pub use in_turn::{answer_file, write_in_turn};
 pub use limits::Limits;
 pub use lines::{as_query, without_return};

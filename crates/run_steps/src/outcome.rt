@@ -63,7 +63,8 @@ pub enum Outcome {
     Missing { file: FileRole },
     /// The file could not be read.
     ReadFault { file: FileRole },
-    /// The file has more than 2^30 bytes; or, where it is answered in turn, a line of it has.
+    /// A region or a hierarchy has more than 2^34 bytes, or another file more than 2^30; or, where it is answered in turn, a
+    /// line of it has.
     TooLong { file: FileRole },
     /// Standard output could not be written.
     WriteFault,
