@@ -25,13 +25,13 @@ use Rattle.answer_commands.specs.Working.{HasBoth, IsBothOutcome}
 use Rattle.answer_commands.proofs.BothLemmas.{both_fail, on_both}
 use Rattle.answer_commands.proofs.CompleteLemmas.{verify_completes}
 use Rattle.journey_book.specs.Books.{Book, dropped, kept}
-use Rattle.journey_book.specs.Commands.{says}
-use Rattle.journey_book.specs.Complete.{AreHeld, CanBeDone, IsDoneOrAbsent}
+use Rattle.journey_book.specs.Commands.{book_says}
+use Rattle.journey_book.specs.Complete.{AreHeld, CanBeDoneByBook, IsDoneOrAbsent}
 use Rattle.journey_book.specs.Keepers.{Tells}
 use Rattle.journey_book.specs.Reports.{IsListing, IsReported, recheck_rule}
 use Rattle.journey_book.specs.Reviews.{review_rule}
 use Rattle.journey_book.specs.Requests.{BookRequest, keep, drop, list, show, recheck, review}
-use Rattle.journey_book.specs.Sayings.{BookScene, book_scene, Changes, EndsBy, IsCertificateOutcome, OnBoth, ThenDone, Writes}
+use Rattle.journey_book.specs.Sayings.{BookScene, book_scene, Changes, EndsBy, IsCertificateOutcome, OnBoth, ThenDone, BookWrites}
 use Rattle.journey_book.specs.declared.outcome.BookOutcome.{BookOutcome}
 use Rattle.journey_book.specs.declared.outcome.BookOutcome.TheVariants.{Common, KeepFault, Absent, NotWell}
 
@@ -48,7 +48,7 @@ changes_complete P change old new KeepFault quiet (rose, same) = absurd (quiet r
 changes_complete P change old new outcome quiet none = absurd none
 
 writes_complete : (IsText : List ℕ → BookOutcome → Type 0) (old new : BookScene) (outcome : BookOutcome) → (Rose old.keeper.faults new.keeper.faults → ⊥) → (Rose old.out.faults new.out.faults → ⊥)
-    → Writes IsText old new outcome → IsDoneOrAbsent outcome
+    → BookWrites IsText old new outcome → IsDoneOrAbsent outcome
 writes_complete IsText old new (Common Done) quiet calm is = tt
 writes_complete IsText old new NotWell quiet calm is = tt
 writes_complete IsText old new (Common OutOfMemory) quiet calm is = tt
@@ -79,7 +79,7 @@ module _ (caps : Caps) (files : Files) (old new : BookScene) (tells : old.shelf.
       (both_fail caps old.shelf new.shelf new.shelf old.out new.out region named (λ n h. WritesText (λ text. Unit {0})) common why same)
 
   report_completes : (region : List ℕ) (named : Option (List ℕ)) (IsText : NetworkLists → Option HierarchyLists → List ℕ → BookOutcome → Type 0) → AreHeld caps files region named
-      → (outcome : BookOutcome) → OnBoth caps region named (λ n h. Writes (IsText n h)) old new outcome → IsDoneOrAbsent outcome
+      → (outcome : BookOutcome) → OnBoth caps region named (λ n h. BookWrites (IsText n h)) old new outcome → IsDoneOrAbsent outcome
   report_completes region named IsText held outcome (inl ends) = by_completes (IsBothOutcome caps old.shelf new.shelf region named) old new outcome (both_complete region named held) ends
   report_completes region named IsText held outcome (inr (n, h, mid, both, wrote)) = writes_complete (IsText n h) (book_scene mid old.keeper old.out) new outcome quiet.keeper quiet.out wrote
 
@@ -103,14 +103,14 @@ module _ (caps : Caps) (files : Files) (old new : BookScene) (tells : old.shelf.
         unverified n h mid common same (inr has) =
             certificate_fails (best_certificates n h) mid new.shelf old.out new.out certificate has.bytes has.file has.later common has.fails same
 
-    keep_completes : (name : List ℕ) (outcome : BookOutcome) → says caps (keep name region certificate named) old new outcome → IsDoneOrAbsent outcome
+    keep_completes : (name : List ℕ) (outcome : BookOutcome) → book_says caps (keep name region certificate named) old new outcome → IsDoneOrAbsent outcome
     keep_completes name outcome (inl ends) = by_completes (IsBothOutcome caps old.shelf new.shelf region named) old new outcome region_completes ends
     keep_completes name outcome (inr (n, h, mid, both, inl ends)) =
         by_completes (IsCertificateOutcome n h mid new.shelf certificate) (book_scene mid old.keeper old.out) new outcome (certificate_completes n h mid both) ends
     keep_completes name outcome (inr (n, h, mid, both, inr (bytes, then, has, changed))) = changes_complete (λ book. Unit {0}) (kept name bytes) (book_scene then old.keeper old.out) new outcome quiet.keeper changed
 
   -- what can be done is done
-  pub completes : (r : BookRequest) → CanBeDone caps files r → (outcome : BookOutcome) → says caps r old new outcome → IsDoneOrAbsent outcome
+  pub completes : (r : BookRequest) → CanBeDoneByBook caps files r → (outcome : BookOutcome) → book_says caps r old new outcome → IsDoneOrAbsent outcome
   completes (keep name region certificate hierarchy) can outcome said = keep_completes region certificate hierarchy can name outcome said
   completes (recheck region hierarchy fail) can outcome said = report_completes region hierarchy (λ n h. IsReported (recheck_rule n h) fail old.keeper) can outcome said
   completes (review region hierarchy fail) can outcome said = report_completes region hierarchy (λ n h. IsReported (review_rule n) fail old.keeper) can outcome said

@@ -13,13 +13,13 @@ use Rattle.run_steps.proofs.Steps.{later_twice, not_earlier, told_before}
 use Rattle.answer_commands.specs.Working.{HasBoth, IsBothOutcome}
 use Rattle.journey_book.specs.Books.{Book, dropped, kept}
 use Rattle.journey_book.specs.Keepers.{KeeperMeaning, Becomes, BookStays, Tells}
-use Rattle.journey_book.specs.Commands.{says}
-use Rattle.journey_book.specs.Outcomes.{IsOutcome}
+use Rattle.journey_book.specs.Commands.{book_says}
+use Rattle.journey_book.specs.Outcomes.{IsBookOutcome}
 use Rattle.journey_book.specs.Reports.{IsListing, IsReported, recheck_rule}
 use Rattle.journey_book.specs.Reviews.{review_rule}
-use Rattle.journey_book.specs.Requests.{AsksFor, BookRequest, keep, drop, list, show, recheck, review}
+use Rattle.journey_book.specs.Requests.{AsksOfBook, BookRequest, keep, drop, list, show, recheck, review}
 use Rattle.journey_book.specs.Runs.{Change, Does, Run, RunsFold, book_after, changed, keeps, drops, nothing}
-use Rattle.journey_book.specs.Sayings.{BookScene, book_scene, Changes, EndsBy, IsCertificateOutcome, OnBoth, ThenDone, Writes}
+use Rattle.journey_book.specs.Sayings.{BookScene, book_scene, Changes, EndsBy, IsCertificateOutcome, OnBoth, ThenDone, BookWrites}
 use Rattle.journey_book.specs.declared.outcome.BookOutcome.{BookOutcome}
 use Rattle.journey_book.specs.declared.outcome.BookOutcome.TheVariants.{Common, KeepFault, NotWell}
 
@@ -64,7 +64,7 @@ changes_move P change old new (Common OutOfMemory) same = inl (same.1, not_done 
 changes_move P change old new KeepFault (rose, same) = inl (same.1, λ done. cc)
 changes_move P change old new outcome none = absurd none
 
-writes_stay : (IsText : List ℕ → BookOutcome → Type 0) (old new : BookScene) (outcome : BookOutcome) → Writes IsText old new outcome → BookStays old.keeper new.keeper
+writes_stay : (IsText : List ℕ → BookOutcome → Type 0) (old new : BookScene) (outcome : BookOutcome) → BookWrites IsText old new outcome → BookStays old.keeper new.keeper
 writes_stay IsText old new (Common Done) (written, stays) = stays
 writes_stay IsText old new NotWell (written, stays) = stays
 writes_stay IsText old new (Common WriteFault) (rose, front, stays) = stays
@@ -78,7 +78,7 @@ by_stays IsCause old new outcome none = absurd none
 
 -- a report leaves the book
 report_stays : (caps : Caps) (region : List ℕ) (named : Option (List ℕ)) (IsText : NetworkLists → Option HierarchyLists → List ℕ → BookOutcome → Type 0) (old new : BookScene) (outcome : BookOutcome)
-    → OnBoth caps region named (λ n h. Writes (IsText n h)) old new outcome → BookStays old.keeper new.keeper
+    → OnBoth caps region named (λ n h. BookWrites (IsText n h)) old new outcome → BookStays old.keeper new.keeper
 report_stays caps region named IsText old new outcome (inl ends) = by_stays (IsBothOutcome caps old.shelf new.shelf region named) old new outcome ends
 report_stays caps region named IsText old new outcome (inr (n, h, mid, both, wrote)) = writes_stay (IsText n h) (book_scene mid old.keeper old.out) new outcome wrote
 
@@ -112,7 +112,7 @@ Keeps name certificate old new outcome =
     IsIdle old new outcome ⊎ ((body : List ℕ) × (outcome ≡ Common Done) × Told old.shelf certificate (λ held. held ≡ Some body) × Becomes old.keeper new.keeper (kept name body))
 
 certificate_keeps : (caps : Caps) (name region certificate : List ℕ) (named : Option (List ℕ)) (old new : BookScene) (outcome : BookOutcome)
-    → says caps (keep name region certificate named) old new outcome → Keeps name certificate old new outcome
+    → book_says caps (keep name region certificate named) old new outcome → Keeps name certificate old new outcome
 certificate_keeps caps name region certificate named old new outcome (inl ends) = inl (by_idle (IsBothOutcome caps old.shelf new.shelf region named) (not_both caps old.shelf new.shelf region named) old new outcome ends)
 certificate_keeps caps name region certificate named old new outcome (inr (n, h, mid, both, inl ends)) =
     let idle = by_idle (IsCertificateOutcome n h mid new.shelf certificate) (not_certificate n h mid new.shelf certificate) (book_scene mid old.keeper old.out) new outcome ends in
@@ -134,7 +134,7 @@ record DoesSo (run : Run) : Type 0 where
 idles : (run : Run) → IsIdle run.old run.new run.outcome → DoesSo run
 idles run (stays, not) = record { change = nothing; does = inl not; becomes = stays }
 
-asked_to : (caps : Caps) (run : Run) (r : BookRequest) → AsksFor run.words r → says caps r run.old run.new run.outcome → DoesSo run
+asked_to : (caps : Caps) (run : Run) (r : BookRequest) → AsksOfBook run.words r → book_says caps r run.old run.new run.outcome → DoesSo run
 asked_to caps run (keep name region certificate hierarchy) asks said = of (certificate_keeps caps name region certificate hierarchy run.old run.new run.outcome said)
   where
     of : Keeps name certificate run.old run.new run.outcome → DoesSo run
@@ -161,7 +161,7 @@ asked_to caps run (review region hierarchy fail) asks said = record {
   becomes = report_stays caps region hierarchy (λ n h. IsReported (review_rule n) fail run.old.keeper) run.old run.new run.outcome said;
 }
 
-one_run : (caps : Caps) (run : Run) → IsOutcome caps run.words run.old run.new run.outcome → DoesSo run
+one_run : (caps : Caps) (run : Run) → IsBookOutcome caps run.words run.old run.new run.outcome → DoesSo run
 one_run caps run (inl (refused, ends)) = let e = ends.0 in idles run (ends.1.1, λ done. not_done Usage (λ same. cc) (sym e ∙ done))
 one_run caps run (inr (r, asks, said)) = asked_to caps run r asks said
 

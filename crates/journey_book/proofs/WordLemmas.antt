@@ -4,7 +4,7 @@ use Rattle.std.specs.Prelude.{option_and_then}
 use Rattle.std.specs.declared.string.String.{String}
 use Rattle.std.proofs.lemmas.List.{take_all}
 use Rattle.journey_book.specs.Given.{given_by}
-use Rattle.journey_book.specs.Requests.{AreRefused, AsksFor, BookRequest, request_by, request_in_words}
+use Rattle.journey_book.specs.Requests.{AreRefusedByBook, AsksOfBook, BookRequest, request_by, request_in_words}
 
 -- a command's name and the words behind it
 pub words_asked : (words : List (String Global)) (name : String Global) → 3 ≤ length words → name ≡ get_or words 2 name
@@ -25,9 +25,9 @@ none_asked (a ∷ b ∷ []) few = refl
 none_asked (a ∷ b ∷ c ∷ rest) few = absurd (omega arith)
 
 -- words that ask for nothing are refused
-pub are_refused : (words : List (List ℕ)) → None ≡ request_in_words words → AreRefused words
+pub are_refused : (words : List (List ℕ)) → None ≡ request_in_words words → AreRefusedByBook words
 are_refused words none r asks = let e = none ∙ asks in absurd (cc)
 
 -- words ask for one thing
-pub asked_once : (words : List (List ℕ)) (one other : BookRequest) → Some one ≡ request_in_words words → AsksFor words other → one ≡ other
+pub asked_once : (words : List (List ℕ)) (one other : BookRequest) → Some one ≡ request_in_words words → AsksOfBook words other → one ≡ other
 asked_once words one other is asks = let e = is ∙ asks in cc

@@ -6,31 +6,31 @@ use Rattle.journey_book.specs.Keepers.{Tells}
 use Rattle.journey_book.specs.Reports.{IsListing, IsReported, recheck_rule}
 use Rattle.journey_book.specs.Reviews.{review_rule}
 use Rattle.journey_book.specs.Requests.{BookRequest, keep, drop, list, show, recheck, review}
-use Rattle.journey_book.specs.Sayings.{BookSaying, Ends, OnBoth, OnValid, Changes, ThenDone, Writes}
+use Rattle.journey_book.specs.Sayings.{BookSaying, BookEnds, OnBoth, OnValid, Changes, ThenDone, BookWrites}
 use Rattle.journey_book.specs.declared.outcome.BookOutcome.TheVariants.{Absent}
 
 -- nothing is kept under the name, if the keeper tells
 abbrev pub IsNotKept : List ℕ → BookSaying
-IsNotKept name old new outcome = Tells old.keeper (λ book. book name ≡ None) × Ends Absent old new outcome
+IsNotKept name old new outcome = Tells old.keeper (λ book. book name ≡ None) × BookEnds Absent old new outcome
 
 -- What a run says that was asked for this. `keep` keeps the certificate's bytes under the name, where it is valid
 -- in the region; `drop` removes a name that is there; `list` writes the names; `show` what is kept under a name that
 -- is there; `recheck` which of the certificates hold in the region; `review` what the region does to their journeys;
 -- each of the two may be asked to fail where a line is not well. Certificates are those over the hierarchy, if one is
 -- named.
-abbrev pub says : Caps → BookRequest → BookSaying
-says caps (keep name region certificate hierarchy) old new outcome =
+abbrev pub book_says : Caps → BookRequest → BookSaying
+book_says caps (keep name region certificate hierarchy) old new outcome =
     OnBoth caps region hierarchy
     (λ n h. OnValid n h certificate (λ bytes. Changes (λ book. Unit {0}) (kept name bytes))) old new outcome
-says caps (drop name) old new outcome =
+book_says caps (drop name) old new outcome =
     IsNotKept name old new outcome ⊎ Changes (λ book. IsSome (book name)) (dropped name) old new outcome
-says caps list old new outcome = Writes (ThenDone (IsListing old.keeper)) old new outcome
-says caps (show name) old new outcome =
+book_says caps list old new outcome = BookWrites (ThenDone (IsListing old.keeper)) old new outcome
+book_says caps (show name) old new outcome =
     IsNotKept name old new outcome
-    ⊎ Writes (ThenDone (λ text. Tells old.keeper (λ book. book name ≡ Some text))) old new outcome
-says caps (recheck region hierarchy fail) old new outcome =
+    ⊎ BookWrites (ThenDone (λ text. Tells old.keeper (λ book. book name ≡ Some text))) old new outcome
+book_says caps (recheck region hierarchy fail) old new outcome =
     OnBoth caps region hierarchy
-    (λ n h. Writes (IsReported (recheck_rule n h) fail old.keeper)) old new outcome
-says caps (review region hierarchy fail) old new outcome =
+    (λ n h. BookWrites (IsReported (recheck_rule n h) fail old.keeper)) old new outcome
+book_says caps (review region hierarchy fail) old new outcome =
     OnBoth caps region hierarchy
-    (λ n h. Writes (IsReported (review_rule n) fail old.keeper)) old new outcome
+    (λ n h. BookWrites (IsReported (review_rule n) fail old.keeper)) old new outcome

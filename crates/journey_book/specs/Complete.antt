@@ -14,14 +14,14 @@ AreHeld caps files region hierarchy =
     IsRegionHeld caps files region (λ n. IsSoundIfNamed files n hierarchy (λ h. Unit {0}))
 
 -- each file that is asked for is there and without fault; a certificate is kept where `verify` could be done
-abbrev pub CanBeDone : Caps → Files → BookRequest → Type 0
-CanBeDone caps files (keep name region certificate hierarchy) =
+abbrev pub CanBeDoneByBook : Caps → Files → BookRequest → Type 0
+CanBeDoneByBook caps files (keep name region certificate hierarchy) =
     CanVerify caps files region certificate hierarchy
-CanBeDone caps files (recheck region hierarchy fail) = AreHeld caps files region hierarchy
-CanBeDone caps files (review region hierarchy fail) = AreHeld caps files region hierarchy
-CanBeDone caps files (drop name) = Unit {0}
-CanBeDone caps files list = Unit {0}
-CanBeDone caps files (show name) = Unit {0}
+CanBeDoneByBook caps files (recheck region hierarchy fail) = AreHeld caps files region hierarchy
+CanBeDoneByBook caps files (review region hierarchy fail) = AreHeld caps files region hierarchy
+CanBeDoneByBook caps files (drop name) = Unit {0}
+CanBeDoneByBook caps files list = Unit {0}
+CanBeDoneByBook caps files (show name) = Unit {0}
 
 -- the work is done, whether or not a line is well; or nothing is kept under the name, or memory ran out
 abbrev pub IsDoneOrAbsent : BookOutcome → Type 0

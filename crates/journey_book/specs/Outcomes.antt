@@ -5,12 +5,12 @@ use Rattle.plan_base.specs.CapsByKind.{cap_of}
 use Rattle.plan_base.specs.FullCaps.{full_cap_of}
 use Rattle.plan_base.specs.declared.limits.Caps.{Caps}
 use Rattle.plan_base.specs.declared.limits.Kind.{Kind}
-use Rattle.journey_book.specs.Commands.{says}
+use Rattle.journey_book.specs.Commands.{book_says}
 use Rattle.run_steps.specs.Complete.{Files}
 use Rattle.run_steps.specs.declared.outcome.Outcome.TheVariants.{Usage}
-use Rattle.journey_book.specs.Complete.{CanBeDone, IsDoneOrAbsent}
-use Rattle.journey_book.specs.Requests.{AreRefused, AsksFor, BookRequest}
-use Rattle.journey_book.specs.Sayings.{BookScene, Ends}
+use Rattle.journey_book.specs.Complete.{CanBeDoneByBook, IsDoneOrAbsent}
+use Rattle.journey_book.specs.Requests.{AreRefusedByBook, AsksOfBook, BookRequest}
+use Rattle.journey_book.specs.Sayings.{BookScene, BookEnds}
 use Rattle.journey_book.specs.declared.outcome.BookOutcome.{BookOutcome}
 use Rattle.journey_book.specs.declared.outcome.BookOutcome.TheVariants.{Common}
 
@@ -19,16 +19,16 @@ abbrev pub AreFull : Caps → Type 0
 AreFull caps = (kind : Kind) → cap_of caps kind ≡ full_cap_of kind
 
 -- What a run with these words says: that they are refused, where they ask for nothing; or what it says that was asked for.
-abbrev pub IsOutcome : Caps → List (List ℕ) → BookScene → BookScene → BookOutcome → Type 0
-IsOutcome caps words old new outcome =
-    (AreRefused words × Ends (Common Usage) old new outcome)
-    ⊎ ((r : BookRequest) × AsksFor words r × says caps r old new outcome)
+abbrev pub IsBookOutcome : Caps → List (List ℕ) → BookScene → BookScene → BookOutcome → Type 0
+IsBookOutcome caps words old new outcome =
+    (AreRefusedByBook words × BookEnds (Common Usage) old new outcome)
+    ⊎ ((r : BookRequest) × AsksOfBook words r × book_says caps r old new outcome)
 
 -- Where the shelf tells that all files are there and without fault, and no count of faults rose, all of the work is done, unless
 -- nothing is kept under the name or memory ran out.
-abbrev pub IsComplete : Caps → List (List ℕ) → BookScene → BookScene → BookOutcome → Type 0
-IsComplete caps words old new outcome =
-    (r : BookRequest) (files : Files) → AsksFor words r → old.shelf.files ≡ Some files → CanBeDone caps files r
+abbrev pub IsBookComplete : Caps → List (List ℕ) → BookScene → BookScene → BookOutcome → Type 0
+IsBookComplete caps words old new outcome =
+    (r : BookRequest) (files : Files) → AsksOfBook words r → old.shelf.files ≡ Some files → CanBeDoneByBook caps files r
     → (Rose old.shelf.faults new.shelf.faults → ⊥) → (Rose old.keeper.faults new.keeper.faults → ⊥)
     → (Rose old.out.faults new.out.faults → ⊥)
     → IsDoneOrAbsent outcome

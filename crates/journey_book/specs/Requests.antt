@@ -16,15 +16,15 @@ pub data BookRequest : Type 0 where
   recheck : (region : List ℕ) (hierarchy : Option (List ℕ)) (fail : Bool) → BookRequest
   review : (region : List ℕ) (hierarchy : Option (List ℕ)) (fail : Bool) → BookRequest
 
-abbrev pub request_of : BookCommand → BookRequest
-request_of (command.Keep name region certificate hierarchy) =
+abbrev pub book_request_of : BookCommand → BookRequest
+book_request_of (command.Keep name region certificate hierarchy) =
     keep name.now region.now certificate.now (option_map (λ h. h.now) hierarchy)
-request_of (command.Drop name) = drop name.now
-request_of command.List = list
-request_of (command.Show name) = show name.now
-request_of (command.Recheck region hierarchy fail) =
+book_request_of (command.Drop name) = drop name.now
+book_request_of command.List = list
+book_request_of (command.Show name) = show name.now
+book_request_of (command.Recheck region hierarchy fail) =
     recheck region.now (option_map (λ h. h.now) hierarchy) fail
-request_of (command.Review region hierarchy fail) =
+book_request_of (command.Review region hierarchy fail) =
     review region.now (option_map (λ h. h.now) hierarchy) fail
 
 -- a small letter or a digit
@@ -70,8 +70,8 @@ review_by (region ∷ []) hierarchy fail = Some (review region hierarchy fail)
 review_by _ _ _ = None
 
 -- the commands by their names
-abbrev pub commands : List (List ℕ × (List (List ℕ) → Option (List ℕ) → Bool → Option BookRequest))
-commands =
+abbrev pub book_commands : List (List ℕ × (List (List ℕ) → Option (List ℕ) → Bool → Option BookRequest))
+book_commands =
     (codes "keep", keep_by)
     ∷ (codes "drop", drop_by)
     ∷ (codes "list", list_by)
@@ -84,7 +84,7 @@ commands =
 abbrev pub request_by : List ℕ → Given → Option BookRequest
 request_by name given =
     option_and_then (λ command. command.1 given.words given.hierarchy given.fail)
-    (find (λ command. bytes_eq command.0 name) commands)
+    (find (λ command. bytes_eq command.0 name) book_commands)
 
 -- ---- what words ask for
 
@@ -94,9 +94,9 @@ request_in_words (program ∷ book ∷ name ∷ behind) = option_and_then (reque
 request_in_words _ = None
 
 -- the words ask for this
-abbrev pub AsksFor : List (List ℕ) → BookRequest → Type 0
-AsksFor words r = request_in_words words ≡ Some r
+abbrev pub AsksOfBook : List (List ℕ) → BookRequest → Type 0
+AsksOfBook words r = request_in_words words ≡ Some r
 
 -- the words ask for nothing that there is
-abbrev pub AreRefused : List (List ℕ) → Type 0
-AreRefused words = (r : BookRequest) → AsksFor words r → ⊥
+abbrev pub AreRefusedByBook : List (List ℕ) → Type 0
+AreRefusedByBook words = (r : BookRequest) → AsksOfBook words r → ⊥

@@ -5,8 +5,8 @@ use Rattle.plan_base.specs.Shelves.{Told}
 use Rattle.plan_base.specs.declared.limits.Caps.{Caps}
 use Rattle.journey_book.specs.Books.{Book, dropped, kept}
 use Rattle.journey_book.specs.Keepers.{KeeperMeaning}
-use Rattle.journey_book.specs.Outcomes.{IsOutcome}
-use Rattle.journey_book.specs.Requests.{AsksFor, BookRequest, keep, drop, list, show, recheck, review}
+use Rattle.journey_book.specs.Outcomes.{IsBookOutcome}
+use Rattle.journey_book.specs.Requests.{AsksOfBook, BookRequest, keep, drop, list, show, recheck, review}
 use Rattle.journey_book.specs.Sayings.{BookScene}
 use Rattle.journey_book.specs.declared.outcome.BookOutcome.{BookOutcome}
 use Rattle.journey_book.specs.declared.outcome.BookOutcome.TheVariants.{Common}
@@ -38,7 +38,7 @@ pub record Run : Type 0 where
 abbrev pub AreRuns : Caps → KeeperMeaning → List Run → KeeperMeaning → Type 0
 AreRuns caps first [] last = last ≡ first
 AreRuns caps first (run ∷ runs) last =
-    (run.old.keeper ≡ first) × IsOutcome caps run.words run.old run.new run.outcome
+    (run.old.keeper ≡ first) × IsBookOutcome caps run.words run.old run.new run.outcome
     × AreRuns caps run.new.keeper runs last
 
 -- whether a request is one to keep or to drop
@@ -55,11 +55,11 @@ may_change (review region hierarchy fail) = false
 abbrev pub Does : Run → Change → Type 0
 Does run (keeps name body) =
     (run.outcome ≡ Common Done) × (region : List ℕ) × (certificate : List ℕ) × (hierarchy : Option (List ℕ))
-    × AsksFor run.words (keep name region certificate hierarchy)
+    × AsksOfBook run.words (keep name region certificate hierarchy)
     × Told run.old.shelf certificate (λ held. held ≡ Some body)
-Does run (drops name) = (run.outcome ≡ Common Done) × AsksFor run.words (drop name)
+Does run (drops name) = (run.outcome ≡ Common Done) × AsksOfBook run.words (drop name)
 Does run nothing =
-    (run.outcome ≡ Common Done → ⊥) ⊎ ((r : BookRequest) × AsksFor run.words r × (may_change r ≡ false))
+    (run.outcome ≡ Common Done → ⊥) ⊎ ((r : BookRequest) × AsksOfBook run.words r × (may_change r ≡ false))
 
 -- runs one after the other leave the book that their changes make of the first
 abbrev pub RunsFold : Type 0

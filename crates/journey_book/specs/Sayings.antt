@@ -34,17 +34,17 @@ abbrev pub BookSaying : Type 1
 BookSaying = BookScene → BookScene → BookOutcome → Type 0
 
 -- how a step of a run ends the run, or that it goes on to its end
-abbrev pub end_of : Result ⊤ BookOutcome → BookOutcome
-end_of (Ok _) = Common Done
-end_of (Err outcome) = outcome
+abbrev pub book_end_of : Result ⊤ BookOutcome → BookOutcome
+book_end_of (Ok _) = Common Done
+book_end_of (Err outcome) = outcome
 
 -- nothing is written, and the book stays
 abbrev pub IsUntouched : BookScene → BookScene → Type 0
 IsUntouched old new = sinks.Stays old.out new.out × BookStays old.keeper new.keeper
 
 -- the run ends so, and nothing is changed
-abbrev pub Ends : BookOutcome → BookSaying
-Ends end old new outcome = (outcome ≡ end) × IsUntouched old new
+abbrev pub BookEnds : BookOutcome → BookSaying
+BookEnds end old new outcome = (outcome ≡ end) × IsUntouched old new
 
 -- the run ends as one of the planner that has this cause, and nothing is changed
 abbrev pub EndsBy : (Outcome → Type 0) → BookSaying
@@ -114,15 +114,15 @@ EndsWithText IsText old new outcome =
 
 -- a text is written, which says how the run ends; or a front of one; or the keeper fails, or memory runs out, and
 -- nothing is written
-abbrev pub Writes : (List ℕ → BookOutcome → Type 0) → BookSaying
-Writes IsText old new (Common Done) = EndsWithText IsText old new (Common Done)
-Writes IsText old new NotWell = EndsWithText IsText old new NotWell
-Writes IsText old new (Common WriteFault) =
+abbrev pub BookWrites : (List ℕ → BookOutcome → Type 0) → BookSaying
+BookWrites IsText old new (Common Done) = EndsWithText IsText old new (Common Done)
+BookWrites IsText old new NotWell = EndsWithText IsText old new NotWell
+BookWrites IsText old new (Common WriteFault) =
     Rose old.out.faults new.out.faults × HasWritten (BeginsOne IsText) old.out new.out
     × BookStays old.keeper new.keeper
-Writes IsText old new (Common OutOfMemory) = IsUntouched old new
-Writes IsText old new KeepFault = Rose old.keeper.faults new.keeper.faults × IsUntouched old new
-Writes IsText old new _ = ⊥
+BookWrites IsText old new (Common OutOfMemory) = IsUntouched old new
+BookWrites IsText old new KeepFault = Rose old.keeper.faults new.keeper.faults × IsUntouched old new
+BookWrites IsText old new _ = ⊥
 
 -- a text that has P, with which all is done
 abbrev pub ThenDone : (List ℕ → Type 0) → List ℕ → BookOutcome → Type 0

@@ -4,8 +4,8 @@ use Rattle.run_steps.specs.Statuses.{status_of as common_status}
 use Rattle.journey_book.specs.declared.outcome.BookOutcome.{BookOutcome}
 use Rattle.journey_book.specs.declared.outcome.BookOutcome.TheVariants.{Common, KeepFault, Absent, NotWell}
 
-abbrev pub status_of : BookOutcome → ℕ
-status_of (Common outcome) = common_status outcome
-status_of KeepFault = 14
-status_of Absent = 15
-status_of NotWell = 16
+abbrev pub book_status_of : BookOutcome → ℕ
+book_status_of (Common outcome) = common_status outcome
+book_status_of KeepFault = 14
+book_status_of Absent = 15
+book_status_of NotWell = 16

@@ -8,9 +8,9 @@ ghost use Rattle.run_steps.specs.CertificateCauses.{IsUnverified};
 ghost use Rattle.answer_commands.specs.Complete.{SpellsValid};
 ghost use Rattle.answer_commands.specs.Outputs.{best_certificates};
 ghost use Rattle.journey_book.specs.Books.{kept};
-ghost use Rattle.journey_book.specs.Commands.{says};
+ghost use Rattle.journey_book.specs.Commands.{book_says};
 ghost use Rattle.journey_book.specs.Requests.{keep, drop};
-ghost use Rattle.journey_book.specs.Sayings.{Changes, HasValid, IsCertificateOutcome, OnValid, book_scene, end_of};
+ghost use Rattle.journey_book.specs.Sayings.{Changes, HasValid, IsCertificateOutcome, OnValid, book_scene, book_end_of};
 
 use crate::keeper::Keeper;
 use crate::outcome::BookOutcome;
@@ -42,11 +42,11 @@ pub(crate) fn keep<F: Shelf, K: Keeper, O: Sink, E: Sink>(
     keeper: &mut K,
     caps: &Caps,
 ) -> Result<(), BookOutcome>
-    ensures { says caps.now (keep what.entry.name.now what.entry.region.now what.entry.certificate.now
+    ensures { book_says caps.now (keep what.entry.name.now what.entry.region.now what.entry.certificate.now
         (option_map (λ it. it.now) what.entry.hierarchy))
         (book_scene (F.meaning ports.old.shelf) (K.meaning keeper.old) (O.meaning ports.old.out))
         (book_scene (F.meaning ports.new.shelf) (K.meaning keeper.new) (O.meaning ports.new.out))
-        (end_of result) }
+        (book_end_of result) }
 {
     let Keeping {
         name,
@@ -82,7 +82,7 @@ fn keep_over<F: Shelf, K: Keeper, O: Sink, E: Sink>(
         certificate.now (λ bytes. Changes (λ book. Unit {0}) (kept name.now bytes))
         (book_scene (F.meaning ports.old.shelf) (K.meaning keeper.old) (O.meaning ports.old.out))
         (book_scene (F.meaning ports.new.shelf) (K.meaning keeper.new) (O.meaning ports.new.out))
-        (end_of result) }
+        (book_end_of result) }
 {
     let alloc = ports.alloc;
     match read_valid(
@@ -102,7 +102,7 @@ fn keep_over<F: Shelf, K: Keeper, O: Sink, E: Sink>(
 fn put<K: Keeper>(name: &str, bytes: &[u8], keeper: &mut K) -> Result<(), BookOutcome>
     ensures { (shelf : ShelfMeaning) (out : SinkMeaning) → Changes (λ book. Unit {0})
         (kept name.now bytes.now) (book_scene shelf (K.meaning keeper.old) out)
-        (book_scene shelf (K.meaning keeper.new) out) (end_of result) }
+        (book_scene shelf (K.meaning keeper.new) out) (book_end_of result) }
 {
     match keeper.put(name, bytes) {
         Ok(()) => Ok(()),
@@ -179,9 +179,9 @@ pub(crate) fn drop_name<K: Keeper>(
     keeper: &mut K,
     caps: &Caps,
 ) -> Result<(), BookOutcome>
-    ensures { (shelf : ShelfMeaning) (out : SinkMeaning) → says caps.now (drop name.now)
+    ensures { (shelf : ShelfMeaning) (out : SinkMeaning) → book_says caps.now (drop name.now)
         (book_scene shelf (K.meaning keeper.old) out) (book_scene shelf (K.meaning keeper.new) out)
-        (end_of result) }
+        (book_end_of result) }
 {
     match keeper.remove(name) {
         Ok(true) => Ok(()),

@@ -1,7 +1,7 @@
 //! How a command of the book ends.
 
 ghost use Rattle.std.specs.Prelude.{◌≡◌};
-ghost use Rattle.journey_book.specs.Statuses.{status_of};
+ghost use Rattle.journey_book.specs.Statuses.{book_status_of};
 
 use run_steps::Outcome;
 
@@ -21,7 +21,7 @@ pub enum BookOutcome {
 impl BookOutcome {
     /// The exit status of the program.
     pub fn status(self) -> u8
-        ensures { result ≡ status_of self }
+        ensures { result ≡ book_status_of self }
     {
         match self {
             BookOutcome::Common(outcome) => outcome.status(),

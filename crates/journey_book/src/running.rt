@@ -2,10 +2,10 @@
 
 ghost use Rattle.std.specs.Prelude.{◌≡◌, ℕ, List, map, string_bytes};
 ghost use Rattle.plan_base.specs.declared.limits.Caps.{Caps};
-ghost use Rattle.journey_book.specs.Commands.{says};
-ghost use Rattle.journey_book.specs.Outcomes.{AreFull, IsComplete, IsOutcome};
-ghost use Rattle.journey_book.specs.Requests.{request_of};
-ghost use Rattle.journey_book.specs.Sayings.{book_scene, end_of};
+ghost use Rattle.journey_book.specs.Commands.{book_says};
+ghost use Rattle.journey_book.specs.Outcomes.{AreFull, IsBookComplete, IsBookOutcome};
+ghost use Rattle.journey_book.specs.Requests.{book_request_of};
+ghost use Rattle.journey_book.specs.Sayings.{book_scene, book_end_of};
 
 use crate::keeper::Keeper;
 use crate::keeping::{Keeping, drop_name, keep};
@@ -24,10 +24,10 @@ fn carry_out<F: Shelf, K: Keeper, O: Sink, E: Sink>(
     keeper: &mut K,
     caps: &Caps,
 ) -> Result<(), BookOutcome>
-    ensures { says caps.now (request_of command.entry)
+    ensures { book_says caps.now (book_request_of command.entry)
         (book_scene (F.meaning ports.old.shelf) (K.meaning keeper.old) (O.meaning ports.old.out))
         (book_scene (F.meaning ports.new.shelf) (K.meaning keeper.new) (O.meaning ports.new.out))
-        (end_of result) }
+        (book_end_of result) }
 {
     match command {
         BookCommand::Keep {
@@ -67,10 +67,10 @@ pub fn run_book_within<F: Shelf, K: Keeper, O: Sink, E: Sink>(
     keeper: &mut K,
     caps: &Caps,
 ) -> BookOutcome
-    ensures outcome { IsOutcome caps.now (map string_bytes words.now)
+    ensures outcome { IsBookOutcome caps.now (map string_bytes words.now)
         (book_scene (F.meaning ports.old.shelf) (K.meaning keeper.old) (O.meaning ports.old.out))
         (book_scene (F.meaning ports.new.shelf) (K.meaning keeper.new) (O.meaning ports.new.out)) result }
-    ensures complete { IsComplete caps.now (map string_bytes words.now)
+    ensures complete { IsBookComplete caps.now (map string_bytes words.now)
         (book_scene (F.meaning ports.old.shelf) (K.meaning keeper.old) (O.meaning ports.old.out))
         (book_scene (F.meaning ports.new.shelf) (K.meaning keeper.new) (O.meaning ports.new.out)) result }
 {
@@ -98,10 +98,10 @@ pub fn run_book<F: Shelf, K: Keeper, O: Sink, E: Sink>(
     words: &[String],
     keeper: &mut K,
 ) -> BookOutcome
-    ensures outcome { (caps : Caps) × AreFull caps × IsOutcome caps (map string_bytes words.now)
+    ensures outcome { (caps : Caps) × AreFull caps × IsBookOutcome caps (map string_bytes words.now)
         (book_scene (F.meaning ports.old.shelf) (K.meaning keeper.old) (O.meaning ports.old.out))
         (book_scene (F.meaning ports.new.shelf) (K.meaning keeper.new) (O.meaning ports.new.out)) result }
-    ensures complete { (caps : Caps) × AreFull caps × IsComplete caps (map string_bytes words.now)
+    ensures complete { (caps : Caps) × AreFull caps × IsBookComplete caps (map string_bytes words.now)
         (book_scene (F.meaning ports.old.shelf) (K.meaning keeper.old) (O.meaning ports.old.out))
         (book_scene (F.meaning ports.new.shelf) (K.meaning keeper.new) (O.meaning ports.new.out)) result }
 {

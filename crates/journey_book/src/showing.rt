@@ -4,11 +4,11 @@ ghost use Rattle.std.specs.Prelude.{◌≡◌, IfOk, IfSome, map, option_map, st
 ghost use Rattle.plain_texts.specs.Lines.{lines_text};
 ghost use Rattle.plan_base.specs.Shelves.{ShelfMeaning};
 ghost use Rattle.hierarchy.specs.Soundness.{IsSound};
-ghost use Rattle.journey_book.specs.Commands.{says};
+ghost use Rattle.journey_book.specs.Commands.{book_says};
 ghost use Rattle.journey_book.specs.Requests.{list, show, recheck, review};
 ghost use Rattle.journey_book.specs.Reports.{IsReported, end_by, recheck_rule};
 ghost use Rattle.journey_book.specs.Reviews.{review_rule};
-ghost use Rattle.journey_book.specs.Sayings.{Writes, book_scene, end_of};
+ghost use Rattle.journey_book.specs.Sayings.{BookWrites, book_scene, book_end_of};
 
 use crate::keeper::Keeper;
 use crate::outcome::BookOutcome;
@@ -31,9 +31,9 @@ pub(crate) fn list<K: Keeper, O: Sink>(
     out: &mut O,
     caps: &Caps,
 ) -> Result<(), BookOutcome>
-    ensures { (shelf : ShelfMeaning) → says caps.now list
+    ensures { (shelf : ShelfMeaning) → book_says caps.now list
         (book_scene shelf (K.meaning keeper.old) (O.meaning out.old))
-        (book_scene shelf (K.meaning keeper.new) (O.meaning out.new)) (end_of result) }
+        (book_scene shelf (K.meaning keeper.new) (O.meaning out.new)) (book_end_of result) }
 {
     let names = match keeper.names() {
         Ok(names) => names,
@@ -64,9 +64,9 @@ pub(crate) fn show<K: Keeper, O: Sink>(
     out: &mut O,
     caps: &Caps,
 ) -> Result<(), BookOutcome>
-    ensures { (shelf : ShelfMeaning) → says caps.now (show name.now)
+    ensures { (shelf : ShelfMeaning) → book_says caps.now (show name.now)
         (book_scene shelf (K.meaning keeper.old) (O.meaning out.old))
-        (book_scene shelf (K.meaning keeper.new) (O.meaning out.new)) (end_of result) }
+        (book_scene shelf (K.meaning keeper.new) (O.meaning out.new)) (book_end_of result) }
 {
     match keeper.get(name) {
         Ok(Some(body)) => ended(write_text(out, &body), Ok(())),
@@ -84,10 +84,10 @@ pub(crate) fn recheck_all<F: Shelf, K: Keeper, O: Sink, E: Sink>(
     keeper: &mut K,
     caps: &Caps,
 ) -> Result<(), BookOutcome>
-    ensures { says caps.now (recheck region.now (option_map (λ it. it.now) hierarchy.entry) fail)
+    ensures { book_says caps.now (recheck region.now (option_map (λ it. it.now) hierarchy.entry) fail)
         (book_scene (F.meaning ports.old.shelf) (K.meaning keeper.old) (O.meaning ports.old.out))
         (book_scene (F.meaning ports.new.shelf) (K.meaning keeper.new) (O.meaning ports.new.out))
-        (end_of result) }
+        (book_end_of result) }
 {
     let alloc = ports.alloc;
     match read_both(
@@ -120,11 +120,11 @@ fn recheck_over<K: Keeper, O: Sink>(
     out: &mut O,
 ) -> Result<(), BookOutcome>
     requires { IfSome hierarchy (λ h. IsSound network.now h.now) }
-    ensures { (shelf : ShelfMeaning) → Writes
+    ensures { (shelf : ShelfMeaning) → BookWrites
         (IsReported (recheck_rule network.now (option_map (λ h. h.now) hierarchy.entry)) fail
         (K.meaning keeper.old))
         (book_scene shelf (K.meaning keeper.old) (O.meaning out.old))
-        (book_scene shelf (K.meaning keeper.new) (O.meaning out.new)) (end_of result) }
+        (book_scene shelf (K.meaning keeper.new) (O.meaning out.new)) (book_end_of result) }
 {
     let recheck = Recheck { network, hierarchy };
     write_report(alloc, &recheck, fail, keeper, out)
@@ -139,10 +139,10 @@ pub(crate) fn review_all<F: Shelf, K: Keeper, O: Sink, E: Sink>(
     keeper: &mut K,
     caps: &Caps,
 ) -> Result<(), BookOutcome>
-    ensures { says caps.now (review region.now (option_map (λ it. it.now) hierarchy.entry) fail)
+    ensures { book_says caps.now (review region.now (option_map (λ it. it.now) hierarchy.entry) fail)
         (book_scene (F.meaning ports.old.shelf) (K.meaning keeper.old) (O.meaning ports.old.out))
         (book_scene (F.meaning ports.new.shelf) (K.meaning keeper.new) (O.meaning ports.new.out))
-        (end_of result) }
+        (book_end_of result) }
 {
     let alloc = ports.alloc;
     match read_both(
@@ -175,10 +175,10 @@ fn review_over<K: Keeper, O: Sink>(
     out: &mut O,
 ) -> Result<(), BookOutcome>
     requires { IfSome hierarchy (λ h. IsSound network.now h.now) }
-    ensures { (shelf : ShelfMeaning) → Writes
+    ensures { (shelf : ShelfMeaning) → BookWrites
         (IsReported (review_rule network.now) fail (K.meaning keeper.old))
         (book_scene shelf (K.meaning keeper.old) (O.meaning out.old))
-        (book_scene shelf (K.meaning keeper.new) (O.meaning out.new)) (end_of result) }
+        (book_scene shelf (K.meaning keeper.new) (O.meaning out.new)) (book_end_of result) }
 {
     let review = Review { network, hierarchy };
     write_report(alloc, &review, fail, keeper, out)
@@ -193,9 +193,9 @@ fn write_report<R: Report, K: Keeper, O: Sink>(
     out: &mut O,
 ) -> Result<(), BookOutcome>
     requires { R.may report.now }
-    ensures { (shelf : ShelfMeaning) → Writes (IsReported (R.rule report.now) fail (K.meaning keeper.old))
+    ensures { (shelf : ShelfMeaning) → BookWrites (IsReported (R.rule report.now) fail (K.meaning keeper.old))
         (book_scene shelf (K.meaning keeper.old) (O.meaning out.old))
-        (book_scene shelf (K.meaning keeper.new) (O.meaning out.new)) (end_of result) }
+        (book_scene shelf (K.meaning keeper.new) (O.meaning out.new)) (book_end_of result) }
 {
     match report_of(alloc, report, keeper) {
         Ok(reported) => ended(write_text(out, &reported.text), end_by(fail, reported.well)),
@@ -205,7 +205,7 @@ fn write_report<R: Report, K: Keeper, O: Sink>(
 
 /// How a report ends a run.
 fn end_by(fail: bool, well: bool) -> Result<(), BookOutcome>
-    ensures { end_of result ≡ end_by fail well }
+    ensures { book_end_of result ≡ end_by fail well }
 {
     if fail && !well {
         return Err(BookOutcome::NotWell);

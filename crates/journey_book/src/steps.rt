@@ -1,7 +1,7 @@
 //! How the steps of a command end it.
 
 ghost use Rattle.std.specs.Prelude.{◌≡◌};
-ghost use Rattle.journey_book.specs.Sayings.{end_of};
+ghost use Rattle.journey_book.specs.Sayings.{book_end_of};
 ghost use Rattle.journey_book.specs.Working.{ended_by, outcome_of_keeper};
 
 use crate::keeper::KeepFault;
@@ -23,7 +23,7 @@ pub(crate) fn ended(
     written: Result<(), Outcome>,
     end: Result<(), BookOutcome>,
 ) -> Result<(), BookOutcome>
-    ensures { end_of result ≡ ended_by written (end_of end) }
+    ensures { book_end_of result ≡ ended_by written (book_end_of end) }
 {
     match written {
         Ok(()) => end,

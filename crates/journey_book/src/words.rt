@@ -3,7 +3,7 @@
 ghost use Rattle.std.specs.Prelude.{◌≡◌, map, option_and_then, option_map, string_bytes};
 ghost use Rattle.std.specs.List.{list_all};
 ghost use Rattle.journey_book.specs.Given.{given_view};
-ghost use Rattle.journey_book.specs.Requests.{begins_name, drop_by, is_book_name, is_book_name_byte, is_letter_or_digit, keep_by, list_by, recheck_by, request_by, request_in_words, request_of, review_by, show_by};
+ghost use Rattle.journey_book.specs.Requests.{begins_name, drop_by, is_book_name, is_book_name_byte, is_letter_or_digit, keep_by, list_by, recheck_by, request_by, request_in_words, book_request_of, review_by, show_by};
 
 use crate::given::{GivenWords, Plain, read_given};
 
@@ -46,7 +46,7 @@ pub enum BookCommand<'a> {
 /// The command that the words ask for: the program's name, the book's, the command's, and what it works on. None exactly where they
 /// ask for nothing.
 pub fn read_words(words: &[String]) -> Option<BookCommand<'_>>
-    ensures { option_map request_of result ≡ request_in_words (map string_bytes words.now) }
+    ensures { option_map book_request_of result ≡ request_in_words (map string_bytes words.now) }
 {
     match words {
         [_, _, command, behind @ ..] => named_behind(command.as_str(), read_given(behind)),
@@ -56,7 +56,7 @@ pub fn read_words(words: &[String]) -> Option<BookCommand<'_>>
 
 /// The command of this name, if the words behind it are those of any.
 fn named_behind<'a>(command: &str, given: Option<GivenWords<'a>>) -> Option<BookCommand<'a>>
-    ensures { option_map request_of result
+    ensures { option_map book_request_of result
         ≡ option_and_then (request_by command.now) (option_map given_view given.entry) }
 {
     named(command, given?)
@@ -64,7 +64,7 @@ fn named_behind<'a>(command: &str, given: Option<GivenWords<'a>>) -> Option<Book
 
 /// The command of this name, behind which this stands.
 fn named<'a>(command: &str, given: GivenWords<'a>) -> Option<BookCommand<'a>>
-    ensures { option_map request_of result ≡ request_by command.now (given_view given.entry) }
+    ensures { option_map book_request_of result ≡ request_by command.now (given_view given.entry) }
 {
     match command {
         "keep" => keep(given),
@@ -78,7 +78,7 @@ fn named<'a>(command: &str, given: GivenWords<'a>) -> Option<BookCommand<'a>>
 }
 
 fn keep(given: GivenWords<'_>) -> Option<BookCommand<'_>>
-    ensures { option_map request_of result
+    ensures { option_map book_request_of result
         ≡ keep_by (given_view given.entry).words (given_view given.entry).hierarchy given.entry.fail }
 {
     if given.fail {
@@ -102,7 +102,7 @@ fn keep(given: GivenWords<'_>) -> Option<BookCommand<'_>>
 }
 
 fn drop_name(given: GivenWords<'_>) -> Option<BookCommand<'_>>
-    ensures { option_map request_of result
+    ensures { option_map book_request_of result
         ≡ drop_by (given_view given.entry).words (given_view given.entry).hierarchy given.entry.fail }
 {
     if given.fail || given.hierarchy.is_some() {
@@ -121,7 +121,7 @@ fn drop_name(given: GivenWords<'_>) -> Option<BookCommand<'_>>
 }
 
 fn list(given: GivenWords<'_>) -> Option<BookCommand<'_>>
-    ensures { option_map request_of result
+    ensures { option_map book_request_of result
         ≡ list_by (given_view given.entry).words (given_view given.entry).hierarchy given.entry.fail }
 {
     if given.fail || given.hierarchy.is_some() {
@@ -134,7 +134,7 @@ fn list(given: GivenWords<'_>) -> Option<BookCommand<'_>>
 }
 
 fn show(given: GivenWords<'_>) -> Option<BookCommand<'_>>
-    ensures { option_map request_of result
+    ensures { option_map book_request_of result
         ≡ show_by (given_view given.entry).words (given_view given.entry).hierarchy given.entry.fail }
 {
     if given.fail || given.hierarchy.is_some() {
@@ -153,7 +153,7 @@ fn show(given: GivenWords<'_>) -> Option<BookCommand<'_>>
 }
 
 fn recheck(given: GivenWords<'_>) -> Option<BookCommand<'_>>
-    ensures { option_map request_of result
+    ensures { option_map book_request_of result
         ≡ recheck_by (given_view given.entry).words (given_view given.entry).hierarchy given.entry.fail }
 {
     match given.plain {
@@ -167,7 +167,7 @@ fn recheck(given: GivenWords<'_>) -> Option<BookCommand<'_>>
 }
 
 fn review(given: GivenWords<'_>) -> Option<BookCommand<'_>>
-    ensures { option_map request_of result
+    ensures { option_map book_request_of result
         ≡ review_by (given_view given.entry).words (given_view given.entry).hierarchy given.entry.fail }
 {
     match given.plain {

@@ -1,7 +1,7 @@
 use Rattle.std.proofs.Common.{◌≡◌, ◌∙◌, List, ap, map, string_bytes, subst, sym}
 use Rattle.plain_texts.specs.Lines.{lines_text}
 use Rattle.journey_book.specs.Reports.{IsListing}
-use Rattle.journey_book.specs.Sayings.{ThenDone, Writes, book_scene}
+use Rattle.journey_book.specs.Sayings.{ThenDone, BookWrites, book_scene}
 use Rattle.journey_book.specs.declared.outcome.BookOutcome.{BookOutcome}
 use Rattle.journey_book.proofs.RunLemmas.{text_written}
 use Rattle.journey_book.proofs.showing.list.Goals as goal
@@ -15,5 +15,5 @@ returns g c shelf =
     let names = map string_bytes c.in-Ok.names.items in
     let text : c.deref-2.result.now ≡ lines_text names =
     c.deref-2.ensures.value ∙ c.in-Ok-listed.ensures ∙ ap (λ (ns : List _). lines_text (map string_bytes ns)) c.deref.ensures.value in
-    subst (λ (o : BookOutcome). Writes (ThenDone (IsListing before)) old new o) (sym c.ended.ensures)
+    subst (λ (o : BookOutcome). BookWrites (ThenDone (IsListing before)) old new o) (sym c.ended.ensures)
     (text_written old new c.in-Ok.ensures.same (IsListing before) c.deref-2.result.now (names, c.in-Ok.ensures.ok, text) c.write_text.result c.write_text.ensures.ok c.write_text.ensures.err)

@@ -1,7 +1,7 @@
 use Rattle.std.proofs.Common.{◌≡◌, ℕ, List, Option, Some, Global, inr, option_map, subst, sym}
 use Rattle.std.specs.Prelude.{Vec}
 use Rattle.journey_book.specs.Keepers.{Tells}
-use Rattle.journey_book.specs.Sayings.{ThenDone, Writes, book_scene}
+use Rattle.journey_book.specs.Sayings.{ThenDone, BookWrites, book_scene}
 use Rattle.journey_book.specs.declared.outcome.BookOutcome.{BookOutcome}
 use Rattle.journey_book.proofs.RunLemmas.{text_written}
 use Rattle.journey_book.proofs.showing.show.Goals as goal
@@ -15,5 +15,5 @@ returns-in-Ok-Some g c shelf =
     let told =
     subst (λ (held : Option (Vec ℕ Global)). Tells before (λ book. book name ≡ option_map (λ body. body.items) held)) c.in-Ok-Some.field-0-is c.in-Ok-Some.ensures.ok in
     let is = subst (λ (text : List ℕ). Tells before (λ book. book name ≡ Some text)) (sym c.deref.ensures.value) told in
-    inr (subst (λ (end : BookOutcome). Writes (ThenDone (λ text. Tells before (λ book. book name ≡ Some text))) old new end) (sym c.ended.ensures)
+    inr (subst (λ (end : BookOutcome). BookWrites (ThenDone (λ text. Tells before (λ book. book name ≡ Some text))) old new end) (sym c.ended.ensures)
     (text_written old new c.in-Ok-Some.ensures.same (λ text. Tells before (λ book. book name ≡ Some text)) c.deref.result.now is c.write_text.result c.write_text.ensures.ok c.write_text.ensures.err))

@@ -1,7 +1,7 @@
 use Rattle.std.proofs.Common.{◌≡◌, ◌∙◌, ap, subst, sym}
 use Rattle.plan_base.proofs.MoreWritten.{stays_so as unwritten}
 use Rattle.journey_book.specs.Reports.{IsReport, IsReported, end_by}
-use Rattle.journey_book.specs.Sayings.{Writes, book_scene, end_of}
+use Rattle.journey_book.specs.Sayings.{BookWrites, book_scene, book_end_of}
 use Rattle.journey_book.specs.Working.{ended_by}
 use Rattle.journey_book.specs.declared.outcome.BookOutcome.{BookOutcome}
 use Rattle.journey_book.proofs.RunLemmas.{report_written, telling_fails}
@@ -13,8 +13,8 @@ returns-in-Ok g c shelf =
     let before = g.K.Keeper.meaning c.args.keeper.now in
     let old = book_scene shelf before (g.O.Sink.meaning c.args.out.now) in
     let new = book_scene shelf (g.K.Keeper.meaning c.report_of.new.keeper) (g.O.Sink.meaning c.write_text.new.out) in
-    let end : end_of c.ended.result ≡ ended_by c.write_text.result (end_by c.args.fail c.in-Ok.reported.well) = c.ended.ensures ∙ ap (ended_by c.write_text.result) c.end_by.ensures in
-    subst (λ (o : BookOutcome). Writes (IsReported rule c.args.fail before) old new o) (sym end)
+    let end : book_end_of c.ended.result ≡ ended_by c.write_text.result (end_by c.args.fail c.in-Ok.reported.well) = c.ended.ensures ∙ ap (ended_by c.write_text.result) c.end_by.ensures in
+    subst (λ (o : BookOutcome). BookWrites (IsReported rule c.args.fail before) old new o) (sym end)
     (report_written old new c.in-Ok.ensures.same rule before c.deref.result.now c.args.fail c.in-Ok.reported.well
     (subst (λ text. IsReport rule before text c.in-Ok.reported.well) (sym c.deref.ensures.value) c.in-Ok.ensures.ok) c.write_text.result c.write_text.ensures.ok c.write_text.ensures.err)
 
