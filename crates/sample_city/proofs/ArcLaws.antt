@@ -1,6 +1,6 @@
 -- The road arcs join different road nodes of one mode, and ascend.
 use Rattle.std.proofs.Common.{◌≡◌, ℕ, pos, ◌+◌, ◌*◌, ◌<◌, ◌≤◌, ◌⊎◌, inl, inr, ⊎_elim, List, [], ◌∷◌, ◌++◌, length, nat_eq, nat_lt, Bool, true, false, not, Option, None, Some, refl, sym, ap, subst₂, ◌∙◌, arith, eqb-true}
-use Rattle.std.specs.Prelude.{◌==◌, option_to_list}
+use Rattle.std.specs.Prelude.{◌==◌}
 use Rattle.std.specs.List.{All, position, position_or_len}
 use Rattle.std.specs.Ordering.{is_eq}
 use Rattle.std.proofs.lemmas.Bool.{and_from, eq-eqb, ltb-true}
@@ -17,8 +17,10 @@ use Rattle.mode_network.specs.declared.nodes.Arc.{Arc}
 use Rattle.mode_network.specs.declared.nodes.Node.{Node}
 use Rattle.mode_network.proofs.RuleLemmas.{arcs_total, number_is_low}
 use Rattle.sample_city.specs.Corners.{corner, is_car_line}
-use Rattle.sample_city.specs.Roads.{along_column, along_row, city_arcs, corner_arcs, road_between, road_key, road_number, street, streets, time_between}
+use Rattle.sample_city.specs.Roads.{along, arc_between, city_arcs, column_bases, corner_arcs, road_between, road_key, road_number, row_bases, street, streets, time_between}
 use Rattle.sample_city.specs.declared.corners.Corner.{Corner}
+use Rattle.sample_city.specs.declared.corners.Direction.TheVariants.{Row, Column}
+use Rattle.sample_city.specs.declared.streets.Bases.{Bases}
 use Rattle.sample_city.proofs.CornerLaws.{corners_rise}
 use Rattle.sample_city.proofs.RiseLaws.{Rise, rise_all, rise_append, rise_few, rise_if, rise_one, rise_sorted}
 use Rattle.sample_city.proofs.RoadLaws.{mode_of_number, number_same}
@@ -38,29 +40,29 @@ position_none p xs all =
     let none : position_or_len (λ x. not (p x)) xs ≡ length xs = none_fails p xs all in
     rw none (let test : nat_lt (length xs) (length xs) ≡ false = grind (arith, nat_tests) in rw test refl)
 
+-- the arc from a node to another rises, where it has this tag
+pub arc_rises : (Tagged : ℕ → Arc → Type 0) (from to : Option ℕ) (ms low high : ℕ) → low < high
+    → ((start end : ℕ) → from ≡ Some start → to ≡ Some end → Tagged low (record { from = start; to = end; ms = ms })) → Rise Tagged low high (arc_between from to ms)
+arc_rises Tagged None to ms low high below is = omega (arith, below)
+arc_rises Tagged (Some start) None ms low high below is = omega (arith, below)
+arc_rises Tagged (Some start) (Some end) ms low high below is = rise_one Tagged low high (record { from = start; to = end; ms = ms }) below (is start end refl refl)
+
 -- from one corner to another that is further by so much (back 0), or back (back 1)
 abbrev AreEnds : ℕ → ℕ → ℕ → ℕ → ℕ → Type 0
 AreEnds id far back from to = ((back ≡ 0) × (from ≡ id) × (to ≡ id + far)) ⊎ ((back ≡ 1) × (from ≡ id + far) × (to ≡ id))
 
 one_way : (id far back other also more from to : ℕ) → 1 ≤ far → 1 ≤ also → AreEnds id far back from to → AreEnds other also more from to → (id ≡ other) × (far ≡ also) × (back ≡ more)
-one_way id far back other also more from to some any (inl p) (inl q) = (omega (arith, p.1, q.1), omega (arith, p.1, q.1, p.2, q.2), omega (arith, p.0, q.0))
-one_way id far back other also more from to some any (inl p) (inr q) = absurd (omega (arith, some, any, p.1, q.1, p.2, q.2))
-one_way id far back other also more from to some any (inr p) (inl q) = absurd (omega (arith, some, any, p.1, q.1, p.2, q.2))
-one_way id far back other also more from to some any (inr p) (inr q) = (omega (arith, p.2, q.2), omega (arith, p.1, q.1, p.2, q.2), omega (arith, p.0, q.0))
+one_way id far back other also more from to some any p q = (grind (arith, some, any, p, q), grind (arith, some, any, p, q), grind (arith, some, any, p, q))
 
 -- to the next corner of the row (step 0), or of the column (step 1)
 abbrev IsStep : ℕ → ℕ → ℕ → Type 0
 IsStep n step far = ((step ≡ 0) × (far ≡ 1)) ⊎ ((step ≡ 1) × (far ≡ n))
 
 one_step : (n step far more also : ℕ) → 2 ≤ n → IsStep n step far → IsStep n more also → far ≡ also → step ≡ more
-one_step n step far more also many (inl p) (inl q) e = omega (arith, p.0, q.0)
-one_step n step far more also many (inl p) (inr q) e = absurd (omega (arith, many, p.1, q.1, e))
-one_step n step far more also many (inr p) (inl q) e = absurd (omega (arith, many, p.1, q.1, e))
-one_step n step far more also many (inr p) (inr q) e = omega (arith, p.0, q.0)
+one_step n step far more also many p q e = grind (arith, many, p, q, e)
 
 some_far : (n step far : ℕ) → 2 ≤ n → IsStep n step far → 1 ≤ far
-some_far n step far many (inl p) = omega (arith, p.1)
-some_far n step far many (inr p) = omega (arith, many, p.1)
+some_far n step far many p = grind (arith, many, p)
 
 module _ (n : ℕ) (nodes : List Node) where
   -- an arc of a mode between a corner and a next one, tagged by the lower id, the step, the mode and the way
@@ -94,51 +96,34 @@ module _ (n : ℕ) (nodes : List Node) where
 
   -- a part of the row of a corner's arcs
   module _ (id step : ℕ) (many : 2 ≤ n) (far : ℕ) (along : IsStep n step far) (other : ℕ) (there : other ≡ id + far) where
-    there_rises : (mode : Mode) (base low high : ℕ) → low ≡ 12 * id + 6 * step + 2 * number_of_mode mode → low < high
-        → Rise IsArcBy low high (option_to_list (road_between (road_number nodes) mode base id other))
-    there_rises mode base low high is below = by_ends (road_number nodes (road_key id mode)) (road_number nodes (road_key other mode)) refl refl
-      where
-        by_ends : (start end : Option ℕ) → road_number nodes (road_key id mode) ≡ start → road_number nodes (road_key other mode) ≡ end
-            → Rise IsArcBy low high (option_to_list (road_between (road_number nodes) mode base id other))
-        by_ends None end e f = rw e (omega (arith, below))
-        by_ends (Some start) None e f = rw (e, f) (omega (arith, below))
-        by_ends (Some start) (Some end) e f =
-            rw (e, f) (rise_one IsArcBy low high (record { from = start; to = end; ms = time_between base id other }) below
-            (record { id = id; step = step; mode = number_of_mode mode; back = 0; far = far; from = id; to = other; is = omega (arith, is); low = number_is_low mode; many = many; along = along; ends = inl (refl, refl, there); start = e; end = f }))
-
-    back_rises : (mode : Mode) (base low high : ℕ) → low ≡ 12 * id + 6 * step + 2 * number_of_mode mode + 1 → low < high
-        → Rise IsArcBy low high (option_to_list (road_between (road_number nodes) mode base other id))
-    back_rises mode base low high is below = by_ends (road_number nodes (road_key other mode)) (road_number nodes (road_key id mode)) refl refl
-      where
-        by_ends : (start end : Option ℕ) → road_number nodes (road_key other mode) ≡ start → road_number nodes (road_key id mode) ≡ end
-            → Rise IsArcBy low high (option_to_list (road_between (road_number nodes) mode base other id))
-        by_ends None end e f = rw e (omega (arith, below))
-        by_ends (Some start) None e f = rw (e, f) (omega (arith, below))
-        by_ends (Some start) (Some end) e f =
-            rw (e, f) (rise_one IsArcBy low high (record { from = start; to = end; ms = time_between base other id }) below
-            (record { id = id; step = step; mode = number_of_mode mode; back = 1; far = far; from = other; to = id; is = omega (arith, is); low = number_is_low mode; many = many; along = along; ends = inr (refl, there, refl); start = e; end = f }))
+    road_rises : (mode : Mode) (base back from to low high : ℕ) → low ≡ 12 * id + 6 * step + 2 * number_of_mode mode + back → low < high → AreEnds id far back from to
+        → Rise IsArcBy low high (road_between (road_number nodes) mode base from to)
+    road_rises mode base back from to low high is below ends =
+        arc_rises IsArcBy (road_number nodes (road_key from mode)) (road_number nodes (road_key to mode)) (time_between base from to) low high below (λ start end e f.
+        record { id = id; step = step; mode = number_of_mode mode; back = back; far = far; from = from; to = to; is = is; low = number_is_low mode; many = many; along = along; ends = ends; start = e; end = f })
 
     street_rises : (mode : Mode) (base low high : ℕ) → low ≡ 12 * id + 6 * step + 2 * number_of_mode mode → low + 2 ≤ high → Rise IsArcBy low high (street (road_number nodes) mode base id other)
     street_rises mode base low high is below =
-        rise_append IsArcBy low (low + 1) high (option_to_list (road_between (road_number nodes) mode base id other)) (option_to_list (road_between (road_number nodes) mode base other id))
-        (there_rises mode base low (low + 1) is (omega arith)) (back_rises mode base (low + 1) high (omega (arith, is)) (omega (arith, below)))
+        rise_append IsArcBy low (low + 1) high (road_between (road_number nodes) mode base id other) (road_between (road_number nodes) mode base other id)
+        (road_rises mode base 0 id other low (low + 1) (omega (arith, is)) (omega arith) (inl (refl, refl, there)))
+        (road_rises mode base 1 other id (low + 1) high (omega (arith, is)) (omega (arith, below)) (inr (refl, there, refl)))
 
-    streets_rise : (foot bike car : ℕ) (cars : Bool) (low high : ℕ) → low ≡ 12 * id + 6 * step → low + 6 ≤ high → Rise IsArcBy low high (streets (road_number nodes) foot bike car cars id other)
-    streets_rise foot bike car cars low high is below =
-        rise_append IsArcBy low (low + 4) high (street (road_number nodes) Foot foot id other ++ street (road_number nodes) Bike bike id other) _
-        (rise_append IsArcBy low (low + 2) (low + 4) (street (road_number nodes) Foot foot id other) (street (road_number nodes) Bike bike id other)
-        (street_rises Foot foot low (low + 2) (omega (arith, is)) (omega arith))
-        (street_rises Bike bike (low + 2) (low + 4) (omega (arith, is)) (omega arith)))
-        (rise_if IsArcBy (low + 4) high cars (street (road_number nodes) Car car id other) (omega (arith, below))
-        (λ there. street_rises Car car (low + 4) high (omega (arith, is)) (omega (arith, below))))
+    streets_rise : (bases : Bases) (cars : Bool) (low high : ℕ) → low ≡ 12 * id + 6 * step → low + 6 ≤ high → Rise IsArcBy low high (streets (road_number nodes) bases cars id other)
+    streets_rise bases cars low high is below =
+        rise_append IsArcBy low (low + 4) high (street (road_number nodes) Foot bases.foot id other ++ street (road_number nodes) Bike bases.bike id other) _
+        (rise_append IsArcBy low (low + 2) (low + 4) (street (road_number nodes) Foot bases.foot id other) (street (road_number nodes) Bike bases.bike id other)
+        (street_rises Foot bases.foot low (low + 2) (omega (arith, is)) (omega arith))
+        (street_rises Bike bases.bike (low + 2) (low + 4) (omega (arith, is)) (omega arith)))
+        (rise_if IsArcBy (low + 4) high cars (street (road_number nodes) Car bases.car id other) (omega (arith, below))
+        (λ there. street_rises Car bases.car (low + 4) high (omega (arith, is)) (omega (arith, below))))
 
   arcs_rise_at : (at : Corner) (id : ℕ) → id ≡ at.id → Rise IsArcBy (12 * id) (12 * (id + 1)) (corner_arcs n (road_number nodes) at)
   arcs_rise_at at id is =
-      rise_append IsArcBy (12 * id) (12 * id + 6) (12 * (id + 1)) (along_row n (road_number nodes) at) (along_column n (road_number nodes) at)
-      (rise_if IsArcBy (12 * id) (12 * id + 6) (nat_lt (at.column + 1) n) (streets (road_number nodes) 53203 17735 8939 (is_car_line at.row) at.id (at.id + 1)) (omega arith)
-      (λ there. streets_rise at.id 0 (omega (arith, ltb-true (at.column + 1) n there)) 1 (inl (refl, refl)) (at.id + 1) refl 53203 17735 8939 (is_car_line at.row) (12 * id) (12 * id + 6) (omega (arith, is)) (omega arith)))
-      (rise_if IsArcBy (12 * id + 6) (12 * (id + 1)) (nat_lt (at.row + 1) n) (streets (road_number nodes) 79515 26505 13359 (is_car_line at.column) at.id (at.id + n)) (omega arith)
-      (λ there. streets_rise at.id 1 (omega (arith, ltb-true (at.row + 1) n there)) n (inr (refl, refl)) (at.id + n) refl 79515 26505 13359 (is_car_line at.column) (12 * id + 6) (12 * (id + 1)) (omega (arith, is)) (omega arith)))
+      rise_append IsArcBy (12 * id) (12 * id + 6) (12 * (id + 1)) (along n (road_number nodes) at Row) (along n (road_number nodes) at Column)
+      (rise_if IsArcBy (12 * id) (12 * id + 6) (nat_lt (at.column + 1) n) (streets (road_number nodes) row_bases (is_car_line at.row) at.id (at.id + 1)) (omega arith)
+      (λ there. streets_rise at.id 0 (omega (arith, ltb-true (at.column + 1) n there)) 1 (inl (refl, refl)) (at.id + 1) refl row_bases (is_car_line at.row) (12 * id) (12 * id + 6) (omega (arith, is)) (omega arith)))
+      (rise_if IsArcBy (12 * id + 6) (12 * (id + 1)) (nat_lt (at.row + 1) n) (streets (road_number nodes) column_bases (is_car_line at.column) at.id (at.id + n)) (omega arith)
+      (λ there. streets_rise at.id 1 (omega (arith, ltb-true (at.row + 1) n there)) n (inr (refl, refl)) (at.id + n) refl column_bases (is_car_line at.column) (12 * id + 6) (12 * (id + 1)) (omega (arith, is)) (omega arith)))
 
   arcs_rise : Rise IsArcBy 12 (12 * (1 + n * n)) (city_arcs n (road_number nodes))
   arcs_rise = corners_rise IsArcBy (λ id. 12 * id) n (corner_arcs n (road_number nodes)) (λ row column id there too is. arcs_rise_at (corner n row column) id is)

@@ -1,6 +1,5 @@
 -- The sample city keeps what a network's parts must: keys and durations.
-use Rattle.std.proofs.Common.{◌≡◌, ℕ, zero, suc, pos, ◌+◌, ◌^◌, ◌<◌, ◌≤◌, nat_lt, List, [], ◌∷◌, ◌++◌, length, map, get_or, Bool, true, false, Option, None, Some, if◌then◌else◌, refl, sym, ap, subst, ◌∙◌, arith, add-zero, zero-add, option_map}
-use Rattle.std.specs.Prelude.{option_and_then, option_to_list}
+use Rattle.std.proofs.Common.{◌≡◌, ℕ, zero, suc, pos, ◌+◌, ◌^◌, ◌<◌, ◌≤◌, nat_lt, List, [], ◌∷◌, ◌++◌, length, map, get_or, Bool, true, false, Option, None, Some, if◌then◌else◌, refl, sym, ap, subst, ◌∙◌, arith, add-zero, zero-add}
 use Rattle.std.specs.List.{All, flat_map}
 use Rattle.std.proofs.lemmas.List.{length-map}
 use Rattle.std.proofs.lemmas.List.Elements.{All-append, All-cons, All-head, All-map, All-nil, All-tail}
@@ -13,12 +12,16 @@ use Rattle.mode_network.specs.NetworkLists.{NetworkLists}
 use Rattle.mode_network.specs.Rules.{AreParts, IsRoad, IsStop, IsSwitch}
 use Rattle.mode_network.specs.declared.nodes.Arc.{Arc}
 use Rattle.mode_network.specs.declared.nodes.Node.{Node}
+use Rattle.mode_network.specs.declared.nodes.NodeKey.{NodeKey}
+use Rattle.mode_network.specs.declared.nodes.NodeKey.TheVariants.{Road, Switch}
 use Rattle.sample_city.specs.Corners.{corner, corner_place, corners, has_cars, is_car_line, lines}
-use Rattle.sample_city.specs.Roads.{RoadNodeKey, along_column, along_row, city_arcs, corner_arcs, node_in, nodes_at, road_between, road_number, street, streets, time_between, road_key}
+use Rattle.sample_city.specs.Roads.{RoadNodeKey, along, arc_between, city_arcs, column_bases, corner_arcs, node_at, nodes_at, road_at, road_between, road_key, road_number, row_bases, street, streets, time_between}
 use Rattle.sample_city.specs.SampleCity.{IsSampleCity}
-use Rattle.sample_city.specs.Stops.{city_links, city_stop_links, city_stop_nodes, city_switch_links, city_switches, first_corner, last_corner, link_both, link_into, link_out, switch_in}
+use Rattle.sample_city.specs.Stops.{city_links, city_stop_links, city_stop_nodes, city_switch_links, city_switches, first_corner, last_corner, link_both}
 use Rattle.sample_city.specs.declared.corners.Corner.{Corner}
+use Rattle.sample_city.specs.declared.corners.Direction.TheVariants.{Row, Column}
 use Rattle.sample_city.specs.declared.stops.CityStop.{CityStop}
+use Rattle.sample_city.specs.declared.streets.Bases.{Bases}
 use Rattle.sample_city.proofs.RangeLaws.{below_end}
 
 -- what holds of all that each element gives, where the elements are such
@@ -26,9 +29,9 @@ pub flat_map-if : {X Y : Type 0} (P : Y → Type 0) (Q : X → Type 0) (f : X �
 flat_map-if P Q f each [] all = All-nil P
 flat_map-if P Q f each (x ∷ xs) all = All-append P (f x) (flat_map f xs) (each x (All-head Q x xs all)) (flat_map-if P Q f each xs (All-tail Q x xs all))
 
-pub flat_map-all : {X Y : Type 0} (P : Y → Type 0) (f : X → List Y) → ((x : X) → All P (f x)) → (xs : List X) → All P (flat_map f xs)
-flat_map-all P f each [] = All-nil P
-flat_map-all P f each (x ∷ xs) = All-append P (f x) (flat_map f xs) (each x) (flat_map-all P f each xs)
+if_all : {X : Type 0} (P : X → Type 0) (there : Bool) (xs : List X) → All P xs → All P (if there then xs else [])
+if_all P true xs all = all
+if_all P false xs all = All-nil P
 
 -- ---- nodes
 
@@ -46,31 +49,25 @@ small_corners n size =
     let product = mul-le r n 300 300 (omega (arith, row, size)) size in
     omega (arith, product, column, size))) (lines n) (below_end n)
 
-road_in : (place : Option Place) (at : Corner) (mode : Mode) → IsSmall at → All IsRoadNode (option_to_list (node_in place at mode))
-road_in None at mode small = All-nil IsRoadNode
-road_in (Some place) at mode small = All-cons IsRoadNode _ [] small (All-nil IsRoadNode)
+node_is : (P : Node → Type 0) (place : Option Place) (key : NodeKey) → ((place : Place) → P (record { key = key; place = place })) → All P (node_at place key)
+node_is P None key each = All-nil P
+node_is P (Some place) key each = All-cons P (record { key = key; place = place }) [] (each place) (All-nil P)
 
 roads_at : (at : Corner) → IsSmall at → All IsRoadNode (nodes_at at)
 roads_at at small =
-    All-append IsRoadNode (option_to_list (node_in (corner_place at) at Foot) ++ option_to_list (node_in (corner_place at) at Bike)) (if has_cars at then option_to_list (node_in (corner_place at) at Car) else [])
-    (All-append IsRoadNode (option_to_list (node_in (corner_place at) at Foot)) (option_to_list (node_in (corner_place at) at Bike)) (road_in (corner_place at) at Foot small) (road_in (corner_place at) at Bike small))
-    (by_test (has_cars at))
+    All-append IsRoadNode (road_at at Foot ++ road_at at Bike) _ (All-append IsRoadNode (road_at at Foot) (road_at at Bike) (road_is Foot) (road_is Bike))
+    (if_all IsRoadNode (has_cars at) (road_at at Car) (road_is Car))
   where
-    by_test : (cars : Bool) → All IsRoadNode (if cars then option_to_list (node_in (corner_place at) at Car) else [])
-    by_test true = road_in (corner_place at) at Car small
-    by_test false = All-nil IsRoadNode
+    road_is : (mode : Mode) → All IsRoadNode (road_at at mode)
+    road_is mode = node_is IsRoadNode (corner_place at) (Road mode (pos at.id)) (λ place. small)
 
 abbrev IsSwitchNode : Node → Type 0
 IsSwitchNode node = IsSwitch node.key
 
-switch_is : (place : Option Place) (id : ℕ) → id < 10 ^ 18 → All IsSwitchNode (option_to_list (switch_in place (pos id)))
-switch_is None id small = All-nil IsSwitchNode
-switch_is (Some place) id small = All-cons IsSwitchNode _ [] small (All-nil IsSwitchNode)
-
 switches_are : (n : ℕ) → All IsSwitchNode (city_switches n)
 switches_are n =
-    All-append IsSwitchNode (option_to_list (switch_in (corner_place (first_corner n)) (pos 1000000))) (option_to_list (switch_in (corner_place (last_corner n)) (pos 1000001)))
-    (switch_is (corner_place (first_corner n)) 1000000 (omega arith)) (switch_is (corner_place (last_corner n)) 1000001 (omega arith))
+    All-append IsSwitchNode (node_at (corner_place (first_corner n)) (Switch (pos 1000000))) (node_at (corner_place (last_corner n)) (Switch (pos 1000001)))
+    (node_is IsSwitchNode (corner_place (first_corner n)) (Switch (pos 1000000)) (λ place. omega arith)) (node_is IsSwitchNode (corner_place (last_corner n)) (Switch (pos 1000001)) (λ place. omega arith))
 
 stop_nodes_keep : (j : ℕ) (stops : List CityStop) (k : ℕ) (d : Node) → k < length (city_stop_nodes j stops) → IsStop (j + k) (get_or (city_stop_nodes j stops) k d).key
 stop_nodes_keep j [] k d below = absurd (omega arith)
@@ -88,52 +85,29 @@ stop_nodes_long j (stop ∷ stops) = ap suc (stop_nodes_long (j + 1) stops)
 abbrev Lasts : Arc → Type 0
 Lasts arc = 0 < arc.ms
 
+arc_lasts : (from to : Option ℕ) (ms : ℕ) → 0 < ms → All Lasts (arc_between from to ms)
+arc_lasts None to ms some = All-nil Lasts
+arc_lasts (Some from) None ms some = All-nil Lasts
+arc_lasts (Some from) (Some to) ms some = All-cons Lasts (record { from = from; to = to; ms = ms }) [] some (All-nil Lasts)
+
 module _ (number : RoadNodeKey → Option ℕ) where
-  arc_lasts : (mode : Mode) (base from to : ℕ) → 0 < base → All Lasts (option_to_list (road_between number mode base from to))
-  arc_lasts mode base from to some = by_ends (number (road_key from mode)) (number (road_key to mode))
-    where
-      arc : ℕ → ℕ → Arc
-      arc start end = record { from = start; to = end; ms = time_between base from to }
-
-      by_ends : (start end : Option ℕ) → All Lasts (option_to_list (option_and_then (λ (start : ℕ). option_map (λ (end : ℕ). record { from = start; to = end; ms = time_between base from to }) end) start))
-      by_ends None end = All-nil Lasts
-      by_ends (Some start) None = All-nil Lasts
-      by_ends (Some start) (Some end) = All-cons Lasts (record { from = start; to = end; ms = time_between base from to }) [] (omega arith) (All-nil Lasts)
-
   street_lasts : (mode : Mode) (base a b : ℕ) → 0 < base → All Lasts (street number mode base a b)
-  street_lasts mode base a b some =
-      All-append Lasts (option_to_list (road_between number mode base a b)) (option_to_list (road_between number mode base b a)) (arc_lasts mode base a b some) (arc_lasts mode base b a some)
+  street_lasts mode base a b some = All-append Lasts (road_between number mode base a b) _ (arc_lasts _ _ (time_between base a b) (omega arith)) (arc_lasts _ _ (time_between base b a) (omega arith))
 
-  streets_last : (foot bike car : ℕ) (cars : Bool) (a b : ℕ) → 0 < foot → 0 < bike → 0 < car → All Lasts (streets number foot bike car cars a b)
-  streets_last foot bike car cars a b f k c =
-      All-append Lasts (street number Foot foot a b ++ street number Bike bike a b) (if cars then street number Car car a b else [])
-      (All-append Lasts (street number Foot foot a b) (street number Bike bike a b) (street_lasts Foot foot a b f) (street_lasts Bike bike a b k))
-      (by_test cars)
-    where
-      by_test : (cars : Bool) → All Lasts (if cars then street number Car car a b else [])
-      by_test true = street_lasts Car car a b c
-      by_test false = All-nil Lasts
-
-  if_last : (there : Bool) (arcs : List Arc) → All Lasts arcs → All Lasts (if there then arcs else [])
-  if_last true arcs all = all
-  if_last false arcs all = All-nil Lasts
+  streets_last : (bases : Bases) (cars : Bool) (a b : ℕ) → 0 < bases.foot → 0 < bases.bike → 0 < bases.car → All Lasts (streets number bases cars a b)
+  streets_last bases cars a b f k c =
+      All-append Lasts (street number Foot bases.foot a b ++ street number Bike bases.bike a b) _
+      (All-append Lasts (street number Foot bases.foot a b) (street number Bike bases.bike a b) (street_lasts Foot bases.foot a b f) (street_lasts Bike bases.bike a b k))
+      (if_all Lasts cars (street number Car bases.car a b) (street_lasts Car bases.car a b c))
 
   arcs_last_at : (n : ℕ) (at : Corner) → All Lasts (corner_arcs n number at)
   arcs_last_at n at =
-      All-append Lasts (along_row n number at) (along_column n number at)
-      (if_last (nat_lt (at.column + 1) n) (streets number 53203 17735 8939 (is_car_line at.row) at.id (at.id + 1)) (streets_last 53203 17735 8939 (is_car_line at.row) at.id (at.id + 1) (omega arith) (omega arith) (omega arith)))
-      (if_last (nat_lt (at.row + 1) n) (streets number 79515 26505 13359 (is_car_line at.column) at.id (at.id + n)) (streets_last 79515 26505 13359 (is_car_line at.column) at.id (at.id + n) (omega arith) (omega arith) (omega arith)))
-
-  into_lasts : (ms place : ℕ) (road : Option ℕ) → 0 < ms → All Lasts (link_into ms place road)
-  into_lasts ms place None some = All-nil Lasts
-  into_lasts ms place (Some road) some = All-cons Lasts (record { from = road; to = place; ms = ms }) [] some (All-nil Lasts)
-
-  out_lasts : (ms place : ℕ) (road : Option ℕ) → 0 < ms → All Lasts (link_out ms place road)
-  out_lasts ms place None some = All-nil Lasts
-  out_lasts ms place (Some road) some = All-cons Lasts (record { from = place; to = road; ms = ms }) [] some (All-nil Lasts)
+      All-append Lasts (along n number at Row) (along n number at Column)
+      (if_all Lasts (nat_lt (at.column + 1) n) _ (streets_last row_bases (is_car_line at.row) at.id (at.id + 1) (omega arith) (omega arith) (omega arith)))
+      (if_all Lasts (nat_lt (at.row + 1) n) _ (streets_last column_bases (is_car_line at.column) at.id (at.id + n) (omega arith) (omega arith) (omega arith)))
 
   both_last : (ms place : ℕ) (road : Option ℕ) → 0 < ms → All Lasts (link_both ms place road)
-  both_last ms place road some = All-append Lasts (link_into ms place road) (link_out ms place road) (into_lasts ms place road some) (out_lasts ms place road some)
+  both_last ms place road some = All-append Lasts (arc_between road (Some place) ms) (arc_between (Some place) road ms) (arc_lasts road (Some place) ms some) (arc_lasts (Some place) road ms some)
 
   stop_links_last : (k : ℕ) (stops : List CityStop) → All Lasts (city_stop_links number k stops)
   stop_links_last k [] = All-nil Lasts
@@ -145,8 +119,8 @@ module _ (number : RoadNodeKey → Option ℕ) where
       All-append Lasts _ _
       (All-append Lasts _ _
       (All-append Lasts _ _ (both_last 30000 k (number (road_key (first_corner n).id Foot)) (omega arith)) (both_last 30000 k (number (road_key (first_corner n).id Bike)) (omega arith)))
-      (into_lasts 30000 (k + 1) (number (road_key (last_corner n).id Bike)) (omega arith)))
-      (out_lasts 30000 (k + 1) (number (road_key (last_corner n).id Foot)) (omega arith))
+      (arc_lasts (number (road_key (last_corner n).id Bike)) (Some (k + 1)) 30000 (omega arith)))
+      (arc_lasts (Some (k + 1)) (number (road_key (last_corner n).id Foot)) 30000 (omega arith))
 
   links_last_all : (n roads : ℕ) (stops : List CityStop) → All Lasts (city_links n number roads stops)
   links_last_all n roads stops = All-append Lasts (city_stop_links number roads stops) (city_switch_links n number (roads + length stops)) (stop_links_last roads stops) (switch_links_last n (roads + length stops))
@@ -157,6 +131,6 @@ city_parts n network size is = record {
   stops_are = λ k d below. subst (λ (stops : List Node). k < length stops → IsStop k (get_or stops k d).key) (sym is.stops) (λ there. rw (zero-add k) at (stop_nodes_keep 0 is.city k d there)) below;
   switches_are = subst (All IsSwitchNode) (sym is.switches) (switches_are n);
   one_name_each = ap length is.names ∙ length-map is.city (λ (stop : CityStop). stop.name) ∙ sym (ap length is.stops ∙ stop_nodes_long 0 is.city);
-  arcs_last = All-permutation Lasts (city_arcs n (road_number network.roads)) network.arcs is.arcs.same (flat_map-all Lasts (corner_arcs n (road_number network.roads)) (arcs_last_at (road_number network.roads) n) (corners n));
+  arcs_last = All-permutation Lasts (city_arcs n (road_number network.roads)) network.arcs is.arcs.same (flat_map-if Lasts (λ at. Unit {0}) (corner_arcs n (road_number network.roads)) (λ at any. arcs_last_at (road_number network.roads) n at) (corners n) (λ k d within. tt));
   links_last = All-permutation Lasts (city_links n (road_number network.roads) (length network.roads) is.city) network.links is.links.same (links_last_all (road_number network.roads) n (length network.roads) is.city);
 }

@@ -1,5 +1,5 @@
 -- The links join a road node and a stop or a switch, and ascend.
-use Rattle.std.proofs.Common.{◌≡◌, ℕ, pos, ◌+◌, ◌*◌, ◌<◌, ◌≤◌, ◌⊎◌, inl, inr, ⊎_elim, List, [], ◌∷◌, ◌++◌, length, nat_le, nat_lt, true, not, ◌&&◌, Option, None, Some, if◌then◌else◌, refl, sym, ap, subst, ◌∙◌, arith, append_assoc}
+use Rattle.std.proofs.Common.{◌≡◌, ℕ, pos, ◌+◌, ◌*◌, ◌<◌, ◌≤◌, ◌⊎◌, inl, inr, ⊎_elim, List, [], ◌∷◌, ◌++◌, length, nat_le, nat_lt, true, not, ◌&&◌, None, Some, if◌then◌else◌, refl, sym, ap, subst, ◌∙◌, arith, append_assoc}
 use Rattle.std.specs.List.{position}
 use Rattle.std.specs.List.Sorted.{IsPermutation}
 use Rattle.std.specs.Ordering.{is_eq}
@@ -10,11 +10,11 @@ use Rattle.mode_network.specs.Rules.{AreInOrder, arc_cmp, end_or_order_fault, fi
 use Rattle.mode_network.specs.declared.nodes.Arc.{Arc}
 use Rattle.mode_network.specs.declared.nodes.Node.{Node}
 use Rattle.mode_network.proofs.RuleLemmas.{arcs_total}
-use Rattle.sample_city.specs.Roads.{road_number}
-use Rattle.sample_city.specs.Stops.{city_links, city_stop_links, city_switch_links, first_corner, last_corner, link_both, link_into, link_out}
+use Rattle.sample_city.specs.Roads.{arc_between, road_number}
+use Rattle.sample_city.specs.Stops.{city_links, city_stop_links, city_switch_links, first_corner, last_corner, link_both}
 use Rattle.sample_city.specs.declared.stops.CityStop.{CityStop}
-use Rattle.sample_city.proofs.ArcLaws.{position_none, same_ends}
-use Rattle.sample_city.proofs.RiseLaws.{Rise, rise_all, rise_append, rise_few, rise_one, rise_sorted}
+use Rattle.sample_city.proofs.ArcLaws.{arc_rises, position_none, same_ends}
+use Rattle.sample_city.proofs.RiseLaws.{Rise, rise_all, rise_append, rise_few, rise_sorted}
 use Rattle.sample_city.proofs.RoadLaws.{number_below, number_same}
 
 module _ (nodes : List Node) where
@@ -51,27 +51,19 @@ module _ (nodes : List Node) where
       let modes = (number_same nodes p.id p.mode q.id q.mode p.road p.number (q.number ∙ ap Some (sym alike.0))).1 in
       omega (arith, p.is, q.is, alike.1, alike.2, modes)
 
-  into_rises : (ms place id mode low high : ℕ) → mode < 2 → length nodes ≤ place → low ≡ 4 * place + 2 * mode → low < high → Rise IsLinkBy low high (link_into ms place (road_number nodes (pos id, mode)))
-  into_rises ms place id mode low high small behind is below = by_number (road_number nodes (pos id, mode)) refl
-    where
-      by_number : (road : Option ℕ) → road_number nodes (pos id, mode) ≡ road → Rise IsLinkBy low high (link_into ms place road)
-      by_number None e = omega (arith, below)
-      by_number (Some road) e =
-          rise_one IsLinkBy low high (record { from = road; to = place; ms = ms }) below
-          (record { place = place; id = id; mode = mode; out = 0; road = road; is = omega (arith, is); low = small; behind = behind; number = e; ends = inl (refl, refl, refl) })
+  into_rises : (ms place id mode low high : ℕ) → mode < 2 → length nodes ≤ place → low ≡ 4 * place + 2 * mode → low < high → Rise IsLinkBy low high (arc_between (road_number nodes (pos id, mode)) (Some place) ms)
+  into_rises ms place id mode low high small behind is below =
+      arc_rises IsLinkBy (road_number nodes (pos id, mode)) (Some place) ms low high below (λ road end e f.
+      record { place = place; id = id; mode = mode; out = 0; road = road; is = omega (arith, is); low = small; behind = behind; number = e; ends = inl (refl, refl, cc) })
 
-  out_rises : (ms place id mode low high : ℕ) → mode < 2 → length nodes ≤ place → low ≡ 4 * place + 2 * mode + 1 → low < high → Rise IsLinkBy low high (link_out ms place (road_number nodes (pos id, mode)))
-  out_rises ms place id mode low high small behind is below = by_number (road_number nodes (pos id, mode)) refl
-    where
-      by_number : (road : Option ℕ) → road_number nodes (pos id, mode) ≡ road → Rise IsLinkBy low high (link_out ms place road)
-      by_number None e = omega (arith, below)
-      by_number (Some road) e =
-          rise_one IsLinkBy low high (record { from = place; to = road; ms = ms }) below
-          (record { place = place; id = id; mode = mode; out = 1; road = road; is = is; low = small; behind = behind; number = e; ends = inr (refl, refl, refl) })
+  out_rises : (ms place id mode low high : ℕ) → mode < 2 → length nodes ≤ place → low ≡ 4 * place + 2 * mode + 1 → low < high → Rise IsLinkBy low high (arc_between (Some place) (road_number nodes (pos id, mode)) ms)
+  out_rises ms place id mode low high small behind is below =
+      arc_rises IsLinkBy (Some place) (road_number nodes (pos id, mode)) ms low high below (λ start road e f.
+      record { place = place; id = id; mode = mode; out = 1; road = road; is = is; low = small; behind = behind; number = f; ends = inr (refl, cc, refl) })
 
   both_rise : (ms place id mode low high : ℕ) → mode < 2 → length nodes ≤ place → low ≡ 4 * place + 2 * mode → low + 2 ≤ high → Rise IsLinkBy low high (link_both ms place (road_number nodes (pos id, mode)))
   both_rise ms place id mode low high small behind is below =
-      rise_append IsLinkBy low (low + 1) high (link_into ms place (road_number nodes (pos id, mode))) (link_out ms place (road_number nodes (pos id, mode)))
+      rise_append IsLinkBy low (low + 1) high (arc_between (road_number nodes (pos id, mode)) (Some place) ms) (arc_between (Some place) (road_number nodes (pos id, mode)) ms)
       (into_rises ms place id mode low (low + 1) small behind is (omega arith)) (out_rises ms place id mode (low + 1) high small behind (omega (arith, is)) (omega (arith, below)))
 
   stop_links_rise : (k high : ℕ) (stops : List CityStop) → length nodes ≤ k → high ≡ 4 * (k + length stops) → Rise IsLinkBy (4 * k) high (city_stop_links (road_number nodes) k stops)
@@ -86,10 +78,10 @@ module _ (nodes : List Node) where
     hired = link_both 30000 k (road_number nodes (pos (first_corner n).id, 0)) ++ link_both 30000 k (road_number nodes (pos (first_corner n).id, 1))
 
     abbrev parked : List Arc
-    parked = link_into 30000 (k + 1) (road_number nodes (pos (last_corner n).id, 1))
+    parked = arc_between (road_number nodes (pos (last_corner n).id, 1)) (Some (k + 1)) 30000
 
     abbrev left : List Arc
-    left = link_out 30000 (k + 1) (road_number nodes (pos (last_corner n).id, 0))
+    left = arc_between (Some (k + 1)) (road_number nodes (pos (last_corner n).id, 0)) 30000
 
     switch_links_rise : length nodes ≤ k → Rise IsLinkBy (4 * k) (4 * (k + 2)) (hired ++ (left ++ parked))
     switch_links_rise behind =

@@ -1,16 +1,8 @@
 -- Numbers that are noted one after the other.
-use Rattle.std.proofs.Common.{◌≡◌, ℕ, Bool, true, false, Option, None, Some, if◌then◌else◌, refl, sym, ◌∙◌, ◌<◌, List, [], ◌∷◌, length, arith}
+use Rattle.std.proofs.Common.{◌≡◌, ℕ, Option, None, Some, refl, sym, ◌∙◌, ◌<◌, List, [], ◌∷◌, length, arith}
 use Rattle.mode_network.specs.declared.nodes.Node.{Node}
 use Rattle.std.specs.Option.{option_or}
-use Rattle.sample_city.specs.inside.Numbers.{number_if_here}
 use Rattle.sample_city.specs.Roads.{RoadNodeKey, road_number_from}
-
--- a number that is noted now stands before the later ones
-pub noted_before : (old : Option ℕ) (here : Bool) (number : ℕ) (later : Option ℕ)
-    → option_or (number_if_here old here number) later ≡ option_or old (if here then Some number else later)
-noted_before (Some n) here number later = refl
-noted_before None true number later = refl
-noted_before None false number later = refl
 
 nothing_noted : (old : Option ℕ) → option_or old None ≡ old
 nothing_noted None = refl

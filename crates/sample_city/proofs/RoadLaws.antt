@@ -1,6 +1,6 @@
 -- The road nodes ascend, and a number is that of one of them.
-use Rattle.std.proofs.Common.{◌≡◌, ℕ, ℤ, pos, ◌+◌, ◌*◌, ◌<◌, ◌≤◌, List, [], ◌∷◌, ◌++◌, length, get_or, nat_eq, true, Option, None, Some, refl, sym, ap, ◌∙◌, arith, eqb-true, ⊎_elim}
-use Rattle.std.specs.Prelude.{option_and_then, option_to_list}
+use Rattle.std.proofs.Common.{◌≡◌, ℕ, pos, ◌+◌, ◌*◌, ◌<◌, ◌≤◌, List, [], ◌∷◌, ◌++◌, length, get_or, nat_eq, true, Option, None, Some, refl, sym, ap, ◌∙◌, arith, eqb-true, ⊎_elim}
+use Rattle.std.specs.Prelude.{option_and_then}
 use Rattle.std.specs.Ordering.{int_eq, is_lt}
 use Rattle.std.proofs.lemmas.Bool.{and_parts, cases_order, false≢true}
 use Rattle.std.proofs.lemmas.Bool.Decides.{Decides-int_eq, nat_tests}
@@ -18,7 +18,7 @@ use Rattle.mode_network.specs.declared.nodes.NodeKey.{NodeKey}
 use Rattle.mode_network.specs.declared.nodes.NodeKey.TheVariants.{Road, Stop, Switch}
 use Rattle.mode_network.proofs.RuleLemmas.{number_is_low}
 use Rattle.sample_city.specs.Corners.{corner, corner_place, has_cars}
-use Rattle.sample_city.specs.Roads.{city_roads, is_key_of, node_in, nodes_at, road_number}
+use Rattle.sample_city.specs.Roads.{city_roads, is_key_of, node_at, nodes_at, road_at, road_number}
 use Rattle.sample_city.specs.declared.corners.Corner.{Corner}
 use Rattle.sample_city.proofs.CornerLaws.{corners_rise}
 use Rattle.sample_city.proofs.RiseLaws.{Rise, rise_append, rise_few, rise_if, rise_in_order, rise_one}
@@ -42,18 +42,18 @@ roads_below tag other a b below one two =
         (λ other. ⊎_elim (λ under. grind (arith, nat_tests, under)) (λ above. absurd (omega (arith, le, above))) other)
         (cases_order i j)
 
-road_in_rises : (place : Option Place) (at : Corner) (mode : Mode) (low high : ℕ) → low ≡ 3 * at.id + number_of_mode mode → low < high → Rise IsRoadBy low high (option_to_list (node_in place at mode))
+road_in_rises : (place : Option Place) (at : Corner) (mode : Mode) (low high : ℕ) → low ≡ 3 * at.id + number_of_mode mode → low < high → Rise IsRoadBy low high (node_at place (Road mode (pos at.id)))
 road_in_rises None at mode low high is below = omega (arith, below)
 road_in_rises (Some place) at mode low high is below =
     rise_one IsRoadBy low high (record { key = Road mode (pos at.id); place = place }) below (record { id = at.id; mode = mode; key = refl; is = is })
 
 roads_rise_at : (at : Corner) (id : ℕ) → id ≡ at.id → Rise IsRoadBy (3 * id) (3 * (id + 1)) (nodes_at at)
 roads_rise_at at id is =
-    rise_append IsRoadBy (3 * id) (3 * id + 2) (3 * (id + 1)) (option_to_list (node_in (corner_place at) at Foot) ++ option_to_list (node_in (corner_place at) at Bike)) _
-    (rise_append IsRoadBy (3 * id) (3 * id + 1) (3 * id + 2) (option_to_list (node_in (corner_place at) at Foot)) (option_to_list (node_in (corner_place at) at Bike))
+    rise_append IsRoadBy (3 * id) (3 * id + 2) (3 * (id + 1)) (road_at at Foot ++ road_at at Bike) _
+    (rise_append IsRoadBy (3 * id) (3 * id + 1) (3 * id + 2) (road_at at Foot) (road_at at Bike)
     (road_in_rises (corner_place at) at Foot (3 * id) (3 * id + 1) (omega (arith, is)) (omega arith))
     (road_in_rises (corner_place at) at Bike (3 * id + 1) (3 * id + 2) (omega (arith, is)) (omega arith)))
-    (rise_if IsRoadBy (3 * id + 2) (3 * (id + 1)) (has_cars at) (option_to_list (node_in (corner_place at) at Car)) (omega arith)
+    (rise_if IsRoadBy (3 * id + 2) (3 * (id + 1)) (has_cars at) (road_at at Car) (omega arith)
     (λ there. road_in_rises (corner_place at) at Car (3 * id + 2) (3 * (id + 1)) (omega (arith, is)) (omega arith)))
 
 roads_rise : (n : ℕ) → Rise IsRoadBy 3 (3 * (1 + n * n)) (city_roads n)

@@ -18,8 +18,10 @@ use Rattle.plain_texts.specs.Names.{is_name, name_of}
 use Rattle.plan_base.specs.PlaceOf.{place_of, shown}
 use Rattle.plan_base.specs.declared.places.Place.{Place}
 use Rattle.mode_network.specs.Rules.{first_unsorted, name_cmp, node_cmp}
+use Rattle.mode_network.specs.declared.nodes.NodeKey.TheVariants.{Switch}
 use Rattle.sample_city.specs.Corners.{corner, corner_place, corners, lines}
-use Rattle.sample_city.specs.Stops.{city_stops, city_switches, corner_stop, corner_text, first_corner, has_stop, last_corner, stop_in, switch_in}
+use Rattle.sample_city.specs.Roads.{node_at}
+use Rattle.sample_city.specs.Stops.{city_stops, city_switches, corner_stop, corner_text, first_corner, has_stop, last_corner, stop_in}
 use Rattle.sample_city.specs.declared.corners.Corner.{Corner}
 use Rattle.sample_city.specs.declared.stops.CityStop.{CityStop}
 use Rattle.sample_city.proofs.CornerLaws.{corners_rise}
@@ -173,8 +175,8 @@ both_switches n size =
     (λ long order. record { two = long; in_order = order })
   where
     by_places : {G : Type 0} (first last : Option Place) → is_some first ≡ true → is_some last ≡ true
-        → (length (option_to_list (switch_in first (pos 1000000)) ++ option_to_list (switch_in last (pos 1000001))) ≡ 2
-        → first_unsorted node_cmp 0 (option_to_list (switch_in first (pos 1000000)) ++ option_to_list (switch_in last (pos 1000001))) ≡ None → G) → G
+        → (length (node_at first (Switch (pos 1000000)) ++ node_at last (Switch (pos 1000001))) ≡ 2
+        → first_unsorted node_cmp 0 (node_at first (Switch (pos 1000000)) ++ node_at last (Switch (pos 1000001))) ≡ None → G) → G
     by_places (Some first) (Some last) a b give = give refl refl
     by_places None last a b give = absurd (false≢true a)
     by_places (Some first) None a b give = absurd (false≢true b)

@@ -14,13 +14,14 @@ use Rattle.plain_texts.specs.Names.{name_of}
 use Rattle.timetable_arcs.specs.TripRules.{calls_of, goes_on, is_early, is_trip, trips_fault, unknown_stop}
 use Rattle.timetable_arcs.specs.Trips.{TripLists}
 use Rattle.timetable_arcs.specs.declared.trips.Call.{Call}
-use Rattle.sample_city.specs.Corners.{corner, is_stop_line, lines, stop_lines}
+use Rattle.sample_city.specs.Corners.{crossing, is_stop_line, lines, stop_lines}
 use Rattle.sample_city.specs.Stops.{corner_text}
-use Rattle.sample_city.specs.Trips.{buses, calls_along, city_trips, corner_stop_number, stop_place, trams, trip_along, trip_in}
+use Rattle.sample_city.specs.Trips.{buses, calls_along, city_trips, corner_stop_number, fleet_trips, line_stops, line_trips, stop_place, trams, trip_along, trip_in}
 use Rattle.sample_city.specs.declared.corners.Corner.{Corner}
 use Rattle.sample_city.specs.declared.stops.CityStop.{CityStop}
+use Rattle.sample_city.specs.declared.trips.Fleet.{Fleet}
 use Rattle.sample_city.proofs.ArcLaws.{position_none}
-use Rattle.sample_city.proofs.CityLaws.{flat_map-all, flat_map-if}
+use Rattle.sample_city.proofs.CityLaws.{flat_map-if}
 use Rattle.sample_city.proofs.RangeLaws.{below_end}
 
 -- ---- calls
@@ -60,30 +61,28 @@ faultless count k (trip ∷ trips) all =
     let one = All-head (IsRight count) trip trips all in
     rw (one.is, one.known, one.on) (faultless count (k + 1) trips (All-tail (IsRight count) trip trips all))
 
-module _ (count letter head line every : ℕ) (stops : List ℕ) (low : 3 ≤ letter) (high : letter ≤ 13) (often : every ≤ 900) (two : 2 ≤ length stops) (few : length stops ≤ 300) (known : All (λ stop. stop < count) stops) where
-  trip_right : (j : ℕ) → j < 108 → All (IsRight count) (trip_along letter head line every stops j)
-  trip_right j soon = by_name (name_of (corner_text head line j))
+module _ (count line : ℕ) (stops : List ℕ) (fleet : Fleet) (low : 3 ≤ fleet.letter) (high : fleet.letter ≤ 13) (often : fleet.every ≤ 900) (soon : fleet.trips ≤ 108) (two : 2 ≤ length stops) (few : length stops ≤ 300) (known : All (λ stop. stop < count) stops) where
+  trip_right : (j : ℕ) → j < fleet.trips → All (IsRight count) (trip_along fleet line stops j)
+  trip_right j below = by_name (name_of (corner_text fleet.head line j))
     where
-      early : 18000 + every * j + 140 * length stops < 600000
-      early = (let most = mul-le every j 900 108 often (omega (arith, soon)) in omega (arith, most, few))
+      early : 18000 + fleet.every * j + 140 * length stops < 600000
+      early = (let most = mul-le fleet.every j 900 108 often (omega (arith, soon, below)) in omega (arith, most, few))
 
-      by_name : (name : Option (List ℕ)) → All (IsRight count) (option_to_list (trip_in letter (18000 + every * j) stops name))
+      by_name : (name : Option (List ℕ)) → All (IsRight count) (option_to_list (trip_in fleet.letter (18000 + fleet.every * j) stops name))
       by_name None = All-nil (IsRight count)
       by_name (Some name) =
           All-cons (IsRight count) _ []
           (record {
-            is = and_from _ _ (and_from _ _ (and_from _ _ (and_from _ _ (le-leb 3 letter low) (le-leb letter 13 high)) (ap (nat_le 2) (along_long (18000 + every * j) stops) ∙ le-leb 2 (length stops) two)) refl)
-                (along_early (18000 + every * j) stops early);
-            known = position_none (λ (call : Call). nat_lt call.stop count) (calls_along (18000 + every * j) stops) (along_known count (18000 + every * j) stops known);
-            on = along_goes_on 0 (18000 + every * j) stops (omega arith);
-            short = omega (arith, along_long (18000 + every * j) stops, few);
+            is = and_from _ _ (and_from _ _ (and_from _ _ (and_from _ _ (le-leb 3 fleet.letter low) (le-leb fleet.letter 13 high)) (ap (nat_le 2) (along_long (18000 + fleet.every * j) stops) ∙ le-leb 2 (length stops) two)) refl)
+                (along_early (18000 + fleet.every * j) stops early);
+            known = position_none (λ (call : Call). nat_lt call.stop count) (calls_along (18000 + fleet.every * j) stops) (along_known count (18000 + fleet.every * j) stops known);
+            on = along_goes_on 0 (18000 + fleet.every * j) stops (omega arith);
+            short = omega (arith, along_long (18000 + fleet.every * j) stops, few);
           })
           (All-nil (IsRight count))
 
-  line_right : (times : ℕ) → times ≤ 108 → All (IsRight count) (flat_map (trip_along letter head line every stops) (lines times))
-  line_right times soon =
-      flat_map-if (IsRight count) (λ j. j < 108) (trip_along letter head line every stops) trip_right (lines times)
-      (All-weaker (λ j. j < times) (λ j. j < 108) (λ j below. omega (arith, below, soon)) (lines times) (below_end times))
+  line_right : All (IsRight count) (line_trips fleet line stops)
+  line_right = flat_map-if (IsRight count) (λ j. j < fleet.trips) (trip_along fleet line stops) trip_right (lines fleet.trips) (below_end fleet.trips)
 
 -- ---- how many there are
 
@@ -94,16 +93,15 @@ flat_few f most many each xs few =
     let product = mul-le (length xs) most many most few (omega arith) in
     omega (arith, length-flat_map f xs, sum, product)
 
-one_trip : (letter head line every : ℕ) (stops : List ℕ) (j : ℕ) → length (trip_along letter head line every stops j) ≤ 1
-one_trip letter head line every stops j = by_name (name_of (corner_text head line j))
+one_trip : (fleet : Fleet) (line : ℕ) (stops : List ℕ) (j : ℕ) → length (trip_along fleet line stops j) ≤ 1
+one_trip fleet line stops j = by_name (name_of (corner_text fleet.head line j))
   where
-    by_name : (name : Option (List ℕ)) → length (option_to_list (trip_in letter (18000 + every * j) stops name)) ≤ 1
+    by_name : (name : Option (List ℕ)) → length (option_to_list (trip_in fleet.letter (18000 + fleet.every * j) stops name)) ≤ 1
     by_name None = omega arith
     by_name (Some name) = omega arith
 
-line_few : (letter head line every times : ℕ) (stops : List ℕ) → length (flat_map (trip_along letter head line every stops) (lines times)) ≤ times * 1
-line_few letter head line every times stops =
-    flat_few (trip_along letter head line every stops) 1 times (one_trip letter head line every stops) (lines times) (omega (arith, length-range_with_len 0 times))
+line_few : (fleet : Fleet) (line : ℕ) (stops : List ℕ) → length (line_trips fleet line stops) ≤ fleet.trips * 1
+line_few fleet line stops = flat_few (trip_along fleet line stops) 1 fleet.trips (one_trip fleet line stops) (lines fleet.trips) (omega (arith, length-range_with_len 0 fleet.trips))
 
 -- ---- the trips of the city
 
@@ -128,20 +126,26 @@ module _ (n : ℕ) (size : n ≤ 300) (city : List CityStop) where
   along_lines : (at : ℕ → Corner) → 0 < length city → All (λ stop. stop < length city) (map (λ line. corner_stop_number city (at line)) (stop_lines n))
   along_lines at some = All-map (λ stop. stop < length city) (λ line. corner_stop_number city (at line)) (stop_lines n) (λ k d below. number_below (at _) some)
 
+  fleet_right : (fleet : Fleet) → 3 ≤ fleet.letter → fleet.letter ≤ 13 → fleet.every ≤ 900 → fleet.trips ≤ 108 → 2 ≤ length (stop_lines n) → 0 < length city → All (IsRight (length city)) (fleet_trips n city (stop_lines n) fleet)
+  fleet_right fleet low high often soon two some =
+      flat_map-if (IsRight (length city)) (λ line. Unit {0}) (λ line. line_trips fleet line (line_stops n city (stop_lines n) fleet.way line)) (λ line any.
+      let long = length-map (stop_lines n) (λ other. corner_stop_number city (crossing n fleet.way line other)) in
+      line_right (length city) line (line_stops n city (stop_lines n) fleet.way line) fleet low high often soon (omega (arith, two, long)) (omega (arith, lines_few, long)) (along_lines (crossing n fleet.way line) some)) (stop_lines n) (λ k d within. tt)
+
+  fleet_few : (fleet : Fleet) → length (fleet_trips n city (stop_lines n) fleet) ≤ 300 * (fleet.trips * 1)
+  fleet_few fleet = flat_few (λ line. line_trips fleet line (line_stops n city (stop_lines n) fleet.way line)) (fleet.trips * 1) 300 (λ line. line_few fleet line _) (stop_lines n) lines_few
+
   module _ (some : 2 ≤ length (stop_lines n) → 0 < length city) where
     rules_kept : All (IsRight (length city)) (city_trips n city)
     rules_kept = by_test (nat_le 2 (length (stop_lines n))) refl
       where
         by_test : (t : Bool) → nat_le 2 (length (stop_lines n)) ≡ t
-            → All (IsRight (length city)) (if t then flat_map (buses n city) (stop_lines n) ++ flat_map (trams n city) (stop_lines n) else [])
+            → All (IsRight (length city)) (if t then fleet_trips n city (stop_lines n) buses ++ fleet_trips n city (stop_lines n) trams else [])
         by_test false e = All-nil (IsRight (length city))
         by_test true e =
             let two = leb-true 2 (length (stop_lines n)) e in
-            All-append (IsRight (length city)) (flat_map (buses n city) (stop_lines n)) (flat_map (trams n city) (stop_lines n))
-            (flat_map-all (IsRight (length city)) (buses n city) (λ row. line_right (length city) 6 66 row 600 (map (λ column. corner_stop_number city (corner n row column)) (stop_lines n)) (omega arith) (omega arith) (omega arith)
-            (omega (arith, two, length-map (stop_lines n) (λ column. corner_stop_number city (corner n row column)))) (omega (arith, lines_few, length-map (stop_lines n) (λ column. corner_stop_number city (corner n row column)))) (along_lines (λ column. corner n row column) (some two)) 108 (omega arith)) (stop_lines n))
-            (flat_map-all (IsRight (length city)) (trams n city) (λ column. line_right (length city) 3 84 column 900 (map (λ row. corner_stop_number city (corner n row column)) (stop_lines n)) (omega arith) (omega arith) (omega arith)
-            (omega (arith, two, length-map (stop_lines n) (λ row. corner_stop_number city (corner n row column)))) (omega (arith, lines_few, length-map (stop_lines n) (λ row. corner_stop_number city (corner n row column)))) (along_lines (λ row. corner n row column) (some two)) 72 (omega arith)) (stop_lines n))
+            All-append (IsRight (length city)) (fleet_trips n city (stop_lines n) buses) (fleet_trips n city (stop_lines n) trams)
+            (fleet_right buses (omega arith) (omega arith) (omega arith) (omega arith) two (some two)) (fleet_right trams (omega arith) (omega arith) (omega arith) (omega arith) two (some two))
 
     pub trips_right : trips_fault 10 (length city) 0 (city_trips n city) ≡ None
     trips_right = faultless (length city) 0 (city_trips n city) rules_kept
@@ -149,12 +153,9 @@ module _ (n : ℕ) (size : n ≤ 300) (city : List CityStop) where
     pub trips_few : length (city_trips n city) ≤ 54000
     trips_few = by_test (nat_le 2 (length (stop_lines n)))
       where
-        by_test : (t : Bool) → length (if t then flat_map (buses n city) (stop_lines n) ++ flat_map (trams n city) (stop_lines n) else []) ≤ 54000
+        by_test : (t : Bool) → length (if t then fleet_trips n city (stop_lines n) buses ++ fleet_trips n city (stop_lines n) trams else []) ≤ 54000
         by_test false = omega arith
-        by_test true =
-            let along_rows = flat_few (buses n city) 108 300 (λ row. line_few 6 66 row 600 108 _) (stop_lines n) lines_few in
-            let along_columns = flat_few (trams n city) 72 300 (λ column. line_few 3 84 column 900 72 _) (stop_lines n) lines_few in
-            omega (arith, length-append (flat_map (buses n city) (stop_lines n)) (flat_map (trams n city) (stop_lines n)), along_rows, along_columns)
+        by_test true = omega (arith, length-append (fleet_trips n city (stop_lines n) buses) (fleet_trips n city (stop_lines n) trams), fleet_few buses, fleet_few trams)
 
     pub calls_few : calls_of (city_trips n city) ≤ 54000 * 300
     calls_few =

@@ -4,6 +4,8 @@ use Rattle.std.specs.List.{flat_map, range_with_len}
 use Rattle.plan_base.specs.PlaceOf.{place_of}
 use Rattle.plan_base.specs.declared.places.Place.{Place}
 use Rattle.sample_city.specs.declared.corners.Corner.{Corner}
+use Rattle.sample_city.specs.declared.corners.Direction.{Direction}
+use Rattle.sample_city.specs.declared.corners.Direction.TheVariants.{Row, Column}
 
 -- the rows, and the columns, from 0
 abbrev pub lines : ℕ → List ℕ
@@ -12,6 +14,11 @@ lines n = range_with_len 0 n
 -- a corner, and the OSM id of the nodes there
 abbrev pub corner : ℕ → ℕ → ℕ → Corner
 corner n row column = record { row = row; column = column; id = 1 + row * n + column }
+
+-- where a line of one way and another of the other way cross
+abbrev pub crossing : ℕ → Direction → ℕ → ℕ → Corner
+crossing n Row line other = corner n line other
+crossing n Column line other = corner n other line
 
 -- all corners, row by row
 abbrev pub corners : ℕ → List Corner

@@ -12,17 +12,22 @@ use Rattle.mode_network.specs.declared.nodes.NodeKey.{NodeKey}
 use Rattle.mode_network.specs.declared.nodes.NodeKey.TheVariants.{Road, Stop, Switch}
 use Rattle.sample_city.specs.Corners.{corner_place, corners, has_cars, is_car_line}
 use Rattle.sample_city.specs.declared.corners.Corner.{Corner}
+use Rattle.sample_city.specs.declared.corners.Direction.{Direction}
+use Rattle.sample_city.specs.declared.corners.Direction.TheVariants.{Row, Column}
+use Rattle.sample_city.specs.declared.streets.Bases.{Bases}
 
 -- ---- nodes
 
-abbrev pub node_in : Option Place → Corner → Mode → Option Node
-node_in place at mode = option_map (λ place. record { key = Road mode (pos at.id); place = place }) place
+-- the node at a place, where there is one
+abbrev pub node_at : Option Place → NodeKey → List Node
+node_at place key = option_to_list (option_map (λ place. record { key = key; place = place }) place)
+
+abbrev pub road_at : Corner → Mode → List Node
+road_at at mode = node_at (corner_place at) (Road mode (pos at.id))
 
 -- for walkers and for bikes, and for cars where they drive along
 abbrev pub nodes_at : Corner → List Node
-nodes_at at =
-    option_to_list (node_in (corner_place at) at Foot) ++ option_to_list (node_in (corner_place at) at Bike)
-    ++ (if has_cars at then option_to_list (node_in (corner_place at) at Car) else [])
+nodes_at at = road_at at Foot ++ road_at at Bike ++ (if has_cars at then road_at at Car else [])
 
 abbrev pub city_roads : ℕ → List Node
 city_roads n = flat_map nodes_at (corners n)
@@ -51,30 +56,37 @@ road_number nodes end = road_number_from 0 nodes end
 
 -- ---- arcs, between the numbers of nodes
 
+-- the arc from a node to another, where there are both
+abbrev pub arc_between : Option ℕ → Option ℕ → ℕ → List Arc
+arc_between from to ms = option_to_list (option_and_then (λ from. option_map (λ to. record { from = from; to = to; ms = ms }) to) from)
+
 abbrev pub time_between : ℕ → ℕ → ℕ → ℕ
 time_between base from to = base + (37 * from + 11 * to) % 1000
 
-abbrev pub road_between : (RoadNodeKey → Option ℕ) → Mode → ℕ → ℕ → ℕ → Option Arc
-road_between number mode base from to =
-    option_and_then (λ start. option_map (λ end. record { from = start; to = end; ms = time_between base from to }) (number (road_key to mode))) (number (road_key from mode))
+abbrev pub road_between : (RoadNodeKey → Option ℕ) → Mode → ℕ → ℕ → ℕ → List Arc
+road_between number mode base from to = arc_between (number (road_key from mode)) (number (road_key to mode)) (time_between base from to)
 
 -- both ways between the nodes of two ids
 abbrev pub street : (RoadNodeKey → Option ℕ) → Mode → ℕ → ℕ → ℕ → List Arc
-street number mode base a b = option_to_list (road_between number mode base a b) ++ option_to_list (road_between number mode base b a)
+street number mode base a b = road_between number mode base a b ++ road_between number mode base b a
 
 -- with the base times of walkers, bikes and cars
-abbrev pub streets : (RoadNodeKey → Option ℕ) → ℕ → ℕ → ℕ → Bool → ℕ → ℕ → List Arc
-streets number foot bike car cars a b = street number Foot foot a b ++ street number Bike bike a b ++ (if cars then street number Car car a b else [])
+abbrev pub streets : (RoadNodeKey → Option ℕ) → Bases → Bool → ℕ → ℕ → List Arc
+streets number bases cars a b = street number Foot bases.foot a b ++ street number Bike bases.bike a b ++ (if cars then street number Car bases.car a b else [])
+
+abbrev pub row_bases : Bases
+row_bases = record { foot = 53203; bike = 17735; car = 8939 }
+
+abbrev pub column_bases : Bases
+column_bases = record { foot = 79515; bike = 26505; car = 13359 }
 
 -- To the next corner of the row, whose id is greater by 1, and to that of the column, whose id is greater by n.
-abbrev pub along_row : ℕ → (RoadNodeKey → Option ℕ) → Corner → List Arc
-along_row n number at = if nat_lt (at.column + 1) n then streets number 53203 17735 8939 (is_car_line at.row) at.id (at.id + 1) else []
-
-abbrev pub along_column : ℕ → (RoadNodeKey → Option ℕ) → Corner → List Arc
-along_column n number at = if nat_lt (at.row + 1) n then streets number 79515 26505 13359 (is_car_line at.column) at.id (at.id + n) else []
+abbrev pub along : ℕ → (RoadNodeKey → Option ℕ) → Corner → Direction → List Arc
+along n number at Row = if nat_lt (at.column + 1) n then streets number row_bases (is_car_line at.row) at.id (at.id + 1) else []
+along n number at Column = if nat_lt (at.row + 1) n then streets number column_bases (is_car_line at.column) at.id (at.id + n) else []
 
 abbrev pub corner_arcs : ℕ → (RoadNodeKey → Option ℕ) → Corner → List Arc
-corner_arcs n number at = along_row n number at ++ along_column n number at
+corner_arcs n number at = along n number at Row ++ along n number at Column
 
 abbrev pub city_arcs : ℕ → (RoadNodeKey → Option ℕ) → List Arc
 city_arcs n number = flat_map (corner_arcs n number) (corners n)

@@ -1,5 +1,5 @@
 -- The stops and the switches of the sample city, and their links.
-use Rattle.std.specs.Prelude.{decimal, ℕ, ℤ, pos, ◌+◌, ◌-◌, List, [], ◌∷◌, ◌++◌, length, codes, Bool, ◌&&◌, Option, None, option_to_list, option_and_then, option_map, if◌then◌else◌}
+use Rattle.std.specs.Prelude.{decimal, ℕ, pos, ◌+◌, ◌-◌, List, [], ◌∷◌, ◌++◌, length, codes, Bool, ◌&&◌, Option, None, Some, option_to_list, option_and_then, option_map, if◌then◌else◌}
 use Rattle.std.specs.List.{flat_map}
 use Rattle.plain_texts.specs.Names.{name_of}
 use Rattle.plan_base.specs.declared.modes.Mode.TheVariants.{Foot, Bike}
@@ -8,7 +8,7 @@ use Rattle.mode_network.specs.declared.nodes.Arc.{Arc}
 use Rattle.mode_network.specs.declared.nodes.Node.{Node}
 use Rattle.mode_network.specs.declared.nodes.NodeKey.TheVariants.{Stop, Switch}
 use Rattle.sample_city.specs.Corners.{corner, corner_place, corners, is_stop_line}
-use Rattle.sample_city.specs.Roads.{RoadNodeKey, road_key}
+use Rattle.sample_city.specs.Roads.{RoadNodeKey, arc_between, node_at, road_key}
 use Rattle.sample_city.specs.declared.corners.Corner.{Corner}
 use Rattle.sample_city.specs.declared.stops.CityStop.{CityStop}
 
@@ -38,9 +38,6 @@ city_stop_nodes k (stop ∷ stops) = record { key = Stop k; place = stop.place }
 
 -- ---- switches
 
-abbrev pub switch_in : Option Place → ℤ → Option Node
-switch_in place id = option_map (λ place. record { key = Switch id; place = place }) place
-
 abbrev pub first_corner : ℕ → Corner
 first_corner n = corner n 0 0
 
@@ -49,19 +46,13 @@ last_corner n = corner n (n - 1) (n - 1)
 
 -- bicycles are hired at the first corner, and parked at the last
 abbrev pub city_switches : ℕ → List Node
-city_switches n = option_to_list (switch_in (corner_place (first_corner n)) (pos 1000000)) ++ option_to_list (switch_in (corner_place (last_corner n)) (pos 1000001))
+city_switches n = node_at (corner_place (first_corner n)) (Switch (pos 1000000)) ++ node_at (corner_place (last_corner n)) (Switch (pos 1000001))
 
 -- ---- links
 
--- from a road node to the place of this number, and from there to it, where there is such a road node
-abbrev pub link_into : ℕ → ℕ → Option ℕ → List Arc
-link_into ms place road = option_to_list (option_map (λ road. record { from = road; to = place; ms = ms }) road)
-
-abbrev pub link_out : ℕ → ℕ → Option ℕ → List Arc
-link_out ms place road = option_to_list (option_map (λ road. record { from = place; to = road; ms = ms }) road)
-
+-- from a road node to the place of this number, and back, where there is such a road node
 abbrev pub link_both : ℕ → ℕ → Option ℕ → List Arc
-link_both ms place road = link_into ms place road ++ link_out ms place road
+link_both ms place road = arc_between road (Some place) ms ++ arc_between (Some place) road ms
 
 -- each stop, whose nodes are counted from k, with walkers
 abbrev pub city_stop_links : (RoadNodeKey → Option ℕ) → ℕ → List CityStop → List Arc
@@ -72,7 +63,7 @@ city_stop_links number k (stop ∷ stops) = link_both 60000 k (number (road_key 
 abbrev pub city_switch_links : ℕ → (RoadNodeKey → Option ℕ) → ℕ → List Arc
 city_switch_links n number k =
     link_both 30000 k (number (road_key (first_corner n).id Foot)) ++ link_both 30000 k (number (road_key (first_corner n).id Bike))
-    ++ link_into 30000 (k + 1) (number (road_key (last_corner n).id Bike)) ++ link_out 30000 (k + 1) (number (road_key (last_corner n).id Foot))
+    ++ arc_between (number (road_key (last_corner n).id Bike)) (Some (k + 1)) 30000 ++ arc_between (Some (k + 1)) (number (road_key (last_corner n).id Foot)) 30000
 
 -- the stops stand behind so many road nodes, and the switches behind the stops
 abbrev pub city_links : ℕ → (RoadNodeKey → Option ℕ) → ℕ → List CityStop → List Arc

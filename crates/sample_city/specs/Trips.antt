@@ -4,10 +4,13 @@ use Rattle.std.specs.List.{flat_map}
 use Rattle.plain_texts.specs.Names.{name_of}
 use Rattle.timetable_arcs.specs.Trips.{TripLists}
 use Rattle.timetable_arcs.specs.declared.trips.Call.{Call}
-use Rattle.sample_city.specs.Corners.{corner, lines, stop_lines}
+use Rattle.sample_city.specs.Corners.{crossing, lines, stop_lines}
 use Rattle.sample_city.specs.Stops.{corner_text}
 use Rattle.sample_city.specs.declared.corners.Corner.{Corner}
+use Rattle.sample_city.specs.declared.corners.Direction.{Direction}
+use Rattle.sample_city.specs.declared.corners.Direction.TheVariants.{Row, Column}
 use Rattle.sample_city.specs.declared.stops.CityStop.{CityStop}
+use Rattle.sample_city.specs.declared.trips.Fleet.{Fleet}
 
 -- the number of the stop at a corner is its place among the stops
 abbrev pub stop_place : List CityStop → Corner → Option ℕ
@@ -25,18 +28,30 @@ calls_along time (stop ∷ stops) = record { stop = stop; arr = time; dep = time
 abbrev pub trip_in : ℕ → ℕ → List ℕ → Option (List ℕ) → Option TripLists
 trip_in letter time stops name = option_map (λ name. record { letter = letter; days = record { 0 = 1023 }; name = name; calls = calls_along time stops }) name
 
--- the trip number j along a line: its letter, the head of its name, the line, and the seconds from one trip to the next
-abbrev pub trip_along : ℕ → ℕ → ℕ → ℕ → List ℕ → ℕ → List TripLists
-trip_along letter head line every stops j = option_to_list (trip_in letter (18000 + every * j) stops (name_of (corner_text head line j)))
+-- the trip number j of a fleet along a line, with these stops
+abbrev pub trip_along : Fleet → ℕ → List ℕ → ℕ → List TripLists
+trip_along fleet line stops j = option_to_list (trip_in fleet.letter (18000 + fleet.every * j) stops (name_of (corner_text fleet.head line j)))
+
+abbrev pub line_trips : Fleet → ℕ → List ℕ → List TripLists
+line_trips fleet line stops = flat_map (trip_along fleet line stops) (lines fleet.trips)
+
+-- along the lines of one way, with stops at these lines of the other
+abbrev pub line_stops : ℕ → List CityStop → List ℕ → Direction → ℕ → List ℕ
+line_stops n stops others way line = map (λ other. corner_stop_number stops (crossing n way line other)) others
+
+abbrev pub fleet_trips : ℕ → List CityStop → List ℕ → Fleet → List TripLists
+fleet_trips n stops stopped fleet = flat_map (λ line. line_trips fleet line (line_stops n stops stopped fleet.way line)) stopped
 
 -- Letter 6 is the bus, and 3 is the tram; byte 66 is B, and 84 is T.
-abbrev pub buses : ℕ → List CityStop → ℕ → List TripLists
-buses n stops row = flat_map (trip_along 6 66 row 600 (map (λ column. corner_stop_number stops (corner n row column)) (stop_lines n))) (lines 108)
+abbrev pub buses : Fleet
+buses = record { letter = 6; head = 66; every = 600; trips = 108; way = Row }
 
-abbrev pub trams : ℕ → List CityStop → ℕ → List TripLists
-trams n stops column = flat_map (trip_along 3 84 column 900 (map (λ row. corner_stop_number stops (corner n row column)) (stop_lines n))) (lines 72)
+abbrev pub trams : Fleet
+trams = record { letter = 3; head = 84; every = 900; trips = 72; way = Column }
 
--- along the lines of stops, where they have two or more
+-- along these lines, where there are two or more
+abbrev pub trips_along : ℕ → List CityStop → List ℕ → List TripLists
+trips_along n stops stopped = if nat_le 2 (length stopped) then fleet_trips n stops stopped buses ++ fleet_trips n stops stopped trams else []
+
 abbrev pub city_trips : ℕ → List CityStop → List TripLists
-city_trips n stops =
-    if nat_le 2 (length (stop_lines n)) then flat_map (buses n stops) (stop_lines n) ++ flat_map (trams n stops) (stop_lines n) else []
+city_trips n stops = trips_along n stops (stop_lines n)

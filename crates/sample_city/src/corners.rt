@@ -1,7 +1,6 @@
 //! The corners of the sample city.
 
-ghost use Rattle.std.specs.Prelude.{◌≡◌, ◌<◌, ◌≤◌, ◌++◌, filter, length, map, All, IfOk, OnOk};
-ghost use Rattle.std.specs.List.{flat_map};
+ghost use Rattle.std.specs.Prelude.{◌≡◌, ◌<◌, ◌≤◌, ◌++◌, length, map, All, IfOk, OnOk};
 ghost use Rattle.sample_city.specs.Corners as spec;
 
 use plan_base::Place;
@@ -29,6 +28,26 @@ pub(crate) fn corner_at(n: u32, row: u32, column: u32) -> Corner
     }
 }
 
+/// Lines run along rows, or along columns.
+#[derive(Clone, Copy)]
+pub(crate) enum Direction {
+    Row,
+    Column,
+}
+
+/// Where a line of one way and another of the other way cross.
+pub(crate) fn crossing(n: u32, way: Direction, line: u32, other: u32) -> Corner
+    requires size { n ≤ 300 }
+    requires line { line < 300 }
+    requires other { other < 300 }
+    ensures { result ≡ spec.crossing n way line other }
+{
+    match way {
+        Direction::Row => corner_at(n, line, other),
+        Direction::Column => corner_at(n, other, line),
+    }
+}
+
 /// The numbers of rows or columns.
 pub(crate) fn lines(alloc: Global, n: u32) -> Result<Vec<u32>, AllocError>
     ensures lines { IfOk result (λ lines. lines.items ≡ spec.lines n) }
@@ -50,16 +69,8 @@ pub(crate) fn stop_lines(alloc: Global, n: u32) -> Result<Vec<u32>, AllocError>
     ensures few { IfOk result (λ stopped. length stopped.items ≤ 300) }
 {
     let lines = lines(alloc, n)?;
-    let stopped = stopped_among(alloc, &lines)?;
-    Ok(stopped)
-}
-
-fn stopped_among(alloc: Global, lines: &[u32]) -> Result<Vec<u32>, AllocError>
-    ensures lines { IfOk result (λ stopped. stopped.items ≡ filter spec.is_stop_line lines.now) }
-    ensures few { IfOk result (λ stopped. length stopped.items ≤ length lines.now) }
-{
     let mut stopped = Vec::new(alloc);
-    for line in lines {
+    for line in &lines {
         if is_stop_line(*line) {
             stopped.push(*line)?;
         }
@@ -69,8 +80,8 @@ fn stopped_among(alloc: Global, lines: &[u32]) -> Result<Vec<u32>, AllocError>
 
 fn push_row(corners: &mut Vec<Corner>, n: u32, row: u32, columns: &[u32]) -> Result<(), AllocError>
     requires size { n ≤ 300 }
-    requires row { row < 300 }
-    requires columns { All (λ column. column < 300) columns.now }
+    requires row { row < n }
+    requires columns { All (λ column. column < n) columns.now }
     ensures { OnOk result (corners.new.items ≡ corners.old.items ++ map (spec.corner n row) columns.now) }
 {
     for column in columns {
@@ -85,18 +96,9 @@ pub(crate) fn all_corners(alloc: Global, n: u32) -> Result<Vec<Corner>, AllocErr
     ensures { IfOk result (λ corners. corners.items ≡ spec.corners n) }
 {
     let lines = lines(alloc, n)?;
-    corners(alloc, n, &lines)
-}
-
-fn corners(alloc: Global, n: u32, lines: &[u32]) -> Result<Vec<Corner>, AllocError>
-    requires size { n ≤ 300 }
-    requires lines { All (λ line. line < 300) lines.now }
-    ensures { IfOk result (λ corners. corners.items ≡ flat_map (λ row. map (spec.corner n row) lines.now)
-        lines.now) }
-{
     let mut corners = Vec::new(alloc);
-    for row in lines {
-        push_row(&mut corners, n, *row, lines)?;
+    for row in &lines {
+        push_row(&mut corners, n, *row, &lines)?;
     }
     Ok(corners)
 }

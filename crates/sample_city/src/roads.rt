@@ -1,6 +1,6 @@
 //! The road nodes of the sample city, and their numbers.
 
-ghost use Rattle.std.specs.Prelude.{◌≡◌, ◌+◌, ◌<◌, ◌^◌, ◌++◌, length, option_to_list, IfOk, OnOk};
+ghost use Rattle.std.specs.Prelude.{◌≡◌, ◌+◌, ◌<◌, ◌^◌, ◌++◌, length, IfOk, OnOk};
 ghost use Rattle.std.specs.HashMap.{get};
 ghost use Rattle.std.specs.List.{flat_map};
 ghost use Rattle.sample_city.specs.Roads as spec;
@@ -12,34 +12,33 @@ use plan_base::{Mode, Place};
 use std::alloc::{AllocError, Global};
 use std::collections::HashMap;
 
-/// Puts a node to the others, if there is one.
-pub(crate) fn push_node(nodes: &mut Vec<Node>, node: Option<Node>) -> Result<(), AllocError>
-    ensures { OnOk result (nodes.new.items ≡ nodes.old.items ++ option_to_list node) }
+/// Puts the node at a place to the others, if there is one.
+pub(crate) fn push_node(
+    nodes: &mut Vec<Node>,
+    place: Option<Place>,
+    key: NodeKey,
+) -> Result<(), AllocError>
+    ensures { OnOk result (nodes.new.items ≡ nodes.old.items ++ spec.node_at place key) }
 {
-    if let Some(node) = node {
-        nodes.push(node)?;
+    if let Some(place) = place {
+        nodes.push(Node { key, place })?;
     }
     Ok(())
 }
 
-fn node_in(place: Option<Place>, at: Corner, mode: Mode) -> Option<Node>
-    ensures { result ≡ spec.node_in place at mode }
+fn push_road(nodes: &mut Vec<Node>, at: Corner, mode: Mode) -> Result<(), AllocError>
+    ensures { OnOk result (nodes.new.items ≡ nodes.old.items ++ spec.road_at at mode) }
 {
-    let place = place?;
-    Some(Node {
-        key: NodeKey::Road(mode, i64::from(at.id)),
-        place,
-    })
+    push_node(nodes, place_at(at), NodeKey::Road(mode, i64::from(at.id)))
 }
 
 fn push_nodes(nodes: &mut Vec<Node>, at: Corner) -> Result<(), AllocError>
     ensures { OnOk result (nodes.new.items ≡ nodes.old.items ++ spec.nodes_at at) }
 {
-    let place = place_at(at);
-    push_node(nodes, node_in(place, at, Mode::Foot))?;
-    push_node(nodes, node_in(place, at, Mode::Bike))?;
+    push_road(nodes, at, Mode::Foot)?;
+    push_road(nodes, at, Mode::Bike)?;
     if has_cars(at) {
-        push_node(nodes, node_in(place, at, Mode::Car))?;
+        push_road(nodes, at, Mode::Car)?;
     }
     Ok(())
 }
@@ -84,8 +83,7 @@ fn note_node(
 {
     match key {
         NodeKey::Road(mode, id) => note(by_end, (id, mode.number()), number),
-        NodeKey::Stop(_) => Ok(()),
-        NodeKey::Switch(_) => Ok(()),
+        NodeKey::Stop(_) | NodeKey::Switch(_) => Ok(()),
     }
 }
 

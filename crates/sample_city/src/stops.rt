@@ -10,7 +10,7 @@ ghost use Rattle.sample_city.specs.Stops as spec;
 
 use crate::corners::{Corner, corner_at, is_stop_line, place_at};
 use crate::roads::{RoadNumbers, push_node};
-use crate::streets::in_order as arcs_in_order;
+use crate::streets::{in_order, push_arc};
 use mode_network::{Arc, Node, NodeKey};
 use plain_texts::{Name, push_decimal};
 use plan_base::{Mode, Place};
@@ -71,33 +71,18 @@ fn push_stop(alloc: Global, stops: &mut Vec<CityStop>, at: Corner) -> Result<(),
     Ok(())
 }
 
-fn all_stops(alloc: Global, corners: &[Corner]) -> Result<Vec<CityStop>, AllocError>
-    ensures { IfOk result (λ stops. stops.items ≡ flat_map (λ at. option_to_list (spec.corner_stop at))
-        corners.now) }
-{
-    let mut stops = Vec::new(alloc);
-    for at in corners {
-        push_stop(alloc, &mut stops, *at)?;
-    }
-    Ok(stops)
-}
-
-fn in_order(mut stops: Vec<CityStop>) -> Result<Vec<CityStop>, AllocError>
-    ensures same { IfOk result (λ sorted. IsPermutation stops.items sorted.items) }
-    ensures ascend { IfOk result (λ sorted. IsSorted (λ a b. name_cmp a.name b.name) sorted.items) }
-{
-    stops.sort_by(|a, b| a.name.as_bytes().cmp(b.name.as_bytes()))?;
-    Ok(stops)
-}
-
 /// The stops of all corners, in the order of their names.
 pub(crate) fn city_stops(alloc: Global, corners: &[Corner]) -> Result<Vec<CityStop>, AllocError>
     ensures are { IfOk result (λ stops. IsPermutation (flat_map (λ at. option_to_list (spec.corner_stop at))
         corners.now) stops.items) }
     ensures ascend { IfOk result (λ stops. IsSorted (λ a b. name_cmp a.name b.name) stops.items) }
 {
-    let stops = all_stops(alloc, corners)?;
-    in_order(stops)
+    let mut stops = Vec::new(alloc);
+    for at in corners {
+        push_stop(alloc, &mut stops, *at)?;
+    }
+    stops.sort_by(|a, b| a.name.as_bytes().cmp(b.name.as_bytes()))?;
+    Ok(stops)
 }
 
 /// The nodes of these stops.
@@ -130,16 +115,6 @@ pub(crate) fn names_of(alloc: Global, stops: Vec<CityStop>) -> Result<Vec<Name>,
     Ok(names)
 }
 
-fn switch_in(place: Option<Place>, id: i64) -> Option<Node>
-    ensures { result ≡ spec.switch_in place id }
-{
-    let place = place?;
-    Some(Node {
-        key: NodeKey::Switch(id),
-        place,
-    })
-}
-
 /// The bicycle rental at the first corner, and the bicycle parking at the last.
 pub(crate) fn city_switches(alloc: Global, n: u32) -> Result<Vec<Node>, AllocError>
     requires some { 1 ≤ n }
@@ -148,45 +123,9 @@ pub(crate) fn city_switches(alloc: Global, n: u32) -> Result<Vec<Node>, AllocErr
 {
     let (first, last) = (corner_at(n, 0, 0), corner_at(n, n - 1, n - 1));
     let mut switches = Vec::new(alloc);
-    push_node(&mut switches, switch_in(place_at(first), 1_000_000))?;
-    push_node(&mut switches, switch_in(place_at(last), 1_000_001))?;
+    push_node(&mut switches, place_at(first), NodeKey::Switch(1_000_000))?;
+    push_node(&mut switches, place_at(last), NodeKey::Switch(1_000_001))?;
     Ok(switches)
-}
-
-fn push_link_into(
-    links: &mut Vec<Arc>,
-    ms: u32,
-    place: u32,
-    road: Option<u32>,
-) -> Result<(), AllocError>
-    ensures { OnOk result (links.new.items ≡ links.old.items ++ spec.link_into ms place road) }
-{
-    if let Some(from) = road {
-        links.push(Arc {
-            from,
-            to: place,
-            ms,
-        })?;
-    }
-    Ok(())
-}
-
-fn push_link_out(
-    links: &mut Vec<Arc>,
-    ms: u32,
-    place: u32,
-    road: Option<u32>,
-) -> Result<(), AllocError>
-    ensures { OnOk result (links.new.items ≡ links.old.items ++ spec.link_out ms place road) }
-{
-    if let Some(to) = road {
-        links.push(Arc {
-            from: place,
-            to,
-            ms,
-        })?;
-    }
-    Ok(())
 }
 
 fn push_link_both(
@@ -197,8 +136,8 @@ fn push_link_both(
 ) -> Result<(), AllocError>
     ensures { OnOk result (links.new.items ≡ links.old.items ++ spec.link_both ms place road) }
 {
-    push_link_into(links, ms, place, road)?;
-    push_link_out(links, ms, place, road)
+    push_arc(links, road, Some(place), ms)?;
+    push_arc(links, Some(place), road, ms)
 }
 
 fn push_stop_links(
@@ -242,8 +181,9 @@ fn push_switch_links(
     let last = u64::from(corner_at(n, n - 1, n - 1).id);
     push_link_both(links, 30_000, place, numbers.of(first, Mode::Foot))?;
     push_link_both(links, 30_000, place, numbers.of(first, Mode::Bike))?;
-    push_link_into(links, 30_000, place + 1, numbers.of(last, Mode::Bike))?;
-    push_link_out(links, 30_000, place + 1, numbers.of(last, Mode::Foot))
+    let place = Some(place + 1);
+    push_arc(links, numbers.of(last, Mode::Bike), place, 30_000)?;
+    push_arc(links, place, numbers.of(last, Mode::Foot), 30_000)
 }
 
 /// The links of the stops and the switches, which stand behind so many road nodes.
@@ -263,5 +203,5 @@ pub(crate) fn city_links(
     let mut links = Vec::new(alloc);
     push_stop_links(&mut links, numbers, roads, stops)?;
     push_switch_links(&mut links, numbers, n, roads + stops.len() as u32)?;
-    arcs_in_order(links)
+    in_order(links)
 }

@@ -1,12 +1,12 @@
 //! The road arcs of the sample city.
 
-ghost use Rattle.std.specs.Prelude.{◌≡◌, ◌<◌, ◌^◌, ◌++◌, option_to_list, IfOk, OnOk};
+ghost use Rattle.std.specs.Prelude.{◌≡◌, ◌<◌, ◌^◌, ◌++◌, IfOk, OnOk};
 ghost use Rattle.std.specs.HashMap.{get};
 ghost use Rattle.std.specs.List.{flat_map};
 ghost use Rattle.mode_network.specs.Rules.{AreInOrder};
 ghost use Rattle.sample_city.specs.Roads as spec;
 
-use crate::corners::{Corner, is_car_line};
+use crate::corners::{Corner, Direction, is_car_line};
 use crate::roads::RoadNumbers;
 use mode_network::Arc;
 use plan_base::Mode;
@@ -32,12 +32,17 @@ const ALONG_COLUMN: Bases = Bases {
     car: 13_359,
 };
 
-/// Puts an arc to the others, if there is one.
-pub(crate) fn push_arc(arcs: &mut Vec<Arc>, arc: Option<Arc>) -> Result<(), AllocError>
-    ensures { OnOk result (arcs.new.items ≡ arcs.old.items ++ option_to_list arc) }
+/// Puts the arc from a node to another to the others, if there are both.
+pub(crate) fn push_arc(
+    arcs: &mut Vec<Arc>,
+    from: Option<u32>,
+    to: Option<u32>,
+    ms: u32,
+) -> Result<(), AllocError>
+    ensures { OnOk result (arcs.new.items ≡ arcs.old.items ++ spec.arc_between from to ms) }
 {
-    if let Some(arc) = arc {
-        arcs.push(arc)?;
+    if let (Some(from), Some(to)) = (from, to) {
+        arcs.push(Arc { from, to, ms })?;
     }
     Ok(())
 }
@@ -59,21 +64,6 @@ fn time_between(base: u32, from: u64, to: u64) -> u32
     base + ((37 * from + 11 * to) % 1_000) as u32
 }
 
-fn arc_between(numbers: &RoadNumbers, mode: Mode, base: u32, from: u64, to: u64) -> Option<Arc>
-    requires base { base < 100000 }
-    requires from { from < 2 ^ 33 }
-    requires to { to < 2 ^ 33 }
-    ensures { result ≡ spec.road_between (get spec.is_same_road_key numbers.now.by_end) mode base from to }
-{
-    let start = numbers.of(from, mode)?;
-    let end = numbers.of(to, mode)?;
-    Some(Arc {
-        from: start,
-        to: end,
-        ms: time_between(base, from, to),
-    })
-}
-
 fn push_street(
     arcs: &mut Vec<Arc>,
     numbers: &RoadNumbers,
@@ -88,8 +78,9 @@ fn push_street(
     ensures { OnOk result (arcs.new.items ≡ arcs.old.items ++ spec.street
         (get spec.is_same_road_key numbers.now.by_end) mode base a b) }
 {
-    push_arc(arcs, arc_between(numbers, mode, base, a, b))?;
-    push_arc(arcs, arc_between(numbers, mode, base, b, a))
+    let (start, end) = (numbers.of(a, mode), numbers.of(b, mode));
+    push_arc(arcs, start, end, time_between(base, a, b))?;
+    push_arc(arcs, end, start, time_between(base, b, a))
 }
 
 fn push_streets(
@@ -106,7 +97,7 @@ fn push_streets(
     requires bike { bases.bike < 100000 }
     requires car { bases.car < 100000 }
     ensures { OnOk result (arcs.new.items ≡ arcs.old.items ++ spec.streets
-        (get spec.is_same_road_key numbers.now.by_end) bases.foot bases.bike bases.car cars a b) }
+        (get spec.is_same_road_key numbers.now.by_end) bases cars a b) }
 {
     push_street(arcs, numbers, Mode::Foot, bases.foot, a, b)?;
     push_street(arcs, numbers, Mode::Bike, bases.bike, a, b)?;
@@ -116,44 +107,27 @@ fn push_streets(
     Ok(())
 }
 
-fn push_along_row(
+fn push_along(
     arcs: &mut Vec<Arc>,
     numbers: &RoadNumbers,
     n: u32,
     at: Corner,
+    way: Direction,
 ) -> Result<(), AllocError>
-    ensures { OnOk result (arcs.new.items ≡ arcs.old.items ++ spec.along_row n
-        (get spec.is_same_road_key numbers.now.by_end) at) }
+    ensures { OnOk result (arcs.new.items ≡ arcs.old.items ++ spec.along n
+        (get spec.is_same_road_key numbers.now.by_end) at way) }
 {
-    if u64::from(at.column) + 1 < u64::from(n) {
-        let id = u64::from(at.id);
-        push_streets(arcs, numbers, ALONG_ROW, is_car_line(at.row), id, id + 1)?;
+    let (id, n) = (u64::from(at.id), u64::from(n));
+    match way {
+        Direction::Row if u64::from(at.column) + 1 < n => {
+            push_streets(arcs, numbers, ALONG_ROW, is_car_line(at.row), id, id + 1)
+        }
+        Direction::Column if u64::from(at.row) + 1 < n => {
+            let cars = is_car_line(at.column);
+            push_streets(arcs, numbers, ALONG_COLUMN, cars, id, id + n)
+        }
+        _ => Ok(()),
     }
-    Ok(())
-}
-
-fn push_along_column(
-    arcs: &mut Vec<Arc>,
-    numbers: &RoadNumbers,
-    n: u32,
-    at: Corner,
-) -> Result<(), AllocError>
-    ensures { OnOk result (arcs.new.items ≡ arcs.old.items ++ spec.along_column n
-        (get spec.is_same_road_key numbers.now.by_end) at) }
-{
-    if u64::from(at.row) + 1 < u64::from(n) {
-        let id = u64::from(at.id);
-        let below = id + u64::from(n);
-        push_streets(
-            arcs,
-            numbers,
-            ALONG_COLUMN,
-            is_car_line(at.column),
-            id,
-            below,
-        )?;
-    }
-    Ok(())
 }
 
 fn push_arcs(
@@ -165,24 +139,8 @@ fn push_arcs(
     ensures { OnOk result (arcs.new.items ≡ arcs.old.items ++ spec.corner_arcs n
         (get spec.is_same_road_key numbers.now.by_end) at) }
 {
-    push_along_row(arcs, numbers, n, at)?;
-    push_along_column(arcs, numbers, n, at)
-}
-
-fn all_arcs(
-    alloc: Global,
-    numbers: &RoadNumbers,
-    n: u32,
-    corners: &[Corner],
-) -> Result<Vec<Arc>, AllocError>
-    ensures { IfOk result (λ arcs. arcs.items ≡ flat_map (spec.corner_arcs n
-        (get spec.is_same_road_key numbers.now.by_end)) corners.now) }
-{
-    let mut arcs = Vec::new(alloc);
-    for at in corners {
-        push_arcs(&mut arcs, numbers, n, *at)?;
-    }
-    Ok(arcs)
+    push_along(arcs, numbers, n, at, Direction::Row)?;
+    push_along(arcs, numbers, n, at, Direction::Column)
 }
 
 /// The road arcs between neighbouring corners.
@@ -195,6 +153,9 @@ pub(crate) fn city_arcs(
     ensures { IfOk result (λ arcs. AreInOrder (flat_map (spec.corner_arcs n
         (get spec.is_same_road_key numbers.now.by_end)) corners.now) arcs.items) }
 {
-    let arcs = all_arcs(alloc, numbers, n, corners)?;
+    let mut arcs = Vec::new(alloc);
+    for at in corners {
+        push_arcs(&mut arcs, numbers, n, *at)?;
+    }
     in_order(arcs)
 }

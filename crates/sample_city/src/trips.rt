@@ -1,11 +1,9 @@
 //! The trips of the sample city.
 
-ghost use Rattle.std.specs.Prelude.{◌≡◌, ◌+◌, ◌*◌, ◌<◌, ◌≤◌, ◌^◌, ◌++◌, All, length, map, IfOk, IfSome, OnOk};
-ghost use Rattle.std.specs.List.{flat_map};
-ghost use Rattle.sample_city.specs.Corners.{corner, stop_lines};
+ghost use Rattle.std.specs.Prelude.{◌≡◌, ◌+◌, ◌*◌, ◌<◌, ◌≤◌, ◌^◌, ◌++◌, All, length, IfOk, IfSome, OnOk};
 ghost use Rattle.sample_city.specs.Trips as spec;
 
-use crate::corners::{Corner, corner_at, lines as lines_to};
+use crate::corners::{Corner, Direction, crossing, lines as lines_to};
 use crate::stops::{CityStop, text_of};
 use plain_texts::Name;
 use plan_base::DaySet;
@@ -53,30 +51,53 @@ fn calls_along(alloc: Global, time: u32, stops: &[u32]) -> Result<Vec<Call>, All
     Ok(calls)
 }
 
-/// What the trips along a row or a column have in common.
+/// What all buses, or all trams, have in common.
 #[derive(Clone, Copy)]
-struct Line<'a> {
+struct Fleet {
     letter: u8,
-    /// The byte that their names begin with.
+    /// The byte that the names of their trips begin with.
     head: u8,
-    line: u32,
     /// The seconds from one trip to the next.
     every: u32,
-    stops: &'a [u32],
+    /// How many trips there are along a line.
+    trips: u32,
+    way: Direction,
 }
 
-fn push_trip(alloc: Global, trips: &mut Vec<Trip>, line: Line<'_>, j: u32) -> Result<(), AllocError>
-    requires every { line.every ≤ 900 }
+const BUSES: Fleet = Fleet {
+    letter: 6,
+    head: b'B',
+    every: 600,
+    trips: 108,
+    way: Direction::Row,
+};
+
+const TRAMS: Fleet = Fleet {
+    letter: 3,
+    head: b'T',
+    every: 900,
+    trips: 72,
+    way: Direction::Column,
+};
+
+fn push_trip(
+    alloc: Global,
+    trips: &mut Vec<Trip>,
+    fleet: Fleet,
+    line: u32,
+    stops: &[u32],
+    j: u32,
+) -> Result<(), AllocError>
+    requires every { fleet.every ≤ 900 }
     requires few { j < 110 }
-    requires stops { length line.stops.now ≤ 300 }
-    ensures { OnOk result (trips.new.items ≡ trips.old.items ++ spec.trip_along line.entry.letter
-        line.entry.head line.entry.line line.entry.every line.entry.stops.now j) }
+    requires stops { length stops.now ≤ 300 }
+    ensures { OnOk result (trips.new.items ≡ trips.old.items ++ spec.trip_along fleet line stops.now j) }
 {
-    let name = Name::new(text_of(alloc, line.head, line.line, j)?);
+    let name = Name::new(text_of(alloc, fleet.head, line, j)?);
     if let Some(name) = name {
-        let calls = calls_along(alloc, 18_000 + line.every * j, line.stops)?;
+        let calls = calls_along(alloc, 18_000 + fleet.every * j, stops)?;
         trips.push(Trip {
-            letter: line.letter,
+            letter: fleet.letter,
             days: DaySet(0x3ff),
             name,
             calls,
@@ -88,148 +109,65 @@ fn push_trip(alloc: Global, trips: &mut Vec<Trip>, line: Line<'_>, j: u32) -> Re
 fn push_line(
     alloc: Global,
     trips: &mut Vec<Trip>,
-    line: Line<'_>,
-    times: &[u32],
+    fleet: Fleet,
+    line: u32,
+    stops: &[u32],
 ) -> Result<(), AllocError>
-    requires every { line.every ≤ 900 }
-    requires few { All (λ j. j < 110) times.now }
-    requires stops { length line.stops.now ≤ 300 }
-    ensures { OnOk result (trips.new.items ≡ trips.old.items ++ flat_map
-        (spec.trip_along line.entry.letter line.entry.head line.entry.line line.entry.every
-        line.entry.stops.now) times.now) }
+    requires every { fleet.every ≤ 900 }
+    requires few { fleet.trips ≤ 110 }
+    requires stops { length stops.now ≤ 300 }
+    ensures { OnOk result (trips.new.items ≡ trips.old.items ++ spec.line_trips fleet line stops.now) }
 {
-    for j in times {
-        push_trip(alloc, trips, line, *j)?;
+    let times = lines_to(alloc, fleet.trips)?;
+    for j in &times {
+        push_trip(alloc, trips, fleet, line, stops, *j)?;
     }
     Ok(())
 }
 
-/// The stops along a row.
-fn bus_stops(
+/// The stops along a line, where these others of the other way cross it.
+fn line_stops(
     alloc: Global,
     stops: &[CityStop],
     n: u32,
-    row: u32,
-    columns: &[u32],
+    others: &[u32],
+    way: Direction,
+    line: u32,
 ) -> Result<Vec<u32>, AllocError>
     requires few { length stops.now < 2 ^ 32 }
     requires size { n ≤ 300 }
-    requires row { row < 300 }
-    requires columns { All (λ column. column < 300) columns.now }
-    ensures { IfOk result (λ numbers. numbers.items ≡ map (λ column. spec.corner_stop_number stops.now
-        (corner n row column)) columns.now) }
+    requires line { line < 300 }
+    requires others { All (λ other. other < 300) others.now }
+    ensures { IfOk result (λ numbers. numbers.items ≡ spec.line_stops n stops.now others.now way line) }
 {
     let mut numbers = Vec::new(alloc);
-    for column in columns {
-        numbers.push(stop_number(stops, corner_at(n, row, *column)))?;
+    for other in others {
+        numbers.push(stop_number(stops, crossing(n, way, line, *other)))?;
     }
     Ok(numbers)
 }
 
-/// The stops along a column.
-fn tram_stops(
-    alloc: Global,
-    stops: &[CityStop],
-    n: u32,
-    column: u32,
-    rows: &[u32],
-) -> Result<Vec<u32>, AllocError>
-    requires few { length stops.now < 2 ^ 32 }
-    requires size { n ≤ 300 }
-    requires column { column < 300 }
-    requires rows { All (λ row. row < 300) rows.now }
-    ensures { IfOk result (λ numbers. numbers.items ≡ map (λ row. spec.corner_stop_number stops.now
-        (corner n row column)) rows.now) }
-{
-    let mut numbers = Vec::new(alloc);
-    for row in rows {
-        numbers.push(stop_number(stops, corner_at(n, *row, column)))?;
-    }
-    Ok(numbers)
-}
-
-fn push_buses(
+fn push_fleet(
     alloc: Global,
     trips: &mut Vec<Trip>,
     stops: &[CityStop],
     n: u32,
     lines: &[u32],
-    times: &[u32],
+    fleet: Fleet,
 ) -> Result<(), AllocError>
     requires many { length stops.now < 2 ^ 32 }
     requires size { n ≤ 300 }
     requires lines { All (λ line. line < 300) lines.now }
     requires few { length lines.now ≤ 300 }
-    requires times { All (λ j. j < 110) times.now }
-    ensures { OnOk result (trips.new.items ≡ trips.old.items ++ flat_map
-        (λ row. flat_map (spec.trip_along 6 66 row 600 (map (λ column. spec.corner_stop_number stops.now
-        (corner n row column)) lines.now)) times.now) lines.now) }
+    requires every { fleet.every ≤ 900 }
+    requires times { fleet.trips ≤ 110 }
+    ensures { OnOk result (trips.new.items ≡ trips.old.items ++ spec.fleet_trips n stops.now lines.now fleet) }
 {
-    for row in lines {
-        let stops = bus_stops(alloc, stops, n, *row, lines)?;
-        let line = Line {
-            letter: 6,
-            head: b'B',
-            line: *row,
-            every: 600,
-            stops: &stops,
-        };
-        push_line(alloc, trips, line, times)?;
+    for line in lines {
+        let along = line_stops(alloc, stops, n, lines, fleet.way, *line)?;
+        push_line(alloc, trips, fleet, *line, &along)?;
     }
     Ok(())
-}
-
-fn push_trams(
-    alloc: Global,
-    trips: &mut Vec<Trip>,
-    stops: &[CityStop],
-    n: u32,
-    lines: &[u32],
-    times: &[u32],
-) -> Result<(), AllocError>
-    requires many { length stops.now < 2 ^ 32 }
-    requires size { n ≤ 300 }
-    requires lines { All (λ line. line < 300) lines.now }
-    requires few { length lines.now ≤ 300 }
-    requires times { All (λ j. j < 110) times.now }
-    ensures { OnOk result (trips.new.items ≡ trips.old.items ++ flat_map
-        (λ column. flat_map (spec.trip_along 3 84 column 900 (map
-        (λ row. spec.corner_stop_number stops.now (corner n row column)) lines.now)) times.now) lines.now) }
-{
-    for column in lines {
-        let stops = tram_stops(alloc, stops, n, *column, lines)?;
-        let line = Line {
-            letter: 3,
-            head: b'T',
-            line: *column,
-            every: 900,
-            stops: &stops,
-        };
-        push_line(alloc, trips, line, times)?;
-    }
-    Ok(())
-}
-
-fn buses_and_trams(
-    alloc: Global,
-    stops: &[CityStop],
-    n: u32,
-    lines: &[u32],
-) -> Result<Vec<Trip>, AllocError>
-    requires many { length stops.now < 2 ^ 32 }
-    requires size { n ≤ 300 }
-    requires lines { lines.now ≡ stop_lines n }
-    requires below { All (λ line. line < 300) lines.now }
-    requires few { length lines.now ≤ 300 }
-    ensures { IfOk result (λ trips. trips.items ≡ flat_map (spec.buses n stops.now) (stop_lines n) ++ flat_map
-        (spec.trams n stops.now) (stop_lines n)) }
-{
-    let mut trips = Vec::new(alloc);
-    let times = lines_to(alloc, 108)?;
-    push_buses(alloc, &mut trips, stops, n, lines, &times)?;
-    let times = lines_to(alloc, 72)?;
-    push_trams(alloc, &mut trips, stops, n, lines, &times)?;
-    Ok(trips)
 }
 
 /// The trips of the city, over the lines that have stops.
@@ -241,13 +179,15 @@ pub(crate) fn city_trips(
 ) -> Result<Vec<Trip>, AllocError>
     requires many { length stops.now < 2 ^ 32 }
     requires size { n ≤ 300 }
-    requires lines { lines.now ≡ stop_lines n }
-    requires below { All (λ line. line < 300) lines.now }
+    requires lines { All (λ line. line < 300) lines.now }
     requires few { length lines.now ≤ 300 }
-    ensures { IfOk result (λ trips. trips.items ≡ spec.city_trips n stops.now) }
+    ensures { IfOk result (λ trips. trips.items ≡ spec.trips_along n stops.now lines.now) }
 {
+    let mut trips = Vec::new(alloc);
     if lines.len() < 2 {
-        return Ok(Vec::new(alloc));
+        return Ok(trips);
     }
-    buses_and_trams(alloc, stops, n, lines)
+    push_fleet(alloc, &mut trips, stops, n, lines, BUSES)?;
+    push_fleet(alloc, &mut trips, stops, n, lines, TRAMS)?;
+    Ok(trips)
 }

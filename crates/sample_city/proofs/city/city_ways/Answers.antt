@@ -1,13 +1,11 @@
 use Rattle.std.proofs.Common.{ℕ, Option, length, subst}
-use Rattle.std.specs.List.{flat_map}
 use Rattle.mode_network.specs.Rules.{AreInOrder}
-use Rattle.sample_city.specs.Roads.{RoadNodeKey, corner_arcs}
+use Rattle.sample_city.specs.Roads.{RoadNodeKey}
 use Rattle.sample_city.specs.Stops.{city_links}
 use Rattle.sample_city.proofs.city.city_ways.Goals as goal
 
 pub returns-clause-arcs : goal.returns-clause-arcs
-returns-clause-arcs c =
-    subst (λ (number : RoadNodeKey → Option ℕ). AreInOrder (flat_map (corner_arcs c.args.n number) c.args.corners.now) c.in_ok-arcs.arcs.items) c.in_ok-numbers.ensures c.in_ok-arcs.ensures
+returns-clause-arcs c = rw c.in_ok-numbers.ensures at c.in_ok-arcs.ensures
 
 pub returns-clause-links : goal.returns-clause-links
 returns-clause-links c =

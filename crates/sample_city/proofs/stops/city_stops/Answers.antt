@@ -4,7 +4,7 @@ use Rattle.std.proofs.lemmas.Cmp.{nat_list_cmp_total}
 use Rattle.std.proofs.lemmas.List.Sorted.{answers_always, ranks_by}
 use Rattle.mode_network.specs.Rules.{name_cmp}
 use Rattle.sample_city.specs.declared.stops.CityStop.{CityStop}
-use Rattle.sample_city.proofs.stops.in_order.Goals as goal
+use Rattle.sample_city.proofs.stops.city_stops.Goals as goal
 
 pub returns-clause-ascend : goal.returns-clause-ascend
 returns-clause-ascend c =

@@ -1,7 +1,7 @@
 use Rattle.std.proofs.Common.{◌≡◌, map, take}
 use Rattle.std.specs.List.{flat_map}
 use Rattle.sample_city.specs.Corners.{corner}
-use Rattle.sample_city.proofs.corners.corners.Given as goal
+use Rattle.sample_city.proofs.corners.all_corners.Given as goal
 
 abbrev pub invariant-loop-row : goal.invariant-loop-row
-invariant-loop-row l = l.corners.items ≡ flat_map (λ row. map (corner l.n row) l.lines) (take l.row-index l.lines)
+invariant-loop-row l = l.corners.items ≡ flat_map (λ row. map (corner l.n row) l.row-items) (take l.row-index l.row-items)
