@@ -19,10 +19,9 @@ class Figures:
     def __init__(self, top: pathlib.Path) -> None:
         self.top, self.printed = top, {}
         tried = [path.parts[-3] for path in top.glob("crates/*/must-fail/*.edit")]
-        kept = [path.parts[-3] for path in top.glob("crates/*/wrong-bodies/*.edit")]
-        self.bodies = {len(tried), len(kept), len(tried) + len(kept)}
+        self.bodies = {len(tried)}
         crates = {path.name for path in (top / "crates").iterdir() if (path / "src").is_dir()}
-        self.crates = {len(crates), len(set(tried)), len(set(kept)), len(set(kept) - set(tried))}
+        self.crates = {len(crates), len(set(tried)), len(crates) - len(set(tried))}
 
     def faults(self, page: Page) -> Iterator[Fault]:
         for table in page.tables:
@@ -60,8 +59,8 @@ class Figures:
             rows = {tuple(re.findall(r"\| (\d+)", row)[:2]) for row in self.told("tools/definitions --commands")}
             if (found[1].replace(",", ""), found[2]) not in rows:
                 yield Fault(page.name, line, f"\"{found[0]}\" is in no row of tools/definitions --commands")
-        for pattern, right, what in ((BODIES, self.bodies, "edits are in must-fail, wrong-bodies and both"), (CRATES, self.crates, "crates there are, "
-                                     "with must-fail, with wrong-bodies, and with these alone")):
+        for pattern, right, what in ((BODIES, self.bodies, "edits are in must-fail"), (CRATES, self.crates, "crates there are, "
+                                     "with must-fail and without it")):
             for found in pattern.finditer(joined):
                 if int(found[1].replace(",", "") or 0) not in right:
                     yield Fault(page.name, line, f"\"{found[0]}\": {', '.join(map(str, sorted(right)))} {what}")

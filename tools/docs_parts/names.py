@@ -13,8 +13,7 @@ FIELD = re.compile(r"^ *(?:pub )?(\w+)(?:: |,$| \{$|\()", re.M)
 HEAD = re.compile(r"^ *(?:abbrev |unfoldable )*pub (?:record |data )?([^\s:({]+)|^ +(\w+) : ", re.M)
 IDENTIFIER = re.compile(r"^[A-Za-z_]\w*(?:(?:::|\.)[A-Za-z_]\w*)*$")
 PATH = re.compile(r"^[\w.*<>-]+(?:/[\w.*-]+)*/?$")
-PARTS = {"specs", "src", "proofs", "must-fail", "wrong-bodies", "data"}
-BODIES = {"must-fail", "wrong-bodies"}
+PARTS = {"specs", "src", "proofs", "must-fail", "data"}
 FILES = (".md", ".antt", ".rt", ".py", ".rs")
 JOINS = re.compile(r"^(?:\([^()]*\))?,? ?(?:and|or|with)?$")
 
@@ -101,7 +100,7 @@ class Names:
         for span in found:
             word = span.text.split()[0]
             if self.is_file(word):
-                if not self.repository.has(word, self.repository.crates if word.split("/")[0] in BODIES else crates or self.repository.crates):
+                if not self.repository.has(word, self.repository.crates if word.split("/")[0] == "must-fail" else crates or self.repository.crates):
                     yield Fault(page.name, span.line, f"{word} is not there" + (f", nor in {' or '.join(crates)}" if crates else ""))
             elif page.name != MEASURED and IDENTIFIER.match(span.text) and re.search(r"^[^_].*_|[a-z][A-Z]|::", span.text):
                 yield from self.unknown(page, span)
