@@ -4,7 +4,7 @@ use Rattle.std.specs.Prelude.{nat_eq, nat_lt, ◌==◌, option_to_list}
 use Rattle.std.specs.Cmp.{IsTotalOrder, int_cmp_total, nat_cmp_total}
 use Rattle.std.specs.List.{All, AllPairs, position, position_or_len}
 use Rattle.std.specs.declared.cmp.Ordering.TheVariants.{Less, Equal}
-use Rattle.std.proofs.lemmas.Bool.{and_from}
+use Rattle.std.proofs.lemmas.Bool.{and_from, false_from_ne_true}
 use Rattle.std.proofs.lemmas.Bool.Decides.{nat_tests}
 use Rattle.std.proofs.lemmas.Cmp.{on_total, then_total, tied_itself}
 use Rattle.std.proofs.lemmas.List.Elements.{All-cons, All-head, All-nil, All-tail}
@@ -31,9 +31,12 @@ use Rattle.region_build.proofs.PartLaws.{flat_map-if}
 pub arc_total : IsTotalOrder arc_cmp
 arc_total = then_total (on_total (λ (arc : Arc). arc.from) nat_cmp_total) (on_total (λ (arc : Arc). arc.to) nat_cmp_total)
 
--- arcs that are the same have the same ends
-pub same_arc : (a b : Arc) → same_key arc_cmp a b ≡ true → (a.from ≡ b.from) × (a.to ≡ b.to)
-same_arc a b e = grind (arith, nat_tests, e)
+-- arcs that are the same as one have the same ends
+pub same_ends : (q a b : Arc) → same_key arc_cmp q a ≡ true → same_key arc_cmp q b ≡ true → (a.from ≡ b.from) × (a.to ≡ b.to)
+same_ends q a b e f = let here = of_one q a e in let there = of_one q b f in (sym here.0 ∙ there.0, sym here.1 ∙ there.1)
+  where
+    of_one : (a b : Arc) → same_key arc_cmp a b ≡ true → (a.from ≡ b.from) × (a.to ≡ b.to)
+    of_one a b e = grind (arith, nat_tests, e)
 
 -- nothing is the first that fails, where all pass
 none_fails : {X : Type 0} (p : X → Bool) (ys : List X) → All (λ y. p y ≡ true) ys → position_or_len (λ y. not (p y)) ys ≡ length ys
@@ -67,25 +70,18 @@ module _ (ends : List End) where
       equal_is_not_below : (row other : RoadRow) → row.from ≡ other.from → row.to ≡ other.to → row.mode ≡ other.mode → row_cmp row other ≡ Less → ⊥
       equal_is_not_below row other from to mode below =
           let tied : row_cmp row other ≡ Equal = rw (from, to, mode, tied_itself int_cmp_total other.from, tied_itself int_cmp_total other.to, tied_itself nat_cmp_total (number_of_mode other.mode)) refl in
-          not_both (sym below ∙ tied)
-        where
-          not_both : Less ≡ Equal → ⊥
-          not_both e = cc
+          let both : Less ≡ Equal = sym below ∙ tied in
+          cc
 
   none_later : (q : Arc) (row : RoadRow) → arc_by_row ends row ≡ Some q → (q2 : Arc) → same_key arc_cmp q2 q ≡ true → (rows : List RoadRow) → All (λ other. row_cmp row other ≡ Less) rows → None_of (same_key arc_cmp) q2 (arcs_of ends rows)
   none_later q row is q2 same [] all = refl
   none_later q row is q2 same (other ∷ rows) all = by_arc (none_later q row is q2 same rows (All-tail (λ other. row_cmp row other ≡ Less) other rows all)) (arc_by_row ends other) refl
     where
-      by_test : (arc : Arc) → arc_by_row ends other ≡ Some arc → (t : Bool) → same_key arc_cmp q2 arc ≡ t → same_key arc_cmp q2 arc ≡ false
-      by_test arc e false t = t
-      by_test arc e true t =
-          let here = same_arc q2 q same in
-          let there = same_arc q2 arc t in
-          absurd (differ row other q arc (All-head (λ other. row_cmp row other ≡ Less) other rows all) is e (sym here.0 ∙ there.0, sym here.1 ∙ there.1))
-
       by_arc : None_of (same_key arc_cmp) q2 (arcs_of ends rows) → (arc : Option Arc) → arc_by_row ends other ≡ arc → None_of (same_key arc_cmp) q2 (option_to_list arc ++ arcs_of ends rows)
       by_arc later None e = later
-      by_arc later (Some arc) e = none_cons (same_key arc_cmp) q2 arc (arcs_of ends rows) (by_test arc e (same_key arc_cmp q2 arc) refl) later
+      by_arc later (Some arc) e =
+          none_cons (same_key arc_cmp) q2 arc (arcs_of ends rows)
+          (false_from_ne_true (same_key arc_cmp q2 arc) (λ f. differ row other q arc (All-head (λ other. row_cmp row other ≡ Less) other rows all) is e (same_ends q2 q arc same f))) later
 
   once_each : (rows : List RoadRow) → AllPairs (λ a b. row_cmp a b ≡ Less) rows → Once (same_key arc_cmp) (arcs_of ends rows)
   once_each [] pairs = once_nil (same_key arc_cmp)

@@ -1,5 +1,5 @@
 -- What is sorted, and holds each key once, ascends strictly.
-use Rattle.std.proofs.Common.{◌≡◌, ℕ, suc, ◌+◌, ◌<◌, ◌≤◌, List, [], ◌∷◌, ◌++◌, length, map, get_or, Bool, true, false, cond, None, ◌⊎◌, inl, inr, ⊎_elim, refl, sym, ap, ◌∙◌, arith}
+use Rattle.std.proofs.Common.{◌≡◌, ℕ, suc, ◌+◌, ◌≤◌, List, [], ◌∷◌, ◌++◌, map, Bool, true, false, cond, None, ◌⊎◌, inl, inr, ⊎_elim, refl, sym, ap, ◌∙◌, arith}
 use Rattle.std.specs.Prelude.{count_by}
 use Rattle.std.specs.Cmp.{IsEquivalence, IsTotalOrder}
 use Rattle.std.specs.List.{All, AllByRecursion, IsDistinct}
@@ -7,7 +7,7 @@ use Rattle.std.specs.List.Sorted.{IsPermutation, IsSorted}
 use Rattle.std.specs.Ordering.{is_eq, is_lt, ordering_reverse}
 use Rattle.std.specs.declared.cmp.Ordering.{Ordering}
 use Rattle.std.specs.declared.cmp.Ordering.TheVariants.{Less, Equal, Greater}
-use Rattle.std.proofs.lemmas.Bool.{false≢true}
+use Rattle.std.proofs.lemmas.Bool.{false_from_ne_true, false≢true}
 use Rattle.std.proofs.lemmas.Cmp.{tied_itself}
 use Rattle.std.proofs.lemmas.List.Elements.{All-head, All-tail}
 use Rattle.std.proofs.lemmas.List.Sorted.{sum_by-IsPermutation}
@@ -32,10 +32,6 @@ module _ {X : Type 0} (same : X → X → Bool) where
   pub count-append : (q : X) (xs ys : List X) → count_by (same q) (xs ++ ys) ≡ count_by (same q) xs + count_by (same q) ys
   count-append q xs ys = sum_by-append (λ y. cond (same q y) 1 0) xs ys
 
-  one_at_most : (b : Bool) → cond b 1 0 ≤ 1
-  one_at_most true = omega arith
-  one_at_most false = omega arith
-
   -- one element more, which is the same as none of the others
   pub once_cons : (x : X) (xs : List X) → ((q : X) → same q x ≡ true → None_of q xs) → Once xs → Once (x ∷ xs)
   once_cons x xs apart others q = by_test (same q x) refl
@@ -44,45 +40,27 @@ module _ {X : Type 0} (same : X → X → Bool) where
       by_test true e = omega (arith, count-cons q x xs, ap {B = ℕ} (λ b. cond b 1 0) e, apart q e)
       by_test false e = omega (arith, count-cons q x xs, ap {B = ℕ} (λ b. cond b 1 0) e, others q)
 
-  -- two lists side by side: what is in one is not in the other
-  pub once_append : (xs ys : List X) → Once xs → Once ys → ((q : X) → (None_of q xs) ⊎ (None_of q ys)) → Once (xs ++ ys)
-  once_append xs ys front back apart q =
-      ⊎_elim
-      (λ none. omega (arith, count-append q xs ys, none, back q))
-      (λ none. omega (arith, count-append q xs ys, none, front q))
-      (apart q)
-
   pub none_cons : (q x : X) (xs : List X) → same q x ≡ false → None_of q xs → None_of q (x ∷ xs)
   none_cons q x xs e none = omega (arith, count-cons q x xs, ap {B = ℕ} (λ b. cond b 1 0) e, none)
-
-  pub none_append : (q : X) (xs ys : List X) → None_of q xs → None_of q ys → None_of q (xs ++ ys)
-  none_append q xs ys front back = omega (arith, count-append q xs ys, front, back)
 
   -- none is the same as q, where each differs from it
   pub none_if : (P : X → Type 0) (q : X) → ((x : X) → P x → same q x ≡ false) → (xs : List X) → All P xs → None_of q xs
   none_if P q differs [] all = refl
   none_if P q differs (x ∷ xs) all = none_cons q x xs (differs x (All-head P x xs all)) (none_if P q differs xs (All-tail P x xs all))
 
-  -- some element is the same as q, or none is
-  none_or_some : (P : X → Type 0) (q : X) (xs : List X) → All P xs → None_of q xs ⊎ ((x : X) × (P x) × (same q x ≡ true))
-  none_or_some P q [] all = inl refl
-  none_or_some P q (x ∷ xs) all = by_test (same q x) refl (none_or_some P q xs (All-tail P x xs all))
-    where
-      by_test : (t : Bool) → same q x ≡ t → None_of q xs ⊎ ((x : X) × (P x) × (same q x ≡ true)) → None_of q (x ∷ xs) ⊎ ((x : X) × (P x) × (same q x ≡ true))
-      by_test true e others = inr (x, All-head P x xs all, e)
-      by_test false e others = ⊎_elim (λ none. inl (none_cons q x xs e none)) (λ some. inr some) others
+  pub once_tail : (x : X) (xs : List X) → Once (x ∷ xs) → Once xs
+  once_tail x xs once q = omega (arith, count-cons q x xs, once q)
 
   -- two lists whose elements are never the same
   pub once_apart : (P Q : X → Type 0) → ((q x y : X) → P x → Q y → same q x ≡ true → same q y ≡ true → ⊥)
       → (xs ys : List X) → All P xs → All Q ys → Once xs → Once ys → Once (xs ++ ys)
-  once_apart P Q clash xs ys front back once_front once_back = once_append xs ys once_front once_back apart
-    where
-      other : (q x : X) → P x → same q x ≡ true → (y : X) → Q y → (t : Bool) → same q y ≡ t → same q y ≡ false
-      other q x p e y r false t = t
-      other q x p e y r true t = absurd (clash q x y p r e t)
-
-      apart : (q : X) → (None_of q xs) ⊎ (None_of q ys)
-      apart q = ⊎_elim (λ none. inl none) (λ some. inr (none_if Q q (λ y r. other q some.0 some.1 some.2 y r (same q y) refl) ys back)) (none_or_some P q xs front)
+  once_apart P Q clash [] ys front back once_front once_back = once_back
+  once_apart P Q clash (x ∷ xs) ys front back once_front once_back =
+      once_cons x (xs ++ ys)
+      (λ q e.
+      let none = none_if Q q (λ y r. false_from_ne_true (same q y) (clash q x y (All-head P x xs front) r e)) ys back in
+      omega (arith, count-append q xs ys, count-cons q x xs, ap {B = ℕ} (λ b. cond b 1 0) e, once_front q, none))
+      (once_apart P Q clash xs ys (All-tail P x xs front) back (once_tail x xs once_front) once_back)
 
   pub once_permutation : (xs ys : List X) → IsPermutation xs ys → Once xs → Once ys
   once_permutation xs ys moved once q = omega (arith, sum_by-IsPermutation (λ y. cond (same q y) 1 0) xs ys moved, once q)
@@ -132,9 +110,6 @@ module _ {X : Type 0} (cmp : X → X → Ordering) where
     twice x y ys e =
         omega (arith, count-cons same_key x x (y ∷ ys), count-cons same_key x y ys, ap {B = ℕ} (λ b. cond b 1 0) e, ap {B = ℕ} (λ b. cond b 1 0) (itself x))
 
-    fewer : (x : X) (xs : List X) → Once same_key (x ∷ xs) → Once same_key xs
-    fewer x xs once q = omega (arith, count-cons same_key q x xs, once q)
-
     pub rises_from_sorted : (xs : List X) → IsSorted cmp xs → Once same_key xs → Rises xs
     rises_from_sorted [] sorted once = tt
     rises_from_sorted (x ∷ []) sorted once = tt
@@ -144,7 +119,7 @@ module _ {X : Type 0} (cmp : X → X → Ordering) where
           (λ k d low below.
           let next : suc k + 1 ≡ suc (k + 1) = omega arith in
           rw next at (sorted (suc k) d (omega arith) (omega arith)))
-          (fewer x (y ∷ ys) once),
+          (once_tail same_key x (y ∷ ys) once),
     )
       where
         not_below : is_lt (cmp y x) ≡ false
@@ -158,18 +133,6 @@ module _ {X : Type 0} (cmp : X → X → Ordering) where
             (λ greater. absurd (false≢true (sym not_below ∙ flips x y greater)))
             other)
             (less (cmp x y))
-
-  -- what all pairs ascend in has neighbours that do
-  pub rises_from_pairs : (xs : List X) → ((k : ℕ) (d : X) → k + 1 < length xs → is_lt (cmp (get_or xs k d) (get_or xs (k + 1) d)) ≡ true) → Rises xs
-  rises_from_pairs [] h = tt
-  rises_from_pairs (x ∷ []) h = tt
-  rises_from_pairs (x ∷ y ∷ ys) h = (
-    h 0 x (omega arith),
-    rises_from_pairs (y ∷ ys)
-        (λ k d below.
-        let next : suc k + 1 ≡ suc (k + 1) = omega arith in
-        rw next at (h (suc k) d (omega arith))),
-  )
 
 -- a list is in order too where each of its elements is made of one that is
 module _ {X Y : Type 0} (cmp : X → X → Ordering) (by : Y → Y → Ordering) (f : X → Y) (keeps : (a b : X) → is_lt (cmp a b) ≡ true → is_lt (by (f a) (f b)) ≡ true) where

@@ -1,11 +1,11 @@
 -- What a map and a feed give keeps what a network's parts must: keys and durations.
-use Rattle.std.proofs.Common.{◌≡◌, ℕ, ℤ, zero, suc, ◌+◌, ◌<◌, ◌≤◌, List, [], ◌∷◌, ◌++◌, length, map, get_or, Bool, true, false, Option, None, Some, if◌then◌else◌, refl, sym, ap, subst, ◌∙◌, arith, option_map, add-zero, zero-add}
+use Rattle.std.proofs.Common.{◌≡◌, ℕ, ℤ, zero, suc, ◌+◌, ◌<◌, ◌≤◌, List, [], ◌∷◌, ◌++◌, length, map, get_or, Bool, true, false, Option, None, Some, if◌then◌else◌, refl, sym, ap, subst, ◌∙◌, arith, option_map, add-zero, zero-add, ◌⊎◌, inl, inr}
 use Rattle.std.specs.Prelude.{All, is_some, option_to_list}
 use Rattle.std.specs.List.{AllByRecursion, flat_map, list_any}
 use Rattle.std.specs.Ordering.{int_eq}
 use Rattle.std.proofs.lemmas.Bool.Decides.{Decides-int_eq}
 use Rattle.std.proofs.lemmas.List.{length-map}
-use Rattle.std.proofs.lemmas.List.Elements.{All-append, All-cons, All-from_recursion, All-head, All-map, All-nil, All-tail}
+use Rattle.std.proofs.lemmas.List.Elements.{All-append, All-cons, All-from_recursion, All-head, All-map, All-nil, All-tail, All-weaker}
 use Rattle.std.proofs.lemmas.List.Sorted.{All-permutation}
 use Rattle.plain_texts.specs.Numbers.{IsId}
 use Rattle.plan_base.specs.declared.modes.Mode.{Mode}
@@ -17,7 +17,7 @@ use Rattle.road_profile.specs.Arcs.{IsTimed, JoinsPlaces}
 use Rattle.road_profile.specs.Legs.{place_of_node}
 use Rattle.road_profile.specs.declared.rows.RoadRow.{RoadRow}
 use Rattle.road_profile.proofs.EndLaws.{arcs_joined}
-use Rattle.road_profile.proofs.TimedLaws.{All-flat_map, arcs_timed, duration_of-ge}
+use Rattle.road_profile.proofs.TimedLaws.{arcs_timed, duration_of-ge}
 use Rattle.gtfs_tables.specs.FeedLists.{FeedLists}
 use Rattle.mode_network.specs.NetworkLists.{NetworkLists}
 use Rattle.mode_network.specs.Rules.{AreParts, IsRoad, IsStop, IsSwitch}
@@ -26,7 +26,7 @@ use Rattle.mode_network.specs.declared.nodes.Node.{Node}
 use Rattle.mode_network.specs.declared.nodes.NodeKey.TheVariants.{Road}
 use Rattle.region_build.specs.Compiled.{AreLists, AreRoads}
 use Rattle.region_build.specs.Ends.{End, ends_at, is_same_end, number_of_end, once_behind}
-use Rattle.region_build.specs.Links.{AreLinks, join_links, linked, linked_to, links_at, stop_links, switch_links, stop_joins, switch_joins}
+use Rattle.region_build.specs.Links.{AreLinks, join_links, joined_stop, joined_switch, linked, linked_to, links_at, place_links}
 use Rattle.region_build.specs.Roads.{arc_between, arc_by_row, arcs_of, road_node}
 use Rattle.region_build.specs.StopNames.{stop_entry_nodes}
 use Rattle.region_build.specs.Switches.{AreSwitches, is_switch, switch_at, switch_node}
@@ -102,41 +102,61 @@ module _ (objects : ObjectLists) (sound : AreObjects objects) (ends : List End) 
       between ms some (Some from) None = All-nil (λ (arc : Arc). 0 < arc.ms)
       between ms some (Some from) (Some to) = All-cons (λ (arc : Arc). 0 < arc.ms) (record { from = from; to = to; ms = ms }) [] (omega arith) (All-nil (λ (arc : Arc). 0 < arc.ms))
 
--- each link takes some time
+-- each link leads between a place and a road node of a layer that the place joins
+module _ (ends : List End) where
+  -- one whose place and mode are such
+  pub record IsLinkOf (P : ℕ → Mode → Type 0) (link : Arc) : Type 0 where
+    pub place : ℕ
+    pub mode : Mode
+    pub fits : P place mode
+    pub road : ℕ
+    pub id : ℤ
+    pub mm : ℕ
+    pub number : number_of_end ends (id, mode) ≡ Some road
+    pub takes : duration_of mm 1400 ≡ Some link.ms
+    pub shape : ((link.from ≡ road) × (link.to ≡ place)) ⊎ ((link.from ≡ place) × (link.to ≡ road))
+
+  module _ (P : ℕ → Mode → Type 0) (near : Mode → Place → Option (ℤ × ℕ)) where
+    one_if : (there : Bool) (link : Arc) → IsLinkOf P link → All (IsLinkOf P) (if there then link ∷ [] else [])
+    one_if true link l = All-cons (IsLinkOf P) link [] l (All-nil (IsLinkOf P))
+    one_if false link l = All-nil (IsLinkOf P)
+
+    pub join_fits : (number : ℕ) (join : Join) → P number join.mode → (nearest : Option (ℤ × ℕ)) → All (IsLinkOf P) (linked_to ends join number nearest)
+    join_fits number join fits None = All-nil (IsLinkOf P)
+    join_fits number join fits (Some nearest) = by_road (number_of_end ends (nearest.0, join.mode)) (duration_of nearest.1 1400) refl refl
+      where
+        by_road : (road ms : Option ℕ) → number_of_end ends (nearest.0, join.mode) ≡ road → duration_of nearest.1 1400 ≡ ms → All (IsLinkOf P) (linked join number road ms)
+        by_road None ms is takes = All-nil (IsLinkOf P)
+        by_road (Some road) None is takes = All-nil (IsLinkOf P)
+        by_road (Some road) (Some ms) is takes =
+            All-append (IsLinkOf P) _ _
+            (one_if join.enters (record { from = road; to = number; ms = ms })
+            (record { place = number; mode = join.mode; fits = fits; road = road; id = nearest.0; mm = nearest.1; number = is; takes = takes; shape = inl (refl, refl) }))
+            (one_if join.leaves (record { from = number; to = road; ms = ms })
+            (record { place = number; mode = join.mode; fits = fits; road = road; id = nearest.0; mm = nearest.1; number = is; takes = takes; shape = inr (refl, refl) }))
+
+    pub joins_fit : (number : ℕ) (place : Place) (joins : List Join) → All (λ join. P number join.mode) joins → All (IsLinkOf P) (links_at near ends number place joins)
+    unfolding links_at join_links
+    joins_fit number place joins fit = flat_map-if (IsLinkOf P) (λ join. P number join.mode) (join_links near ends number place) (λ join fits. join_fits number join fits (near join.mode place)) joins fit
+
+    pub places_fit : (number : ℕ) (places : List (Place × List Join)) → ((k : ℕ) (mode : Mode) → number ≤ k → k < number + length places → P k mode) → All (IsLinkOf P) (place_links near ends number places)
+    places_fit number [] fit = All-nil (IsLinkOf P)
+    places_fit number (place ∷ places) fit =
+        All-append (IsLinkOf P) (links_at near ends number place.0 place.1) (place_links near ends (number + 1) places)
+        (joins_fit number place.0 place.1 (λ k d below. fit number (get_or place.1 k d).mode (omega arith) (omega arith)))
+        (places_fit (number + 1) places (λ k mode low high. fit k mode (omega arith) (omega arith)))
+
+-- each takes some time
 abbrev Lasts : Arc → Type 0
 Lasts arc = 0 < arc.ms
 
-one_if : (there : Bool) (link : Arc) → 0 < link.ms → All Lasts (if there then link ∷ [] else [])
-one_if true link some = All-cons Lasts link [] some (All-nil Lasts)
-one_if false link some = All-nil Lasts
-
-linked_last : (join : Join) (place : ℕ) (road : Option ℕ) (mm : ℕ) (ms : Option ℕ) → duration_of mm 1400 ≡ ms → All Lasts (linked join place road ms)
-linked_last join place None mm ms e = All-nil Lasts
-linked_last join place (Some road) mm None e = All-nil Lasts
-linked_last join place (Some road) mm (Some ms) e =
-    let some : 0 < ms = let least = duration_of-ge mm 1400 ms e in omega arith in
-    All-append Lasts _ _ (one_if join.enters (record { from = road; to = place; ms = ms }) some) (one_if join.leaves (record { from = place; to = road; ms = ms }) some)
-
-linked_to_last : (ends : List End) (join : Join) (place : ℕ) (nearest : Option (ℤ × ℕ)) → All Lasts (linked_to ends join place nearest)
-linked_to_last ends join place None = All-nil Lasts
-linked_to_last ends join place (Some nearest) = linked_last join place (number_of_end ends (nearest.0, join.mode)) nearest.1 (duration_of nearest.1 1400) refl
-
-links_at_last : (near : Mode → Place → Option (ℤ × ℕ)) (ends : List End) (number : ℕ) (place : Place) (joins : List Join) → All Lasts (links_at near ends number place joins)
-unfolding links_at join_links
-links_at_last near ends number place joins = All-flat_map Lasts (join_links near ends number place) (λ join. linked_to_last ends join number (near join.mode place)) joins
-
-stop_links_last : (near : Mode → Place → Option (ℤ × ℕ)) (ends : List End) (number : ℕ) (entries : List StopEntry) → All Lasts (stop_links near ends number entries)
-stop_links_last near ends number [] = All-nil Lasts
-stop_links_last near ends number (entry ∷ entries) = All-append Lasts _ _ (links_at_last near ends number entry.place stop_joins) (stop_links_last near ends (number + 1) entries)
-
-switch_links_last : (near : Mode → Place → Option (ℤ × ℕ)) (ends : List End) (number : ℕ) (switches : List OsmNode) → All Lasts (switch_links near ends number switches)
-switch_links_last near ends number [] = All-nil Lasts
-switch_links_last near ends number (switch ∷ switches) = All-append Lasts _ _ (links_at_last near ends number switch.place (switch_joins switch.amenity)) (switch_links_last near ends (number + 1) switches)
-
 links_last : (roads : List Node) (ends : List End) (entries : List StopEntry) (switches : List OsmNode) (links : List Arc) → AreLinks roads ends entries switches links → All Lasts links
 links_last roads ends entries switches links are =
-    All-permutation Lasts _ links are.are.same
-    (All-append Lasts _ _ (stop_links_last are.near ends (length roads) entries) (switch_links_last are.near ends (length roads + length entries) switches))
+    All-weaker (IsLinkOf ends (λ k mode. Unit {0})) Lasts (λ link l. (let least = duration_of-ge l.mm 1400 link.ms l.takes in omega arith)) links
+    (All-permutation (IsLinkOf ends (λ k mode. Unit {0})) _ links are.are.same
+    (All-append (IsLinkOf ends (λ k mode. Unit {0})) _ _
+    (places_fit ends (λ k mode. Unit {0}) are.near (length roads) (map joined_stop entries) (λ k mode low high. tt))
+    (places_fit ends (λ k mode. Unit {0}) are.near (length roads + length entries) (map joined_switch switches) (λ k mode low high. tt))))
 
 -- the keys of stops and switches
 stop_nodes_keep : (j : ℕ) (entries : List StopEntry) (k : ℕ) (d : Node) → k < length (stop_entry_nodes j entries) → IsStop (j + k) (get_or (stop_entry_nodes j entries) k d).key

@@ -6,7 +6,7 @@ use Rattle.std.specs.List.{AllByRecursion, IsDistinct, flat_map}
 use Rattle.std.specs.Ordering.{int_cmp, is_lt, nat_cmp, ordering_then}
 use Rattle.std.specs.declared.cmp.Ordering.{Ordering}
 use Rattle.std.specs.declared.cmp.Ordering.TheVariants.{Less, Equal, Greater}
-use Rattle.std.proofs.lemmas.Bool.{false≢true}
+use Rattle.std.proofs.lemmas.Bool.{false_from_ne_true, false≢true}
 use Rattle.std.proofs.lemmas.Cmp.{nat_list_cmp_total, on_total}
 use Rattle.std.proofs.lemmas.Map.Text.{is_eq-slice_cmp}
 use Rattle.std.proofs.lemmas.Slice.Eq.{bytes_eq-Decides}
@@ -33,14 +33,12 @@ same_name a b e = (bytes_eq-Decides a.name b.name).0 (sym (is_eq-slice_cmp a.nam
 none_named : (k : ℕ) (q : StopEntry) (id : List ℕ) (stops : List StopRow) → q.name ≡ escaped id → AllByRecursion (λ other. bytes_eq id other ≡ false) (map (λ (stop : StopRow). stop.id) stops)
     → None_of (same_key entry_cmp) q (entries_from k stops)
 none_named k q id [] is all = refl
-none_named k q id (stop ∷ stops) is all = none_cons (same_key entry_cmp) q (record { name = escaped stop.id; stop = k; place = stop.place }) (entries_from (k + 1) stops) (by_test (same_key entry_cmp q (record { name = escaped stop.id; stop = k; place = stop.place })) refl) (none_named (k + 1) q id stops is all.1)
-  where
-    by_test : (t : Bool) → same_key entry_cmp q (record { name = escaped stop.id; stop = k; place = stop.place }) ≡ t → same_key entry_cmp q (record { name = escaped stop.id; stop = k; place = stop.place }) ≡ false
-    by_test false e = e
-    by_test true e =
-        let name : q.name ≡ escaped stop.id = same_name q (record { name = escaped stop.id; stop = k; place = stop.place }) e in
-        let one : id ≡ stop.id = escaped_of_one id stop.id (sym is ∙ name) in
-        absurd (false≢true (sym all.0 ∙ (bytes_eq-Decides id stop.id).1 one))
+none_named k q id (stop ∷ stops) is all =
+    let entry : StopEntry = record { name = escaped stop.id; stop = k; place = stop.place } in
+    none_cons (same_key entry_cmp) q entry (entries_from (k + 1) stops)
+    (false_from_ne_true (same_key entry_cmp q entry) (λ e.
+    let one : id ≡ stop.id = escaped_of_one id stop.id (sym is ∙ same_name q entry e) in
+    false≢true (sym all.0 ∙ (bytes_eq-Decides id stop.id).1 one))) (none_named (k + 1) q id stops is all.1)
 
 once_named : (k : ℕ) (stops : List StopRow) → IsDistinct bytes_eq (map (λ (stop : StopRow). stop.id) stops) → Once (same_key entry_cmp) (entries_from k stops)
 unfolding IsDistinct

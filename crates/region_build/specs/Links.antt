@@ -1,5 +1,5 @@
 -- The links between places and the layers of the road modes.
-use Rattle.std.specs.Prelude.{ℕ, ℤ, ◌+◌, List, [], ◌∷◌, ◌++◌, length, nat_eq, Bool, true, false, Option, None, Some, option_to_list, if◌then◌else◌}
+use Rattle.std.specs.Prelude.{ℕ, ℤ, ◌+◌, List, [], ◌∷◌, ◌++◌, length, map, nat_eq, Bool, true, false, Option, None, Some, option_to_list, if◌then◌else◌}
 use Rattle.std.specs.List.{flat_map}
 use Rattle.plan_base.specs.Modes.{number_of_mode}
 use Rattle.plan_base.specs.declared.modes.Mode.{Mode}
@@ -63,14 +63,23 @@ join_links near ends number place join = linked_to ends join number (near join.m
 unfoldable pub links_at : (Mode → Place → Option (ℤ × ℕ)) → List End → ℕ → Place → List Join → List Arc
 links_at near ends number place joins = flat_map (join_links near ends number place) joins
 
--- the links of stops and of switches, whose nodes are counted from this number
+-- the links of places, each with what it joins, whose nodes are counted from this number
+abbrev pub place_links : (Mode → Place → Option (ℤ × ℕ)) → List End → ℕ → List (Place × List Join) → List Arc
+place_links near ends number [] = []
+place_links near ends number (place ∷ places) = links_at near ends number place.0 place.1 ++ place_links near ends (number + 1) places
+
+abbrev pub joined_stop : StopEntry → Place × List Join
+joined_stop entry = (entry.place, stop_joins)
+
+abbrev pub joined_switch : OsmNode → Place × List Join
+joined_switch switch = (switch.place, switch_joins switch.amenity)
+
+-- those of stops, and those of switches
 abbrev pub stop_links : (Mode → Place → Option (ℤ × ℕ)) → List End → ℕ → List StopEntry → List Arc
-stop_links near ends number [] = []
-stop_links near ends number (entry ∷ entries) = links_at near ends number entry.place stop_joins ++ stop_links near ends (number + 1) entries
+stop_links near ends number entries = place_links near ends number (map joined_stop entries)
 
 abbrev pub switch_links : (Mode → Place → Option (ℤ × ℕ)) → List End → ℕ → List OsmNode → List Arc
-switch_links near ends number [] = []
-switch_links near ends number (switch ∷ switches) = links_at near ends number switch.place (switch_joins switch.amenity) ++ switch_links near ends (number + 1) switches
+switch_links near ends number switches = place_links near ends number (map joined_switch switches)
 
 -- `near` gives the nearest node of each layer within half a kilometre
 pub record FindsNearest (roads : List Node) (near : Mode → Place → Option (ℤ × ℕ)) : Type 0 where

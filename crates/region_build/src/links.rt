@@ -1,7 +1,9 @@
 //! Links between places and the layers of the road modes.
 
-ghost use Rattle.std.specs.Prelude.{◌≡◌, ◌+◌, ◌≤◌, ◌<◌, ◌^◌, ◌++◌, ◌∷◌, [], length, true, false, if◌then◌else◌, IfOk, OnOk};
+ghost use Rattle.std.specs.Prelude.{◌≡◌, ◌+◌, ◌≤◌, ◌<◌, ◌^◌, ◌++◌, ◌∷◌, [], List, length, map, true, false, if◌then◌else◌, IfOk, OnOk};
+ghost use Rattle.plan_base.specs.declared.places.Place.{Place};
 ghost use Rattle.region_build.specs.Links as spec;
+ghost use Rattle.region_build.specs.declared.links.Join.{Join};
 ghost use Rattle.region_build.specs.Ends.{number_of_end};
 ghost use Rattle.region_build.specs.inside.Layers.{near_of};
 
@@ -28,34 +30,32 @@ pub(crate) struct Join {
     leaves: bool,
 }
 
-fn both_ways(mode: Mode) -> Join
-    ensures { result ≡ spec.join mode true true }
+fn joined(mode: Mode, enters: bool, leaves: bool) -> Join
+    ensures { result ≡ spec.join mode enters leaves }
 {
     Join {
         mode,
-        enters: true,
-        leaves: true,
+        enters,
+        leaves,
     }
+}
+
+fn both_ways(mode: Mode) -> Join
+    ensures { result ≡ spec.join mode true true }
+{
+    joined(mode, true, true)
 }
 
 fn into_place(mode: Mode) -> Join
     ensures { result ≡ spec.join mode true false }
 {
-    Join {
-        mode,
-        enters: true,
-        leaves: false,
-    }
+    joined(mode, true, false)
 }
 
 fn out_of_place(mode: Mode) -> Join
     ensures { result ≡ spec.join mode false true }
 {
-    Join {
-        mode,
-        enters: false,
-        leaves: true,
-    }
+    joined(mode, false, true)
 }
 
 fn push_linked(
@@ -120,83 +120,86 @@ fn push_join(
     }
 }
 
-#[tactic(auto, unfolding(crate::specs::Links::links_at))]
-fn push_stop(
-    links: &mut Vec<Arc>,
-    layers: &Layers,
-    ends: &Ends,
-    number: u32,
-    place: Place,
-) -> Result<(), AllocError>
-    requires { length ends.now < 2 ^ 32 }
-    ensures { OnOk result (links.new.items ≡ links.old.items ++ spec.links_at
-        (near_of layers.now.foot layers.now.bike layers.now.car) ends.now number place spec.stop_joins) }
-{
-    push_join(links, layers, ends, number, place, both_ways(Mode::Foot))
+/// A place that is joined with layers.
+trait JoinedPlace {
+    /// Where it lies, and what it joins.
+    ghost joins: { Self → Place × List Join };
+
+    /// Puts its links to the others; its node has this number.
+    fn push_links(
+        &self,
+        links: &mut Vec<Arc>,
+        layers: &Layers,
+        ends: &Ends,
+        number: u32,
+    ) -> Result<(), AllocError>
+        requires { length ends.now < 2 ^ 32 }
+        ensures { OnOk result (links.new.items ≡ links.old.items ++ spec.links_at
+            (near_of layers.now.foot layers.now.bike layers.now.car) ends.now number (joins self.now).0
+            (joins self.now).1) };
 }
 
-#[tactic(auto, unfolding(crate::specs::Links::links_at))]
-fn push_switch(
-    links: &mut Vec<Arc>,
-    layers: &Layers,
-    ends: &Ends,
-    number: u32,
-    place: Place,
-    amenity: Amenity,
-) -> Result<(), AllocError>
-    requires { length ends.now < 2 ^ 32 }
-    ensures { OnOk result (links.new.items ≡ links.old.items ++ spec.links_at
-        (near_of layers.now.foot layers.now.bike layers.now.car) ends.now number place
-        (spec.switch_joins amenity)) }
-{
-    let (first, second) = match amenity {
-        Amenity::Nothing => return Ok(()),
-        Amenity::Parking => (both_ways(Mode::Car), both_ways(Mode::Foot)),
-        Amenity::BicycleParking => (into_place(Mode::Bike), out_of_place(Mode::Foot)),
-        Amenity::BicycleRental => (both_ways(Mode::Foot), both_ways(Mode::Bike)),
-    };
-    push_join(links, layers, ends, number, place, first)?;
-    push_join(links, layers, ends, number, place, second)
-}
+impl JoinedPlace for StopEntry {
+    ghost joins = { spec.joined_stop };
 
-fn push_stops(
-    links: &mut Vec<Arc>,
-    layers: &Layers,
-    ends: &Ends,
-    first: u32,
-    entries: &[StopEntry],
-) -> Result<(), AllocError>
-    requires few { length ends.now < 2 ^ 32 }
-    requires numbers { first + length entries.now < 2 ^ 32 }
-    ensures { OnOk result (links.new.items ≡ links.old.items ++ spec.stop_links
-        (near_of layers.now.foot layers.now.bike layers.now.car) ends.now first entries.now) }
-{
-    let mut number = first;
-    let mut rest = entries;
-    while let [entry, after @ ..] = rest {
-        push_stop(links, layers, ends, number, entry.place)?;
-        number += 1;
-        rest = after;
+    #[tactic(auto, unfolding(crate::specs::Links::links_at))]
+    fn push_links(
+        &self,
+        links: &mut Vec<Arc>,
+        layers: &Layers,
+        ends: &Ends,
+        number: u32,
+    ) -> Result<(), AllocError> {
+        push_join(
+            links,
+            layers,
+            ends,
+            number,
+            self.place,
+            both_ways(Mode::Foot),
+        )
     }
-    Ok(())
 }
 
-fn push_switches(
+impl JoinedPlace for OsmNode {
+    ghost joins = { spec.joined_switch };
+
+    #[tactic(auto, unfolding(crate::specs::Links::links_at))]
+    fn push_links(
+        &self,
+        links: &mut Vec<Arc>,
+        layers: &Layers,
+        ends: &Ends,
+        number: u32,
+    ) -> Result<(), AllocError> {
+        let (first, second) = match self.amenity {
+            Amenity::Nothing => return Ok(()),
+            Amenity::Parking => (both_ways(Mode::Car), both_ways(Mode::Foot)),
+            Amenity::BicycleParking => (into_place(Mode::Bike), out_of_place(Mode::Foot)),
+            Amenity::BicycleRental => (both_ways(Mode::Foot), both_ways(Mode::Bike)),
+        };
+        push_join(links, layers, ends, number, self.place, first)?;
+        push_join(links, layers, ends, number, self.place, second)
+    }
+}
+
+fn push_places<P: JoinedPlace>(
     links: &mut Vec<Arc>,
     layers: &Layers,
     ends: &Ends,
     first: u32,
-    switches: &[OsmNode],
+    places: &[P],
 ) -> Result<(), AllocError>
     requires few { length ends.now < 2 ^ 32 }
-    requires numbers { first + length switches.now < 2 ^ 32 }
-    ensures { OnOk result (links.new.items ≡ links.old.items ++ spec.switch_links
-        (near_of layers.now.foot layers.now.bike layers.now.car) ends.now first switches.now) }
+    requires numbers { first + length places.now < 2 ^ 32 }
+    ensures { OnOk result (links.new.items ≡ links.old.items ++ spec.place_links
+        (near_of layers.now.foot layers.now.bike layers.now.car) ends.now first
+        (map P.joins places.now)) }
 {
     let mut number = first;
-    let mut rest = switches;
-    while let [switch, after @ ..] = rest {
-        push_switch(links, layers, ends, number, switch.place, switch.amenity)?;
+    let mut rest = places;
+    while let [place, after @ ..] = rest {
+        place.push_links(links, layers, ends, number)?;
         number += 1;
         rest = after;
     }
@@ -219,9 +222,9 @@ fn links_by(
 {
     let first = roads.len() as u32;
     let mut links = Vec::new(alloc);
-    push_stops(&mut links, layers, ends, first, entries)?;
+    push_places(&mut links, layers, ends, first, entries)?;
     let first = first + entries.len() as u32;
-    push_switches(&mut links, layers, ends, first, switches)?;
+    push_places(&mut links, layers, ends, first, switches)?;
     in_order(links)
 }
 
