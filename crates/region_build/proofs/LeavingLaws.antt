@@ -1,22 +1,24 @@
 -- When and how often trips leave, by arithmetic: what is kept of a headway's departures, and how many they are.
-use Rattle.std.proofs.Common.{◌≡◌, ℕ, zero, suc, ◌+◌, ◌-◌, ◌*◌, ◌<◌, ◌≤◌, max, min, List, [], ◌∷◌, ◌++◌, length, Bool, true, false, not, ◌&&◌, nat_le, nat_lt, cond, if◌then◌else◌, refl, sym, ap, ◌∙◌, arith, ⊎_elim}
-use Rattle.std.specs.Prelude.{count_by, filter}
+use Rattle.std.proofs.Common.{◌≡◌, ℕ, zero, suc, ◌+◌, ◌-◌, ◌*◌, ◌<◌, ◌≤◌, max, min, List, [], ◌∷◌, ◌++◌, length, Bool, true, false, not, ◌&&◌, nat_le, nat_lt, if◌then◌else◌, refl, sym, ap, ◌∙◌, arith, ⊎_elim}
+use Rattle.std.specs.Prelude.{filter}
 use Rattle.std.specs.Int.{div_ceil}
 use Rattle.std.specs.List.{All, flat_map, list_all}
-use Rattle.std.proofs.lemmas.Bool.{cases_lt}
+use Rattle.std.proofs.lemmas.Bool.{and_parts, cases_lt}
 use Rattle.std.proofs.lemmas.Bool.Decides.{nat_tests}
 use Rattle.std.proofs.lemmas.Grind.{div_ceil_times}
 use Rattle.std.proofs.lemmas.List.Concat.{length-flat_map}
-use Rattle.std.proofs.lemmas.List.Elements.{All-nil, filter-append, filter_passes}
+use Rattle.std.proofs.lemmas.List.Elements.{filter-append, filter_passes}
 use Rattle.std.proofs.lemmas.List.Filters.{length-filter_both}
-use Rattle.std.proofs.lemmas.List.Sums.{length-filter, sum_by-append, sum_by-cons}
+use Rattle.std.proofs.lemmas.List.Sums.{length-filter}
 use Rattle.std.proofs.lemmas.Nat.{mul-le}
+use native.Mathlib.Nat.{suc-mul}
 use Rattle.gtfs_tables.specs.declared.calls.CallRow.{CallRow}
 use Rattle.gtfs_tables.specs.declared.frequencies.FrequencyRow.{FrequencyRow}
-use Rattle.region_build.specs.Copies.{departing, departures_by, departures_of, first_departure, is_copy_early, is_kept, leaves_of, runs}
-use Rattle.region_build.specs.inside.Leaving.{kept_before, kept_by, late_by, latest_of, leaves_by}
+use Rattle.region_build.specs.Copies.{departing, departures_by, departures_by_all, departures_of, first_departure, is_copy_early, is_kept, is_leaving, leaves_of, runs}
+use Rattle.region_build.specs.inside.Leaving.{AreCopyCounts, AreRowCounts, kept_before, latest_of, leaves_by}
 use Rattle.region_build.specs.Left.{late_copies}
 use Rattle.region_build.specs.Sources.{SourceLists}
+use Rattle.region_build.specs.declared.headways.CopyCounts.{CopyCounts}
 
 -- ---- how many departures there are
 
@@ -25,56 +27,49 @@ at_most p q x h enough few = ⊎_elim
     (λ above. let more = mul-le (q + 1) h p h (omega arith) (omega arith) in absurd (omega (arith, more)))
     (λ below. below) (cases_lt q p)
 
-div_ceil_step : (x h : ℕ) → 1 ≤ h → 0 < x → div_ceil x h ≡ suc (div_ceil (x - h) h)
-div_ceil_step x h some more =
-    let here = div_ceil_times x h (omega arith) in
-    let next = div_ceil_times (x - h) h (omega arith) in
-    ⊎_elim
-    (λ short.
-    let none : div_ceil (x - h) h ≤ 0 = at_most (div_ceil (x - h) h) 0 (x - h) h (omega arith) (omega (arith, next)) in
-    let low : 1 ≤ div_ceil x h = at_most 1 (div_ceil x h) x h (omega (arith, here)) (omega (arith, here)) in
-    let high : div_ceil x h ≤ 1 = at_most (div_ceil x h) 1 x h (omega (arith, here)) (omega (arith, here)) in
-    omega (arith, none, low, high))
-    (λ long.
-    let low : div_ceil (x - h) h + 1 ≤ div_ceil x h = at_most (div_ceil (x - h) h + 1) (div_ceil x h) x h (omega (arith, here)) (omega (arith, next)) in
-    let high : div_ceil x h ≤ div_ceil (x - h) h + 1 = at_most (div_ceil x h) (div_ceil (x - h) h + 1) x h (omega (arith, next)) (omega (arith, here)) in
-    omega (arith, low, high))
-    (cases_lt x h)
-
-div_ceil_none : (x h : ℕ) → 1 ≤ h → x ≤ 0 → div_ceil x h ≡ 0
-div_ceil_none x h some none =
-    let all = div_ceil_times x h (omega arith) in
-    let low : div_ceil x h ≤ 0 = at_most (div_ceil x h) 0 x h (omega arith) (omega (arith, all)) in
-    omega (arith, low)
-
-count_departing : (most t end headway : ℕ) → 1 ≤ headway → end - t ≤ most → length (departing most t end headway) ≡ div_ceil (end - t) headway
-count_departing zero t end headway some enough = sym (div_ceil_none (end - t) headway some enough)
-count_departing (suc most) t end headway some enough = ⊎_elim
-    (λ before.
-    let test : nat_lt t end ≡ true = grind (arith, nat_tests, before) in
-    let rest = count_departing most (t + headway) end headway some (omega (arith, before, enough)) in
-    let same : end - (t + headway) ≡ end - t - headway = omega arith in
-    rw test (ap suc (rest ∙ ap (λ x. div_ceil x headway) same) ∙ sym (div_ceil_step (end - t) headway some (omega arith))))
-    (λ behind.
-    let test : nat_lt t end ≡ false = grind (arith, nat_tests, behind) in
-    rw test (sym (div_ceil_none (end - t) headway some (omega arith))))
-    (cases_lt t end)
-
-pub count_departures : (row : FrequencyRow) → 1 ≤ row.headway → length (departures_by row) ≡ div_ceil (row.end - row.start) row.headway
-unfolding departures_by
-count_departures row some = count_departing (row.end - row.start) row.start row.end row.headway some (omega arith)
-
-pub count_leaves : (before : ℕ) (row : FrequencyRow) → 1 ≤ row.headway → length (leaves_by before row) ≡ div_ceil (min row.end before - row.start) row.headway
-unfolding leaves_by
-count_leaves before row some = count_departing (row.end - row.start) row.start (min row.end before) row.headway some (omega arith)
-
--- ---- which departures are kept
-
 none_behind : (most t end headway : ℕ) → end ≤ t → departing most t end headway ≡ []
 none_behind zero t end headway behind = refl
 none_behind (suc most) t end headway behind =
     let test : nat_lt t end ≡ false = grind (arith, nat_tests, behind) in
     rw test refl
+
+-- so many headways reach the end, and one less does not
+counted_departing : (most t end headway : ℕ) → end ≤ t + most → 1 ≤ headway
+    → (end - t ≤ length (departing most t end headway) * headway) × (length (departing most t end headway) * headway < end - t + headway)
+counted_departing zero t end headway enough some = (omega arith, omega arith)
+counted_departing (suc most) t end headway enough some = ⊎_elim
+    (λ before.
+    let test : nat_lt t end ≡ true = grind (arith, nat_tests, before) in
+    let rest = counted_departing most (t + headway) end headway (omega (arith, before, enough)) some in
+    let more = suc-mul (length (departing most (t + headway) end headway)) headway in
+    ⊎_elim
+    (λ on. rw test (omega (arith, rest, more, before, on), omega (arith, rest, more, before, on)))
+    (λ last.
+    let none = ap (λ times. length times * headway) (none_behind most (t + headway) end headway last) in
+    rw test (omega (arith, more, none, before, last), omega (arith, more, none, before, last)))
+    (cases_lt (t + headway) end))
+    (λ behind.
+    let test : nat_lt t end ≡ false = grind (arith, nat_tests, behind) in
+    rw test (omega (arith, behind), omega (arith, behind)))
+    (cases_lt t end)
+
+count_departing : (most t end headway : ℕ) → end ≤ t + most → 1 ≤ headway → length (departing most t end headway) ≡ div_ceil (end - t) headway
+count_departing most t end headway enough some =
+    let here = counted_departing most t end headway enough some in
+    let there = div_ceil_times (end - t) headway (omega arith) in
+    let low : length (departing most t end headway) ≤ div_ceil (end - t) headway = at_most _ _ (end - t) headway (omega (arith, there)) (omega (arith, here)) in
+    let high : div_ceil (end - t) headway ≤ length (departing most t end headway) = at_most _ _ (end - t) headway (omega (arith, here)) (omega (arith, there)) in
+    omega (arith, low, high)
+
+pub count_departures : (row : FrequencyRow) → 1 ≤ row.headway → length (departures_by row) ≡ div_ceil (row.end - row.start) row.headway
+unfolding departures_by
+count_departures row some = count_departing (row.end - row.start) row.start row.end row.headway (omega arith) some
+
+pub count_leaves : (before : ℕ) (row : FrequencyRow) → 1 ≤ row.headway → length (leaves_by before row) ≡ div_ceil (min row.end before - row.start) row.headway
+unfolding leaves_by
+count_leaves before row some = count_departing (row.end - row.start) row.start (min row.end before) row.headway (omega arith) some
+
+-- ---- which departures are kept
 
 kept_front : (p : ℕ → Bool) (before : ℕ) → ((leave : ℕ) → p leave ≡ nat_lt leave before)
     → (most t end headway : ℕ) → filter p (departing most t end headway) ≡ departing most t (min end before) headway
@@ -137,116 +132,76 @@ filter-flat_map : {X Y : Type 0} (p : Y → Bool) (f g : X → List Y) → ((x :
 filter-flat_map p f g each [] = refl
 filter-flat_map p f g each (x ∷ xs) = filter-append p (f x) (flat_map f xs) ∙ ap (λ front. front ++ filter p (flat_map f xs)) (each x) ∙ ap (λ back. g x ++ back) (filter-flat_map p f g each xs)
 
-has_calls : (source : SourceLists) → runs source ≡ true → 0 < length source.calls
-has_calls source e = grind (arith, nat_tests, e)
-
 module _ (source : SourceLists) where
-  pub leaves_never : runs source ≡ false → leaves_of source ≡ []
+  never : is_leaving source ≡ false → departures_of source ≡ []
+  unfolding departures_of
+  never e = rw e refl
+
+  pub leaves_never : is_leaving source ≡ false → leaves_of source ≡ []
   unfolding leaves_of
-  leaves_never e = rw e refl
+  leaves_never e = ap (filter (is_kept source)) (never e)
 
-  module _ (goes : runs source ≡ true) where
+  pub none_counted : is_leaving source ≡ false → (counts : CopyCounts) → counts.kept ≡ 0 → counts.all ≡ 0 → AreCopyCounts source counts
+  none_counted e counts kept all = record { kept = kept ∙ sym (ap length (leaves_never e)); all = all ∙ sym (ap length (never e)) }
+
+  module _ (goes : is_leaving source ≡ true) where
     tests : (leave : ℕ) → is_kept source leave ≡ nat_lt leave (kept_before source.calls)
-    tests leave = kept_if_before leave source.calls (has_calls source goes)
-
-    by_row : (row : FrequencyRow) → filter (is_kept source) (departures_by row) ≡ leaves_by (kept_before source.calls) row
-    unfolding departures_by leaves_by
-    by_row row = kept_front (is_kept source) (kept_before source.calls) tests (row.end - row.start) row.start row.end row.headway
-
-    leaves_all : leaves_of source ≡ filter (is_kept source) (departures_of source source.frequencies)
-    unfolding leaves_of
-    leaves_all = rw goes refl
-
-    late_all : late_copies source ≡ count_by (λ leave. not (is_kept source leave)) (departures_of source source.frequencies)
-    late_all = rw goes refl
+    tests leave = kept_if_before leave source.calls (let some = (and_parts (runs source) _ goes).0 in grind (arith, nat_tests, some))
 
     -- without headways it leaves once
-    once : length source.frequencies ≡ 0 → departures_of source source.frequencies ≡ first_departure source.calls ∷ []
-    unfolding departures_of
-    once none = by_rows source.frequencies none
-      where
-        by_rows : (rows : List FrequencyRow) → length rows ≡ 0 → departures_of source rows ≡ first_departure source.calls ∷ []
-        by_rows [] none = refl
-        by_rows (row ∷ rows) none = absurd (omega arith)
+    module _ (none : source.frequencies ≡ []) where
+      once : departures_of source ≡ first_departure source.calls ∷ []
+      unfolding departures_of
+      once = rw goes (ap (departures_by_all source) none)
 
-    pub leaves_once : length source.frequencies ≡ 0 → nat_lt (first_departure source.calls) (kept_before source.calls) ≡ true → leaves_of source ≡ first_departure source.calls ∷ []
-    leaves_once e before =
-        let test : is_kept source (first_departure source.calls) ≡ true = tests (first_departure source.calls) ∙ before in
-        leaves_all ∙ ap (filter (is_kept source)) (once e) ∙ rw test refl
+      pub leaves_once : leaves_of source ≡ (if nat_lt (first_departure source.calls) (kept_before source.calls) then first_departure source.calls ∷ [] else [])
+      unfolding leaves_of
+      leaves_once = ap (filter (is_kept source)) once ∙ ap (λ kept. if kept then first_departure source.calls ∷ [] else []) (tests (first_departure source.calls))
 
-    pub leaves_late : length source.frequencies ≡ 0 → nat_lt (first_departure source.calls) (kept_before source.calls) ≡ false → leaves_of source ≡ []
-    leaves_late e behind =
-        let test : is_kept source (first_departure source.calls) ≡ false = tests (first_departure source.calls) ∙ behind in
-        leaves_all ∙ ap (filter (is_kept source)) (once e) ∙ rw test refl
+      pub once_counted : (counts : CopyCounts) → counts.all ≡ 1 → counts.kept ≡ length (if nat_lt (first_departure source.calls) (kept_before source.calls) then first_departure source.calls ∷ [] else []) → AreCopyCounts source counts
+      once_counted counts all kept = record { kept = kept ∙ sym (ap length leaves_once); all = all ∙ sym (ap length once) }
 
-    pub late_once : length source.frequencies ≡ 0 → nat_lt (first_departure source.calls) (kept_before source.calls) ≡ true → late_copies source ≡ 0
-    late_once e before =
-        let test : is_kept source (first_departure source.calls) ≡ true = tests (first_departure source.calls) ∙ before in
-        late_all ∙ ap (count_by (λ leave. not (is_kept source leave))) (once e) ∙ rw test refl
-
-    pub late_late : length source.frequencies ≡ 0 → nat_lt (first_departure source.calls) (kept_before source.calls) ≡ false → late_copies source ≡ 1
-    late_late e behind =
-        let test : is_kept source (first_departure source.calls) ≡ false = tests (first_departure source.calls) ∙ behind in
-        late_all ∙ ap (count_by (λ leave. not (is_kept source leave))) (once e) ∙ rw test refl
-
-    -- by headways that are exact
+    -- or by its headways
     module _ (some : 0 < length source.frequencies) where
-      departs_by : list_all (λ row. row.exact) source.frequencies ≡ true → departures_of source source.frequencies ≡ flat_map departures_by source.frequencies
+      by_all : departures_of source ≡ flat_map departures_by source.frequencies
       unfolding departures_of
-      departs_by exact = by_rows source.frequencies some exact
+      by_all = rw goes (by_rows source.frequencies some)
         where
-          by_rows : (rows : List FrequencyRow) → 0 < length rows → list_all (λ row. row.exact) rows ≡ true → departures_of source rows ≡ flat_map departures_by rows
-          by_rows [] some exact = absurd (omega arith)
-          by_rows (row ∷ rows) some exact = rw exact refl
+          by_rows : (rows : List FrequencyRow) → 0 < length rows → departures_by_all source rows ≡ flat_map departures_by rows
+          by_rows [] some = absurd (omega arith)
+          by_rows (row ∷ rows) some = refl
 
-      stays : list_all (λ row. row.exact) source.frequencies ≡ false → departures_of source source.frequencies ≡ []
-      unfolding departures_of
-      stays inexact = by_rows source.frequencies some inexact
-        where
-          by_rows : (rows : List FrequencyRow) → 0 < length rows → list_all (λ row. row.exact) rows ≡ false → departures_of source rows ≡ []
-          by_rows [] some inexact = absurd (omega arith)
-          by_rows (row ∷ rows) some inexact = rw inexact refl
+      by_row : (row : FrequencyRow) → filter (is_kept source) (departures_by row) ≡ leaves_by (kept_before source.calls) row
+      unfolding departures_by leaves_by
+      by_row row = kept_front (is_kept source) (kept_before source.calls) tests (row.end - row.start) row.start row.end row.headway
 
-      pub leaves_exact : list_all (λ row. row.exact) source.frequencies ≡ true → leaves_of source ≡ flat_map (leaves_by (kept_before source.calls)) source.frequencies
-      leaves_exact exact =
-          leaves_all ∙ ap (filter (is_kept source)) (departs_by exact)
-          ∙ filter-flat_map (is_kept source) departures_by (leaves_by (kept_before source.calls)) by_row source.frequencies
+      pub leaves_by_all : leaves_of source ≡ flat_map (leaves_by (kept_before source.calls)) source.frequencies
+      unfolding leaves_of
+      leaves_by_all = ap (filter (is_kept source)) by_all ∙ filter-flat_map (is_kept source) departures_by (leaves_by (kept_before source.calls)) by_row source.frequencies
 
-      pub leaves_inexact : list_all (λ row. row.exact) source.frequencies ≡ false → leaves_of source ≡ []
-      leaves_inexact inexact = leaves_all ∙ ap (filter (is_kept source)) (stays inexact)
+      pub rows_counted : (counts : CopyCounts) → AreRowCounts (kept_before source.calls) source.frequencies counts → AreCopyCounts source counts
+      rows_counted counts are = record {
+        kept = are.kept ∙ sym (ap length leaves_by_all ∙ length-flat_map (leaves_by (kept_before source.calls)) source.frequencies);
+        all = are.all ∙ sym (ap length by_all ∙ length-flat_map departures_by source.frequencies);
+      }
 
-      pub kept_exact : list_all (λ row. row.exact) source.frequencies ≡ true → length (leaves_of source) ≡ kept_by (kept_before source.calls) source.frequencies
-      kept_exact exact = ap length (leaves_exact exact) ∙ length-flat_map (leaves_by (kept_before source.calls)) source.frequencies
-
-      pub late_exact : list_all (λ row. row.exact) source.frequencies ≡ true → late_copies source ≡ late_by (kept_before source.calls) source.frequencies
-      late_exact exact = late_all ∙ ap (count_by (λ leave. not (is_kept source leave))) (departs_by exact) ∙ by_rows source.frequencies
-        where
-          late_row : (row : FrequencyRow) → count_by (λ leave. not (is_kept source leave)) (departures_by row) ≡ length (departures_by row) - length (leaves_by (kept_before source.calls) row)
-          late_row row =
-              let both = length-filter_both (is_kept source) (λ leave. not (is_kept source leave)) (λ leave. refl) (departures_by row) in
-              let late = length-filter (λ leave. not (is_kept source leave)) (departures_by row) in
-              let kept = ap length (by_row row) in
-              omega (arith, both, late, kept)
-
-          by_rows : (rows : List FrequencyRow) → count_by (λ leave. not (is_kept source leave)) (flat_map departures_by rows) ≡ late_by (kept_before source.calls) rows
-          by_rows [] = refl
-          by_rows (row ∷ rows) =
-              sum_by-append (λ leave. cond (not (is_kept source leave)) 1 0) (departures_by row) (flat_map departures_by rows)
-              ∙ ap (λ n. n + count_by (λ leave. not (is_kept source leave)) (flat_map departures_by rows)) (late_row row)
-              ∙ ap (λ n. length (departures_by row) - length (leaves_by (kept_before source.calls) row) + n) (by_rows rows)
-              ∙ sym (sum_by-cons (λ row. length (departures_by row) - length (leaves_by (kept_before source.calls) row)) row rows)
-
-      pub late_inexact : list_all (λ row. row.exact) source.frequencies ≡ false → late_copies source ≡ 0
-      late_inexact inexact = late_all ∙ ap (count_by (λ leave. not (is_kept source leave))) (stays inexact)
-
-  pub late_never : runs source ≡ false → late_copies source ≡ 0
-  late_never e = rw e refl
+  -- what is not kept is late
+  pub late_counted : (counts : CopyCounts) → AreCopyCounts source counts → counts.all - counts.kept ≡ late_copies source
+  unfolding leaves_of
+  late_counted counts are =
+      let both = length-filter_both (is_kept source) (λ leave. not (is_kept source leave)) (λ leave. refl) (departures_of source) in
+      let late = length-filter (λ leave. not (is_kept source leave)) (departures_of source) in
+      omega (arith, both, late, are.kept, are.all)
 
   -- all times at which a trip leaves are those of copies that are kept
   pub all_kept : All (λ leave. is_kept source leave ≡ true) (leaves_of source)
   unfolding leaves_of
-  all_kept = by_test (runs source)
+  all_kept = filter_passes (is_kept source) (departures_of source)
+
+  -- and it runs
+  pub leaves_run : 0 < length (leaves_of source) → runs source ≡ true
+  leaves_run some = by_test (is_leaving source) refl
     where
-      by_test : (goes : Bool) → All (λ leave. is_kept source leave ≡ true) (if goes then filter (is_kept source) (departures_of source source.frequencies) else [])
-      by_test true = filter_passes (is_kept source) (departures_of source source.frequencies)
-      by_test false = All-nil (λ leave. is_kept source leave ≡ true)
+      by_test : (goes : Bool) → is_leaving source ≡ goes → runs source ≡ true
+      by_test true e = (and_parts (runs source) _ e).0
+      by_test false e = absurd (omega (arith, some, ap length (leaves_never e)))

@@ -1,17 +1,18 @@
 -- The trips of a region keep the rules of timetables.
-use Rattle.std.proofs.Common.{◌≡◌, ◌≢◌, ℕ, suc, ◌+◌, ◌-◌, ◌*◌, ◌/◌, ◌%◌, ◌^◌, ◌<◌, ◌≤◌, List, [], ◌∷◌, length, map, get_or, Bool, true, false, not, ◌&&◌, nat_eq, nat_le, nat_lt, Option, None, Some, if◌then◌else◌, refl, sym, ap, subst, ◌∙◌, arith, ⊎_elim, eq-eqb}
+use Rattle.std.proofs.Common.{◌≡◌, ◌≢◌, ℕ, suc, ◌+◌, ◌/◌, ◌%◌, ◌^◌, ◌<◌, ◌≤◌, List, [], ◌∷◌, length, map, get_or, Bool, true, false, not, ◌&&◌, nat_eq, nat_le, nat_lt, Option, None, Some, if◌then◌else◌, refl, sym, ap, subst, ◌∙◌, arith, ⊎_elim, eq-eqb}
 use Rattle.std.specs.Prelude.{IfSome, option_map, unwrap_or}
 use Rattle.std.specs.Int.{bit_at}
 use Rattle.std.specs.List.{All, AllByRecursion, flat_map, list_all}
 use Rattle.std.specs.List.Sorted.{IsPermutation}
 use Rattle.std.specs.Option.{option_or}
-use Rattle.std.proofs.lemmas.Bool.{and_from, and_left, and_parts, false≢true, lt-ltb}
+use Rattle.std.proofs.lemmas.Bool.{and_from, and_left, and_parts, cases_lt, false≢true, lt-ltb}
 use Rattle.std.proofs.lemmas.Bool.Decides.{nat_tests}
 use Rattle.std.proofs.lemmas.List.{length-map}
 use Rattle.std.proofs.lemmas.List.Elements.{All-cons, All-filter, All-from_recursion, All-head, All-map, All-nil, All-tail, All-weaker, recursion_from_All}
+use Rattle.std.proofs.lemmas.List.Folds.{list_all-map}
 use Rattle.std.proofs.lemmas.List.Sorted.{All-permutation, length_permutation}
 use Rattle.std.proofs.lemmas.Nat.{mod_below, pow_pos, shr_split}
-use Rattle.std.proofs.lemmas.Nat.Bits.{bit_at-lt, bit_at-zero, bit_at_cat_high, same_from_bits}
+use Rattle.std.proofs.lemmas.Nat.Bits.{bit_at-lt, bit_at_above, bit_at_cat_low, same_from_bits}
 use Rattle.std.proofs.lemmas.Option.{IfSome_then, none-some, slice_get_cases}
 use Rattle.plan_base.specs.declared.days.DaySet.{DaySet}
 use Rattle.service_days.specs.Days.{AreDays, numbers_of}
@@ -26,7 +27,7 @@ use Rattle.gtfs_tables.specs.declared.trips.TripRow.{TripRow}
 use Rattle.timetable_arcs.specs.TripRules as rules_of
 use Rattle.timetable_arcs.specs.Trips.{TripLists}
 use Rattle.timetable_arcs.specs.declared.trips.Call.{Call}
-use Rattle.region_build.specs.Copies.{back_of, call_at, copies_of, copy_at, expanded, first_back, first_departure, is_copy_early, is_kept, leaves_of, moved, rows_go_on, runs}
+use Rattle.region_build.specs.Copies.{back_of, call_at, copies_of, copy_at, expanded, first_back, first_departure, is_kept, leaves_of, moved, rows_go_on, runs}
 use Rattle.region_build.specs.Groups.{is_of, trip_of_call, trip_of_frequency}
 use Rattle.region_build.specs.Services.{AreDaysOf}
 use Rattle.region_build.specs.Sources.{AreSourcesFrom, AreTripSources, SourceLists, letter_of, lists_of}
@@ -34,7 +35,7 @@ use Rattle.region_build.specs.StopNames.{AreEntries, entries_from, number_from, 
 use Rattle.region_build.specs.declared.sources.Source.{Source}
 use Rattle.region_build.specs.declared.stops.StopEntry.{StopEntry}
 use Rattle.region_build.proofs.ArcLaws.{position_none}
-use Rattle.region_build.proofs.LeavingLaws.{all_kept, leaves_never}
+use Rattle.region_build.proofs.LeavingLaws.{all_kept, leaves_run}
 use Rattle.region_build.proofs.PartLaws.{flat_map-if}
 
 -- ---- what is said of each trip
@@ -46,20 +47,14 @@ record IsRightSource (numbers stops : ℕ) (source : SourceLists) : Type 0 where
   back : 0 < length (leaves_of source) → rows_go_on 0 source.calls ≡ true
 
 -- a set that has no day from a number on is below a power of two
-zero_of : (bit : ℕ) → bit < 2 → bit ≢ 1 → bit ≡ 0
-zero_of bit small other = omega arith
-
 below_power : (x n : ℕ) → ((day : ℕ) → n ≤ day → bit_at x day ≢ 1) → x < 2 ^ n
 below_power x n none =
     let small : x % 2 ^ n < 2 ^ n = mod_below x (2 ^ n) (pow_pos n) in
-    let gone : x / 2 ^ n ≡ 0 = same_from_bits (x / 2 ^ n) 0 (λ i.
-    let same : n + i - n ≡ i = omega arith in
-    let here : bit_at x (n + i) ≡ bit_at (x / 2 ^ n) i =
-    ap (λ y. bit_at y (n + i)) (sym (shr_split x n)) ∙ bit_at_cat_high (x / 2 ^ n) n (x % 2 ^ n) (n + i) small (omega arith) ∙ ap (bit_at (x / 2 ^ n)) same in
-    zero_of (bit_at (x / 2 ^ n) i) (bit_at-lt (x / 2 ^ n) i) (λ e. none (n + i) (omega arith) (here ∙ e)) ∙ sym (bit_at-zero i)) in
-    let whole : 0 * 2 ^ n + x % 2 ^ n ≡ x = ap (λ q. q * 2 ^ n + x % 2 ^ n) (sym gone) ∙ shr_split x n in
-    let low : x % 2 ^ n ≡ x = omega (arith, whole) in
-    subst (λ y. y < 2 ^ n) low small
+    let same = same_from_bits (x % 2 ^ n) x (λ i. ⊎_elim
+    (λ low. sym (ap (λ y. bit_at y i) (sym (shr_split x n)) ∙ bit_at_cat_low (x / 2 ^ n) n (x % 2 ^ n) i low))
+    (λ high. let bit = bit_at-lt x i in let other = none i high in bit_at_above (x % 2 ^ n) n i small high ∙ omega (arith, bit, other))
+    (cases_lt i n)) in
+    subst (λ y. y < 2 ^ n) same small
 
 right_days : (feed : FeedLists) (days : DaysMeaning) (id : List ℕ) (set : DaySet) → AreDays days → AreDaysOf feed days id set → set.0 < 2 ^ length days.bases
 right_days feed days id set sound are =
@@ -133,11 +128,6 @@ record IsRightTrip (numbers stops : ℕ) (trip : TripLists) : Type 0 where
   on : rules_of.goes_on 0 trip.calls ≡ true
 
 module _ (number : ℕ → Option ℕ) (first leave : ℕ) where
-  early_calls : (calls : List CallRow) → list_all rules_of.is_early (map (call_at number first leave) calls) ≡ list_all (is_copy_early first leave) calls
-  unfolding call_at
-  early_calls [] = refl
-  early_calls (call ∷ calls) = ap (λ later. is_copy_early first leave call && later) (early_calls calls)
-
   -- times that are moved together go on where they did
   moved_on : (t u : ℕ) (calls : List CallRow) → u ≤ moved first leave t → rows_go_on t calls ≡ true → rules_of.goes_on u (map (call_at number first leave) calls) ≡ true
   unfolding call_at
@@ -158,7 +148,7 @@ right_copy number numbers stops known source leave knows right goes kept on =
     let long : nat_le 2 (length (map (call_at number (first_departure source.calls) leave) source.calls)) ≡ true =
     ap (nat_le 2) (length-map source.calls (call_at number (first_departure source.calls) leave)) ∙ parts.0 in
     let days : (nat_lt 0 source.days.0 && nat_lt source.days.0 (2 ^ numbers)) ≡ true = and_from _ _ parts.1 (lt-ltb source.days.0 (2 ^ numbers) right.days) in
-    let early : list_all rules_of.is_early (map (call_at number (first_departure source.calls) leave) source.calls) ≡ true = early_calls number (first_departure source.calls) leave source.calls ∙ kept in
+    let early : list_all rules_of.is_early (map (call_at number (first_departure source.calls) leave) source.calls) ≡ true = list_all-map rules_of.is_early (call_at number (first_departure source.calls) leave) source.calls ∙ kept in
     record {
       is = and_from _ _ (and_from _ _ (and_from _ _ letter long) days) early;
       known = position_none (λ (call : Call). nat_lt call.stop known) (map (call_at number (first_departure source.calls) leave) source.calls)
@@ -173,11 +163,7 @@ unfolding copies_of
 right_copies number numbers stops known source knows right =
     All-map (IsRightTrip numbers known) (copy_at number source) (leaves_of source) (λ k d within.
     let some : 0 < length (leaves_of source) = omega arith in
-    right_copy number numbers stops known source (get_or (leaves_of source) k d) knows right (goes some (runs source) refl) (all_kept source k d within) (right.back some))
-  where
-    goes : 0 < length (leaves_of source) → (t : Bool) → runs source ≡ t → runs source ≡ true
-    goes some true e = e
-    goes some false e = absurd (omega (arith, some, ap length (leaves_never source e)))
+    right_copy number numbers stops known source (get_or (leaves_of source) k d) knows right (leaves_run source some) (all_kept source k d within) (right.back some))
 
 faultless : (numbers stops k : ℕ) (trips : List TripLists) → All (IsRightTrip numbers stops) trips → rules_of.trips_fault numbers stops k trips ≡ None
 faultless numbers stops k [] all = refl

@@ -23,11 +23,6 @@ departing (suc most) t end headway = if nat_lt t end then t ∷ departing most (
 unfoldable pub departures_by : FrequencyRow → List ℕ
 departures_by row = departing (row.end - row.start) row.start row.end row.headway
 
--- A trip without headways leaves once, and one that has a headway without exact times does not run.
-unfoldable pub departures_of : SourceLists → List FrequencyRow → List ℕ
-departures_of source [] = first_departure source.calls ∷ []
-departures_of source (row ∷ rows) = if list_all (λ row. row.exact) (row ∷ rows) then flat_map departures_by (row ∷ rows) else []
-
 -- a time of the trip, where it leaves then instead; a first arrival that would fall below 0 is 0
 abbrev pub moved : ℕ → ℕ → ℕ → ℕ
 moved first leave time = time + leave - first
@@ -62,9 +57,22 @@ is_kept source leave = list_all (is_copy_early (first_departure source.calls) le
 abbrev pub runs : SourceLists → Bool
 runs source = nat_le 2 (length source.calls) && nat_lt 0 source.days.0
 
--- the times at which a trip that runs leaves on a copy that is kept
+-- One that runs leaves, unless it has a headway without exact times.
+abbrev pub is_leaving : SourceLists → Bool
+is_leaving source = runs source && list_all (λ row. row.exact) source.frequencies
+
+-- once, or by its headways
+abbrev pub departures_by_all : SourceLists → List FrequencyRow → List ℕ
+departures_by_all source [] = first_departure source.calls ∷ []
+departures_by_all source (row ∷ rows) = flat_map departures_by (row ∷ rows)
+
+-- the times at which it leaves, were all its copies kept
+unfoldable pub departures_of : SourceLists → List ℕ
+departures_of source = if is_leaving source then departures_by_all source source.frequencies else []
+
+-- and those of the copies that are kept
 unfoldable pub leaves_of : SourceLists → List ℕ
-leaves_of source = if runs source then filter (is_kept source) (departures_of source source.frequencies) else []
+leaves_of source = filter (is_kept source) (departures_of source)
 
 unfoldable pub copies_of : (ℕ → Option ℕ) → SourceLists → List TripLists
 copies_of number source = map (copy_at number source) (leaves_of source)

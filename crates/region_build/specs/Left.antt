@@ -1,5 +1,5 @@
 -- How many trips of a feed, and copies of them, do not run in a region, and why.
-use Rattle.std.specs.Prelude.{◌≡◌, ℕ, List, length, count_by, sum_by, Bool, not, ◌&&◌, nat_eq, nat_le, nat_lt, if◌then◌else◌}
+use Rattle.std.specs.Prelude.{◌≡◌, ℕ, List, length, count_by, sum_by, Bool, not, ◌&&◌, nat_eq, nat_le, nat_lt}
 use Rattle.std.specs.List.{list_all}
 use Rattle.service_days.specs.DaysMeaning.{DaysMeaning}
 use Rattle.gtfs_tables.specs.FeedLists.{FeedLists}
@@ -21,7 +21,7 @@ is_inexact source = runs source && not (list_all (λ row. row.exact) source.freq
 
 -- the copies with a time past 167:59:59
 abbrev pub late_copies : SourceLists → ℕ
-late_copies source = if runs source then count_by (λ leave. not (is_kept source leave)) (departures_of source source.frequencies) else 0
+late_copies source = count_by (λ leave. not (is_kept source leave)) (departures_of source)
 
 pub record AreLeft (sources : List SourceLists) (left : LeftOut) : Type 0 where
   pub short : left.short ≡ count_by is_short sources

@@ -4,8 +4,7 @@ ghost use Rattle.std.specs.Prelude.{◌≡◌, ◌<◌, ◌≤◌, ◌-◌, ◌+
 ghost use Rattle.std.specs.Int.{div_ceil};
 ghost use Rattle.std.specs.List.{AllByRecursion, flat_map, list_all};
 ghost use Rattle.region_build.specs.Copies as spec;
-ghost use Rattle.region_build.specs.inside.Leaving.{kept_before, kept_by, late_by, latest_of, leaves_by};
-ghost use Rattle.region_build.specs.Left.{late_copies};
+ghost use Rattle.region_build.specs.inside.Leaving.{AreCopyCounts, AreRowCounts, kept_before, latest_of, leaves_by};
 ghost use Rattle.region_build.specs.Sources.{lists_of};
 
 use crate::sources::Source;
@@ -56,6 +55,13 @@ pub(crate) fn runs(source: &Source<'_>) -> bool
     source.calls.len() >= 2 && source.days.0 > 0
 }
 
+/// Whether a trip leaves at all: it runs, and has no headway without exact times.
+fn is_leaving(source: &Source<'_>) -> bool
+    ensures { result ≡ spec.is_leaving (lists_of source.now) }
+{
+    runs(source) && are_exact(source.frequencies)
+}
+
 #[tactic(auto, unfolding(crate::specs::inside::Leaving::leaves_by))]
 fn push_leaves(times: &mut Vec<u64>, before: u64, row: &FrequencyRow) -> Result<(), AllocError>
     ensures { OnOk result (times.new.items ≡ times.old.items ++ leaves_by before row.now) }
@@ -90,26 +96,24 @@ pub(crate) fn leaves_into(times: &mut Vec<u64>, source: &Source<'_>) -> Result<(
     ensures { OnOk result (times.new.items ≡ spec.leaves_of (lists_of source.now)) }
 {
     times.clear();
-    if !runs(source) {
+    if !is_leaving(source) {
         return Ok(());
     }
     let before = kept_before(source.calls);
     let first = u64::from(first_departure(source.calls));
-    if source.frequencies.is_empty() {
-        if first < before {
-            times.push(first)?;
-        }
-    } else if are_exact(source.frequencies) {
+    if !source.frequencies.is_empty() {
         push_all_leaves(times, before, source.frequencies)?;
+    } else if first < before {
+        times.push(first)?;
     }
     Ok(())
 }
 
-/// How many copies of a trip are kept, and how many are late.
+/// How many copies of a trip are kept, and how many there are with those that are late.
 #[derive(Clone, Copy)]
 pub(crate) struct CopyCounts {
     pub(crate) kept: u64,
-    pub(crate) late: u64,
+    all: u64,
 }
 
 /// How often one leaves at a steady headway, from a start on and before an end.
@@ -123,68 +127,69 @@ fn starts(start: u64, end: u64, headway: u64) -> u64
 fn count_row(before: u64, row: &FrequencyRow) -> CopyCounts
     requires { 1 ≤ row.now.headway }
     ensures kept { result.kept ≡ length (leaves_by before row.now) }
-    ensures late { result.late ≡ length (spec.departures_by row.now) - length (leaves_by before row.now) }
+    ensures all { result.all ≡ length (spec.departures_by row.now) }
 {
     let (start, end) = (u64::from(row.start), u64::from(row.end));
     let headway = u64::from(row.headway);
-    let kept = starts(start, end.min(before), headway);
-    let all = starts(start, end, headway);
     CopyCounts {
-        kept,
-        late: all.saturating_sub(kept),
+        kept: starts(start, end.min(before), headway),
+        all: starts(start, end, headway),
     }
 }
 
 impl CopyCounts {
-    ghost use Rattle.std.specs.Prelude.{◌≡◌, ◌+◌, IfSome};
+    ghost use Rattle.std.specs.Prelude.{◌≡◌, ◌+◌, ◌-◌, IfSome};
+
+    /// Of a trip that never leaves.
+    const NONE: CopyCounts = CopyCounts { kept: 0, all: 0 };
+
+    /// How many copies are late.
+    pub(crate) fn late(self) -> u64
+        ensures { result ≡ self.all - self.kept }
+    {
+        self.all.saturating_sub(self.kept)
+    }
 
     /// Both together; `None` where a count is past 64 bits.
     fn and(self, other: CopyCounts) -> Option<CopyCounts>
-        ensures { IfSome result (λ sum. (sum.kept ≡ self.kept + other.kept)
-            × (sum.late ≡ self.late + other.late)) }
+        ensures { IfSome result (λ sum. (sum.kept ≡ self.kept + other.kept) × (sum.all ≡ self.all + other.all)) }
     {
         Some(CopyCounts {
             kept: self.kept.checked_add(other.kept)?,
-            late: self.late.checked_add(other.late)?,
+            all: self.all.checked_add(other.all)?,
         })
     }
 }
 
 fn count_rows(before: u64, rows: &[FrequencyRow]) -> Option<CopyCounts>
     requires { AllByRecursion (λ row. 1 ≤ row.headway) rows.now }
-    ensures kept { IfSome result (λ all. all.kept ≡ kept_by before rows.now) }
-    ensures late { IfSome result (λ all. all.late ≡ late_by before rows.now) }
+    ensures { IfSome result (AreRowCounts before rows.now) }
 {
-    let mut all = CopyCounts { kept: 0, late: 0 };
+    let mut counts = CopyCounts::NONE;
     let mut rest = rows;
     while let [row, after @ ..] = rest {
-        all = all.and(count_row(before, row))?;
+        counts = counts.and(count_row(before, row))?;
         rest = after;
     }
-    Some(all)
+    Some(counts)
 }
 
-/// How many copies of a trip are kept and how many are late, counted without making one; `None` where a count is past 64
+/// How many copies of a trip there are and how many are kept, counted without making one; `None` where a count is past 64
 /// bits.
 pub(crate) fn count_copies(source: &Source<'_>) -> Option<CopyCounts>
     requires { AllByRecursion (λ row. 1 ≤ row.headway) source.now.frequencies.now }
-    ensures kept { IfSome result (λ counted. counted.kept ≡ length (spec.leaves_of (lists_of source.now))) }
-    ensures late { IfSome result (λ counted. counted.late ≡ late_copies (lists_of source.now)) }
+    ensures { IfSome result (AreCopyCounts (lists_of source.now)) }
 {
-    if !runs(source) {
-        return Some(CopyCounts { kept: 0, late: 0 });
+    if !is_leaving(source) {
+        return Some(CopyCounts::NONE);
     }
     let before = kept_before(source.calls);
     let first = u64::from(first_departure(source.calls));
-    if source.frequencies.is_empty() {
-        Some(if first < before {
-            CopyCounts { kept: 1, late: 0 }
-        } else {
-            CopyCounts { kept: 0, late: 1 }
-        })
-    } else if are_exact(source.frequencies) {
+    if !source.frequencies.is_empty() {
         count_rows(before, source.frequencies)
+    } else if first < before {
+        Some(CopyCounts { kept: 1, all: 1 })
     } else {
-        Some(CopyCounts { kept: 0, late: 0 })
+        Some(CopyCounts { kept: 0, all: 1 })
     }
 }

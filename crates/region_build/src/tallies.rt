@@ -84,9 +84,8 @@ fn back_of(copies: u64, source: &Source<'_>) -> Option<u64>
 }
 
 impl Tally {
-    ghost use Rattle.std.specs.Prelude.{◌≡◌, [], ◌∷◌, ◌++◌, List, IfSome, length};
-    ghost use Rattle.region_build.specs.Copies.{leaves_of};
-    ghost use Rattle.region_build.specs.Left.{late_copies};
+    ghost use Rattle.std.specs.Prelude.{[], ◌∷◌, ◌++◌, List, IfSome};
+    ghost use Rattle.region_build.specs.inside.Leaving.{AreCopyCounts};
     ghost use Rattle.region_build.specs.Sources.{SourceLists, lists_of};
     ghost use Rattle.region_build.specs.Tallies.{IsTally};
 
@@ -100,12 +99,11 @@ impl Tally {
 
     /// With one trip more; `None` where a count is past its bits.
     fn with(self, source: &Source<'_>, counted: CopyCounts) -> Option<Tally>
-        requires kept { counted.kept ≡ length (leaves_of (lists_of source.now)) }
-        requires late { counted.late ≡ late_copies (lists_of source.now) }
+        requires { AreCopyCounts (lists_of source.now) counted }
         ensures { IfSome result (λ more. (sources : List SourceLists) → IsTally sources self
             → IsTally (sources ++ lists_of source.now ∷ []) more) }
     {
-        let CopyCounts { kept, late } = counted;
+        let (kept, late) = (counted.kept, counted.late());
         let calls = u128::from(kept).checked_mul(source.calls.len() as u128)?;
         Some(Tally {
             trips: self.trips.checked_add(kept)?,

@@ -1,8 +1,10 @@
 -- When and how often trips leave, by arithmetic alone.
-use Rattle.std.specs.Prelude.{ℕ, ◌+◌, ◌-◌, List, [], ◌∷◌, max, min, length, sum_by}
+use Rattle.std.specs.Prelude.{◌≡◌, ℕ, ◌+◌, ◌-◌, List, [], ◌∷◌, max, min, length, sum_by}
 use Rattle.gtfs_tables.specs.declared.calls.CallRow.{CallRow}
 use Rattle.gtfs_tables.specs.declared.frequencies.FrequencyRow.{FrequencyRow}
-use Rattle.region_build.specs.Copies.{departing, departures_by, first_departure}
+use Rattle.region_build.specs.Copies.{departing, departures_by, departures_of, first_departure, leaves_of}
+use Rattle.region_build.specs.Sources.{SourceLists}
+use Rattle.region_build.specs.declared.headways.CopyCounts.{CopyCounts}
 
 -- the latest of these times and t
 abbrev pub latest_of : ℕ → List CallRow → ℕ
@@ -17,9 +19,12 @@ kept_before calls = 604800 + first_departure calls - latest_of 0 calls
 unfoldable pub leaves_by : ℕ → FrequencyRow → List ℕ
 leaves_by before row = departing (row.end - row.start) row.start (min row.end before) row.headway
 
--- how often it leaves so by these rows, and how often it would leave later
-abbrev pub kept_by : ℕ → List FrequencyRow → ℕ
-kept_by before rows = sum_by (λ row. length (leaves_by before row)) rows
+-- how often it leaves so by these rows, and how often it would leave by them
+pub record AreRowCounts (before : ℕ) (rows : List FrequencyRow) (counts : CopyCounts) : Type 0 where
+  pub kept : counts.kept ≡ sum_by (λ row. length (leaves_by before row)) rows
+  pub all : counts.all ≡ sum_by (λ row. length (departures_by row)) rows
 
-abbrev pub late_by : ℕ → List FrequencyRow → ℕ
-late_by before rows = sum_by (λ row. length (departures_by row) - length (leaves_by before row)) rows
+-- how many copies of a trip are kept, and how many there are with those that are late
+pub record AreCopyCounts (source : SourceLists) (counts : CopyCounts) : Type 0 where
+  pub kept : counts.kept ≡ length (leaves_of source)
+  pub all : counts.all ≡ length (departures_of source)

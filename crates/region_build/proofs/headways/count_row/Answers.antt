@@ -5,8 +5,5 @@ use Rattle.region_build.proofs.headways.count_row.Goals as goal
 pub returns-clause-kept : goal.returns-clause-kept
 returns-clause-kept c = let kept = count_leaves c.args.before c.args.row.now c.requires in grind (arith, kept)
 
-pub returns-clause-late : goal.returns-clause-late
-returns-clause-late c =
-    let kept = count_leaves c.args.before c.args.row.now c.requires in
-    let all = count_departures c.args.row.now c.requires in
-    grind (arith, kept, all)
+pub returns-clause-all : goal.returns-clause-all
+returns-clause-all c = let all = count_departures c.args.row.now c.requires in grind (arith, all)

@@ -1,6 +1,8 @@
 use Rattle.std.proofs.Common.{◌≡◌, ◌+◌, ◌≤◌, length}
+use Rattle.std.specs.Prelude.{sum_by}
 use Rattle.std.specs.List.{AllByRecursion}
-use Rattle.region_build.specs.inside.Leaving.{kept_by, late_by}
+use Rattle.region_build.specs.Copies.{departures_by}
+use Rattle.region_build.specs.inside.Leaving.{leaves_by}
 use Rattle.region_build.proofs.headways.count_rows.Given as goal
 
 abbrev pub decreases-loop-rest : goal.decreases-loop-rest
@@ -9,6 +11,6 @@ decreases-loop-rest l = length l.rest
 abbrev pub invariant-loop-rest : goal.invariant-loop-rest
 invariant-loop-rest l = record {
   last : AllByRecursion (λ row. 1 ≤ row.headway) l.rest;
-  kept : l.all.kept + kept_by l.before l.rest ≡ kept_by l.before l.rows;
-  late : l.all.late + late_by l.before l.rest ≡ late_by l.before l.rows;
+  kept : l.counts.kept + sum_by (λ row. length (leaves_by l.before row)) l.rest ≡ sum_by (λ row. length (leaves_by l.before row)) l.rows;
+  all : l.counts.all + sum_by (λ row. length (departures_by row)) l.rest ≡ sum_by (λ row. length (departures_by row)) l.rows;
 }

@@ -1,7 +1,11 @@
-use Rattle.std.proofs.Common.{arith}
+use Rattle.std.proofs.Common.{arith, ◌∙◌}
 use Rattle.region_build.specs.Sources.{lists_of}
+use Rattle.region_build.proofs.LeavingLaws.{late_counted}
 use Rattle.region_build.proofs.TallyLaws.{tally_more}
 use Rattle.region_build.proofs.tallies.Tally.with.Goals as goal
+
+pub with-requires : goal.with-requires
+with-requires c = c.late-late.ensures ∙ late_counted (lists_of c.args.source.now) c.args.counted c.requires
 
 pub returns : goal.returns
 returns c = λ sources is.
