@@ -67,10 +67,7 @@ module _ (caps : Caps) {objects : ObjectLists} {feed : FeedLists} {days : DaysMe
   }
 
   counted : counts ≡ tallies_of drafted
-  counted =
-      ap {B = Counts} (λ trips. record { nodes = length (roads ++ stops ++ switches); stops = length stops; arcs = length arcs; links = length links; trips = trips; calls = tally.calls }) (is.trips ∙ sym (trips_counted (stop_number entries) sources))
-      ∙ ap {B = Counts} (λ calls. record { nodes = length (roads ++ stops ++ switches); stops = length stops; arcs = length arcs; links = length links; trips = length (expanded (stop_number entries) sources); calls = calls })
-      (is.calls ∙ sym (calls_counted (stop_number entries) sources))
+  counted = rw (is.trips, is.calls, trips_counted (stop_number entries) sources, calls_counted (stop_number entries) sources) refl
 
   same : draft_fault caps sources drafted ≡ fault_by caps counts tally.back
   same = ap (fault_by caps (tallies_of drafted)) (sym is.back) ∙ ap (λ counts. fault_by caps counts tally.back) (sym counted)

@@ -1,5 +1,5 @@
 -- The ends of a map's road arcs ascend, each has a number of its own, and the road nodes are theirs.
-use Rattle.std.proofs.Common.{◌≡◌, ℕ, ℤ, ap₂, suc, ◌+◌, ◌<◌, List, [], ◌∷◌, ◌++◌, length, map, get_or, Bool, true, false, ◌||◌, Option, None, Some, if◌then◌else◌, refl, sym, ap, subst, ◌∙◌, arith}
+use Rattle.std.proofs.Common.{◌≡◌, ℕ, ℤ, ap₂, suc, ◌+◌, ◌<◌, List, [], ◌∷◌, ◌++◌, length, map, get_or, Bool, true, false, Option, None, Some, if◌then◌else◌, refl, sym, ap, subst, ◌∙◌, arith}
 use Rattle.std.specs.Prelude.{is_some, nat_eq, option_and_then, option_map, option_to_list, slice_get}
 use Rattle.std.specs.Cmp.{IsTotalOrder, nat_cmp_total, int_cmp_total}
 use Rattle.std.specs.List.{All, flat_map, list_any}
@@ -7,7 +7,7 @@ use Rattle.std.specs.List.Sorted.{IsSorted}
 use Rattle.std.specs.Ordering.{int_cmp, int_eq, is_lt, nat_cmp, ordering_reverse, ordering_then}
 use Rattle.std.specs.declared.cmp.Ordering.{Ordering}
 use Rattle.std.specs.declared.cmp.Ordering.TheVariants.{Less, Equal, Greater}
-use Rattle.std.proofs.lemmas.Bool.{and_from, and_parts, false≢true}
+use Rattle.std.proofs.lemmas.Bool.{and_from, and_parts, false≢true, or_parts}
 use Rattle.std.proofs.lemmas.Bool.Decides.{Decides-int_eq}
 use Rattle.std.proofs.lemmas.Cmp.{on_total, then_total}
 use Rattle.std.proofs.lemmas.List.{length-map}
@@ -80,13 +80,9 @@ upward (e ∷ es) sorted = (
 above_all : (e : End) (seen : List End) → list_any (is_same_end e) seen ≡ false → All (λ x. is_lt (end_cmp e x) ≡ false) seen → All (λ x. is_lt (end_cmp x e) ≡ true) seen
 above_all e [] new low = All-nil (λ x. is_lt (end_cmp x e) ≡ true)
 above_all e (x ∷ seen) new low =
-    let parts = neither (is_same_end e x) (list_any (is_same_end e) seen) new in
+    let parts = or_parts (is_same_end e x) (list_any (is_same_end e) seen) new in
     All-cons (λ x. is_lt (end_cmp x e) ≡ true) x seen (is_above x e parts.0 (All-head (λ x. is_lt (end_cmp e x) ≡ false) x seen low))
     (above_all e seen parts.1 (All-tail (λ x. is_lt (end_cmp e x) ≡ false) x seen low))
-  where
-    neither : (a b : Bool) → (a || b) ≡ false → (a ≡ false) × (b ≡ false)
-    neither true b e = absurd (false≢true (sym e))
-    neither false b e = (refl, e)
 
 once_rises : (seen es : List End) → Rises end_cmp seen → Upward es → All (λ x. All (λ y. is_lt (end_cmp y x) ≡ false) es) seen → Rises end_cmp (once_behind seen es)
 once_rises seen [] rises up low = rises

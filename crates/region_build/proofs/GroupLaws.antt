@@ -1,9 +1,10 @@
 -- Rows in the order of their trips: those of a trip stand in front, once those of earlier trips are gone.
-use Rattle.std.proofs.Common.{◌≡◌, ℕ, zero, suc, ◌+◌, ◌≤◌, List, [], ◌∷◌, length, take, drop, Bool, true, false, refl, sym, ap, ◌∙◌, arith}
+use Rattle.std.proofs.Common.{◌≡◌, ℕ, suc, ◌+◌, ◌≤◌, List, [], ◌∷◌, length, take, drop, Bool, true, false, refl, sym, ap, subst, ◌∙◌, arith}
 use Rattle.std.specs.Prelude.{filter}
 use Rattle.std.specs.List.Sorted.{IsSorted}
 use Rattle.std.specs.Ordering.{is_lt, nat_cmp, ordering_then}
 use Rattle.std.proofs.lemmas.Bool.Decides.{nat_tests}
+use Rattle.std.proofs.lemmas.List.{drop_all, take_all}
 use Rattle.std.proofs.lemmas.List.Sums.{take_while-cons}
 use Rattle.region_build.specs.Groups.{Ascend, is_of, own_count}
 
@@ -35,11 +36,7 @@ module _ {X : Type 0} (trip : X → ℕ) where
   behind k x xs e h = let here = is_here k x e in weaker k (trip x) xs (omega arith) h
 
   pub own : (k : ℕ) (xs : List X) → Ascend trip k xs → take (own_count trip k xs) xs ≡ filter (is_of trip k) xs
-  own k [] h = take_nothing (own_count trip k [])
-    where
-      take_nothing : (n : ℕ) → ◌≡◌ {A = List X} (take n []) []
-      take_nothing zero = refl
-      take_nothing (suc n) = refl
+  own k [] h = take_all (own_count trip k []) [] (omega arith)
   own k (x ∷ xs) h = by_test (is_of trip k x) refl (own k xs)
     where
       by_test : (here : Bool) → is_of trip k x ≡ here → (Ascend trip k xs → take (own_count trip k xs) xs ≡ filter (is_of trip k) xs) → take (own_count trip k (x ∷ xs)) (x ∷ xs) ≡ filter (is_of trip k) (x ∷ xs)
@@ -47,11 +44,7 @@ module _ {X : Type 0} (trip : X → ℕ) where
       by_test false e rest = rw (own_count-no k x xs e, e) (sym (none_of k xs (weaker (k + 1) (trip x) xs (is_later k x h.0 e) h.1)))
 
   pub later : (k : ℕ) (xs : List X) → Ascend trip k xs → Ascend trip (k + 1) (drop (own_count trip k xs) xs)
-  later k [] h = drop_nothing (own_count trip k [])
-    where
-      drop_nothing : (n : ℕ) → Ascend trip (k + 1) (drop n [])
-      drop_nothing zero = tt
-      drop_nothing (suc n) = tt
+  later k [] h = subst (Ascend trip (k + 1)) (sym (drop_all (own_count trip k []) [] (omega arith))) tt
   later k (x ∷ xs) h = by_test (is_of trip k x) refl (later k xs)
     where
       by_test : (here : Bool) → is_of trip k x ≡ here → (Ascend trip k xs → Ascend trip (k + 1) (drop (own_count trip k xs) xs)) → Ascend trip (k + 1) (drop (own_count trip k (x ∷ xs)) (x ∷ xs))
@@ -59,11 +52,7 @@ module _ {X : Type 0} (trip : X → ℕ) where
       by_test false e rest = rw (own_count-no k x xs e) (is_later k x h.0 e, h.1)
 
   pub kept : (k j : ℕ) (xs : List X) → Ascend trip k xs → k + 1 ≤ j → filter (is_of trip j) (drop (own_count trip k xs) xs) ≡ filter (is_of trip j) xs
-  kept k j [] h high = drop_nothing (own_count trip k [])
-    where
-      drop_nothing : (n : ℕ) → filter (is_of trip j) (drop n []) ≡ []
-      drop_nothing zero = refl
-      drop_nothing (suc n) = refl
+  kept k j [] h high = ap (filter (is_of trip j)) (drop_all (own_count trip k []) [] (omega arith))
   kept k j (x ∷ xs) h high = by_test (is_of trip k x) refl (kept k j xs)
     where
       by_test : (here : Bool) → is_of trip k x ≡ here → (Ascend trip k xs → k + 1 ≤ j → filter (is_of trip j) (drop (own_count trip k xs) xs) ≡ filter (is_of trip j) xs)

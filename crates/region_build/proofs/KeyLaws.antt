@@ -1,5 +1,5 @@
 -- Ends are found by their keys, and are put once by them.
-use Rattle.std.proofs.Common.{◌≡◌, ℕ, ℤ, ◌+◌, List, [], ◌∷◌, ◌++◌, map, Bool, true, false, not, ◌&&◌, cond, if◌then◌else◌, nat_lt, nat_eq, Option, None, Some, refl, ap, ap₂, sym, ◌∙◌}
+use Rattle.std.proofs.Common.{◌≡◌, ℕ, ℤ, ◌+◌, List, [], ◌∷◌, ◌++◌, map, Bool, true, false, not, ◌&&◌, cond, if◌then◌else◌, nat_lt, nat_eq, None, Some, refl, ap, ap₂, sym, ◌∙◌}
 use Rattle.std.specs.List.{list_any, position, prefix_len}
 use Rattle.std.specs.Ordering.{int_eq}
 use Rattle.std.proofs.lemmas.Bool.{false≢true}

@@ -1,5 +1,5 @@
 -- What is said of services, row by row.
-use Rattle.std.proofs.Common.{◌≡◌, ℕ, ◌+◌, ◌<◌, List, [], ◌∷◌, ◌++◌, length, get_or, take, map, Bool, true, false, Option, None, Some, cond, is_some, if◌then◌else◌, refl, sym, ap, subst, ◌∙◌}
+use Rattle.std.proofs.Common.{◌≡◌, ℕ, ◌+◌, ◌<◌, List, [], ◌∷◌, ◌++◌, length, get_or, take, map, Bool, true, false, Option, None, Some, cond, if◌then◌else◌, refl, sym, ap, subst, ◌∙◌}
 use Rattle.std.specs.Prelude.{IfSome, Vec, bytes_eq, filter, is_none, unwrap_or}
 use Rattle.std.specs.Option.{option_copied, option_map_or}
 use Rattle.std.specs.declared.alloc.Global.{Global}
@@ -32,19 +32,6 @@ rule_of-push (first ∷ services) service id = by_test (bytes_eq first.id id) (r
 
 -- its rule is kept where none has been
 module _ (kept : List ℕ → Option ServiceRule) (service : ServiceRow) where
-  pub rule_stays : is_some (kept service.id) ≡ true → (id : List ℕ) → kept id ≡ rule_with (kept id) service id
-  rule_stays some id = by_rule (kept id) refl
-    where
-      by_test : (same : Bool) → bytes_eq service.id id ≡ same → kept id ≡ None → None ≡ (if same then Some service.rule else None)
-      by_test false e none = refl
-      by_test true e none =
-          let one : service.id ≡ id = (bytes_eq-Decides service.id id).0 e in
-          absurd (false≢true (ap is_some (sym none ∙ ap kept (sym one)) ∙ some))
-
-      by_rule : (rule : Option ServiceRule) → kept id ≡ rule → rule ≡ rule_with rule service id
-      by_rule (Some rule) e = refl
-      by_rule None e = by_test (bytes_eq service.id id) refl e
-
   comes : kept service.id ≡ None → (id : List ℕ) → update bytes_eq kept service.id (Some service.rule) id ≡ rule_with (kept id) service id
   comes none id = by_test (bytes_eq service.id id) refl (kept id) refl
     where

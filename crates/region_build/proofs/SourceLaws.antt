@@ -1,5 +1,5 @@
 -- What the tables say of one trip after another.
-use Rattle.std.proofs.Common.{◌≡◌, ℕ, ◌+◌, ◌-◌, ◌<◌, ◌≤◌, List, [], ◌∷◌, ◌++◌, length, map, take, drop, get_or, subst, sym, ap, arith, ◌∙◌, append_assoc}
+use Rattle.std.proofs.Common.{◌≡◌, ℕ, ◌+◌, ◌-◌, ◌<◌, ◌≤◌, List, [], ◌∷◌, ◌++◌, length, map, take, drop, get_or, refl, subst, sym, ap, arith, ◌∙◌, append_assoc}
 use Rattle.std.specs.Prelude.{filter}
 use Rattle.std.proofs.lemmas.List.{append-nil, map-append, take_all}
 use Rattle.service_days.specs.DaysMeaning.{DaysMeaning}
@@ -12,12 +12,12 @@ use Rattle.region_build.specs.declared.sources.Source.{Source}
 use Rattle.region_build.specs.Sources.{AreSourcesFrom, IsSource, SourceLists, lists_of}
 
 -- the first element and those behind it
-pub first_and_rest : {X : Type 0} (xs : List X) (x : X) → 1 ≤ length xs → x ≡ get_or xs 0 x → xs ≡ x ∷ take (length xs - 1) (drop 1 xs)
-first_and_rest [] x some is = absurd (omega arith)
-first_and_rest (y ∷ ys) x some is =
-    let count : length (y ∷ ys) - 1 ≡ length ys = omega arith in
-    let all : take (length ys) ys ≡ ys = take_all (length ys) ys (omega arith) in
-    rw (count, all) (ap (λ z. z ∷ ys) (sym is))
+pub first_and_rest : {X : Type 0} (xs : List X) (d : X) → 1 ≤ length xs → xs ≡ get_or xs 0 d ∷ take (length xs - 1) (drop 1 xs)
+first_and_rest [] d some = absurd (omega arith)
+first_and_rest (x ∷ xs) d some =
+    let count : length (x ∷ xs) - 1 ≡ length xs = omega arith in
+    let all : take (length xs) xs ≡ xs = take_all (length xs) xs (omega arith) in
+    rw (count, all) refl
 
 module _ (feed : FeedLists) (days : DaysMeaning) (calls : List CallRow) (frequencies : List FrequencyRow) (all : List TripRow) where
   -- the trips before this place have their sources

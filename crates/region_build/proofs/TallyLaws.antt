@@ -1,9 +1,10 @@
 -- What the trips of a feed come to, one after the other.
-use Rattle.std.proofs.Common.{◌≡◌, ℕ, ◌+◌, ◌*◌, List, [], ◌∷◌, ◌++◌, length, map, Option, None, Some, if◌then◌else◌, cond, refl, sym, ap, ◌∙◌, arith, length-append}
+use Rattle.std.proofs.Common.{◌≡◌, ℕ, ◌+◌, ◌*◌, List, [], ◌∷◌, ◌++◌, length, map, Option, None, Some, if◌then◌else◌, cond, refl, sym, ap, ◌∙◌, arith}
 use Rattle.std.specs.Prelude.{sum_by}
 use Rattle.std.specs.List.{flat_map}
 use Rattle.std.specs.Option.{option_or}
 use Rattle.std.proofs.lemmas.List.{length-map}
+use Rattle.std.proofs.lemmas.List.Concat.{length-flat_map}
 use Rattle.std.proofs.lemmas.List.Sums.{sum_by-append, sum_by-cons, sum_by_push}
 use Rattle.timetable_arcs.specs.TripRules.{calls_of}
 use Rattle.timetable_arcs.specs.Trips.{TripLists}
@@ -48,10 +49,6 @@ module _ (sources : List SourceLists) (source : SourceLists) where
 
 -- what was counted is what there is
 module _ (number : ℕ → Option ℕ) where
-  copies_long : (source : SourceLists) → length (copies_of number source) ≡ length (leaves_of source)
-  unfolding copies_of
-  copies_long source = length-map (leaves_of source) (copy_at number source)
-
   calls_copied : (source : SourceLists) (leaves : List ℕ) → calls_of (map (copy_at number source) leaves) ≡ length leaves * length source.calls
   unfolding copy_at
   calls_copied source [] = omega arith
@@ -60,13 +57,8 @@ module _ (number : ℕ → Option ℕ) where
       sum_by-cons (λ (trip : TripLists). length trip.calls) (copy_at number source leave) (map (copy_at number source) leaves) ∙ omega (arith, one, calls_copied source leaves)
 
   pub trips_counted : (sources : List SourceLists) → length (expanded number sources) ≡ sum_by (λ source. length (leaves_of source)) sources
-  unfolding expanded
-  trips_counted [] = refl
-  trips_counted (source ∷ sources) =
-      length-append (copies_of number source) (flat_map (copies_of number) sources)
-      ∙ ap (λ n. n + length (flat_map (copies_of number) sources)) (copies_long source)
-      ∙ ap (λ n. length (leaves_of source) + n) (trips_counted sources)
-      ∙ sym (sum_by-cons (λ source. length (leaves_of source)) source sources)
+  unfolding expanded copies_of
+  trips_counted sources = length-flat_map (copies_of number) sources ∙ ap (λ (f : SourceLists → ℕ). sum_by f sources) (λ i source. length-map (leaves_of source) (copy_at number source) i)
 
   pub calls_counted : (sources : List SourceLists) → calls_of (expanded number sources) ≡ sum_by (λ source. length (leaves_of source) * length source.calls) sources
   unfolding expanded copies_of

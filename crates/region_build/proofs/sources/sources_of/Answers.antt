@@ -1,4 +1,4 @@
-use Rattle.std.proofs.Common.{List, ℕ, ◌∙◌, ap, arith, length, subst}
+use Rattle.std.proofs.Common.{List, ℕ, ◌∷◌, ◌-◌, ◌∙◌, ap, arith, drop, length, subst, sym, take}
 use Rattle.region_build.specs.Services.{AreDaysOf}
 use Rattle.region_build.proofs.ServiceLaws.{days_are}
 use Rattle.region_build.proofs.SourceLaws.{all_told, first_and_rest, one_more}
@@ -6,7 +6,8 @@ use Rattle.region_build.proofs.sources.sources_of.Goals as goal
 
 pub loop-rest-preserved : goal.loop-rest-preserved
 loop-rest-preserved c =
-    let split = first_and_rest c.loop-rest.rest.now c.trip-item.result (omega arith) c.trip-item.is in
+    let rest = c.loop-rest.rest.now in
+    let split = first_and_rest rest c.trip-item.result (omega arith) ∙ ap (λ trip. trip ∷ take (length rest - 1) (drop 1 rest)) (sym c.trip-item.is) in
     let counted = ap length split in
     let runs = subst (λ (id : List ℕ). AreDaysOf c.args.feed.now c.args.days.now id c.in_ok-runs.runs) c.as_bytes.ensures
     (days_are c.args.feed.now c.args.days.now _ _ _ _ c.in_ok-runs.runs c.in_ok-services.ensures c.in_ok-runs.ensures.runs) in

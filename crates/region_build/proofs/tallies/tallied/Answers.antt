@@ -1,33 +1,26 @@
 use Rattle.std.proofs.Common.{◌≡◌, ◌-◌, ◌<◌, ◌≤◌, ◌++◌, [], ◌∷◌, List, map, length, get_or, take, drop, refl, sym, ap, ◌∙◌, arith, append_assoc, subst}
 use Rattle.std.specs.List.{AllByRecursion}
-use Rattle.std.proofs.lemmas.List.{append-nil, take_all}
+use Rattle.std.proofs.lemmas.List.{append-nil}
 use Rattle.region_build.specs.Sources.{SourceLists, lists_of}
 use Rattle.region_build.specs.Tallies.{IsTally}
 use Rattle.region_build.specs.declared.sources.Source.{Source}
 use Rattle.region_build.specs.declared.tallies.Tally.{Tally}
+use Rattle.region_build.proofs.SourceLaws.{first_and_rest}
 use Rattle.region_build.proofs.tallies.tallied.Goals as goal
-
--- the first of the rest, and those behind it
-split : (rest : List Source) (d : Source) → 1 ≤ length rest → rest ≡ get_or rest 0 d ∷ take (length rest - 1) (drop 1 rest)
-split [] d some = absurd (omega arith)
-split (source ∷ rest) d some =
-    let count : length (source ∷ rest) - 1 ≡ length rest = omega arith in
-    let all : take (length rest) rest ≡ rest = take_all (length rest) rest (omega arith) in
-    rw (count, all) refl
 
 abbrev AllLast : List Source → Type 0
 AllLast sources = AllByRecursion (λ source. AllByRecursion (λ row. 1 ≤ row.headway) source.frequencies.now) sources
 
 later : (rest : List Source) → 1 ≤ length rest → AllLast rest → AllLast (take (length rest - 1) (drop 1 rest))
 later [] some last = absurd (omega arith)
-later (source ∷ rest) some last = (subst AllLast (split (source ∷ rest) source some) last).1
+later (source ∷ rest) some last = (subst AllLast (first_and_rest (source ∷ rest) source some) last).1
 
 -- it goes to those before
 moved : (rest : List Source) (d : Source) (before all : List SourceLists) (more : Tally) → 1 ≤ length rest → before ++ map lists_of rest ≡ all → IsTally (before ++ lists_of (get_or rest 0 d) ∷ []) more
     → (x : List SourceLists) × (x ++ map lists_of (take (length rest - 1) (drop 1 rest)) ≡ all) × IsTally x more
 moved rest d before all more some so_far is = (
   before ++ lists_of (get_or rest 0 d) ∷ [],
-  append_assoc before (lists_of (get_or rest 0 d) ∷ []) (map lists_of (take (length rest - 1) (drop 1 rest))) ∙ ap (λ rest. before ++ map lists_of rest) (sym (split rest d some)) ∙ so_far,
+  append_assoc before (lists_of (get_or rest 0 d) ∷ []) (map lists_of (take (length rest - 1) (drop 1 rest))) ∙ ap (λ rest. before ++ map lists_of rest) (sym (first_and_rest rest d some)) ∙ so_far,
   is,
 )
 
