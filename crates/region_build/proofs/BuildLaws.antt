@@ -6,8 +6,6 @@ use Rattle.service_days.specs.DaysMeaning.{DaysMeaning}
 use Rattle.opl_reader.specs.ObjectLists.{AreObjects, ObjectLists}
 use Rattle.gtfs_tables.specs.FeedLists.{FeedLists}
 use Rattle.gtfs_tables.specs.Sound.{IsFeed}
-use Rattle.gtfs_tables.specs.declared.calls.CallRow.{CallRow}
-use Rattle.gtfs_tables.specs.declared.frequencies.FrequencyRow.{FrequencyRow}
 use Rattle.mode_network.specs.NetworkLists.{NetworkLists}
 use Rattle.mode_network.specs.Rules.{AreParts, first_fault}
 use Rattle.mode_network.specs.declared.nodes.Arc.{Arc}
@@ -15,7 +13,7 @@ use Rattle.mode_network.specs.declared.nodes.Node.{Node}
 use Rattle.region_build.specs.Answers.{HasFault, IsCompiled, IsFaultOf, draft_fault, fault_by}
 use Rattle.region_build.specs.Compiled.{AreLists, IsDraft}
 use Rattle.region_build.specs.Copies.{expanded}
-use Rattle.region_build.specs.Sources.{AreCallsInOrder, AreFrequenciesInOrder, AreSourcesFrom, AreTripSources, SourceLists}
+use Rattle.region_build.specs.Sources.{AreTripSources, SourceLists}
 use Rattle.region_build.specs.StopNames.{stop_number}
 use Rattle.region_build.specs.Tallies.{IsTally, tallies_of}
 use Rattle.region_build.specs.declared.faults.BuildFault.{BuildFault}
@@ -26,18 +24,6 @@ use Rattle.region_build.specs.declared.tallies.Tally.{Tally}
 use Rattle.region_build.proofs.KeepLaws.{draft_keeps}
 use Rattle.region_build.proofs.PartLaws.{lists_are_parts}
 use Rattle.region_build.proofs.TallyLaws.{calls_counted, trips_counted}
-
--- what is said of trips is read from rows that were put in order
-pub sources_said : (feed : FeedLists) (days : DaysMeaning) (given calls calls_now : List CallRow) (given_rows rows rows_now : List FrequencyRow) (sources : List SourceLists)
-    → given ≡ feed.calls → AreCallsInOrder given calls → calls_now ≡ calls → given_rows ≡ feed.frequencies → AreFrequenciesInOrder given_rows rows → rows_now ≡ rows
-    → AreSourcesFrom feed days calls_now rows_now 0 feed.trips sources → AreTripSources feed days sources
-sources_said feed days given calls calls_now given_rows rows rows_now sources of_calls calls_are calls_same of_rows rows_are rows_same each = record {
-  calls = calls_now;
-  calls_are = subst (AreCallsInOrder feed.calls) (sym calls_same) (subst (λ (given : List CallRow). AreCallsInOrder given calls) of_calls calls_are);
-  frequencies = rows_now;
-  frequencies_are = subst (AreFrequenciesInOrder feed.frequencies) (sym rows_same) (subst (λ (given : List FrequencyRow). AreFrequenciesInOrder given rows) of_rows rows_are);
-  each = each;
-}
 
 module _ (caps : Caps) {objects : ObjectLists} {feed : FeedLists} {days : DaysMeaning} {entries : List StopEntry} {sources : List SourceLists} {roads stops switches : List Node} {arcs links : List Arc} {tally : Tally}
     (lists : AreLists objects feed entries roads stops switches arcs links) (said : AreTripSources feed days sources) (is : IsTally sources tally) where

@@ -114,11 +114,10 @@ headways_last feed days calls frequencies k (trip ∷ trips) (source ∷ sources
   headways_last feed days calls frequencies (k + 1) trips sources last are.1,
 )
 
-pub headways_right : (feed : FeedLists) (given sorted : List FrequencyRow) → IsFeed feed → given ≡ feed.frequencies → IsPermutation given sorted → All (λ (row : FrequencyRow). 1 ≤ row.headway) sorted
-headways_right feed given sorted sound same moved =
-    All-permutation (λ (row : FrequencyRow). 1 ≤ row.headway) given sorted moved
-    (subst (All (λ (row : FrequencyRow). 1 ≤ row.headway)) (sym same)
-    (All-weaker (IsFrequency (length feed.trips)) (λ (row : FrequencyRow). 1 ≤ row.headway) (λ row is. is.headway) feed.frequencies (All-from_recursion (IsFrequency (length feed.trips)) feed.frequencies sound.frequencies)))
+pub headways_right : (feed : FeedLists) (sorted : List FrequencyRow) → IsFeed feed → IsPermutation feed.frequencies sorted → All (λ (row : FrequencyRow). 1 ≤ row.headway) sorted
+headways_right feed sorted sound moved =
+    All-permutation (λ (row : FrequencyRow). 1 ≤ row.headway) feed.frequencies sorted moved
+    (All-weaker (IsFrequency (length feed.trips)) (λ (row : FrequencyRow). 1 ≤ row.headway) (λ row is. is.headway) feed.frequencies (All-from_recursion (IsFrequency (length feed.trips)) feed.frequencies sound.frequencies))
 
 -- ---- its copies
 

@@ -4,7 +4,8 @@ ghost use Rattle.std.specs.Prelude.{◌≡◌, ◌<◌, ◌≤◌, ◌-◌, ◌+
 ghost use Rattle.std.specs.Int.{div_ceil};
 ghost use Rattle.std.specs.List.{AllByRecursion, flat_map, list_all};
 ghost use Rattle.region_build.specs.Copies as spec;
-ghost use Rattle.region_build.specs.inside.Leaving.{AreCopyCounts, AreRowCounts, kept_before, latest_of, leaves_by};
+ghost use Rattle.region_build.specs.inside.Leaving.{AreCopyCounts, AreRowCounts, kept_before};
+ghost use Rattle.region_build.specs.inside.Leaving.{latest_of, leaves_by};
 ghost use Rattle.region_build.specs.Sources.{lists_of};
 
 use crate::sources::Source;
@@ -152,7 +153,8 @@ impl CopyCounts {
 
     /// Both together; `None` where a count is past 64 bits.
     fn and(self, other: CopyCounts) -> Option<CopyCounts>
-        ensures { IfSome result (λ sum. (sum.kept ≡ self.kept + other.kept) × (sum.all ≡ self.all + other.all)) }
+        ensures { IfSome result (λ sum. (sum.kept ≡ self.kept + other.kept)
+            × (sum.all ≡ self.all + other.all)) }
     {
         Some(CopyCounts {
             kept: self.kept.checked_add(other.kept)?,

@@ -32,8 +32,7 @@ pub(crate) struct Source<'a> {
 
 /// The calls of a feed in the order of their trips and sequence numbers.
 pub(crate) fn calls_in_order(alloc: Global, calls: &[CallRow]) -> Result<Vec<CallRow>, AllocError>
-    ensures are { IfOk result (λ sorted. spec.AreCallsInOrder calls.now sorted.items) }
-    ensures ascend { IfOk result (λ sorted. Ascend trip_of_call 0 sorted.items) }
+    ensures { IfOk result (λ sorted. spec.AreCallsInOrder calls.now sorted.items) }
 {
     let mut sorted = Vec::from_slice(alloc, calls)?;
     sorted.sort_by_key(|call| (call.trip, call.sequence))?;
@@ -45,8 +44,7 @@ pub(crate) fn frequencies_in_order(
     alloc: Global,
     frequencies: &[FrequencyRow],
 ) -> Result<Vec<FrequencyRow>, AllocError>
-    ensures are { IfOk result (λ sorted. spec.AreFrequenciesInOrder frequencies.now sorted.items) }
-    ensures ascend { IfOk result (λ sorted. Ascend trip_of_frequency 0 sorted.items) }
+    ensures { IfOk result (λ sorted. spec.AreFrequenciesInOrder frequencies.now sorted.items) }
 {
     let mut sorted = Vec::from_slice(alloc, frequencies)?;
     sorted.sort_by_key(|frequency| (frequency.trip, frequency.row))?;
@@ -117,7 +115,7 @@ fn source_of<'a>(
     }
 }
 
-/// What the tables say of each trip, where calls and headways are in the order of their trips.
+/// What the tables say of each trip, by the calls and the headways in the order of their trips.
 pub(crate) fn sources_of<'a>(
     alloc: Global,
     feed: &'a Feed,
@@ -126,10 +124,10 @@ pub(crate) fn sources_of<'a>(
     frequencies: &'a [FrequencyRow],
 ) -> Result<Vec<Source<'a>>, AllocError>
     requires few { length feed.now.trips < 2 ^ 32 }
-    requires calls { Ascend trip_of_call 0 calls.now }
-    requires frequencies { Ascend trip_of_frequency 0 frequencies.now }
-    ensures { IfOk result (λ sources. spec.AreSourcesFrom feed.now days.now calls.now frequencies.now 0
-        feed.now.trips (map spec.lists_of sources.items)) }
+    requires calls { spec.AreCallsInOrder feed.now.calls calls.now }
+    requires frequencies { spec.AreFrequenciesInOrder feed.now.frequencies frequencies.now }
+    ensures { IfOk result (λ sources. spec.AreTripSources feed.now days.now
+        (map spec.lists_of sources.items)) }
 {
     let services = Services::of(alloc, feed)?;
     let mut known = HashMap::new(alloc);

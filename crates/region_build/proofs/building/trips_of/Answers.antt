@@ -1,20 +1,21 @@
 use Rattle.std.proofs.Common.{List, ℕ, Option, ◌≡◌, ◌≤◌, length, map, subst, sym, ap, ◌∙◌}
-use Rattle.std.specs.List.{All, AllByRecursion}
+use Rattle.std.specs.List.{AllByRecursion}
 use Rattle.plan_base.specs.declared.limits.Caps.{Caps}
 use Rattle.gtfs_tables.specs.FeedLists.{FeedLists}
 use Rattle.gtfs_tables.specs.Sound.{IsFeedId}
+use Rattle.gtfs_tables.specs.declared.calls.CallRow.{CallRow}
 use Rattle.gtfs_tables.specs.declared.frequencies.FrequencyRow.{FrequencyRow}
 use Rattle.region_build.specs.Answers.{fault_by}
 use Rattle.region_build.specs.Compiled.{network_lists}
 use Rattle.region_build.specs.Copies.{expanded}
-use Rattle.region_build.specs.Sources.{lists_of}
+use Rattle.region_build.specs.Sources.{AreCallsInOrder, AreFrequenciesInOrder, lists_of}
 use Rattle.region_build.specs.StopNames.{stop_number}
 use Rattle.region_build.specs.Tallies.{IsTally}
 use Rattle.region_build.specs.declared.faults.BuildFault.{BuildFault}
 use Rattle.region_build.specs.declared.sources.Source.{Source}
 use Rattle.region_build.specs.declared.stops.StopEntry.{StopEntry}
 use Rattle.region_build.specs.declared.tallies.Counts.{Counts}
-use Rattle.region_build.proofs.BuildLaws.{are_compiled, has_fault, sources_said}
+use Rattle.region_build.proofs.BuildLaws.{are_compiled, has_fault}
 use Rattle.region_build.proofs.TripLaws.{sources_have_ids}
 use Rattle.region_build.proofs.TripRuleLaws.{headways_last, headways_right}
 use Rattle.region_build.proofs.building.trips_of.Goals as goal
@@ -22,42 +23,44 @@ use Rattle.region_build.proofs.building.trips_of.Goals as goal
 fault_is : (caps : Caps) (back : Option ℕ) {counts given : Counts} {fault other : Option BuildFault} → fault ≡ fault_by caps counts back → counts ≡ given → fault ≡ other → fault_by caps given back ≡ other
 fault_is caps back found counted is = ap (λ (counts : Counts). fault_by caps counts back) (sym counted) ∙ sym found ∙ is
 
+pub sources_of-requires-clause-calls : goal.sources_of-requires-clause-calls
+sources_of-requires-clause-calls c =
+    subst (AreCallsInOrder c.args.feed.now.calls) (sym c.deref-3.ensures.value)
+    (subst (λ (given : List CallRow). AreCallsInOrder given c.in_ok-calls.calls.items) (c.deref.ensures.value ∙ ap (λ (feed : FeedLists). feed.calls) c.feed.view_is) c.in_ok-calls.ensures)
+
+pub sources_of-requires-clause-frequencies : goal.sources_of-requires-clause-frequencies
+sources_of-requires-clause-frequencies c =
+    subst (AreFrequenciesInOrder c.args.feed.now.frequencies) (sym c.deref-4.ensures.value)
+    (subst (λ (given : List FrequencyRow). AreFrequenciesInOrder given c.in_ok-frequencies.frequencies.items) (c.deref-2.ensures.value ∙ ap (λ (feed : FeedLists). feed.frequencies) c.feed.view_is) c.in_ok-frequencies.ensures)
+
 pub tally_of-requires : goal.tally_of-requires
 tally_of-requires c =
-    let last = headways_right c.args.feed.now c.deref-2.result.now c.in_ok-frequencies.frequencies.items c.requires.feed (c.deref-2.ensures.value ∙ ap (λ (feed : FeedLists). feed.frequencies) c.feed.view_is) c.in_ok-frequencies.ensures.are.same in
+    let said = c.in_ok-sources.ensures in
     subst (λ (sources : List Source). AllByRecursion (λ (source : Source). AllByRecursion (λ (row : FrequencyRow). 1 ≤ row.headway) source.frequencies.now) sources) (sym c.deref-5.ensures.value)
-    (headways_last c.args.feed.now c.args.days.now c.deref-3.result.now c.deref-4.result.now 0 c.args.feed.now.trips c.in_ok-sources.sources.items
-    (subst (All (λ (row : FrequencyRow). 1 ≤ row.headway)) (sym c.deref-4.ensures.value) last) c.in_ok-sources.ensures)
+    (headways_last c.args.feed.now c.args.days.now said.calls said.frequencies 0 c.args.feed.now.trips c.in_ok-sources.sources.items
+    (headways_right c.args.feed.now said.frequencies c.requires.feed said.frequencies_are.same) said.each)
 
 pub numbered_trips-requires-clause-ids : goal.numbered_trips-requires-clause-ids
 numbered_trips-requires-clause-ids c =
+    let said = c.in_ok-sources.ensures in
     subst (λ (sources : List Source). AllByRecursion (λ (source : Source). IsFeedId source.id.now) sources) (sym c.deref-7.ensures.value)
-    (sources_have_ids c.args.feed.now c.args.days.now c.deref-3.result.now c.deref-4.result.now 0 (length c.args.feed.now.routes) c.args.feed.now.trips c.in_ok-sources.sources.items c.in_ok-sources.ensures c.requires.feed.trips)
+    (sources_have_ids c.args.feed.now c.args.days.now said.calls said.frequencies 0 (length c.args.feed.now.routes) c.args.feed.now.trips c.in_ok-sources.sources.items said.each c.requires.feed.trips)
 
 pub returns-in-Some-clause-fault : goal.returns-in-Some-clause-fault
 returns-in-Some-clause-fault c objects lists =
-    let said = sources_said c.args.feed.now c.args.days.now _ c.in_ok-calls.calls.items _ _ c.in_ok-frequencies.frequencies.items _ (map lists_of c.in_ok-sources.sources.items)
-    (c.deref.ensures.value ∙ ap (λ (feed : FeedLists). feed.calls) c.feed.view_is) c.in_ok-calls.ensures.are c.deref-3.ensures.value
-    (c.deref-2.ensures.value ∙ ap (λ (feed : FeedLists). feed.frequencies) c.feed.view_is) c.in_ok-frequencies.ensures.are c.deref-4.ensures.value c.in_ok-sources.ensures in
     let is = subst (λ (sources : List Source). IsTally (map lists_of sources) c.in_ok-tally.tally) c.deref-5.ensures.value c.in_ok-tally.ensures in
-    has_fault c.args.caps.now lists said is c.in-Some.fault (fault_is c.args.caps.now c.in_ok-tally.tally.back c.fault_by.ensures c.counts.ensures c.in-Some.is)
+    has_fault c.args.caps.now lists c.in_ok-sources.ensures is c.in-Some.fault (fault_is c.args.caps.now c.in_ok-tally.tally.back c.fault_by.ensures c.counts.ensures c.in-Some.is)
 
 pub returns-clause-compiled : goal.returns-clause-compiled
 returns-clause-compiled c objects lists =
-    let said = sources_said c.args.feed.now c.args.days.now _ c.in_ok-calls.calls.items _ _ c.in_ok-frequencies.frequencies.items _ (map lists_of c.in_ok-sources.sources.items)
-    (c.deref.ensures.value ∙ ap (λ (feed : FeedLists). feed.calls) c.feed.view_is) c.in_ok-calls.ensures.are c.deref-3.ensures.value
-    (c.deref-2.ensures.value ∙ ap (λ (feed : FeedLists). feed.frequencies) c.feed.view_is) c.in_ok-frequencies.ensures.are c.deref-4.ensures.value c.in_ok-sources.ensures in
     let is = subst (λ (sources : List Source). IsTally (map lists_of sources) c.in_ok-tally.tally) c.deref-5.ensures.value c.in_ok-tally.ensures in
     let trips = c.in_ok-trips.ensures
     ∙ ap (λ (entries : List StopEntry). expanded (stop_number entries) (map lists_of c.deref-7.result.now)) c.deref-6.ensures.value
     ∙ ap (λ (sources : List Source). expanded (stop_number c.args.lists.now.entries.items) (map lists_of sources)) c.deref-7.ensures.value in
     let none = fault_is c.args.caps.now c.in_ok-tally.tally.back c.fault_by.ensures c.counts.ensures c.in_default.is in
-    are_compiled c.args.caps.now lists said is none (network_lists c.args.days.now c.args.lists.now c.in_ok-trips.trips.items) (ap (network_lists c.args.days.now c.args.lists.now) trips)
+    are_compiled c.args.caps.now lists c.in_ok-sources.ensures is none (network_lists c.args.days.now c.args.lists.now c.in_ok-trips.trips.items) (ap (network_lists c.args.days.now c.args.lists.now) trips)
 
 pub returns-clause-left_out : goal.returns-clause-left_out
 returns-clause-left_out c =
-    let said = sources_said c.args.feed.now c.args.days.now _ c.in_ok-calls.calls.items _ _ c.in_ok-frequencies.frequencies.items _ (map lists_of c.in_ok-sources.sources.items)
-    (c.deref.ensures.value ∙ ap (λ (feed : FeedLists). feed.calls) c.feed.view_is) c.in_ok-calls.ensures.are c.deref-3.ensures.value
-    (c.deref-2.ensures.value ∙ ap (λ (feed : FeedLists). feed.frequencies) c.feed.view_is) c.in_ok-frequencies.ensures.are c.deref-4.ensures.value c.in_ok-sources.ensures in
     let is = subst (λ (sources : List Source). IsTally (map lists_of sources) c.in_ok-tally.tally) c.deref-5.ensures.value c.in_ok-tally.ensures in
-    record { sources = map lists_of c.in_ok-sources.sources.items; said = said; are = is.left }
+    record { sources = map lists_of c.in_ok-sources.sources.items; said = c.in_ok-sources.ensures; are = is.left }

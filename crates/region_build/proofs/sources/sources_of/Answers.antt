@@ -1,8 +1,23 @@
-use Rattle.std.proofs.Common.{List, ℕ, ◌∷◌, ◌-◌, ◌∙◌, ap, arith, drop, length, subst, sym, take}
+use Rattle.std.proofs.Common.{List, ℕ, ◌∷◌, ◌-◌, ◌∙◌, ap, arith, drop, length, rules, subst, sym, take}
+use Rattle.gtfs_tables.specs.declared.calls.CallRow.{CallRow}
+use Rattle.gtfs_tables.specs.declared.frequencies.FrequencyRow.{FrequencyRow}
+use Rattle.region_build.specs.Groups.{trip_of_call, trip_of_frequency}
 use Rattle.region_build.specs.Services.{AreDaysOf}
+use Rattle.region_build.proofs.GroupLaws.{ascend_from_sorted}
 use Rattle.region_build.proofs.ServiceLaws.{days_are}
 use Rattle.region_build.proofs.SourceLaws.{all_told, first_and_rest, one_more}
 use Rattle.region_build.proofs.sources.sources_of.Goals as goal
+
+pub loop-rest-init : goal.loop-rest-init
+loop-rest-init c = record {
+  so_far = search rules;
+  count = search rules;
+  calls_ascend = ascend_from_sorted trip_of_call (λ (call : CallRow). call.sequence) c.args.calls.now c.requires.calls.ascend;
+  frequencies_ascend = ascend_from_sorted trip_of_frequency (λ (frequency : FrequencyRow). frequency.row) c.args.frequencies.now c.requires.frequencies.ascend;
+  calls_same = search rules;
+  frequencies_same = search rules;
+  know = search rules;
+}
 
 pub loop-rest-preserved : goal.loop-rest-preserved
 loop-rest-preserved c =
@@ -25,4 +40,10 @@ loop-rest-preserved c =
     }
 
 pub returns : goal.returns
-returns c = all_told c.args.feed.now c.args.days.now c.args.calls.now c.args.frequencies.now c.args.feed.now.trips c.loop-rest.place c.loop-rest.rest.now c.loop-rest.sources.items c.in_default.len_below c.loop-rest.invariant.so_far
+returns c = record {
+  calls = c.args.calls.now;
+  calls_are = c.requires.calls;
+  frequencies = c.args.frequencies.now;
+  frequencies_are = c.requires.frequencies;
+  each = all_told c.args.feed.now c.args.days.now c.args.calls.now c.args.frequencies.now c.args.feed.now.trips c.loop-rest.place c.loop-rest.rest.now c.loop-rest.sources.items c.in_default.len_below c.loop-rest.invariant.so_far;
+}
