@@ -65,7 +65,13 @@ fn settle_targets<G: Graph, L: Labels>(
 {
     let alloc = workspace.allocator();
     let mut noted = Noted::none(alloc, targets)?;
-    let mut frontier = Frontier::new(alloc, workspace, graph.nodes(), machine.labels.states());
+    let mut frontier = Frontier::new(
+        alloc,
+        workspace,
+        graph.nodes(),
+        machine.labels.states(),
+        dep as u64,
+    );
     offer_starts(&mut frontier, &machine.labels, starts, dep)?;
     let product = Product {
         graph,

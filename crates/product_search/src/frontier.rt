@@ -61,9 +61,9 @@ pub(crate) struct Frontier {
 }
 
 impl Frontier {
-    /// A frontier with nothing reached, for so many nodes and an automaton with so many states. It uses the lists and the table
-    /// of a workspace.
-    pub fn new(alloc: Global, workspace: Workspace, nodes: u32, states: u32) -> Frontier
+    /// A frontier with nothing reached, for so many nodes, an automaton with so many states, and times soon after the base. It
+    /// uses the lists and the table of a workspace.
+    pub fn new(alloc: Global, workspace: Workspace, nodes: u32, states: u32, base: u64) -> Frontier
         ensures right { IsQueueRight result }
         ensures empty { (v q : ℕ) → reached_at result v q ≡ None }
     {
@@ -77,7 +77,7 @@ impl Frontier {
             keys,
             first,
             chains: Chains::of(nodes, states),
-            queue: Queue::new(alloc),
+            queue: Queue::new(alloc, base),
         }
     }
 

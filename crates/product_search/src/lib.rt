@@ -21,6 +21,7 @@ mod order_check;
 mod product;
 mod question;
 mod queue;
+mod queue_item;
 mod retrace;
 mod row;
 mod searching;

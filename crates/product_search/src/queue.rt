@@ -1,9 +1,11 @@
 //! The queue of those that wait: numbers by their times.
 
-ghost use Rattle.std.specs.Prelude.{◌≡◌, ℕ, ◌<◌, ◌^◌, [], Contains, IfOk, IfSome, IfNone, IsTrue, OnOk};
-ghost use Rattle.product_search.specs.inside.Queued.{entry_of, queue_items, IsQueue, HasHeaps, IsFilled, SameQueued};
-ghost use Rattle.product_search.specs.inside.Queued.{TakesIn, GivesLeast, GivesNone};
+ghost use Rattle.std.specs.Prelude.{◌≡◌, ℕ, ◌+◌, ◌<◌, [], Contains, IfOk, IfSome, IfNone, IsTrue, IsFalse, OnOk};
+ghost use Rattle.std.specs.BinaryHeap.{heap_len};
+ghost use Rattle.product_search.specs.inside.Queued.{queue_items, due_at, number_in, IsQueue, HasHeaps, IsFilled, SameQueued};
+ghost use Rattle.product_search.specs.inside.Queued.{NearIsFirst, FarIsFirst, TakesIn, GivesLeast, GivesNone};
 
+use crate::queue_item::QueueItem;
 use search_laws::Time;
 use std::alloc::{AllocError, Global};
 use std::cmp::Reverse;
@@ -11,34 +13,39 @@ use std::collections::BinaryHeap;
 
 /// Numbers by their times. Where few wait, all are in one heap. When it has come to [`MANY`], a horizon is set: from then on
 /// only those that are due by it go into the heap, which so stays small, and the others are in no order. When the heap has
-/// none left that is due by the horizon, this is moved on. Times of 64 bits have slim entries.
+/// none left that is due by the horizon, this is moved on. Times less than 2^32 ms after the base, some fifty days, have
+/// items of one word.
 #[derive(Drop)]
 pub(crate) struct Queue {
+    /// The time that delays are counted from.
+    base: u64,
     /// Those due by the horizon, and what was here before it came down.
-    pub near: BinaryHeap<Reverse<(u64, u32)>>,
+    pub near: BinaryHeap<Reverse<QueueItem>>,
     /// The others, in no order. All are due after the horizon.
-    pub later: Vec<Reverse<(u64, u32)>>,
-    /// Those of times past 64 bits.
+    pub later: Vec<Reverse<QueueItem>>,
+    /// Those of other times, be they before the base or long after it.
     pub far: BinaryHeap<Reverse<(Time, u32)>>,
-    /// The greatest time of 64 bits as long as few wait.
+    /// The word of the last item that is due by the horizon: the greatest one as long as few wait.
     horizon: u64,
-    /// How far past the earliest of the others the horizon is moved.
+    /// How far past the earliest of the others the horizon is moved, in words.
     width: u64,
 }
 
-/// With so many in the heap, 64 KB, the horizon comes down. A processor keeps as much at hand, so that up to there it does not
+/// With so many in the heap, 32 KB, the horizon comes down. A processor keeps as much at hand, so that up to there it does not
 /// pay to put an item into the list first, from where it is moved again.
 const MANY: usize = 1 << 12;
 
-/// The first width, in milliseconds: about a minute. With a few seconds the looks at all that wait cost what the small heap
+/// The first width, 2^16 ms, which is about a minute. With a few seconds the looks at all that wait cost what the small heap
 /// saves, and with a quarter of an hour the heap is larger again; in between it hardly matters.
-const FIRST_WIDTH: u64 = 1 << 16;
+const FIRST_WIDTH: u64 = 1 << 48;
 
 impl Queue {
-    pub fn new(alloc: Global) -> Queue
+    /// An empty queue, for times soon after the base.
+    pub fn new(alloc: Global, base: u64) -> Queue
         ensures { IsQueue result }
     {
         Queue {
+            base,
             near: BinaryHeap::new(alloc),
             later: Vec::new(alloc),
             far: BinaryHeap::new(alloc),
@@ -53,13 +60,43 @@ impl Queue {
         requires { IsQueue self.old }
         ensures { OnOk result (TakesIn self.old self.new at number) }
     {
-        if at <= Time::from(self.horizon) {
-            self.near.push(Reverse((at as u64, number)))?;
+        match self.delay_of(at) {
+            Some(delay) => self.push_item(QueueItem::new(delay, number)),
+            None => {
+                self.far.push(Reverse((at, number)))?;
+                Ok(())
+            }
+        }
+    }
+
+    /// How long after the base a time is, if that has 32 bits.
+    #[inline(always)]
+    fn delay_of(&self, at: Time) -> Option<u32>
+        ensures { IfSome result (λ delay. self.now.base + delay ≡ at) }
+    {
+        let delay = at.checked_sub(Time::from(self.base))?;
+        u32::try_from(delay).ok()
+    }
+
+    /// When an item is due.
+    #[inline(always)]
+    fn due(&self, item: QueueItem) -> Time
+        ensures { result ≡ due_at self.now.base item }
+    {
+        Time::from(self.base) + Time::from(item.delay())
+    }
+
+    /// Takes in an item.
+    #[inline(always)]
+    fn push_item(&mut self, item: QueueItem) -> Result<(), AllocError>
+        requires { IsQueue self.old }
+        ensures { OnOk result (TakesIn self.old self.new (due_at self.old.base item) (number_in item)) }
+    {
+        if item.word <= self.horizon {
+            self.near.push(Reverse(item))?;
             self.bring_down();
-        } else if at <= 0xffff_ffff_ffff_ffff {
-            self.later.push(Reverse((at as u64, number)))?;
         } else {
-            self.far.push(Reverse((at, number)))?;
+            self.later.push(Reverse(item))?;
         }
         Ok(())
     }
@@ -75,7 +112,7 @@ impl Queue {
             return;
         }
         if let Some(top) = self.near.peek() {
-            let end = top.0.0.saturating_add(self.width);
+            let end = top.0.word.saturating_add(self.width);
             self.horizon = self.horizon.min(end);
         }
     }
@@ -115,7 +152,7 @@ impl Queue {
         }
         match self.near.peek() {
             None => false,
-            Some(top) => top.0.0 <= self.horizon,
+            Some(top) => top.0.word <= self.horizon,
         }
     }
 
@@ -130,7 +167,7 @@ impl Queue {
         let Some(first) = earliest(&self.later) else {
             return Ok(());
         };
-        self.horizon = first.saturating_add(self.width);
+        self.horizon = first.word.saturating_add(self.width);
         self.move_due()?;
         self.width = self.next_width(waiting);
         Ok(())
@@ -139,7 +176,7 @@ impl Queue {
     /// The width for the next time, after a look at so many that waited.
     ///
     /// It doubles where fewer than one in sixteen were due: else, with times far apart, there would be a look at all that wait
-    /// for each. After 48 times, at most, all times of 64 bits are due.
+    /// for each. After 16 times, at most, all items are due.
     fn next_width(&self, waiting: usize) -> u64 {
         if self.later.len() > waiting - waiting / 16 {
             self.width.saturating_mul(2)
@@ -157,12 +194,12 @@ impl Queue {
     {
         let mut i = 0;
         'due: while i < self.later.len() {
-            if self.horizon < self.later[i].0.0 {
+            if self.horizon < self.later[i].0.word {
                 i += 1;
                 continue;
             }
-            let entry = self.later.swap_remove(i);
-            self.near.push(entry)?;
+            let item = self.later.swap_remove(i);
+            self.near.push(item)?;
         }
         Ok(())
     }
@@ -175,29 +212,37 @@ impl Queue {
         ensures some { IfSome result (λ x. GivesLeast self.old self.new x.0 x.1) }
         ensures none { IfNone result (GivesNone self.old self.new) }
     {
-        if let Some(top) = self.near.pop() {
-            return Some((widened(top.0.0), top.0.1));
+        if self.is_far_first() {
+            let top = self.far.pop()?;
+            return Some(top.0);
         }
-        let top = self.far.pop()?;
-        Some(top.0)
+        let top = self.near.pop()?;
+        Some((self.due(top.0), top.0.number()))
+    }
+
+    /// Whether those of other times have one before all in the heap of items.
+    #[inline(always)]
+    fn is_far_first(&self) -> bool
+        requires { HasHeaps self.now }
+        ensures near { IsFalse result → NearIsFirst self.now }
+        ensures far { IsTrue result → FarIsFirst self.now }
+        ensures some { IsTrue result → 0 < heap_len self.now.far }
+    {
+        let Some(far) = self.far.peek() else {
+            return false;
+        };
+        match self.near.peek() {
+            None => true,
+            Some(near) => far.0.0 < self.due(near.0),
+        }
     }
 }
 
-/// The earliest time of a list.
-fn earliest(entries: &[Reverse<(u64, u32)>]) -> Option<u64>
-    ensures some { IfSome result (λ t. (k : ℕ) × Contains entries.now (entry_of t k)) }
-    ensures small { IfSome result (λ t. t < 2 ^ 64) }
-    ensures none { IfNone result (entries.now ≡ []) }
+/// The earliest of some items.
+fn earliest(items: &[Reverse<QueueItem>]) -> Option<QueueItem>
+    ensures some { IfSome result (λ x. Contains items.now (record { 0 = x })) }
+    ensures none { IfNone result (items.now ≡ []) }
 {
-    let first = entries.iter().min_by_key(|entry| entry.0.0)?;
-    Some(first.0.0)
-}
-
-/// A time of 64 bits.
-#[inline(always)]
-fn widened(at: u64) -> Time
-    ensures same { result ≡ at }
-    ensures small { result < 2 ^ 64 }
-{
-    Time::from(at)
+    let first = items.iter().min_by_key(|item| item.0.word)?;
+    Some(first.0)
 }

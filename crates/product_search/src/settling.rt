@@ -36,7 +36,13 @@ pub(crate) fn settle_all<G: Graph, L: Labels>(
 {
     let labels = &question.machine.labels;
     let ends = set_of(alloc, question.targets)?;
-    let mut frontier = Frontier::new(alloc, workspace, question.graph.nodes(), labels.states());
+    let mut frontier = Frontier::new(
+        alloc,
+        workspace,
+        question.graph.nodes(),
+        labels.states(),
+        question.dep as u64,
+    );
     offer_starts(&mut frontier, labels, question.starts, question.dep)?;
     let product = Product {
         graph: question.graph,

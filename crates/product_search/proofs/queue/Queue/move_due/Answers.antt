@@ -5,7 +5,7 @@ use Rattle.product_search.proofs.queue.Queue.move_due.Goals as goal
 pub due-preserved : goal.due-preserved
 due-preserved c =
     let q = c.due.self in
-    let taken = c.swap_remove-entry.ensures in
+    let taken = c.swap_remove-item.ensures in
     let put = c.in_ok-push.ensures in
-    one_moved c.args.self.now q (record q { near = c.push.new.self; later = c.swap_remove-entry.new.self }) c.due.i c.swap_remove-entry.result c.due.invariant
+    one_moved c.args.self.now q (record q { near = c.push.new.self; later = c.swap_remove-item.new.self }) c.due.i c.swap_remove-item.result c.due.invariant
     (omega (arith, c.due-test.true, c.len.ensures)) taken.value taken.items taken.by_index.1 put.heap_order put.permutation

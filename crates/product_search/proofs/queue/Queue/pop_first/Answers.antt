@@ -1,18 +1,24 @@
-use Rattle.std.proofs.Common.{◌<◌, ◌^◌, subst}
-use Rattle.product_search.proofs.HeapLemmas.{gives_near, gives_far}
+use Rattle.product_search.proofs.HeapLemmas.{gives_near, gives_far, none_near}
 use Rattle.product_search.proofs.queue.Queue.pop_first.Goals as goal
 
-pub returns-in-Some-clause-some : goal.returns-in-Some-clause-some
-returns-in-Some-clause-some c =
-    let x = c.in-Some.top.0 in
+pub returns-then-is_far_first-clause-some : goal.returns-then-is_far_first-clause-some
+returns-then-is_far_first-clause-some c =
     let old = c.args.self.now in
-    rw c.widened.ensures.same
-    (gives_near old (record old { near = c.pop.new.self }) c.requires.right c.requires.filled x.0 x.1 (subst (λ s. s < 2 ^ 64) c.widened.ensures.same c.widened.ensures.small)
-    c.in-Some.ensures.permutation c.in-Some.ensures.heap_order)
+    let first = c.is_far_first.ensures.far c.if-is_far_first.true in
+    let popped = c.in_ok-top.ensures in
+    gives_far old (record old { far = c.pop.new.self }) c.requires.right c.requires.filled first c.in_ok-top.top popped.permutation popped.heap_order
+
+pub returns-in_err-top-2-clause-none : goal.returns-in_err-top-2-clause-none
+returns-in_err-top-2-clause-none c =
+    let old = c.args.self.now in
+    let first = c.is_far_first.ensures.near c.if-is_far_first.false in
+    let popped = c.in_err-top-2.ensures in
+    rw c.from_residual-in_err-top-2.ensures (none_near old (record old { near = c.pop-2.new.self }) c.requires.right c.requires.filled first popped.none popped.unchanged.0)
 
 pub returns-clause-some : goal.returns-clause-some
 returns-clause-some c =
-    let x = c.in_ok-top.top.0 in
     let old = c.args.self.now in
-    gives_far old (record old { near = c.pop.new.self; far = c.pop-2.new.self }) c.requires.right c.requires.filled c.in_default.ensures.none c.in_default.ensures.unchanged.0
-    x.0 x.1 c.in_ok-top.ensures.permutation c.in_ok-top.ensures.heap_order
+    let first = c.is_far_first.ensures.near c.if-is_far_first.false in
+    let popped = c.in_ok-top-2.ensures in
+    rw (c.due.ensures, c.number.ensures)
+    (gives_near old (record old { near = c.pop-2.new.self }) c.requires.right c.requires.filled first c.in_ok-top-2.top popped.permutation popped.heap_order)
