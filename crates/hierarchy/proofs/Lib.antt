@@ -3,6 +3,7 @@ pub mod OffsetLemmas
 pub mod HeightLemmas
 pub mod FallLemmas
 pub mod LookupLemmas
+pub mod WitnessLemmas
 pub mod RiseLemmas
 pub mod HopLemmas
 pub mod Shapes

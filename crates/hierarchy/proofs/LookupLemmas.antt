@@ -107,11 +107,11 @@ same_three a u b v c w e = by_first (ordering_then (nat_cmp a u) (nat_cmp b v)) 
     by_first Equal h e = let ends = same_ends a u b v h in (ends.0, ends.1, by_last (nat_cmp c w) (nat_ranks c w) e)
     by_first Greater h e = cc
 
-pub witness_found : (witnesses : List WitnessLists) (below first last place : ℕ) (w : WitnessLists) → place < length witnesses → w ≡ get_or witnesses place w
-    → ((d : WitnessLists) → walk_cmp below first last (get_or witnesses place d) ≡ Equal) → IsWitnessFor witnesses below first last w
+pub witness_found : (witnesses : List WitnessLists) (below first last place : ℕ) (w : WitnessLists) → place < length witnesses → get_or witnesses place w ≡ w → walk_cmp below first last w ≡ Equal
+    → IsWitnessFor witnesses below first last w
 witness_found witnesses below first last place w lt is same =
-    let three = same_three w.below below (first_of w.nodes) first (last_of w.nodes) last (subst (λ (x : WitnessLists). walk_cmp below first last x ≡ Equal) (sym is) (same w)) in
-    record { listed = (place, lt, sym is); below_is = three.0; first_is = three.1; last_is = three.2 }
+    let three = same_three w.below below (first_of w.nodes) first (last_of w.nodes) last same in
+    record { listed = (place, lt, is); below_is = three.0; first_is = three.1; last_is = three.2 }
 
 -- a search for a walk is one for any walk with these ends
 pub witness_missing : (witnesses : List WitnessLists) → IsAscending witness_cmp witnesses → (below first last place : ℕ)

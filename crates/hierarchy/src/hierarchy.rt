@@ -6,9 +6,10 @@ ghost use Rattle.hierarchy.specs.Rules.{IsHierarchy};
 ghost use Rattle.hierarchy.specs.Rises.{IsRiseRange, RisesFrom, all_rises, has_legs, legs_from, rise_from, rise_places_from};
 ghost use Rattle.hierarchy.specs.Lookups.{IsEntryFor, HasNoEntry, IsWitnessFor, HasNoWitness, AreFrom, ArePlaces, FallsTo, range_of, from_of};
 
-use crate::entry::{Entry, Witness};
-use crate::lookup::{entry_between, witness_between};
+use crate::entry::Entry;
+use crate::lookup::entry_between;
 use crate::tables::{NodeRow, Tables};
+use crate::witnesses::{Witness, Witnesses};
 use search_laws::Leg;
 use std::alloc::{AllocError, Global};
 use std::marker::Model;
@@ -18,7 +19,7 @@ use std::marker::Model;
 pub struct Hierarchy {
     order: Vec<u32>,
     entries: Vec<Entry>,
-    witnesses: Vec<Witness>,
+    witnesses: Witnesses,
     nodes: u32,
     heights: Vec<u64>,
     rows: Vec<NodeRow>,
@@ -47,19 +48,17 @@ impl Hierarchy {
         alloc: Global,
         order: Vec<u32>,
         entries: Vec<Entry>,
-        witnesses: Vec<Witness>,
+        witnesses: Witnesses,
     ) -> Result<Hierarchy, AllocError>
         requires { IsHierarchy (record {
           order = order.items;
           entries = entries.items;
-          witnesses =
-              witnesses.items;
+          witnesses = witnesses;
         }) }
         ensures { IfOk result (λ h. h ≡ record {
           order = order.items;
           entries = entries.items;
-          witnesses =
-              witnesses.items;
+          witnesses = witnesses;
         }) }
     {
         let tables = Tables::new(alloc, &order, &entries)?;
@@ -99,7 +98,7 @@ impl Hierarchy {
     }
 
     /// The witnesses, ascending by (below, first node, last node).
-    pub fn witnesses(&self) -> &[Witness]
+    pub fn witnesses(&self) -> &Witnesses
         ensures { result.now ≡ self.now.witnesses }
     {
         &self.witnesses
@@ -219,12 +218,12 @@ impl Hierarchy {
     }
 
     /// The witness that is listed for `below` from `first` to `last`; None exactly where there is none.
-    pub fn witness_for(&self, below: u32, first: u32, last: u32) -> Option<&Witness>
+    pub fn witness_for(&self, below: u32, first: u32, last: u32) -> Option<Witness<'_>>
         ensures { MatchOption result
             (HasNoWitness self.now.witnesses below first last)
-            (λ w. IsWitnessFor self.now.witnesses below first last w.now) }
+            (λ w. IsWitnessFor self.now.witnesses below first last w) }
     {
         self.known();
-        witness_between(self.witnesses(), below, first, last)
+        self.witnesses().between(below, first, last)
     }
 }

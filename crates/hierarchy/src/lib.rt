@@ -11,8 +11,10 @@ mod lookup;
 mod rises;
 mod tables;
 pub mod verdict;
+pub mod witnesses;
 
-pub use entry::{Entry, Witness};
+pub use entry::Entry;
 pub use hierarchy::Hierarchy;
 pub use laws::{contractions_keep_soundness, cores_keep_distances, entries_are_roads};
 pub use verdict::Verdict;
+pub use witnesses::{Witness, Witnesses};

@@ -8,7 +8,7 @@ use Rattle.hierarchy.specs.Indexes.{AreBelow, AreFallTables, AreHeights, AreRows
 use Rattle.hierarchy.specs.Rises.{all_rises, is_rise, legs_of_rises}
 
 abbrev pub lists_of : Inside → HierarchyLists
-lists_of h = record { order = h.order.items; entries = h.entries.items; witnesses = h.witnesses.items }
+lists_of h = record { order = h.order.items; entries = h.entries.items; witnesses = h.witnesses }
 
 pub record IsKept (h : Inside) : Type 0 where
   pub rules : IsHierarchy (lists_of h)
