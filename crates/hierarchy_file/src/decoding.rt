@@ -8,7 +8,7 @@ ghost use Rattle.hierarchy_file.specs.Reading.{Gives, GivesHierarchy, hierarchy_
 use crate::fault::{HFileFault, Halt};
 use crate::head::{Counts, head_at};
 use crate::lists::Lists;
-use crate::records::{entries_of, nodes_of, witnesses_of};
+use crate::records::{entries_of, read_nodes, witnesses_of};
 use hierarchy::Hierarchy;
 use std::alloc::Global;
 
@@ -17,7 +17,8 @@ use std::alloc::Global;
 fn records_of(alloc: Global, counts: Counts, bytes: &[u8]) -> Result<(Lists, &[u8]), Halt>
     ensures { Gives (λ x. (x.0, x.1.now)) result (hierarchy_records counts bytes.now) }
 {
-    let (order, rest) = nodes_of(alloc, counts.order, bytes)?;
+    let mut order = Vec::new(alloc);
+    let rest = read_nodes(&mut order, counts.order, bytes)?;
     let (entries, rest) = entries_of(alloc, counts.entries, rest)?;
     let (witnesses, rest) = witnesses_of(alloc, counts.witnesses, rest)?;
     Ok((

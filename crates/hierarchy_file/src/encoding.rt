@@ -8,7 +8,7 @@ ghost use Rattle.hierarchy_file.specs.Causes.{SpellHierarchy};
 use crate::head::{Counts, push_head};
 use crate::numbers::{push_u32, push_u64};
 use crate::records::NO_MIDDLE;
-use hierarchy::{Entry, Hierarchy, Witness};
+use hierarchy::{Entry, Hierarchy, Witness, Witnesses};
 use std::alloc::{AllocError, Global};
 
 fn push_nodes(out: &mut Vec<u8>, nodes: &[u32]) -> Result<(), AllocError>
@@ -49,22 +49,22 @@ fn push_entries(out: &mut Vec<u8>, entries: &[Entry]) -> Result<(), AllocError>
     Ok(())
 }
 
-fn push_witness(out: &mut Vec<u8>, witness: &Witness) -> Result<(), AllocError>
+fn push_witness(out: &mut Vec<u8>, witness: &Witness<'_>) -> Result<(), AllocError>
     ensures text { OnOk result (out.new.items ≡ out.old.items ++ witness_text witness.now) }
     ensures fit { OnOk result (length witness.now.nodes < 2 ^ 64) }
 {
     push_u32(out, witness.below)?;
     push_u64(out, witness.nodes.len() as u64)?;
-    push_nodes(out, &witness.nodes)?;
+    push_nodes(out, witness.nodes)?;
     Ok(())
 }
 
-fn push_witnesses(out: &mut Vec<u8>, witnesses: &[Witness]) -> Result<(), AllocError>
+fn push_witnesses(out: &mut Vec<u8>, witnesses: &Witnesses) -> Result<(), AllocError>
     ensures text { OnOk result (out.new.items ≡ out.old.items ++ flat_map witness_text witnesses.now) }
     ensures fit { OnOk result (All (λ witness. length witness.nodes < 2 ^ 64) witnesses.now) }
 {
-    for witness in witnesses {
-        push_witness(out, witness)?;
+    for place in 0..witnesses.len() {
+        push_witness(out, &witnesses.get(place))?;
     }
     Ok(())
 }
@@ -74,8 +74,8 @@ fn room_for(h: &Hierarchy) -> usize {
     let mut room: usize = 32;
     room = room.saturating_add(h.order().len().saturating_mul(4));
     room = room.saturating_add(h.entries().len().saturating_mul(20));
-    for witness in h.witnesses() {
-        room = room.saturating_add(witness.nodes.len().saturating_mul(4));
+    for place in 0..h.witnesses().len() {
+        room = room.saturating_add(h.witnesses().get(place).nodes.len().saturating_mul(4));
         room = room.saturating_add(12);
     }
     room

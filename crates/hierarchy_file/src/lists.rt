@@ -3,7 +3,7 @@
 ghost use Rattle.std.specs.Prelude.{◌≡◌, IfOk};
 ghost use Rattle.hierarchy.specs.Rules.{IsHierarchy};
 
-use hierarchy::{Entry, Hierarchy, Witness};
+use hierarchy::{Entry, Hierarchy, Witnesses};
 use std::alloc::{AllocError, Global};
 use std::marker::Model;
 
@@ -13,7 +13,7 @@ use std::marker::Model;
 pub struct Lists {
     pub(crate) order: Vec<u32>,
     pub(crate) entries: Vec<Entry>,
-    pub(crate) witnesses: Vec<Witness>,
+    pub(crate) witnesses: Witnesses,
 }
 
 impl Model for Lists {
@@ -24,8 +24,7 @@ impl Model for Lists {
     ghost view = { λ l. record {
       order = l.order.items;
       entries = l.entries.items;
-      witnesses =
-          l.witnesses.items;
+      witnesses = l.witnesses;
     } };
 }
 

@@ -6,7 +6,7 @@ ghost use Rattle.hierarchy_file.specs.Reading.{Gives, node_at, next_node, middle
 
 use crate::fault::Halt;
 use crate::numbers::{u32_at, u64_at};
-use hierarchy::{Entry, Witness};
+use hierarchy::{Entry, Witness, Witnesses};
 use std::alloc::{AllocError, Global};
 
 /// Nodes have lower numbers than this.
@@ -87,12 +87,16 @@ fn entry_at(before: Option<(u32, u32)>, bytes: &[u8]) -> Option<(Entry, &[u8])>
     }
 }
 
-/// So many nodes.
-pub(crate) fn nodes_of(alloc: Global, count: u64, bytes: &[u8]) -> Result<(Vec<u32>, &[u8]), Halt>
-    ensures { Gives (λ x. (x.0.items, x.1.now)) result (many_ascending next_node (λ (v : ℕ). v) count None
-        bytes.now) }
+/// Reads so many nodes into a list, in the place of what it held; and the bytes behind them.
+pub(crate) fn read_nodes<'a>(
+    nodes: &mut Vec<u32>,
+    count: u64,
+    bytes: &'a [u8],
+) -> Result<&'a [u8], Halt>
+    ensures { Gives (λ rest. (nodes.new.items, rest.now)) result (many_ascending next_node (λ (v : ℕ). v) count
+        None bytes.now) }
 {
-    let mut nodes = Vec::new(alloc);
+    nodes.clear();
     let mut rest = bytes;
     for _ in 0..count {
         let Some((node, after)) = node_at(rest) else {
@@ -101,7 +105,7 @@ pub(crate) fn nodes_of(alloc: Global, count: u64, bytes: &[u8]) -> Result<(Vec<u
         nodes.push(node)?;
         rest = after;
     }
-    Ok((nodes, rest))
+    Ok(rest)
 }
 
 /// So many entries, in order.
@@ -127,25 +131,15 @@ pub(crate) fn entries_of(
     Ok((entries, rest))
 }
 
-/// What witnesses are ordered by: the node that one is listed for, and its first and its last node.
-fn key_of(witness: &Witness) -> (u32, u32, u32)
-    ensures { result ≡ key_of_witness witness.now }
-{
-    match witness.nodes.as_slice() {
-        [] => (witness.below, 0, 0),
-        [only] => (witness.below, *only, *only),
-        [first, .., last] => (witness.below, *first, *last),
-    }
-}
-
-/// The witness at the front of the bytes.
+/// What a witness at the front of the bytes is listed for, and the bytes behind it. Its nodes are read into the list.
 #[tactic(auto, unfolding(crate::specs::Reading::witness_at))]
-fn witness_at(
-    alloc: Global,
+fn witness_at<'a>(
+    nodes: &mut Vec<u32>,
     before: Option<(u32, u32, u32)>,
-    bytes: &[u8],
-) -> Result<Option<(Witness, &[u8])>, AllocError>
-    ensures { IfOk result (λ read. option_map (λ x. (x.0, x.1.now)) read ≡ witness_at before bytes.now) }
+    bytes: &'a [u8],
+) -> Result<Option<(u32, &'a [u8])>, AllocError>
+    ensures { IfOk result (λ read. witness_at before bytes.now
+        ≡ option_map (λ x. (record { below = x.0; nodes = nodes.new.items }, x.1.now)) read) }
 {
     let Some((below, rest)) = node_at(bytes) else {
         return Ok(None);
@@ -153,13 +147,13 @@ fn witness_at(
     let Some((count, rest)) = u64_at(rest) else {
         return Ok(None);
     };
-    match nodes_of(alloc, count, rest) {
+    match read_nodes(nodes, count, rest) {
         Err(Halt::Memory) => Err(AllocError),
         Err(Halt::Left(_)) => Ok(None),
-        Ok((nodes, rest)) => {
+        Ok(rest) => {
             let witness = Witness { below, nodes };
-            if 1 < count && three_is_after(before, key_of(&witness)) {
-                Ok(Some((witness, rest)))
+            if 1 < count && three_is_after(before, witness.key()) {
+                Ok(Some((below, rest)))
             } else {
                 Ok(None)
             }
@@ -172,19 +166,24 @@ pub(crate) fn witnesses_of(
     alloc: Global,
     count: u64,
     bytes: &[u8],
-) -> Result<(Vec<Witness>, &[u8]), Halt>
-    ensures { Gives (λ x. (x.0.items, x.1.now)) result (many_ascending witness_at key_of_witness count None
+) -> Result<(Witnesses, &[u8]), Halt>
+    ensures { Gives (λ x. (x.0, x.1.now)) result (many_ascending witness_at key_of_witness count None
         bytes.now) }
 {
-    let mut witnesses = Vec::new(alloc);
+    let mut witnesses = Witnesses::new(alloc);
+    let mut nodes = Vec::new(alloc);
     let mut before = None;
     let mut rest = bytes;
     for _ in 0..count {
-        let Some((witness, after)) = witness_at(alloc, before, rest)? else {
+        let Some((below, after)) = witness_at(&mut nodes, before, rest)? else {
             return Err(Halt::Left(rest.len() as u64));
         };
-        before = Some(key_of(&witness));
-        witnesses.push(witness)?;
+        let witness = Witness {
+            below,
+            nodes: &nodes,
+        };
+        before = Some(witness.key());
+        witnesses.push(below, &nodes)?;
         rest = after;
     }
     Ok((witnesses, rest))

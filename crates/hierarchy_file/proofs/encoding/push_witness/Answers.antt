@@ -1,4 +1,4 @@
-use Rattle.std.proofs.Common.{◌≡◌, ℕ, ◌∙◌, ◌++◌, List, length, ap, subst, append_assoc, rules}
+use Rattle.std.proofs.Common.{◌≡◌, ℕ, ◌∙◌, ◌++◌, List, length, ap, subst, append_assoc}
 use Rattle.std.specs.List.{flat_map}
 use Rattle.std.specs.Int.{w64, to_be_bytes}
 use Rattle.hierarchy.specs.Lists.{WitnessLists}
@@ -11,11 +11,7 @@ joined out n1 n2 n3 a b c first second third =
 
 pub returns-clause-text : goal.returns-clause-text
 returns-clause-text c =
-    let nodes = c.witness.inside.nodes.items in
-    let long : c.len.result ≡ length nodes = search rules in
-    let counted : c.push_u64.new.out.items ≡ c.push_u32.new.out.items ++ to_be_bytes w64 (length nodes) = c.in_ok-push_u64.ensures ∙ ap (λ n. c.push_u32.new.out.items ++ to_be_bytes w64 n) long in
-    let listed : c.push_nodes.new.out.items ≡ c.push_u64.new.out.items ++ flat_map node_in_bytes nodes =
-    c.in_ok-push_nodes.ensures ∙ ap (λ xs. c.push_u64.new.out.items ++ flat_map node_in_bytes xs) c.deref.ensures.value in
+    let nodes = c.witness.inside.nodes.now in
     subst (λ (w : WitnessLists). c.push_nodes.new.out.items ≡ c.args.out.now.items ++ witness_text w) c.witness.view_is
     (joined c.args.out.now.items c.push_u32.new.out.items c.push_u64.new.out.items c.push_nodes.new.out.items (node_in_bytes c.witness.inside.below) (to_be_bytes w64 (length nodes)) (flat_map node_in_bytes nodes)
-    c.in_ok-push_u32.ensures counted listed)
+    c.in_ok-push_u32.ensures c.in_ok-push_u64.ensures c.in_ok-push_nodes.ensures)

@@ -1,4 +1,4 @@
-use Rattle.std.proofs.Common.{◌++◌, ◌∷◌, [], ◌∙◌, ◌<◌, ◌^◌, length, ap, sym, take}
+use Rattle.std.proofs.Common.{◌≡◌, ◌++◌, ◌∷◌, [], ◌∙◌, ◌<◌, ◌^◌, ◌+◌, length, ap, arith, subst, sym, take}
 use Rattle.std.specs.List.{flat_map}
 use Rattle.std.proofs.lemmas.List.{take_more, flat_map_more}
 use Rattle.std.proofs.lemmas.List.Elements.{All-more}
@@ -6,15 +6,16 @@ use Rattle.hierarchy.specs.Lists.{WitnessLists}
 use Rattle.hierarchy_file.specs.Spelling.{witness_text}
 use Rattle.hierarchy_file.proofs.encoding.push_witnesses.Goals as goal
 
-pub loop-witness-preserved : goal.loop-witness-preserved
-loop-witness-preserved c =
+pub loop-place-preserved : goal.loop-place-preserved
+loop-place-preserved c =
     let all = c.args.witnesses.now in
-    let i = c.loop-witness.witness-index in
-    let x = c.witness-item.result in
+    let i = c.loop-place.place in
+    let x = c.get.result in
+    let lt : i < length all = omega (arith, c.len-place-end.ensures, c.loop-place-test.true) in
+    let more : take i all ++ x ∷ [] ≡ take (i + 1) all = ap (λ y. take i all ++ y ∷ []) (sym (c.get.ensures x)) ∙ sym (take_more all i x lt) in
     record {
-      text = c.in_ok-push_witness.ensures.text ∙ ap (λ o. o ++ witness_text x) c.loop-witness.invariant.text
-          ∙ flat_map_more witness_text c.args.out.now.items (take i all) x
-          ∙ ap (λ xs. c.args.out.now.items ++ flat_map witness_text xs) (ap (λ y. take i all ++ y ∷ []) c.witness-item.is ∙ sym (take_more all i x c.loop-witness-test.true));
-      fit = All-more (λ (witness : WitnessLists). length witness.nodes < 2 ^ 64) all i x c.loop-witness-test.true c.loop-witness.invariant.fit
-          (rw (← c.witness-item.is) c.in_ok-push_witness.ensures.fit);
+      text = c.in_ok-push_witness.ensures.text ∙ ap (λ o. o ++ witness_text x) c.loop-place.invariant.text
+          ∙ flat_map_more witness_text c.args.out.now.items (take i all) x ∙ ap (λ xs. c.args.out.now.items ++ flat_map witness_text xs) more;
+      fit = All-more (λ (witness : WitnessLists). length witness.nodes < 2 ^ 64) all i x lt c.loop-place.invariant.fit
+          (subst (λ (w : WitnessLists). length w.nodes < 2 ^ 64) (sym (c.get.ensures x)) c.in_ok-push_witness.ensures.fit);
     }

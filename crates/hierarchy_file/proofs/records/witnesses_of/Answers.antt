@@ -1,4 +1,5 @@
 use Rattle.std.proofs.Common.{◌≡◌, None, Some, rules}
+use Rattle.hierarchy.specs.Lists.{WitnessLists}
 use Rattle.hierarchy_file.specs.Spelling.{key_of_witness}
 use Rattle.hierarchy_file.specs.Reading.{many_ascending, witness_at}
 use Rattle.hierarchy_file.proofs.LoopLemmas.{goes_on, halts, is_done}
@@ -7,15 +8,16 @@ use Rattle.hierarchy_file.proofs.records.witnesses_of.Goals as goal
 pub returns-in_default : goal.returns-in_default
 returns-in_default c =
     let unread : witness_at c.loop.before c.loop.rest.now ≡ None = search rules in
-    halts witness_at key_of_witness c.loop.witnesses.items c.args.count c.loop.counter c.loop.before c.loop.rest.now (many_ascending witness_at key_of_witness c.args.count None c.args.bytes.now) c.loop-test.true unread c.loop.invariant
+    halts witness_at key_of_witness c.loop.witnesses c.args.count c.loop.counter c.loop.before c.loop.rest.now (many_ascending witness_at key_of_witness c.args.count None c.args.bytes.now) c.loop-test.true unread c.loop.invariant
 
 pub loop-preserved : goal.loop-preserved
 loop-preserved c =
-    let read : witness_at c.loop.before c.loop.rest.now ≡ Some (c.in-Some.witness, c.in-Some.after.now) = search rules in
-    let next = goes_on witness_at key_of_witness c.loop.witnesses.items c.args.count c.loop.counter c.loop.before c.loop.rest.now c.in-Some.witness c.in-Some.after.now
+    let read_now : WitnessLists = record { below = c.in-Some.below; nodes = c.witness_at.new.nodes.items } in
+    let read : witness_at c.loop.before c.loop.rest.now ≡ Some (read_now, c.in-Some.after.now) = search rules in
+    let next = goes_on witness_at key_of_witness c.loop.witnesses c.args.count c.loop.counter c.loop.before c.loop.rest.now read_now c.in-Some.after.now
     (many_ascending witness_at key_of_witness c.args.count None c.args.bytes.now) c.loop-test.true read c.loop.invariant in
-    rw (c.in_ok-push.ensures.items, c.key_of.ensures) next
+    rw (c.in_ok-push.ensures, c.key.ensures, c.deref-in-loop.ensures.value, c.deref.ensures.value) next
 
 pub returns : goal.returns
 returns c =
-    is_done witness_at key_of_witness c.loop.witnesses.items c.args.count c.loop.counter c.loop.before c.loop.rest.now (many_ascending witness_at key_of_witness c.args.count None c.args.bytes.now) c.loop-test.false c.loop.invariant
+    is_done witness_at key_of_witness c.loop.witnesses c.args.count c.loop.counter c.loop.before c.loop.rest.now (many_ascending witness_at key_of_witness c.args.count None c.args.bytes.now) c.loop-test.false c.loop.invariant

@@ -5,4 +5,4 @@ use Rattle.hierarchy_file.proofs.LoopLemmas.{with_front}
 use Rattle.hierarchy_file.proofs.records.witnesses_of.Given as goal
 
 abbrev pub invariant-loop : goal.invariant-loop
-invariant-loop l = with_front l.witnesses.items (many_ascending witness_at key_of_witness (l.count - l.counter) l.before l.rest) ≡ many_ascending witness_at key_of_witness l.count None l.bytes
+invariant-loop l = with_front l.witnesses (many_ascending witness_at key_of_witness (l.count - l.counter) l.before l.rest) ≡ many_ascending witness_at key_of_witness l.count None l.bytes
