@@ -3,8 +3,8 @@
 ghost use Rattle.std.specs.Prelude.{IsTrue};
 ghost use Rattle.hierarchy.specs.Soundness.{HasLighter, IsBridged};
 
-use crate::witnesses::{is_witness_at, key_of};
-use hierarchy::{Entry, Hierarchy, Witness};
+use crate::witnesses::is_witness_at;
+use hierarchy::{Entry, Hierarchy, Witnesses};
 
 /// Of so many entries from a node those are passed one by one that lead to nodes before the one that is looked for; of more it
 /// is found by halves, so that a node with many costs no more than their logarithm.
@@ -81,9 +81,9 @@ fn is_lighter_at(entries: &[Entry], place: usize, u: u32, v: u32, limit: u64) ->
 }
 
 /// The first place from this one on whose witness does not stand before the one with this key.
-fn next_witness(witnesses: &[Witness], place: usize, key: (u32, u32, u32)) -> usize {
+fn next_witness(witnesses: &Witnesses, place: usize, key: (u32, u32, u32)) -> usize {
     for next in place..witnesses.len() {
-        if key_of(&witnesses[next]) >= key {
+        if witnesses.get(next).key() >= key {
             return next;
         }
     }

@@ -1,7 +1,6 @@
 //! Walks of witnesses, weighed against what is left of a limit.
 
 ghost use Rattle.std.specs.Prelude.{◌≡◌, ◌-◌, ◌<◌, ◌≤◌, ◌↔◌, ℕ, IsTrue, IfSome, IfNone, MatchOption};
-ghost use Rattle.hierarchy.specs.Lists.{first_of, last_of};
 ghost use Rattle.hierarchy.specs.Lookups.{IsWitnessFor};
 ghost use Rattle.hierarchy.specs.Soundness.{HasWitness};
 ghost use Rattle.hierarchy_check.specs.inside.Light.{CanStep, CanWalk};
@@ -14,7 +13,7 @@ pub(crate) fn has_witness(h: &Hierarchy, x: u32, u: u32, v: u32, limit: u64) -> 
     ensures { IsTrue result ↔ HasWitness h.now x u v limit }
 {
     match h.witness_for(x, u, v) {
-        Some(witness) => is_light(h, x, u, v, limit, witness),
+        Some(witness) => is_light(h, x, u, v, limit, &witness),
         None => false,
     }
 }
@@ -23,30 +22,21 @@ pub(crate) fn has_witness(h: &Hierarchy, x: u32, u: u32, v: u32, limit: u64) -> 
 pub(crate) fn is_witness_at(h: &Hierarchy, place: usize, x: u32, u: u32, v: u32, limit: u64) -> bool
     ensures { IsTrue result → HasWitness h.now x u v limit }
 {
-    match h.witnesses().get(place) {
-        Some(witness) => key_of(witness) == (x, u, v) && is_light(h, x, u, v, limit, witness),
-        None => false,
+    let witnesses = h.witnesses();
+    if place >= witnesses.len() {
+        return false;
     }
-}
-
-/// What witnesses are ordered by: the node that one is listed for, and its first and its last node.
-pub(crate) fn key_of(witness: &Witness) -> (u32, u32, u32)
-    ensures { result ≡ (witness.now.below, first_of witness.now.nodes, last_of witness.now.nodes) }
-{
-    match witness.nodes.as_slice() {
-        [] => (witness.below, 0, 0),
-        [only] => (witness.below, *only, *only),
-        [first, .., last] => (witness.below, *first, *last),
-    }
+    let witness = witnesses.get(place);
+    witness.key() == (x, u, v) && is_light(h, x, u, v, limit, &witness)
 }
 
 /// Whether the witness that is listed for `x` from `u` to `v` weighs at most the limit.
-fn is_light(h: &Hierarchy, x: u32, u: u32, v: u32, limit: u64, witness: &Witness) -> bool
+fn is_light(h: &Hierarchy, x: u32, u: u32, v: u32, limit: u64, witness: &Witness<'_>) -> bool
     requires { IsWitnessFor h.now.witnesses x u v witness.now }
     ensures { IsTrue result ↔ HasWitness h.now x u v limit }
 {
     h.known();
-    match witness.nodes.as_slice() {
+    match witness.nodes {
         [first, rest @ ..] => can_walk(h, x, *first, rest, limit),
         [] => false,
     }
