@@ -6,7 +6,7 @@ ghost use Rattle.contractor.specs.inside.Layers.{IsState, IsFinished, AreInOrder
 
 use crate::layer::Layer;
 use crate::way::Walk;
-use hierarchy::{Entry, Hierarchy, Witness};
+use hierarchy::{Entry, Hierarchy, Witnesses};
 use mode_network::Network;
 use std::alloc::{AllocError, Global};
 
@@ -54,18 +54,12 @@ fn in_turn(walks: Vec<Walk>) -> Result<Vec<Walk>, AllocError>
 }
 
 /// The walks as witnesses.
-fn witnesses(alloc: Global, walks: Vec<Walk>) -> Result<Vec<Witness>, AllocError>
-    ensures { IfOk result (λ witnesses. AreWitnessesOf walks.items witnesses.items) }
+fn witnesses(alloc: Global, walks: Vec<Walk>) -> Result<Witnesses, AllocError>
+    ensures { IfOk result (λ witnesses. AreWitnessesOf walks.items witnesses) }
 {
-    let mut witnesses = Vec::with_capacity(alloc, walks.len())?;
+    let mut witnesses = Witnesses::new(alloc);
     'walks: for walk in walks {
-        let Walk {
-            below,
-            first: _,
-            last: _,
-            nodes,
-        } = walk;
-        witnesses.push(Witness { below, nodes })?;
+        witnesses.push(walk.below, &walk.nodes)?;
     }
     Ok(witnesses)
 }

@@ -3,4 +3,4 @@ use Rattle.contractor.specs.inside.Layers.{witness_of}
 use Rattle.contractor.proofs.finishing.witnesses.Given as goal
 
 abbrev pub invariant-walks : goal.invariant-walks
-invariant-walks l = (l.witnesses).items ≡ map witness_of l.yielded
+invariant-walks l = l.witnesses ≡ map witness_of l.yielded
