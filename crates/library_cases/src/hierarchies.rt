@@ -61,7 +61,7 @@ fn print_pair(out: &mut Answer, h: &Hierarchy, u: u32, v: u32) {
         out.shown(" is above ", v);
     }
     if let Some(witness) = h.witness_for(1, u, v) {
-        out.debug("\npast 1: ", &witness.nodes);
+        out.debug("\npast 1: ", witness.nodes);
     }
 }
 
