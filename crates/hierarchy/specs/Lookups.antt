@@ -1,5 +1,5 @@
 -- What the lists of a hierarchy are asked for.
-use Rattle.std.specs.Prelude.{◌≡◌, ℕ, ◌+◌, ◌<◌, ◌≤◌, nat_lt, Bool, List, length, Some, None, All, AllPairs, Contains, filter, slice_get, slice_index_or, count_by}
+use Rattle.std.specs.Prelude.{◌≡◌, ℕ, ◌+◌, ◌<◌, ◌≤◌, nat_lt, Bool, ◌&&◌, ◌==◌, List, length, Some, None, All, AllPairs, Contains, filter, slice_get, slice_index_or, count_by}
 use Rattle.std.specs.List.{range_with_len}
 use Rattle.hierarchy.specs.declared.entry.Entry.{Entry}
 use Rattle.hierarchy.specs.Lists.{WitnessLists, IsAbove, first_of, is_above, last_of}
@@ -68,7 +68,11 @@ pub record ArePlaces (P : Entry → Type 0) (entries : List Entry) (places : Lis
 abbrev pub is_fall : List ℕ → Entry → Bool
 is_fall order e = is_above order e.from e.to
 
--- the entry leads down to x: it ends there, and begins above it
+-- the entry leads down to x
+abbrev pub falls_to : List ℕ → ℕ → Entry → Bool
+falls_to order x e = is_fall order e && (e.to == x)
+
+-- which is that it ends there, and begins above it
 pub record FallsTo (order : List ℕ) (x : ℕ) (e : Entry) : Type 0 where
   pub ends : e.to ≡ x
   pub above : IsAbove order e.from x
