@@ -1,48 +1,79 @@
--- How falls are gathered, and put in order.
-use Rattle.std.proofs.Common.{◌≡◌, ℕ, suc, zero, ◌+◌, ◌-◌, ◌<◌, ◌≤◌, ◌⊎◌, inl, inr, ◌∙◌, nat_eq, nat_lt, ◌&&◌, Bool, true, false, List, [], ◌∷◌, ◌++◌, length, get_or, take, drop, append_assoc, refl, ap, arith, sym, subst}
-use Rattle.std.specs.Prelude.{All, AllPairs, Contains, IsPermutation, IsSorted, map, filter, slice_range}
-use Rattle.std.specs.Ordering.{nat_cmp}
-use Rattle.std.specs.List.{range_with_len, dedup}
-use Rattle.std.specs.List.Sorted.{IsNonDecreasingBy, IsPartitionPoint}
-use Rattle.std.proofs.Math.ListN.{get_or-append}
-use Rattle.std.proofs.Math.Seq.{drop-append_seam, take-append_seam}
-use Rattle.std.proofs.lemmas.Bool.{cases_lt, eqb-true, eqb-false, lt-ltb, ltb-true, ltb-false}
-use Rattle.std.proofs.lemmas.List.{get_or_default, get_or-map, get_or-append-add, length-append, length-map, map-append}
-use Rattle.std.proofs.lemmas.List.Elements.{All-append, All-contains, All-filter, All-map, All-nil, Contains-append_left, Contains-append_right}
+-- How falls are gathered by where they lead, and put in chains.
+use Rattle.std.proofs.Common.{◌≡◌, ℕ, suc, zero, ◌+◌, ◌-◌, ◌<◌, ◌≤◌, ◌⊎◌, inl, inr, ◌∙◌, nat_eq, ◌&&◌, Bool, true, false, cond, List, [], ◌∷◌, ◌++◌, length, take, drop, set, get_or, append_assoc, append-nil, refl, ap, arith, sym, subst, Less, Greater}
+use Rattle.std.specs.Prelude.{All, AllPairs, Contains, map, filter}
+use Rattle.std.specs.Ordering.{ordering_reverse}
+use Rattle.std.specs.List.{range_with_len}
+use Rattle.std.proofs.Math.ListN.{replicate}
+use Rattle.std.proofs.lemmas.Bool.{cases_lt, eq-eqb, eqb-true, eqb-false, lt-ltb, ltb-true}
+use Rattle.std.proofs.lemmas.Cmp.{nat_cmp_total, tied_itself}
+use Rattle.std.proofs.lemmas.List.{drop_more, get_or_append_left, get_or_default, get_or_past, get_or_push, get_or-set_other, get_or-set_same, length_push, take-append-drop, take_all, take_more}
+use Rattle.std.proofs.lemmas.List.Elements.{All-append, All-contains, All-filter, All-head, All-map, All-nil, All-tail, Contains-append_left, Contains-append_right, Contains-push_cases, filter-append, filter_passes}
 use Rattle.std.proofs.lemmas.List.FromFn.{get_or-range_with_len, length-range_with_len}
-use Rattle.std.proofs.lemmas.List.Kept.{AllPairs-from_increasing, Contains-dedup_nat, Contains-from_dedup}
-use Rattle.std.proofs.lemmas.List.Sorted.{Contains-permutation, IsPermutation-sym}
-use Rattle.std.proofs.lemmas.Map.Keys.{IsStrictlyIncreasing-dedup}
+use Rattle.std.proofs.lemmas.List.Kept.{AllPairs-cons, AllPairs-filter}
 use Rattle.std.proofs.lemmas.Option.{slice_get-get_or}
+use Rattle.search_laws.specs.declared.graph.Way.{Way}
 use Rattle.mode_network.proofs.RuleLemmas.{both}
 use Rattle.hierarchy.specs.Lists.{HierarchyLists, IsAbove, is_above}
-use Rattle.hierarchy.specs.Lookups.{ArePlaces, FallsTo, places_of}
-use Rattle.hierarchy.proofs.PlaceLemmas.{places_ascend, places_have, places_pass, places_split, places_within}
+use Rattle.hierarchy.specs.Lookups.{AreFrom, ArePlaces, FallsTo}
+use Rattle.hierarchy.specs.Rules.{IsHierarchy, entry_cmp}
+use Rattle.hierarchy.proofs.LookupLemmas.{entry_total, from_rises}
+use Rattle.hierarchy.proofs.OffsetLemmas.{are_from}
+use Rattle.phase_graph.specs.declared.falls.ChainedFall.{ChainedFall}
 use Rattle.phase_graph.specs.declared.falls.Fall.{Fall}
 use Rattle.phase_graph.specs.Marks.{has_mark, is_fall}
-use Rattle.phase_graph.specs.PhaseArcs.{entry_at, no_entry}
-use Rattle.phase_graph.specs.inside.Falls.{HaveFalls, IsFallAt, IsFallFrom, all_falls, fall_at, falls_from}
+use Rattle.phase_graph.specs.PhaseArcs.{entries_at, entry_at, first_entry, no_entry}
+use Rattle.phase_graph.specs.inside.Falls.{AreChains, AreFallsByEnd, AreInTurn, HasFalls, IsChain, IsFallAt, IsFallFrom, LeavesBelow, chained_at, fall_at, falls_from, places_from}
 use Rattle.phase_graph.specs.inside.Marking.{AreMarked}
 
 -- ---- the falls to one marked node after the other
 
--- the falls to the first nodes are gathered
+-- the falls to the first nodes are gathered, and lead to lower nodes than the others will
 pub record AreGathered (h : HierarchyLists) (marks : List Bool) (nodes places : List ℕ) (n : ℕ) : Type 0 where
   pub each : All (IsFallAt h marks) places
-  pub so_far : (j d place : ℕ) → j < n → IsFallAt h marks place → (entry_at h place).to ≡ get_or nodes j d → Contains places place
+  pub so_far : (place : ℕ) → IsFallAt h marks place → Contains (take n nodes) (entry_at h place).to → Contains places place
+  pub lower : (m d : ℕ) → n ≤ m → m < length nodes → All (λ k. (entry_at h k).to < get_or nodes m d) places
+  pub in_turn : AreInTurn h places
 
 pub gathered_none : (h : HierarchyLists) (marks : List Bool) (nodes : List ℕ) → AreGathered h marks nodes [] 0
-gathered_none h marks nodes = record { each = All-nil (IsFallAt h marks); so_far = λ j d place before fell is. absurd (omega arith) }
+gathered_none h marks nodes = record {
+  each = All-nil (IsFallAt h marks);
+  so_far = λ place fell there. absurd (omega (arith, there.1));
+  lower = λ m d from lt. All-nil (λ k. (entry_at h k).to < get_or nodes m d);
+  in_turn = λ i j d before within. absurd (omega arith);
+}
 
-module _ (h : HierarchyLists) (marks : List Bool) (nodes : List ℕ) (are : AreMarked h marks nodes) where
+-- what holds between any two of a list, any two of another, and one of each, holds between any two of both
+pairs_append : (R : ℕ → ℕ → Type 0) (xs ys : List ℕ) → AllPairs R xs → AllPairs R ys → All (λ x. All (R x) ys) xs → AllPairs R (xs ++ ys)
+pairs_append R [] ys first second across = second
+pairs_append R (x ∷ xs) ys first second across =
+    AllPairs-cons R x (xs ++ ys) (All-append (R x) xs ys (λ k d lt. first zero (suc k) d (omega arith) (omega arith)) (All-head (λ z. All (R z) ys) x xs across))
+    (pairs_append R xs ys (λ i j d before within. first (suc i) (suc j) d (omega arith) (omega arith)) second (All-tail (λ z. All (R z) ys) x xs across))
+
+module _ (h : HierarchyLists) (rules : IsHierarchy h) (marks : List Bool) (nodes : List ℕ) (are : AreMarked h marks nodes) where
+  -- an entry stands before one from the same node to a higher one
+  stands_first : (j k : ℕ) → j < length h.entries → (entry_at h j).to < (entry_at h k).to → (entry_at h j).from ≡ (entry_at h k).from → j < k
+  stands_first j k within to from = elim (cases_lt j k) [
+    | inl before ↦ before
+    | inr after ↦ elim (cases_lt k j) [
+      | inl behind ↦ (let less : entry_cmp (entry_at h j) (entry_at h k) ≡ Less = rw (from, tied_itself nat_cmp_total (entry_at h k).from, lt-ltb _ _ to) refl in
+          let clash : Less ≡ Greater = sym less ∙ entry_total.antisymm (entry_at h j) (entry_at h k) ∙ ap ordering_reverse (rules.entries_ascend k j no_entry behind within) in cc)
+      | inr also ↦ (let same : j ≡ k = omega arith in absurd (omega (arith, to, ap (λ i. (entry_at h i).to) same)))
+    ]
+  ]
+
   module _ (x : ℕ) (marked : Contains nodes x) (into : List ℕ) (places : ArePlaces (FallsTo h.order x) h.entries into) where
+    falls_there : (k d : ℕ) → k < length into → FallsTo h.order x (entry_at h (get_or into k d))
+    falls_there k d lt =
+        let place = get_or into k d in
+        places.each place (entry_at h place) (k, lt, sym (get_or_default into k d place lt)) (slice_get-get_or h.entries place no_entry (places.within k d lt))
+
     -- what leads down to a node with a mark is a fall
     are_falls : All (IsFallAt h marks) into
     are_falls k d lt =
         let place = get_or into k d in
         let e = entry_at h place in
         let within = places.within k d lt in
-        let falls = places.each place e (k, lt, sym (get_or_default into k d place lt)) (slice_get-get_or h.entries place no_entry within) in
+        let falls = falls_there k d lt in
         let from = are.set e.from (are.followed x marked place e within (get_or_default h.entries place e no_entry within) falls.ends falls.above) in
         let to = are.set e.to (subst (Contains nodes) (sym falls.ends) marked) in
         let above : is_above h.order e.from e.to ≡ true = subst (λ y. is_above h.order e.from y ≡ true) (sym falls.ends) (lt-ltb _ _ falls.above) in
@@ -59,7 +90,15 @@ module _ (h : HierarchyLists) (marks : List Bool) (nodes : List ℕ) (are : AreM
   pub gathered_more : (places : List ℕ) (n : ℕ) (into : List ℕ) → AreGathered h marks nodes places n → n < length nodes → ArePlaces (FallsTo h.order (get_or nodes n 0)) h.entries into → AreGathered h marks nodes (places ++ into) (n + 1)
   gathered_more places n into far lt falls = record {
     each = All-append (IsFallAt h marks) places into far.each (are_falls x here into falls);
-    so_far = λ j d place before fell is. by_place j d place before fell is (nat_eq j n) refl;
+    so_far = λ place fell there. elim (Contains-push_cases (take n nodes) x (entry_at h place).to (subst (λ xs. Contains xs (entry_at h place).to) (take_more nodes n 0 lt) there)) [
+      | inl before ↦ Contains-append_left places into place (far.so_far place fell before)
+      | inr is ↦ Contains-append_right places into place (has_fall x here into falls place fell (sym is))
+    ];
+    lower = λ m d past within. All-append (λ k. (entry_at h k).to < get_or nodes m d) places into (far.lower m d (omega arith) within)
+        (λ i e inside. (let rise = are.ascending n m d (omega arith) within in omega (arith, rise, (falls_there x here into falls i e inside).ends, get_or_default nodes n 0 d lt)));
+    in_turn = pairs_append (λ j k. (entry_at h j).from ≡ (entry_at h k).from → j < k) places into far.in_turn (λ i j d before within from. falls.ascending i j d before within)
+        (λ i d inside j e within. stands_first (get_or places i d) (get_or into j e) (far.each i d inside).0
+        (omega (arith, far.lower n 0 (omega arith) lt i d inside, (falls_there x here into falls j e within).ends)));
   } where
     x : ℕ
     x = get_or nodes n 0
@@ -67,18 +106,68 @@ module _ (h : HierarchyLists) (marks : List Bool) (nodes : List ℕ) (are : AreM
     here : Contains nodes x
     here = (n, lt, get_or_default nodes n x 0 lt)
 
-    by_place : (j d place : ℕ) → j < n + 1 → IsFallAt h marks place → (entry_at h place).to ≡ get_or nodes j d → (b : Bool) → nat_eq j n ≡ b → Contains (places ++ into) place
-    by_place j d place before fell is false apart = Contains-append_left places into place (far.so_far j d place (omega (arith, eqb-false j n apart)) fell is)
-    by_place j d place before fell is true same =
-        Contains-append_right places into place (has_fall x here into falls place fell (is ∙ ap (λ i. get_or nodes i d) (eqb-true j n same) ∙ get_or_default nodes n d 0 lt))
-
-  pub gathered_all : (places : List ℕ) (n : ℕ) → length nodes ≤ n → AreGathered h marks nodes places n → HaveFalls h marks places
+  pub gathered_all : (places : List ℕ) (n : ℕ) → length nodes ≤ n → AreGathered h marks nodes places n → AreFallsByEnd h marks places
   gathered_all places n past far = record {
     each = far.each;
-    all = λ place fell. (let (j, lt, is) = are.listed (entry_at h place).to (both _ _ fell.1).0 in far.so_far j (entry_at h place).to place (omega arith) fell (sym is));
+    all = λ place fell. far.so_far place fell (subst (λ xs. Contains xs (entry_at h place).to) (sym (take_all n nodes past)) (are.listed (entry_at h place).to (both _ _ fell.1).0));
+    in_turn = far.in_turn;
   }
 
--- ---- in order
+-- the nodes that they leave have marks
+pub leave_below : (h : HierarchyLists) (marks : List Bool) (places : List ℕ) → All (IsFallAt h marks) places → All (LeavesBelow h (length marks)) places
+leave_below h marks places falls k d lt =
+    let place = get_or places k d in
+    let (within, fell) = falls k d lt in
+    (within, marked (entry_at h place).from (both _ _ (both (has_mark marks (entry_at h place).to) _ fell).1).0)
+  where
+    marked : (v : ℕ) → has_mark marks v ≡ true → v < length marks
+    marked v is = grind (arith, get_or_past marks v false)
+
+-- ---- chains
+
+-- a fall more leaves the chains as they are
+chain_stays : (all : List ChainedFall) (one : ChainedFall) (number : ℕ) (falls : List Fall) → IsChain all number falls → IsChain (all ++ one ∷ []) number falls
+chain_stays all one number [] none = none
+chain_stays all one number (fall ∷ falls) (some, within, is, next, more) =
+    let same : chained_at (all ++ one ∷ []) number ≡ chained_at all number = get_or_append_left all (one ∷ []) (chained_at [] 0) (number - 1) (omega arith) in
+    rw same (some, omega (arith, length_push all one), is, next, chain_stays all one (chained_at all number).next falls more)
+
+pub chain_within : (all : List ChainedFall) (number : ℕ) (falls : List Fall) → IsChain all number falls → number ≤ length all
+chain_within all number [] none = omega (arith, none)
+chain_within all number (fall ∷ falls) chain = chain.1
+
+-- before the others it is the first of their chain
+chain_begins : (all : List ChainedFall) (next : ℕ) (fall : Fall) (falls : List Fall) → IsChain all next falls → IsChain (all ++ record { fall = fall; next = next } ∷ []) (length all + 1) (fall ∷ falls)
+chain_begins all next fall falls chain =
+    let one : ChainedFall = record { fall = fall; next = next } in
+    let here : chained_at (all ++ one ∷ []) (length all + 1) ≡ one = get_or_push all one (chained_at [] 0) (length all + 1 - 1) (omega arith) in
+    rw here (omega arith, omega (arith, length_push all one), refl, omega (arith, chain_within all next falls chain), chain_stays all one next falls chain)
+
+pub chains_none : (h : HierarchyLists) (nodes : ℕ) → AreChains h [] [] (replicate nodes 0)
+chains_none h zero v = refl
+chains_none h (suc nodes) zero = refl
+chains_none h (suc nodes) (suc v) = chains_none h nodes v
+
+pub chains_more : (h : HierarchyLists) (place : ℕ) (places : List ℕ) (all : List ChainedFall) (first : List ℕ) → LeavesBelow h (length first) place → AreChains h places all first
+    → AreChains h (place ∷ places) (all ++ record { fall = fall_at h place; next = get_or first (entry_at h place).from 0 } ∷ []) (set first (entry_at h place).from (length all + 1))
+chains_more h place places all first leaves chains v = by_node (nat_eq u v) refl
+  where
+    u : ℕ
+    u = (entry_at h place).from
+
+    one : ChainedFall
+    one = record { fall = fall_at h place; next = get_or first u 0 }
+
+    by_node : (b : Bool) → nat_eq u v ≡ b → IsChain (all ++ one ∷ []) (get_or (set first u (length all + 1)) v 0) (map (fall_at h) (cond b (place ∷ places_from h places v) (places_from h places v)))
+    by_node false e =
+        let same = get_or-set_other first u v (length all + 1) 0 (λ is. eqb-false u v e (sym is)) in
+        rw same (chain_stays all one (get_or first v 0) (map (fall_at h) (places_from h places v)) (chains v))
+    by_node true e =
+        let is = eqb-true u v e in
+        subst (λ w. IsChain (all ++ one ∷ []) (get_or (set first u (length all + 1)) w 0) (fall_at h place ∷ map (fall_at h) (places_from h places w))) is
+        (rw (get_or-set_same first u (length all + 1) 0 leaves.1) (chain_begins all (get_or first u 0) (fall_at h place) (map (fall_at h) (places_from h places u)) (chains u)))
+
+-- ---- the chains of all falls
 
 abbrev Ascends : List ℕ → Type 0
 Ascends = AllPairs (λ j k. j < k)
@@ -87,133 +176,125 @@ first_or_later : (x : ℕ) (xs : List ℕ) (v : ℕ) → Contains (x ∷ xs) v �
 first_or_later x xs v (zero, lt, is) = inl is
 first_or_later x xs v (suc k, lt, is) = inr (k, (omega arith), is)
 
-first_is_least : (x : ℕ) (xs : List ℕ) → Ascends (x ∷ xs) → (v : ℕ) → Contains xs v → x < v
-first_is_least x xs up v (k, lt, is) = subst (λ w. x < w) is (up zero (suc k) v (omega arith) (omega arith))
+first_least : (x : ℕ) (xs : List ℕ) → Ascends (x ∷ xs) → (v : ℕ) → Contains (x ∷ xs) v → x ≤ v
+first_least x xs up v (zero, lt, is) = omega (arith, is)
+first_least x xs up v (suc k, lt, is) = omega (arith, up zero (suc k) v (omega arith) lt, is)
 
 -- two ascending lists with the same numbers are one
 same_numbers : (xs ys : List ℕ) → Ascends xs → Ascends ys → ((v : ℕ) → Contains xs v → Contains ys v) → ((v : ℕ) → Contains ys v → Contains xs v) → xs ≡ ys
 same_numbers [] [] up above there back = refl
-same_numbers [] (y ∷ ys) up above there back = let h = back y (0, (omega arith), refl) in absurd (omega (arith, h.1))
-same_numbers (x ∷ xs) [] up above there back = let h = there x (0, (omega arith), refl) in absurd (omega (arith, h.1))
+same_numbers [] (y ∷ ys) up above there back = (let h = back y (0, (omega arith), refl) in absurd (omega (arith, h.1)))
+same_numbers (x ∷ xs) [] up above there back = (let h = there x (0, (omega arith), refl) in absurd (omega (arith, h.1)))
 same_numbers (x ∷ xs) (y ∷ ys) up above there back =
-    ap (λ z. z ∷ xs) head ∙ ap (λ zs. y ∷ zs) (same_numbers xs ys (tail x xs up) (tail y ys above) (tails x y xs ys head up there) (tails y x ys xs (sym head) above back))
+    let same : x ≡ y = omega (arith, first_least y ys above x (there x (0, (omega arith), refl)), first_least x xs up y (back y (0, (omega arith), refl))) in
+    ap (λ z. z ∷ xs) same ∙ ap (λ zs. y ∷ zs) (same_numbers xs ys (tail x xs up) (tail y ys above) (tails x y xs ys same up there) (tails y x ys xs (sym same) above back))
   where
     tail : (z : ℕ) (zs : List ℕ) → Ascends (z ∷ zs) → Ascends zs
     tail z zs up i j d lt within = up (suc i) (suc j) d (omega arith) (omega arith)
 
-    head : x ≡ y
-    head = elim (first_or_later y ys x (there x (0, (omega arith), refl))) [
-      | inl e ↦ sym e
-      | inr later ↦ elim (first_or_later x xs y (back y (0, (omega arith), refl))) [
-        | inl e ↦ e
-        | inr also ↦ (let a = first_is_least y ys above x later in let b = first_is_least x xs up y also in absurd (omega arith))
-      ]
-    ]
-
     tails : (a b : ℕ) (xs ys : List ℕ) → a ≡ b → Ascends (a ∷ xs) → ((v : ℕ) → Contains (a ∷ xs) v → Contains (b ∷ ys) v) → (v : ℕ) → Contains xs v → Contains ys v
-    tails a b xs ys same up there v (k, lt, is) = elim (first_or_later b ys v (there v (suc k, (omega arith), is))) [
-      | inr later ↦ later
-      | inl e ↦ (let below = first_is_least a xs up v (k, lt, is) in absurd (omega arith))
-    ]
+    tails a b xs ys same up there v (k, lt, is) = by_first (there v (suc k, (omega arith), is))
+      where
+        by_first : Contains (b ∷ ys) v → Contains ys v
+        by_first (zero, inside, first) = (let below = up zero (suc k) v (omega arith) (omega arith) in absurd (omega (arith, below, is, first, same)))
+        by_first (suc m, inside, later) = (m, (omega arith), later)
 
-abbrev pub place_of : Fall → ℕ
-place_of fall = fall.place
+filter_has : (p : ℕ → Bool) (xs : List ℕ) (v : ℕ) → Contains xs v → p v ≡ true → Contains (filter p xs) v
+filter_has p xs v (k, lt, is) pass =
+    let parts : xs ≡ take k xs ++ v ∷ drop (k + 1) xs = sym (take-append-drop k xs) ∙ ap (λ ys. take k xs ++ ys) (drop_more xs k v lt ∙ ap (λ x. x ∷ drop (k + 1) xs) is) in
+    let kept : filter p xs ≡ filter p (take k xs) ++ v ∷ filter p (drop (k + 1) xs) = ap (filter p) parts ∙ filter-append p (take k xs) (v ∷ drop (k + 1) xs) ∙ rw pass refl in
+    rw kept (Contains-append_right (filter p (take k xs)) (v ∷ filter p (drop (k + 1) xs)) v (0, (omega arith), refl))
 
-module _ (h : HierarchyLists) (marks : List Bool) where
-  abbrev n : ℕ
-  n = length h.entries
+range_has : (a n k : ℕ) → a ≤ k → k < a + n → Contains (range_with_len a n) k
+range_has a n k low high = (k - a, omega (arith, length-range_with_len a n), get_or-range_with_len a n (k - a) k (omega arith) ∙ omega arith)
 
-  -- the places of all falls
-  abbrev listed : List ℕ
-  listed = places_of (is_fall h marks) h.entries
+range_within : (a n : ℕ) → All (λ k. (a ≤ k) × (k < a + n)) (range_with_len a n)
+range_within a n i d lt = let inside : i < n = omega (arith, length-range_with_len a n) in rw (get_or-range_with_len a n i d inside) (omega arith, omega arith)
 
-  -- sorted, each once, gathered places are these
-  pub in_order : (places sorted : List ℕ) → HaveFalls h marks places → IsPermutation places sorted → IsSorted nat_cmp sorted → dedup nat_eq sorted ≡ listed
-  in_order places sorted have moved rises =
-      same_numbers (dedup nat_eq sorted) listed (AllPairs-from_increasing _ (IsStrictlyIncreasing-dedup sorted rises)) (places_ascend (is_fall h marks) h.entries n)
-      (λ k there. (let fell = All-contains (IsFallAt h marks) places k have.each (Contains-permutation sorted places k (IsPermutation-sym places sorted moved) (Contains-from_dedup nat_eq sorted k there)) in
-      places_have (is_fall h marks) h.entries n k fell.0 fell.1))
-      (λ k there. Contains-dedup_nat sorted k (Contains-permutation places sorted k moved (have.all k
-      (All-contains (λ j. j < n) listed k (places_within (is_fall h marks) h.entries n) there, All-contains (λ j. is_fall h marks (entry_at h j) ≡ true) listed k (places_pass (is_fall h marks) h.entries n) there))))
+range_ascends : (a n : ℕ) → Ascends (range_with_len a n)
+range_ascends a n i j d before lt =
+    let last : j < n = omega (arith, length-range_with_len a n) in
+    rw (get_or-range_with_len a n i d (omega arith), get_or-range_with_len a n j d last) (omega arith)
 
-  -- ---- those between two places
-
-  -- falls stand in the order of their places
-  pub falls_rise : IsNonDecreasingBy place_of (all_falls h marks)
-  falls_rise i j d le lt =
-      let inside : j < length listed = omega (arith, length-map listed (fall_at h)) in
-      let at_i = ap place_of (get_or-map (fall_at h) listed i 0 d (omega arith)) in
-      let at_j = ap place_of (get_or-map (fall_at h) listed j 0 d inside) in
-      rw (at_i, at_j) (elim (cases_lt i j) [
-        | inl before ↦ (let up = places_ascend (is_fall h marks) h.entries n i j 0 before inside in omega arith)
-        | inr after ↦ (let same : i ≡ j = omega arith in subst (λ k. get_or listed i 0 ≤ get_or listed k 0) same (omega arith))
-      ])
-
-  abbrev passes : ℕ → Bool
-  passes k = is_fall h marks (entry_at h k)
-
-  -- those up to a place, and then those behind it
-  falls_split : (first count : ℕ) → first + count ≤ n → falls_from h marks 0 (first + count) ≡ falls_from h marks 0 first ++ falls_from h marks first count
-  falls_split first count inside =
-      let long : first + count - first ≡ count = omega arith in
-      ap (map (fall_at h)) (places_split (is_fall h marks) h.entries first (first + count) (omega arith) ∙ ap (λ k. filter passes (range_with_len 0 first) ++ filter passes (range_with_len first k)) long)
-      ∙ map-append (fall_at h) (filter passes (range_with_len 0 first)) (filter passes (range_with_len first count))
-
-  -- up to a later place there are as many or more
-  pub falls_grow : (first count : ℕ) → first + count ≤ n → length (falls_from h marks 0 first) ≤ length (falls_from h marks 0 (first + count))
-  falls_grow first count inside = omega (arith, ap length (falls_split first count inside), length-append (falls_from h marks 0 first) (falls_from h marks first count))
-
-  -- each is at one of the places
-  pub falls_within : (first count : ℕ) → All (IsFallFrom first count) (falls_from h marks first count)
-  falls_within first count = All-map (IsFallFrom first count) (fall_at h) (filter passes (range_with_len first count))
-      (All-filter passes (λ k. IsFallFrom first count (fall_at h k)) (range_with_len first count) (λ i d lt.
-      (let within : i < count = omega (arith, length-range_with_len first count) in rw (get_or-range_with_len first count i d within) (record { low = omega arith; high = omega arith }))))
-
-  -- what a search for a place finds is the number of falls before it
-  pub falls_counted : (place found : ℕ) → place ≤ n → found ≤ length (all_falls h marks)
-      → IsPartitionPoint (λ (fall : Fall). nat_lt fall.place place ≡ true) (λ fall. nat_lt fall.place place ≡ false) (all_falls h marks) found → found ≡ length (falls_from h marks 0 place)
-  falls_counted place found inside within halves = elim (cases_lt found (length lower)) [
-    | inl early ↦ (let late = ltb-false _ _ (rw whole at halves.1 found nowhere (omega arith) (omega (arith, length-append lower others))) in
-        let at = ap place_of (get_or-append lower others nowhere found early) in
-        let low = (falls_within 0 place found nowhere early).high in
-        absurd (omega (arith, at, late, low)))
-    | inr past ↦ elim (cases_lt (length lower) found) [
-      | inl late ↦ (let early = ltb-true _ _ (rw whole at halves.0 (length lower + 0) nowhere (omega arith) (omega arith)) in
-          let at = ap place_of (get_or-append-add lower others 0 nowhere) in
-          let high = (falls_within place (n - place) 0 nowhere (omega (arith, long))).low in
-          absurd (omega (arith, at, early, high)))
-      | inr same ↦ omega arith
-    ]
-  ] where
-    nowhere : Fall
-    nowhere = record { place = 0; to = 0; weight = 0 }
-
-    lower : List Fall
-    lower = falls_from h marks 0 place
-
-    others : List Fall
-    others = falls_from h marks place (n - place)
-
-    whole : all_falls h marks ≡ lower ++ others
-    whole = let all : n ≡ place + (n - place) = omega arith in ap (falls_from h marks 0) all ∙ falls_split place (n - place) (omega arith)
-
-    long : length (all_falls h marks) ≡ length lower + length others
-    long = ap length whole ∙ length-append lower others
-
-  -- between the numbers of those before two places stand those at the places between
-  pub falls_between : (first count : ℕ) → first + count ≤ n → slice_range (all_falls h marks) (length (falls_from h marks 0 first)) (length (falls_from h marks 0 (first + count))) ≡ falls_from h marks first count
-  falls_between first count inside =
-      let all : n ≡ first + count + (n - (first + count)) = omega arith in
-      let after = falls_from h marks (first + count) (n - (first + count)) in
-      let parts = falls_split first count inside in
-      let whole : all_falls h marks ≡ before ++ here ++ after = ap (falls_from h marks 0) all ∙ falls_split (first + count) (n - (first + count)) (omega arith) ∙ ap (λ falls. falls ++ after) parts in
-      let long : length (falls_from h marks 0 (first + count)) - length before ≡ length here = omega (arith, ap length parts, length-append before here) in
-      ap (λ falls. slice_range falls (length before) (length (falls_from h marks 0 (first + count)))) (whole ∙ append_assoc before here after)
-      ∙ ap (λ k. take k (drop (length before) (before ++ (here ++ after)))) long
-      ∙ ap (take (length here)) (drop-append_seam before (here ++ after)) ∙ take-append_seam here after
+module _ (h : HierarchyLists) (rules : IsHierarchy h) (marks : List Bool) (places : List ℕ) (falls : AreFallsByEnd h marks places) where
+  -- those that leave a node are the falls among its entries
+  falls_of : (v : ℕ) → places_from h places v ≡ filter (λ place. is_fall h marks (entry_at h place)) (range_with_len (first_entry h v) (entries_at h v))
+  falls_of v =
+      same_numbers (places_from h places v) (filter fell range)
+      (λ i j d before within. AllPairs-filter (λ j k. (entry_at h j).from ≡ (entry_at h k).from → j < k) leaves places falls.in_turn i j d before within
+      (eqb-true _ _ (filter_passes leaves places i d (omega arith)) ∙ sym (eqb-true _ _ (filter_passes leaves places j d within))))
+      (AllPairs-filter (λ j k. j < k) fell range (range_ascends begin count))
+      (λ k there. (let (within, pass) = All-contains (IsFallAt h marks) _ k (All-filter leaves (IsFallAt h marks) places falls.each) there in
+      let inside = from.all k (entry_at h k) (slice_get-get_or h.entries k no_entry within) (eqb-true _ _ (All-contains (λ j. leaves j ≡ true) _ k (filter_passes leaves places) there)) in
+      filter_has fell range k (range_has begin count k inside.0 (omega (arith, inside.1, from.in_order))) pass))
+      (λ k there. (let (low, high) = All-contains (λ j. (begin ≤ j) × (j < begin + count)) _ k (All-filter fell (λ j. (begin ≤ j) × (j < begin + count)) range (range_within begin count)) there in
+      let within : k < length h.entries = omega (arith, high, from.within, from.in_order) in
+      filter_has leaves places k (falls.all k (within, All-contains (λ j. fell j ≡ true) _ k (filter_passes fell range) there))
+      (eq-eqb _ _ (from.inside k (entry_at h k) low (omega (arith, high, from.in_order)) (slice_get-get_or h.entries k no_entry within)))))
     where
-      before : List Fall
-      before = falls_from h marks 0 first
+      begin : ℕ
+      begin = first_entry h v
 
-      here : List Fall
-      here = falls_from h marks first count
+      count : ℕ
+      count = entries_at h v
+
+      range : List ℕ
+      range = range_with_len begin count
+
+      leaves : ℕ → Bool
+      leaves place = nat_eq (entry_at h place).from v
+
+      fell : ℕ → Bool
+      fell place = is_fall h marks (entry_at h place)
+
+      from : AreFrom h.entries v begin (first_entry h (v + 1))
+      from = are_from h.entries (from_rises h.entries rules.entries_ascend) v
+
+  pub has_falls : (all : List ChainedFall) (first : List ℕ) → AreChains h places all first → HasFalls h marks all first
+  has_falls all first chains v = subst (λ ks. IsChain all (get_or first v 0) (map (fall_at h) ks)) (falls_of v) (chains v)
+
+-- ---- along a chain
+
+-- each is at one of the places
+pub falls_within : (h : HierarchyLists) (marks : List Bool) (first count : ℕ) → All (IsFallFrom first count) (falls_from h marks first count)
+falls_within h marks first count =
+    All-map (IsFallFrom first count) (fall_at h) _ (All-filter (λ place. is_fall h marks (entry_at h place)) (λ k. IsFallFrom first count (fall_at h k)) (range_with_len first count)
+    (λ i d lt. (let (low, high) = range_within first count i d lt in record { low = low; high = high })))
+
+-- the falls before one with a number and 1 are appended as ways, and with the others they are the whole
+pub record AreAppended (all : List ChainedFall) (as_way : Fall → Way) (first count : ℕ) (whole ways : List Way) (number : ℕ) : Type 0 where
+  pub left : List Fall
+  pub chain : IsChain all number left
+  pub within : All (IsFallFrom first count) left
+  pub ways_are : ways ++ map as_way left ≡ whole
+
+module _ (all : List ChainedFall) (as_way : Fall → Way) (first count : ℕ) (whole ways : List Way) (number : ℕ) (so_far : AreAppended all as_way first count whole ways number) where
+  -- the next fall, if there is one
+  pub record IsNext (one : ChainedFall) : Type 0 where
+    pub within : IsFallFrom first count one.fall
+    pub less : one.next < number
+    pub far : AreAppended all as_way first count whole (ways ++ as_way one.fall ∷ []) one.next
+
+  pub next_appended : 0 < number → (one : ChainedFall) → one ≡ get_or all (number - 1) one → IsNext one
+  next_appended some one here = by_list so_far.left so_far.chain so_far.within so_far.ways_are
+    where
+      by_list : (left : List Fall) → IsChain all number left → All (IsFallFrom first count) left → ways ++ map as_way left ≡ whole → IsNext one
+      by_list [] none within are = absurd (omega (arith, none))
+      by_list (fall ∷ left) (low, there, is, less, chain) within are =
+          subst IsNext (get_or_default all (number - 1) (chained_at [] 0) one (omega arith) ∙ sym here) (record {
+            within = subst (IsFallFrom first count) (sym is) (All-head (IsFallFrom first count) fall left within);
+            less = less;
+            far = record {
+              left = left;
+              chain = chain;
+              within = All-tail (IsFallFrom first count) fall left within;
+              ways_are = append_assoc ways (as_way (chained_at all number).fall ∷ []) (map as_way left) ∙ ap (λ (one : Fall). ways ++ as_way one ∷ map as_way left) is ∙ are;
+            };
+          })
+
+  pub all_appended : number ≤ 0 → ways ≡ whole
+  all_appended none = by_list so_far.left so_far.chain so_far.ways_are
+    where
+      by_list : (left : List Fall) → IsChain all number left → ways ++ map as_way left ≡ whole → ways ≡ whole
+      by_list [] end are = sym (append-nil ways) ∙ are
+      by_list (fall ∷ left) chain are = absurd (let low = chain.0 in omega arith)

@@ -1,10 +1,15 @@
 -- How marks are set, and that the marked nodes are all from which a chain of entries leads down to a target.
 use Rattle.std.proofs.Common.{◌≡◌, ℕ, ◌+◌, ◌<◌, ◌≤◌, ◌⊎◌, inl, inr, ◌∙◌, nat_eq, cond, Some, Bool, true, false, not, List, [], ◌∷◌, ◌++◌, length, set, get_or, refl, ap, arith, sym, subst}
-use Rattle.std.specs.Prelude.{All, Contains}
+use Rattle.std.specs.Prelude.{All, Contains, IsPermutation, IsSorted}
+use Rattle.std.specs.Ordering.{nat_cmp}
+use Rattle.std.specs.List.{dedup}
 use Rattle.std.proofs.lemmas.Bool.{eqb-true, eqb-false}
 use Rattle.std.proofs.lemmas.List.{length_push, get_or_default, get_or-set_same, get_or-set_other, length-set}
 use Rattle.std.proofs.lemmas.List.Elements.{Contains-append_left, Contains-append_right, Contains-append_cases, All-contains}
+use Rattle.std.proofs.lemmas.List.Kept.{AllPairs-from_increasing, Contains-dedup_nat, Contains-from_dedup}
+use Rattle.std.proofs.lemmas.List.Sorted.{Contains-permutation, IsPermutation-sym}
 use Rattle.std.proofs.lemmas.List.Sums.{sum_by-set}
+use Rattle.std.proofs.lemmas.Map.Keys.{IsStrictlyIncreasing-dedup}
 use Rattle.hierarchy.specs.declared.entry.Entry.{Entry}
 use Rattle.hierarchy.specs.Hops.{Hop, AreHops, IsDescent}
 use Rattle.hierarchy.specs.Lists.{HierarchyLists, height_in, IsAbove}
@@ -13,8 +18,8 @@ use Rattle.std.proofs.lemmas.Option.{slice_get-get_or}
 use Rattle.hierarchy.specs.Indexes.{AreBelow, AreEndsBelow}
 use Rattle.hierarchy.specs.Lookups.{ArePlaces, FallsTo}
 use Rattle.phase_graph.specs.Moves.{IsMarked}
-use Rattle.phase_graph.specs.Marks.{AreMarksFor}
-use Rattle.phase_graph.specs.inside.Marking.{AreMarks, IsMarking, Extends, AreOldOr, IsFollowedAt, IsFollowed}
+use Rattle.phase_graph.specs.Marks.{AreMarksFor, has_mark}
+use Rattle.phase_graph.specs.inside.Marking.{AreMarked, AreMarks, IsMarking, Extends, AreOldOr, IsFollowedAt, IsFollowed}
 
 -- ---- one mark
 
@@ -135,3 +140,20 @@ pub followed_all : (h : HierarchyLists) (queue : List ℕ) (x : ℕ) (places : L
 followed_all h queue x places into n past far k e lt is to above =
     let there = into.all k e (slice_get-get_or h.entries k e lt ∙ ap Some is) (record { ends = to; above = above }) in
     far there.0 k (omega (arith, there.1)) e (subst (λ i. i < length h.entries) (sym there.2) lt) (ap (λ i. get_or h.entries i e) there.2 ∙ is) to above
+
+-- ---- the marked nodes in order
+
+-- what is followed stays so, sorted and each node once
+pub marked_in_order : (h : HierarchyLists) (marks : List Bool) (queue sorted : List ℕ) → ((v : ℕ) → has_mark marks v ≡ true → Contains queue v) → ((v : ℕ) → Contains queue v → has_mark marks v ≡ true)
+    → ((x : ℕ) → Contains queue x → IsFollowed h queue x) → IsPermutation queue sorted → IsSorted nat_cmp sorted → AreMarked h marks (dedup nat_eq sorted)
+marked_in_order h marks queue sorted listed set followed moved rises = record {
+  ascending = AllPairs-from_increasing _ (IsStrictlyIncreasing-dedup sorted rises);
+  listed = λ v is. kept v (listed v is);
+  set = λ v there. set v (was v there);
+  followed = λ x there k. still_followed h queue (dedup nat_eq sorted) x k kept (followed x (was x there) k);
+} where
+  kept : (v : ℕ) → Contains queue v → Contains (dedup nat_eq sorted) v
+  kept v there = Contains-dedup_nat sorted v (Contains-permutation queue sorted v moved there)
+
+  was : (v : ℕ) → Contains (dedup nat_eq sorted) v → Contains queue v
+  was v there = Contains-permutation sorted queue v (IsPermutation-sym queue sorted moved) (Contains-from_dedup nat_eq sorted v there)

@@ -1,5 +1,5 @@
 -- The ways out of a node of the phase graph: along entries, and those that the plain graph has too.
-use Rattle.std.proofs.Common.{◌≡◌, ℕ, ◌+◌, ◌-◌, ◌^◌, ◌<◌, ◌≤◌, Bool, true, false, cond, ◌&&◌, List, [], ◌∷◌, ◌++◌, length, take, drop, set, get_or, zero, suc, Option, Some, None, refl, sym, ◌∙◌, ap, subst, append_assoc, append-nil, arith}
+use Rattle.std.proofs.Common.{◌≡◌, ℕ, ◌+◌, ◌-◌, ◌^◌, ◌<◌, ◌≤◌, Bool, true, false, cond, List, [], ◌∷◌, ◌++◌, length, take, drop, set, get_or, zero, suc, Option, Some, None, refl, sym, ◌∙◌, ap, subst, append_assoc, append-nil, arith}
 use Rattle.std.specs.Prelude.{All, Contains, filter, map, is_some}
 use Rattle.std.specs.List.{range_with_len}
 use Rattle.std.proofs.Math.Seq.{set-append_seam, get_or-append_seam, drop-append_seam, take-append_seam}
@@ -20,8 +20,7 @@ use Rattle.mode_network.specs.NetworkLists.{NetworkLists, nodes_of, letter_at, s
 use Rattle.mode_network.specs.Rules.{IsNetwork}
 use Rattle.mode_network.specs.Timetables.{IsTimetableOf}
 use Rattle.mode_network.proofs.IndexLemmas.{range_is_range}
-use Rattle.hierarchy.specs.Lists.{HierarchyLists, is_above}
-use Rattle.hierarchy.specs.Rules.{IsHierarchy}
+use Rattle.hierarchy.specs.Lists.{HierarchyLists}
 use Rattle.plain_graph.specs.BoardWays.{plain_rides}
 use Rattle.plain_graph.specs.PlainArcs.{plain_meaning, count_from, inner_arcs_at, rides_from_stop, graph_arc, arrival}
 use Rattle.plain_graph.specs.Lawful.{plain_lawful}
@@ -31,10 +30,10 @@ use Rattle.phase_graph.specs.declared.falls.Fall.{Fall}
 use Rattle.phase_graph.specs.declared.phases.PhaseArc.{PhaseArc}
 use Rattle.phase_graph.specs.declared.phases.PhaseArc.TheVariants.{Down, Other}
 use Rattle.phase_graph.specs.Arcs.{phase_node}
-use Rattle.phase_graph.specs.Marks.{has_mark, is_fall}
+use Rattle.phase_graph.specs.Marks.{is_fall}
 use Rattle.phase_graph.specs.PhaseArcs.{phase_meaning, phase_arc, arc_of, phase_arrival, rises_at, first_entry, entries_at, entry_at, others_at, first_other, node_of, is_down, before_descent, renumbered, phase_rides, FitsAnew}
 use Rattle.phase_graph.specs.inside.Falls.{fall_at, fall_way, falls_from}
-use Rattle.phase_graph.proofs.GraphLemmas.{whole, entry_begins}
+use Rattle.phase_graph.proofs.GraphLemmas.{whole}
 use Rattle.phase_graph.proofs.PlaceLemmas.{down_is, other_is}
 
 -- ---- what is put behind a list
@@ -118,32 +117,6 @@ module _ (n : NetworkLists) (h : HierarchyLists) (t : TableLists) (marks : List 
       let here : begin ≡ begin + 0 = omega arith in
       let there : ups + 0 ≡ ups = omega arith in
       ap (λ x. map as_way (falls_from h marks x downs)) here ∙ falls_are opens 0 downs (omega arith) ∙ ap (λ x. from x downs) there
-
-  -- from a node without a mark nothing falls
-  no_fall : IsHierarchy h → has_mark marks (node_of p) ≡ false → (i : ℕ) → i < downs → way_at g p time letters (ups + i) ≡ []
-  no_fall rules bare i lt =
-      let place = first_entry h (node_of p) + i in
-      let from = ap (has_mark marks) (entry_begins h rules (node_of p) i lt) ∙ bare in
-      way_is (ups + i) (Down place) (down_is n h (node_of p) (is_down p) i place lt refl) ∙ by_tests place (is_open letters letter) (has_mark marks (entry_at h place).to) (has_mark marks (entry_at h place).from) from
-    where
-      by_tests : (place : ℕ) (b to from : Bool) → from ≡ false
-          → cond b (way_if (ups + i) (arc_of n t h (node_of p) (is_down p) (Down place)) (cond (to && (from && is_above h.order (entry_at h place).from (entry_at h place).to)) (Some (time + (entry_at h place).weight)) None)) [] ≡ []
-      by_tests place b to true e = cc
-      by_tests place false to false e = refl
-      by_tests place true false false e = refl
-      by_tests place true true false e = refl
-
-  no_falls : IsHierarchy h → has_mark marks (node_of p) ≡ false → (i k : ℕ) → i + k ≤ downs → from (ups + i) k ≡ []
-  no_falls rules bare i zero within = refl
-  no_falls rules bare i (suc k) within =
-      let is = no_fall rules bare i (omega arith) in
-      let next : ups + i + 1 ≡ ups + (i + 1) = omega arith in
-      ap (λ (ws : List Way). ws ++ from (ups + i + 1) k) is ∙ ap (λ x. from x k) next ∙ no_falls rules bare (i + 1) k (omega arith)
-
-  pub none_falls : IsHierarchy h → has_mark marks (node_of p) ≡ false → (before : List Way) → before ≡ before ++ from ups downs
-  none_falls rules bare before =
-      let none : ups + 0 ≡ ups = omega arith in
-      sym (append-nil before) ∙ ap (λ (ws : List Way). before ++ ws) (sym (ap (λ x. from x downs) (sym none) ∙ no_falls rules bare 0 downs (omega arith)))
 
   -- where their letter is not in the set there are none
   entry_closed : is_open letters letter ≡ false → (i : ℕ) (a : PhaseArc) → arc_there i ≡ a → (arc_of n t h (node_of p) (is_down p) a).letter ≡ letter → way_at g p time letters i ≡ []

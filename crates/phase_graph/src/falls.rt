@@ -1,7 +1,7 @@
-//! The entries that lead down from a node with a mark to another, by their places.
+//! The entries that lead down from a node with a mark to another, in a chain for each node that they leave.
 
-ghost use Rattle.std.specs.Prelude.{◌≡◌, ◌<◌, All, IfOk, length, map};
-ghost use Rattle.phase_graph.specs.inside.Falls.{HaveFalls, all_falls, fall_at};
+ghost use Rattle.std.specs.Prelude.{◌≡◌, ◌<◌, ◌+◌, ◌++◌, ◌∷◌, [], All, IfOk, OnOk, length, set, slice_index_or};
+ghost use Rattle.phase_graph.specs.inside.Falls.{AreChains, AreFallsByEnd, HasFalls, LeavesBelow, fall_at};
 ghost use Rattle.phase_graph.specs.inside.Marking.{AreMarked};
 
 use crate::marks::Marks;
@@ -20,22 +20,69 @@ pub(crate) struct Fall {
     pub weight: u64,
 }
 
-/// All falls between nodes with these marks, by their places.
-pub(crate) fn falls(alloc: Global, h: &Hierarchy, marks: &Marks) -> Result<Vec<Fall>, AllocError>
-    requires { AreMarked h.now marks.now.flags.items marks.now.nodes.items }
-    ensures { IfOk result (λ falls. falls.items ≡ all_falls h.now marks.now.flags.items) }
-{
-    let mut places = gather(alloc, h, marks)?;
-    places.sort_unstable();
-    places.dedup();
-    falls_at(alloc, h, &places)
+/// A fall in the chain of the node that it leaves.
+#[derive(Clone, Copy)]
+pub(crate) struct ChainedFall {
+    pub fall: Fall,
+    /// The number of the next fall of the chain and 1; or 0.
+    pub next: u32,
 }
 
-/// The places of the entries that lead down to a node with a mark. Each of them leaves another.
+/// The falls between nodes with marks; those of each node are a chain, in the order of their places.
+#[derive(Drop)]
+pub(crate) struct FallChains {
+    pub all: Vec<ChainedFall>,
+    /// For each node the number of the first fall of its chain and 1; or 0.
+    pub first: Vec<u32>,
+}
+
+impl FallChains {
+    /// The number of the first fall from a node and 1; or 0.
+    #[inline(always)]
+    pub fn first_from(&self, v: u32) -> u32
+        ensures { result ≡ slice_index_or self.now.first.items v 0 }
+    {
+        match self.first.get(v as usize) {
+            None => 0,
+            Some(number) => *number,
+        }
+    }
+
+    /// Puts a fall before the others from a node. That there are too many for a number counts as want of memory.
+    fn put(&mut self, v: u32, fall: Fall) -> Result<(), AllocError>
+        requires { v < length self.old.first.items }
+        ensures all { OnOk result (self.new.all.items ≡ self.old.all.items ++
+            record { fall = fall; next = slice_index_or self.old.first.items v 0 } ∷ []) }
+        ensures first { OnOk result (self.new.first.items ≡
+            set self.old.first.items v (length self.old.all.items + 1)) }
+    {
+        let number = self.all.len() + 1;
+        if number > 0xffff_ffff {
+            return Err(AllocError);
+        }
+        let next = self.first[v as usize];
+        self.all.push(ChainedFall { fall, next })?;
+        self.first[v as usize] = number as u32;
+        Ok(())
+    }
+}
+
+/// All falls between nodes with these marks.
+pub(crate) fn falls(alloc: Global, h: &Hierarchy, marks: &Marks) -> Result<FallChains, AllocError>
+    requires { AreMarked h.now marks.now.flags.items marks.now.nodes.items }
+    ensures { IfOk result (λ falls. HasFalls h.now marks.now.flags.items falls.all.items falls.first.items) }
+{
+    h.known();
+    let places = gather(alloc, h, marks)?;
+    in_chains(alloc, h, marks.flags.len(), &places)
+}
+
+/// The places of the entries that lead down to a node with a mark, by where they lead. Each of them leaves another.
 fn gather(alloc: Global, h: &Hierarchy, marks: &Marks) -> Result<Vec<u64>, AllocError>
     requires { AreMarked h.now marks.now.flags.items marks.now.nodes.items }
-    ensures { IfOk result (λ places. HaveFalls h.now marks.now.flags.items places.items) }
+    ensures { IfOk result (λ places. AreFallsByEnd h.now marks.now.flags.items places.items) }
 {
+    h.known();
     let mut places = Vec::new(alloc);
     for x in &marks.nodes {
         places.extend_from_slice(h.falls_into(*x))?;
@@ -43,14 +90,23 @@ fn gather(alloc: Global, h: &Hierarchy, marks: &Marks) -> Result<Vec<u64>, Alloc
     Ok(places)
 }
 
-/// The entries at these places, as falls.
-fn falls_at(alloc: Global, h: &Hierarchy, places: &[u64]) -> Result<Vec<Fall>, AllocError>
-    requires { All (λ place. place < length h.now.entries) places.now }
-    ensures { IfOk result (λ falls. falls.items ≡ map (fall_at h.now) places.now) }
+/// The entries at these places, as falls. They leave nodes below a number.
+fn in_chains(
+    alloc: Global,
+    h: &Hierarchy,
+    nodes: usize,
+    places: &[u64],
+) -> Result<FallChains, AllocError>
+    requires { All (LeavesBelow h.now nodes) places.now }
+    ensures { IfOk result (λ falls. AreChains h.now places.now falls.all.items falls.first.items) }
 {
-    let mut falls = Vec::with_capacity(alloc, places.len())?;
-    for place in places {
-        falls.push(fall_at(h, *place))?;
+    let mut falls = FallChains {
+        all: Vec::with_capacity(alloc, places.len())?,
+        first: vec![in alloc; 0; nodes]?,
+    };
+    for left in (0..places.len()).rev() {
+        let place = places[left];
+        falls.put(h.entries()[place as usize].from, fall_at(h, place))?;
     }
     Ok(falls)
 }

@@ -9,7 +9,7 @@ ghost use Rattle.phase_graph.specs.inside.Marking.{AreMarked, AreMarks, IsMarkin
 use hierarchy::Hierarchy;
 use std::alloc::{AllocError, Global};
 
-/// For each node whether it has a mark, and the nodes that have one.
+/// For each node whether it has a mark, and the nodes that have one, ascending.
 #[derive(Drop)]
 pub(crate) struct Marks {
     pub flags: Vec<bool>,
@@ -36,6 +36,8 @@ pub(crate) fn mark_nodes(
         follow(h, nodes, targets, x, &mut marks, &mut queue)?;
         next += 1;
     }
+    queue.sort_unstable();
+    queue.dedup();
     Ok(Marks {
         flags: marks,
         nodes: queue,

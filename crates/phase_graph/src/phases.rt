@@ -8,9 +8,9 @@ ghost use Rattle.hierarchy.specs.Soundness.{IsSound};
 ghost use Rattle.plain_graph.specs.Lawful.{IsLawfulGraph-prop};
 ghost use Rattle.phase_graph.specs.Arcs.{phase_node};
 ghost use Rattle.phase_graph.specs.PhaseArcs.{phase_meaning, node_of, is_down, renumbered, FitsAnew};
-ghost use Rattle.phase_graph.specs.inside.Falls.{all_falls, fall_way};
+ghost use Rattle.phase_graph.specs.inside.Falls.{HasFalls, HasFalls-prop, fall_way};
 
-use crate::falls::{Fall, falls};
+use crate::falls::{Fall, FallChains, falls};
 use crate::marks::mark_nodes;
 use hierarchy::{Entry, Hierarchy};
 use mode_network::Network;
@@ -52,8 +52,8 @@ pub struct Phases<'a> {
     plain: Plain<'a>,
     hierarchy: &'a Hierarchy,
     marks: Vec<bool>,
-    falls: Vec<Fall>,
-    ghost listed: { falls.items ≡ all_falls hierarchy.now marks.items },
+    falls: FallChains,
+    ghost listed: { HasFalls hierarchy.now marks.items falls.all.items falls.first.items } by { HasFalls-prop hierarchy.now marks.items falls.all.items falls.first.items },
     pub ghost sound: { ∥ IsSound plain.network.now hierarchy.now ∥₁ },
     pub ghost lawful: { IsLawfulGraph (phase_meaning plain.network.now plain.timetable.now hierarchy.now marks.items) } by { IsLawfulGraph-prop (phase_meaning plain.network.now plain.timetable.now hierarchy.now marks.items) },
 }
@@ -69,7 +69,6 @@ impl<'a> Phases<'a> {
     ghost use Rattle.timetable_arcs.specs.Table.{IsTable};
     ghost use Rattle.phase_graph.specs.Walked.{JourneysHaveWalks, WalksHaveJourneys};
     ghost use Rattle.phase_graph.specs.PhaseArcs.{phase_meaning, rises_at, legs_at, first_entry, entries_at, others_at, first_other, phase_arc, phase_arcs_at, IsArcOutOf, BeginsAt, entry_at, fall_arrival, phase_step, phase_rides, node_of, is_down};
-    ghost use Rattle.phase_graph.specs.inside.Falls.{IsFallFrom, falls_from};
     ghost use Rattle.plain_graph.specs.PlainArcs.{plain_meaning, arcs_at};
 
     /// The phase graph of a sound hierarchy for these targets, which are nodes of the network. For each journey to a
@@ -355,37 +354,17 @@ impl<'a> Phases<'a> {
             (node_of visit.node) (is_down visit.node))) (entries_at self.now.hierarchy.now
             (node_of visit.node))) }
     {
-        self.hierarchy.known();
         let (v, down) = split(visit.node);
         let letter = self.network().letter(v);
         let ups = self.rises_at(v, down).len() as u64;
-        let (first, count) = self.entries_at(v);
-        if self.has_mark(v) {
-            for fall in self.falls_from(first, count) {
-                ways.push(fall_way(letter, visit.at, first, ups, fall))?;
-            }
+        let (first, _) = self.entries_at(v);
+        let mut number = self.falls.first_from(v);
+        while number > 0 {
+            let chained = &self.falls.all[number as usize - 1];
+            ways.push(fall_way(letter, visit.at, first, ups, &chained.fall))?;
+            number = chained.next;
         }
         Ok(())
-    }
-
-    /// The falls at `count` places, from the place `first` on.
-    #[tactic(auto, using(crate::proofs::FallLemmas::falls_grow))]
-    fn falls_from(&self, first: u64, count: u64) -> &[Fall]
-        requires within { first + count ≤ length self.now.hierarchy.now.entries }
-        requires few { first + count < 2 ^ 60 }
-        ensures list { result.now ≡ falls_from self.now.hierarchy.now self.now.marks.items first count }
-        ensures each { All (IsFallFrom first count) result.now }
-    {
-        &self.falls[self.falls_before(first)..self.falls_before(first + count)]
-    }
-
-    /// How many falls come before a place.
-    fn falls_before(&self, place: u64) -> usize
-        requires { place ≤ length self.now.hierarchy.now.entries }
-        ensures count { result ≡ length (falls_from self.now.hierarchy.now self.now.marks.items 0 place) }
-        ensures within { result ≤ length self.now.falls.items }
-    {
-        self.falls.partition_point(|fall| fall.place < place)
     }
 
     /// Appends those of the entries that leave the node of a visit that lead down from a node with a mark to another, if their

@@ -1,12 +1,14 @@
--- The entries that lead down from a node with a mark to another, as they are listed once for all nodes.
-use Rattle.std.specs.Prelude.{◌≡◌, ℕ, ◌+◌, ◌-◌, ◌<◌, ◌≤◌, Bool, true, List, length, map, filter, Option, All, Contains}
+-- The entries that lead down from a node with a mark to another: those of each node are a chain, in the order of their places.
+use Rattle.std.specs.Prelude.{◌≡◌, ℕ, ◌+◌, ◌-◌, ◌<◌, ◌≤◌, ◌==◌, Bool, true, List, [], ◌∷◌, length, map, filter, Option, All, AllPairs, Contains, slice_index_or}
 use Rattle.std.specs.List.{range_with_len}
+use Rattle.std.proofs.Props.{props}
 use Rattle.search_laws.specs.declared.graph.Way.{Way}
 use Rattle.hierarchy.specs.Lists.{HierarchyLists}
+use Rattle.phase_graph.specs.declared.falls.ChainedFall.{ChainedFall}
 use Rattle.phase_graph.specs.declared.falls.Fall.{Fall}
 use Rattle.phase_graph.specs.Arcs.{phase_node}
 use Rattle.phase_graph.specs.Marks.{is_fall}
-use Rattle.phase_graph.specs.PhaseArcs.{entry_at}
+use Rattle.phase_graph.specs.PhaseArcs.{entries_at, entry_at, first_entry}
 
 -- the entry at a place, which leads into the descent
 abbrev pub fall_at : HierarchyLists → ℕ → Fall
@@ -16,22 +18,63 @@ fall_at h place = record { place = place; to = phase_node (entry_at h place).to 
 abbrev pub falls_from : HierarchyLists → List Bool → ℕ → ℕ → List Fall
 falls_from h marks first count = map (fall_at h) (filter (λ place. is_fall h marks (entry_at h place)) (range_with_len first count))
 
-abbrev pub all_falls : HierarchyLists → List Bool → List Fall
-all_falls h marks = falls_from h marks 0 (length h.entries)
-
 -- the fall is at one of so many places, from one on
 pub record IsFallFrom (first count : ℕ) (fall : Fall) : Type 0 where
   pub low : first ≤ fall.place
   pub high : fall.place < first + count
 
+-- ---- all of them, by where they lead
+
 -- the entry at this place leads down from a node with a mark to another
 abbrev pub IsFallAt : HierarchyLists → List Bool → ℕ → Type 0
 IsFallAt h marks place = (place < length h.entries) × (is_fall h marks (entry_at h place) ≡ true)
 
+-- an entry that leaves the same node as an earlier one stands behind it
+abbrev pub AreInTurn : HierarchyLists → List ℕ → Type 0
+AreInTurn h places = AllPairs (λ j k. (entry_at h j).from ≡ (entry_at h k).from → j < k) places
+
 -- all places of such entries are in the list, and no others
-pub record HaveFalls (h : HierarchyLists) (marks : List Bool) (places : List ℕ) : Type 0 where
+pub record AreFallsByEnd (h : HierarchyLists) (marks : List Bool) (places : List ℕ) : Type 0 where
   pub each : All (IsFallAt h marks) places
   pub all : (place : ℕ) → IsFallAt h marks place → Contains places place
+  pub in_turn : AreInTurn h places
+
+-- ---- in chains
+
+-- what has a number and 1
+abbrev pub chained_at : List ChainedFall → ℕ → ChainedFall
+chained_at all number = slice_index_or all (number - 1) (record { fall = record { place = 0; to = 0; weight = 0 }; next = 0 })
+
+-- from the one with this number and 1 on the chain has these falls; each of them was put before the next
+abbrev pub IsChain : List ChainedFall → ℕ → List Fall → Type 0
+IsChain all number [] = number ≡ 0
+IsChain all number (fall ∷ falls) = (0 < number) × (number ≤ length all) × ((chained_at all number).fall ≡ fall) × ((chained_at all number).next < number) × IsChain all (chained_at all number).next falls
+
+-- the entry at this place leaves a node below the number
+abbrev pub LeavesBelow : HierarchyLists → ℕ → ℕ → Type 0
+LeavesBelow h nodes place = (place < length h.entries) × ((entry_at h place).from < nodes)
+
+-- those of the places where entries leave v
+abbrev pub places_from : HierarchyLists → List ℕ → ℕ → List ℕ
+places_from h places v = filter (λ place. (entry_at h place).from == v) places
+
+-- the chain of each node has the falls at those of these places where entries leave it, in their order
+abbrev pub AreChains : HierarchyLists → List ℕ → List ChainedFall → List ℕ → Type 0
+AreChains h places all first = (v : ℕ) → IsChain all (slice_index_or first v 0) (map (fall_at h) (places_from h places v))
+
+-- the chain of each node has its falls
+abbrev pub HasFalls : HierarchyLists → List Bool → List ChainedFall → List ℕ → Type 0
+HasFalls h marks all first = (v : ℕ) → IsChain all (slice_index_or first v 0) (falls_from h marks (first_entry h v) (entries_at h v))
+
+-- there is one proof at most that it has
+IsChain-prop : (all : List ChainedFall) (number : ℕ) (falls : List Fall) → IsProp (IsChain all number falls)
+IsChain-prop all number [] = hlevel props
+IsChain-prop all number (fall ∷ falls) = hlevel (props, IsChain-prop all (chained_at all number).next falls)
+
+pub HasFalls-prop : (h : HierarchyLists) (marks : List Bool) (all : List ChainedFall) (first : List ℕ) → IsProp (HasFalls h marks all first)
+HasFalls-prop h marks all first = hlevel (props, IsChain-prop)
+
+-- ---- as ways
 
 -- a fall as a way, where the places that began at `first` begin at `now`
 abbrev pub fall_way : Option ℕ → ℕ → ℕ → ℕ → Fall → Way

@@ -1,5 +1,5 @@
 -- How far the marking of nodes has come: the nodes that have a mark wait in a list, and are followed one after the other.
-use Rattle.std.specs.Prelude.{◌≡◌, ℕ, ◌+◌, ◌<◌, ◌≤◌, ◌⊎◌, Bool, true, not, List, length, All, Contains, slice_index_or, count_by}
+use Rattle.std.specs.Prelude.{◌≡◌, ℕ, ◌+◌, ◌<◌, ◌≤◌, ◌⊎◌, Bool, true, not, List, length, All, AllPairs, Contains, slice_index_or, count_by}
 use Rattle.hierarchy.specs.declared.entry.Entry.{Entry}
 use Rattle.hierarchy.specs.Lists.{HierarchyLists, IsAbove}
 use Rattle.phase_graph.specs.Moves.{IsMarked}
@@ -32,8 +32,9 @@ IsFollowedAt h queue x k = (e : Entry) → k < length h.entries → slice_index_
 abbrev pub IsFollowed : HierarchyLists → List ℕ → ℕ → Type 0
 IsFollowed h queue x = (k : ℕ) → IsFollowedAt h queue x k
 
--- the nodes are those with a mark, and whatever leads down to one of them leaves another
+-- the nodes are those with a mark, ascending, and whatever leads down to one of them leaves another
 pub record AreMarked (h : HierarchyLists) (marks : List Bool) (nodes : List ℕ) : Type 0 where
+  pub ascending : AllPairs (λ v w. v < w) nodes
   pub listed : (v : ℕ) → has_mark marks v ≡ true → Contains nodes v
   pub set : (v : ℕ) → Contains nodes v → has_mark marks v ≡ true
   pub followed : (x : ℕ) → Contains nodes x → IsFollowed h nodes x

@@ -1,20 +1,18 @@
-use Rattle.std.proofs.Common.{◌∙◌, length}
-use Rattle.std.proofs.lemmas.List.Filters.{dedup_is}
-use Rattle.hierarchy.proofs.PlaceLemmas.{places_within}
-use Rattle.phase_graph.specs.Marks.{is_fall}
-use Rattle.phase_graph.proofs.FallLemmas.{in_order}
+use Rattle.std.proofs.Common.{arith}
+use Rattle.std.proofs.lemmas.Result.{IfOk-weaker}
+use Rattle.phase_graph.specs.inside.Falls.{AreChains, HasFalls}
+use Rattle.phase_graph.specs.declared.falls.FallChains.{FallChains}
+use Rattle.phase_graph.proofs.FallLemmas.{has_falls, leave_below}
 use Rattle.phase_graph.proofs.falls.falls.Goals as goal
 
-pub falls_at-requires : goal.falls_at-requires
-falls_at-requires c =
-    let h = c.args.h.now in
-    let marks = c.args.marks.now.flags.items in
-    let have = c.in_ok-places.ensures in
-    let sorted = c.sort_unstable.ensures in
-    rw (c.deref.ensures.value ∙ dedup_is _ _ _ c.dedup.ensures.filtered ∙ in_order h marks _ _ have sorted.permutation sorted.sorted) (places_within (is_fall h marks) h.entries (length h.entries))
+pub in_chains-requires : goal.in_chains-requires
+in_chains-requires c =
+    rw c.deref.ensures.value (λ k d lt. (let leaves = leave_below c.args.h.now c.args.marks.now.flags.items c.in_ok-places.places.items c.in_ok-places.ensures.each k d lt in (leaves.0, omega (arith, leaves.1, c.len.ensures))))
 
 pub returns : goal.returns
 returns c =
-    let have = c.in_ok-places.ensures in
-    let sorted = c.sort_unstable.ensures in
-    rw (c.deref.ensures.value ∙ dedup_is _ _ _ c.dedup.ensures.filtered ∙ in_order c.args.h.now c.args.marks.now.flags.items _ _ have sorted.permutation sorted.sorted) at c.falls_at.ensures
+    let h = c.args.h.now in
+    let marks = c.args.marks.now.flags.items in
+    let places = c.in_ok-places.places.items in
+    IfOk-weaker c.in_chains.result (λ (falls : FallChains). AreChains h places falls.all.items falls.first.items) (λ falls. HasFalls h marks falls.all.items falls.first.items)
+    (λ falls. has_falls h c.known.ensures marks places c.in_ok-places.ensures falls.all.items falls.first.items) (rw c.deref.ensures.value at c.in_chains.ensures)
