@@ -9,7 +9,7 @@ use Rattle.std.proofs.lemmas.List.Quantifiers.{all_pairs_push}
 use Rattle.std.proofs.lemmas.List.Sums.{sum_by-set, sum_by_push}
 use Rattle.timetable_arcs.specs.declared.trips.Instance.{Instance}
 use Rattle.timetable_arcs.specs.Patterns.{TableLists, trip_at, no_run, AreAlike, IsBehind}
-use Rattle.timetable_arcs.specs.inside.Sorting.{IsPattern, MayJoinPattern, sum_all}
+use Rattle.timetable_arcs.specs.inside.Sorting.{IsPattern, MayJoinPattern, AreCallsBehind, sum_all}
 
 pub alike_itself : (t : TableLists) (place : ℕ) → AreAlike (trip_at t place) (trip_at t place)
 alike_itself t place = record { letter = refl; calls = refl; each = λ k d lt. record { stop = refl; board = refl; alight = refl } }
@@ -19,6 +19,13 @@ one_run t run = record {
   some = omega arith;
   alike = All-push (λ (r : Instance). AreAlike (trip_at t run.trip) (trip_at t r.trip)) [] run (λ k d lt. absurd (omega arith)) (alike_itself t run.trip);
   in_turn = λ i j d lt within. absurd (omega arith);
+}
+
+-- of two runs of one day one is behind the other if its calls are
+pub behind_on_day : (t : TableLists) (first second : Instance) → first.day ≡ second.day → AreCallsBehind (trip_at t first.trip).calls (trip_at t second.trip).calls → IsBehind t first second
+behind_on_day t first second same behind = record {
+  departs_later = λ call lt. let later = behind.departs_later call lt in rw same (omega arith);
+  arrives_no_earlier = λ call lt. let no_earlier = behind.arrives_no_earlier call lt in rw same (omega arith);
 }
 
 -- what is behind a run that is behind another, as long, is behind that one

@@ -3,7 +3,7 @@
 ghost use Rattle.std.specs.Prelude.{◌≡◌, ◌+◌, ◌*◌, ◌^◌, ◌<◌, ◌≤◌, [], nat_le, find, slice_get, slice_index};
 ghost use Rattle.std.specs.List.Sorted.{IsNonDecreasingBy};
 ghost use Rattle.std.specs.Bool.{OnTrue};
-ghost use Rattle.timetable_arcs.specs.inside.Sorting.{IsFirstFrom};
+ghost use Rattle.timetable_arcs.specs.inside.Sorting.{AreCallsBehind, IsFirstFrom};
 ghost use Rattle.timetable_arcs.specs.Patterns.{plain_table, trip_at, call_of, arrives, departs, last_arrived, IsAlike, AreAlike, IsBehind};
 
 use crate::trips::{Call, Instance, Trip};
@@ -125,8 +125,35 @@ fn is_call_behind(first_base: Time, first: Call, second_base: Time, second: Call
         && first_base + 1000 * Time::from(first.arr) <= second_base + 1000 * Time::from(second.arr)
 }
 
+/// Whether at each of these calls the second departs later, and arrives no earlier.
+fn are_calls_behind(first: &[Call], second: &[Call]) -> bool
+    ensures { OnTrue result (AreCallsBehind first.now second.now) }
+{
+    if first.len() > second.len() {
+        return false;
+    }
+    for (k, call) in first.iter().enumerate() {
+        if call.dep >= second[k].dep || call.arr > second[k].arr {
+            return false;
+        }
+    }
+    true
+}
+
 /// Whether one run is behind another: at every call it departs later, and arrives no earlier.
+#[tactic(auto, using(crate::proofs::PatternLemmas::behind_on_day))]
 pub(crate) fn is_behind(bases: &[u64], trips: &[Trip], first: Instance, second: Instance) -> bool
+    ensures { OnTrue result (IsBehind (plain_table bases.now trips.now) first second) }
+{
+    if first.day == second.day {
+        are_calls_behind(calls_of(trips, first), calls_of(trips, second))
+    } else {
+        is_behind_over_days(bases, trips, first, second)
+    }
+}
+
+/// Whether one run is behind another, which may be of another day.
+fn is_behind_over_days(bases: &[u64], trips: &[Trip], first: Instance, second: Instance) -> bool
     ensures { OnTrue result (IsBehind (plain_table bases.now trips.now) first second) }
 {
     let first_base = base_of(bases, first);

@@ -2,9 +2,10 @@
 use Rattle.std.specs.Prelude.{◌≡◌, Some, slice_get, ℕ, zero, suc, ◌+◌, ◌-◌, ◌<◌, ◌≤◌, List, [], ◌∷◌, ◌++◌, length, All, AllPairs, sum_by, slice_index_or, if◌then◌else◌}
 use Rattle.plan_base.specs.declared.days.DaySet.{DaySet}
 use Rattle.plan_base.specs.DaySets.{contains_day}
+use Rattle.timetable_arcs.specs.declared.trips.Call.{Call}
 use Rattle.timetable_arcs.specs.declared.trips.Instance.{Instance}
 use Rattle.timetable_arcs.specs.Trips.{TripLists}
-use Rattle.timetable_arcs.specs.Patterns.{TableLists, plain_table, trip_at, no_run, no_trip, AreAlike, IsBehind}
+use Rattle.timetable_arcs.specs.Patterns.{TableLists, plain_table, trip_at, no_run, no_trip, no_call, AreAlike, IsBehind}
 
 -- the runs of the trip at a place on its days below n
 abbrev pub runs_below : ℕ → DaySet → ℕ → List Instance
@@ -51,3 +52,8 @@ pub record IsFirstFrom {X : Type 0} (n : X → ℕ) (t : ℕ) (xs : List X) (pla
 pub record MayJoinPattern (t : TableLists) (runs : List Instance) (run : Instance) : Type 0 where
   pub alike : AreAlike (trip_at t (slice_index_or runs 0 no_run).trip) (trip_at t run.trip)
   pub behind : IsBehind t (slice_index_or runs (length runs - 1) no_run) run
+
+-- at each of the first calls the second departs later, and arrives no earlier, if both are of one day
+pub record AreCallsBehind (first second : List Call) : Type 0 where
+  pub departs_later : (call : ℕ) → call < length first → (slice_index_or first call no_call).dep < (slice_index_or second call no_call).dep
+  pub arrives_no_earlier : (call : ℕ) → call < length first → (slice_index_or first call no_call).arr ≤ (slice_index_or second call no_call).arr

@@ -1,6 +1,6 @@
 use Rattle.std.proofs.Common.{◌<◌, ◌≤◌, ℕ}
 use Rattle.timetable_arcs.specs.Patterns.{plain_table, arrives, departs}
-use Rattle.timetable_arcs.proofs.runs.is_behind.Given as goal
+use Rattle.timetable_arcs.proofs.runs.is_behind_over_days.Given as goal
 
 abbrev pub invariant-loop-k : goal.invariant-loop-k
 invariant-loop-k l = record {
