@@ -1,15 +1,18 @@
 -- Patterns as runs are put into them.
-use Rattle.std.proofs.Common.{◌≡◌, ℕ, ◌+◌, ◌-◌, ◌<◌, List, [], ◌∷◌, ◌++◌, length, refl, ap, sym, subst, ◌∙◌, arith, Bool, true, false, nat_lt, set, get_or}
-use Rattle.std.specs.Prelude.{All, sum_by, slice_index_or}
+use Rattle.std.proofs.Common.{◌≡◌, ℕ, zero, suc, replicate, ◌+◌, ◌-◌, ◌<◌, List, [], ◌∷◌, ◌++◌, length, refl, ap, sym, subst, ◌∙◌, arith, Bool, true, false, nat_lt, set, get_or}
+use Rattle.std.specs.Prelude.{All, sum_by, slice_index_or, slice_set}
 use Rattle.std.proofs.Math.Nat.{le_trans, lt_trans}
 use Rattle.std.proofs.lemmas.Bool.{ltb-true, ltb-false}
-use Rattle.std.proofs.lemmas.List.{get_or_default, get_or_append_left, length_push}
+use Rattle.std.proofs.lemmas.Option.{none-some}
+use Rattle.std.proofs.lemmas.List.{get_or_default, get_or_append_left, get_or-replicate, get_or_past, length-replicate, length_push}
 use Rattle.std.proofs.lemmas.List.Elements.{All-push, All-set}
 use Rattle.std.proofs.lemmas.List.Quantifiers.{all_pairs_push}
 use Rattle.std.proofs.lemmas.List.Sums.{sum_by-set, sum_by_push}
 use Rattle.timetable_arcs.specs.declared.trips.Instance.{Instance}
+use Rattle.timetable_arcs.specs.declared.patterns.LastPut.{LastPut}
+use Rattle.timetable_arcs.specs.Trips.{TripLists}
 use Rattle.timetable_arcs.specs.Patterns.{TableLists, trip_at, no_run, AreAlike, IsBehind}
-use Rattle.timetable_arcs.specs.inside.Sorting.{IsPattern, MayJoinPattern, AreCallsBehind, sum_all}
+use Rattle.timetable_arcs.specs.inside.Sorting.{IsPattern, MayJoinPattern, AreCallsBehind, AreLastPuts, IsBehindNoted, nothing_put, sum_all}
 
 pub alike_itself : (t : TableLists) (place : ℕ) → AreAlike (trip_at t place) (trip_at t place)
 alike_itself t place = record { letter = refl; calls = refl; each = λ k d lt. record { stop = refl; board = refl; alight = refl } }
@@ -21,11 +24,17 @@ one_run t run = record {
   in_turn = λ i j d lt within. absurd (omega arith);
 }
 
--- of two runs of one day one is behind the other if its calls are
+-- of two runs of one day one is behind the other if and only if its calls are
 pub behind_on_day : (t : TableLists) (first second : Instance) → first.day ≡ second.day → AreCallsBehind (trip_at t first.trip).calls (trip_at t second.trip).calls → IsBehind t first second
 behind_on_day t first second same behind = record {
   departs_later = λ call lt. let later = behind.departs_later call lt in rw same (omega arith);
   arrives_no_earlier = λ call lt. let no_earlier = behind.arrives_no_earlier call lt in rw same (omega arith);
+}
+
+pub calls_behind : (t : TableLists) (first second : Instance) → first.day ≡ second.day → IsBehind t first second → AreCallsBehind (trip_at t first.trip).calls (trip_at t second.trip).calls
+calls_behind t first second same behind = record {
+  departs_later = λ call lt. let later = rw (← same) at (behind.departs_later call lt) in omega arith;
+  arrives_no_earlier = λ call lt. let no_earlier = rw (← same) at (behind.arrives_no_earlier call lt) in omega arith;
 }
 
 -- what is behind a run that is behind another, as long, is behind that one
@@ -84,3 +93,21 @@ sum_behind patterns place runs new run within is pushed weight =
 
 pub put_first : (t : TableLists) (run : Instance) (runs : List Instance) → runs ≡ run ∷ [] → IsPattern t runs
 put_first t run runs is = subst (IsPattern t) (sym is) (one_run t run)
+
+-- what holds at each place holds there once the element of one is another of which it holds
+set_each : {X : Type 0} (P : ℕ → X → Type 0) (xs : List X) (i : ℕ) (x d : X) → ((k : ℕ) → P k (slice_index_or xs k d)) → P i x → (k : ℕ) → P k (slice_index_or (slice_set xs i x) k d)
+set_each P [] i x d each here k = each k
+set_each P (z ∷ xs) zero x d each here zero = here
+set_each P (z ∷ xs) zero x d each here (suc k) = each (suc k)
+set_each P (z ∷ xs) (suc i) x d each here zero = each zero
+set_each P (z ∷ xs) (suc i) x d each here (suc k) = set_each (λ j. P (suc j)) xs i x d (λ j. each (suc j)) here k
+
+pub kept_put : (trips : List TripLists) (puts : List LastPut) (trip : ℕ) (put : LastPut) → AreLastPuts trips puts → IsBehindNoted trips trip put.before → AreLastPuts trips (slice_set puts trip put)
+kept_put trips puts trip put are behind = set_each (λ (place : ℕ) (p : LastPut). IsBehindNoted trips place p.before) puts trip put nothing_put are behind
+
+pub none_put : (trips : List TripLists) (n : ℕ) → AreLastPuts trips (replicate n nothing_put)
+none_put trips n place before is = absurd (none-some before (sym (ap (λ (put : LastPut). put.before) (same (nat_lt place n) refl)) ∙ is))
+  where
+    same : (b : Bool) → nat_lt place n ≡ b → slice_index_or (replicate n nothing_put) place nothing_put ≡ nothing_put
+    same true e = get_or-replicate n place nothing_put nothing_put (ltb-true _ _ e)
+    same false e = get_or_past (replicate n nothing_put) place nothing_put (omega (arith, ltb-false _ _ e, length-replicate n nothing_put))

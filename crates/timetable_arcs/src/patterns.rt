@@ -1,11 +1,11 @@
 //! Runs sorted into patterns, along which none overtakes another.
 
-ghost use Rattle.std.specs.Prelude.{◌≡◌, ◌++◌, ◌∷◌, [], List, ℕ, ◌+◌, ◌<◌, ◌^◌, length, All, IfOk, OnOk, IfSome, slice_index_or, sum_by};
+ghost use Rattle.std.specs.Prelude.{◌≡◌, ◌++◌, ◌∷◌, [], List, ℕ, ◌+◌, ◌-◌, ◌<◌, ◌^◌, length, All, IfOk, OnOk, IfSome, replicate, slice_index_or, slice_set, sum_by};
 ghost use Rattle.std.specs.Bool.{OnTrue};
 ghost use Rattle.timetable_arcs.specs.declared.trips.Instance.{Instance};
 ghost use Rattle.plan_base.specs.DaySets.{contains_day};
-ghost use Rattle.timetable_arcs.specs.Patterns.{plain_table, trip_at};
-ghost use Rattle.timetable_arcs.specs.inside.Sorting.{AreHeads, IsPattern, MayJoinPattern, sum_all, runs_from, weight_on};
+ghost use Rattle.timetable_arcs.specs.Patterns.{plain_table, trip_at, no_run, IsBehind};
+ghost use Rattle.timetable_arcs.specs.inside.Sorting.{AreHeads, AreLastPuts, IsBehindNoted, IsPattern, MayJoinPattern, nothing_put, sum_all, runs_from, weight_on};
 
 use crate::runs::{departs, is_behind, narrowed};
 use crate::sorting::{have_same_head, heads_of, trips_in_order};
@@ -71,67 +71,135 @@ struct Headed<'a> {
     heads: &'a [u32],
 }
 
-/// Whether a run may stand behind the runs of a pattern.
+/// What is kept of a trip from day to day, so that its runs are not compared with the same ones on each.
+#[derive(Clone, Copy)]
+struct LastPut {
+    /// The pattern of its run that was put last.
+    pattern: usize,
+    /// A trip whose run of the same day stood before one of its own: so may their runs of any other day.
+    before: Option<u32>,
+}
+
+/// Whether a run is behind another. On its day it is behind that of the trip that is noted, if there is one.
+#[tactic(auto, using(crate::proofs::PatternLemmas::behind_on_day))]
+fn stands_behind(given: &Headed, first: Instance, noted: Option<u32>, run: Instance) -> bool
+    requires { IsBehindNoted given.now.trips.now run.trip noted }
+    ensures { OnTrue result (IsBehind (plain_table given.now.bases.now given.now.trips.now) first run) }
+{
+    if first.day == run.day && noted == Some(first.trip) {
+        return true;
+    }
+    is_behind(given.bases, given.trips, first, run)
+}
+
+/// Whether a run may stand behind the runs of a pattern. On its day it is behind that of the trip that is noted.
 #[tactic(auto, using(crate::proofs::HeadLemmas::heads_alike))]
-fn follows(given: &Headed, runs: &[Instance], run: Instance) -> bool
-    requires { AreHeads given.now.trips.now given.now.heads.now }
+fn follows(given: &Headed, runs: &[Instance], noted: Option<u32>, run: Instance) -> bool
+    requires heads { AreHeads given.now.trips.now given.now.heads.now }
+    requires noted { IsBehindNoted given.now.trips.now run.trip noted }
     ensures { OnTrue result (MayJoinPattern (plain_table given.now.bases.now given.now.trips.now)
         runs.now run) }
 {
     match (runs.first(), runs.last()) {
         (Some(first), Some(last)) => {
             have_same_head(given.heads, first.trip, run.trip)
-                && is_behind(given.bases, given.trips, *last, run)
+                && stands_behind(given, *last, noted, run)
         }
         _ => false,
     }
 }
 
-/// A pattern behind whose runs this one may stand: the one that is tried first, or one of those opened last.
-fn find_pattern(given: &Headed, patterns: &[Pattern], first: usize, run: Instance) -> Option<usize>
-    requires { AreHeads given.now.trips.now given.now.heads.now }
+/// A pattern behind whose runs this one may stand: that of the run that was put last, or one of those opened last.
+fn find_pattern(given: &Headed, patterns: &[Pattern], last: LastPut, run: Instance) -> Option<usize>
+    requires heads { AreHeads given.now.trips.now given.now.heads.now }
+    requires noted { IsBehindNoted given.now.trips.now run.trip last.before }
     ensures within { IfSome result (λ place. place < length patterns.now) }
     ensures follows { IfSome result (λ place. MayJoinPattern (plain_table given.now.bases.now
         given.now.trips.now) (slice_index_or patterns.now place []) run) }
 {
-    if first < patterns.len() && follows(given, patterns[first].runs(), run) {
+    let first = last.pattern;
+    if first < patterns.len() && follows(given, patterns[first].runs(), last.before, run) {
         return Some(first);
     }
     for place in patterns.len().saturating_sub(TRIED)..patterns.len() {
-        if follows(given, patterns[place].runs(), run) {
+        if follows(given, patterns[place].runs(), last.before, run) {
             return Some(place);
         }
     }
     None
 }
 
-/// Puts a run into a pattern, and answers its place: one that has place behind its runs, of which one is tried first, or a
-/// new one.
+/// The trip that is noted once a run is put behind these: that of the last of them, if it is of the same day, and else the
+/// one noted before.
+#[tactic(auto, using(crate::proofs::PatternLemmas::calls_behind))]
+fn noted_behind(given: &Headed, runs: &[Instance], noted: Option<u32>, run: Instance) -> Option<u32>
+    requires noted { IsBehindNoted given.now.trips.now run.trip noted }
+    requires follows { MayJoinPattern (plain_table given.now.bases.now given.now.trips.now) runs.now run }
+    ensures { IsBehindNoted given.now.trips.now run.trip result }
+{
+    match runs.last() {
+        Some(last) if last.day == run.day => Some(last.trip),
+        _ => noted,
+    }
+}
+
+/// Puts a run into a pattern, and answers what is kept of its trip: into one that has place behind its runs, or a new one.
 fn put(
     alloc: Global,
     given: &Headed,
     patterns: &mut Vec<Pattern>,
-    first: usize,
+    last: LastPut,
     run: Instance,
-) -> Result<usize, AllocError>
+) -> Result<LastPut, AllocError>
     requires heads { AreHeads given.now.trips.now given.now.heads.now }
+    requires noted { IsBehindNoted given.now.trips.now run.trip last.before }
     requires are { All (IsPattern (plain_table given.now.bases.now given.now.trips.now)) patterns.old.items }
     ensures are { OnOk result (All (IsPattern (plain_table given.now.bases.now given.now.trips.now))
         patterns.new.items) }
     ensures one_more { OnOk result ((weight : Instance → ℕ)
         → sum_all weight patterns.new.items ≡ sum_all weight patterns.old.items + weight run) }
+    ensures noted { IfOk result (λ put. IsBehindNoted given.now.trips.now run.trip put.before) }
 {
     let start = narrowed(departs(given.bases, given.trips, run, 0));
-    match find_pattern(given, patterns, first, run) {
-        Some(place) => {
-            patterns[place].push(run, start)?;
-            Ok(place)
+    match find_pattern(given, patterns, last, run) {
+        Some(pattern) => {
+            let before = noted_behind(given, patterns[pattern].runs(), last.before, run);
+            patterns[pattern].push(run, start)?;
+            Ok(LastPut { pattern, before })
         }
         None => {
-            let place = patterns.len();
+            let pattern = patterns.len();
             patterns.push(Pattern::of(alloc, run, start)?)?;
-            Ok(place)
+            Ok(LastPut { pattern, ..last })
         }
+    }
+}
+
+/// What is kept of a trip none of whose runs was put yet.
+const NOTHING_PUT: LastPut = LastPut {
+    pattern: 0,
+    before: None,
+};
+
+/// What is kept of so many trips before any run is put.
+fn nothing_put_yet(alloc: Global, trips: usize) -> Result<Vec<LastPut>, AllocError>
+    ensures { IfOk result (λ puts. puts.items ≡ replicate trips nothing_put) }
+{
+    vec![in alloc; NOTHING_PUT; trips]
+}
+
+/// What is kept of a trip.
+fn last_put(puts: &[LastPut], trip: u32) -> LastPut
+    ensures { result ≡ slice_index_or puts.now trip nothing_put }
+{
+    puts.get(trip as usize).copied().unwrap_or(NOTHING_PUT)
+}
+
+fn keep_put(puts: &mut Vec<LastPut>, trip: u32, put: LastPut)
+    ensures { puts.new.items ≡ slice_set puts.old.items trip put }
+{
+    if let Some(held) = puts.get_mut(trip as usize) {
+        *held = put;
     }
 }
 
@@ -145,30 +213,30 @@ fn runs_on(trips: &[Trip], trip: u32, day: u32) -> bool
     }
 }
 
-/// Puts the run of a trip on a day into a pattern, if the trip runs then. `latest` has for each trip the pattern of its run
-/// that was put last: its run of a day later is mostly behind that.
+/// Puts the run of a trip on a day into a pattern, if the trip runs then. `puts` has what is kept of each trip: its run of
+/// a day later mostly stands in the same pattern, behind that of the same trip.
+#[tactic(auto, using(crate::proofs::PatternLemmas::kept_put))]
 fn put_on(
     alloc: Global,
     given: &Headed,
     trip: u32,
     day: u32,
     patterns: &mut Vec<Pattern>,
-    latest: &mut Vec<usize>,
+    puts: &mut Vec<LastPut>,
 ) -> Result<(), AllocError>
     requires heads { AreHeads given.now.trips.now given.now.heads.now }
     requires are { All (IsPattern (plain_table given.now.bases.now given.now.trips.now)) patterns.old.items }
+    requires noted { AreLastPuts given.now.trips.now puts.old.items }
     ensures are { OnOk result (All (IsPattern (plain_table given.now.bases.now given.now.trips.now))
         patterns.new.items) }
     ensures one { OnOk result ((weight : Instance → ℕ) → sum_all weight patterns.new.items ≡ sum_all weight
         patterns.old.items + weight_on weight given.now.trips.now day trip) }
+    ensures noted { OnOk result (AreLastPuts given.now.trips.now puts.new.items) }
 {
     if runs_on(given.trips, trip, day) {
         let run = Instance { trip, day };
-        let first = latest.get(trip as usize).copied().unwrap_or(0);
-        let place = put(alloc, given, patterns, first, run)?;
-        if let Some(held) = latest.get_mut(trip as usize) {
-            *held = place;
-        }
+        let last = put(alloc, given, patterns, last_put(puts, trip), run)?;
+        keep_put(puts, trip, last);
     }
     Ok(())
 }
@@ -180,17 +248,19 @@ fn put_day(
     order: &[u32],
     day: u32,
     patterns: &mut Vec<Pattern>,
-    latest: &mut Vec<usize>,
+    puts: &mut Vec<LastPut>,
 ) -> Result<(), AllocError>
     requires heads { AreHeads given.now.trips.now given.now.heads.now }
     requires are { All (IsPattern (plain_table given.now.bases.now given.now.trips.now)) patterns.old.items }
+    requires noted { AreLastPuts given.now.trips.now puts.old.items }
     ensures are { OnOk result (All (IsPattern (plain_table given.now.bases.now given.now.trips.now))
         patterns.new.items) }
     ensures day { OnOk result ((weight : Instance → ℕ) → sum_all weight patterns.new.items ≡ sum_all weight
         patterns.old.items + sum_by (weight_on weight given.now.trips.now day) order.now) }
+    ensures noted { OnOk result (AreLastPuts given.now.trips.now puts.new.items) }
 {
     for trip in order {
-        put_on(alloc, given, *trip, day, patterns, latest)?;
+        put_on(alloc, given, *trip, day, patterns, puts)?;
     }
     Ok(())
 }
@@ -214,10 +284,10 @@ pub(crate) fn sort_into_patterns(
         trips,
         heads: &heads,
     };
-    let mut latest = vec![in alloc; 0usize; trips.len()]?;
+    let mut puts = nothing_put_yet(alloc, trips.len())?;
     let mut patterns = Vec::new(alloc);
     for day in 0..days {
-        put_day(alloc, &given, &order, day, &mut patterns, &mut latest)?;
+        put_day(alloc, &given, &order, day, &mut patterns, &mut puts)?;
     }
     Ok(patterns)
 }

@@ -1,9 +1,10 @@
 -- All runs of trips, and how they are sorted into patterns.
-use Rattle.std.specs.Prelude.{◌≡◌, Some, slice_get, ℕ, zero, suc, ◌+◌, ◌-◌, ◌<◌, ◌≤◌, List, [], ◌∷◌, ◌++◌, length, All, AllPairs, sum_by, slice_index_or, if◌then◌else◌}
+use Rattle.std.specs.Prelude.{◌≡◌, Option, Some, None, slice_get, ℕ, zero, suc, ◌+◌, ◌-◌, ◌<◌, ◌≤◌, List, [], ◌∷◌, ◌++◌, length, All, AllPairs, sum_by, slice_index_or, if◌then◌else◌}
 use Rattle.plan_base.specs.declared.days.DaySet.{DaySet}
 use Rattle.plan_base.specs.DaySets.{contains_day}
 use Rattle.timetable_arcs.specs.declared.trips.Call.{Call}
 use Rattle.timetable_arcs.specs.declared.trips.Instance.{Instance}
+use Rattle.timetable_arcs.specs.declared.patterns.LastPut.{LastPut}
 use Rattle.timetable_arcs.specs.Trips.{TripLists}
 use Rattle.timetable_arcs.specs.Patterns.{TableLists, plain_table, trip_at, no_run, no_trip, no_call, AreAlike, IsBehind}
 
@@ -57,3 +58,16 @@ pub record MayJoinPattern (t : TableLists) (runs : List Instance) (run : Instanc
 pub record AreCallsBehind (first second : List Call) : Type 0 where
   pub departs_later : (call : ℕ) → call < length first → (slice_index_or first call no_call).dep < (slice_index_or second call no_call).dep
   pub arrives_no_earlier : (call : ℕ) → call < length first → (slice_index_or first call no_call).arr ≤ (slice_index_or second call no_call).arr
+
+-- the calls of the trip at a place are behind those of the trip that is noted, if there is one
+abbrev pub IsBehindNoted : List TripLists → ℕ → Option ℕ → Type 0
+IsBehindNoted trips place noted =
+    (before : ℕ) → noted ≡ Some before → AreCallsBehind (slice_index_or trips before no_trip).calls (slice_index_or trips place no_trip).calls
+
+-- what is kept of a trip none of whose runs was put yet
+abbrev pub nothing_put : LastPut
+nothing_put = record { pattern = 0; before = None }
+
+-- each trip's calls are behind those of the trip that is noted of it, if there is one
+abbrev pub AreLastPuts : List TripLists → List LastPut → Type 0
+AreLastPuts trips puts = (place : ℕ) → IsBehindNoted trips place (slice_index_or puts place nothing_put).before

@@ -2,11 +2,12 @@ use Rattle.std.proofs.Common.{◌≡◌, ℕ, ◌+◌, take}
 use Rattle.std.specs.Prelude.{All, sum_by}
 use Rattle.timetable_arcs.specs.declared.trips.Instance.{Instance}
 use Rattle.timetable_arcs.specs.Patterns.{plain_table}
-use Rattle.timetable_arcs.specs.inside.Sorting.{IsPattern, sum_all, weight_on}
+use Rattle.timetable_arcs.specs.inside.Sorting.{AreLastPuts, IsPattern, sum_all, weight_on}
 use Rattle.timetable_arcs.proofs.patterns.put_day.Given as goal
 
 abbrev pub invariant-loop-trip : goal.invariant-loop-trip
 invariant-loop-trip l = record {
   are : All (IsPattern (plain_table l.given.bases.now l.given.trips.now)) l.patterns.items;
   day : (weight : Instance → ℕ) → sum_all weight l.patterns.items ≡ sum_all weight l.initial.patterns.items + sum_by (weight_on weight l.given.trips.now l.fn.day) (take l.trip-index l.order);
+  noted : AreLastPuts l.given.trips.now l.puts.items;
 }

@@ -2,12 +2,14 @@ use Rattle.std.proofs.Common.{ℕ, ◌+◌, ◌∙◌, ap, sym, arith}
 use Rattle.std.specs.Prelude.{sum_by}
 use Rattle.timetable_arcs.specs.inside.Sorting.{runs_from, weight_on}
 use Rattle.timetable_arcs.proofs.DayRunLemmas.{no_days, day_in_order}
+use Rattle.timetable_arcs.proofs.PatternLemmas.{none_put}
 use Rattle.timetable_arcs.proofs.patterns.sort_into_patterns.Goals as goal
 
 pub loop-day-init : goal.loop-day-init
 loop-day-init c = rw c.new-patterns.ensures.items (record {
   are = λ k d lt. absurd (omega arith);
   each_once = λ weight. sym (ap (sum_by weight) (no_days 0 c.args.trips.now));
+  noted = rw c.in_ok-puts.ensures (none_put c.args.trips.now _);
 })
 
 pub loop-day-preserved : goal.loop-day-preserved
@@ -20,4 +22,5 @@ loop-day-preserved c = record {
       let order = c.deref-in-loop-day.ensures.value in
       one ∙ (ap (λ (n : ℕ). n + sum_by (weight_on weight c.args.trips.now c.loop-day.day) c.deref-in-loop-day.result.now) before
       ∙ (ap (λ xs. sum_by weight (runs_from c.loop-day.day 0 c.args.trips.now) + sum_by (weight_on weight c.args.trips.now c.loop-day.day) xs) order ∙ sym sorted));
+  noted = c.in_ok-put_day.ensures.noted;
 }
