@@ -20,11 +20,11 @@ end_of (Err outcome) = outcome
 
 -- ---- reading
 
--- a line of a file has at most so many bytes
+-- a line of a file that is read line by line has at most so many bytes, and so has a file that is read whole
 abbrev pub most_bytes : ℕ
 most_bytes = 2 ^ 30
 
--- a file that is read whole has at most so many bytes: regions and hierarchies more than others
+-- but regions and hierarchies may have more
 abbrev pub most_of : FileRole → ℕ
 most_of Region = 2 ^ 34
 most_of Hierarchy = 2 ^ 34
