@@ -63,11 +63,11 @@ pub arc_at : (n : NetworkLists) (items : List Arc) (k : ℕ) (d : Arc) → items
 arc_at n items k d same lt = (subst (λ (xs : List Arc). k < length xs) same lt, λ e. subst (λ (xs : List Arc). get_or xs k e ≡ get_or items k d) same (get_or_default items k e d lt))
 
 -- nothing is entered yet
-pub no_arcs : (n : NetworkLists) (layer : Layer) → IsNetwork n → layer.order.items ≡ [] → layer.entries.items ≡ [] → layer.walks.items ≡ [] → AreEmptyLists (length (network_nodes n)) layer.rows.items → AreEmptyLists (length (network_nodes n)) layer.into.items
+pub no_arcs : (n : NetworkLists) (layer : Layer) → IsNetwork n → layer.order.items ≡ [] → layer.entries.items ≡ [] → layer.witnesses ≡ [] → AreEmptyLists (length (network_nodes n)) layer.rows.items → AreEmptyLists (length (network_nodes n)) layer.into.items
     → AreArcs n 0 layer
-no_arcs n layer network order entries walks rows lists = record {
+no_arcs n layer network order entries witnesses rows lists = record {
   order = order;
-  walks = walks;
+  witnesses = witnesses;
   count = rows.count_is;
   layer = record {
     few = (let few = network.few_nodes in omega (arith, rows.count_is));
@@ -101,7 +101,7 @@ module _ (n : NetworkLists) (network : IsNetwork n) (k : ℕ) (arc : Arc) (lt : 
   pub arcs_more : IsEntryPlaced old new (entry_of arc) → AreArcs n (k + 1) new
   arcs_more p = record {
     order = p.order ∙ are.order;
-    walks = p.walks ∙ are.walks;
+    witnesses = p.witnesses ∙ are.witnesses;
     count = p.listed.count ∙ are.count;
     layer = put_layer [] old are.layer (entry_of arc) p.number refl refl new p.entered fits p.listed;
     are = λ f there. elim (put.made f there) [
@@ -156,7 +156,7 @@ begun n layer k network all are = record {
     apart = are.layer.apart;
   };
   layer = subst (λ o. IsLayer o layer) (sym are.order) are.layer;
-  walks = subst (λ ws. AreWalks layer.order.items 0 [] 0 ws) (sym are.walks) (record { apart = λ i j d lt low. absurd (omega arith); fit = λ j d low. absurd (omega arith); each = λ j d low. absurd (omega arith) });
+  walks = subst (λ ws. AreWalks layer.order.items 0 [] 0 ws) (sym are.witnesses) (record { apart = λ i j d lt low. absurd (omega arith); fit = λ j d low. absurd (omega arith); each = λ j d low. absurd (omega arith) });
 } where
   made_none : (e : Entry) → e.via ≡ None → Leads n.arcs e.from e.to e.weight → IsMade n (lists_of layer) e
   made_none e none leads = subst (IsMadeBy n (lists_of layer) e) (sym none) leads

@@ -3,7 +3,7 @@ use Rattle.std.proofs.Common.{◌≡◌, ◌≢◌, ℕ, suc, ◌+◌, ◌-◌, 
 use Rattle.std.specs.Prelude.{All, AllPairs, Contains, Vec, slice_get}
 use Rattle.std.specs.declared.alloc.Global.{Global}
 use Rattle.std.proofs.lemmas.Bool.{cases_order}
-use Rattle.std.proofs.lemmas.List.{length_push, map_push}
+use Rattle.std.proofs.lemmas.List.{length_push}
 use Rattle.std.proofs.lemmas.List.Elements.{All-contains, All-push, All-cons, Contains-get_or}
 use Rattle.std.proofs.lemmas.List.Quantifiers.{all_pairs_push}
 use Rattle.mode_network.specs.NetworkLists.{NetworkLists}
@@ -11,6 +11,7 @@ use Rattle.mode_network.specs.Rules.{IsNetwork}
 use Rattle.hierarchy.specs.declared.entry.Entry.{Entry}
 use Rattle.hierarchy.specs.Hops.{Hop, AreHops, total, nodes_along}
 use Rattle.hierarchy.specs.Lists.{HierarchyLists, WitnessLists, IsCore, IsContracted, first_of, last_of}
+use Rattle.hierarchy.specs.Rules.{FitsWitness}
 use Rattle.hierarchy.specs.Soundness.{HasEntry, HasLighter, IsSound, IsFree}
 use Rattle.hierarchy.proofs.HopLemmas.{hops_weaker}
 use Rattle.hierarchy.proofs.SoundLemmas.{fits}
@@ -20,10 +21,9 @@ use Rattle.witness.specs.declared.workspace.Workspace.{Workspace}
 use Rattle.witness.specs.Rows.{row_at, HasEdge, AreEdgeRows, IsWalkWithin, NoWalkWithin}
 use Rattle.witness.specs.inside.Searching.{IsSearch, NobodyBusy}
 use Rattle.contractor.specs.declared.way.Way.{Way}
-use Rattle.contractor.specs.declared.way.Walk.{Walk}
 use Rattle.contractor.specs.declared.layer.Layer.{Layer}
 use Rattle.contractor.specs.inside.Partway.{IsGood, IsLive, IsWayPast, AreWays, IsPartway, IsPut, shortcut_of, HaveOtherEnds, HaveOtherWays, IsTrueWeight}
-use Rattle.contractor.specs.inside.Layers.{IsLayer, StandsForEntry, FitsRows, CanPut, lists_of, lists_with, witness_of, HaveOtherKeys, IsWitnessWalk, IsForWay, AreWalks, IsState, IsBridging, IsEndOf, IsSearchFor, HasWithin, IsInRows, AreFirst, AreSecond, AreWaysOf, into_at}
+use Rattle.contractor.specs.inside.Layers.{IsLayer, StandsForEntry, FitsRows, CanPut, lists_of, lists_with, HaveOtherKeys, IsForWay, AreWalks, IsState, IsBridging, IsEndOf, IsSearchFor, HasWithin, IsInRows, AreFirst, AreSecond, AreWaysOf, into_at}
 use Rattle.contractor.specs.declared.way.Side.{Side}
 use Rattle.contractor.proofs.WayLemmas.{are_ways}
 use Rattle.contractor.proofs.ListLemmas.{place_of, contains_place}
@@ -83,23 +83,23 @@ module _ (order : List ℕ) (layer : Layer) (is : IsLayer order layer) where
 
 -- ---- walks
 
-module _ (order : List ℕ) (x : ℕ) (ways : List Way) (k : ℕ) (walks : List Walk) (core : IsCore order x) (are : AreWalks order x ways k walks) where
-  later : (walk : Walk) → IsContracted order walk.below ⊎ ((walk.below ≡ x) × IsForWay ways k walk) → IsContracted order walk.below ⊎ ((walk.below ≡ x) × IsForWay ways (k + 1) walk)
+module _ (order : List ℕ) (x : ℕ) (ways : List Way) (k : ℕ) (walks : List WitnessLists) (core : IsCore order x) (are : AreWalks order x ways k walks) where
+  later : (walk : WitnessLists) → IsContracted order walk.below ⊎ ((walk.below ≡ x) × IsForWay ways k walk) → IsContracted order walk.below ⊎ ((walk.below ≡ x) × IsForWay ways (k + 1) walk)
   later walk (inl low) = inl low
   later walk (inr it) = let f = it.1 in inr (it.0, record { place = f.place; before = (let lt = f.before in omega arith); first = f.first; last = f.last })
 
   pub walks_stay : AreWalks order x ways (k + 1) walks
   walks_stay = record { apart = are.apart; fit = are.fit; each = λ j d low. later (get_or walks j d) (are.each j d low) }
 
-  pub walks_more : AllPairs HaveOtherWays ways → k < length ways → (walk : Walk) → walk.below ≡ x → ((d : Way) → (get_or ways k d).from ≡ walk.first) → ((d : Way) → (get_or ways k d).to ≡ walk.last) → IsWitnessWalk walk
+  pub walks_more : AllPairs HaveOtherWays ways → k < length ways → (walk : WitnessLists) → walk.below ≡ x → ((d : Way) → (get_or ways k d).from ≡ first_of walk.nodes) → ((d : Way) → (get_or ways k d).to ≡ last_of walk.nodes) → FitsWitness walk
       → AreWalks order x ways (k + 1) (walks ++ walk ∷ [])
   walks_more other lt walk below first last fits = record {
     apart = all_pairs_push HaveOtherKeys walks walk are.apart (λ j d low. differs j d low);
-    fit = All-push IsWitnessWalk walks walk are.fit fits;
-    each = All-push (λ (w : Walk). IsContracted order w.below ⊎ ((w.below ≡ x) × IsForWay ways (k + 1) w)) walks walk walks_stay.each
+    fit = All-push FitsWitness walks walk are.fit fits;
+    each = All-push (λ (w : WitnessLists). IsContracted order w.below ⊎ ((w.below ≡ x) × IsForWay ways (k + 1) w)) walks walk walks_stay.each
         (inr (below, record { place = k; before = omega arith; first = first; last = last }));
   } where
-    differs : (j : ℕ) (d : Walk) → j < length walks → HaveOtherKeys (get_or walks j d) walk
+    differs : (j : ℕ) (d : WitnessLists) → j < length walks → HaveOtherKeys (get_or walks j d) walk
     differs j d low same_below same_first same_last = elim (are.each j d low) [
       | inl contracted ↦ (let now : IsContracted order x = subst (IsContracted order) (same_below ∙ below) contracted in omega arith)
       | inr it ↦ (let f = it.1 in
@@ -108,7 +108,7 @@ module _ (order : List ℕ) (x : ℕ) (ways : List Way) (k : ℕ) (walks : List 
     ]
 
 -- all are for contracted nodes, once x is one
-pub walks_end : (order : List ℕ) (x : ℕ) (ways : List Way) (k : ℕ) (walks : List Walk) → IsCore order x → AreWalks order x ways k walks → AreWalks (order ++ x ∷ []) 0 [] 0 walks
+pub walks_end : (order : List ℕ) (x : ℕ) (ways : List Way) (k : ℕ) (walks : List WitnessLists) → IsCore order x → AreWalks order x ways k walks → AreWalks (order ++ x ∷ []) 0 [] 0 walks
 walks_end order x ways k walks core are = record {
   apart = are.apart;
   fit = are.fit;
@@ -119,7 +119,7 @@ walks_end order x ways k walks core are = record {
 }
 
 -- before the first way
-pub walks_begin : (order : List ℕ) (x : ℕ) (ways : List Way) (walks : List Walk) → AreWalks order 0 [] 0 walks → AreWalks order x ways 0 walks
+pub walks_begin : (order : List ℕ) (x : ℕ) (ways : List Way) (walks : List WitnessLists) → AreWalks order 0 [] 0 walks → AreWalks order x ways 0 walks
 walks_begin order x ways walks are = record {
   apart = are.apart;
   fit = are.fit;
@@ -147,25 +147,25 @@ last_is : (rows : List (Vec Edge Global)) (hops : List Hop) (u v : ℕ) → AreH
 last_is rows [] u v walk = sym walk
 last_is rows (hop ∷ hops) u v (edge, walk) = last_more u hop.to (map (λ (h : Hop). h.to) hops) ∙ last_is rows hops hop.to v walk
 
-pub walk_fits : (rows : List (Vec Edge Global)) (u v limit : ℕ) (walk : Walk) → AreEdgeRows rows → u < length rows → u ≢ v → walk.first ≡ u → walk.last ≡ v → IsWalkWithin rows u v limit walk.nodes.items → IsWitnessWalk walk
-walk_fits rows u v limit walk are inside differ first last w = record {
+pub walk_fits : (rows : List (Vec Edge Global)) (x u v limit : ℕ) (nodes : List ℕ) → AreEdgeRows rows → x < length rows → u < length rows → u ≢ v → IsWalkWithin rows u v limit nodes → FitsWitness (record { below = x; nodes = nodes })
+walk_fits rows x u v limit nodes are low inside differ w = record {
+  below = (let few = are.few in omega arith);
   nodes = subst (λ ns. All (λ y. y < 2 ^ 24) ns) (sym w.are) (walk_nodes rows are w.hops u v w.walk (let few = are.few in omega arith));
   is_walk = subst (λ ns. 2 ≤ length ns) (sym w.are) (two w.hops w.walk);
-  first = first ∙ sym (ap first_of w.are);
-  last = last ∙ sym (ap last_of w.are ∙ last_is rows w.hops u v w.walk);
 } where
   two : (hops : List Hop) → AreHops (HasEdge rows) u hops v → 2 ≤ length (nodes_along u hops)
   two [] walk = absurd (differ (sym walk))
   two (hop ∷ hops) walk = omega arith
 
--- the ends of a way have rows
-pub record FitsSearch (nodes : ℕ) (way : Way) : Type 0 where
+-- x and the ends of a way by it have rows
+pub record FitsSearch (nodes x : ℕ) (way : Way) : Type 0 where
+  pub node : x < nodes
   pub from : way.from < nodes
   pub to : way.to < nodes
   pub positive : 0 < way.sum
   pub light : way.sum < 2 ^ 57
 
-way_fits : (h : HierarchyLists) (x nodes : ℕ) (way : Way) → IsWayPast h x way → All (FitsRows nodes) h.entries → FitsSearch nodes way
+way_fits : (h : HierarchyLists) (x nodes : ℕ) (way : Way) → IsWayPast h x way → All (FitsRows nodes) h.entries → FitsSearch nodes x way
 way_fits h x nodes way w fit =
     let a = fit_of way.from x way.first w.is_first in
     let b = fit_of x way.to w.second w.is_second in
@@ -173,7 +173,7 @@ way_fits h x nodes way w fit =
     let p = a.light in
     let q = b.light in
     let r = a.positive in
-    record { from = a.from; to = b.to; positive = omega arith; light = omega arith }
+    record { node = a.to; from = a.from; to = b.to; positive = omega arith; light = omega arith }
   where
     fit_of : (u v w : ℕ) (has : HasEntry h.entries u v w) → FitsRows nodes (record { from = u; to = v; weight = w; via = has.0 })
     fit_of u v w has = All-contains (FitsRows nodes) h.entries (record { from = u; to = v; weight = w; via = has.0 }) fit has.1
@@ -188,7 +188,7 @@ module _ (n : NetworkLists) (x : ℕ) (ways : List Way) (k : ℕ) (old : Layer) 
   abbrev here : IsWayPast h x way
   here = subst (IsWayPast h x) (is way) (state.are.each k way lt)
 
-  pub inside : FitsSearch (length old.rows.items) way
+  pub inside : FitsSearch (length old.rows.items) x way
   inside = way_fits h x (length old.rows.items) way here state.fit
 
   from_is : way.from ≢ x
@@ -216,49 +216,39 @@ module _ (n : NetworkLists) (x : ℕ) (ways : List Way) (k : ℕ) (old : Layer) 
       light = light n h x ways k (lists_with x old) network state.good.sound state.core state.are state.partway way lt is no_live;
     }
 
-    pub shortcut_more : (new : Layer) → length new.rows.items ≡ length old.rows.items → new.order.items ≡ old.order.items → new.walks.items ≡ old.walks.items → IsPut old.entries.items new.entries.items (shortcut_of x way) → IsLayer (old.order.items ++ x ∷ []) new → IsBridging n x ways (k + 1) new
-    shortcut_more new count order walks put layer = record {
+    pub shortcut_more : (new : Layer) → length new.rows.items ≡ length old.rows.items → new.order.items ≡ old.order.items → new.witnesses ≡ old.witnesses → IsPut old.entries.items new.entries.items (shortcut_of x way) → IsLayer (old.order.items ++ x ∷ []) new → IsBridging n x ways (k + 1) new
+    shortcut_more new count order witnesses put layer = record {
       before = h;
       good = state.good;
       fit = subst (λ m. All (FitsRows m) h.entries) (sym count) state.fit;
       core = state.core;
       are = state.are;
       order = order ∙ state.order;
-      partway = by_shortcut n h x ways k (lists_with x old) network state.good.sound state.core state.are state.partway way lt is no_live (lists_with x new) (ap (λ o. o ++ x ∷ []) order) (ap (map witness_of) walks) put;
+      partway = by_shortcut n h x ways k (lists_with x old) network state.good.sound state.core state.are state.partway way lt is no_live (lists_with x new) (ap (λ o. o ++ x ∷ []) order) witnesses put;
       layer = subst (λ o. IsLayer (o ++ x ∷ []) new) (sym order) layer;
-      walks = subst (λ o. AreWalks o x ways (k + 1) new.walks.items) (sym order) (subst (λ ws. AreWalks old.order.items x ways (k + 1) ws) (sym walks)
-          (walks_stay old.order.items x ways k old.walks.items (subst (λ o. IsCore o x) (sym state.order) state.core) state.walks));
+      walks = subst (λ o. AreWalks o x ways (k + 1) new.witnesses) (sym order) (subst (λ ws. AreWalks old.order.items x ways (k + 1) ws) (sym witnesses)
+          (walks_stay old.order.items x ways k old.witnesses (subst (λ o. IsCore o x) (sym state.order) state.core) state.walks));
     }
 
-  pub witness_more : (new : Layer) (walk : Walk) → new ≡ record old { walks = new.walks } → new.walks.items ≡ old.walks.items ++ walk ∷ [] → walk.below ≡ x → walk.first ≡ way.from → walk.last ≡ way.to
-      → IsWalkWithin old.rows.items way.from way.to way.sum walk.nodes.items → IsBridging n x ways (k + 1) new
-  witness_more new walk others walks below first last found = record {
+  pub witness_more : (witnesses : List WitnessLists) (nodes : List ℕ) → witnesses ≡ old.witnesses ++ record { below = x; nodes = nodes } ∷ [] → IsWalkWithin old.rows.items way.from way.to way.sum nodes
+      → IsBridging n x ways (k + 1) (record old { witnesses = witnesses })
+  witness_more witnesses nodes more found = record {
     before = h;
     good = state.good;
-    fit = subst (λ m. All (FitsRows m) h.entries) (sym (ap (λ (l : Layer). length l.rows.items) others)) state.fit;
+    fit = state.fit;
     core = state.core;
     are = state.are;
-    order = order ∙ state.order;
+    order = state.order;
     partway = by_witness n h x ways k (lists_with x old) network state.good.sound state.core state.are state.partway way lt is found.hops
-        (walk_live (old.order.items ++ x ∷ []) old state.layer (lists_with x old) refl refl found.hops way.from way.to found.walk) found.within (lists_with x new) (ap (λ o. o ++ x ∷ []) order) entries
-        (ap (map witness_of) walks ∙ map_push witness_of old.walks.items walk ∙ ap (λ w. map witness_of old.walks.items ++ w ∷ []) witness);
-    layer = subst (λ o. IsLayer (o ++ x ∷ []) new) (sym order) (subst (IsLayer (old.order.items ++ x ∷ [])) (sym others) (same_layer state.layer));
-    walks = subst (λ o. AreWalks o x ways (k + 1) new.walks.items) (sym order) (subst (λ ws. AreWalks old.order.items x ways (k + 1) ws) (sym walks)
-        (walks_more old.order.items x ways k old.walks.items (subst (λ o. IsCore o x) (sym state.order) state.core) state.walks state.are.apart lt walk below (λ d. ap (λ (w : Way). w.from) (is d) ∙ sym first) (λ d. ap (λ (w : Way). w.to) (is d) ∙ sym last)
-        (walk_fits old.rows.items way.from way.to way.sum walk (rows_are (old.order.items ++ x ∷ []) old state.layer) inside.from here.differ first last found)));
+        (walk_live (old.order.items ++ x ∷ []) old state.layer (lists_with x old) refl refl found.hops way.from way.to found.walk) found.within (lists_with x (record old { witnesses = witnesses })) refl refl
+        (more ∙ ap (λ ns. old.witnesses ++ record { below = x; nodes = ns } ∷ []) found.are);
+    layer = same_layer state.layer;
+    walks = subst (λ ws. AreWalks old.order.items x ways (k + 1) ws) (sym more)
+        (walks_more old.order.items x ways k old.witnesses (subst (λ o. IsCore o x) (sym state.order) state.core) state.walks state.are.apart lt (record { below = x; nodes = nodes }) refl
+        (λ d. ap (λ (w : Way). w.from) (is d) ∙ sym (ap first_of found.are)) (λ d. ap (λ (w : Way). w.to) (is d) ∙ sym (ap last_of found.are ∙ last_is old.rows.items found.hops way.from way.to found.walk))
+        (walk_fits old.rows.items x way.from way.to way.sum nodes (rows_are (old.order.items ++ x ∷ []) old state.layer) inside.node inside.from here.differ found));
   } where
-    order : new.order.items ≡ old.order.items
-    order = ap (λ (l : Layer). l.order.items) others
-
-    entries : new.entries.items ≡ old.entries.items
-    entries = ap (λ (l : Layer). l.entries.items) others
-
-    witness : witness_of walk ≡ record { below = x; nodes = nodes_along way.from found.hops }
-    witness = ap (λ b. listed_walk b walk.nodes.items) below ∙ ap (λ ns. listed_walk x ns) found.are where
-      listed_walk : ℕ → List ℕ → WitnessLists
-      listed_walk b ns = record { below = b; nodes = ns }
-
-    same_layer : IsLayer (old.order.items ++ x ∷ []) old → IsLayer (old.order.items ++ x ∷ []) (record old { walks = new.walks })
+    same_layer : IsLayer (old.order.items ++ x ∷ []) old → IsLayer (old.order.items ++ x ∷ []) (record old { witnesses = witnesses })
     same_layer l = record { few = l.few; count = l.count; fit = l.fit; apart = l.apart; listed = l.listed; all = l.all; into_fit = l.into_fit }
 
 -- the search goes as far as the last way from its start, and so for each of them
@@ -280,7 +270,7 @@ search_for n x ways k old state place end j d is le lt w search start most = rec
 
 -- ---- the begin and the end
 
-pub bridging_begins : (n : NetworkLists) (h : HierarchyLists) (x : ℕ) (ways : List Way) (layer : Layer) → IsGood n h → h ≡ lists_of layer → IsCore h.order x → AreWays h x ways → IsLayer (layer.order.items ++ x ∷ []) layer → AreWalks layer.order.items 0 [] 0 layer.walks.items
+pub bridging_begins : (n : NetworkLists) (h : HierarchyLists) (x : ℕ) (ways : List Way) (layer : Layer) → IsGood n h → h ≡ lists_of layer → IsCore h.order x → AreWays h x ways → IsLayer (layer.order.items ++ x ∷ []) layer → AreWalks layer.order.items 0 [] 0 layer.witnesses
     → IsBridging n x ways 0 layer
 bridging_begins n h x ways layer good same core are is walks = record {
   before = h;
@@ -291,23 +281,23 @@ bridging_begins n h x ways layer good same core are is walks = record {
   order = sym (ap (λ (l : HierarchyLists). l.order) same);
   partway = subst (λ (g : HierarchyLists). IsPartway n g x ways 0 (lists_with x layer)) (sym same) (partway_begins n (lists_of layer) x ways (subst (λ (g : HierarchyLists). All (IsTrueWeight n) g.entries) same good.true_weights));
   layer = is;
-  walks = walks_begin layer.order.items x ways layer.walks.items walks;
+  walks = walks_begin layer.order.items x ways layer.witnesses walks;
 }
 
 pub contracted : (n : NetworkLists) (x : ℕ) (ways : List Way) (layer new : Layer) → IsFree n x → IsBridging n x ways (length ways) layer
-    → new.order.items ≡ layer.order.items ++ x ∷ [] → new.entries.items ≡ layer.entries.items → new.walks.items ≡ layer.walks.items → new.rows.items ≡ layer.rows.items → new.into.items ≡ layer.into.items → IsState n new
-contracted n x ways layer new free state order entries walks rows into = record {
+    → new.order.items ≡ layer.order.items ++ x ∷ [] → new.entries.items ≡ layer.entries.items → new.witnesses ≡ layer.witnesses → new.rows.items ≡ layer.rows.items → new.into.items ≡ layer.into.items → IsState n new
+contracted n x ways layer new free state order entries witnesses rows into = record {
   good = record {
     sound = subst (IsSound n) (sym lists) (partway_ends n state.before x ways (length ways) (lists_with x layer) state.good.sound state.core free state.are (omega arith) state.partway);
     true_weights = subst (λ es. All (IsTrueWeight n) es) (sym entries) state.partway.true_weights;
     apart = subst (λ es. AllPairs HaveOtherEnds es) (sym entries) state.layer.apart;
   };
   layer = subst (λ o. IsLayer o new) (sym order) (moved state.layer);
-  walks = subst (λ o. AreWalks o 0 [] 0 new.walks.items) (sym order) (subst (λ ws. AreWalks (layer.order.items ++ x ∷ []) 0 [] 0 ws) (sym walks)
-      (walks_end layer.order.items x ways (length ways) layer.walks.items (subst (λ o. IsCore o x) (sym state.order) state.core) state.walks));
+  walks = subst (λ o. AreWalks o 0 [] 0 new.witnesses) (sym order) (subst (λ ws. AreWalks (layer.order.items ++ x ∷ []) 0 [] 0 ws) (sym witnesses)
+      (walks_end layer.order.items x ways (length ways) layer.witnesses (subst (λ o. IsCore o x) (sym state.order) state.core) state.walks));
 } where
   lists : lists_of new ≡ lists_with x layer
-  lists = ap (λ o. made o new.entries.items (map witness_of new.walks.items)) order ∙ ap (λ es. made (layer.order.items ++ x ∷ []) es (map witness_of new.walks.items)) entries ∙ ap (λ ws. made (layer.order.items ++ x ∷ []) layer.entries.items (map witness_of ws)) walks where
+  lists = ap (λ o. made o new.entries.items new.witnesses) order ∙ ap (λ es. made (layer.order.items ++ x ∷ []) es new.witnesses) entries ∙ ap (λ ws. made (layer.order.items ++ x ∷ []) layer.entries.items ws) witnesses where
     made : List ℕ → List Entry → List WitnessLists → HierarchyLists
     made o es ws = record { order = o; entries = es; witnesses = ws }
 
@@ -325,7 +315,7 @@ contracted n x ways layer new free state order entries walks rows into = record 
 
 -- ---- after a node was cut out
 
-module _ (n : NetworkLists) (old new : Layer) (x : ℕ) (state : IsState n old) (order : new.order.items ≡ old.order.items) (entries : new.entries.items ≡ old.entries.items) (walks : new.walks.items ≡ old.walks.items)
+module _ (n : NetworkLists) (old new : Layer) (x : ℕ) (state : IsState n old) (order : new.order.items ≡ old.order.items) (entries : new.entries.items ≡ old.entries.items) (witnesses : new.witnesses ≡ old.witnesses)
     (layer : IsLayer (old.order.items ++ x ∷ []) new) where
   fits_now : (u v w : ℕ) (has : HasEntry old.entries.items u v w) → FitsRows (length new.rows.items) (record { from = u; to = v; weight = w; via = has.0 })
   fits_now u v w has = fits_entry (old.order.items ++ x ∷ []) new layer (record { from = u; to = v; weight = w; via = has.0 }) (subst (λ es. Contains es (record { from = u; to = v; weight = w; via = has.0 })) (sym entries) has.1)
@@ -351,8 +341,8 @@ module _ (n : NetworkLists) (old new : Layer) (x : ℕ) (state : IsState n old) 
 
   pub bridging_now : (ways : List Way) → IsCore old.order.items x → AreWays (lists_of new) x ways → IsBridging n x ways 0 new
   bridging_now ways core are = bridging_begins n (lists_of new) x ways new good refl (subst (λ o. IsCore o x) (sym order) core) are (subst (λ o. IsLayer (o ++ x ∷ []) new) (sym order) layer)
-      (subst (λ o. AreWalks o 0 [] 0 new.walks.items) (sym order) (subst (λ ws. AreWalks old.order.items 0 [] 0 ws) (sym walks) state.walks)) where
+      (subst (λ o. AreWalks o 0 [] 0 new.witnesses) (sym order) (subst (λ ws. AreWalks old.order.items 0 [] 0 ws) (sym witnesses) state.walks)) where
         good : IsGood n (lists_of new)
-        good = subst (λ o. IsGood n (record { order = o; entries = new.entries.items; witnesses = map witness_of new.walks.items })) (sym order)
-            (subst (λ es. IsGood n (record { order = old.order.items; entries = es; witnesses = map witness_of new.walks.items })) (sym entries)
-            (subst (λ (ws : List Walk). IsGood n (record { order = old.order.items; entries = old.entries.items; witnesses = map witness_of ws })) (sym walks) state.good))
+        good = subst (λ o. IsGood n (record { order = o; entries = new.entries.items; witnesses = new.witnesses })) (sym order)
+            (subst (λ es. IsGood n (record { order = old.order.items; entries = es; witnesses = new.witnesses })) (sym entries)
+            (subst (λ ws. IsGood n (record { order = old.order.items; entries = old.entries.items; witnesses = ws })) (sym witnesses) state.good))

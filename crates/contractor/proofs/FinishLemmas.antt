@@ -1,33 +1,29 @@
 -- The lists of a hierarchy in order.
-use Rattle.std.proofs.Common.{◌≡◌, ℕ, zero, ◌+◌, ◌<◌, ◌⊎◌, inl, inr, true, false, List, ◌∙◌, ap, [], ◌∷◌, length, map, get_or, Some, None, refl, sym, subst, arith, Ordering}
-use Rattle.std.specs.Prelude.{Option, All, AllPairs, Contains, IfSome, IsPermutation}
+use Rattle.std.proofs.Common.{◌≡◌, ℕ, ◌+◌, ◌<◌, inl, inr, true, false, List, ◌∙◌, ap, length, get_or, Some, None, refl, sym, subst, arith, Ordering}
+use Rattle.std.specs.Prelude.{Option, All, AllPairs, Contains, IfSome, IsPermutation, IsSorted}
 use Rattle.std.specs.Cmp.{IsTotalOrder}
 use Rattle.std.proofs.lemmas.Cmp.{eq_by_cmp_equiv}
-use Rattle.std.specs.Ordering.{is_lt, is_eq, eq_by_cmp, nat_cmp, ordering_reverse, ordering_then}
+use Rattle.std.specs.Ordering.{is_lt, is_eq, eq_by_cmp, ordering_reverse}
 use Rattle.std.specs.declared.cmp.Ordering.TheVariants.{Less, Equal, Greater}
 use Rattle.std.proofs.lemmas.Bool.{cases_Bool, false≢true}
 use Rattle.std.proofs.lemmas.Bool.Decides.{nat_tests}
-use Rattle.std.proofs.lemmas.Cmp.{then_total, on_total, nat_cmp_total}
-use Rattle.std.proofs.lemmas.List.{get_or-map, length-map}
-use Rattle.std.proofs.lemmas.List.Elements.{All-contains, All-map, Contains-get_or}
-use Rattle.std.proofs.lemmas.List.Sorted.{sorted_far, ranks_by, All-permutation, Contains-permutation, IsPermutation-sym, IsPermutation-map}
+use Rattle.std.proofs.lemmas.List.Elements.{All-contains, Contains-get_or}
+use Rattle.std.proofs.lemmas.List.Sorted.{sorted_far, ranks_by, All-permutation, Contains-permutation, IsPermutation-sym}
 use Rattle.std.proofs.lemmas.Map.Keys.{IsDistinct-from_apart, IsDistinct-IsPermutation, apart_from_distinct}
 use Rattle.plan_base.specs.declared.modes.Mode.{Mode}
 use Rattle.mode_network.specs.NetworkLists.{NetworkLists, mode_at}
-use Rattle.mode_network.specs.Rules.{IsAscending, IsNetwork}
+use Rattle.mode_network.specs.Rules.{IsNetwork}
 use Rattle.mode_network.proofs.RuleLemmas.{mode_inside, nodes_hold_roads}
 use Rattle.hierarchy.specs.declared.entry.Entry.{Entry}
 use Rattle.hierarchy.specs.Hops.{AreHigh, total, nodes_along}
-use Rattle.hierarchy.specs.Lists.{HierarchyLists, WitnessLists, height_in, IsContracted, first_of, last_of}
+use Rattle.hierarchy.specs.Lists.{HierarchyLists, WitnessLists, height_in, first_of, last_of}
 use Rattle.hierarchy.specs.Rules.{IsHierarchy, IsNode, FitsWitness, entry_cmp, witness_cmp}
 use Rattle.hierarchy.specs.Soundness.{HasEntry, IsBridged, FitsLayer, IsMade, IsMadeBy, NodeIsBridged, PairsAreBridged, PairIsBridged, HoldsBelow, MayStandAt, IsSound}
 use Rattle.hierarchy.proofs.HopLemmas.{hops_weaker}
-use Rattle.hierarchy.proofs.LookupLemmas.{entry_total}
-use Rattle.hierarchy.proofs.SoundLemmas.{contracted_free}
-use Rattle.contractor.specs.declared.way.Walk.{Walk}
+use Rattle.hierarchy.proofs.LookupLemmas.{entry_total, witness_total}
 use Rattle.contractor.specs.declared.layer.Layer.{Layer}
 use Rattle.contractor.specs.inside.Partway.{HaveOtherEnds, IsTrueWeight}
-use Rattle.contractor.specs.inside.Layers.{IsState, lists_of, witness_of, HaveOtherKeys, IsWitnessWalk, IsForWay, walk_cmp, AreInOrder, IsFinished}
+use Rattle.contractor.specs.inside.Layers.{IsState, lists_of, HaveOtherKeys, IsFinished}
 
 -- ---- soundness is of the elements, not of their order
 
@@ -84,11 +80,11 @@ module _ (n : NetworkLists) (h h2 : HierarchyLists) (order : h2.order ≡ h.orde
 
 -- ---- sorted, and no two alike
 
-ascends : {X : Type 0} (cmp : X → X → Ordering) → IsTotalOrder cmp → (Apart : X → X → Type 0) → ((a b : X) → eq_by_cmp cmp a b ≡ true → Apart a b → ⊥) → (old new : List X) → AllPairs Apart old → AreInOrder cmp old new
+ascends : {X : Type 0} (cmp : X → X → Ordering) → IsTotalOrder cmp → (Apart : X → X → Type 0) → ((a b : X) → eq_by_cmp cmp a b ≡ true → Apart a b → ⊥) → (old new : List X) → AllPairs Apart old → IsPermutation old new → IsSorted cmp new
     → AllPairs (λ a b. cmp a b ≡ Less) new
-ascends {X} cmp total Apart differ old new apart are = λ i j d lt low. strict (cmp (get_or new i d) (get_or new j d)) (cmp (get_or new j d) (get_or new i d)) (total.antisymm (get_or new j d) (get_or new i d))
-    (sorted_far (λ x y. is_lt (cmp x y)) (ranks_by total (λ x. x)) new are.sorted i j d (omega arith) low)
-    (apart_from_distinct (eq_by_cmp cmp) new i j d (IsDistinct-IsPermutation (eq_by_cmp cmp) (eq_by_cmp_equiv total).symm old new are.moved (IsDistinct-from_apart (eq_by_cmp cmp) old untied)) lt low)
+ascends {X} cmp total Apart differ old new apart moved sorted = λ i j d lt low. strict (cmp (get_or new i d) (get_or new j d)) (cmp (get_or new j d) (get_or new i d)) (total.antisymm (get_or new j d) (get_or new i d))
+    (sorted_far (λ x y. is_lt (cmp x y)) (ranks_by total (λ x. x)) new sorted i j d (omega arith) low)
+    (apart_from_distinct (eq_by_cmp cmp) new i j d (IsDistinct-IsPermutation (eq_by_cmp cmp) (eq_by_cmp_equiv total).symm old new moved (IsDistinct-from_apart (eq_by_cmp cmp) old untied)) lt low)
   where
     untied : (i j : ℕ) (d : X) → i < j → j < length old → eq_by_cmp cmp (get_or old i d) (get_or old j d) ≡ false
     untied i j d lt low = elim (cases_Bool (eq_by_cmp cmp (get_or old i d) (get_or old j d))) [
@@ -104,87 +100,44 @@ ascends {X} cmp total Apart differ old new apart are = λ i j d lt low. strict (
 ends_differ : (a b : Entry) → eq_by_cmp entry_cmp a b ≡ true → HaveOtherEnds a b → ⊥
 ends_differ a b tied apart = let from : a.from ≡ b.from = grind (arith, nat_tests) in let to : a.to ≡ b.to = grind (arith, nat_tests) in apart from to
 
-walk_total : IsTotalOrder walk_cmp
-walk_total = then_total (then_total (on_total (λ (w : Walk). w.below) nat_cmp_total) (on_total (λ (w : Walk). w.first) nat_cmp_total)) (on_total (λ (w : Walk). w.last) nat_cmp_total)
-
-keys_differ : (a b : Walk) → eq_by_cmp walk_cmp a b ≡ true → HaveOtherKeys a b → ⊥
+keys_differ : (a b : WitnessLists) → eq_by_cmp witness_cmp a b ≡ true → HaveOtherKeys a b → ⊥
 keys_differ a b tied apart =
     let below : a.below ≡ b.below = grind (arith, nat_tests) in
-    let first : a.first ≡ b.first = grind (arith, nat_tests) in
-    let last : a.last ≡ b.last = grind (arith, nat_tests) in
+    let first : first_of a.nodes ≡ first_of b.nodes = grind (arith, nat_tests) in
+    let last : last_of a.nodes ≡ last_of b.nodes = grind (arith, nat_tests) in
     apart below first last
-
-first_place : {X : Type 0} (xs : List X) → 0 < length xs → (x : X) × Contains xs x
-first_place [] lt = absurd (omega arith)
-first_place (x ∷ xs) lt = (x, (zero, (omega arith), refl))
 
 -- ---- the whole
 
-module _ (n : NetworkLists) (layer : Layer) (network : IsNetwork n) (state : IsState n layer) (entries : List Entry) (walks : List Walk) (entries_in_order : AreInOrder entry_cmp layer.entries.items entries) (walks_in_order : AreInOrder walk_cmp layer.walks.items walks)
-    (witnesses : List WitnessLists) (are : witnesses ≡ map witness_of walks) where
+module _ (n : NetworkLists) (layer : Layer) (state : IsState n layer) (entries : List Entry) (entries_moved : IsPermutation layer.entries.items entries) (witnesses : List WitnessLists) (witnesses_moved : IsPermutation layer.witnesses witnesses) where
   abbrev h : HierarchyLists
   h = record { order = layer.order.items; entries = entries; witnesses = witnesses }
 
   sound : IsSound n h
-  sound = sound_moved n (lists_of layer) h refl entries_in_order.moved
-      (subst (λ ws. IsPermutation (map witness_of layer.walks.items) ws) (sym are) (IsPermutation-map witness_of layer.walks.items walks walks_in_order.moved)) state.good.sound
+  sound = sound_moved n (lists_of layer) h refl entries_moved witnesses_moved state.good.sound
 
   pub finished : IsFinished n layer.order.items h
-  finished = record { sound = sound; order_is = refl; true_weights = All-permutation (IsTrueWeight n) layer.entries.items entries entries_in_order.moved state.good.true_weights }
+  finished = record { sound = sound; order_is = refl; true_weights = All-permutation (IsTrueWeight n) layer.entries.items entries entries_moved state.good.true_weights }
 
-  node_low : (v : ℕ) (mode : Mode) → mode_at n.roads v ≡ Some mode → IsNode v
-  node_low v mode road = let low = mode_inside n network v mode road in let hold = nodes_hold_roads n network in let few = network.few_nodes in omega arith
+  module _ (network : IsNetwork n) where
+    node_low : (v : ℕ) (mode : Mode) → mode_at n.roads v ≡ Some mode → IsNode v
+    node_low v mode road = let low = mode_inside n network v mode road in let hold = nodes_hold_roads n network in let few = network.few_nodes in omega arith
 
-  entry_low : (u v w : ℕ) → HasEntry entries u v w → IsNode u × IsNode v
-  entry_low u v w has =
-      let f = All-contains (FitsLayer n) entries (record { from = u; to = v; weight = w; via = has.0 }) sound.in_layers has.1 in
-      (node_low u f.mode f.from_mode, node_low v f.mode f.to_mode)
+    entry_low : (u v w : ℕ) → HasEntry entries u v w → IsNode u × IsNode v
+    entry_low u v w has =
+        let f = All-contains (FitsLayer n) entries (record { from = u; to = v; weight = w; via = has.0 }) sound.in_layers has.1 in
+        (node_low u f.mode f.from_mode, node_low v f.mode f.to_mode)
 
-  via_low : (e : Entry) (via : Option ℕ) → IsMadeBy n h e via → IfSome via IsNode
-  via_low e None is = tt
-  via_low e (Some m) is = (entry_low e.from m is.first is.is_first).1
+    via_low : (e : Entry) (via : Option ℕ) → IsMadeBy n h e via → IfSome via IsNode
+    via_low e None is = tt
+    via_low e (Some m) is = (entry_low e.from m is.first is.is_first).1
 
-  walk_fits : All IsWitnessWalk walks
-  walk_fits = All-permutation IsWitnessWalk layer.walks.items walks walks_in_order.moved state.walks.fit
-
-  below_low : (w : Walk) → Contains walks w → IsNode w.below
-  below_low w there =
-      let each = All-contains (λ (y : Walk). IsContracted layer.order.items y.below ⊎ ((y.below ≡ 0) × IsForWay [] 0 y)) layer.walks.items w state.walks.each
-      (Contains-permutation walks layer.walks.items w (IsPermutation-sym layer.walks.items walks walks_in_order.moved) there) in
-      elim each [
-        | inl low ↦ (let free = contracted_free n h sound w.below low in node_low w.below free.mode free.road)
-        | inr never ↦ absurd (let f = never.1 in let lt = f.before in omega arith)
-      ]
-
-  walks_ascend : AllPairs (λ a b. walk_cmp a b ≡ Less) walks
-  walks_ascend = ascends walk_cmp walk_total HaveOtherKeys keys_differ layer.walks.items walks state.walks.apart walks_in_order
-
-  witness_fits : All FitsWitness (map witness_of walks)
-  witness_fits = All-map FitsWitness witness_of walks (λ k d low. (let w = get_or walks k d in let f = walk_fits k d low in record { below = below_low w (Contains-get_or walks k d low); nodes = f.nodes; is_walk = f.is_walk }))
-
-  witnesses_rise : IsAscending witness_cmp (map witness_of walks)
-  witnesses_rise i j d lt low =
-      let e : Walk = (first_place walks (omega (arith, length-map walks witness_of))).0 in
-      let short : j < length walks = omega (arith, length-map walks witness_of) in
-      let a = get_or walks i e in
-      let b = get_or walks j e in
-      let at_i : get_or (map witness_of walks) i d ≡ witness_of a = get_or-map witness_of walks i e d (omega arith) in
-      let at_j : get_or (map witness_of walks) j d ≡ witness_of b = get_or-map witness_of walks j e d short in
-      subst (λ x. witness_cmp x (get_or (map witness_of walks) j d) ≡ Less) (sym at_i) (subst (λ x. witness_cmp (witness_of a) x ≡ Less) (sym at_j)
-      (by_ends a b (walk_fits i e (omega arith)) (walk_fits j e short) (walks_ascend i j e lt short)))
-    where
-      by_ends : (a b : Walk) → IsWitnessWalk a → IsWitnessWalk b → walk_cmp a b ≡ Less → witness_cmp (witness_of a) (witness_of b) ≡ Less
-      by_ends a b f g less = subst (λ k. ordering_then (ordering_then (nat_cmp a.below b.below) (nat_cmp k (first_of b.nodes.items))) (nat_cmp (last_of a.nodes.items) (last_of b.nodes.items)) ≡ Less) f.first
-          (subst (λ k. ordering_then (ordering_then (nat_cmp a.below b.below) (nat_cmp a.first k)) (nat_cmp (last_of a.nodes.items) (last_of b.nodes.items)) ≡ Less) g.first
-          (subst (λ k. ordering_then (ordering_then (nat_cmp a.below b.below) (nat_cmp a.first b.first)) (nat_cmp k (last_of b.nodes.items)) ≡ Less) f.last
-          (subst (λ k. ordering_then (ordering_then (nat_cmp a.below b.below) (nat_cmp a.first b.first)) (nat_cmp a.last k) ≡ Less) g.last less)))
-
-  pub is_hierarchy : IsHierarchy h
-  is_hierarchy = record {
-    order_fits = λ k d low. (let free = (sound.in_order k low).0 d in node_low (get_or layer.order.items k d) free.mode free.road);
-    entries_fit = λ k d low. (let e = get_or entries k d in let f = sound.in_layers k d low in
-        record { from = node_low e.from f.mode f.from_mode; to = node_low e.to f.mode f.to_mode; via = via_low e e.via (sound.made k d low) });
-    entries_ascend = ascends entry_cmp entry_total HaveOtherEnds ends_differ layer.entries.items entries state.good.apart entries_in_order;
-    witnesses_fit = subst (λ ws. All FitsWitness ws) (sym are) witness_fits;
-    witnesses_ascend = subst (λ ws. IsAscending witness_cmp ws) (sym are) witnesses_rise;
-  }
+    pub is_hierarchy : IsSorted entry_cmp entries → IsSorted witness_cmp witnesses → IsHierarchy h
+    is_hierarchy entries_sorted witnesses_sorted = record {
+      order_fits = λ k d low. (let free = (sound.in_order k low).0 d in node_low (get_or layer.order.items k d) free.mode free.road);
+      entries_fit = λ k d low. (let e = get_or entries k d in let f = sound.in_layers k d low in
+          record { from = node_low e.from f.mode f.from_mode; to = node_low e.to f.mode f.to_mode; via = via_low e e.via (sound.made k d low) });
+      entries_ascend = ascends entry_cmp entry_total HaveOtherEnds ends_differ layer.entries.items entries state.good.apart entries_moved entries_sorted;
+      witnesses_fit = All-permutation FitsWitness layer.witnesses witnesses witnesses_moved state.walks.fit;
+      witnesses_ascend = ascends witness_cmp witness_total HaveOtherKeys keys_differ layer.witnesses witnesses state.walks.apart witnesses_moved witnesses_sorted;
+    }

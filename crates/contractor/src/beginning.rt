@@ -5,7 +5,7 @@ ghost use Rattle.mode_network.specs.NetworkLists.{nodes_of};
 ghost use Rattle.contractor.specs.inside.Layers.{IsState, AreEmptyLists};
 
 use crate::layer::{Layer, place};
-use hierarchy::Entry;
+use hierarchy::{Entry, Witnesses};
 use mode_network::Network;
 use std::alloc::{AllocError, Global};
 
@@ -20,7 +20,7 @@ pub(crate) fn begin(alloc: Global, network: &Network) -> Result<Layer, AllocErro
     let mut layer = Layer {
         order: Vec::new(alloc),
         entries: Vec::new(alloc),
-        walks: Vec::new(alloc),
+        witnesses: Witnesses::new(alloc),
         rows: empty_lists(alloc, nodes)?,
         into: empty_lists(alloc, nodes)?,
     };

@@ -7,7 +7,7 @@ ghost use Rattle.witness.specs.inside.Searching.{IsSearch, IsSameRound, NobodyBu
 ghost use Rattle.contractor.specs.inside.Layers.{IsState, IsBridging, IsEndOf, IsSearchFor};
 
 use crate::cutting::cut;
-use crate::layer::{Layer, note, put};
+use crate::layer::{Layer, put};
 use crate::places::RowPlaces;
 use crate::way::{Crossing, Way};
 use crate::ways::ways_by;
@@ -145,7 +145,7 @@ fn bridge_way(
     network.known();
     let way = crossing.ways[k];
     match walk_to(alloc, workspace, &layer.rows, way.to, way.sum)? {
-        Some(nodes) => note(layer, crossing.node, way, nodes)?,
+        Some(nodes) => layer.witnesses.push(crossing.node, &nodes)?,
         None => {
             put(layer, crossing.node, way)?;
             workspace.offer(way.to, way.sum, way.from)?;

@@ -29,7 +29,7 @@ pub(crate) fn cut(alloc: Global, layer: &mut Layer, x: u32) -> Result<Sides, All
         sides.second.items) }
     ensures order { OnOk result (layer.new.order.items ≡ layer.old.order.items) }
     ensures entries { OnOk result (layer.new.entries.items ≡ layer.old.entries.items) }
-    ensures walks { OnOk result (layer.new.walks.items ≡ layer.old.walks.items) }
+    ensures witnesses { OnOk result (layer.new.witnesses ≡ layer.old.witnesses) }
     ensures count { OnOk result (length layer.new.rows.items ≡ length layer.old.rows.items) }
 {
     let before = take_nodes(alloc, &mut layer.into, x);

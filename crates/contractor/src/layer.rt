@@ -6,41 +6,21 @@ ghost use Rattle.witness.specs.inside.Searching.{IsEdgePut};
 ghost use Rattle.contractor.specs.inside.Partway.{IsPut, shortcut_of};
 ghost use Rattle.contractor.specs.inside.Layers.{IsLayer, CanPut, HasNumber, IsEntered, IsNodeAdded, IsEdgeListed, IsPlaceable, IsEntryPlaced};
 
-use crate::way::{Walk, Way};
-use hierarchy::Entry;
+use crate::way::Way;
+use hierarchy::{Entry, Witnesses};
 use std::alloc::{AllocError, Global};
 use witness::Edge;
 
-/// The order, all entries and the walks so far; and by node the entries among what is left, in and out.
+/// The order, all entries and the witnesses so far; and by node the entries among what is left, in and out.
 #[derive(Drop)]
 pub struct Layer {
     pub order: Vec<u32>,
     pub entries: Vec<Entry>,
-    pub walks: Vec<Walk>,
+    pub witnesses: Witnesses,
     /// For each node the entries from it, where both ends are left.
     pub rows: Vec<Vec<Edge>>,
     /// For each node those that are left and have an entry to it.
     pub into: Vec<Vec<u32>>,
-}
-
-/// Notes a walk past a node.
-pub(crate) fn note(
-    layer: &mut Layer,
-    below: u32,
-    way: Way,
-    nodes: Vec<u32>,
-) -> Result<(), AllocError>
-    ensures others { OnOk result (layer.new ≡ record layer.old { walks = layer.new.walks }) }
-    ensures walk { OnOk result (layer.new.walks.items ≡ layer.old.walks.items ++ record
-        { below = below; first = way.from; last = way.to; nodes = nodes } ∷ []) }
-{
-    layer.walks.push(Walk {
-        below,
-        first: way.from,
-        last: way.to,
-        nodes,
-    })?;
-    Ok(())
 }
 
 /// Puts in the shortcut of a way by `x`, in the place of the entry with its ends, if there is one.
@@ -53,7 +33,7 @@ pub(crate) fn put(layer: &mut Layer, x: u32, way: Way) -> Result<(), AllocError>
     ensures put { OnOk result (IsPut layer.old.entries.items layer.new.entries.items (shortcut_of x way)) }
     ensures rows { OnOk result (IsEdgePut layer.old.rows.items layer.new.rows.items way.from way.to way.sum) }
     ensures order { OnOk result (layer.new.order.items ≡ layer.old.order.items) }
-    ensures walks { OnOk result (layer.new.walks.items ≡ layer.old.walks.items) }
+    ensures witnesses { OnOk result (layer.new.witnesses ≡ layer.old.witnesses) }
     ensures count { OnOk result (length layer.new.rows.items ≡ length layer.old.rows.items) }
 {
     let entry = Entry {

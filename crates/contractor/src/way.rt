@@ -25,12 +25,3 @@ pub struct Side {
     pub node: u32,
     pub weight: u64,
 }
-
-/// A walk past a node that was found for a way by it. By that node, then by its first and its last node.
-#[derive(Debug, Drop, PartialEq, Eq, PartialOrd, Ord)]
-pub struct Walk {
-    pub below: u32,
-    pub first: u32,
-    pub last: u32,
-    pub nodes: Vec<u32>,
-}

@@ -1,5 +1,5 @@
 -- What contraction keeps beside the hierarchy so far, and its steps.
-use Rattle.std.specs.Prelude.{◌≡◌, ◌≢◌, ℕ, ◌+◌, ◌<◌, ◌≤◌, ◌^◌, ◌⊎◌, ◌==◌, not, List, [], ◌∷◌, ◌++◌, map, filter, take, length, count_by, Bool, true, IsPermutation, IsSorted, Option, Some, None, All, AllPairs, Contains, slice_get, slice_index_or, slice_set, Vec}
+use Rattle.std.specs.Prelude.{◌≡◌, ◌≢◌, ℕ, ◌+◌, ◌<◌, ◌≤◌, ◌^◌, ◌⊎◌, ◌==◌, not, List, [], ◌∷◌, ◌++◌, filter, take, length, count_by, Bool, true, Option, Some, None, All, AllPairs, Contains, slice_get, slice_index_or, slice_set, Vec}
 use Rattle.std.specs.Ordering.{ordering_then, nat_cmp}
 use Rattle.std.specs.declared.cmp.Ordering.{Ordering}
 use Rattle.std.specs.declared.cmp.Ordering.TheVariants.{Less}
@@ -10,12 +10,12 @@ use Rattle.mode_network.specs.NetworkLists.{nodes_of as network_nodes}
 use Rattle.mode_network.specs.Journeys.{Leads}
 use Rattle.hierarchy.specs.declared.entry.Entry.{Entry}
 use Rattle.hierarchy.specs.Lists.{HierarchyLists, WitnessLists, IsCore, IsContracted, first_of, last_of}
+use Rattle.hierarchy.specs.Rules.{FitsWitness}
 use Rattle.hierarchy.specs.Soundness.{HasEntry, IsSound, IsFree}
 use Rattle.witness.specs.declared.edge.Edge.{Edge}
 use Rattle.witness.specs.Rows.{row_at}
 use Rattle.contractor.specs.declared.way.Way.{Way}
 use Rattle.contractor.specs.declared.way.Side.{Side}
-use Rattle.contractor.specs.declared.way.Walk.{Walk}
 use Rattle.contractor.specs.declared.layer.Layer.{Layer}
 use Rattle.witness.specs.declared.workspace.Workspace.{Workspace}
 use Rattle.witness.specs.inside.Searching.{IsSearch, NobodyBusy}
@@ -23,15 +23,12 @@ use Rattle.contractor.specs.inside.Partway.{IsGood, AreWays, IsPartway, HaveOthe
 
 -- ---- the hierarchy so far
 
-abbrev pub witness_of : Walk → WitnessLists
-witness_of walk = record { below = walk.below; nodes = walk.nodes.items }
-
 abbrev pub lists_of : Layer → HierarchyLists
-lists_of layer = record { order = layer.order.items; entries = layer.entries.items; witnesses = map witness_of layer.walks.items }
+lists_of layer = record { order = layer.order.items; entries = layer.entries.items; witnesses = layer.witnesses }
 
 -- the same with x at the order's end
 abbrev pub lists_with : ℕ → Layer → HierarchyLists
-lists_with x layer = record { order = layer.order.items ++ x ∷ []; entries = layer.entries.items; witnesses = map witness_of layer.walks.items }
+lists_with x layer = record { order = layer.order.items ++ x ∷ []; entries = layer.entries.items; witnesses = layer.witnesses }
 
 -- ---- rows
 
@@ -129,7 +126,7 @@ pub record IsEntryPlaced (old new : Layer) (e : Entry) : Type 0 where
   pub entered : IsEntered (row_at old.rows.items e.from) e number old.entries.items new.entries.items old.into.items new.into.items
   pub listed : IsEdgeListed e.from (edge_of number e) old.rows.items new.rows.items
   pub order : new.order.items ≡ old.order.items
-  pub walks : new.walks.items ≡ old.walks.items
+  pub witnesses : new.witnesses ≡ old.witnesses
 
 -- ---- a node cut out
 
@@ -218,27 +215,21 @@ pub record AreWaysOf (rows : List (Vec Edge Global)) (first : List Side) (second
 
 -- ---- walks
 
-abbrev pub HaveOtherKeys : Walk → Walk → Type 0
-HaveOtherKeys a b = a.below ≡ b.below → a.first ≡ b.first → a.last ≡ b.last → ⊥
-
-pub record IsWitnessWalk (walk : Walk) : Type 0 where
-  pub nodes : All (λ v. v < 2 ^ 24) walk.nodes.items
-  pub is_walk : 2 ≤ length walk.nodes.items
-  pub first : walk.first ≡ first_of walk.nodes.items
-  pub last : walk.last ≡ last_of walk.nodes.items
+abbrev pub HaveOtherKeys : WitnessLists → WitnessLists → Type 0
+HaveOtherKeys a b = a.below ≡ b.below → first_of a.nodes ≡ first_of b.nodes → last_of a.nodes ≡ last_of b.nodes → ⊥
 
 -- the walk is for one of the first k ways
-pub record IsForWay (ways : List Way) (k : ℕ) (walk : Walk) : Type 0 where
+pub record IsForWay (ways : List Way) (k : ℕ) (walk : WitnessLists) : Type 0 where
   pub place : ℕ
   pub before : place < k
-  pub first : (d : Way) → (slice_index_or ways place d).from ≡ walk.first
-  pub last : (d : Way) → (slice_index_or ways place d).to ≡ walk.last
+  pub first : (d : Way) → (slice_index_or ways place d).from ≡ first_of walk.nodes
+  pub last : (d : Way) → (slice_index_or ways place d).to ≡ last_of walk.nodes
 
 -- each is for a contracted node, or for one of the first k ways by x
-pub record AreWalks (order : List ℕ) (x : ℕ) (ways : List Way) (k : ℕ) (walks : List Walk) : Type 0 where
+pub record AreWalks (order : List ℕ) (x : ℕ) (ways : List Way) (k : ℕ) (walks : List WitnessLists) : Type 0 where
   pub apart : AllPairs HaveOtherKeys walks
-  pub fit : All IsWitnessWalk walks
-  pub each : All (λ (walk : Walk). IsContracted order walk.below ⊎ ((walk.below ≡ x) × IsForWay ways k walk)) walks
+  pub fit : All FitsWitness walks
+  pub each : All (λ (walk : WitnessLists). IsContracted order walk.below ⊎ ((walk.below ≡ x) × IsForWay ways k walk)) walks
 
 -- ---- the whole
 
@@ -246,7 +237,7 @@ pub record AreWalks (order : List ℕ) (x : ℕ) (ways : List Way) (k : ℕ) (wa
 pub record IsState (n : NetworkLists) (state : Layer) : Type 0 where
   pub good : IsGood n (lists_of state)
   pub layer : IsLayer state.order.items state
-  pub walks : AreWalks state.order.items 0 [] 0 state.walks.items
+  pub walks : AreWalks state.order.items 0 [] 0 state.witnesses
 
 -- what holds when the first k ways by x are bridged
 pub record IsBridging (n : NetworkLists) (x : ℕ) (ways : List Way) (k : ℕ) (state : Layer) : Type 0 where
@@ -259,7 +250,7 @@ pub record IsBridging (n : NetworkLists) (x : ℕ) (ways : List Way) (k : ℕ) (
   pub order : state.order.items ≡ before.order
   pub partway : IsPartway n before x ways k (lists_with x state)
   pub layer : IsLayer (state.order.items ++ x ∷ []) state
-  pub walks : AreWalks state.order.items x ways k state.walks.items
+  pub walks : AreWalks state.order.items x ways k state.witnesses
 
 -- from the place up to the end all ways have one start
 pub record IsEndOf (ways : List Way) (place end : ℕ) : Type 0 where
@@ -285,7 +276,7 @@ pub record AreWaiting (n : NetworkLists) (order : List ℕ) (left : ℕ) (waitin
 -- the arcs before place k are entries, and nothing else is
 pub record AreArcs (n : NetworkLists) (k : ℕ) (state : Layer) : Type 0 where
   pub order : state.order.items ≡ []
-  pub walks : state.walks.items ≡ []
+  pub witnesses : state.witnesses ≡ []
   pub count : length state.rows.items ≡ length (network_nodes n)
   pub layer : IsLayer [] state
   pub are : (e : Entry) → Contains state.entries.items e → (e.via ≡ None) × Leads n.arcs e.from e.to e.weight
@@ -296,16 +287,6 @@ pub record AreEmptyLists {X : Type 0} (count : ℕ) (lists : List (Vec X Global)
   pub empty : All (λ (list : Vec X Global). list.items ≡ []) lists
 
 -- ---- the end
-
-abbrev pub walk_cmp : Walk → Walk → Ordering
-walk_cmp a b = ordering_then (ordering_then (nat_cmp a.below b.below) (nat_cmp a.first b.first)) (nat_cmp a.last b.last)
-
-pub record AreInOrder {X : Type 0} (cmp : X → X → Ordering) (old new : List X) : Type 0 where
-  pub moved : IsPermutation old new
-  pub sorted : IsSorted cmp new
-
-abbrev pub AreWitnessesOf : List Walk → List WitnessLists → Type 0
-AreWitnessesOf walks witnesses = witnesses ≡ map witness_of walks
 
 pub record IsFinished (n : NetworkLists) (order : List ℕ) (h : HierarchyLists) : Type 0 where
   pub sound : IsSound n h

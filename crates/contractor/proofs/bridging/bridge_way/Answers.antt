@@ -1,4 +1,4 @@
-use Rattle.std.proofs.Common.{◌∙◌, List, ◌++◌, ◌∷◌, [], refl, sym, subst}
+use Rattle.std.proofs.Common.{◌∙◌, List, ◌++◌, ◌∷◌, [], sym, subst}
 use Rattle.std.specs.Prelude.{Vec}
 use Rattle.std.specs.declared.alloc.Global.{Global}
 use Rattle.std.proofs.lemmas.List.{get_or_default}
@@ -36,16 +36,15 @@ put-requires-clause-fits c =
     (subst (λ (rows : List (Vec Edge Global)). NoWalkWithin rows c.args.workspace.now.start way.to way.sum) c.deref.ensures.value (rw c.in-None.is at c.in_ok-nodes.ensures.none)) in
     can_put c.args.network.now c.args.crossing.now.node c.args.crossing.now.ways.items c.args.k c.args.layer.now c.known.ensures c.requires.state way c.requires.place is none
 
-pub returns-in_ok-note-in-Some-clause-state : goal.returns-in_ok-note-in-Some-clause-state
-returns-in_ok-note-in-Some-clause-state c =
+pub returns-in_ok-push-in-Some-clause-state : goal.returns-in_ok-push-in-Some-clause-state
+returns-in_ok-push-in-Some-clause-state c =
     let way = c.index-way.result.now in
     let is = λ (e : Way). get_or_default c.args.crossing.now.ways.items c.args.k e way c.requires.place ∙ sym c.index-way.ensures in
     let r = subst (λ (y : Way). IsSearchFor c.args.layer.now y c.args.workspace.now) (is way) (c.requires.search way) in
-    let e = c.in_ok-note-in-Some.ensures in
     let found = subst (λ u. IsWalkWithin c.args.layer.now.rows.items u way.to way.sum c.in-Some.nodes.items) r.start
     (subst (λ (rows : List (Vec Edge Global)). IsWalkWithin rows c.args.workspace.now.start way.to way.sum c.in-Some.nodes.items) c.deref.ensures.value (rw c.in-Some.is at c.in_ok-nodes.ensures.found)) in
     witness_more c.args.network.now c.args.crossing.now.node c.args.crossing.now.ways.items c.args.k c.args.layer.now c.known.ensures c.requires.state way c.requires.place is
-    c.note.new.layer (record { below = c.args.crossing.now.node; first = way.from; last = way.to; nodes = c.in-Some.nodes }) e.others e.walk refl refl refl found
+    c.push.new.self c.in-Some.nodes.items (rw c.deref-in-Some.ensures.value at c.in_ok-push-in-Some.ensures) found
 
 pub returns-in_ok-offer-in-None-clause-state : goal.returns-in_ok-offer-in-None-clause-state
 returns-in_ok-offer-in-None-clause-state c =
@@ -55,7 +54,7 @@ returns-in_ok-offer-in-None-clause-state c =
     let none = subst (λ u. NoWalkWithin c.args.layer.now.rows.items u way.to way.sum) r.start
     (subst (λ (rows : List (Vec Edge Global)). NoWalkWithin rows c.args.workspace.now.start way.to way.sum) c.deref.ensures.value (rw c.in-None.is at c.in_ok-nodes.ensures.none)) in
     let e = c.in_ok-put-in-None.ensures in
-    shortcut_more c.args.network.now c.args.crossing.now.node c.args.crossing.now.ways.items c.args.k c.args.layer.now c.known.ensures c.requires.state way c.requires.place is none c.put.new.layer e.count e.order e.walks e.put e.layer
+    shortcut_more c.args.network.now c.args.crossing.now.node c.args.crossing.now.ways.items c.args.k c.args.layer.now c.known.ensures c.requires.state way c.requires.place is none c.put.new.layer e.count e.order e.witnesses e.put e.layer
 
 pub returns-in_ok-offer-in-None-clause-search : goal.returns-in_ok-offer-in-None-clause-search
 returns-in_ok-offer-in-None-clause-search c =

@@ -37,7 +37,7 @@ returns-clause-first c =
     let old = c.args.layer.now in
     let cut = subst (λ (us : List ℕ). IsCut c.args.x us old.rows.items c.cut_rows.new.rows.items) c.deref-3.ensures.value c.cut_rows.ensures in
     let sides = subst (λ (us : List ℕ). AreSides c.deref.result.now c.args.x us c.in_ok-first.first.items) c.deref-2.ensures.value c.in_ok-first.ensures in
-    let new : Layer = record { order = old.order; entries = old.entries; walks = old.walks; rows = c.take_row-second.new.rows; into = c.cut_into.new.into } in
+    let new : Layer = record { order = old.order; entries = old.entries; witnesses = old.witnesses; rows = c.take_row-second.new.rows; into = c.cut_into.new.into } in
     first_are old.order.items c.args.x old new c.requires.layer c.requires.core c.cut_rows.new.rows.items c.take_nodes-before.new.into.items c.take_nodes-before.result.items c.take_row-second.result.items
     c.take_nodes-before.ensures cut c.take_row-second.ensures c.cut_into.ensures refl
     c.in_ok-first.first.items (subst (λ (rows : List (Vec Edge Global)). AreSides rows c.args.x c.take_nodes-before.result.items c.in_ok-first.first.items) c.deref.ensures.value sides)
@@ -46,6 +46,6 @@ pub returns-clause-second : goal.returns-clause-second
 returns-clause-second c =
     let old = c.args.layer.now in
     let cut = subst (λ (us : List ℕ). IsCut c.args.x us old.rows.items c.cut_rows.new.rows.items) c.deref-3.ensures.value c.cut_rows.ensures in
-    let new : Layer = record { order = old.order; entries = old.entries; walks = old.walks; rows = c.take_row-second.new.rows; into = c.cut_into.new.into } in
+    let new : Layer = record { order = old.order; entries = old.entries; witnesses = old.witnesses; rows = c.take_row-second.new.rows; into = c.cut_into.new.into } in
     second_are old.order.items c.args.x old new c.requires.layer c.requires.core c.cut_rows.new.rows.items c.take_nodes-before.new.into.items c.take_nodes-before.result.items c.take_row-second.result.items
     c.take_nodes-before.ensures cut c.take_row-second.ensures c.cut_into.ensures refl (λ e there. (All-contains (FitsRows (length old.rows.items)) old.entries.items e c.requires.layer.fit there).differ)

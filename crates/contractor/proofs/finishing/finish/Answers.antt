@@ -1,13 +1,21 @@
-use Rattle.std.proofs.Common.{sym, subst}
+use Rattle.std.proofs.Common.{rules, subst, sym, ℕ}
+use Rattle.std.proofs.lemmas.List.Sorted.{answers_always}
+use Rattle.hierarchy.specs.declared.entry.Entry.{Entry}
 use Rattle.contractor.specs.inside.Layers.{IsFinished}
 use Rattle.contractor.proofs.FinishLemmas.{is_hierarchy, finished}
 use Rattle.contractor.proofs.finishing.finish.Goals as goal
 
+abbrev ends_of : Entry → ℕ × ℕ
+ends_of e = (e.from, e.to)
+
 pub new-requires : goal.new-requires
 new-requires c =
-    is_hierarchy c.args.network.now c.args.layer c.known.ensures c.requires c.in_ok-entries.entries.items c.in_ok-in_turn.field-0.items c.in_ok-entries.ensures c.in_ok-in_turn.ensures c.in_ok-witnesses.witnesses c.in_ok-witnesses.ensures
+    let e = c.sort_unstable_by_key in
+    is_hierarchy c.args.network.now c.args.layer c.requires e.new.self.items e.ensures.permutation c.sort.new.self c.sort.ensures.moved c.known.ensures
+    (e.ensures.sorted ends_of (answers_always _ _ _ (λ f a r f' k. search rules))) c.sort.ensures.sorted
 
 pub returns : goal.returns
 returns c =
+    let e = c.sort_unstable_by_key in
     subst (IsFinished c.args.network.now c.args.layer.order.items) (sym c.in_ok-hierarchy.ensures)
-    (finished c.args.network.now c.args.layer c.known.ensures c.requires c.in_ok-entries.entries.items c.in_ok-in_turn.field-0.items c.in_ok-entries.ensures c.in_ok-in_turn.ensures c.in_ok-witnesses.witnesses c.in_ok-witnesses.ensures)
+    (finished c.args.network.now c.args.layer c.requires e.new.self.items e.ensures.permutation c.sort.new.self c.sort.ensures.moved)
