@@ -26,38 +26,40 @@ pub fn contract<F: Shelf, O: Sink, E: Sink>(
 {
     let alloc = ports.alloc;
     let network = read_region(alloc, &mut ports.shelf, region, caps, &mut ports.notes)?;
-    let Ok(text) = contracted(alloc, &network, keep, &mut ports.notes) else {
+    let Ok(text) = contracted(alloc, network, keep, &mut ports.notes) else {
         return Err(Outcome::OutOfMemory);
     };
     write_text(&mut ports.out, &text)?;
     Ok(())
 }
 
-/// The text of a hierarchy of the network.
+/// The text of a hierarchy of the network, whose memory is free again when the text is made.
 fn contracted<E: Sink>(
     alloc: Global,
-    network: &Network,
+    network: Network,
     keep: u32,
     notes: &mut E,
 ) -> Result<Vec<u8>, AllocError>
-    ensures { IfOk result (λ text. IsContraction network.now keep text.items) }
+    ensures { IfOk result (λ text. IsContraction network keep text.items) }
 {
     let mut progress = ContractionNotes::new(alloc, &mut *notes);
-    let h = contractor::contract(alloc, network, keep, &mut progress)?;
+    let h = contractor::contract(alloc, &network, keep, &mut progress)?;
+    let nodes = network.nodes();
+    drop(network);
     let text = encode(alloc, &h)?;
-    tell(alloc, notes, told_at_end(alloc, network, &h, text.len()));
+    tell(alloc, notes, told_at_end(alloc, nodes, &h, text.len()));
     Ok(text)
 }
 
-/// What the hierarchy consists of.
+/// What the hierarchy of a network with so many nodes consists of.
 fn told_at_end(
     alloc: Global,
-    network: &Network,
+    nodes: u32,
     h: &Hierarchy,
     bytes: usize,
 ) -> Result<String, AllocError> {
     let contracted = h.order().len() as u64;
-    let core = u64::from(network.nodes()).saturating_sub(contracted);
+    let core = u64::from(nodes).saturating_sub(contracted);
     let entries = h.entries().len();
     let witnesses = h.witnesses().len();
     let unread = if bytes as u64 > most_of(FileRole::Hierarchy) {
