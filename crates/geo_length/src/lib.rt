@@ -17,5 +17,4 @@ pub use degrees::read_degrees;
 pub use durations::duration_ms;
 pub use grid::Grid;
 pub use lengths::length_mm;
-pub use plan_base::Place;
 pub use wanted::PointFilter;

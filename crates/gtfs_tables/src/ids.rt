@@ -42,13 +42,6 @@ impl Id {
     {
         self.bytes.as_slice()
     }
-
-    /// The bytes of the id, without a copy.
-    pub fn into_bytes(self) -> Vec<u8>
-        ensures { result.items ≡ self }
-    {
-        self.bytes
-    }
 }
 
 /// Ids in the order of first sight, each once. A contract sees them as a list.

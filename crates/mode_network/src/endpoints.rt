@@ -23,12 +23,6 @@ impl Bytes {
     {
         &self.items
     }
-
-    pub fn into_vec(self) -> Vec<u8>
-        ensures { result.items ≡ self }
-    {
-        self.items
-    }
 }
 
 impl From<Vec<u8>> for Bytes {

@@ -63,12 +63,4 @@ impl Name {
     {
         self.bytes.as_slice()
     }
-
-    /// The bytes of the name, without a copy.
-    pub fn into_bytes(self) -> Vec<u8>
-        ensures value { result.items ≡ self }
-        ensures name { spec.is_name self ≡ true }
-    {
-        self.bytes
-    }
 }

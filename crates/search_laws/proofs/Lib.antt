@@ -1,4 +1,5 @@
 pub mod WalkLemmas
 pub mod WayLemmas
 pub mod FreshLemmas
+pub mod FirstLemmas
 mod Examples

@@ -1,3 +1,4 @@
+pub mod Firsts
 pub mod Letters
 pub mod Times
 pub mod GraphLaws

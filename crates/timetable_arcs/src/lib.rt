@@ -13,7 +13,6 @@ pub mod timetable;
 pub mod trips;
 
 pub use faults::TableFault;
-pub use plan_base::DaySet;
 pub use rides::{Board, Ride};
 pub use timetable::Timetable;
 pub use trips::{Call, Instance, PlacedRun, Trip};
