@@ -10,7 +10,7 @@ use crate::lengths::longitude_between;
 use crate::widths::width;
 use plan_base::Place;
 
-// How many units a place is at least to the north or to the south of what is inside.
+/// How many units a place is at least to the north or to the south of what is inside.
 fn latitude_gap(bounds: &Bounds, place: Place) -> u64
     ensures value { (other : Place) → IsInside bounds.now other
         → result ≤ unsigned_abs (place.lat -ℤ other.lat) }
@@ -25,7 +25,7 @@ fn latitude_gap(bounds: &Bounds, place: Place) -> u64
     }
 }
 
-// How many units it is at least to the east or to the west, the short way around.
+/// How many units it is at least to the east or to the west, the short way around.
 fn longitude_gap(bounds: &Bounds, place: Place) -> u64
     ensures value { (other : Place) → IsInside bounds.now other
         → result ≤ short_way_around (unsigned_abs (place.lon -ℤ other.lon)) }
@@ -38,7 +38,7 @@ fn longitude_gap(bounds: &Bounds, place: Place) -> u64
     }
 }
 
-// The greatest whole degree of a mean latitude of the place and of what is inside.
+/// The greatest whole degree of a mean latitude of the place and of what is inside.
 fn steepest_degree(bounds: &Bounds, place: Place) -> u64
     ensures value { (other : Place) → IsInside bounds.now other → mean_degree place other ≤ result }
     ensures within { result ≤ 90 }

@@ -32,10 +32,10 @@ impl Model for Grid {
     ghost invariant = { λ grid. AreBounded grid.tree grid.points.items };
 }
 
-// Where a point stands in the order that puts near points together: by rows of latitude, each 2^16 units or some
-// 700 metres high, and from west to east in a row; those of one longitude by their ids.
-fn rank(point: &(i64, Place)) -> (i64, i64, i64) {
-    (point.1.lat >> 16, point.1.lon, point.0)
+/// Where a point stands in the order that puts near points together: by rows of latitude, each 2^16 units or some
+/// 700 metres high, and from west to east in a row.
+fn rank(point: &(i64, Place)) -> (i64, i64) {
+    (point.1.lat >> 16, point.1.lon)
 }
 
 impl Grid {

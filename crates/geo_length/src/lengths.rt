@@ -7,7 +7,7 @@ ghost use Rattle.geo_length.specs.Roots.{IsRoot, root};
 use crate::widths::width;
 use plan_base::Place;
 
-// The short way around.
+/// The short way around.
 fn short_way(difference: u64) -> u64
     requires { difference ≤ 3600000000 }
     ensures value { result ≡ short_way_around difference }

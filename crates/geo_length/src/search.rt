@@ -13,7 +13,7 @@ use crate::tree::{Tree, bounds_of};
 use crate::wanted::PointFilter;
 use plan_base::Place;
 
-// The greatest length of a point that still matters.
+/// The greatest length of a point that still matters.
 fn limit(best: Option<(i64, u64)>, within: u64) -> u64
     ensures { result ≡ limit_of within best }
 {
@@ -23,14 +23,14 @@ fn limit(best: Option<(i64, u64)>, within: u64) -> u64
     }
 }
 
-// Whether a place is surely past a length: it is that far to the north or to the east alone.
+/// Whether a place is surely past a length: it is that far to the north or to the east alone.
 fn is_past(place: Place, other: Place, limit: u64) -> bool
     ensures { result ≡ true → limit < length_between place other }
 {
     limit < north_mm(place, other).max(east_mm(place, other))
 }
 
-// The nearest with this point at this length too.
+/// The nearest with this point at this length too.
 fn nearer(
     best: Option<(i64, u64)>,
     within: u64,
@@ -57,7 +57,7 @@ fn nearer(
     }
 }
 
-// The nearest of the points before, which is `best`, and of this point too where it passes.
+/// The nearest of the points before, which is `best`, and of this point too where it passes.
 fn with_point<F: PointFilter>(
     point: &(i64, Place),
     wanted: &F,
@@ -93,7 +93,7 @@ fn with_points<F: PointFilter>(
     nearest
 }
 
-// Whether no point of a box matters: each is surely past the nearest so far, or as far with no lower id.
+/// Whether no point of a box matters: each is surely past the nearest so far, or as far with no lower id.
 fn is_passed_over(bounds: Bounds, place: Place, within: u64, best: Option<(i64, u64)>) -> bool
     ensures { result ≡ true → (point : Point) → IsInBounds bounds point → ComesLater place within best point }
 {

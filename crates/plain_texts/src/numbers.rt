@@ -71,7 +71,7 @@ fn digits_value(digits: &[u8]) -> Option<u64>
     Some(value)
 }
 
-// Whether a zero stands before other bytes.
+/// Whether a zero stands before other bytes.
 #[inline]
 fn is_padded(text: &[u8]) -> bool
     ensures { MatchBool result ((1 < length text.now) × (slice_index text.now 0 ≡ 48))

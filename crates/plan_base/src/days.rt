@@ -33,7 +33,7 @@ impl DaySet {
     }
 }
 
-// Whether bit `at` is set; no bit from 128 on is.
+/// Whether bit `at` is set; no bit from 128 on is.
 fn has_bit(bits: u128, at: u32) -> bool
     ensures { result ≡ (bit_at bits at == 1) }
 {

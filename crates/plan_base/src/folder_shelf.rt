@@ -13,7 +13,7 @@ use std::alloc::Global;
 use std::io::{self, ErrorKind, Read};
 use std::rt::Files;
 
-// How often a read is begun that the system interrupts before any byte.
+/// How often a read is begun that the system interrupts before any byte.
 const MOST_TRIES: usize = 100;
 
 /// The files of a disk.
@@ -52,7 +52,7 @@ impl<D: Disk + Drop> FolderShelf<D> {
     }
 }
 
-// A file that is being read, and the place up to which it was read. Where there was no room for its path, no read goes on in it.
+/// A file that is being read, and the place up to which it was read. Where there was no room for its path, no read goes on in it.
 #[derive(Drop)]
 struct Opened<I: Drop> {
     path: Option<String>,
@@ -89,7 +89,7 @@ impl<D: Disk + Drop> Shelf for FolderShelf<D> {
     }
 }
 
-// The file at this path, to be read from there on: the one that was read last, where it goes on there.
+/// The file at this path, to be read from there on: the one that was read last, where it goes on there.
 fn opened_at<D: Disk>(
     alloc: Global,
     disk: &D,
@@ -117,7 +117,7 @@ fn opened_at<D: Disk>(
     }
 }
 
-// The file behind what was read of it, if it goes on.
+/// The file behind what was read of it, if it goes on.
 fn passed<I: Read + Drop>(opened: Opened<I>, n: usize) -> Option<Opened<I>>
     ensures { IfSome result (λ o. (o.path ≡ opened.path) × (o.at ≡ opened.at + n) × (o.file ≡ opened.file)) }
 {
@@ -128,7 +128,7 @@ fn passed<I: Read + Drop>(opened: Opened<I>, n: usize) -> Option<Opened<I>>
     Some(Opened { at, ..opened })
 }
 
-// Reads what comes next; a read that was interrupted is begun again.
+/// Reads what comes next; a read that was interrupted is begun again.
 fn read_from<I: Read>(file: &mut I, into: &mut [u8]) -> io::Result<usize>
     ensures bound { ReadsAtMost result into.new }
     ensures bytes { ReadConsumes (I.remaining file.old) (I.remaining file.new) result into.new }

@@ -75,7 +75,7 @@ impl Shelf for MemoryShelf {
     }
 }
 
-// Copies the bytes of the file from there on, as many as there is room for.
+/// Copies the bytes of the file from there on, as many as there is room for.
 fn copy_from(file: &[u8], from: u64, into: &mut [u8]) -> usize
     ensures count { result ≡ min (length into.old) (length file.now - from) }
     ensures bytes { AreBytesAt file.now from result into.new }

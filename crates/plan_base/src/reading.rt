@@ -70,7 +70,7 @@ impl From<AllocError> for ReadFault {
     }
 }
 
-// How many bytes of a file are read at a time.
+/// How many bytes of a file are read at a time.
 const PIECE: usize = 65_536;
 
 /// The whole file `name`, if it has at most `cap` bytes.

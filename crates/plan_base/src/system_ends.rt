@@ -6,7 +6,7 @@ ghost use Rattle.std.specs.Io.KnownBytes.{WriteAppends};
 use crate::writing::{Sink, SinkFailed};
 use std::io::{self, ErrorKind, Write};
 
-// How often a write is begun that the system interrupts before any byte.
+/// How often a write is begun that the system interrupts before any byte.
 const MOST_TRIES: usize = 100;
 
 /// A stream that bytes are written to. It tells what the stream tells of what it holds.
@@ -38,7 +38,7 @@ impl<W: Write + Drop> Sink for StreamSink<W> {
     }
 }
 
-// Writes a front of the piece; a write that was interrupted is begun again.
+/// Writes a front of the piece; a write that was interrupted is begun again.
 fn write_to<W: Write>(stream: &mut W, piece: &[u8]) -> io::Result<usize>
     ensures within { WritesAtMost result piece.now }
     ensures bytes { WriteAppends (W.contents stream.old) (W.contents stream.new) result piece.now }

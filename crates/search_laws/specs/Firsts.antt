@@ -1,5 +1,5 @@
 -- What holds at all numbers below one, and where it fails first.
-use Rattle.std.specs.Prelude.{ℕ, ◌<◌, ⊥}
+use Rattle.std.specs.Prelude.{ℕ, ◌<◌}
 
 abbrev pub HoldsBelow : ℕ → (ℕ → Type 0) → Type 0
 HoldsBelow n P = (k : ℕ) → k < n → P k
