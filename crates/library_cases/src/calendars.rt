@@ -5,19 +5,18 @@
 use crate::parts;
 use case_script::{Answer, Script, words};
 use plan_base::Time;
-use service_days::{Days, RangeFault, ServiceRule, is_date, read_date};
+use service_days::{Days, RangeFault, ServiceRule, read_date};
 use std::alloc::{AllocError, Global};
 
-/// `date TEXT`: whether a number is a date, and which one the digits are.
+/// `date TEXT`: which date the digits are.
 pub fn date(out: &mut Answer, text: &[u8]) {
-    out.shown("a date: ", is_date(words::node(text)));
-    out.debug("; read as ", read_date(text));
+    out.debug("", read_date(text));
 }
 
 /// What a call answers of the days that its first three words give.
 pub fn of_days(out: &mut Answer, script: &Script, call: &str, words: &[u8]) {
     match days_of(out.alloc(), script, words) {
-        Ok(days) => answer(out, script, &days, call, parts::behind(words, 3)),
+        Ok(days) => answer(out, &days, call, parts::behind(words, 3)),
         Err(fault) => out.debug("", &fault),
     }
 }
@@ -37,15 +36,13 @@ fn days_of(alloc: Global, script: &Script, words: &[u8]) -> Result<Days, RangeFa
 ///
 /// - `days`: the date of each day number and when it begins;
 /// - `day DATE`: the number of a date among them;
-/// - `clock MS`: how a time is printed, and as what that is read again;
-/// - `moment TEXT`: the time that the text of this name spells;
+/// - `clock MS`: how a time is printed;
 /// - `service WEEKDAYS FROM TO ADDED REMOVED`: the days of a service.
-fn answer(out: &mut Answer, script: &Script, days: &Days, call: &str, words: &[u8]) {
+fn answer(out: &mut Answer, days: &Days, call: &str, words: &[u8]) {
     match call {
         "days" => print_days(out, days),
         "day" => out.debug("", days.day_of(words::node(words))),
         "clock" => clock(out, days, words),
-        "moment" => out.debug("", days.read_clock(script.text(words))),
         _ => service(out, days, words),
     }
 }
@@ -73,9 +70,9 @@ fn clock(out: &mut Answer, days: &Days, word: &[u8]) {
     } else {
         Time::from(words::number(word))
     };
-    if let Ok(text) = days.clock_text(out.alloc(), time) {
-        out.text(&text);
-        out.debug(", read as ", days.read_clock(text.as_bytes()));
+    let mut text = Vec::new(out.alloc());
+    if days.push_clock(&mut text, time).is_ok() {
+        out.bytes(&text);
     }
 }
 

@@ -76,9 +76,7 @@ fn answer_of_places(out: &mut Answer, script: &Script, call: &str, words: &[u8])
         "set" => places::set(out, words),
         "limits" => places::limits(out, words),
         "date" => calendars::date(out, words),
-        "days" | "day" | "clock" | "moment" | "service" => {
-            calendars::of_days(out, script, call, words)
-        }
+        "days" | "day" | "clock" | "service" => calendars::of_days(out, script, call, words),
         _ => answer_of_files(out, script, call, words),
     }
 }

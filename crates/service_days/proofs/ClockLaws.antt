@@ -1,20 +1,17 @@
--- The two laws of clock texts.
-use Rattle.std.proofs.Common.{◌≡◌, refl, sym, ap, ap₂, subst, ◌∙◌, ℕ, zero, suc, ◌+◌, ◌-◌, ◌*◌, ◌/◌, ◌%◌, ◌^◌, ◌<◌, ◌≤◌, Bool, true, false, cond, ◌&&◌, ◌==◌, ltb, leb, List, [], ◌∷◌, ◌++◌, length, take, drop, get_or, Some, arith, append_assoc, length-append}
+-- A clock text tells its time.
+use Rattle.std.proofs.Common.{◌≡◌, refl, sym, ap, ap₂, subst, ◌∙◌, ℕ, zero, suc, ◌+◌, ◌-◌, ◌*◌, ◌/◌, ◌%◌, ◌^◌, ◌<◌, ◌≤◌, Bool, true, false, cond, ◌&&◌, ltb, leb, List, ◌∷◌, ◌++◌, length, take, drop, get_or, Some, arith, append_assoc, length-append}
 use Rattle.std.specs.Option.{option_and_then}
-use Rattle.std.proofs.lemmas.Bool.{ltb-true, ltb-false, lt-ltb, le-ltb, lt-leb, leb-true, leb-false, eqb-true}
-use Rattle.std.proofs.lemmas.Option.{none-some, cond_some, option_and_then_some}
-use Rattle.std.proofs.lemmas.List.{take-append-drop, length-take-le}
-use Rattle.std.proofs.lemmas.List.Quantifiers.{position-Some}
+use Rattle.std.proofs.lemmas.Bool.{ltb-true, ltb-false, lt-ltb, le-ltb, lt-leb, leb-true, leb-false}
 use Rattle.std.proofs.Math.Seq.{take-append_seam, drop-append_seam}
 use Rattle.plain_texts.specs.FixedDecimal.{fixed_decimal, fixed_at}
-use Rattle.plain_texts.proofs.FixedDecimal.{length-fixed_decimal, fixed_takes, fixed_again}
+use Rattle.plain_texts.proofs.FixedDecimal.{length-fixed_decimal, fixed_again}
 use Rattle.service_days.specs.DaysMeaning.{DaysMeaning}
 use Rattle.service_days.specs.Days.{AreDays, numbers_of, base_of, date_of, day_with_date, day_at, last_not_later}
 use Rattle.service_days.specs.Clock.{part_text, time_text, clock_text_of}
 use Rattle.service_days.specs.ReadClock.{short_at, hundreds_at, after_space, moment_at, front_at, clock_at}
 use Rattle.service_days.proofs.InOrder.{are_in_order}
 use Rattle.service_days.proofs.RisingLists.{last_is, found_at, non_decreasing}
-use Rattle.service_days.proofs.ReadClockLaws.{short_text, hundreds_text, time_split, short_again, short_takes, hundreds_again, hundreds_takes, cond_else}
+use Rattle.service_days.proofs.ReadClockLaws.{short_text, hundreds_text, time_split, short_again, hundreds_again}
 
 -- a day is under way at t: its base is not later, and the next day's is
 pub record IsUnderWay (days : DaysMeaning) (day t : ℕ) : Type 0 where
@@ -142,60 +139,3 @@ clock_again days are t small =
     ∙ ap (option_and_then (front_at days (fixed_decimal 8 date ++ 32 ∷ hundreds_text hundreds))) (short_again short fits)
     ∙ front_cut days (fixed_decimal 8 date) (32 ∷ hundreds_text hundreds) short (length-fixed_decimal 8 date)
     ∙ rw (hundreds_again hundreds few, read, found) (moment_again days day t (hundreds * 360000000 + short) is small e)
-
-after_space_is : (text rest : List ℕ) → after_space text ≡ Some rest → text ≡ 32 ∷ rest
-after_space_is [] rest e = absurd (none-some rest e)
-after_space_is (b ∷ bs) rest e =
-    let some = cond_some (b == 32) bs rest e in
-    ap₂ (λ (x : ℕ) (xs : List ℕ). x ∷ xs) (eqb-true b 32 some.0) some.1
-
-false_true : ◌≡◌ {A = Bool} false true → ⊥
-false_true h = cc
-
-moment_takes : (days : DaysMeaning) (day ms t : ℕ) → day < days.count + 7 → moment_at days day ms ≡ Some t → (t < 2 ^ 128) × (t ≡ base_of days day + ms) × IsUnderWay days day t
-moment_takes days day ms t within e =
-    let outer = cond_else (ltb (day + 1) (numbers_of days) && leb (base_of days (day + 1)) (base_of days day + ms)) _ t e in
-    let inner = cond_some (ltb (base_of days day + ms) (2 ^ 128)) (base_of days day + ms) t outer.1 in
-    let small = ltb-true (base_of days day + ms) (2 ^ 128) inner.0 in (
-      omega (arith, small, inner.1),
-      sym inner.1,
-      record {
-        within = within;
-        begun = omega (arith, inner.1);
-        not_over = λ more. omega (arith, inner.1, is_not_over (ltb (day + 1) (numbers_of days)) (base_of days (day + 1)) (base_of days day + ms) (lt-ltb (day + 1) (numbers_of days) more) outer.0);
-      },
-    )
-  where
-    is_not_over : (b : Bool) (x y : ℕ) → b ≡ true → (b && leb x y) ≡ false → y < x
-    is_not_over true x y h e = leb-false x y e
-    is_not_over false x y h e = absurd (false_true h)
-
-front_takes : (days : DaysMeaning) → AreDays days → (front : List ℕ) (short t : ℕ) → short < 360000000 → front_at days front short ≡ Some t → (t < 2 ^ 128) × (front ++ short_text short ≡ clock_text_of days t)
-front_takes days are front short t fits e =
-    let cut = cond_else (ltb (length front) 8) _ t e in
-    let long : 8 ≤ length front = ltb-false (length front) 8 cut.0 in
-    option_and_then_some _ (option_and_then hundreds_at (after_space (drop 8 front))) t cut.1 (λ hundreds is_h r1.
-    option_and_then_some hundreds_at (after_space (drop 8 front)) hundreds is_h (λ rest is_rest r_h.
-    option_and_then_some _ (fixed_at (take 8 front)) t r1 (λ date is_date r2.
-    option_and_then_some _ (day_with_date days date) t r2 (λ day is_day r3.
-    let found = position-Some (λ other. other == date) days.dates day 0 is_day in
-    let within : day < days.count + 7 = omega (arith, found.0, are.dates_long) in
-    let on : date_of days day ≡ date = eqb-true (date_of days day) date found.1 in
-    let moment = moment_takes days day (hundreds * 360000000 + short) t within r3 in
-    let high = hundreds_takes rest hundreds r_h in
-    let digits = fixed_takes (take 8 front) date is_date in
-    let eight : length (take 8 front) ≡ 8 = length-take-le 8 front long in
-    let parts : front ≡ fixed_decimal 8 (date_of days day) ++ 32 ∷ hundreds_text hundreds =
-    sym (take-append-drop 8 front) ∙ ap₂ (λ xs ys. xs ++ ys)
-    (digits.1 ∙ ap₂ fixed_decimal eight (sym on))
-    (after_space_is (drop 8 front) rest is_rest ∙ ap (λ xs. 32 ∷ xs) high.1) in
-    (moment.0, ap (λ xs. xs ++ short_text short) parts ∙ sym (text_on days are day t hundreds short moment.2 moment.0 moment.1 fits))))))
-
--- what is read is a clock text of its time
-pub clock_takes : (days : DaysMeaning) → AreDays days → (text : List ℕ) (t : ℕ) → clock_at days text ≡ Some t → (t < 2 ^ 128) × (text ≡ clock_text_of days t)
-clock_takes days are text t e =
-    let cut = cond_else (ltb (length text) 12) _ t e in
-    option_and_then_some (front_at days (take (length text - 12) text)) (short_at (drop (length text - 12) text)) t cut.1 (λ short is r.
-    let tail = short_takes (drop (length text - 12) text) short is in
-    let front = front_takes days are (take (length text - 12) text) short t tail.0 r in
-    (front.0, sym (take-append-drop (length text - 12) text) ∙ ap (λ xs. take (length text - 12) text ++ xs) tail.1 ∙ front.1))

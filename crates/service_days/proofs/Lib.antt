@@ -1,5 +1,4 @@
 pub mod CivilDates
-pub mod ClockAscii
 pub mod ClockLaws
 pub mod DateSteps
 pub mod InOrder

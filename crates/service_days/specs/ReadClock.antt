@@ -1,5 +1,5 @@
--- How a clock text is read: eight digits of a date, a space, the digits of whole hundreds of hours, and the twelve bytes
--- of what is left.
+-- How a clock text is read back, which tells that no two times have the same: eight digits of a date, a space, the digits
+-- of whole hundreds of hours, and the twelve bytes of what is left.
 use Rattle.std.specs.Prelude.{ℕ, ◌+◌, ◌-◌, ◌*◌, ◌^◌, List, [], ◌∷◌, length, take, drop, Option, None, Some, ◌==◌, ◌&&◌, nat_eq, nat_le, nat_lt, if◌then◌else◌}
 use Rattle.std.specs.Option.{option_and_then, option_map}
 use Rattle.plain_texts.specs.FixedDecimal.{fixed_at}

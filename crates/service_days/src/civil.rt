@@ -9,7 +9,7 @@ use jiff_core::civil::{self, Date};
 use plain_texts::read_fixed;
 
 /// Whether the number YYYYMMDD is a civil date of the years 1 to 9999.
-pub fn is_date(date: u32) -> bool
+pub(crate) fn is_date(date: u32) -> bool
     ensures { result ≡ is_civil date }
 {
     let year = date / 10_000;

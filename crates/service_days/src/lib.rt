@@ -9,7 +9,8 @@ mod region_days;
 mod services;
 mod zones;
 
-pub use civil::{is_date, read_date};
+pub use civil::read_date;
+pub use clock::below_sixty;
 pub use range::RangeFault;
 pub use region_days::Days;
 pub use services::ServiceRule;

@@ -8,12 +8,12 @@ ghost use Rattle.service_days.specs.Rising.{Rise};
 ghost use Rattle.service_days.specs.inside.Numbers.{number_of_date};
 
 use crate::civil::{civil_date, date_number, last_date, next_date};
-use crate::clock::{push_time, read_short, read_spaced_hundreds};
+use crate::clock::push_time;
 use crate::range::{RangeFault, check_range};
 use crate::services::{ServiceRule, runs};
 use crate::zones::{parse_rule, zone_bases};
 use jiff_core::civil::Date;
-use plain_texts::{push_fixed, read_fixed};
+use plain_texts::push_fixed;
 use plan_base::{DaySet, Time};
 use std::alloc::{AllocError, Global};
 use std::marker::Model;
@@ -59,16 +59,14 @@ impl Model for Days {
 }
 
 impl Days {
-    ghost use Rattle.std.specs.Prelude.{◌≡◌, ◌+◌, ◌*◌, ◌++◌, ◌<◌, ◌≤◌, ◌&&◌, ◌^◌, ℕ, nat_lt, Some, Ok, IfSome, IfOk, IfErr, OnOk, string_bytes};
+    ghost use Rattle.std.specs.Prelude.{◌≡◌, ◌++◌, ◌<◌, ◌≤◌, ◌&&◌, ℕ, nat_lt, Ok, IfSome, IfOk, IfErr, OnOk};
     ghost use Rattle.service_days.specs.Days.{AreDays, AreRisingDays, IsDaysRefusal, base_of, date_of, day_at, day_with_date, new_days, numbers_of};
     ghost use Rattle.std.specs.Option.{option_map};
     ghost use Rattle.service_days.specs.Clock.{clock_text_of};
     ghost use Rattle.service_days.specs.Noons.{CountFromNoons};
     ghost use Rattle.service_days.specs.Zones.{days_made, zone_days};
-    ghost use Rattle.service_days.specs.ReadClock.{clock_at, front_at, moment_at};
     ghost use Rattle.service_days.specs.Services.{runs_on};
     ghost use Rattle.plan_base.specs.DaySets.{contains_day};
-    ghost use Rattle.plain_texts.specs.Reading.{IsReadBy};
 
     /// The days from a civil date YYYYMMDD of the years 1900 to 2199 on, so many of them. Each has 24 hours.
     pub fn new(alloc: Global, first: u32, count: u32) -> Result<Days, RangeFault>
@@ -207,7 +205,7 @@ impl Days {
     }
 
     /// The greatest day number whose base is not later than `t`.
-    pub fn day_at(&self, t: Time) -> u32
+    fn day_at(&self, t: Time) -> u32
         ensures day { result ≡ day_at self.now t }
         ensures within { result < numbers_of self.now }
         ensures begun { base_of self.now result ≤ t }
@@ -225,74 +223,9 @@ impl Days {
         out.push(b' ')?;
         push_time(out, t - self.base(day) as u128)
     }
-
-    /// The time whose clock text this is; None exactly where the text is no clock text of these days.
-    pub fn read_clock(&self, text: &[u8]) -> Option<Time>
-        ensures exact { IsReadBy (clock_text_of self.now) (λ t. t < 2 ^ 128) text.now result }
-        ensures again { (t : ℕ) → t < 2 ^ 128 → text.now ≡ clock_text_of self.now t → result ≡ Some t }
-    {
-        self.known();
-        self.read_text(text)
-    }
-
-    // The time that a text spells, read from its end.
-    fn read_text(&self, text: &[u8]) -> Option<Time>
-        ensures { result ≡ clock_at self.now text.now }
-    {
-        if text.len() < 12 {
-            return None;
-        }
-        let (front, tail) = text.split_at(text.len() - 12);
-        let short = read_short(tail)?;
-        self.read_front(front, short)
-    }
-
-    // The time of a date and whole hundreds of hours, and a shorter time after them.
-    fn read_front(&self, front: &[u8], short: u32) -> Option<Time>
-        requires { short < 360000000 }
-        ensures { result ≡ front_at self.now front.now short }
-    {
-        if front.len() < 8 {
-            return None;
-        }
-        let (date, rest) = front.split_at(8);
-        let hundreds = read_spaced_hundreds(rest)?;
-        let day = self.day_of(read_fixed(date)?)?;
-        self.moment(day, hundreds, short)
-    }
-
-    // The time so long after a day's base, if it is one of that day.
-    fn moment(&self, day: u32, hundreds: u128, short: u32) -> Option<Time>
-        requires { day < numbers_of self.now }
-        ensures { result ≡ moment_at self.now day (hundreds * 360000000 + short) }
-    {
-        let ms = hundreds
-            .checked_mul(360_000_000)?
-            .checked_add(short as u128)?;
-        let t = ms.checked_add(self.base(day) as u128)?;
-        let numbers = self.numbers();
-        let next = day + 1;
-        if next < numbers && self.base(next) as u128 <= t {
-            None
-        } else {
-            Some(t)
-        }
-    }
-
-    /// The clock text of `t`, as [`Days::push_clock`] writes it.
-    pub fn clock_text(&self, alloc: Global, t: Time) -> Result<String, AllocError>
-        ensures { IfOk result (λ text. string_bytes text ≡ clock_text_of self.now t) }
-    {
-        let mut out = Vec::new(alloc);
-        self.push_clock(&mut out, t)?;
-        match String::from_utf8(out) {
-            Ok(text) => Ok(text),
-            Err(_) => unreachable!(),
-        }
-    }
 }
 
-// The place of this date among dates that rise.
+/// The place of this date among dates that rise.
 fn place_of(dates: &[u32], date: u32) -> Option<u32>
     requires rise { Rise dates.now }
     requires few { length dates.now < 2 ^ 20 }
@@ -305,7 +238,7 @@ fn place_of(dates: &[u32], date: u32) -> Option<u32>
     }
 }
 
-// The last place whose base is not later than `t`.
+/// The last place whose base is not later than `t`.
 fn last_begun(bases: &[u64], t: u128) -> u32
     requires rise { Rise bases.now }
     requires few { length bases.now < 2 ^ 20 }
@@ -319,7 +252,7 @@ fn last_begun(bases: &[u64], t: u128) -> u32
     after as u32 - 1
 }
 
-// The bases of so many days of 24 hours.
+/// The bases of so many days of 24 hours.
 fn even_bases(alloc: Global, numbers: u32) -> Result<Vec<u64>, AllocError>
     requires { numbers < 2 ^ 20 }
     ensures { IfOk result (λ bases. bases.items ≡ map (λ day. 86400000 * day) (range_with_len 0 numbers)) }
@@ -331,7 +264,7 @@ fn even_bases(alloc: Global, numbers: u32) -> Result<Vec<u64>, AllocError>
     Ok(bases)
 }
 
-// The dates of so many days, of which the eighth is this one.
+/// The dates of so many days, of which the eighth is this one.
 fn dates_around(alloc: Global, first: u32, numbers: u32) -> Result<Vec<u32>, AllocError>
     requires date { is_first_date first ≡ true }
     requires few { numbers < 100 }
@@ -346,7 +279,7 @@ fn dates_around(alloc: Global, first: u32, numbers: u32) -> Result<Vec<u32>, All
     Ok(dates)
 }
 
-// The date seven days before.
+/// The date seven days before.
 fn week_before(first: u32) -> Date
     requires { is_first_date first ≡ true }
     ensures number { number_of_date result ≡ earlier_date 7 first }
