@@ -34,7 +34,7 @@ pub fn read_date(text: &[u8]) -> Option<u32>
     if is_date(date) { Some(date) } else { None }
 }
 
-// The date that a number stands for.
+/// The date that a number stands for.
 pub(crate) fn civil_date(date: u32) -> Date
     requires { is_civil date ≡ true }
     ensures { IsYmd (pos (year_of date)) (pos (month_of date)) (pos (day_of_month date)) result }
@@ -49,7 +49,7 @@ pub(crate) fn civil_date(date: u32) -> Date
     }
 }
 
-// The number that stands for a date.
+/// The number that stands for a date.
 pub(crate) fn date_number(date: Date) -> u32
     requires { pos 0 ≤ℤ date.year }
     ensures { result ≡ number_of_date date }
@@ -57,7 +57,7 @@ pub(crate) fn date_number(date: Date) -> u32
     date.year as u32 * 10_000 + date.month as u32 * 100 + date.day as u32
 }
 
-// The next date.
+/// The next date.
 pub(crate) fn next_date(date: Date) -> Date
     requires not_early { pos 1 ≤ℤ date.year }
     requires not_last { date.year <ℤ pos 9999 }
@@ -71,7 +71,7 @@ pub(crate) fn next_date(date: Date) -> Date
     }
 }
 
-// The date before.
+/// The date before.
 pub(crate) fn last_date(date: Date) -> Date
     requires not_first { pos 2 ≤ℤ date.year }
     ensures number { number_of_date result ≡ date_before (number_of_date date) }

@@ -30,7 +30,7 @@ impl From<AllocError> for RangeFault {
     }
 }
 
-// Whether days may begin at this date, and be so many.
+/// Whether days may begin at this date, and be so many.
 pub(crate) fn check_range(first: u32, count: u32) -> Result<(), RangeFault>
     ensures date { OnOk result (is_first_date first ≡ true) }
     ensures count { OnOk result (is_day_count count ≡ true) }

@@ -15,7 +15,7 @@ pub struct ServiceRule {
     pub last: u32,
 }
 
-// Whether a service runs on a date: it is added, or the rule has it and it is not removed.
+/// Whether a service runs on a date: it is added, or the rule has it and it is not removed.
 pub(crate) fn runs(rule: Option<ServiceRule>, added: &[u32], removed: &[u32], date: u32) -> bool
     requires { is_civil date ≡ true }
     ensures { result ≡ runs_on rule added.now removed.now date }
@@ -23,7 +23,7 @@ pub(crate) fn runs(rule: Option<ServiceRule>, added: &[u32], removed: &[u32], da
     added.contains(&date) || follows(rule, date) && !removed.contains(&date)
 }
 
-// Whether the rule has a date.
+/// Whether the rule has a date.
 fn follows(rule: Option<ServiceRule>, date: u32) -> bool
     requires { is_civil date ≡ true }
     ensures { result ≡ follows_rule rule date }
@@ -34,7 +34,7 @@ fn follows(rule: Option<ServiceRule>, date: u32) -> bool
     }
 }
 
-// The day of the week of a date, from 0 for Monday.
+/// The day of the week of a date, from 0 for Monday.
 fn weekday(date: u32) -> usize
     requires { is_civil date ≡ true }
     ensures value { result ≡ weekday_on date }

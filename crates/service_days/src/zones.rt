@@ -17,21 +17,21 @@ use jiff_tz::AmbiguousOffset;
 use jiff_tz::posix::TimeZone;
 use std::alloc::Global;
 
-// Whether a text may be a rule: it has 1 to 64 bytes, printable ones and no space.
+/// Whether a text may be a rule: it has 1 to 64 bytes, printable ones and no space.
 pub(crate) fn is_rule_text(rule: &[u8]) -> bool
     ensures { result ≡ is_rule_text rule.now }
 {
     !rule.is_empty() && rule.len() <= 64 && are_printable(rule)
 }
 
-// Whether each byte is printable and no space.
+/// Whether each byte is printable and no space.
 fn are_printable(text: &[u8]) -> bool
     ensures { result ≡ list_all (λ byte. nat_le 33 byte && nat_le byte 126) text.now }
 {
     text.iter().all(|byte| 33 <= *byte && *byte <= 126)
 }
 
-// The zone of a rule, if the text is one.
+/// The zone of a rule, if the text is one.
 pub(crate) fn parse_rule(rule: &[u8]) -> Option<TimeZone>
     ensures { option_map zone_of result ≡ (if is_rule_text rule.now then read_zone rule.now else None) }
 {
@@ -41,7 +41,7 @@ pub(crate) fn parse_rule(rule: &[u8]) -> Option<TimeZone>
     TimeZone::parse(rule).ok()
 }
 
-// The bases of the days of all dates but the last, whose day is the one after them.
+/// The bases of the days of all dates but the last, whose day is the one after them.
 pub(crate) fn zone_bases(
     alloc: Global,
     zone: &TimeZone,
@@ -73,7 +73,7 @@ pub(crate) fn zone_bases(
     Ok(bases)
 }
 
-// Whether there are 22 to 26 hours from a noon to the next, both in seconds.
+/// Whether there are 22 to 26 hours from a noon to the next, both in seconds.
 fn is_day_length(noon: i64, next: i64) -> bool
     requires noon { IsWithin 1000000000000 noon }
     ensures { result ≡ is_day_length (noon *ℤ pos 1000000000) (next *ℤ pos 1000000000) }
@@ -81,7 +81,7 @@ fn is_day_length(noon: i64, next: i64) -> bool
     noon + 79_200 <= next && next <= noon + 93_600
 }
 
-// The milliseconds from one time in seconds to a later one.
+/// The milliseconds from one time in seconds to a later one.
 fn milliseconds(start: i64, end: i64) -> u64
     requires start { IsWithin 1000000000000 start }
     requires end { IsWithin 1000000000000 end }
@@ -91,7 +91,7 @@ fn milliseconds(start: i64, end: i64) -> u64
     (end - start) as u64 * 1_000
 }
 
-// When it is noon of a date in the zone, in seconds since 1970.
+/// When it is noon of a date in the zone, in seconds since 1970.
 fn noon(zone: &TimeZone, date: u32) -> i64
     requires { is_civil date ≡ true }
     ensures value { noon_in (zone_of zone.now) date ≡ result *ℤ pos 1000000000 }
@@ -111,7 +111,7 @@ fn noon(zone: &TimeZone, date: u32) -> i64
     noon_seconds(date.to_unix_epoch_day(), offset.seconds)
 }
 
-// The seconds from 1970 to noon of a day number, on a clock that is so many seconds ahead.
+/// The seconds from 1970 to noon of a day number, on a clock that is so many seconds ahead.
 fn noon_seconds(day: i32, offset: i32) -> i64
     requires day { IsEpochDay day }
     requires offset { IsOffsetSeconds offset }
@@ -121,7 +121,7 @@ fn noon_seconds(day: i32, offset: i32) -> i64
     day as i64 * 86_400 + 43_200 - offset as i64
 }
 
-// The offset before a change of the clock.
+/// The offset before a change of the clock.
 fn compatible(offsets: AmbiguousOffset) -> Offset
     ensures { result ≡ compatible_offset offsets }
 {
