@@ -1,7 +1,9 @@
 -- Trips that have the same head are alike.
 use Rattle.std.proofs.Common.{◌≡◌, ℕ, ◌+◌, ◌<◌, List, [], ◌∷◌, Some, zero, suc, inl, inr, refl, sym, ◌∙◌, ap, subst, arith}
+use Rattle.std.proofs.lemmas.List.{get_or_past}
+use Rattle.std.proofs.lemmas.Option.{get_or_from_slice_get, slice_get_cases}
 use Rattle.std.specs.List.{range_with_len}
-use Rattle.std.specs.Prelude.{◌⊎◌, slice_get, slice_set}
+use Rattle.std.specs.Prelude.{◌⊎◌, slice_get, slice_index_or, slice_set}
 use Rattle.timetable_arcs.specs.Trips.{TripLists}
 use Rattle.timetable_arcs.specs.Patterns.{plain_table, trip_at, AreAlike}
 use Rattle.timetable_arcs.specs.inside.Sorting.{AreHeads, HaveSameHead}
@@ -48,3 +50,20 @@ pub heads_themselves : (trips : List TripLists) (n : ℕ) → AreHeads trips (ra
 heads_themselves trips n place head is =
     let same : head ≡ place = (let e = range_get 0 n place head is in omega (arith, e)) in
     subst (λ x. AreAlike (trip_at (plain_table [] trips) x) (trip_at (plain_table [] trips) place)) (sym same) (alike_itself (plain_table [] trips) place)
+
+-- a trip is alike its head
+head_alike : (trips : List TripLists) (heads : List ℕ) → AreHeads trips heads → (trip : ℕ)
+    → AreAlike (trip_at (plain_table [] trips) (slice_index_or heads trip trip)) (trip_at (plain_table [] trips) trip)
+head_alike trips heads are trip = elim ((slice_get_cases heads trip).1) [
+  | inl e ↦ rw (get_or_from_slice_get heads trip e.0 trip e.2) (are trip e.0 e.2)
+  | inr e ↦ rw (get_or_past heads trip trip e.0) (alike_itself (plain_table [] trips) trip)
+]
+
+-- the head of a trip's head may be its head
+pub heads_joined : (trips : List TripLists) (heads of_heads : List ℕ) → AreHeads trips heads → AreHeads trips of_heads → (trip : ℕ)
+    → AreHeads trips (slice_set heads trip (slice_index_or of_heads (slice_index_or heads trip trip) (slice_index_or heads trip trip)))
+heads_joined trips heads of_heads are are_of trip =
+    let head = slice_index_or heads trip trip in
+    let of_head = slice_index_or of_heads head head in
+    let back = alike_both _ _ _ (head_alike trips of_heads are_of head) (alike_itself (plain_table [] trips) of_head) in
+    heads_set trips heads are trip of_head (alike_both _ _ _ back (head_alike trips heads are trip))

@@ -277,8 +277,8 @@ pub(crate) fn sort_into_patterns(
     ensures each_once { IfOk result (λ patterns. (weight : Instance → ℕ)
         → sum_all weight patterns.items ≡ sum_by weight (runs_from days 0 trips.now)) }
 {
-    let order = trips_in_order(alloc, trips)?;
-    let heads = heads_of(alloc, trips, &order)?;
+    let heads = heads_of(alloc, trips)?;
+    let order = trips_in_order(alloc, trips, &heads)?;
     let given = Headed {
         bases,
         trips,

@@ -1,6 +1,6 @@
 //! The order in which runs are put into patterns.
 
-ghost use Rattle.std.specs.Prelude.{◌≡◌, ◌<◌, ◌^◌, [], length, IfOk, IsPermutation, slice_set};
+ghost use Rattle.std.specs.Prelude.{◌≡◌, ◌<◌, ◌^◌, [], length, IfOk, IsPermutation, slice_index_or, slice_set};
 ghost use Rattle.std.specs.Bool.{OnTrue};
 ghost use Rattle.timetable_arcs.specs.Patterns.{plain_table, trip_at, AreAlike};
 ghost use Rattle.timetable_arcs.specs.inside.Sorting.{AreHeads, HaveSameHead};
@@ -21,21 +21,20 @@ fn compare_calls(a: &[Call], b: &[Call]) -> Ordering {
     a.len().cmp(&b.len())
 }
 
-/// Compares trips by what the trips of a pattern have in common, and alike ones by when they first depart.
+/// Compares trips by what the trips of a pattern have in common.
 fn compare_trips(trips: &[Trip], a: u32, b: u32) -> Ordering {
     match (trips.get(a as usize), trips.get(b as usize)) {
         (Some(a), Some(b)) => a
             .letter
             .cmp(&b.letter)
-            .then(compare_calls(&a.calls, &b.calls))
-            .then(first_departure(a).cmp(&first_departure(b))),
+            .then_with(|| compare_calls(&a.calls, &b.calls)),
         _ => a.cmp(&b),
     }
 }
 
 /// When a trip departs from its first call, if it has one.
-fn first_departure(trip: &Trip) -> Option<u32> {
-    let first = trip.calls.first()?;
+fn first_departure(trips: &[Trip], trip: u32) -> Option<u32> {
+    let first = trips.get(trip as usize)?.calls.first()?;
     Some(first.dep)
 }
 
@@ -50,18 +49,84 @@ fn places_below(alloc: Global, count: u32) -> Result<Vec<u32>, AllocError>
     Ok(places)
 }
 
-/// The places of the trips: alike ones side by side, and of these before the others those that depart first.
-pub(crate) fn trips_in_order(alloc: Global, trips: &[Trip]) -> Result<Vec<u32>, AllocError>
+/// What is held of a trip, its head or its rank, or the trip itself where nothing is.
+fn number_at(numbers: &[u32], trip: u32) -> u32
+    ensures { result ≡ slice_index_or numbers.now trip trip }
+{
+    numbers.get(trip as usize).copied().unwrap_or(trip)
+}
+
+/// The trips that are their own heads, in the order of what the trips of a pattern have in common.
+fn own_heads(alloc: Global, trips: &[Trip], heads: &[u32]) -> Result<Vec<u32>, AllocError>
+    requires { length trips.now < 2 ^ 32 }
+{
+    let mut own = places_below(alloc, trips.len() as u32)?;
+    own.retain(|trip| number_at(heads, *trip) == *trip);
+    own.sort_by(|a, b| compare_trips(trips, *a, *b))?;
+    Ok(own)
+}
+
+/// For each trip that is its own head its rank, which is its place among these in order.
+fn ranks_of(alloc: Global, trips: &[Trip], heads: &[u32]) -> Result<Vec<u32>, AllocError>
+    requires { length trips.now < 2 ^ 32 }
+{
+    let mut ranks = places_below(alloc, trips.len() as u32)?;
+    let own = own_heads(alloc, trips, heads)?;
+    for (head, rank) in own.iter().zip(0..trips.len() as u32) {
+        set_number(&mut ranks, *head, rank);
+    }
+    Ok(ranks)
+}
+
+/// The places of the trips: those with one head side by side, in the order of [`own_heads`], and of these
+/// before the others those that depart first.
+pub(crate) fn trips_in_order(
+    alloc: Global,
+    trips: &[Trip],
+    heads: &[u32],
+) -> Result<Vec<u32>, AllocError>
     requires { length trips.now < 2 ^ 32 }
     ensures { IfOk result (λ places. IsPermutation (range_with_len 0 (length trips.now)) places.items) }
 {
+    let ranks = ranks_of(alloc, trips, heads)?;
     let mut places = places_below(alloc, trips.len() as u32)?;
-    places.sort_by(|a, b| compare_trips(trips, *a, *b))?;
+    places.sort_by_cached_key(|trip| {
+        (
+            number_at(&ranks, number_at(heads, *trip)),
+            first_departure(trips, *trip),
+        )
+    })?;
     Ok(places)
 }
 
-/// For each trip one that is alike, its head: of those that are alike and stand side by side in the order, the first.
-pub(crate) fn heads_of(alloc: Global, trips: &[Trip], order: &[u32]) -> Result<Vec<u32>, AllocError>
+/// For each trip one that is alike, its head: the same for all that are alike. Alike trips mostly stand side
+/// by side, so the heads of such blocks are found first, and these alone are sorted by their calls.
+pub(crate) fn heads_of(alloc: Global, trips: &[Trip]) -> Result<Vec<u32>, AllocError>
+    requires { length trips.now < 2 ^ 32 }
+    ensures { IfOk result (λ heads. AreHeads trips.now heads.items) }
+{
+    let mut heads = heads_along(alloc, trips, &places_below(alloc, trips.len() as u32)?)?;
+    let of_blocks = heads_along(alloc, trips, &own_heads(alloc, trips, &heads)?)?;
+    join_heads(trips, &mut heads, &of_blocks);
+    Ok(heads)
+}
+
+/// Puts in place of each head the head of it.
+#[tactic(auto, using(crate::proofs::HeadLemmas::heads_joined))]
+fn join_heads(trips: &[Trip], heads: &mut Vec<u32>, of_heads: &[u32])
+    requires count { length trips.now < 2 ^ 32 }
+    requires heads { AreHeads trips.now heads.old.items }
+    requires of_heads { AreHeads trips.now of_heads.now }
+    ensures { AreHeads trips.now heads.new.items }
+{
+    for trip in 0..trips.len() as u32 {
+        let head = number_at(of_heads, number_at(heads, trip));
+        set_number(heads, trip, head);
+    }
+}
+
+/// For each trip one that is alike: of those that are alike and stand side by side along these, the first.
+fn heads_along(alloc: Global, trips: &[Trip], order: &[u32]) -> Result<Vec<u32>, AllocError>
     requires { length trips.now < 2 ^ 32 }
     ensures { IfOk result (λ heads. AreHeads trips.now heads.items) }
 {
@@ -69,7 +134,7 @@ pub(crate) fn heads_of(alloc: Global, trips: &[Trip], order: &[u32]) -> Result<V
     let mut head = 0;
     for trip in order {
         head = head_after(trips, head, *trip);
-        set_head(&mut heads, *trip, head);
+        set_number(&mut heads, *trip, head);
     }
     Ok(heads)
 }
@@ -85,11 +150,11 @@ fn head_after(trips: &[Trip], head: u32, trip: u32) -> u32
     }
 }
 
-fn set_head(heads: &mut Vec<u32>, trip: u32, head: u32)
-    ensures { heads.new.items ≡ slice_set heads.old.items trip head }
+fn set_number(numbers: &mut Vec<u32>, trip: u32, number: u32)
+    ensures { numbers.new.items ≡ slice_set numbers.old.items trip number }
 {
-    if let Some(held) = heads.get_mut(trip as usize) {
-        *held = head;
+    if let Some(held) = numbers.get_mut(trip as usize) {
+        *held = number;
     }
 }
 

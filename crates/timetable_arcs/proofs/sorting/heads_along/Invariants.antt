@@ -1,5 +1,5 @@
 use Rattle.timetable_arcs.specs.inside.Sorting.{AreHeads}
-use Rattle.timetable_arcs.proofs.sorting.heads_of.Given as goal
+use Rattle.timetable_arcs.proofs.sorting.heads_along.Given as goal
 
 abbrev pub invariant-loop-trip : goal.invariant-loop-trip
 invariant-loop-trip l = AreHeads l.trips l.heads.items

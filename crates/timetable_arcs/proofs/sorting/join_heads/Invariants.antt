@@ -1,0 +1,5 @@
+use Rattle.timetable_arcs.specs.inside.Sorting.{AreHeads}
+use Rattle.timetable_arcs.proofs.sorting.join_heads.Given as goal
+
+abbrev pub invariant-loop-trip : goal.invariant-loop-trip
+invariant-loop-trip l = AreHeads l.trips l.heads.items
