@@ -1,6 +1,6 @@
 -- An automaton that reads adjacent equal road letters as one.
-use Rattle.std.specs.Prelude.{ℕ, ◌+◌, ◌-◌, ◌*◌, ◌/◌, ◌%◌, ◌^◌, ◌<◌, ◌≤◌, true, ◌&&◌, ◌==◌, ◌↔◌, List, bit_and, if◌then◌else◌}
-use Rattle.search_laws.specs.Letters.{every_letter, transit_letters}
+use Rattle.std.specs.Prelude.{ℕ, ◌+◌, ◌-◌, ◌*◌, ◌/◌, ◌%◌, ◌^◌, ◌<◌, ◌≤◌, ◌&&◌, ◌==◌, ◌↔◌, List, bit_and, if◌then◌else◌}
+use Rattle.search_laws.specs.Letters.{transit_letters}
 use Rattle.search_laws.specs.declared.labels.Move.{Move}
 use Rattle.search_laws.specs.LabelLaws.{LabelsMeaning, Accepts}
 use Rattle.search_laws.specs.Collapse.{collapse}
@@ -35,16 +35,6 @@ collapsed l = record {
 pub record FitsCollapsed (l : LabelsMeaning) : Type 0 where
   pub few_states : l.states ≤ 2 ^ 14
   pub few_moves : (q : ℕ) → q < l.states → l.moves q ≤ 2 ^ 16
-
--- one state, which reads every letter
-abbrev pub one_state : LabelsMeaning
-one_state = record {
-  states = 1;
-  is_start = λ q. true;
-  moves = λ q. 1;
-  move_at = λ q i. record { letters = every_letter; to = 0 };
-  accepts = λ q. true;
-}
 
 -- it accepts the words whose collapse the inner one accepts
 abbrev pub AcceptsCollapsed : LabelsMeaning → Type 0

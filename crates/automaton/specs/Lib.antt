@@ -3,6 +3,5 @@ pub mod States
 pub mod Meanings
 pub mod Collapsed
 pub mod CollapsedLaws
-pub mod OneStateLaws
 pub mod Languages
 pub mod inside

@@ -5,12 +5,10 @@
 mod builder;
 mod collapsed;
 mod laws;
-mod one_state;
 mod position_set;
 mod positions;
 mod state;
 
 pub use collapsed::Collapsed;
 pub use laws::positions_accept;
-pub use one_state::{OneState, one_state_accepts};
 pub use positions::Positions;

@@ -4,10 +4,11 @@ ghost use Rattle.std.specs.Prelude.{◌<◌};
 ghost use Rattle.mode_expression.specs.Form.{form_of, IsUsable};
 
 use crate::parts;
-use automaton::{Collapsed, OneState, Positions};
+use automaton::{Collapsed, Positions};
 use case_script::Answer;
-use mode_expression::{Expr, Letter, parse};
-use search_laws::{LETTERS, Labels};
+use mode_expression::{Expr, parse};
+use search_laws::Labels;
+use std::alloc::Global;
 
 /// `accepts WORD EXPR`, the letters of the word parted by `,`: whether the positions accept the word, and whether the
 /// collapsed automaton does.
@@ -21,17 +22,12 @@ pub fn accepts(out: &mut Answer, words: &[u8]) {
 fn print_accepted(out: &mut Answer, expr: &Expr, word: &[u8])
     requires { IsUsable (form_of expr.now) }
 {
-    if let Ok(positions) = Positions::of(out.alloc(), expr) {
-        out.shown("positions ", is_accepted(&positions, word));
+    let alloc = out.alloc();
+    if let Ok(positions) = Positions::of(alloc, expr) {
+        out.shown("positions ", is_accepted(alloc, &positions, word));
         let collapsed = Collapsed::new(positions);
-        out.shown(", collapsed ", is_accepted(&collapsed, word));
+        out.shown(", collapsed ", is_accepted(alloc, &collapsed, word));
     }
-}
-
-/// `one WORD`: whether the automaton of one state accepts a word, as it does each.
-pub fn one(out: &mut Answer, word: &[u8]) {
-    out.shown("", OneState.states());
-    out.shown(" state; accepted ", is_accepted(&OneState, word));
 }
 
 /// `size EXPRESSION`: how many states the position automaton has, and how many moves its last one.
@@ -76,11 +72,11 @@ fn print_automata(out: &mut Answer, expr: &Expr)
 }
 
 /// Whether the automaton, of at most 128 states, reads the letters from one of its start states to an accepting one.
-fn is_accepted<L: Labels>(labels: &L, word: &[u8]) -> bool {
+fn is_accepted<L: Labels>(alloc: Global, labels: &L, word: &[u8]) -> bool {
     let mut here = starts(labels);
     for i in 0..parts::count(word, b',') {
-        if let Some(letter) = Letter::from_name(parts::part(word, b',', i)) {
-            here = after(labels, here, letter.number());
+        if let Ok(Expr::Letters(letters)) = parse(alloc, parts::part(word, b',', i)) {
+            here = after(labels, here, letters);
         }
     }
     is_accepting(labels, here)
@@ -97,25 +93,25 @@ fn starts<L: Labels>(labels: &L) -> u128 {
     starts
 }
 
-/// The states after a letter.
-fn after<L: Labels>(labels: &L, here: u128, letter: u8) -> u128 {
+/// The states after one of some letters, as bits.
+fn after<L: Labels>(labels: &L, here: u128, letters: u32) -> u128 {
     let mut next = 0;
     for state in 0..labels.states() {
         if here & bit(state) != 0 {
-            next |= moved(labels, state, letter);
+            next |= moved(labels, state, letters);
         }
     }
     next
 }
 
-/// The states after a letter that is read in a state.
-fn moved<L: Labels>(labels: &L, state: u32, letter: u8) -> u128
+/// The states after one of some letters that is read in a state.
+fn moved<L: Labels>(labels: &L, state: u32, letters: u32) -> u128
     requires { state < (L.automaton labels.now).states }
 {
     let mut next = 0;
     for i in 0..labels.moves(state) {
         let step = labels.move_at(state, i);
-        if letter < LETTERS as u8 && step.letters >> letter & 1 == 1 {
+        if step.letters & letters != 0 {
             next |= bit(step.to);
         }
     }

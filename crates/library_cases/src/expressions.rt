@@ -37,24 +37,21 @@ fn is_written_so(alloc: Global, expr: &Expr, text: &str) -> bool {
     }
 }
 
-/// `letters`: each letter by its number: its name, whether it is a road's, and whether the name gives it again.
+/// `letters`: each letter by its number: its name, and its number again.
 pub fn letters(out: &mut Answer) {
     for number in 0..16 {
+        if number > 0 {
+            out.text("\n");
+        }
         out.shown("", number);
         match Letter::from_number(number) {
             Some(letter) => print_letter(out, letter),
-            None => out.text(": no letter\n"),
+            None => out.text(": no letter"),
         }
     }
-    out.debug("any: ", Letter::from_name(b"any"));
 }
 
 fn print_letter(out: &mut Answer, letter: Letter) {
-    let name = letter.name();
-    let same = Letter::from_name(name.as_bytes()) == Some(letter);
-    out.shown(": ", name);
+    out.shown(": ", letter.name());
     out.shown(", number ", letter.number());
-    out.shown(", road ", letter.is_road());
-    out.shown(", by its name ", same);
-    out.text("\n");
 }

@@ -104,7 +104,6 @@ fn answer_of_expressions(out: &mut Answer, script: &Script, call: &str, words: &
         "spelled" => expressions::expression(out, script.text(words)),
         "letters" => expressions::letters(out),
         "accepts" => automata::accepts(out, words),
-        "one" => automata::one(out, words),
         "size" => automata::size(out, words),
         "states" => automata::states(out, words),
         "searches" => drawn::searches(out, words),

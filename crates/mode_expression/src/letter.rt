@@ -1,7 +1,6 @@
-ghost use Rattle.std.specs.Prelude.{◌≡◌, ◌<◌, ◌↔◌, Some, IsTrue, slice_get, option_map};
+ghost use Rattle.std.specs.Prelude.{◌≡◌, Some, slice_get, option_map};
 ghost use Rattle.plan_base.specs.LetterNames.{letter_names};
-ghost use Rattle.mode_expression.specs.Letters.{letter_named, letter_numbered};
-ghost use Rattle.mode_expression.specs.Letters.{number_of};
+ghost use Rattle.mode_expression.specs.Letters.{letter_named, letter_numbered, number_of};
 
 use search_laws::LETTERS;
 
@@ -78,7 +77,7 @@ impl Letter {
     }
 
     /// The letter with this name.
-    pub fn from_name(name: &[u8]) -> Option<Letter>
+    pub(crate) fn from_name(name: &[u8]) -> Option<Letter>
         ensures { option_map number_of result ≡ letter_named name.now }
     {
         for number in 0..LETTERS as u8 {
@@ -89,12 +88,5 @@ impl Letter {
             }
         }
         None
-    }
-
-    /// Whether the letter is foot, bike or car: a leg of adjacent equal road letters is one.
-    pub fn is_road(self) -> bool
-        ensures { IsTrue result ↔ (number_of self < 3) }
-    {
-        matches!(self, Letter::Foot | Letter::Bike | Letter::Car)
     }
 }
