@@ -4,8 +4,8 @@ use Rattle.mode_network.specs.NetworkLists.{NetworkLists}
 use Rattle.mode_network.specs.Journeys.{Route}
 use Rattle.journey.specs.declared.answer.BlockBody.{BlockBody}
 use Rattle.journey.specs.declared.answer.BlockBody.TheVariants.{Journey, Nothing}
-use Rattle.journey.specs.declared.verdict.CertFault.TheVariants.{BadLine}
-use Rattle.journey.specs.declared.verdict.CertVerdict.TheVariants as verdict
+use Rattle.certificate.specs.declared.verdict.CertFault.TheVariants.{BadLine}
+use Rattle.certificate.specs.declared.verdict.CertVerdict.TheVariants as verdict
 use Rattle.journey.specs.Blocks.{IsBlockText}
 use Rattle.journey.specs.Best.{IsBlock, IsRefusedBlock}
 use Rattle.journey.specs.Large.{IsBlockUnder, stopped_block}

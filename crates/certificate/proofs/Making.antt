@@ -6,8 +6,8 @@ use Rattle.plain_texts.specs.Lines.{IsLine, pieces, lines_text}
 use Rattle.plain_texts.specs.Course.{Course, whole, bad, trailing, lines_from, run_on, IsWhole}
 use Rattle.plain_texts.proofs.Pieces.{pieces_lines}
 use Rattle.plain_texts.proofs.Course.{ReadsLines, has_pieces, course_takes, course_bad, course_bad_is, course_trailing, course_trailing_is, course_again}
-use Rattle.journey.specs.declared.verdict.CertFault.{CertFault}
-use Rattle.journey.specs.declared.verdict.CertFault.TheVariants.{BadLine, OutOfMemory}
+use Rattle.certificate.specs.declared.verdict.CertFault.{CertFault}
+use Rattle.certificate.specs.declared.verdict.CertFault.TheVariants.{BadLine, OutOfMemory}
 use Rattle.certificate.specs.Making.{made_by, Gives, IsCause}
 
 pub same_Ok : {A E : Type 0} (x y : A) → ◌≡◌ {A = Result A E} (Ok x) (Ok y) → x ≡ y

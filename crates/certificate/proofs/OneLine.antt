@@ -5,7 +5,7 @@ use Rattle.std.specs.Prelude.{Some, None, Ok, Err, ◌==◌}
 use Rattle.plain_texts.specs.Course.{Course, whole, bad, trailing, onto, lines_from}
 use Rattle.plain_texts.specs.Lines.{pieces, next_line_of}
 use Rattle.plain_texts.proofs.Course.{course_no_line, course_bad_line, course_good_line, course_last_line, course_more_lines}
-use Rattle.journey.specs.declared.verdict.CertFault.TheVariants.{BadLine}
+use Rattle.certificate.specs.declared.verdict.CertFault.TheVariants.{BadLine}
 use Rattle.certificate.specs.Making.{made_by}
 
 pub is_some : (text : List ℕ) → (length text == 0) ≡ false → 0 < length text

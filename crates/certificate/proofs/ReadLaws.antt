@@ -11,8 +11,8 @@ use Rattle.mode_network.specs.declared.steps.Step.{Step}
 use Rattle.mode_network.specs.declared.steps.Step.TheVariants.{Wait, Road, Link, Stand, Ride}
 use Rattle.mode_network.specs.Journeys.{Route}
 use Rattle.journey.specs.Ends.{HasTime}
-use Rattle.journey.specs.declared.verdict.CertFault.{CertFault}
-use Rattle.journey.specs.declared.verdict.CertFault.TheVariants.{BadLine}
+use Rattle.certificate.specs.declared.verdict.CertFault.{CertFault}
+use Rattle.certificate.specs.declared.verdict.CertFault.TheVariants.{BadLine}
 use Rattle.product_search.specs.declared.label.Label.{Label}
 use Rattle.certificate.specs.declared.lines.Line.{Line}
 use Rattle.certificate.specs.declared.lines.Line.TheVariants as line

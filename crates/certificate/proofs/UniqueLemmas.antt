@@ -26,8 +26,8 @@ use Rattle.mode_network.specs.Journeys.{Route, IsStep, AreSteps, IsJourney}
 use Rattle.mode_network.specs.Copies.{IsCopy}
 use Rattle.mode_network.proofs.RuleLemmas.{some_is}
 use Rattle.journey.specs.declared.fault.QueryFault.{QueryFault}
-use Rattle.journey.specs.declared.verdict.CertVerdict.{CertVerdict}
-use Rattle.journey.specs.declared.verdict.CertVerdict.TheVariants.{Valid, Invalid}
+use Rattle.certificate.specs.declared.verdict.CertVerdict.{CertVerdict}
+use Rattle.certificate.specs.declared.verdict.CertVerdict.TheVariants.{Valid, Invalid}
 use Rattle.journey.specs.Best.{Asked, Asks}
 use Rattle.journey.specs.CopyLists.{AreTheCopies}
 use Rattle.journey.specs.Faults.{number_of}

@@ -7,7 +7,7 @@ use Rattle.mode_expression.specs.Form.{IsWordOf}
 use Rattle.mode_network.specs.NetworkLists.{NetworkLists}
 use Rattle.mode_network.specs.Journeys.{Route}
 use Rattle.mode_network.specs.Copies.{IsCopy}
-use Rattle.journey.specs.declared.verdict.CertVerdict.TheVariants.{Valid, Invalid}
+use Rattle.certificate.specs.declared.verdict.CertVerdict.TheVariants.{Valid, Invalid}
 use Rattle.certificate.specs.declared.walked.Walked.{Walked}
 use Rattle.certificate.specs.declared.claimed.Goal.{Goal}
 use Rattle.certificate.specs.declared.claimed.JourneyCheck.{JourneyCheck}

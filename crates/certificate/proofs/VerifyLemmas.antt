@@ -29,7 +29,7 @@ use Rattle.mode_network.specs.NetworkLists.{NetworkLists, nodes_of}
 use Rattle.mode_network.specs.Rules.{IsNetwork}
 use Rattle.mode_network.specs.Journeys.{Route}
 use Rattle.journey.specs.declared.query.Query.{Query}
-use Rattle.journey.specs.declared.verdict.CertVerdict.TheVariants.{Valid, Invalid}
+use Rattle.certificate.specs.declared.verdict.CertVerdict.TheVariants.{Valid, Invalid}
 use Rattle.journey.specs.Queries.{IsQuery}
 use Rattle.journey.specs.CopyLists.{AreTheCopies}
 use Rattle.journey.specs.Best.{Asked, Answers, asked_by}

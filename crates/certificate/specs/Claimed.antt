@@ -4,8 +4,8 @@ use Rattle.mode_expression.specs.Form.{IsWordOf}
 use Rattle.mode_network.specs.NetworkLists.{NetworkLists}
 use Rattle.mode_network.specs.Journeys.{Route, IsJourney}
 use Rattle.mode_network.specs.Copies.{IsCopy}
-use Rattle.journey.specs.declared.verdict.CertVerdict.{CertVerdict}
-use Rattle.journey.specs.declared.verdict.CertVerdict.TheVariants.{Valid, Invalid}
+use Rattle.certificate.specs.declared.verdict.CertVerdict.{CertVerdict}
+use Rattle.certificate.specs.declared.verdict.CertVerdict.TheVariants.{Valid, Invalid}
 use Rattle.journey.specs.Real.{IsFirstBad}
 use Rattle.journey.specs.Best.{Asked}
 use Rattle.certificate.specs.declared.claimed.Arrival.{Arrival}

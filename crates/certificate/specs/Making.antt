@@ -2,8 +2,8 @@
 use Rattle.std.specs.Prelude.{◌≡◌, ℕ, ◌⊎◌, List, Bool, Option, Result, Ok, Err, fold}
 use Rattle.plain_texts.specs.Lines.{pieces}
 use Rattle.plain_texts.specs.Course.{Course, whole, bad, trailing, IsFirstBad, IsTrailing}
-use Rattle.journey.specs.declared.verdict.CertFault.{CertFault}
-use Rattle.journey.specs.declared.verdict.CertFault.TheVariants.{BadLine, OutOfMemory}
+use Rattle.certificate.specs.declared.verdict.CertFault.{CertFault}
+use Rattle.certificate.specs.declared.verdict.CertFault.TheVariants.{BadLine, OutOfMemory}
 
 -- what all lines of a course make, or its fault
 abbrev pub made_by : {L M : Type 0} → (M → L → M) → M → Course L → Result M CertFault

@@ -4,7 +4,7 @@ use Rattle.plain_texts.specs.Lines.{pieces}
 use Rattle.plain_texts.specs.Course.{lines_from}
 use Rattle.mode_network.specs.declared.steps.Step.{Step}
 use Rattle.mode_network.specs.Journeys.{Route}
-use Rattle.journey.specs.declared.verdict.CertFault.{CertFault}
+use Rattle.certificate.specs.declared.verdict.CertFault.{CertFault}
 use Rattle.certificate.specs.declared.lines.Line.{Line}
 use Rattle.certificate.specs.declared.lines.Line.TheVariants as line
 use Rattle.certificate.specs.declared.due.Due.TheVariants as due

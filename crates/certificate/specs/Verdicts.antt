@@ -15,8 +15,8 @@ use Rattle.mode_network.specs.Rules.{IsNetwork}
 use Rattle.mode_network.specs.Journeys.{Route}
 use Rattle.journey.specs.declared.fault.QueryFault.{QueryFault}
 use Rattle.journey.specs.declared.query.Query.{Query}
-use Rattle.journey.specs.declared.verdict.CertVerdict.{CertVerdict}
-use Rattle.journey.specs.declared.verdict.CertVerdict.TheVariants.{Valid, Invalid}
+use Rattle.certificate.specs.declared.verdict.CertVerdict.{CertVerdict}
+use Rattle.certificate.specs.declared.verdict.CertVerdict.TheVariants.{Valid, Invalid}
 use Rattle.journey.specs.Faults.{number_of}
 use Rattle.journey.specs.Queries.{IsRefused}
 use Rattle.journey.specs.Best.{Asked, Asks, Answers}

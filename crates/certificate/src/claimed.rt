@@ -9,8 +9,9 @@ ghost use Rattle.certificate.specs.Checks.{IsSetUp};
 ghost use Rattle.certificate.specs.StateSets.{AreAfter};
 
 use crate::state_sets::StateSets;
+use crate::verdict::CertVerdict;
 use crate::walked::{Walked, walk};
-use journey::{CertVerdict, Query};
+use journey::Query;
 use mode_network::{Journey, Network};
 use plan_base::Time;
 use search_laws::Labels;

@@ -11,12 +11,13 @@ pub mod printing;
 mod reading;
 mod records;
 pub mod state_sets;
+pub mod verdict;
 pub mod verifying;
 pub mod walked;
 
 pub use certificate::Certificate;
-pub use journey::{CertFault, CertVerdict};
 pub use laws::{valid_proves, verdict_is_unique};
 pub use printing::print;
 pub use reading::read;
+pub use verdict::{CertFault, CertVerdict};
 pub use verifying::verify;

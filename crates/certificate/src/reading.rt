@@ -14,7 +14,7 @@ use crate::due::Due;
 use crate::kinds::line_of;
 use crate::lines::Line;
 use crate::records::{nothing, put};
-use journey::CertFault;
+use crate::verdict::CertFault;
 use plain_texts::next_line;
 use std::alloc::{AllocError, Global};
 

@@ -37,7 +37,7 @@ module _ (n : NetworkLists) (network : IsNetwork n) where
       copy_in_range endpoint (slice_index_or list k d) ((copies.are (slice_index_or list k d)).0 (k, h, get_or_default list k (slice_index_or list k d) d h))
 
 -- the numbers from one to before another
-pub in_a_row : (P : ℕ → Type 0) (range : ℕ × ℕ) → AreExactly P (Some range) → (v : ℕ) → Contains (range_with_len range.0 (range.1 - range.0)) v ↔ P v
+in_a_row : (P : ℕ → Type 0) (range : ℕ × ℕ) → AreExactly P (Some range) → (v : ℕ) → Contains (range_with_len range.0 (range.1 - range.0)) v ↔ P v
 in_a_row P range exact v = (from_list, to_list)
   where
     from_list : Contains (range_with_len range.0 (range.1 - range.0)) v → P v
@@ -66,12 +66,18 @@ range_more (suc n) a =
     rw more (ap (λ (l : List ℕ). a ∷ l) (range_more n (a + 1) ∙ ap (λ b. range_with_len (a + 1) n ++ b ∷ []) same))
 
 -- the numbers in a row ascend
-pub range_ascends : (a n : ℕ) → AllPairs (λ v w. v < w) (range_with_len a n)
+range_ascends : (a n : ℕ) → AllPairs (λ v w. v < w) (range_with_len a n)
 range_ascends a n i j d lt within =
     let inside : j < n = omega (arith, within, length-range_with_len a n) in
     let at_i = get_or-range_with_len a n i d (omega arith) in
     let at_j = get_or-range_with_len a n j d inside in
     omega (arith, at_i, at_j)
+
+-- where the copies of an endpoint are the numbers of a range, those are their list
+pub row_of_copies : (n : NetworkLists) (endpoint : Endpoint) (range : ℕ × ℕ) → AreExactly (IsCopy n endpoint) (Some range) → (list : List ℕ) → list ≡ range_with_len range.0 (range.1 - range.0)
+    → AreTheCopies n endpoint list
+row_of_copies n endpoint range exact list is =
+    subst (AreTheCopies n endpoint) (sym is) (record { ascending = range_ascends range.0 (range.1 - range.0); are = in_a_row (IsCopy n endpoint) range exact })
 
 pub none_ascend : AllPairs (λ (v w : ℕ). v < w) []
 none_ascend i j d lt within = absurd (omega arith)

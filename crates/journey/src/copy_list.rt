@@ -15,10 +15,7 @@ pub fn copies(alloc: Global, network: &Network, endpoint: &Endpoint) -> Result<V
 {
     network.known();
     match network.copies(endpoint) {
-        Some((first, end)) => {
-            let copies = numbers(alloc, first, end)?;
-            Ok(copies)
-        }
+        Some((first, end)) => numbers(alloc, first, end),
         None => Ok(Vec::new(alloc)),
     }
 }

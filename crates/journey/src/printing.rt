@@ -1,10 +1,13 @@
 //! How blocks are printed.
 
-ghost use Rattle.std.specs.Prelude.{◌≡◌, IfOk, OnOk};
+ghost use Rattle.std.specs.Prelude.{◌≡◌, ◌≢◌, IfOk, OnOk};
+ghost use Rattle.journey.specs.declared.answer.BlockBody.TheVariants.{Refused};
+ghost use Rattle.journey.specs.declared.fault.QueryFault.TheVariants.{OutOfMemory};
 ghost use Rattle.journey.specs.Texts.{IsJourneyText, block_text};
 ghost use Rattle.journey.specs.Blocks.{IsPrintable, IsPrintableBody, IsBodyText, IsBlockText, AddsText};
 
 use crate::answer::BlockBody;
+use crate::fault::QueryFault;
 use crate::telling::tell;
 use crate::texts::{push_clock_line, push_place_line, push_refusal, push_word};
 use mode_network::{Journey, Network, Step};
@@ -98,6 +101,21 @@ pub fn block(
 {
     let mut text = Vec::new(alloc);
     push_body(alloc, &mut text, network, body)?;
-    let block = framed(alloc, line, &text)?;
-    Ok(block)
+    framed(alloc, line, &text)
+}
+
+/// The block of a line that is refused with this fault. A line that was not read, for want of memory, has none.
+pub fn refused_block(
+    alloc: Global,
+    network: &Network,
+    line: &[u8],
+    fault: QueryFault,
+) -> Result<Vec<u8>, AllocError>
+    ensures { IfOk result (λ block. (fault ≢ OutOfMemory) × IsBlockText network.now line.now (Refused fault)
+        block.items) }
+{
+    match fault {
+        QueryFault::OutOfMemory => Err(AllocError),
+        _ => block(alloc, network, line, &BlockBody::Refused(fault)),
+    }
 }

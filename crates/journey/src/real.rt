@@ -113,6 +113,5 @@ pub fn word(alloc: Global, network: &Network, journey: &Journey) -> Result<Vec<u
     requires { IsReal network.now journey.now }
     ensures { IfOk result (λ word. HasWord network.now journey.now word.items) }
 {
-    let word = word_of(alloc, network, journey.start, &journey.steps)?;
-    Ok(word)
+    word_of(alloc, network, journey.start, &journey.steps)
 }

@@ -13,7 +13,7 @@ use service_days::Days;
 use timetable_arcs::{Call, Trip};
 
 /// The rules that each network keeps.
-pub(crate) fn keeps_rules(network: &Network)
+pub fn keeps_rules(network: &Network)
     ensures { KeepsRules network.now }
 {
     network.known();

@@ -19,7 +19,7 @@ use Rattle.plain_graph.proofs.Same.{journeys_are_walks}
 use Rattle.hierarchy.specs.Lists.{HierarchyLists}
 use Rattle.phase_graph.specs.InUse.{IsInUse, IsPlain, IsSoundIfGiven}
 use Rattle.search_laws.specs.GraphLaws.{GraphMeaning}
-use Rattle.journey.specs.declared.verdict.CertFault.TheVariants.{BadLine}
+use Rattle.certificate.specs.declared.verdict.CertFault.TheVariants.{BadLine}
 use Rattle.journey.specs.Best.{Asked}
 use Rattle.journey.specs.Texts.{refusal_text}
 use Rattle.journey.proofs.ReadingLemmas.{reading_is_unique}

@@ -7,8 +7,8 @@ use Rattle.plain_texts.specs.Course.{lines_from}
 use Rattle.plain_texts.proofs.Pieces.{text_of_lines}
 use Rattle.plain_texts.proofs.Spaced.{spaced_is_line, word_by_test, decimal_is_word}
 use Rattle.mode_network.specs.Journeys.{Route}
-use Rattle.journey.specs.declared.verdict.CertFault.{CertFault}
-use Rattle.journey.specs.declared.verdict.CertFault.TheVariants.{BadLine}
+use Rattle.certificate.specs.declared.verdict.CertFault.{CertFault}
+use Rattle.certificate.specs.declared.verdict.CertFault.TheVariants.{BadLine}
 use Rattle.certificate.specs.declared.lines.Line.{Line as UsualLine}
 use Rattle.certificate.specs.declared.lines.Line.TheVariants as usual
 use Rattle.certificate.specs.Lines as usual_lines

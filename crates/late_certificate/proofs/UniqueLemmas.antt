@@ -7,8 +7,8 @@ use Rattle.product_search.specs.Closed.{IsVerdict}
 use Rattle.mode_network.specs.NetworkLists.{NetworkLists}
 use Rattle.mode_network.specs.Rules.{IsNetwork}
 use Rattle.mode_network.specs.Journeys.{Route}
-use Rattle.journey.specs.declared.verdict.CertVerdict.{CertVerdict}
-use Rattle.journey.specs.declared.verdict.CertVerdict.TheVariants.{Valid, Invalid}
+use Rattle.certificate.specs.declared.verdict.CertVerdict.{CertVerdict}
+use Rattle.certificate.specs.declared.verdict.CertVerdict.TheVariants.{Valid, Invalid}
 use Rattle.journey.specs.Best.{Asked}
 use Rattle.journey.proofs.CopyLemmas.{one_list_of_copies}
 use Rattle.certificate.specs.Verdicts.{as_verdict}

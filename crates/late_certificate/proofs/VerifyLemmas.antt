@@ -13,7 +13,7 @@ use Rattle.mode_network.specs.Journeys.{Route}
 use Rattle.timetable_arcs.specs.Patterns.{TableLists}
 use Rattle.timetable_arcs.specs.Table.{IsTable}
 use Rattle.journey.specs.declared.query.Query.{Query}
-use Rattle.journey.specs.declared.verdict.CertVerdict.TheVariants.{Valid}
+use Rattle.certificate.specs.declared.verdict.CertVerdict.TheVariants.{Valid}
 use Rattle.journey.specs.Best.{Asked, Asks}
 use Rattle.journey.proofs.ReadingLemmas.{reading_is_unique}
 use Rattle.certificate.specs.Verdicts.{as_verdict}

@@ -7,8 +7,8 @@ use Rattle.mode_network.specs.NetworkLists.{NetworkLists}
 use Rattle.mode_network.specs.Rules.{IsNetwork}
 use Rattle.mode_network.specs.Journeys.{Route}
 use Rattle.journey.specs.declared.query.Query.{Query}
-use Rattle.journey.specs.declared.verdict.CertVerdict.{CertVerdict}
-use Rattle.journey.specs.declared.verdict.CertVerdict.TheVariants.{Valid, Invalid}
+use Rattle.certificate.specs.declared.verdict.CertVerdict.{CertVerdict}
+use Rattle.certificate.specs.declared.verdict.CertVerdict.TheVariants.{Valid, Invalid}
 use Rattle.journey.specs.Ends.{HasTimes}
 use Rattle.journey.specs.Best.{Asked, Asks}
 use Rattle.certificate.specs.Lines.{HasLabelTime}

@@ -12,7 +12,7 @@ use crate::kinds::line_of;
 use crate::late::LateCertificate;
 use crate::lines::Line;
 use crate::records::{nothing, put};
-use journey::CertFault;
+use certificate::CertFault;
 use plain_texts::next_line;
 use std::alloc::{AllocError, Global};
 

@@ -3,7 +3,7 @@
 ghost use Rattle.std.specs.Prelude.{◌≡◌, ◌<◌, ◌≤◌, ◌^◌, IfOk, IfSome};
 ghost use Rattle.mode_expression.specs.Form.{form_of, IsUsable};
 ghost use Rattle.journey.specs.Best.{Asked, Asks, asked_by};
-ghost use Rattle.journey.specs.declared.verdict.CertVerdict.TheVariants.{Valid};
+ghost use Rattle.certificate.specs.declared.verdict.CertVerdict.TheVariants.{Valid};
 ghost use Rattle.journey.specs.Ends.{HasTimes};
 ghost use Rattle.certificate.specs.Checks.{IsSetUp};
 ghost use Rattle.latest_departure.specs.Late.{first_moment};
@@ -14,10 +14,11 @@ ghost use Rattle.late_certificate.specs.Verdicts.{claim_on, HaveTimes, IsLateVer
 
 use crate::late::LateCertificate;
 use automaton::{Collapsed, Positions};
+use certificate::CertVerdict;
 use certificate::claimed::{Arrival, Goal, JourneyCheck};
 use certificate::state_sets::StateSets;
 use certificate::verifying::{as_verdict, refused};
-use journey::{CertVerdict, Query, read_query};
+use journey::{Query, read_query};
 use kept_automata::Kept;
 use latest_departure::{Backwards, LateSearch};
 use mode_network::{Journey, Network};

@@ -2,8 +2,8 @@
 use Rattle.std.proofs.Common.{◌≡◌, ℕ, List, subst}
 use Rattle.mode_network.specs.NetworkLists.{NetworkLists}
 use Rattle.mode_network.specs.Rules.{IsNetwork}
-use Rattle.journey.specs.declared.verdict.CertFault.TheVariants.{BadLine}
-use Rattle.journey.specs.declared.verdict.CertVerdict.TheVariants as verdict
+use Rattle.certificate.specs.declared.verdict.CertFault.TheVariants.{BadLine}
+use Rattle.certificate.specs.declared.verdict.CertVerdict.TheVariants as verdict
 use Rattle.latest_departure.specs.ValidLate.{LateClaim}
 use Rattle.late_certificate.specs.Texts.{IsLateText}
 use Rattle.late_certificate.specs.Reading.{HasCause}

@@ -1,8 +1,8 @@
 -- What `certify-latest` and `verify-latest` write.
 use Rattle.std.specs.Prelude.{◌≡◌, ℕ, ◌⊎◌, List, Option}
 use Rattle.mode_network.specs.NetworkLists.{NetworkLists}
-use Rattle.journey.specs.declared.verdict.CertFault.TheVariants.{BadLine}
-use Rattle.journey.specs.declared.verdict.CertVerdict.TheVariants as verdict
+use Rattle.certificate.specs.declared.verdict.CertFault.TheVariants.{BadLine}
+use Rattle.certificate.specs.declared.verdict.CertVerdict.TheVariants as verdict
 use Rattle.journey.specs.Best.{IsRefusedBlock}
 use Rattle.journey.specs.Large.{IsBlockUnder, stopped_block}
 use Rattle.latest_departure.specs.Blocks.{IsAnswerBlock, IsShownBlock}

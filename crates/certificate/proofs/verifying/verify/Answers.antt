@@ -3,7 +3,7 @@ use Rattle.std.specs.Prelude.{IfOk, option_map}
 use Rattle.mode_expression.specs.Form.{form_of}
 use Rattle.hierarchy.specs.declared.hierarchy.Hierarchy.{Hierarchy}
 use Rattle.journey.specs.Queries.{IsQuery}
-use Rattle.journey.specs.declared.verdict.CertVerdict.TheVariants.{Valid}
+use Rattle.certificate.specs.declared.verdict.CertVerdict.TheVariants.{Valid}
 use Rattle.certificate.specs.Certificates.{Claim}
 use Rattle.certificate.specs.Valid.{HaveTimes, Proves}
 use Rattle.certificate.proofs.VerifyLemmas.{phases_fail, claim_is}

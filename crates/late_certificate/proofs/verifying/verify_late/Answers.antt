@@ -1,6 +1,6 @@
 use Rattle.std.proofs.Common.{◌≡◌, sym, ◌∙◌, subst}
 use Rattle.std.specs.Prelude.{IfOk}
-use Rattle.journey.specs.declared.verdict.CertVerdict.TheVariants.{Valid}
+use Rattle.certificate.specs.declared.verdict.CertVerdict.TheVariants.{Valid}
 use Rattle.latest_departure.specs.ValidLate.{LateClaim, ProvesLate}
 use Rattle.late_certificate.specs.Verdicts.{HaveTimes, IsLateVerdict}
 use Rattle.late_certificate.proofs.VerifyLemmas.{claim_is}

@@ -1,22 +1,19 @@
 //! What is said of a certificate: why a text is none, and what a check of one answers.
 
 use std::alloc::AllocError;
-use thiserror::Error;
 
 /// Why a text is no certificate.
-#[derive(Clone, Copy, Debug, PartialEq, Eq, Error)]
+#[derive(Clone, Copy, Debug, PartialEq, Eq)]
 pub enum CertFault {
     /// This line, counted from 1, is the first that may not stand where it does.
-    #[error("line {line} may not stand where it does")]
     BadLine { line: u64 },
     /// There was no memory.
-    #[error("out of memory")]
     OutOfMemory,
 }
 
 impl From<AllocError> for CertFault {
     ghost use Rattle.std.specs.Prelude.{◌≡◌};
-    ghost use Rattle.journey.specs.declared.verdict.CertFault.TheVariants.{OutOfMemory};
+    ghost use Rattle.certificate.specs.declared.verdict.CertFault.TheVariants.{OutOfMemory};
 
     ghost from_gives = { λ _ fault. fault ≡ OutOfMemory };
 
