@@ -14,8 +14,9 @@ use Rattle.mode_network.specs.NetworkLists.{nodes_of as network_nodes}
 use Rattle.mode_network.specs.Journeys.{Leads}
 use Rattle.mode_network.specs.Rules.{IsNetwork, joins_modes, is_same_mode, arc_cmp}
 use Rattle.mode_network.proofs.RuleLemmas.{arcs_in_range, nodes_hold_roads, same_mode_is}
+use Rattle.search_laws.specs.Firsts.{HoldsBelow}
 use Rattle.hierarchy.specs.declared.entry.Entry.{Entry}
-use Rattle.hierarchy.specs.Soundness.{HasEntry, FitsLayer, HoldsBelow, MayStandAt, NodeIsBridged, IsMade, IsMadeBy}
+use Rattle.hierarchy.specs.Soundness.{HasEntry, FitsLayer, MayStandAt, NodeIsBridged, IsMade, IsMadeBy}
 use Rattle.witness.specs.declared.edge.Edge.{Edge}
 use Rattle.witness.specs.Rows.{row_at, items_of}
 use Rattle.contractor.specs.declared.layer.Layer.{Layer}

@@ -14,11 +14,12 @@ use Rattle.plan_base.specs.declared.modes.Mode.{Mode}
 use Rattle.mode_network.specs.NetworkLists.{NetworkLists, mode_at}
 use Rattle.mode_network.specs.Rules.{IsNetwork}
 use Rattle.mode_network.proofs.RuleLemmas.{mode_inside, nodes_hold_roads}
+use Rattle.search_laws.specs.Firsts.{HoldsBelow}
 use Rattle.hierarchy.specs.declared.entry.Entry.{Entry}
 use Rattle.hierarchy.specs.Hops.{AreHigh, total, nodes_along}
 use Rattle.hierarchy.specs.Lists.{HierarchyLists, WitnessLists, height_in, first_of, last_of}
 use Rattle.hierarchy.specs.Rules.{IsHierarchy, IsNode, FitsWitness, entry_cmp, witness_cmp}
-use Rattle.hierarchy.specs.Soundness.{HasEntry, IsBridged, FitsLayer, IsMade, IsMadeBy, NodeIsBridged, PairsAreBridged, PairIsBridged, HoldsBelow, MayStandAt, IsSound}
+use Rattle.hierarchy.specs.Soundness.{HasEntry, IsBridged, FitsLayer, IsMade, IsMadeBy, NodeIsBridged, PairsAreBridged, PairIsBridged, MayStandAt, IsSound}
 use Rattle.hierarchy.proofs.HopLemmas.{hops_weaker}
 use Rattle.hierarchy.proofs.LookupLemmas.{entry_total, witness_total}
 use Rattle.contractor.specs.declared.layer.Layer.{Layer}

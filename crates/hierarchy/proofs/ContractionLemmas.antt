@@ -4,11 +4,12 @@ use Rattle.std.specs.Prelude.{Option, All, Contains, ◌≢◌}
 use Rattle.std.proofs.lemmas.Bool.{cases_lt, cases_eq, eq-eqb, ne_eqb}
 use Rattle.std.proofs.lemmas.List.{get_or_append_left, get_or_push, length_push}
 use Rattle.std.proofs.lemmas.List.Elements.{All-contains, Contains-get_or}
+use Rattle.search_laws.specs.Firsts.{HoldsBelow}
 use Rattle.mode_network.specs.NetworkLists.{NetworkLists}
 use Rattle.hierarchy.specs.declared.entry.Entry.{Entry}
 use Rattle.hierarchy.specs.Hops.{Hop, AreHops, AreHigh, total, nodes_along}
 use Rattle.hierarchy.specs.Lists.{HierarchyLists, height_in}
-use Rattle.hierarchy.specs.Soundness.{HasEntry, HasLighter, IsFree, MayStandAt, FitsLayer, IsMadeBy, IsMade, IsBridged, NodeIsBridged, HoldsBelow, IsSound}
+use Rattle.hierarchy.specs.Soundness.{HasEntry, HasLighter, IsFree, MayStandAt, FitsLayer, IsMadeBy, IsMade, IsBridged, NodeIsBridged, IsSound}
 use Rattle.hierarchy.specs.Contraction.{IsShortcut, IsContractedNext, ContractionsKeepSoundness}
 use Rattle.hierarchy.proofs.HeightLemmas.{height_most, height_least}
 use Rattle.hierarchy.proofs.SoundLemmas.{fits, bridged}

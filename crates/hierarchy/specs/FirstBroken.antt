@@ -1,18 +1,13 @@
 -- The verdict on a hierarchy: it is sound, or the first clause that fails is named, at its least place.
-use Rattle.std.specs.Prelude.{◌≡◌, ℕ, ◌<◌, ◌⊎◌, List, length, Some, All, slice_get}
+use Rattle.std.specs.Prelude.{◌≡◌, ℕ, ◌⊎◌, List, length, Some, All, slice_get}
 use Rattle.std.specs.List.{HoldsAt}
+use Rattle.search_laws.specs.Firsts.{HoldsBelow, FailsFirstAt}
 use Rattle.mode_network.specs.NetworkLists.{NetworkLists}
 use Rattle.hierarchy.specs.declared.entry.Entry.{Entry}
 use Rattle.hierarchy.specs.declared.verdict.Verdict.{Verdict}
 use Rattle.hierarchy.specs.declared.verdict.Verdict.TheVariants.{Sound, Broken}
 use Rattle.hierarchy.specs.Lists.{HierarchyLists}
-use Rattle.hierarchy.specs.Soundness.{HoldsBelow, MayStandAt, FitsLayer, IsCovered, IsMade, NodeIsBridged, PairsAreBridged, PairIsBridged, IsSound}
-
--- P fails at k, and at no place before
-pub record FailsFirstAt (n : ℕ) (P : ℕ → Type 0) (k : ℕ) : Type 0 where
-  pub place : k < n
-  pub fails : P k → ⊥
-  pub before : HoldsBelow k P
+use Rattle.hierarchy.specs.Soundness.{MayStandAt, FitsLayer, IsCovered, IsMade, NodeIsBridged, PairsAreBridged, PairIsBridged, IsSound}
 
 -- P fails of the element at k, and of none before it
 abbrev pub FailsFirst : {X : Type 0} → (X → Type 0) → List X → ℕ → Type 0

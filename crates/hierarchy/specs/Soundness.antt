@@ -1,5 +1,6 @@
 -- When a hierarchy is sound for a network: then whatever order, shortcuts and witnesses it has, it keeps all distances.
 use Rattle.std.specs.Prelude.{◌≡◌, ◌≢◌, ℕ, ◌+◌, ◌<◌, ◌≤◌, ◌^◌, ◌⊎◌, List, length, Option, Some, None, All, Contains, slice_index_or}
+use Rattle.search_laws.specs.Firsts.{HoldsBelow}
 use Rattle.plan_base.specs.declared.modes.Mode.{Mode}
 use Rattle.mode_network.specs.declared.nodes.Arc.{Arc}
 use Rattle.mode_network.specs.NetworkLists.{NetworkLists, mode_at}
@@ -94,9 +95,6 @@ abbrev pub NodeIsBridged : HierarchyLists → ℕ → Type 0
 NodeIsBridged h x = All (PairsAreBridged h x) h.entries
 
 -- ---- all five
-
-abbrev pub HoldsBelow : ℕ → (ℕ → Type 0) → Type 0
-HoldsBelow n P = (k : ℕ) → k < n → P k
 
 pub record IsSound (n : NetworkLists) (h : HierarchyLists) : Type 0 where
   pub in_order : HoldsBelow (length h.order) (MayStandAt n h.order)

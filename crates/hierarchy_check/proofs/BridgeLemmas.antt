@@ -5,11 +5,12 @@ use Rattle.std.specs.List.{HoldsAt}
 use Rattle.std.proofs.lemmas.Bool.{false≢true, cases_lt, cases_eq, lt-ltb}
 use Rattle.std.proofs.lemmas.List.{get_or_default}
 use Rattle.std.proofs.lemmas.Option.{slice_get-get_or}
+use Rattle.search_laws.specs.Firsts.{HoldsBelow}
 use Rattle.hierarchy.specs.declared.entry.Entry.{Entry}
 use Rattle.hierarchy.specs.Lists.{HierarchyLists, height_in}
 use Rattle.hierarchy.specs.Lookups.{ArePlaces, AreFrom, FallsTo, entry_at, no_entry}
 use Rattle.hierarchy.specs.Rises.{RisesFrom, is_rise, is_core}
-use Rattle.hierarchy.specs.Soundness.{HoldsBelow, ArePairAt, PairIsBridged, PairsAreBridged, NodeIsBridged}
+use Rattle.hierarchy.specs.Soundness.{ArePairAt, PairIsBridged, PairsAreBridged, NodeIsBridged}
 use Rattle.hierarchy.specs.FirstBroken.{FailsFirst}
 use Rattle.hierarchy.proofs.HeightLemmas.{height_is, height_least}
 use Rattle.hierarchy_check.specs.inside.Light.{FirstUnbridgedAt, RiseIsBridged}

@@ -10,9 +10,9 @@ use Rattle.mode_network.specs.declared.nodes.Arc.{Arc}
 use Rattle.mode_network.specs.declared.nodes.Node.{Node}
 use Rattle.mode_network.specs.NetworkLists.{NetworkLists, mode_at, mode_of, nodes_of}
 use Rattle.mode_network.specs.Indexes.{is_end_of}
-use Rattle.hierarchy.specs.Soundness.{HoldsBelow, IsFree, MayStandAt}
-use Rattle.hierarchy.specs.FirstBroken.{FailsFirstAt}
-use Rattle.hierarchy_check.proofs.PlaceLemmas.{one_fails}
+use Rattle.search_laws.specs.Firsts.{HoldsBelow, FailsFirstAt}
+use Rattle.search_laws.proofs.FirstLemmas.{fails_here}
+use Rattle.hierarchy.specs.Soundness.{IsFree, MayStandAt}
 use Rattle.hierarchy_check.specs.inside.Meetings.{AreMet, IsFirstMeeting}
 
 -- ---- links
@@ -108,4 +108,4 @@ order_below n order may k d lt = free_below n (get_or order k d) ((may k lt).0 d
 -- the first who is not met for the first time may not stand there, and all before may
 pub misplaced : (n : NetworkLists) (order : List ℕ) (k x : ℕ) (met : List Bool) → AreMet n order k met → k < length order → ((d : ℕ) → get_or order k d ≡ x)
     → (b : Bool) → (IsTrue b ↔ IsFirstMeeting n met x) → b ≡ false → FailsFirstAt (length order) (MayStandAt n order) k
-misplaced n order k x met are lt is b test failed = one_fails (length order) (MayStandAt n order) k b lt (meeting_iff n order k x met are lt is b test) failed are.in_order
+misplaced n order k x met are lt is b test failed = fails_here (length order) (MayStandAt n order) k b lt (meeting_iff n order k x met are lt is b test) failed are.in_order

@@ -1,11 +1,11 @@
 -- What holds at each place of a list, and where it fails first.
-use Rattle.std.proofs.Common.{◌≡◌, ℕ, ◌+◌, ◌<◌, below_more, ◌≤◌, Bool, true, false, List, length, get_or, sym, ◌∙◌, subst, arith}
+use Rattle.std.proofs.Common.{◌≡◌, ℕ, ◌<◌, ◌≤◌, Bool, true, false, List, length, get_or, sym, ◌∙◌, subst, arith}
 use Rattle.std.specs.Prelude.{All, IsTrue, ◌↔◌}
 use Rattle.std.specs.List.{HoldsAt}
 use Rattle.std.proofs.lemmas.Bool.{false≢true}
 use Rattle.std.proofs.lemmas.List.{get_or_default}
-use Rattle.hierarchy.specs.Soundness.{HoldsBelow}
-use Rattle.hierarchy.specs.FirstBroken.{FailsFirstAt, FailsFirst}
+use Rattle.search_laws.specs.Firsts.{HoldsBelow}
+use Rattle.hierarchy.specs.FirstBroken.{FailsFirst}
 
 -- a test of the element at a place decides what holds there
 pub holds_at : {X : Type 0} (P : X → Type 0) (xs : List X) (k : ℕ) (e : X) (b : Bool) → k < length xs → (IsTrue b ↔ P (get_or xs k e)) → b ≡ true → HoldsAt P xs k
@@ -19,10 +19,3 @@ fails_first P xs k e b lt test failed before = record { place = lt; fails = fail
 
 pub all_hold : {X : Type 0} (P : X → Type 0) (xs : List X) (k : ℕ) → length xs ≤ k → HoldsBelow k (HoldsAt P xs) → All P xs
 all_hold P xs k le before j d lt = before j (omega arith) d
-
-pub one_fails : (n : ℕ) (P : ℕ → Type 0) (k : ℕ) (b : Bool) → k < n → (IsTrue b ↔ P k) → b ≡ false → HoldsBelow k P → FailsFirstAt n P k
-one_fails n P k b lt test failed before = record { place = lt; fails = λ holds. false≢true (sym failed ∙ test.1 holds); before = before }
-
--- what holds at so many places, and at the next
-pub hold_more : (k : ℕ) (P : ℕ → Type 0) → HoldsBelow k P → P k → HoldsBelow (k + 1) P
-hold_more k P before here = below_more P k before here

@@ -2,7 +2,8 @@
 
 ghost use Rattle.std.specs.Prelude.{◌≡◌, ◌<◌, ◌^◌, ◌↔◌, All, IsTrue, MatchOption, length};
 ghost use Rattle.std.specs.List.{HoldsAt};
-ghost use Rattle.hierarchy.specs.Soundness.{HoldsBelow, IsBridged, ArePairAt, PairIsBridged, PairsAreBridged, NodeIsBridged};
+ghost use Rattle.search_laws.specs.Firsts.{HoldsBelow};
+ghost use Rattle.hierarchy.specs.Soundness.{IsBridged, ArePairAt, PairIsBridged, PairsAreBridged, NodeIsBridged};
 ghost use Rattle.hierarchy.specs.FirstBroken.{FailsFirst};
 ghost use Rattle.hierarchy_check.specs.inside.Light.{IsLight, FirstUnbridgedAt, FirstUnbridged, RiseIsBridged};
 

@@ -2,8 +2,8 @@
 
 ghost use Rattle.std.specs.Prelude.{◌≡◌, ◌↔◌, IfOk, IsTrue, MatchOption, length};
 ghost use Rattle.mode_network.specs.NetworkLists.{nodes_of};
-ghost use Rattle.hierarchy.specs.Soundness.{HoldsBelow, IsFree, MayStandAt};
-ghost use Rattle.hierarchy.specs.FirstBroken.{FailsFirstAt};
+ghost use Rattle.search_laws.specs.Firsts.{HoldsBelow, FailsFirstAt};
+ghost use Rattle.hierarchy.specs.Soundness.{IsFree, MayStandAt};
 ghost use Rattle.hierarchy_check.specs.inside.Meetings.{IsFirstMeeting, meets};
 
 use mode_network::Network;

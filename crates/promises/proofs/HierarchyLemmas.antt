@@ -1,27 +1,22 @@
 -- A hierarchy has one verdict: of the clauses one is the first that fails, at one place.
-use Rattle.std.proofs.Common.{◌≡◌, ℕ, ◌⊎◌, inl, inr, List, length, refl, sym, ap, ◌∙◌, subst, arith}
+use Rattle.std.proofs.Common.{◌≡◌, ℕ, ◌⊎◌, inl, inr, List, length, refl, sym, ap, ◌∙◌, subst}
 use Rattle.std.specs.Prelude.{Some, All, slice_get}
 use Rattle.std.specs.List.{HoldsAt}
-use Rattle.std.proofs.lemmas.Bool.{cases_lt}
 use Rattle.std.proofs.lemmas.Option.{same_Some}
+use Rattle.search_laws.specs.Firsts.{HoldsBelow, FailsFirstAt}
+use Rattle.search_laws.proofs.FirstLemmas.{first_once}
 use Rattle.mode_network.specs.NetworkLists.{NetworkLists}
 use Rattle.hierarchy.specs.declared.entry.Entry.{Entry}
 use Rattle.hierarchy.specs.declared.verdict.Verdict.{Verdict}
 use Rattle.hierarchy.specs.declared.verdict.Verdict.TheVariants.{Sound, Broken}
 use Rattle.hierarchy.specs.Lists.{HierarchyLists}
-use Rattle.hierarchy.specs.Soundness.{HoldsBelow, MayStandAt, FitsLayer, IsCovered, IsMade, NodeIsBridged, PairsAreBridged, PairIsBridged}
-use Rattle.hierarchy.specs.FirstBroken.{BridgesFailFirst, FailsFirst, FailsFirstAt, IsSoundnessVerdict}
+use Rattle.hierarchy.specs.Soundness.{MayStandAt, FitsLayer, IsCovered, IsMade, NodeIsBridged, PairsAreBridged, PairIsBridged}
+use Rattle.hierarchy.specs.FirstBroken.{BridgesFailFirst, FailsFirst, IsSoundnessVerdict}
 use Rattle.promises.specs.Hierarchies.{CheckVerdictIsUnique}
 
 -- something fails first at one place
-first_once : (n : ℕ) (P : ℕ → Type 0) (a b : ℕ) → FailsFirstAt n P a → FailsFirstAt n P b → a ≡ b
-first_once n P a b one other = elim (cases_lt a b) [
-  | inl lt ↦ absurd (one.fails (other.before a lt))
-  | inr ge ↦ elim (cases_lt b a) [
-    | inl lt ↦ absurd (other.fails (one.before b lt))
-    | inr le ↦ omega arith
-  ]
-]
+once : (n : ℕ) (P : ℕ → Type 0) (a b : ℕ) → FailsFirstAt n P a → FailsFirstAt n P b → a ≡ b
+once n P = first_once n n P P (λ k lt p. p) (λ k lt p. p)
 
 at_each : {X : Type 0} (P : X → Type 0) (xs : List X) → All P xs → HoldsBelow (length xs) (HoldsAt P xs)
 at_each P xs all = λ k lt d. all k d lt
@@ -36,12 +31,12 @@ same_entry xs i j x y same first second = same_Some x y (sym first ∙ ap (slice
 
 bridges_once : (h : HierarchyLists) (at by at2 by2 : ℕ) → BridgesFailFirst h at by → BridgesFailFirst h at2 by2 → Broken 4 at by ≡ Broken 4 at2 by2
 bridges_once h at by at2 by2 one other =
-    let place = first_once (length h.order) (HoldsAt (NodeIsBridged h) h.order) one.place other.place one.node_fails other.node_fails in
+    let place = once (length h.order) (HoldsAt (NodeIsBridged h) h.order) one.place other.place one.node_fails other.node_fails in
     let x = same_at h.order one.place other.place one.x other.x place one.node_is other.node_is in
-    let entry : at ≡ at2 = first_once (length h.entries) (HoldsAt (PairsAreBridged h other.x) h.entries) at at2
+    let entry : at ≡ at2 = once (length h.entries) (HoldsAt (PairsAreBridged h other.x) h.entries) at at2
     (subst (λ v. FailsFirst (PairsAreBridged h v) h.entries at) x one.entry_fails) other.entry_fails in
     let first = same_entry h.entries at at2 one.first other.first entry one.first_is other.first_is in
-    let pair : by ≡ by2 = first_once (length h.entries) (HoldsAt (PairIsBridged h other.x other.first) h.entries) by by2
+    let pair : by ≡ by2 = once (length h.entries) (HoldsAt (PairIsBridged h other.x other.first) h.entries) by by2
     (subst (λ v. FailsFirst (PairIsBridged h v other.first) h.entries by) x (subst (λ (e : Entry). FailsFirst (PairIsBridged h one.x e) h.entries by) first one.pair_fails)) other.pair_fails in
     ap (λ k. Broken 4 k by) entry ∙ ap (λ k. Broken 4 at2 k) pair
 
@@ -52,7 +47,7 @@ ByClause clause n P later v = ((at : ℕ) × FailsFirstAt n P at × (v ≡ Broke
 
 same_clause : (clause n : ℕ) (P : ℕ → Type 0) (later : Verdict → Type 0) → ((v w : Verdict) → later v → later w → v ≡ w)
     → (v w : Verdict) → ByClause clause n P later v → ByClause clause n P later w → v ≡ w
-same_clause clause n P later rest v w (inl (a, p, e)) (inl (b, q, f)) = e ∙ (ap (λ at. Broken clause at 0) (first_once n P a b p q) ∙ sym f)
+same_clause clause n P later rest v w (inl (a, p, e)) (inl (b, q, f)) = e ∙ (ap (λ at. Broken clause at 0) (once n P a b p q) ∙ sym f)
 same_clause clause n P later rest v w (inl (a, p, e)) (inr (q, more)) = absurd (p.fails (q a p.place))
 same_clause clause n P later rest v w (inr (p, more)) (inl (b, q, f)) = absurd (q.fails (p b q.place))
 same_clause clause n P later rest v w (inr (p, x)) (inr (q, y)) = rest v w x y

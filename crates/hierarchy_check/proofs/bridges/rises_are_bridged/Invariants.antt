@@ -1,6 +1,6 @@
 use Rattle.std.proofs.Common.{get_or}
+use Rattle.search_laws.specs.Firsts.{HoldsBelow}
 use Rattle.hierarchy.specs.Lookups.{entry_at}
-use Rattle.hierarchy.specs.Soundness.{HoldsBelow}
 use Rattle.hierarchy_check.specs.inside.Light.{RiseIsBridged}
 use Rattle.hierarchy_check.proofs.bridges.rises_are_bridged.Given as goal
 

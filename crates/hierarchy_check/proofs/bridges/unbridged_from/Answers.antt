@@ -1,9 +1,10 @@
-use Rattle.std.proofs.Common.{List, None, subst, arith}
+use Rattle.std.proofs.Common.{below_more, List, None, subst, arith}
+use Rattle.search_laws.specs.Firsts.{HoldsBelow}
 use Rattle.hierarchy.specs.FirstBroken.{FailsFirst}
 use Rattle.std.specs.List.{HoldsAt}
 use Rattle.hierarchy.specs.declared.entry.Entry.{Entry}
-use Rattle.hierarchy.specs.Soundness.{HoldsBelow, PairIsBridged}
-use Rattle.hierarchy_check.proofs.PlaceLemmas.{fails_first, holds_at, hold_more}
+use Rattle.hierarchy.specs.Soundness.{PairIsBridged}
+use Rattle.hierarchy_check.proofs.PlaceLemmas.{fails_first, holds_at}
 use Rattle.hierarchy_check.proofs.BridgeLemmas.{before_range, whole_range}
 use Rattle.hierarchy_check.proofs.bridges.unbridged_from.Goals as goal
 
@@ -19,7 +20,7 @@ loop-by-init c = rw c.entries-entries.ensures (before_range c.args.h.now c.args.
 
 pub loop-by-preserved : goal.loop-by-preserved
 loop-by-preserved c =
-    hold_more c.loop-by.by (HoldsAt (PairIsBridged c.args.h.now c.args.x c.args.entry) c.entries-entries.result.now) c.loop-by.invariant
+    below_more (HoldsAt (PairIsBridged c.args.h.now c.args.x c.args.entry) c.entries-entries.result.now) c.loop-by.by c.loop-by.invariant
     (holds_at (PairIsBridged c.args.h.now c.args.x c.args.entry) c.entries-entries.result.now c.loop-by.by nothing c.pair_is_bridged.result (let are = c.entries_from-first.ensures.are in rw c.entries-entries.ensures (omega (arith, c.loop-by-test.true, are.within))) c.pair_is_bridged.ensures c.if-not-pair_is_bridged.false)
 
 pub returns : goal.returns

@@ -1,5 +1,6 @@
 use Rattle.std.specs.List.{HoldsAt}
-use Rattle.hierarchy.specs.Soundness.{HoldsBelow, PairIsBridged}
+use Rattle.search_laws.specs.Firsts.{HoldsBelow}
+use Rattle.hierarchy.specs.Soundness.{PairIsBridged}
 use Rattle.hierarchy_check.proofs.bridges.unbridged_from.Given as goal
 
 abbrev pub invariant-loop-by : goal.invariant-loop-by

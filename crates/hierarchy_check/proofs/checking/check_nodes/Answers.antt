@@ -1,7 +1,8 @@
 use Rattle.std.proofs.Common.{List, length, inl, inr, refl, sym, subst}
 use Rattle.std.specs.Prelude.{All}
+use Rattle.search_laws.specs.Firsts.{HoldsBelow}
 use Rattle.hierarchy.specs.declared.entry.Entry.{Entry}
-use Rattle.hierarchy.specs.Soundness.{HoldsBelow, MayStandAt, FitsLayer}
+use Rattle.hierarchy.specs.Soundness.{MayStandAt, FitsLayer}
 use Rattle.hierarchy.specs.FirstBroken.{FailsFirst}
 use Rattle.hierarchy_check.proofs.checking.check_nodes.Goals as goal
 

@@ -1,7 +1,8 @@
+use Rattle.std.proofs.Common.{below_more}
 use Rattle.std.specs.List.{HoldsAt}
 use Rattle.mode_network.specs.declared.nodes.Arc.{Arc}
 use Rattle.hierarchy.specs.Soundness.{IsCovered}
-use Rattle.hierarchy_check.proofs.PlaceLemmas.{fails_first, holds_at, hold_more, all_hold}
+use Rattle.hierarchy_check.proofs.PlaceLemmas.{fails_first, holds_at, all_hold}
 use Rattle.hierarchy_check.proofs.entries.first_uncovered.Goals as goal
 
 abbrev nothing : Arc
@@ -13,7 +14,7 @@ returns-then-not-is_covered c =
 
 pub loop-at-preserved : goal.loop-at-preserved
 loop-at-preserved c =
-    hold_more c.loop-at.at (HoldsAt (IsCovered c.args.h.now) c.arcs-arcs.result.now) c.loop-at.invariant
+    below_more (HoldsAt (IsCovered c.args.h.now) c.arcs-arcs.result.now) c.loop-at.at c.loop-at.invariant
     (holds_at (IsCovered c.args.h.now) c.arcs-arcs.result.now c.loop-at.at nothing c.is_covered.result c.loop-at-test.true c.is_covered.ensures c.if-not-is_covered.false)
 
 pub returns : goal.returns

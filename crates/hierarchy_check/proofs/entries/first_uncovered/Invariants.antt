@@ -1,5 +1,6 @@
 use Rattle.std.specs.List.{HoldsAt}
-use Rattle.hierarchy.specs.Soundness.{HoldsBelow, IsCovered}
+use Rattle.search_laws.specs.Firsts.{HoldsBelow}
+use Rattle.hierarchy.specs.Soundness.{IsCovered}
 use Rattle.hierarchy_check.proofs.entries.first_uncovered.Given as goal
 
 abbrev pub invariant-loop-at : goal.invariant-loop-at

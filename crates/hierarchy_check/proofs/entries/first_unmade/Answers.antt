@@ -1,10 +1,10 @@
-use Rattle.std.proofs.Common.{List, None, subst}
+use Rattle.std.proofs.Common.{below_more, List, None, subst}
 use Rattle.std.specs.Prelude.{All}
 use Rattle.hierarchy.specs.FirstBroken.{FailsFirst}
 use Rattle.std.specs.List.{HoldsAt}
 use Rattle.hierarchy.specs.declared.entry.Entry.{Entry}
 use Rattle.hierarchy.specs.Soundness.{IsMade}
-use Rattle.hierarchy_check.proofs.PlaceLemmas.{fails_first, holds_at, hold_more, all_hold}
+use Rattle.hierarchy_check.proofs.PlaceLemmas.{fails_first, holds_at, all_hold}
 use Rattle.hierarchy_check.proofs.entries.first_unmade.Goals as goal
 
 abbrev nothing : Entry
@@ -16,7 +16,7 @@ returns-then-not-is_made c =
 
 pub loop-at-preserved : goal.loop-at-preserved
 loop-at-preserved c =
-    hold_more c.loop-at.at (HoldsAt (IsMade c.args.network.now c.args.h.now) c.entries-entries.result.now) c.loop-at.invariant
+    below_more (HoldsAt (IsMade c.args.network.now c.args.h.now) c.entries-entries.result.now) c.loop-at.at c.loop-at.invariant
     (holds_at (IsMade c.args.network.now c.args.h.now) c.entries-entries.result.now c.loop-at.at nothing c.is_made.result c.loop-at-test.true c.is_made.ensures c.if-not-is_made.false)
 
 pub returns : goal.returns
