@@ -2,17 +2,16 @@
 use Rattle.std.proofs.Common.{◌≡◌, ◌≢◌, ℕ, ◌+◌, ◌/◌, ◌<◌, ◌≤◌, ◌^◌, false, List, [], ◌∷◌, ◌++◌, get_or, map, zero, suc, inl, inr, refl, sym, ◌∙◌, subst, arith}
 use Rattle.std.specs.Prelude.{All, Contains, IsPermutation, vec_len}
 use Rattle.std.specs.List.{AllWithin, swap_remove}
-use Rattle.std.specs.declared.cmp.Ordering.{Ordering}
 use Rattle.std.specs.declared.cmp.Reverse.{Reverse}
-use Rattle.std.specs.BinaryHeap.{heap_items, heap_len, IsHeap, IsUpperBound, KeepsHeap, PopsGreatest}
+use Rattle.std.specs.BinaryHeap.{heap_items, KeepsHeap, PopsGreatest}
 use Rattle.std.specs.Ordering.{is_lt, nat_cmp, ordering_then}
 use Rattle.std.proofs.lemmas.Bool.Decides.{nat_tests}
-use Rattle.std.proofs.lemmas.List.{nil_from_length}
 use Rattle.std.proofs.lemmas.List.Elements.{All-append, All-map, All-same, All-nil, All-push, All-contains, All-weaker, All-from_recursion, Contains-append_right, Contains-append_cases}
 use Rattle.std.proofs.lemmas.List.Sorted.{Contains-permutation, IsPermutation-trans, IsPermutation-sym, IsPermutation-middle, IsPermutation-map, IsPermutation-to_front, IsPermutation-append_left, IsPermutation-append_right, IsPermutation-swap_remove, length_permutation}
 use Rattle.product_search.specs.declared.queue_item.QueueItem.{QueueItem}
 use Rattle.product_search.specs.declared.queue.Queue.{Queue}
-use Rattle.product_search.specs.inside.Queued.{entry_of, queue_cmp, entry_by, due_at, number_in, item_cmp, word_items, queue_items, Queued, HasHeaps, IsQueue, IsFilled, NearIsFirst, FarIsFirst, SameQueued, TakesIn, GivesLeast, GivesNone}
+use Rattle.product_search.specs.inside.Heaped.{IsLeast}
+use Rattle.product_search.specs.inside.Queued.{entry_of, queue_cmp, entry_by, due_at, number_in, word_items, queue_items, Queued, IsFarHeap, IsQueue, IsFilled, NearIsFirst, FarIsFirst, SameQueued, TakesIn, GivesLeast, GivesNone}
 
 -- ---- one more in one of several lists
 
@@ -26,7 +25,7 @@ moved x xs xs2 ys ys2 taken put = IsPermutation-trans _ _ _ (IsPermutation-sym _
     (IsPermutation-append_left ys2 (x ∷ xs) xs2 put)
 
 -- items as entries, before others
-as_entries : (base : ℕ) (xs ys : List (Reverse QueueItem)) (far : List (Reverse (ℕ × ℕ))) → IsPermutation xs ys
+as_entries : (base : ℕ) (xs ys : List QueueItem) (far : List (Reverse (ℕ × ℕ))) → IsPermutation xs ys
     → IsPermutation (map (entry_by base) xs ++ far) (map (entry_by base) ys ++ far)
 as_entries base xs ys far same = IsPermutation-append_left far _ _ (IsPermutation-map (entry_by base) xs ys same)
 
@@ -72,47 +71,37 @@ module _ (old mid new : Queue) (same : SameQueued old mid) where
 -- ---- one comes
 
 module _ (old new : Queue) (right : IsQueue old) where
-  pub takes_near : (x : Reverse QueueItem) (near : List (Reverse QueueItem)) → IsPermutation (x ∷ heap_items old.near) near → IsQueue new
-      → queue_items new ≡ map (entry_by old.base) (near ++ old.later.items) ++ heap_items old.far → TakesIn old new (due_at old.base x.0) (number_in x.0)
-  takes_near x near put right same = takes_in old new (due_at old.base x.0) (number_in x.0) right
-      (rw same (as_entries old.base (x ∷ word_items old) (near ++ old.later.items) (heap_items old.far) (IsPermutation-append_left old.later.items (x ∷ heap_items old.near) near put)))
+  pub takes_near : (x : QueueItem) (near : List QueueItem) → IsPermutation (x ∷ old.near) near → IsQueue new
+      → queue_items new ≡ map (entry_by old.base) (near ++ old.later.items) ++ heap_items old.far → TakesIn old new (due_at old.base x) (number_in x)
+  takes_near x near put right same = takes_in old new (due_at old.base x) (number_in x) right
+      (rw same (as_entries old.base (x ∷ word_items old) (near ++ old.later.items) (heap_items old.far) (IsPermutation-append_left old.later.items (x ∷ old.near) near put)))
 
-  pub takes_later : (x : Reverse QueueItem) → old.horizon < x.0.word → new.later.items ≡ old.later.items ++ x ∷ []
-      → TakesIn old (record old { later = new.later }) (due_at old.base x.0) (number_in x.0)
-  takes_later x due items = takes_in old (record old { later = new.later }) (due_at old.base x.0) (number_in x.0)
+  pub takes_later : (x : QueueItem) → old.horizon < x.word → new.later.items ≡ old.later.items ++ x ∷ []
+      → TakesIn old (record old { later = new.later }) (due_at old.base x) (number_in x)
+  takes_later x due items = takes_in old (record old { later = new.later }) (due_at old.base x) (number_in x)
       (record {
-        heaps = record { near = right.heaps.near; far = right.heaps.far };
-        after = All-same (λ y. old.horizon < y.0.word) _ _ items (All-push (λ y. old.horizon < y.0.word) old.later.items x right.after due);
+        far = right.far;
+        after = All-same (λ y. old.horizon < y.word) _ _ items (All-push (λ y. old.horizon < y.word) old.later.items x right.after due);
       })
-      (as_entries old.base (x ∷ word_items old) (heap_items old.near ++ new.later.items) (heap_items old.far)
-      (more_behind x (heap_items old.near) old.later.items new.later.items (rw items (IsPermutation-sym _ _ (IsPermutation-to_front old.later.items x)))))
+      (as_entries old.base (x ∷ word_items old) (old.near ++ new.later.items) (heap_items old.far)
+      (more_behind x old.near old.later.items new.later.items (rw items (IsPermutation-sym _ _ (IsPermutation-to_front old.later.items x)))))
 
   pub takes_far : (t n : ℕ) → KeepsHeap queue_cmp (heap_items old.far) (heap_items new.far)
       → IsPermutation (entry_of t n ∷ heap_items old.far) (heap_items new.far) → TakesIn old (record old { far = new.far }) t n
-  takes_far t n keeps put = takes_in old (record old { far = new.far }) t n
-      (record { heaps = record { near = right.heaps.near; far = keeps right.heaps.far }; after = right.after })
+  takes_far t n keeps put = takes_in old (record old { far = new.far }) t n (record { far = keeps right.far; after = right.after })
       (more_behind (entry_of t n) (map (entry_by old.base) (word_items old)) _ _ put)
 
 -- ---- one goes
 
--- what is less than no element of a list is no later than all
-no_later : {X : Type 0} (R : X → X → Ordering) (time : X → ℕ) → ((x y : X) → is_lt (R x y) ≡ false → time x ≤ time y)
-    → (x : X) (xs : List X) → IsUpperBound R x xs → All (λ y. time x ≤ time y) xs
-no_later R time rises x xs bound = All-weaker (λ y. is_lt (R x y) ≡ false) (λ y. time x ≤ time y) (rises x) xs (All-from_recursion (λ y. is_lt (R x y) ≡ false) xs bound)
-
--- entries ascend by their times, and so do items, as their words tell
+-- entries ascend by their times
 entries_rise : (x y : Reverse (ℕ × ℕ)) → is_lt (queue_cmp x y) ≡ false → x.0.0 ≤ y.0.0
 entries_rise x y e = by x.0.0 x.0.1 y.0.0 y.0.1 e where
   by : (t n u k : ℕ) → is_lt (ordering_then (nat_cmp u t) (nat_cmp k n)) ≡ false → t ≤ u
   by t n u k e = grind (arith, nat_tests)
 
-items_rise : (base : ℕ) (x y : Reverse QueueItem) → is_lt (item_cmp x y) ≡ false → due_at base x.0 ≤ due_at base y.0
-items_rise base x y e = by x.0.word y.0.word e where
-  ordered : (v w : ℕ) → is_lt (nat_cmp w v) ≡ false → v ≤ w
-  ordered v w e = grind (arith, nat_tests)
-
-  by : (v w : ℕ) → is_lt (nat_cmp w v) ≡ false → base + v / 2 ^ 32 ≤ base + w / 2 ^ 32
-  by v w e = omega (arith, ordered v w e)
+-- the item with the least word is due first
+pub due_first : (base : ℕ) (xs : List QueueItem) (x : QueueItem) → IsLeast xs x → All (λ y. due_at base x ≤ due_at base y) xs
+due_first base xs x is = All-weaker (λ y. x.word ≤ y.word) (λ y. due_at base x ≤ due_at base y) (λ y le. omega (arith, le)) xs is.least
 
 -- no time is later than all, so nobody waits
 none_left : (q : Queue) → ((t : ℕ) → All (λ y. t ≤ y.0.0) (queue_items q)) → (u j : ℕ) → Queued q u j → ⊥
@@ -120,66 +109,66 @@ none_left q before u j has = omega (arith, All-contains (λ y. suc u ≤ y.0.0) 
 
 module _ (old new : Queue) (right : IsQueue old) (filled : IsFilled old) where
   -- what is no later than all that are near and all that are far is no later than all
-  none_before : (t : ℕ) → All (λ x. t ≤ due_at old.base x.0) (heap_items old.near) → All (λ y. t ≤ y.0.0) (heap_items old.far) → All (λ y. t ≤ y.0.0) (queue_items old)
+  none_before : (t : ℕ) → All (λ x. t ≤ due_at old.base x) old.near → All (λ y. t ≤ y.0.0) (heap_items old.far) → All (λ y. t ≤ y.0.0) (queue_items old)
   none_before t near far = All-append (λ y. t ≤ y.0.0) _ (heap_items old.far)
-      (All-map (λ y. t ≤ y.0.0) (entry_by old.base) (word_items old) (All-append (λ x. t ≤ due_at old.base x.0) (heap_items old.near) old.later.items near later)) far where
-        later : All (λ x. t ≤ due_at old.base x.0) old.later.items
+      (All-map (λ y. t ≤ y.0.0) (entry_by old.base) (word_items old) (All-append (λ x. t ≤ due_at old.base x) old.near old.later.items near later)) far where
+        later : All (λ x. t ≤ due_at old.base x) old.later.items
         later = elim filled [
-          | inl none ↦ rw none (All-nil (λ x. t ≤ due_at old.base x.0))
-          | inr (x, due, has) ↦ All-weaker (λ y. old.horizon < y.0.word) (λ y. t ≤ due_at old.base y.0)
-              (λ y after. omega (arith, All-contains (λ x. t ≤ due_at old.base x.0) (heap_items old.near) x near has)) old.later.items right.after
+          | inl none ↦ rw none (All-nil (λ x. t ≤ due_at old.base x))
+          | inr (x, due, has) ↦ All-weaker (λ y. old.horizon < y.word) (λ y. t ≤ due_at old.base y)
+              (λ y after. omega (arith, All-contains (λ x. t ≤ due_at old.base x) old.near x near has)) old.later.items right.after
         ]
 
   module _ (first : NearIsFirst old) where
-    pub gives_near : (x : Reverse QueueItem) → IsPermutation (heap_items old.near) (x ∷ heap_items new.near)
-        → PopsGreatest item_cmp (heap_items old.near) x (heap_items new.near) → GivesLeast old (record old { near = new.near }) (due_at old.base x.0) (number_in x.0)
-    gives_near x popped pops = gives old (record old { near = new.near }) (due_at old.base x.0) (number_in x.0)
-        (record { heaps = record { near = (pops right.heaps.near).0; far = right.heaps.far }; after = right.after })
-        (none_before (due_at old.base x.0) near (first (due_at old.base x.0) near))
-        (as_entries old.base (word_items old) (x ∷ (heap_items new.near ++ old.later.items)) (heap_items old.far) (IsPermutation-append_left old.later.items _ _ popped)) where
-          near : All (λ y. due_at old.base x.0 ≤ due_at old.base y.0) (heap_items old.near)
-          near = no_later item_cmp (λ y. due_at old.base y.0) (items_rise old.base) x (heap_items old.near) (pops right.heaps.near).1
+    pub gives_near : (x : QueueItem) → IsPermutation old.near (x ∷ new.near) → IsLeast old.near x
+        → GivesLeast old (record old { near = new.near }) (due_at old.base x) (number_in x)
+    gives_near x popped is = gives old (record old { near = new.near }) (due_at old.base x) (number_in x)
+        (record { far = right.far; after = right.after })
+        (none_before (due_at old.base x) near (first (due_at old.base x) near))
+        (as_entries old.base (word_items old) (x ∷ (new.near ++ old.later.items)) (heap_items old.far) (IsPermutation-append_left old.later.items _ _ popped)) where
+          near : All (λ y. due_at old.base x ≤ due_at old.base y) old.near
+          near = due_first old.base old.near x is
 
-    pub none_near : heap_len old.near ≡ 0 → heap_items new.near ≡ heap_items old.near → GivesNone old (record old { near = new.near })
-    none_near empty same = record {
-      right = record { heaps = record { near = subst (IsHeap item_cmp) (sym same) right.heaps.near; far = right.heaps.far }; after = right.after };
+    pub none_near : old.near ≡ [] → GivesNone old (record old { near = new.near })
+    none_near empty = record {
+      right = record { far = right.far; after = right.after };
       none = none_left old (λ t. none_before t (near t) (first t (near t)));
     } where
-      near : (t : ℕ) → All (λ x. t ≤ due_at old.base x.0) (heap_items old.near)
-      near t = rw (nil_from_length (heap_items old.near) (sym (old.near.data.ok).0 ∙ empty)) (All-nil (λ x. t ≤ due_at old.base x.0))
+      near : (t : ℕ) → All (λ x. t ≤ due_at old.base x) old.near
+      near t = rw empty (All-nil (λ x. t ≤ due_at old.base x))
 
   pub gives_far : FarIsFirst old → (x : Reverse (ℕ × ℕ)) → IsPermutation (heap_items old.far) (x ∷ heap_items new.far)
       → PopsGreatest queue_cmp (heap_items old.far) x (heap_items new.far) → GivesLeast old (record old { far = new.far }) x.0.0 x.0.1
   gives_far first x popped pops = gives old (record old { far = new.far }) x.0.0 x.0.1
-      (record { heaps = record { near = right.heaps.near; far = (pops right.heaps.far).0 }; after = right.after })
+      (record { far = (pops right.far).0; after = right.after })
       (none_before x.0.0 (first x.0.0 far) far)
       (IsPermutation-trans _ _ _ (IsPermutation-append_right items _ _ popped) (IsPermutation-middle items x (heap_items new.far))) where
         items : List (Reverse (ℕ × ℕ))
         items = map (entry_by old.base) (word_items old)
 
         far : All (λ y. x.0.0 ≤ y.0.0) (heap_items old.far)
-        far = no_later queue_cmp (λ y. y.0.0) entries_rise x (heap_items old.far) (pops right.heaps.far).1
+        far = All-weaker (λ y. is_lt (queue_cmp x y) ≡ false) (λ y. x.0.0 ≤ y.0.0) (entries_rise x) (heap_items old.far)
+            (All-from_recursion (λ y. is_lt (queue_cmp x y) ≡ false) (heap_items old.far) (pops right.far).1)
 
 -- ---- those that come to be due
 
 -- of the later ones, those before i are due after the horizon
 pub record IsMoving (first q : Queue) (i : ℕ) : Type 0 where
-  pub heaps : HasHeaps q
-  pub after : AllWithin (λ x. q.horizon < x.0.word) q.later.items 0 i
+  pub far : IsFarHeap q
+  pub after : AllWithin (λ x. q.horizon < x.word) q.later.items 0 i
   pub same : SameQueued first q
   pub horizon : q.horizon ≡ first.horizon
 
-pub one_moved : (first q new : Queue) (i : ℕ) (x : Reverse QueueItem) → IsMoving first q i → i < vec_len q.later → x ≡ get_or q.later.items i x
+pub one_moved : (first q new : Queue) (i : ℕ) (x : QueueItem) → IsMoving first q i → i < vec_len q.later → x ≡ get_or q.later.items i x
     → new.later.items ≡ swap_remove q.later.items i x
-    → ((k : ℕ) (d : Reverse QueueItem) → k ≢ i → k + 1 < vec_len q.later → get_or new.later.items k d ≡ get_or q.later.items k d)
-    → KeepsHeap item_cmp (heap_items q.near) (heap_items new.near) → IsPermutation (x ∷ heap_items q.near) (heap_items new.near)
-    → IsMoving first (record q { near = new.near; later = new.later }) i
-one_moved first q new i x moving lt read rest others keeps put = record {
-  heaps = record { near = keeps moving.heaps.near; far = moving.heaps.far };
-  after = λ k d from below. subst (λ y. q.horizon < y.0.word) (sym (others k d (omega (arith, below)) (omega (arith, below, lt)))) (moving.after k d from below);
+    → ((k : ℕ) (d : QueueItem) → k ≢ i → k + 1 < vec_len q.later → get_or new.later.items k d ≡ get_or q.later.items k d)
+    → IsPermutation (x ∷ q.near) new.near → IsMoving first (record q { near = new.near; later = new.later }) i
+one_moved first q new i x moving lt read rest others put = record {
+  far = moving.far;
+  after = λ k d from below. subst (λ y. q.horizon < y.word) (sym (others k d (omega (arith, below)) (omega (arith, below, lt)))) (moving.after k d from below);
   same = record {
     base = moving.same.base;
-    words = IsPermutation-trans _ _ _ moving.same.words (moved x (heap_items q.near) (heap_items new.near) q.later.items new.later.items
+    words = IsPermutation-trans _ _ _ moving.same.words (moved x q.near new.near q.later.items new.later.items
         (rw rest (IsPermutation-swap_remove q.later.items i x (omega (arith, lt, (q.later.ok).0)) read)) put);
     far = moving.same.far;
   };
@@ -187,8 +176,8 @@ one_moved first q new i x moving lt read rest others keeps put = record {
 }
 
 -- what is due by the horizon is near
-pub one_is_near : (q : Queue) (x : Reverse QueueItem) → x.0.word ≤ q.horizon → IsQueue q → Contains (word_items q) x → IsFilled q
-one_is_near q x due right has = elim (Contains-append_cases (heap_items q.near) q.later.items x has) [
+pub one_is_near : (q : Queue) (x : QueueItem) → x.word ≤ q.horizon → IsQueue q → Contains (word_items q) x → IsFilled q
+one_is_near q x due right has = elim (Contains-append_cases q.near q.later.items x has) [
   | inl near ↦ inr (x, due, near)
-  | inr later ↦ absurd (omega (arith, All-contains (λ y. q.horizon < y.0.word) q.later.items x right.after later))
+  | inr later ↦ absurd (omega (arith, All-contains (λ y. q.horizon < y.word) q.later.items x right.after later))
 ]

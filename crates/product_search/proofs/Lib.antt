@@ -1,5 +1,6 @@
 pub mod HopLemmas
 pub mod LabelLemmas
+mod SiftLemmas
 mod HeapLemmas
 mod RowLemmas
 mod QueueLemmas

@@ -1,4 +1,5 @@
 pub mod Exploring
+pub mod Heaped
 pub mod MoveTables
 pub mod Noting
 pub mod Places

@@ -10,6 +10,7 @@ mod claim;
 mod end_check;
 mod explore;
 mod frontier;
+mod item_heap;
 mod key;
 mod label;
 mod limit;

@@ -2,9 +2,10 @@
 
 ghost use Rattle.std.specs.Prelude.{◌≡◌, ℕ, ◌+◌, ◌<◌, [], Contains, IfOk, IfSome, IfNone, IsTrue, IsFalse, OnOk};
 ghost use Rattle.std.specs.BinaryHeap.{heap_len};
-ghost use Rattle.product_search.specs.inside.Queued.{queue_items, due_at, number_in, IsQueue, HasHeaps, IsFilled, SameQueued};
+ghost use Rattle.product_search.specs.inside.Queued.{queue_items, due_at, number_in, IsQueue, IsFarHeap, IsFilled, SameQueued};
 ghost use Rattle.product_search.specs.inside.Queued.{NearIsFirst, FarIsFirst, TakesIn, GivesLeast, GivesNone};
 
+use crate::item_heap::ItemHeap;
 use crate::queue_item::QueueItem;
 use search_laws::Time;
 use std::alloc::{AllocError, Global};
@@ -20,9 +21,9 @@ pub(crate) struct Queue {
     /// The time that delays are counted from.
     base: u64,
     /// Those due by the horizon, and what was here before it came down.
-    pub near: BinaryHeap<Reverse<QueueItem>>,
+    pub near: ItemHeap,
     /// The others, in no order. All are due after the horizon.
-    pub later: Vec<Reverse<QueueItem>>,
+    pub later: Vec<QueueItem>,
     /// Those of other times, be they before the base or long after it.
     pub far: BinaryHeap<Reverse<(Time, u32)>>,
     /// The word of the last item that is due by the horizon: the greatest one as long as few wait.
@@ -46,7 +47,7 @@ impl Queue {
     {
         Queue {
             base,
-            near: BinaryHeap::new(alloc),
+            near: ItemHeap::new(alloc),
             later: Vec::new(alloc),
             far: BinaryHeap::new(alloc),
             horizon: u64::MAX,
@@ -93,10 +94,10 @@ impl Queue {
         ensures { OnOk result (TakesIn self.old self.new (due_at self.old.base item) (number_in item)) }
     {
         if item.word <= self.horizon {
-            self.near.push(Reverse(item))?;
+            self.near.push(item)?;
             self.bring_down();
         } else {
-            self.later.push(Reverse(item))?;
+            self.later.push(item)?;
         }
         Ok(())
     }
@@ -112,7 +113,7 @@ impl Queue {
             return;
         }
         if let Some(top) = self.near.peek() {
-            let end = top.0.word.saturating_add(self.width);
+            let end = top.word.saturating_add(self.width);
             self.horizon = self.horizon.min(end);
         }
     }
@@ -152,7 +153,7 @@ impl Queue {
         }
         match self.near.peek() {
             None => false,
-            Some(top) => top.0.word <= self.horizon,
+            Some(top) => top.word <= self.horizon,
         }
     }
 
@@ -187,14 +188,14 @@ impl Queue {
 
     /// Puts into the heap those of the others that are due by the horizon.
     fn move_due(&mut self) -> Result<(), AllocError>
-        requires { HasHeaps self.old }
+        requires { IsFarHeap self.old }
         ensures right { OnOk result (IsQueue self.new) }
         ensures same { OnOk result (SameQueued self.old self.new) }
         ensures horizon { OnOk result (self.new.horizon ≡ self.old.horizon) }
     {
         let mut i = 0;
         'due: while i < self.later.len() {
-            if self.horizon < self.later[i].0.word {
+            if self.horizon < self.later[i].word {
                 i += 1;
                 continue;
             }
@@ -217,13 +218,13 @@ impl Queue {
             return Some(top.0);
         }
         let top = self.near.pop()?;
-        Some((self.due(top.0), top.0.number()))
+        Some((self.due(top), top.number()))
     }
 
     /// Whether those of other times have one before all in the heap of items.
     #[inline(always)]
     fn is_far_first(&self) -> bool
-        requires { HasHeaps self.now }
+        requires { IsFarHeap self.now }
         ensures near { IsFalse result → NearIsFirst self.now }
         ensures far { IsTrue result → FarIsFirst self.now }
         ensures some { IsTrue result → 0 < heap_len self.now.far }
@@ -233,16 +234,16 @@ impl Queue {
         };
         match self.near.peek() {
             None => true,
-            Some(near) => far.0.0 < self.due(near.0),
+            Some(near) => far.0.0 < self.due(near),
         }
     }
 }
 
 /// The earliest of some items.
-fn earliest(items: &[Reverse<QueueItem>]) -> Option<QueueItem>
-    ensures some { IfSome result (λ x. Contains items.now (record { 0 = x })) }
+fn earliest(items: &[QueueItem]) -> Option<QueueItem>
+    ensures some { IfSome result (Contains items.now) }
     ensures none { IfNone result (items.now ≡ []) }
 {
-    let first = items.iter().min_by_key(|item| item.0.word)?;
-    Some(first.0)
+    let first = items.iter().min_by_key(|item| item.word)?;
+    Some(*first)
 }

@@ -29,18 +29,14 @@ abbrev pub due_at : ℕ → QueueItem → ℕ
 due_at base x = base + delay_in x
 
 -- the item as an entry
-abbrev pub entry_by : ℕ → Reverse QueueItem → Reverse (ℕ × ℕ)
-entry_by base x = entry_of (due_at base x.0) (number_in x.0)
-
--- words alone are compared: of two items the one that is due earlier is the greater
-abbrev pub item_cmp : Reverse QueueItem → Reverse QueueItem → Ordering
-item_cmp x y = nat_cmp y.0.word x.0.word
+abbrev pub entry_by : ℕ → QueueItem → Reverse (ℕ × ℕ)
+entry_by base x = entry_of (due_at base x) (number_in x)
 
 -- ---- queues
 
 -- all items of one word that wait
-abbrev pub word_items : Queue → List (Reverse QueueItem)
-word_items q = heap_items q.near ++ q.later.items
+abbrev pub word_items : Queue → List QueueItem
+word_items q = q.near ++ q.later.items
 
 -- all that wait
 abbrev pub queue_items : Queue → List (Reverse (ℕ × ℕ))
@@ -53,27 +49,25 @@ Queued q t k = Contains (queue_items q) (entry_of t k)
 abbrev pub queue_len : Queue → ℕ
 queue_len q = length (queue_items q)
 
--- both are heaps
-pub record HasHeaps (q : Queue) : Type 0 where
-  pub near : IsHeap item_cmp (heap_items q.near)
-  pub far : IsHeap queue_cmp (heap_items q.far)
+abbrev pub IsFarHeap : Queue → Type 0
+IsFarHeap q = IsHeap queue_cmp (heap_items q.far)
 
--- and the later ones are due after the horizon
+-- those of other times are a heap, and the later ones are due after the horizon
 pub record IsQueue (q : Queue) : Type 0 where
-  pub heaps : HasHeaps q
-  pub after : All (λ x. q.horizon < x.0.word) q.later.items
+  pub far : IsFarHeap q
+  pub after : All (λ x. q.horizon < x.word) q.later.items
 
 -- none is later, or one that is near is due by the horizon
 abbrev pub IsFilled : Queue → Type 0
-IsFilled q = (q.later.items ≡ []) ⊎ ((x : Reverse QueueItem) × (x.0.word ≤ q.horizon) × Contains (heap_items q.near) x)
+IsFilled q = (q.later.items ≡ []) ⊎ ((x : QueueItem) × (x.word ≤ q.horizon) × Contains q.near x)
 
 -- what is no later than all that are near is no later than all that are far
 abbrev pub NearIsFirst : Queue → Type 0
-NearIsFirst q = (t : ℕ) → All (λ x. t ≤ due_at q.base x.0) (heap_items q.near) → All (λ y. t ≤ y.0.0) (heap_items q.far)
+NearIsFirst q = (t : ℕ) → All (λ x. t ≤ due_at q.base x) q.near → All (λ y. t ≤ y.0.0) (heap_items q.far)
 
 -- what is no later than all that are far is no later than all that are near
 abbrev pub FarIsFirst : Queue → Type 0
-FarIsFirst q = (t : ℕ) → All (λ y. t ≤ y.0.0) (heap_items q.far) → All (λ x. t ≤ due_at q.base x.0) (heap_items q.near)
+FarIsFirst q = (t : ℕ) → All (λ y. t ≤ y.0.0) (heap_items q.far) → All (λ x. t ≤ due_at q.base x) q.near
 
 -- new has what old has
 pub record SameQueued (old new : Queue) : Type 0 where

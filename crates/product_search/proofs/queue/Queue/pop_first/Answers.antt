@@ -13,7 +13,7 @@ returns-in_err-top-2-clause-none c =
     let old = c.args.self.now in
     let first = c.is_far_first.ensures.near c.if-is_far_first.false in
     let popped = c.in_err-top-2.ensures in
-    rw c.from_residual-in_err-top-2.ensures (none_near old (record old { near = c.pop-2.new.self }) c.requires.right c.requires.filled first popped.none popped.unchanged.0)
+    rw c.from_residual-in_err-top-2.ensures (none_near old (record old { near = c.pop-2.new.self }) c.requires.right c.requires.filled first popped.none)
 
 pub returns-clause-some : goal.returns-clause-some
 returns-clause-some c =
@@ -21,4 +21,4 @@ returns-clause-some c =
     let first = c.is_far_first.ensures.near c.if-is_far_first.false in
     let popped = c.in_ok-top-2.ensures in
     rw (c.due.ensures, c.number.ensures)
-    (gives_near old (record old { near = c.pop-2.new.self }) c.requires.right c.requires.filled first c.in_ok-top-2.top popped.permutation popped.heap_order)
+    (gives_near old (record old { near = c.pop-2.new.self }) c.requires.right c.requires.filled first c.in_ok-top-2.top popped.some popped.least)
