@@ -11,7 +11,7 @@ use crate::bridging::{Tables, contract_node};
 use crate::choosing::{Queue, marked};
 use crate::finishing::finish;
 use crate::layer::Layer;
-use hierarchy::Hierarchy;
+use hierarchy::Lists;
 use mode_network::Network;
 use std::alloc::{AllocError, Global};
 
@@ -28,9 +28,9 @@ pub trait Progress {
     fn told(&mut self, contracted: u64, of: u64, entries: u64);
 }
 
-/// A sound hierarchy of a network. Its core is all nodes that are no road nodes, the road nodes with a link, and of the
-/// other road nodes as many as are to be kept, or all where there are fewer. Each shortcut weighs what the roads between
-/// its ends take at least, in milliseconds. Fails where memory runs out.
+/// The lists of a sound hierarchy of a network. Its core is all nodes that are no road nodes, the road nodes with a link,
+/// and of the other road nodes as many as are to be kept, or all where there are fewer. Each shortcut weighs what the
+/// roads between its ends take at least, in milliseconds. Fails where memory runs out.
 ///
 /// The nodes are contracted one after the other, those first that seem to need the fewest shortcuts, as in Geisberger's
 /// contraction hierarchies; those with a link are left, as Dibbelt, Pajor and Wagner do for user-constrained paths.
@@ -39,7 +39,7 @@ pub fn contract<P: Progress>(
     network: &Network,
     keep: u32,
     progress: &mut P,
-) -> Result<Hierarchy, AllocError>
+) -> Result<Lists, AllocError>
     ensures { IfOk result (IsContractedTo network.now keep) }
 {
     network.known();
@@ -47,8 +47,7 @@ pub fn contract<P: Progress>(
     let waiting = free_nodes(alloc, network)?;
     let number = waiting.count.saturating_sub(u64::from(keep));
     contract_nodes(alloc, network, &mut layer, waiting, number, progress)?;
-    let hierarchy = finish(alloc, network, layer)?;
-    Ok(hierarchy)
+    Ok(finish(network, layer))
 }
 
 /// Marks the nodes that are free, and counts them.

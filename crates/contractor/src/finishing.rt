@@ -1,21 +1,15 @@
-//! The hierarchy of what contraction has made.
+//! The lists of what contraction has made.
 
-ghost use Rattle.std.specs.Prelude.{IfOk};
 ghost use Rattle.contractor.specs.inside.Layers.{IsState, IsFinished};
 
 use crate::layer::Layer;
-use hierarchy::Hierarchy;
+use hierarchy::Lists;
 use mode_network::Network;
-use std::alloc::{AllocError, Global};
 
-/// The hierarchy so far, with its lists in order.
-pub(crate) fn finish(
-    alloc: Global,
-    network: &Network,
-    layer: Layer,
-) -> Result<Hierarchy, AllocError>
+/// The lists of the hierarchy so far, in order.
+pub(crate) fn finish(network: &Network, layer: Layer) -> Lists
     requires { IsState network.now layer }
-    ensures { IfOk result (IsFinished network.now layer.order.items) }
+    ensures { IsFinished network.now layer.order.items result }
 {
     network.known();
     let Layer {
@@ -29,6 +23,5 @@ pub(crate) fn finish(
     drop(into);
     entries.sort_unstable_by_key(|entry| (entry.from, entry.to));
     witnesses.sort();
-    let hierarchy = Hierarchy::new(alloc, order, entries, witnesses)?;
-    Ok(hierarchy)
+    Lists::new(order, entries, witnesses)
 }

@@ -7,6 +7,7 @@ ghost use Rattle.hierarchy.specs.Rises.{IsRiseRange, RisesFrom, all_rises, has_l
 ghost use Rattle.hierarchy.specs.Lookups.{IsEntryFor, HasNoEntry, IsWitnessFor, HasNoWitness, AreFrom, ArePlaces, FallsTo, range_of, from_of};
 
 use crate::entry::Entry;
+use crate::lists::Lists;
 use crate::lookup::entry_between;
 use crate::tables::{NodeRow, Tables};
 use crate::witnesses::{Witness, Witnesses};
@@ -41,26 +42,13 @@ impl Model for Hierarchy {
     ghost invariant = { IsKept };
 }
 
-impl Hierarchy {
-    /// The hierarchy with these lists. Entries ascend strictly by (from, to), and witnesses by (below, first node,
-    /// last node); each witness has at least two nodes, and every node is below 2^24.
-    pub fn new(
-        alloc: Global,
-        order: Vec<u32>,
-        entries: Vec<Entry>,
-        witnesses: Witnesses,
-    ) -> Result<Hierarchy, AllocError>
-        requires { IsHierarchy (record {
-          order = order.items;
-          entries = entries.items;
-          witnesses = witnesses;
-        }) }
-        ensures { IfOk result (λ h. h ≡ record {
-          order = order.items;
-          entries = entries.items;
-          witnesses = witnesses;
-        }) }
+impl Lists {
+    /// The hierarchy with these lists. Its tables are as long as the greatest node that the order or the entries name.
+    pub fn into_hierarchy(self, alloc: Global) -> Result<Hierarchy, AllocError>
+        ensures { IfOk result (λ h. h ≡ self) }
     {
+        self.known();
+        let (order, entries, witnesses) = self.into_parts();
         let tables = Tables::new(alloc, &order, &entries)?;
         Ok(Hierarchy {
             order,
@@ -75,8 +63,10 @@ impl Hierarchy {
             falls: tables.falls,
         })
     }
+}
 
-    /// Each hierarchy keeps the rules of [`new`](Self::new).
+impl Hierarchy {
+    /// Each hierarchy keeps the rules of [`Lists::new`].
     pub fn known(&self)
         ensures { IsHierarchy self.now }
     {

@@ -6,7 +6,7 @@ ghost use Rattle.run_steps.specs.Sayings.{end_of};
 ghost use Rattle.hierarchy_commands.specs.Commands.{IsContraction, SaysContract};
 
 use crate::progress::ContractionNotes;
-use hierarchy::Hierarchy;
+use hierarchy::Sizes;
 use hierarchy_file::encode;
 use mode_network::Network;
 use plan_base::{Caps, Shelf, Sink};
@@ -43,11 +43,12 @@ fn contracted<E: Sink>(
     ensures { IfOk result (λ text. IsContraction network keep text.items) }
 {
     let mut progress = ContractionNotes::new(alloc, &mut *notes);
-    let h = contractor::contract(alloc, &network, keep, &mut progress)?;
+    let lists = contractor::contract(alloc, &network, keep, &mut progress)?;
     let nodes = network.nodes();
     drop(network);
-    let text = encode(alloc, &h)?;
-    tell(alloc, notes, told_at_end(alloc, nodes, &h, text.len()));
+    let sizes = lists.sizes();
+    let text = encode(alloc, lists)?;
+    tell(alloc, notes, told_at_end(alloc, nodes, sizes, text.len()));
     Ok(text)
 }
 
@@ -55,13 +56,16 @@ fn contracted<E: Sink>(
 fn told_at_end(
     alloc: Global,
     nodes: u32,
-    h: &Hierarchy,
+    sizes: Sizes,
     bytes: usize,
 ) -> Result<String, AllocError> {
-    let contracted = h.order().len() as u64;
+    let Sizes {
+        order: contracted,
+        entries,
+        witnesses,
+        ..
+    } = sizes;
     let core = u64::from(nodes).saturating_sub(contracted);
-    let entries = h.entries().len();
-    let witnesses = h.witnesses().len();
     let unread = if bytes as u64 > most_of(FileRole::Hierarchy) {
         ", which is more than any command reads; keep more nodes"
     } else {

@@ -1,16 +1,15 @@
 //! Reading a hierarchy, which is checked at once.
 
 ghost use Rattle.std.specs.Prelude.{◌≡◌, IfErr, IfOk, option_map};
-ghost use Rattle.hierarchy.specs.Rules.{IsHierarchy};
 ghost use Rattle.hierarchy_check.specs.Nodes.{HasNodes};
 ghost use Rattle.plan_base.specs.Shelves.{IsLater};
 ghost use Rattle.hierarchy_commands.specs.Working.{HasSound, AreSound, AreUnsound, IsSoundOf, IsUnsoundOf, IsHierarchyOutcome, IsFoundSound, IsNamedOutcome, hierarchy_outcome};
 
 use crate::broken::Judged;
 use fault_notes::bad_hierarchy;
-use hierarchy::{Hierarchy, Verdict};
+use hierarchy::{Hierarchy, Lists, Verdict};
 use hierarchy_check::{check_nodes, check_ways};
-use hierarchy_file::{HFileFault, Lists, decode_lists};
+use hierarchy_file::{HFileFault, decode_lists};
 use mode_network::Network;
 use plan_base::{Shelf, Sink};
 use run_steps::{FileRole, Outcome, read_file, tell};
@@ -96,7 +95,6 @@ fn sound_of<E: Sink>(
     lists: Lists,
     notes: &mut E,
 ) -> Result<Hierarchy, Outcome>
-    requires { IsHierarchy lists }
     ensures ok { IfOk result (IsSoundOf network.now lists) }
     ensures err { IfErr result (IsUnsoundOf network.now lists) }
 {
@@ -125,8 +123,7 @@ fn joined<E: Sink>(
     lists: Lists,
     notes: &mut E,
 ) -> Result<Hierarchy, Outcome>
-    requires rules { IsHierarchy lists }
-    requires nodes { HasNodes network.now lists }
+    requires { HasNodes network.now lists }
     ensures ok { IfOk result (IsSoundOf network.now lists) }
     ensures err { IfErr result (IsUnsoundOf network.now lists) }
 {

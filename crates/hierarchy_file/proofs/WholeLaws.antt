@@ -14,7 +14,7 @@ use Rattle.std.proofs.lemmas.Slice.Eq.{bytes_eq-Decides}
 use Rattle.hierarchy.specs.declared.entry.Entry.{Entry}
 use Rattle.hierarchy.specs.Lists.{HierarchyLists, WitnessLists}
 use Rattle.mode_network.specs.Rules.{IsAscending}
-use Rattle.hierarchy.specs.Rules.{IsNode, FitsEntry, FitsWitness, entry_cmp, witness_cmp}
+use Rattle.hierarchy.specs.Rules.{IsHierarchy, IsNode, FitsEntry, FitsWitness, entry_cmp, witness_cmp}
 use Rattle.hierarchy_file.specs.declared.head.Counts.{Counts}
 use Rattle.hierarchy_file.specs.declared.fault.HFileFault.{HFileFault}
 use Rattle.hierarchy_file.specs.declared.fault.HFileFault.TheVariants.{Trailing}
@@ -176,17 +176,24 @@ records_again c h rest are =
 
 -- ---- the whole
 
+rules_from : (c : Counts) (h : HierarchyLists) → AreRecords c h → IsHierarchy h
+rules_from c h are = record {
+  order_fits = are.order;
+  entries_fit = All-weaker FitsRow FitsEntry (λ e row. row.fits) h.entries are.entries;
+  entries_ascend = are.entries_ascend;
+  witnesses_fit = All-weaker FitsWalk FitsWitness (λ w walk. walk.fits) h.witnesses are.witnesses;
+  witnesses_ascend = are.witnesses_ascend;
+}
+
+-- what is read keeps the rules
+pub rules_read : (c : Counts) (bytes : List ℕ) (y : AllRead) → IsBytes bytes → hierarchy_records c bytes ≡ Ok y → IsHierarchy y.0
+rules_read c bytes y fits e = rules_from c y.0 (records_take c bytes y fits e).1
+
 pub spelling_from : (c : Counts) (h : HierarchyLists) → FitEightBytes c → AreRecords c h → HasSpelling h
 spelling_from c h fits are =
     let whole = subst FitEightBytes (sym are.counts) fits in
     record {
-      rules = record {
-        order_fits = are.order;
-        entries_fit = All-weaker FitsRow FitsEntry (λ e row. row.fits) h.entries are.entries;
-        entries_ascend = are.entries_ascend;
-        witnesses_fit = All-weaker FitsWalk FitsWitness (λ w walk. walk.fits) h.witnesses are.witnesses;
-        witnesses_ascend = are.witnesses_ascend;
-      };
+      rules = rules_from c h are;
       order_short = whole.order;
       entries_short = whole.entries;
       witnesses_short = whole.witnesses;

@@ -7,9 +7,8 @@ ghost use Rattle.hierarchy_file.specs.Reading.{Gives, GivesHierarchy, hierarchy_
 
 use crate::fault::{HFileFault, Halt};
 use crate::head::{Counts, head_at};
-use crate::lists::Lists;
 use crate::records::{entries_of, read_nodes, witnesses_of};
-use hierarchy::Hierarchy;
+use hierarchy::{Hierarchy, Lists};
 use std::alloc::Global;
 
 /// All records, and the bytes behind them.
@@ -21,14 +20,7 @@ fn records_of(alloc: Global, counts: Counts, bytes: &[u8]) -> Result<(Lists, &[u
     let rest = read_nodes(&mut order, counts.order, bytes)?;
     let (entries, rest) = entries_of(alloc, counts.entries, rest)?;
     let (witnesses, rest) = witnesses_of(alloc, counts.witnesses, rest)?;
-    Ok((
-        Lists {
-            order,
-            entries,
-            witnesses,
-        },
-        rest,
-    ))
+    Ok((Lists::new(order, entries, witnesses), rest))
 }
 
 /// The lists that the bytes spell.
@@ -79,7 +71,7 @@ pub fn decode_lists(alloc: Global, bytes: &[u8]) -> Result<Lists, HFileFault>
 /// entry and each witness is a record; a witness has the count of its nodes before them. All numbers are big-endian:
 /// counts and weights have eight bytes, and nodes four, where 2^32 - 1 stands for no middle node. Each hierarchy has
 /// exactly one spelling, and other bytes are refused: first where the head is not there, then at the first record that
-/// is cut short or breaks a rule of [`Hierarchy::new`], and at last where bytes follow the records. The lists take no
+/// is cut short or breaks a rule of [`Lists::new`], and at last where bytes follow the records. The lists take no
 /// more room than the records need that are there; the tables of a hierarchy go with the greatest number of a node, so
 /// whoever does not trust the bytes reads the lists alone first, by [`decode_lists`].
 pub fn decode(alloc: Global, bytes: &[u8]) -> Result<Hierarchy, HFileFault>

@@ -1,4 +1,4 @@
-//! From a hierarchy to bytes.
+//! From the lists of a hierarchy to bytes.
 
 ghost use Rattle.std.specs.Prelude.{◌≡◌, ◌++◌, ◌<◌, ◌^◌, All, IfOk, OnOk, length};
 ghost use Rattle.std.specs.List.{flat_map};
@@ -8,7 +8,7 @@ ghost use Rattle.hierarchy_file.specs.Causes.{SpellHierarchy};
 use crate::head::{Counts, push_head};
 use crate::numbers::{push_u32, push_u64};
 use crate::records::NO_MIDDLE;
-use hierarchy::{Entry, Hierarchy, Witness, Witnesses};
+use hierarchy::{Entry, Lists, Sizes, Witness, Witnesses};
 use std::alloc::{AllocError, Global};
 
 fn push_nodes(out: &mut Vec<u8>, nodes: &[u32]) -> Result<(), AllocError>
@@ -69,32 +69,34 @@ fn push_witnesses(out: &mut Vec<u8>, witnesses: &Witnesses) -> Result<(), AllocE
     Ok(())
 }
 
-/// How many bytes the spelling has, for which room is made at once. No contract speaks of it.
-fn room_for(h: &Hierarchy) -> usize {
-    let mut room: usize = 32;
-    room = room.saturating_add(h.order().len().saturating_mul(4));
-    room = room.saturating_add(h.entries().len().saturating_mul(20));
-    for place in 0..h.witnesses().len() {
-        room = room.saturating_add(h.witnesses().get(place).nodes.len().saturating_mul(4));
-        room = room.saturating_add(12);
-    }
-    room
+/// How many bytes the spelling of lists has that are so long, or the greatest number if it has more. No contract speaks of
+/// it.
+pub fn file_len(sizes: Sizes) -> u64 {
+    let nodes = sizes.order.saturating_add(sizes.witness_nodes);
+    32u64
+        .saturating_add(nodes.saturating_mul(4))
+        .saturating_add(sizes.entries.saturating_mul(20))
+        .saturating_add(sizes.witnesses.saturating_mul(12))
 }
 
-/// The one spelling of a hierarchy, which [`decode`](crate::decode) reads again.
-pub fn encode(alloc: Global, h: &Hierarchy) -> Result<Vec<u8>, AllocError>
-    ensures { IfOk result (λ bytes. SpellHierarchy bytes.items h.now) }
+/// The one spelling of a hierarchy with these lists, which [`decode`](crate::decode) reads again. Room for it is made at once,
+/// and the memory of each list is free again as soon as it is spelled.
+pub fn encode(alloc: Global, lists: Lists) -> Result<Vec<u8>, AllocError>
+    ensures { IfOk result (λ bytes. SpellHierarchy bytes.items lists) }
 {
-    h.known();
-    let mut out = Vec::with_capacity(alloc, room_for(h))?;
+    lists.known();
+    let mut out = Vec::with_capacity(alloc, file_len(lists.sizes()) as usize)?;
+    let (order, entries, witnesses) = lists.into_parts();
     let counts = Counts {
-        order: h.order().len() as u64,
-        entries: h.entries().len() as u64,
-        witnesses: h.witnesses().len() as u64,
+        order: order.len() as u64,
+        entries: entries.len() as u64,
+        witnesses: witnesses.len() as u64,
     };
     push_head(&mut out, counts)?;
-    push_nodes(&mut out, h.order())?;
-    push_entries(&mut out, h.entries())?;
-    push_witnesses(&mut out, h.witnesses())?;
+    push_nodes(&mut out, &order)?;
+    drop(order);
+    push_entries(&mut out, &entries)?;
+    drop(entries);
+    push_witnesses(&mut out, &witnesses)?;
     Ok(out)
 }

@@ -5,11 +5,9 @@ mod decoding;
 mod encoding;
 pub mod fault;
 pub mod head;
-mod lists;
 mod numbers;
 mod records;
 
 pub use decoding::{decode, decode_lists};
-pub use encoding::encode;
+pub use encoding::{encode, file_len};
 pub use fault::HFileFault;
-pub use lists::Lists;

@@ -113,7 +113,8 @@ fn contracted<E: Sink>(
     ensures sound { IfOk result (IsSound city.now) }
 {
     let mut told = ContractionNotes::new(alloc, notes);
-    let hierarchy = contract(alloc, city, 0, &mut told)?;
+    let lists = contract(alloc, city, 0, &mut told)?;
+    let hierarchy = lists.into_hierarchy(alloc)?;
     match check(alloc, city, &hierarchy)? {
         Verdict::Sound => Ok(hierarchy),
         Verdict::Broken { .. } => unreachable!(),

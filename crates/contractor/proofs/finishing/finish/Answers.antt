@@ -17,5 +17,5 @@ new-requires c =
 pub returns : goal.returns
 returns c =
     let e = c.sort_unstable_by_key in
-    subst (IsFinished c.args.network.now c.args.layer.order.items) (sym c.in_ok-hierarchy.ensures)
+    subst (IsFinished c.args.network.now c.args.layer.order.items) (sym c.new.ensures)
     (finished c.args.network.now c.args.layer c.requires e.new.self.items e.ensures.permutation c.sort.new.self c.sort.ensures.moved)

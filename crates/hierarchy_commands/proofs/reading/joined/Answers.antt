@@ -4,7 +4,7 @@ use Rattle.hierarchy_check.specs.Nodes.{HasNodes}
 use Rattle.hierarchy_commands.proofs.reading.joined.Goals as goal
 
 pub check_ways-requires : goal.check_ways-requires
-check_ways-requires g c = subst (HasNodes c.args.network.now) (sym c.in-Ok.ensures) c.requires.nodes
+check_ways-requires g c = subst (HasNodes c.args.network.now) (sym c.in-Ok.ensures) c.requires
 
 pub returns-in-Broken-clause-err : goal.returns-in-Broken-clause-err
 returns-in-Broken-clause-err g c =

@@ -1,23 +1,32 @@
-use Rattle.std.proofs.Common.{length, refl, rules, ◌<◌, ◌^◌}
+use Rattle.std.proofs.Common.{◌≡◌, ◌∙◌, ◌<◌, ◌^◌, ℕ, ap, length, refl, rules, subst}
 use Rattle.hierarchy_file.specs.Spelling.{HasSpelling}
 use Rattle.hierarchy_file.proofs.WholeLaws.{written}
 use Rattle.hierarchy_file.proofs.encoding.encode.Goals as goal
 
 pub returns : goal.returns
 returns c =
-    let text = written c.args.h.now c.in_ok-out.out.items c.push_head.new.out.items c.push_nodes.new.out.items c.push_entries.new.out.items c.push_witnesses.new.out.items
-    _ c.order-2.result.now c.entries-2.result.now c.witnesses-2.result.now c.order-2.ensures c.entries-2.ensures c.witnesses-2.ensures
-    (rw (c.order.ensures, c.entries.ensures, c.len.ensures, c.witnesses.ensures) refl) c.in_ok-out.ensures.items
+    let h = c.args.lists in
+    let parts = c.into_parts-order.result in
+    let are = c.into_parts-order.ensures in
+    let order_is = c.deref.ensures.value ∙ are.order in
+    let entries_are = c.deref-2.ensures.value ∙ are.entries in
+    let order_counted : c.len.result ≡ length parts.0.items = search rules in
+    let entries_counted : c.len-2.result ≡ length parts.1.items = search rules in
+    let order_long : c.len.result ≡ length h.order = order_counted ∙ ap length are.order in
+    let entries_long : c.len-2.result ≡ length h.entries = entries_counted ∙ ap length are.entries in
+    let witnesses_long : c.len-3.result ≡ length h.witnesses = c.len-3.ensures ∙ ap length are.witnesses in
+    let order : c.len.result < 2 ^ 64 = search rules in
+    let entries : c.len-2.result < 2 ^ 64 = search rules in
+    let witnesses : c.len-3.result < 2 ^ 64 = search rules in
+    let text = written h c.in_ok-out.out.items c.push_head.new.out.items c.push_nodes.new.out.items c.push_entries.new.out.items c.push_witnesses.new.out.items
+    _ c.deref.result.now c.deref-2.result.now parts.2 order_is entries_are are.witnesses (rw (order_long, entries_long, witnesses_long) refl) c.in_ok-out.ensures.items
     c.in_ok-push_head.ensures c.in_ok-push_nodes.ensures c.in_ok-push_entries.ensures.text c.in_ok-push_witnesses.ensures.text in
-    let order : length c.order.result.now < 2 ^ 64 = search rules in
-    let entries : length c.entries.result.now < 2 ^ 64 = search rules in
-    let witnesses : c.len.result < 2 ^ 64 = search rules in
-    let has : HasSpelling c.args.h.now = record {
+    let has : HasSpelling h = record {
       rules = c.known.ensures;
-      order_short = rw (← c.order.ensures) order;
-      entries_short = rw (← c.entries.ensures) entries;
-      witnesses_short = rw (← c.witnesses.ensures, ← c.len.ensures) witnesses;
-      weights_fit = rw (← c.entries-2.ensures) c.in_ok-push_entries.ensures.fit;
-      nodes_short = rw (← c.witnesses-2.ensures) c.in_ok-push_witnesses.ensures.fit;
+      order_short = subst (λ (k : ℕ). k < 2 ^ 64) order_long order;
+      entries_short = subst (λ (k : ℕ). k < 2 ^ 64) entries_long entries;
+      witnesses_short = subst (λ (k : ℕ). k < 2 ^ 64) witnesses_long witnesses;
+      weights_fit = rw (← entries_are) c.in_ok-push_entries.ensures.fit;
+      nodes_short = rw (← are.witnesses) c.in_ok-push_witnesses.ensures.fit;
     } in
     (has, text)
