@@ -11,7 +11,7 @@ use crate::bridging::{Tables, contract_node};
 use crate::choosing::{Queue, marked};
 use crate::finishing::finish;
 use crate::layer::Layer;
-use hierarchy::Lists;
+use hierarchy::{Lists, Sizes};
 use mode_network::Network;
 use std::alloc::{AllocError, Global};
 
@@ -24,8 +24,8 @@ struct Waiting {
 
 /// What is told of a contraction while it goes on.
 pub trait Progress {
-    /// So many nodes are contracted, of so many that are to be; and so many entries there are.
-    fn told(&mut self, contracted: u64, of: u64, entries: u64);
+    /// Another node is contracted: the lists are so long now, and their order is to have so many nodes at last.
+    fn told(&mut self, sizes: Sizes, of: u64);
 }
 
 /// The lists of a sound hierarchy of a network. Its core is all nodes that are no road nodes, the road nodes with a link,
@@ -105,7 +105,7 @@ fn contract_nodes<P: Progress>(
         queue.deepen(layer, x);
         contract_node(alloc, network, &mut tables, layer, x)?;
         left -= 1;
-        progress.told(number - left, number, layer.entries.len() as u64);
+        progress.told(layer.sizes(), number);
     }
     Ok(())
 }

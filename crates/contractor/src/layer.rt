@@ -7,7 +7,7 @@ ghost use Rattle.contractor.specs.inside.Partway.{IsPut, shortcut_of};
 ghost use Rattle.contractor.specs.inside.Layers.{IsLayer, CanPut, HasNumber, IsEntered, IsNodeAdded, IsEdgeListed, IsPlaceable, IsEntryPlaced};
 
 use crate::way::Way;
-use hierarchy::{Entry, Witnesses};
+use hierarchy::{Entry, Sizes, Witnesses};
 use std::alloc::{AllocError, Global};
 use witness::Edge;
 
@@ -21,6 +21,13 @@ pub struct Layer {
     pub rows: Vec<Vec<Edge>>,
     /// For each node those that are left and have an entry to it.
     pub into: Vec<Vec<u32>>,
+}
+
+impl Layer {
+    /// How long the lists of the hierarchy are so far.
+    pub(crate) fn sizes(&self) -> Sizes {
+        Sizes::of(&self.order, &self.entries, &self.witnesses)
+    }
 }
 
 /// Puts in the shortcut of a way by `x`, in the place of the entry with its ends, if there is one.

@@ -5,12 +5,12 @@ ghost use Rattle.run_steps.specs.Scene.{scene};
 ghost use Rattle.run_steps.specs.Sayings.{end_of};
 ghost use Rattle.hierarchy_commands.specs.Commands.{IsContraction, SaysContract};
 
-use crate::progress::ContractionNotes;
+use crate::progress::{ContractionNotes, is_too_long};
 use hierarchy::Sizes;
 use hierarchy_file::encode;
 use mode_network::Network;
 use plan_base::{Caps, Shelf, Sink};
-use run_steps::{FileRole, Outcome, Ports, most_of, read_region, tell, write_text};
+use run_steps::{Outcome, Ports, read_region, tell, write_text};
 use std::alloc::{AllocError, Global};
 
 /// Reads the region of this name, contracts its road layers, and writes the hierarchy. `notes` is told how far it is.
@@ -66,7 +66,7 @@ fn told_at_end(
         ..
     } = sizes;
     let core = u64::from(nodes).saturating_sub(contracted);
-    let unread = if bytes as u64 > most_of(FileRole::Hierarchy) {
+    let unread = if is_too_long(bytes as u64) {
         ", which is more than any command reads; keep more nodes"
     } else {
         ""
