@@ -32,8 +32,8 @@ section_of line.End = section.End
 -- whether a line of the section `next` may stand behind one of the section `before`
 abbrev pub may_follow : Section → Section → Bool
 may_follow before next =
-    if nat_eq (rank before) 0 then nat_eq (rank next) 1
-    else nat_lt 1 (rank next) && nat_le (rank before) (rank next) && nat_lt (rank before) 8
+    if nat_eq (rank before) (rank section.Start) then nat_eq (rank next) (rank section.Days)
+    else nat_lt (rank section.Days) (rank next) && nat_le (rank before) (rank next) && nat_lt (rank before) (rank section.End)
 
 -- a call is due behind a trip or a call, and any other line where no call is
 abbrev pub is_due : ℕ → Line → Bool
@@ -65,7 +65,7 @@ behind_days = record { section = section.Days; calls_due = 0 }
 
 -- nothing stands behind the end
 abbrev pub is_end : Progress → Bool
-is_end before = nat_eq (rank before.section) 8
+is_end before = nat_eq (rank before.section) (rank section.End)
 
 abbrev pub placed_line : Progress → Line → Option (Line × Progress)
 placed_line before l = if may_stand before l then Some (l, behind before l) else None

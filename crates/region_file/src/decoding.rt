@@ -39,7 +39,7 @@ fn line_behind<'a>(
     let Some(line) = line_of(alloc, words, text)? else {
         return Ok(None);
     };
-    if before.may_precede(&line) {
+    if before.may_follow(&line) {
         let behind = before.behind(&line);
         Ok(Some((line, behind)))
     } else {

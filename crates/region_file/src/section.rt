@@ -38,6 +38,7 @@ impl Section {
         }
     }
 
+    /// The place of a section in their order.
     fn rank(self) -> u8
         ensures { result ≡ rank self }
     {
@@ -56,14 +57,14 @@ impl Section {
 
     /// Whether a line of the section `next` may stand behind one of this section. One line of days comes
     /// first; then the sections stand in their order, and nothing stands behind the end.
-    pub fn may_precede(self, next: Section) -> bool
+    pub fn may_follow(self, next: Section) -> bool
         ensures { result ≡ may_follow self next }
     {
         let (before, after) = (self.rank(), next.rank());
-        if before == 0 {
-            after == 1
+        if before == Section::Start.rank() {
+            after == Section::Days.rank()
         } else {
-            1 < after && before <= after && before < 8
+            Section::Days.rank() < after && before <= after && before < Section::End.rank()
         }
     }
 }
@@ -119,10 +120,10 @@ impl Progress {
     }
 
     /// Whether a line may stand here.
-    pub fn may_precede(self, line: &Line) -> bool
+    pub fn may_follow(self, line: &Line) -> bool
         ensures { result ≡ may_stand self line.now }
     {
-        self.section.may_precede(Section::of(line)) && self.is_due(line)
+        self.section.may_follow(Section::of(line)) && self.is_due(line)
     }
 
     /// The place behind a line that stands here.
@@ -139,6 +140,6 @@ impl Progress {
     pub fn is_end(self) -> bool
         ensures { result ≡ is_end self }
     {
-        self.section.rank() == 8
+        self.section.rank() == Section::End.rank()
     }
 }
