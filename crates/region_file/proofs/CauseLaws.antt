@@ -17,10 +17,11 @@ use Rattle.region_file.specs.Bytes.{record_bytes}
 use Rattle.region_file.specs.Due.{announce, due_of, record_after}
 use Rattle.region_file.specs.Fronts.{arc_front, road_front, stop_front, switch_front}
 use Rattle.region_file.specs.Lines.{FitsArc, FitsLine, node_line}
-use Rattle.region_file.specs.Records.{many, network_records, one, stop_nodes, stops_read, trip_read}
+use Rattle.region_file.specs.Records.{many, network_records, stop_nodes, stops_read, trip_read}
 use Rattle.region_file.proofs.Fits.{road_fits, switch_fits}
-use Rattle.region_file.proofs.FrontLaws.{IsBytes}
-use Rattle.region_file.proofs.ManyLaws.{bind_err, bind_ok, ok_is}
+use Rattle.file_records.specs.Reading.{one}
+use Rattle.file_records.proofs.NumberLaws.{IsBytes}
+use Rattle.file_records.proofs.Steps.{bind_err, bind_ok, ok_is}
 use Rattle.region_file.proofs.RecordLaws.{IsNamed, IsRoadNode, IsSwitchNode}
 use Rattle.region_file.proofs.StopLaws.{IsBadBehind, bad_arcs, bad_later, bad_links, bad_roads, bad_stops, bad_switches, bad_trips, resting, run_arcs, run_links, run_roads, run_stops, run_switches}
 use Rattle.region_file.proofs.WholeLaws.{Taken, arcs_stop, arcs_take, mapped_bytes, mapped_fit, roads_stop, roads_take, stop_row_line, stops_stop, stops_take, switches_stop, switches_take, trips_stop}

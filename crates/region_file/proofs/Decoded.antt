@@ -22,7 +22,7 @@ use Rattle.region_file.specs.Lines.{FitsLine, IsRegion, head_line, region_lines,
 use Rattle.region_file.specs.Sections.{is_end, line_at, progress_after, start}
 use Rattle.region_file.specs.Regions.{AreSpelling, Gives, HasCause, IsDecoded, IsNoRegion, IsRefusedRegion, SpellNone, behind_head, lists_by, lists_in_text, network_of, nothing, or_fault, put, put_all, region_of}
 use Rattle.region_file.specs.Bytes.{region_bytes}
-use Rattle.region_file.proofs.FrontLaws.{IsBytes}
+use Rattle.file_records.proofs.NumberLaws.{IsBytes}
 use Rattle.region_file.proofs.RecordsDecoded.{lists_in_again, not_text, records_cause, records_found}
 use Rattle.region_file.proofs.KindLaws.{words_are_words}
 use Rattle.region_file.proofs.SectionLaws.{reads_lines}

@@ -1,36 +1,28 @@
 -- The head of a region in bytes: what is read is spelled so, and what is spelled so is read.
-use Rattle.std.proofs.Common.{◌≡◌, ℕ, ◌^◌, ◌<◌, ◌≤◌, Bool, true, false, cond, List, ◌++◌, length, take, drop, Some, None, Ok, refl, sym, ap, ap₂, subst, ◌∙◌, append_assoc, arith}
+use Rattle.std.proofs.Common.{◌≡◌, ℕ, ◌^◌, ◌<◌, ◌≤◌, Bool, true, false, cond, List, ◌++◌, length, take, drop, Some, None, Ok, refl, ap, ap₂, subst, ◌∙◌, append_assoc, arith}
 use Rattle.std.specs.Prelude.{Option, option_map}
 use Rattle.std.specs.Int.{w32}
 use Rattle.std.specs.Str.{bytes_eq}
 use Rattle.std.proofs.lemmas.Bool.{and_parts, leb-true}
-use Rattle.std.proofs.lemmas.List.{take-append-drop}
 use Rattle.std.proofs.lemmas.Option.{none-some, same_Some, option_and_then_some}
-use Rattle.std.proofs.lemmas.Slice.Eq.{bytes_eq-Decides}
+use Rattle.file_records.specs.Numbers.{number_front}
+use Rattle.file_records.proofs.Steps.{and_then, mapped}
+use Rattle.file_records.proofs.NumberLaws.{IsBytes, Takes, Takes-then, begins_with}
 use Rattle.service_days.specs.DaysMeaning.{DaysMeaning}
 use Rattle.service_days.specs.Zones.{days_made, is_rule_text}
 use Rattle.region_file.specs.declared.counts.Counts.{Counts}
 use Rattle.region_file.specs.Bytes.{FitCounts, counts_bytes, head_bytes, magic_of, plain_magic, rule_bytes, word_bytes, zoned_magic}
-use Rattle.region_file.specs.Fronts.{counted_front, counts_front, head_front, magic_front, number_front, rule_front}
+use Rattle.region_file.specs.Fronts.{counted_front, counts_front, head_front, magic_front, rule_front}
 use Rattle.region_file.specs.Kinds.{days_if_made}
 use Rattle.region_file.specs.Lines.{FitsDays}
-use Rattle.region_file.proofs.FrontLaws.{IsBytes, IsBytes-drop, Takes, Takes-then, and_then, counted_again, counted_takes, word_again, word_takes}
-use Rattle.region_file.proofs.KindLaws.{fits_days, made_by, made_in, made_takes, mapped}
+use Rattle.region_file.proofs.FrontLaws.{counted_again, counted_takes, word_again, word_takes}
+use Rattle.region_file.proofs.KindLaws.{fits_days, made_by, made_in, made_takes}
 
 -- ---- the magic
 
 abbrev magic_by : Bool → List ℕ
 magic_by true = zoned_magic
 magic_by false = plain_magic
-
-same_bytes : (xs ys : List ℕ) → bytes_eq xs ys ≡ true → xs ≡ ys
-same_bytes xs ys e = (bytes_eq-Decides xs ys).0 e
-
-begins_with : (magic bytes : List ℕ) → IsBytes bytes → bytes_eq (take (length magic) bytes) magic ≡ true → Takes bytes magic (drop (length magic) bytes)
-begins_with magic bytes fits e = record {
-  parts = sym (take-append-drop (length magic) bytes) ∙ ap (λ t. t ++ drop (length magic) bytes) (same_bytes (take (length magic) bytes) magic e);
-  rest_fits = IsBytes-drop (length magic) bytes fits;
-}
 
 magic_takes : (bytes : List ℕ) (x : Bool × List ℕ) → IsBytes bytes → magic_front bytes ≡ Some x → Takes bytes (magic_by x.0) x.1
 unfolding magic_front

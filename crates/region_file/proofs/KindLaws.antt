@@ -10,8 +10,8 @@ use Rattle.std.proofs.lemmas.Int.{ints}
 use Rattle.std.proofs.lemmas.List.Elements.{All-weaker}
 use Rattle.std.proofs.lemmas.List.Quantifiers.{position-Some}
 use Rattle.std.proofs.lemmas.List.Sums.{AllPass-from_list_all}
-use Rattle.std.proofs.lemmas.Slice.Eq.{bytes_eq-Decides}
 use Rattle.std.proofs.lemmas.Option.{none-some, same_Some, cond_some, option_and_then_some}
+use Rattle.file_records.proofs.Steps.{mapped, same_bytes}
 use Rattle.plain_texts.specs.Lines.{IsWord, words_of, spaced}
 use Rattle.plain_texts.specs.Hexadecimal.{hexadecimal, hexadecimal_at}
 use Rattle.plain_texts.specs.Names.{is_name, name_of}
@@ -41,10 +41,6 @@ use Rattle.region_file.specs.Letters.{letter_at, letter_name}
 use Rattle.region_file.specs.Lines.{FitsArc, FitsCall, FitsDays, FitsLine, FitsTrip, arc_words, call_words, flags_of, mode_name, place_words, rule_words, spelled, words}
 use Rattle.region_file.specs.Kinds.{arc_of_words, call_of_words, days_of_words, end_of_words, line_of_kind, line_of, line_of_words, days_if_made, place_of_words, road_of_words, rule_of_words, stop_of_words, switch_of_words, trip_of_words, number_of_word}
 
-pub mapped : {A B : Type 0} (f : A → B) (o : Option A) (y : B) → option_map f o ≡ Some y → (x : A) × (o ≡ Some x) × (f x ≡ y)
-mapped f None y e = absurd (none-some y e)
-mapped f (Some x) y e = (x, refl, same_Some (f x) y e)
-
 -- numbers and ids
 word_takes : (text : List ℕ) (n : ℕ) → number_of_word text ≡ Some n → (n < 2 ^ 32) × (text ≡ decimal n)
 word_takes text n e = number_takes text (2 ^ 32) n (omega arith) e
@@ -57,10 +53,6 @@ id_takes text z e = signed_takes text (10 ^ 18) z (omega arith) e
 
 id_again : (z : ℤ) → IsId z → id_at (signed_decimal z) ≡ Some z
 id_again z h = signed_again (10 ^ 18) z (omega arith) h
-
--- bytes that are equal to a literal
-same_bytes : (xs ys : List ℕ) → bytes_eq xs ys ≡ true → xs ≡ ys
-same_bytes xs ys e = (bytes_eq-Decides xs ys).0 e
 
 -- names of modes
 mode_takes : (text : List ℕ) (mode : Mode) → mode_named text ≡ Some mode → text ≡ mode_name mode

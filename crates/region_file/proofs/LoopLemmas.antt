@@ -5,21 +5,11 @@ use Rattle.plan_base.specs.declared.places.Place.{Place}
 use Rattle.mode_network.specs.declared.nodes.Node.{Node}
 use Rattle.mode_network.specs.declared.nodes.NodeKey.TheVariants.{Stop}
 use Rattle.region_file.specs.Fronts.{stop_front}
-use Rattle.region_file.specs.declared.fault.Halt.{Halt}
-use Rattle.region_file.specs.declared.fault.Halt.TheVariants.{Memory, Left}
-use Rattle.region_file.specs.Records.{◌>>=◌, HaltsAs, many, one, or_left, stop_nodes, stops_read}
-
--- what was read before, and what is still read
-abbrev pub with_front : {X : Type 0} → List X → Result (List X × List ℕ) ℕ → Result (List X × List ℕ) ℕ
-with_front front (Ok x) = Ok (front ++ x.0, x.1)
-with_front front (Err left) = Err left
-
-abbrev pub onto : {X : Type 0} → X → Result (List X × List ℕ) ℕ → Result (List X × List ℕ) ℕ
-onto x others = others >>= (λ (y : List _ × List ℕ). Ok (x ∷ y.0, y.1))
-
-regroup : {X : Type 0} (front : List X) (x : X) (others : Result (List X × List ℕ) ℕ) → with_front front (onto x others) ≡ with_front (front ++ x ∷ []) others
-regroup front x (Ok others) = ap (λ xs. Ok (xs, others.1)) (sym (append_assoc front (x ∷ []) others.0))
-regroup front x (Err left) = refl
+use Rattle.file_records.specs.declared.halt.Halt.{Halt}
+use Rattle.file_records.specs.declared.halt.Halt.TheVariants.{Memory, Left}
+use Rattle.file_records.specs.Reading.{◌>>=◌, HaltsAs, one, or_left, with_first}
+use Rattle.file_records.proofs.RowLaws.{regroup, with_front}
+use Rattle.region_file.specs.Records.{many, stop_nodes, stops_read}
 
 -- one record that is read, or is not
 pub one_is : {X : Type 0} (front : List ℕ → Option (X × List ℕ)) (bytes : List ℕ) (x : X × List ℕ) → front bytes ≡ Some x → one front bytes ≡ Ok x
@@ -29,13 +19,13 @@ pub none_is : {X : Type 0} (front : List ℕ → Option (X × List ℕ)) (bytes 
 none_is front bytes e = ap (or_left (length bytes)) e
 
 -- one step of many
-pub many_ok : {X : Type 0} (read : List ℕ → Result (X × List ℕ) ℕ) (n : ℕ) (bytes : List ℕ) (x : X × List ℕ) → read bytes ≡ Ok x → many read (suc n) bytes ≡ onto x.0 (many read n x.1)
+pub many_ok : {X : Type 0} (read : List ℕ → Result (X × List ℕ) ℕ) (n : ℕ) (bytes : List ℕ) (x : X × List ℕ) → read bytes ≡ Ok x → many read (suc n) bytes ≡ with_first x.0 (many read n x.1)
 unfolding many
-many_ok read n bytes x e = ap (λ r. r >>= (λ y. onto y.0 (many read n y.1))) e
+many_ok read n bytes x e = ap (λ r. r >>= (λ y. with_first y.0 (many read n y.1))) e
 
 pub many_err : {X : Type 0} (read : List ℕ → Result (X × List ℕ) ℕ) (n : ℕ) (bytes : List ℕ) (left : ℕ) → read bytes ≡ Err left → many read (suc n) bytes ≡ Err left
 unfolding many
-many_err read n bytes left e = ap (λ r. r >>= (λ y. onto y.0 (many read n y.1))) e
+many_err read n bytes left e = ap (λ r. r >>= (λ y. with_first y.0 (many read n y.1))) e
 
 module _ {X : Type 0} (read : List ℕ → Result (X × List ℕ) ℕ) where
   pub goes_on : (front : List X) (count i : ℕ) (bytes : List ℕ) (x : X) (after : List ℕ) (total : Result (List X × List ℕ) ℕ) → i < count → read bytes ≡ Ok (x, after)
@@ -72,7 +62,7 @@ with_stops names nodes number (Ok x) = Ok ((names ++ map (λ stop. stop.0) x.0, 
 with_stops names nodes number (Err left) = Err left
 
 stop_regroup : (names : List (List ℕ)) (nodes : List Node) (number : ℕ) (name : List ℕ) (place : Place) (others : Result (List (List ℕ × Place) × List ℕ) ℕ)
-    → with_stops names nodes number (onto (name, place) others) ≡ with_stops (names ++ name ∷ []) (nodes ++ record { key = Stop number; place = place } ∷ []) (number + 1) others
+    → with_stops names nodes number (with_first (name, place) others) ≡ with_stops (names ++ name ∷ []) (nodes ++ record { key = Stop number; place = place } ∷ []) (number + 1) others
 stop_regroup names nodes number name place (Ok others) =
     ap₂ (λ xs ys. Ok ((xs, ys), others.1)) (sym (append_assoc names (name ∷ []) (map (λ stop. stop.0) others.0))) (sym (append_assoc nodes (record { key = Stop number; place = place } ∷ []) (stop_nodes (number + 1) others.0)))
 stop_regroup names nodes number name place (Err left) = refl

@@ -10,29 +10,13 @@ use Rattle.region_file.specs.Bytes.{call_bytes, trip_bytes}
 use Rattle.region_file.specs.Fronts.{call_front, trip_front}
 use Rattle.region_file.specs.Lines.{FitsCall, FitsTrip}
 use Rattle.region_file.specs.inside.Texts.{trip_records}
-use Rattle.region_file.specs.Records.{◌>>=◌, many, one, or_left, trip_read}
-use Rattle.region_file.proofs.FrontLaws.{IsBytes, Takes, Takes-then}
-use Rattle.region_file.proofs.LoopLemmas.{many_ok, onto}
+use Rattle.file_records.specs.Reading.{◌>>=◌, one, or_left, with_first}
+use Rattle.file_records.proofs.Steps.{ok_is, err_is, bind_ok, bind_err, bind_is}
+use Rattle.file_records.proofs.NumberLaws.{IsBytes, Takes, Takes-then}
+use Rattle.file_records.proofs.RowLaws.{first_ok, first_err}
+use Rattle.region_file.specs.Records.{many, trip_read}
+use Rattle.region_file.proofs.LoopLemmas.{many_ok}
 use Rattle.region_file.proofs.RecordLaws.{FitsHead, head_bytes_of, call_again, call_takes, trip_again, trip_takes}
-
--- steps of reading
-
-pub ok_is : {A : Type 0} (x y : A) → ◌≡◌ {A = Result A ℕ} (Ok x) (Ok y) → x ≡ y
-ok_is x y e = cc
-
-pub err_is : {A : Type 0} (x y : ℕ) → ◌≡◌ {A = Result A ℕ} (Err x) (Err y) → x ≡ y
-err_is x y e = cc
-
-pub bind_ok : {A B : Type 0} (r : Result A ℕ) (next : A → Result B ℕ) (y : B) → (r >>= next) ≡ Ok y → (x : A) × (r ≡ Ok x) × (next x ≡ Ok y)
-bind_ok (Ok x) next y e = (x, refl, e)
-bind_ok (Err left) next y e = absurd cc
-
-pub bind_err : {A B : Type 0} (r : Result A ℕ) (next : A → Result B ℕ) (left : ℕ) → (r >>= next) ≡ Err left → (r ≡ Err left) ⊎ ((x : A) × (r ≡ Ok x) × (next x ≡ Err left))
-bind_err (Ok x) next left e = inr (x, refl, e)
-bind_err (Err l) next left e = inl (ap Err (err_is l left e))
-
-pub bind_is : {A B : Type 0} (r : Result A ℕ) (next : A → Result B ℕ) (x : A) (y : Result B ℕ) → r ≡ Ok x → next x ≡ y → (r >>= next) ≡ y
-bind_is r next x y e later = ap (λ q. q >>= next) e ∙ later
 
 -- fewer records are spelled in turn, and the reading stops in the one where the rest begins
 pub record StopsAt {X : Type 0} (text : X → List ℕ) (Fits : X → Type 0) (Stop : List ℕ → ℕ → Type 0) (count : ℕ) (bytes : List ℕ) (left : ℕ) : Type 0 where
@@ -53,13 +37,13 @@ module _ {X : Type 0} (read : List ℕ → Result (X × List ℕ) ℕ) (text : X
       let same : ◌≡◌ {A = List X × List ℕ} ([], bytes) y = ok_is ([], bytes) y e in
       subst (λ (z : List X × List ℕ). Takes bytes (flat_map text z.0) z.1 × (length z.0 ≡ 0) × AllByRecursion Fits z.0) same (record { parts = refl; rest_fits = fits }, refl, tt)
   many_takes (suc n) bytes y fits e =
-      let first = bind_ok (read bytes) (λ x. onto x.0 (many read n x.1)) y e in
-      let others = bind_ok (many read n first.0.1) (λ z. Ok (first.0.0 ∷ z.0, z.1)) y first.2 in
+      let first = bind_ok (read bytes) (λ x. with_first x.0 (many read n x.1)) y e in
+      let others = first_ok first.0.0 (many read n first.0.1) y first.2 in
       let one = takes bytes first.0 fits first.1 in
       let more = many_takes n first.0.1 others.0 one.0.rest_fits others.1 in
       let both = Takes-then bytes (text first.0.0) first.0.1 (flat_map text others.0.0) others.0.1 one.0 more.0 in
       let all : Takes bytes (flat_map text (first.0.0 ∷ others.0.0)) others.0.1 = subst (λ (t : List ℕ). Takes bytes t others.0.1) (sym (flat_map-cons text first.0.0 others.0.0)) both in
-      subst (λ (z : List X × List ℕ). Takes bytes (flat_map text z.0) z.1 × (length z.0 ≡ suc n) × AllByRecursion Fits z.0) (ok_is (first.0.0 ∷ others.0.0, others.0.1) y others.2)
+      subst (λ (z : List X × List ℕ). Takes bytes (flat_map text z.0) z.1 × (length z.0 ≡ suc n) × AllByRecursion Fits z.0) others.2
       (all, ap suc more.1, (one.1, more.2))
 
   pub many_again : (xs : List X) (rest : List ℕ) → AllByRecursion Fits xs → many read (length xs) (flat_map text xs ++ rest) ≡ Ok (xs, rest)
@@ -70,31 +54,27 @@ module _ {X : Type 0} (read : List ℕ → Result (X × List ℕ) ℕ) (text : X
       ap (λ t. t ++ rest) (flat_map-cons text x xs) ∙ append_assoc (text x) (flat_map text xs) rest in
       ap (many read (suc (length xs))) regrouped
       ∙ many_ok read (length xs) (text x ++ (flat_map text xs ++ rest)) (x, flat_map text xs ++ rest) (again x (flat_map text xs ++ rest) fits.0)
-      ∙ ap (onto x) (many_again xs rest fits.1)
+      ∙ ap (with_first x) (many_again xs rest fits.1)
 
   pub many_stops : (n : ℕ) (bytes : List ℕ) (left : ℕ) → IsBytes bytes → many read n bytes ≡ Err left → StopsAt text Fits Stop n bytes left
   unfolding many
   many_stops zero bytes left fits e = absurd cc
-  many_stops (suc n) bytes left fits e = by_first (bind_err (read bytes) (λ x. onto x.0 (many read n x.1)) left e) (λ rest fit stopped. many_stops n rest left fit stopped)
+  many_stops (suc n) bytes left fits e = by_first (bind_err (read bytes) (λ x. with_first x.0 (many read n x.1)) left e) (λ rest fit stopped. many_stops n rest left fit stopped)
     where
-      by_first : (read bytes ≡ Err left) ⊎ ((x : X × List ℕ) × (read bytes ≡ Ok x) × (onto x.0 (many read n x.1) ≡ Err left))
+      by_first : (read bytes ≡ Err left) ⊎ ((x : X × List ℕ) × (read bytes ≡ Ok x) × (with_first x.0 (many read n x.1) ≡ Err left))
           → ((rest : List ℕ) → IsBytes rest → many read n rest ≡ Err left → StopsAt text Fits Stop n rest left) → StopsAt text Fits Stop (suc n) bytes left
       by_first (inl stopped) later = record { rows = []; rest = bytes; fewer = omega arith; fit = tt; are = refl; stop = stops bytes left fits stopped }
-      by_first (inr (x, is, stopped)) later = by_others (bind_err (many read n x.1) (λ z. Ok (x.0 ∷ z.0, z.1)) left stopped)
-        where
-          by_others : (many read n x.1 ≡ Err left) ⊎ ((z : List X × List ℕ) × (many read n x.1 ≡ Ok z) × (◌≡◌ {A = Result (List X × List ℕ) ℕ} (Ok (x.0 ∷ z.0, z.1)) (Err left))) → StopsAt text Fits Stop (suc n) bytes left
-          by_others (inl stopped) =
-              let taken = takes bytes x fits is in
-              let more = later x.1 taken.0.rest_fits stopped in
-              record {
-                rows = x.0 ∷ more.rows;
-                rest = more.rest;
-                fewer = omega (arith, more.fewer);
-                fit = (taken.1, more.fit);
-                are = taken.0.parts ∙ ap (λ t. text x.0 ++ t) more.are ∙ sym (append_assoc (text x.0) (flat_map text more.rows) more.rest) ∙ ap (λ t. t ++ more.rest) (sym (flat_map-cons text x.0 more.rows));
-                stop = more.stop;
-              }
-          by_others (inr (z, read_is, e)) = absurd cc
+      by_first (inr (x, is, stopped)) later =
+          let taken = takes bytes x fits is in
+          let more = later x.1 taken.0.rest_fits (first_err x.0 (many read n x.1) left stopped) in
+          record {
+            rows = x.0 ∷ more.rows;
+            rest = more.rest;
+            fewer = omega (arith, more.fewer);
+            fit = (taken.1, more.fit);
+            are = taken.0.parts ∙ ap (λ t. text x.0 ++ t) more.are ∙ sym (append_assoc (text x.0) (flat_map text more.rows) more.rest) ∙ ap (λ t. t ++ more.rest) (sym (flat_map-cons text x.0 more.rows));
+            stop = more.stop;
+          }
 
 -- ---- one record, which has a front
 

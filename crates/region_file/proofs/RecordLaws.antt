@@ -16,10 +16,13 @@ use Rattle.mode_network.specs.declared.nodes.NodeKey.{NodeKey}
 use Rattle.mode_network.specs.declared.nodes.NodeKey.TheVariants.{Road, Stop, Switch}
 use Rattle.mode_network.specs.Rules.{IsRoad, IsSwitch}
 use Rattle.region_file.specs.declared.lines.Line.TheVariants as line
-use Rattle.region_file.specs.Bytes.{arc_bytes, call_bytes, counted_bytes, place_bytes, record_bytes, set_bytes, signed_bytes, trip_bytes, word_bytes}
-use Rattle.region_file.specs.Fronts.{arc_front, byte_front, call_front, id_front, letter_front, mode_front, name_front, number_front, place_front, road_front, set_front, stop_front, switch_front, trip_front}
+use Rattle.region_file.specs.Bytes.{arc_bytes, call_bytes, counted_bytes, place_bytes, record_bytes, set_bytes, trip_bytes, word_bytes}
+use Rattle.region_file.specs.Fronts.{arc_front, byte_front, call_front, id_front, letter_front, mode_front, name_front, place_front, road_front, set_front, stop_front, switch_front, trip_front}
 use Rattle.region_file.specs.Lines.{FitsArc, FitsCall, FitsTrip, flags_of, key_line, node_line}
-use Rattle.region_file.proofs.FrontLaws.{IsBytes, Takes, Takes-then, and_then, byte_again, byte_takes, id_again, id_takes, mode_again, mode_takes, name_again, name_takes, place_is_read, place_takes, set_again, set_takes, word_again, word_takes}
+use Rattle.file_records.specs.Numbers.{number_front, signed_bytes}
+use Rattle.file_records.proofs.Steps.{and_then}
+use Rattle.file_records.proofs.NumberLaws.{IsBytes, Takes, Takes-then}
+use Rattle.region_file.proofs.FrontLaws.{byte_again, byte_takes, id_again, id_takes, mode_again, mode_takes, name_again, name_takes, place_is_read, place_takes, set_again, set_takes, word_again, word_takes}
 use Rattle.region_file.proofs.KindLaws.{flags_again, flags_read}
 
 -- ---- nodes

@@ -17,7 +17,7 @@ use Rattle.region_file.specs.Lines.{IsRegion, region_lines}
 use Rattle.region_file.specs.Records.{lists_in, network_behind, network_records, whole_network}
 use Rattle.region_file.specs.Regions.{BeginsWith, HasCause, HasHeadLine, IsBadRecord, IsInBytes, behind_head}
 use Rattle.region_file.proofs.CauseLaws.{records_bad}
-use Rattle.region_file.proofs.FrontLaws.{IsBytes}
+use Rattle.file_records.proofs.NumberLaws.{IsBytes}
 use Rattle.region_file.proofs.HeadLaws.{head_again, head_takes}
 use Rattle.region_file.proofs.WholeLaws.{records_again, records_take}
 

@@ -22,10 +22,12 @@ use Rattle.region_file.specs.Bytes.{arc_bytes, counts_of, record_bytes}
 use Rattle.region_file.specs.Fronts.{arc_front, road_front, stop_front, switch_front}
 use Rattle.region_file.specs.Lines.{FitsArc, FitsCall, FitsDays, FitsLine, IsRegion, node_line, region_lines, stop_line, trip_lines}
 use Rattle.region_file.specs.inside.Texts.{trip_records}
-use Rattle.region_file.specs.Records.{many, network_records, one, stop_nodes, stops_read, trip_read}
+use Rattle.region_file.specs.Records.{many, network_records, stop_nodes, stops_read, trip_read}
 use Rattle.region_file.proofs.Fits.{both_fit, road_fits, switch_fits}
-use Rattle.region_file.proofs.FrontLaws.{IsBytes, Takes, Takes-then}
-use Rattle.region_file.proofs.ManyLaws.{FitsRow, OneStop, StopsAt, TripStop, bind_is, bind_ok, many_again, many_stops, many_takes, ok_is, one_again, one_stops, one_takes, row_again, row_stops, row_takes}
+use Rattle.file_records.specs.Reading.{one}
+use Rattle.file_records.proofs.Steps.{bind_is, bind_ok, ok_is}
+use Rattle.file_records.proofs.NumberLaws.{IsBytes, Takes, Takes-then}
+use Rattle.region_file.proofs.ManyLaws.{FitsRow, OneStop, StopsAt, TripStop, many_again, many_stops, many_takes, one_again, one_stops, one_takes, row_again, row_stops, row_takes}
 use Rattle.region_file.proofs.RecordLaws.{IsNamed, IsRoadNode, IsSwitchNode, arc_again, arc_takes, node_bytes, road_again, road_takes, stop_again, stop_bytes, stop_takes, switch_again, switch_takes}
 
 -- ---- each section by itself

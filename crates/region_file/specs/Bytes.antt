@@ -1,8 +1,9 @@
 -- The spelling of a region in bytes, which is format 2: a head, and a record for each line of the region behind that of its
 -- days. All numbers are big-endian, and a signed number is its two's complement.
-use Rattle.std.specs.Prelude.{ℕ, ◌/◌, ◌%◌, ◌<◌, ◌^◌, ℤ, List, [], ◌∷◌, ◌++◌, length, codes, Option, Some, None}
-use Rattle.std.specs.Int.{Width, w32, w64, cast_unsigned, to_be_bytes}
+use Rattle.std.specs.Prelude.{ℕ, ◌/◌, ◌%◌, ◌<◌, ◌^◌, List, [], ◌∷◌, ◌++◌, length, codes, Option, Some, None}
+use Rattle.std.specs.Int.{w32, w64, to_be_bytes}
 use Rattle.std.specs.List.{flat_map}
+use Rattle.file_records.specs.Numbers.{signed_bytes}
 use Rattle.plan_base.specs.declared.days.DaySet.{DaySet}
 use Rattle.plan_base.specs.Modes.{number_of_mode}
 use Rattle.plan_base.specs.declared.places.Place.{Place}
@@ -18,9 +19,6 @@ use Rattle.region_file.specs.declared.lines.Line.TheVariants as line
 -- a number of four bytes
 abbrev pub word_bytes : ℕ → List ℕ
 word_bytes n = to_be_bytes w32 n
-
-abbrev pub signed_bytes : Width → ℤ → List ℕ
-signed_bytes w z = to_be_bytes w (cast_unsigned w z)
 
 -- bytes behind their number
 abbrev pub counted_bytes : List ℕ → List ℕ

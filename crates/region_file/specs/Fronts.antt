@@ -1,8 +1,9 @@
 -- What stands at the front of bytes: a number, a name, a place, a record. Each is given with the bytes behind it, and there is none
 -- where the bytes are cut short or say something out of range.
 use Rattle.std.specs.Prelude.{ℕ, ◌+◌, ◌*◌, ◌%◌, ◌^◌, ◌==◌, nat_le, nat_lt, ℤ, unsigned_abs, Bool, true, false, List, [], ◌∷◌, length, take, drop, Option, Some, None, option_map, if◌then◌else◌}
-use Rattle.std.specs.Int.{Width, w32, w64, byte_len, cast_signed, from_be_bytes}
+use Rattle.std.specs.Int.{w32, w64}
 use Rattle.std.specs.Str.{bytes_eq}
+use Rattle.file_records.specs.Numbers.{number_front, signed_front}
 use Rattle.plain_texts.specs.Names.{is_name}
 use Rattle.plan_base.specs.Modes.{mode_numbered}
 use Rattle.plan_base.specs.declared.modes.Mode.{Mode}
@@ -19,12 +20,6 @@ use Rattle.mode_network.specs.declared.nodes.NodeKey.TheVariants.{Road, Switch}
 use Rattle.region_file.specs.Bytes.{plain_magic, zoned_magic}
 use Rattle.region_file.specs.Kinds.{◌>>=◌, days_if_made}
 use Rattle.region_file.specs.declared.counts.Counts.{Counts}
-
-abbrev pub number_front : Width → List ℕ → Option (ℕ × List ℕ)
-number_front w bytes = if nat_lt (length bytes) (byte_len w) then None else Some (from_be_bytes w (take (byte_len w) bytes), drop (byte_len w) bytes)
-
-abbrev pub signed_front : Width → List ℕ → Option (ℤ × List ℕ)
-signed_front w bytes = option_map (λ n. (cast_signed w n.0, n.1)) (number_front w bytes)
 
 -- one byte below a limit
 abbrev pub byte_front : ℕ → List ℕ → Option (ℕ × List ℕ)

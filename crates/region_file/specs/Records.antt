@@ -1,5 +1,6 @@
 -- How a region in bytes is read: its head, and the records that it counts, one behind the other.
-use Rattle.std.specs.Prelude.{◌≡◌, ℕ, zero, suc, ◌+◌, ◌-◌, ◌==◌, List, [], ◌∷◌, length, map, Option, Some, None, Result, Ok, Err, if◌then◌else◌}
+use Rattle.std.specs.Prelude.{ℕ, zero, suc, ◌+◌, ◌-◌, ◌==◌, List, [], ◌∷◌, length, map, Option, Some, None, Result, Ok, Err, if◌then◌else◌}
+use Rattle.file_records.specs.Reading.{◌>>=◌, one, with_first}
 use Rattle.plan_base.specs.declared.places.Place.{Place}
 use Rattle.service_days.specs.DaysMeaning.{DaysMeaning}
 use Rattle.timetable_arcs.specs.Trips.{TripLists}
@@ -8,33 +9,15 @@ use Rattle.mode_network.specs.declared.nodes.NodeKey.TheVariants.{Stop}
 use Rattle.mode_network.specs.NetworkLists.{NetworkLists}
 use Rattle.region_file.specs.Fronts.{arc_front, call_front, head_front, road_front, stop_front, switch_front, trip_front}
 use Rattle.region_file.specs.declared.counts.Counts.{Counts}
-use Rattle.region_file.specs.declared.fault.Halt.{Halt}
-use Rattle.region_file.specs.declared.fault.Halt.TheVariants.{Memory, Left}
 use Rattle.region_file.specs.declared.fault.RegionFault.{RegionFault}
 use Rattle.region_file.specs.declared.fault.RegionFault.TheVariants.{BadHead, BadRecord, Trailing}
-
--- What is read of bytes is a value and the bytes behind it; or it is how many bytes are left at the first record that may not
--- stand there.
-infixl 10 ◌>>=◌
-abbrev pub ◌>>=◌ : {A B : Type 0} → Result A ℕ → (A → Result B ℕ) → Result B ℕ
-(Ok x) >>= next = next x
-(Err left) >>= next = Err left
-
-abbrev pub or_left : {X : Type 0} → ℕ → Option X → Result X ℕ
-or_left left None = Err left
-or_left left (Some x) = Ok x
-
--- the record at the front
-abbrev pub one : {X : Type 0} → (List ℕ → Option (X × List ℕ)) → List ℕ → Result (X × List ℕ) ℕ
-one front bytes = or_left (length bytes) (front bytes)
 
 -- so many records
 unfoldable pub many : {X : Type 0} → (List ℕ → Result (X × List ℕ) ℕ) → ℕ → List ℕ → Result (List X × List ℕ) ℕ
 many read zero bytes = Ok ([], bytes)
 many read (suc n) bytes = do
   first ← read bytes
-  others ← many read n first.1
-  Ok (first.0 ∷ others.0, others.1)
+  with_first first.0 (many read n first.1)
 
 -- a trip, and as many calls as its record counts
 unfoldable pub trip_read : List ℕ → Result (TripLists × List ℕ) ℕ
@@ -89,13 +72,3 @@ network_behind len (Some head) = whole_network len (network_records head.0.0 hea
 -- the lists that bytes spell, or what is wrong with them
 unfoldable pub lists_in : List ℕ → Result NetworkLists RegionFault
 lists_in bytes = network_behind (length bytes) (head_front bytes)
-
--- Why the reading of a function stopped is why reading does, unless memory ran out.
-abbrev pub HaltsAs : {Y : Type 0} → Halt → Result Y ℕ → Type 0
-HaltsAs Memory read = Unit {0}
-HaltsAs (Left left) read = read ≡ Err left
-
--- What a function returned, seen by view, is what reading gives, unless memory ran out.
-abbrev pub GivesRead : {X Y : Type 0} → (X → Y) → Result X Halt → Result Y ℕ → Type 0
-GivesRead view (Ok x) read = read ≡ Ok (view x)
-GivesRead view (Err halt) read = HaltsAs halt read

@@ -11,13 +11,14 @@ ghost use Rattle.region_file.specs.Regions.{Gives, HasCause, IsDecoded, IsRefuse
 ghost use Rattle.region_file.specs.Records.{lists_in};
 ghost use Rattle.region_file.specs.declared.lines.Line.TheVariants as line;
 
-use crate::fault::{Halt, RegionFault};
+use crate::fault::RegionFault;
 use crate::fronts::head_front;
 use crate::kinds::line_of;
 use crate::lines::{HEAD, Line};
 use crate::reading::parts_of;
 use crate::records::{no_parts, put};
 use crate::section::Progress;
+use file_records::Halt;
 use mode_network::{NetFault, Network, Parts};
 use plain_texts::next_line;
 use plan_base::Caps;
@@ -175,6 +176,7 @@ fn read_either(alloc: Global, bytes: &[u8]) -> Result<Parts, RegionFault>
     }
 }
 
+/// The network of the parts that bytes spell, if it keeps the rules and is within the limits.
 #[tactic(auto, unfolding(crate::specs::Regions::region_of))]
 fn read_region(alloc: Global, bytes: &[u8], caps: &Caps) -> Result<Network, RegionFault>
     ensures { Gives result (region_of caps.now bytes.now) }

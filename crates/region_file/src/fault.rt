@@ -2,10 +2,9 @@
 
 ghost use Rattle.std.specs.Prelude.{◌≡◌};
 ghost use Rattle.region_file.specs.declared.fault.RegionFault.TheVariants.{OutOfMemory};
-ghost use Rattle.region_file.specs.declared.fault.Halt.TheVariants.{Memory};
 
 use mode_network::NetFault;
-use std::alloc::{AllocError, AllocFailed};
+use std::alloc::AllocError;
 
 /// The first thing that is wrong with the bytes of a region.
 #[derive(Clone, Copy, Debug, PartialEq, Eq)]
@@ -30,29 +29,5 @@ impl From<AllocError> for RegionFault {
 
     fn from(_error: AllocError) -> RegionFault {
         RegionFault::OutOfMemory
-    }
-}
-
-/// Why the reading of records stopped.
-#[derive(Clone, Copy)]
-pub enum Halt {
-    Memory,
-    /// So many bytes were left where the record begins that may not stand there.
-    Left(u64),
-}
-
-impl From<AllocError> for Halt {
-    ghost from_gives = { λ _ halt. halt ≡ Memory };
-
-    fn from(_error: AllocError) -> Halt {
-        Halt::Memory
-    }
-}
-
-impl<T: Drop> From<AllocFailed<T>> for Halt {
-    ghost from_gives = { λ _ halt. halt ≡ Memory };
-
-    fn from(_error: AllocFailed<T>) -> Halt {
-        Halt::Memory
     }
 }

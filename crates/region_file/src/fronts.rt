@@ -1,13 +1,13 @@
 //! What stands at the front of bytes, and the bytes behind it.
 
 ghost use Rattle.std.specs.Prelude.{◌≡◌, option_map, IfOk};
-ghost use Rattle.std.specs.Int.{w32, w64};
 ghost use Rattle.service_days.specs.Zones.{days_made};
 ghost use Rattle.plan_base.specs.Modes.{mode_numbered};
 ghost use Rattle.region_file.specs.Fronts as spec;
 
 use crate::counts::Counts;
 use crate::kinds::made_days;
+use file_records::{i32_front, i64_front, u32_front, u64_front};
 use mode_network::{Arc, Node, NodeKey};
 use plain_texts::Name;
 use plan_base::{DaySet, Mode, Place};
@@ -21,46 +21,6 @@ pub const PLAIN_MAGIC: &[u8] = b"MPREGN02";
 
 /// What a region in bytes begins with whose days have a zone rule.
 pub const ZONED_MAGIC: &[u8] = b"MPREGZ02";
-
-/// A number of four bytes.
-fn u32_front(bytes: &[u8]) -> Option<(u32, &[u8])>
-    ensures { option_map (λ x. (x.0, x.1.now)) result ≡ spec.number_front w32 bytes.now }
-{
-    match bytes.split_first_chunk::<4>() {
-        Some((number, behind)) => Some((u32::from_be_bytes(*number), behind)),
-        None => None,
-    }
-}
-
-/// A number of eight bytes.
-fn u64_front(bytes: &[u8]) -> Option<(u64, &[u8])>
-    ensures { option_map (λ x. (x.0, x.1.now)) result ≡ spec.number_front w64 bytes.now }
-{
-    match bytes.split_first_chunk::<8>() {
-        Some((number, behind)) => Some((u64::from_be_bytes(*number), behind)),
-        None => None,
-    }
-}
-
-/// A signed number of four bytes.
-fn i32_front(bytes: &[u8]) -> Option<(i32, &[u8])>
-    ensures { option_map (λ x. (x.0, x.1.now)) result ≡ spec.signed_front w32 bytes.now }
-{
-    match bytes.split_first_chunk::<4>() {
-        Some((number, behind)) => Some((i32::from_be_bytes(*number), behind)),
-        None => None,
-    }
-}
-
-/// A signed number of eight bytes.
-fn i64_front(bytes: &[u8]) -> Option<(i64, &[u8])>
-    ensures { option_map (λ x. (x.0, x.1.now)) result ≡ spec.signed_front w64 bytes.now }
-{
-    match bytes.split_first_chunk::<8>() {
-        Some((number, behind)) => Some((i64::from_be_bytes(*number), behind)),
-        None => None,
-    }
-}
 
 /// A byte below a limit.
 fn byte_front(below: u8, bytes: &[u8]) -> Option<(u8, &[u8])>
@@ -106,6 +66,7 @@ fn name_front(alloc: Global, bytes: &[u8]) -> Result<Option<(Name, &[u8])>, Allo
     }
 }
 
+/// A place: a latitude and a longitude in range, in units of 10^-7 degree.
 #[tactic(auto, unfolding(crate::specs::Fronts::place_front))]
 fn place_front(bytes: &[u8]) -> Option<(Place, &[u8])>
     ensures { option_map (λ x. (x.0, x.1.now)) result ≡ spec.place_front bytes.now }
@@ -280,6 +241,7 @@ pub fn trip_front(alloc: Global, bytes: &[u8]) -> Result<Option<((Trip, u32), &[
     Ok(Some(((trip, count), behind)))
 }
 
+/// How many records of each kind follow the head.
 #[tactic(auto, unfolding(crate::specs::Fronts::counts_front))]
 fn counts_front(bytes: &[u8]) -> Option<(Counts, &[u8])>
     ensures { option_map (λ x. (x.0, x.1.now)) result ≡ spec.counts_front bytes.now }

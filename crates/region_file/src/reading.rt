@@ -3,11 +3,12 @@
 ghost use Rattle.std.specs.Prelude.{◌≡◌, ◌++◌, ◌∷◌, [], OnOk};
 ghost use Rattle.mode_network.specs.declared.nodes.NodeKey.TheVariants.{Stop};
 ghost use Rattle.region_file.specs.Fronts.{arc_front, call_front, road_front, switch_front};
-ghost use Rattle.region_file.specs.Records.{GivesRead, many, network_records, one, stops_read, trip_read};
+ghost use Rattle.file_records.specs.Reading.{GivesRead, one};
+ghost use Rattle.region_file.specs.Records.{many, network_records, stops_read, trip_read};
 
 use crate::counts::Counts;
-use crate::fault::Halt;
 use crate::fronts;
+use file_records::Halt;
 use mode_network::{Arc, Node, NodeKey, Parts};
 use plain_texts::Name;
 use plan_base::Place;

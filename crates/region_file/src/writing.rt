@@ -1,47 +1,21 @@
 //! The records of a region in bytes, each pushed behind what is written before it.
 
 ghost use Rattle.std.specs.Prelude.{◌≡◌, ◌++◌, ◌<◌, ◌^◌, length, option_map, true, FitsSigned, IfSome, OnOk};
-ghost use Rattle.std.specs.Int.{w32, w64, to_be_bytes};
+ghost use Rattle.std.specs.Int.{w32};
 ghost use Rattle.plain_texts.specs.Names.{is_name};
+ghost use Rattle.file_records.specs.Numbers.{signed_bytes};
 ghost use Rattle.region_file.specs.Bytes as spec;
 ghost use Rattle.region_file.specs.declared.lines.Line.TheVariants as line;
 
 use crate::counts::Counts;
 use crate::fronts::{PLAIN_MAGIC, ZONED_MAGIC};
 use crate::printing::flags_of;
+use file_records::{push_i32, push_i64, push_u32, push_u64};
 use mode_network::Arc;
 use plan_base::{DaySet, Mode, Place};
 use service_days::Days;
 use std::alloc::AllocError;
 use timetable_arcs::{Call, Trip};
-
-/// A number of four bytes.
-fn push_u32(out: &mut Vec<u8>, number: u32) -> Result<(), AllocError>
-    ensures { OnOk result (out.new.items ≡ out.old.items ++ spec.word_bytes number) }
-{
-    out.extend_from_slice(&number.to_be_bytes())
-}
-
-/// A number of eight bytes.
-fn push_u64(out: &mut Vec<u8>, number: u64) -> Result<(), AllocError>
-    ensures { OnOk result (out.new.items ≡ out.old.items ++ to_be_bytes w64 number) }
-{
-    out.extend_from_slice(&number.to_be_bytes())
-}
-
-/// A signed number of four bytes.
-fn push_i32(out: &mut Vec<u8>, number: i32) -> Result<(), AllocError>
-    ensures { OnOk result (out.new.items ≡ out.old.items ++ spec.signed_bytes w32 number) }
-{
-    out.extend_from_slice(&number.to_be_bytes())
-}
-
-/// A signed number of eight bytes.
-fn push_i64(out: &mut Vec<u8>, number: i64) -> Result<(), AllocError>
-    ensures { OnOk result (out.new.items ≡ out.old.items ++ spec.signed_bytes w64 number) }
-{
-    out.extend_from_slice(&number.to_be_bytes())
-}
 
 /// Bytes behind their number.
 fn push_counted(out: &mut Vec<u8>, bytes: &[u8]) -> Result<(), AllocError>
@@ -63,11 +37,12 @@ fn push_name(out: &mut Vec<u8>, name: &[u8]) -> Result<(), AllocError>
 /// A number of four bytes, of a size below 2^31.
 fn push_narrow(out: &mut Vec<u8>, number: i64) -> Result<(), AllocError>
     requires { FitsSigned w32 number }
-    ensures { OnOk result (out.new.items ≡ out.old.items ++ spec.signed_bytes w32 number) }
+    ensures { OnOk result (out.new.items ≡ out.old.items ++ signed_bytes w32 number) }
 {
     push_i32(out, number as i32)
 }
 
+/// A place: the latitude, then the longitude.
 fn push_place(out: &mut Vec<u8>, place: Place) -> Result<(), AllocError>
     ensures { OnOk result (out.new.items ≡ out.old.items ++ spec.place_bytes place) }
 {
@@ -143,6 +118,7 @@ pub fn push_trip_head(out: &mut Vec<u8>, trip: &Trip) -> Result<(), AllocError>
     push_name(out, trip.name.as_bytes())
 }
 
+/// How many records of each kind follow the head.
 fn push_counts(out: &mut Vec<u8>, counts: Counts) -> Result<(), AllocError>
     ensures { OnOk result (out.new.items ≡ out.old.items ++ spec.counts_bytes counts) }
 {

@@ -1,6 +1,7 @@
 use Rattle.std.proofs.Common.{◌≡◌, None, Some, length, rules}
+use Rattle.file_records.specs.Reading.{one}
 use Rattle.region_file.specs.Fronts.{road_front}
-use Rattle.region_file.specs.Records.{many, one}
+use Rattle.region_file.specs.Records.{many}
 use Rattle.region_file.proofs.LoopLemmas.{goes_on, halts, is_done, one_is, none_is}
 use Rattle.region_file.proofs.reading.roads_of.Goals as goal
 

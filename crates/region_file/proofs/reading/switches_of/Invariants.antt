@@ -1,7 +1,8 @@
 use Rattle.std.proofs.Common.{◌≡◌, ◌-◌}
+use Rattle.file_records.specs.Reading.{one}
 use Rattle.region_file.specs.Fronts.{switch_front}
-use Rattle.region_file.specs.Records.{many, one}
-use Rattle.region_file.proofs.LoopLemmas.{with_front}
+use Rattle.region_file.specs.Records.{many}
+use Rattle.file_records.proofs.RowLaws.{with_front}
 use Rattle.region_file.proofs.reading.switches_of.Given as goal
 
 abbrev pub invariant-loop : goal.invariant-loop

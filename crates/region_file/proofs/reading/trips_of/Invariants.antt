@@ -1,6 +1,6 @@
 use Rattle.std.proofs.Common.{◌≡◌, ◌-◌}
 use Rattle.region_file.specs.Records.{many, trip_read}
-use Rattle.region_file.proofs.LoopLemmas.{with_front}
+use Rattle.file_records.proofs.RowLaws.{with_front}
 use Rattle.region_file.proofs.reading.trips_of.Given as goal
 
 abbrev pub invariant-loop : goal.invariant-loop

@@ -1,7 +1,7 @@
 use Rattle.std.proofs.Common.{ap₂, ◌∙◌, ◌++◌, sym, subst}
 use Rattle.std.specs.Prelude.{FitsSigned}
 use Rattle.std.specs.Int.{w32}
-use Rattle.region_file.specs.Bytes.{signed_bytes}
+use Rattle.file_records.specs.Numbers.{signed_bytes}
 use Rattle.region_file.proofs.PushLaws.{two}
 use Rattle.region_file.proofs.FrontLaws.{lat_again, lat_fits, lon_again, lon_fits}
 use Rattle.region_file.proofs.writing.push_place.Goals as goal
