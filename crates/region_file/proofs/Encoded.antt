@@ -1,14 +1,13 @@
 -- What is written of a network is its spelling.
-use Rattle.std.proofs.Common.{◌≡◌, ℕ, suc, List, [], ◌∷◌, ◌++◌, ◌+◌, ◌<◌, length, get_or, map, take, refl, ap, ap₂, sym, ◌∙◌, codes, arith, append_assoc}
+use Rattle.std.proofs.Common.{◌≡◌, ℕ, suc, List, [], ◌∷◌, ◌++◌, ◌+◌, ◌<◌, length, get_or, map, take, refl, ap, ap₂, sym, ◌∙◌, arith, append_assoc}
 use Rattle.std.specs.Prelude.{All, zip}
 use Rattle.std.specs.List.{flat_map}
 use Rattle.std.proofs.lemmas.Grind.{flat_map-append}
-use Rattle.std.proofs.lemmas.List.Concat.{flat_map-cons}
 use Rattle.std.proofs.lemmas.List.{append-nil, flat_map_more, get_or_default, take_more}
 use Rattle.std.proofs.lemmas.List.Elements.{All-head, All-tail}
 use Rattle.std.proofs.lemmas.List.Folds.{flat_map-map}
 use Rattle.std.proofs.lemmas.Slice.Zip.{get_or-zip, length-zip}
-use Rattle.plain_texts.specs.Lines.{lines_text, spaced}
+use Rattle.plain_texts.specs.Lines.{lines_text}
 use Rattle.plan_base.specs.declared.places.Place.{Place}
 use Rattle.timetable_arcs.specs.Trips.{TripLists}
 use Rattle.mode_network.specs.declared.nodes.Node.{Node}
@@ -18,9 +17,12 @@ use Rattle.mode_network.specs.NetworkLists.{NetworkLists, nodes_of}
 use Rattle.mode_network.specs.Rules.{AreParts, IsRoad, IsStop, IsSwitch}
 use Rattle.region_file.specs.declared.lines.Line.{Line}
 use Rattle.region_file.specs.declared.lines.Line.TheVariants as line
-use Rattle.region_file.specs.Bytes.{arc_bytes, counts_of, head_bytes, record_bytes, region_bytes}
+use Rattle.region_file.specs.declared.format.Format.{Format}
+use Rattle.region_file.specs.declared.format.Format.TheVariants.{Text, Binary}
+use Rattle.region_file.specs.Bytes.{region_bytes}
 use Rattle.region_file.specs.Lines.{head_line, key_line, node_line, region_lines, region_text, spelled, stop_line, trip_lines}
-use Rattle.region_file.specs.inside.Texts.{line_text, name_at, named_line, node_line_text, node_record, trip_records, trip_text}
+use Rattle.region_file.specs.Regions.{spelling}
+use Rattle.region_file.specs.inside.Texts.{head_in, line_in, line_text, name_at, named_line, node_in, trip_in}
 
 -- One element more of a list.
 module _ {X : Type 0} (xs : List X) (k : ℕ) (x : X) (within : k < length xs) (is : get_or xs k x ≡ x) where
@@ -42,14 +44,9 @@ module _ (text : Line → List ℕ) where
   abbrev pub node_by : List (List ℕ) → Node → List ℕ
   node_by names node = text (named_line names node.key node.place)
 
-  abbrev pub trip_by : TripLists → List ℕ
-  trip_by trip = text (line.Trip trip.letter trip.days (length trip.calls) trip.name) ++ flat_map (λ call. text (line.Call call)) trip.calls
-
-  trips_are : (trips : List TripLists) → flat_map text (flat_map trip_lines trips) ≡ flat_map trip_by trips
+  trips_are : (trips : List TripLists) → flat_map text (flat_map trip_lines trips) ≡ flat_map (λ trip. flat_map text (trip_lines trip)) trips
   trips_are [] = refl
-  trips_are (trip ∷ trips) =
-      flat_map-append text (trip_lines trip) (flat_map trip_lines trips)
-      ∙ ap₂ (λ calls more. (text (line.Trip trip.letter trip.days (length trip.calls) trip.name) ++ calls) ++ more) (flat_map-map text line.Call trip.calls) (trips_are trips)
+  trips_are (trip ∷ trips) = flat_map-append text (trip_lines trip) (flat_map trip_lines trips) ∙ ap (λ more. flat_map text (trip_lines trip) ++ more) (trips_are trips)
 
   -- the texts of the sections, one behind the other
   section_texts : (roads stops switches arcs links trips end : List Line) → flat_map text (roads ++ (stops ++ (switches ++ (arcs ++ (links ++ (trips ++ end)))))) ≡ flat_map text roads ++ (flat_map text stops ++ (flat_map text switches ++ (flat_map text arcs ++ (flat_map text links ++ (flat_map text trips ++ flat_map text end)))))
@@ -58,10 +55,6 @@ module _ (text : Line → List ℕ) where
 regrouped : (head days nodes roads stops switches arcs arc_lines links link_lines trips trip_lines end : List ℕ) → nodes ≡ roads ++ (stops ++ switches) → arcs ≡ arc_lines → links ≡ link_lines → trips ≡ trip_lines
     → (((((head ++ days) ++ nodes) ++ arcs) ++ links) ++ trips) ++ end ≡ head ++ (days ++ (roads ++ (stops ++ (switches ++ (arc_lines ++ (link_lines ++ (trip_lines ++ end)))))))
 regrouped head days nodes roads stops switches arcs arc_lines links link_lines trips trip_lines end nodes_are arcs_are links_are trips_are = rw (nodes_are, arcs_are, links_are, trips_are) (simp append_assoc)
-
-regrouped_records : (head nodes roads stops switches arcs arc_lines links link_lines trips trip_lines : List ℕ) → nodes ≡ roads ++ (stops ++ switches) → arcs ≡ arc_lines → links ≡ link_lines → trips ≡ trip_lines
-    → (((head ++ nodes) ++ arcs) ++ links) ++ trips ≡ head ++ (roads ++ (stops ++ (switches ++ (arc_lines ++ (link_lines ++ trip_lines)))))
-regrouped_records head nodes roads stops switches arcs arc_lines links link_lines trips trip_lines nodes_are arcs_are links_are trips_are = rw (nodes_are, arcs_are, links_are, trips_are) (simp append_assoc)
 
 same_texts : {X Y : Type 0} (f : X → List ℕ) (g : Y → List ℕ) (xs : List X) (ys : List Y) → length xs ≡ length ys → ((k : ℕ) (d : X) (e : Y) → k < length xs → f (get_or xs k d) ≡ g (get_or ys k e)) → flat_map f xs ≡ flat_map g ys
 same_texts f g [] [] long h = refl
@@ -115,33 +108,23 @@ module _ (text : Line → List ℕ) (n : NetworkLists) (parts : AreParts n) wher
       (stops_are text n.stop_names n.stops parts.stops_are parts.one_name_each)
       (unnamed text n.stop_names n.switches (λ k d lt. switch_named text n.stop_names (get_or n.switches k d).key (get_or n.switches k d).place (parts.switches_are k d lt))))
 
-module _ (n : NetworkLists) (parts : AreParts n) where
-  -- The text of the lists, one behind the other.
-  pub written : (((((head_line ++ line_text (line.Days n.days)) ++ flat_map (node_line_text n.stop_names) (nodes_of n)) ++ flat_map (λ arc. line_text (line.Arc arc)) n.arcs) ++ flat_map (λ link. line_text (line.Link link)) n.links) ++ flat_map trip_text n.trips) ++ codes "end\n" ≡ region_text n
-  unfolding region_text region_lines spaced
-  written =
-      let roads = flat_map line_text (map node_line n.roads) in
-      let stops = flat_map line_text (map stop_line (zip n.stop_names n.stops)) in
-      let switches = flat_map line_text (map node_line n.switches) in
-      regrouped head_line (line_text (line.Days n.days)) _ roads stops switches _ _ _ _ _ _ (codes "end\n") (nodes_are line_text n parts) (sym (flat_map-map line_text line.Arc n.arcs)) (sym (flat_map-map line_text line.Link n.links)) (sym (trips_are line_text n.trips))
-      ∙ ap (λ text. head_line ++ (line_text (line.Days n.days) ++ text))
-      (sym (section_texts line_text (map node_line n.roads) (map stop_line (zip n.stop_names n.stops)) (map node_line n.switches) (map line.Arc n.arcs) (map line.Link n.links) (flat_map trip_lines n.trips) (line.End ∷ [])))
-      ∙ ap (λ text. head_line ++ text) (sym (lines_are (region_lines n)))
+-- The texts of the lists, one behind the other.
+module _ (format : Format) (n : NetworkLists) (parts : AreParts n) where
+  whole : (format : Format) → head_in format n ++ flat_map (line_in format) (region_lines n) ≡ spelling format n
+  unfolding region_text region_bytes
+  whole Text = ap (λ text. head_line ++ text) (sym (lines_are (region_lines n)))
+  whole Binary = refl
 
-  -- The records of the lists, one behind the other.
-  pub written_records : (head : List ℕ) → (((head ++ flat_map (node_record n.stop_names) (nodes_of n)) ++ flat_map arc_bytes n.arcs) ++ flat_map arc_bytes n.links) ++ flat_map trip_records n.trips ≡ head ++ flat_map record_bytes (region_lines n)
+  pub written : (((((head_in format n ++ line_in format (line.Days n.days)) ++ flat_map (node_in format n.stop_names) (nodes_of n)) ++ flat_map (λ arc. line_in format (line.Arc arc)) n.arcs) ++ flat_map (λ link. line_in format (line.Link link)) n.links) ++ flat_map (trip_in format) n.trips) ++ line_in format line.End ≡ spelling format n
   unfolding region_lines
-  written_records head =
-      let roads = flat_map record_bytes (map node_line n.roads) in
-      let stops = flat_map record_bytes (map stop_line (zip n.stop_names n.stops)) in
-      let switches = flat_map record_bytes (map node_line n.switches) in
-      let lines = map node_line n.roads ++ (map stop_line (zip n.stop_names n.stops) ++ (map node_line n.switches ++ (map line.Arc n.arcs ++ (map line.Link n.links ++ (flat_map trip_lines n.trips ++ line.End ∷ []))))) in
-      let none : flat_map record_bytes (line.End ∷ []) ≡ [] = flat_map-cons record_bytes line.End [] in
-      regrouped_records head _ roads stops switches _ _ _ _ _ _ (nodes_are record_bytes n parts) (sym (flat_map-map record_bytes line.Arc n.arcs)) (sym (flat_map-map record_bytes line.Link n.links)) (sym (trips_are record_bytes n.trips))
-      ∙ ap (λ t. head ++ (roads ++ (stops ++ (switches ++ (flat_map record_bytes (map line.Arc n.arcs) ++ (flat_map record_bytes (map line.Link n.links) ++ t)))))) (sym (append-nil (flat_map record_bytes (flat_map trip_lines n.trips))) ∙ ap (λ t. flat_map record_bytes (flat_map trip_lines n.trips) ++ t) (sym none))
-      ∙ ap (λ t. head ++ t) (sym (section_texts record_bytes (map node_line n.roads) (map stop_line (zip n.stop_names n.stops)) (map node_line n.switches) (map line.Arc n.arcs) (map line.Link n.links) (flat_map trip_lines n.trips) (line.End ∷ [])))
-      ∙ ap (λ t. head ++ t) (sym (flat_map-cons record_bytes (line.Days n.days) lines))
-
-  pub records_written : (((head_bytes n.days (counts_of n) ++ flat_map (node_record n.stop_names) (nodes_of n)) ++ flat_map arc_bytes n.arcs) ++ flat_map arc_bytes n.links) ++ flat_map trip_records n.trips ≡ region_bytes n
-  unfolding region_bytes
-  records_written = written_records (head_bytes n.days (counts_of n))
+  written =
+      let roads = map node_line n.roads in
+      let stops = map stop_line (zip n.stop_names n.stops) in
+      let switches = map node_line n.switches in
+      let front = λ (text : List ℕ). head_in format n ++ (line_in format (line.Days n.days) ++ text) in
+      let by = flat_map (line_in format) in
+      regrouped (head_in format n) (line_in format (line.Days n.days)) _ (by roads) (by stops) (by switches) _ _ _ _ _ _ (line_in format line.End) (nodes_are (line_in format) n parts)
+      (sym (flat_map-map (line_in format) line.Arc n.arcs)) (sym (flat_map-map (line_in format) line.Link n.links)) (sym (trips_are (line_in format) n.trips))
+      ∙ ap (λ end. front (by roads ++ (by stops ++ (by switches ++ (by (map line.Arc n.arcs) ++ (by (map line.Link n.links) ++ (by (flat_map trip_lines n.trips) ++ end))))))) (sym (append-nil (line_in format line.End)))
+      ∙ ap front (sym (section_texts (line_in format) roads stops switches (map line.Arc n.arcs) (map line.Link n.links) (flat_map trip_lines n.trips) (line.End ∷ [])))
+      ∙ whole format

@@ -22,6 +22,7 @@ fn word_of(text: &[u8]) -> Option<u32>
     Some(n as u32)
 }
 
+/// The place of a latitude and a longitude in range, in units of 10^-7 degree.
 #[tactic(auto, unfolding(crate::specs::Kinds::place_of_words))]
 fn place_of(lat: &[u8], lon: &[u8]) -> Option<Place>
     ensures { result ≡ spec.place_of_words lat.now lon.now }
@@ -31,6 +32,7 @@ fn place_of(lat: &[u8], lon: &[u8]) -> Option<Place>
     Place::new(lat, lon)
 }
 
+/// The line of a road node, by the words behind the first: mode, id and place.
 #[tactic(auto, unfolding(crate::specs::Kinds::road_of_words))]
 fn road_of(fields: &[&[u8]]) -> Option<Line>
     ensures { result ≡ spec.road_of_words (map (λ w. w.now) fields.now) }
@@ -46,6 +48,7 @@ fn road_of(fields: &[&[u8]]) -> Option<Line>
     }
 }
 
+/// The line of a switch, by the words behind the first: id and place.
 #[tactic(auto, unfolding(crate::specs::Kinds::switch_of_words))]
 fn switch_of(fields: &[&[u8]]) -> Option<Line>
     ensures { result ≡ spec.switch_of_words (map (λ w. w.now) fields.now) }
@@ -60,6 +63,7 @@ fn switch_of(fields: &[&[u8]]) -> Option<Line>
     }
 }
 
+/// The road arc or the link that the words behind the first spell: from, to, and more than no milliseconds.
 #[inline(always)]
 #[tactic(auto, unfolding(crate::specs::Kinds::arc_of_words))]
 fn arc_of(fields: &[&[u8]]) -> Option<Arc>
@@ -104,6 +108,7 @@ fn call_of(fields: &[&[u8]]) -> Option<Call>
     }
 }
 
+/// The line of a trip, by the words behind the first: letter, days, how many calls, and name.
 #[tactic(auto, unfolding(crate::specs::Kinds::trip_of_words))]
 fn trip_of(alloc: Global, fields: &[&[u8]]) -> Result<Option<Line>, AllocError>
     ensures { IfOk result (λ read. read ≡ spec.trip_of_words (map (λ w. w.now) fields.now)) }
@@ -134,6 +139,7 @@ fn trip_of(alloc: Global, fields: &[&[u8]]) -> Result<Option<Line>, AllocError>
     }
 }
 
+/// The line of the end, which has no further word.
 #[tactic(auto, unfolding(crate::specs::Kinds::end_of_words))]
 fn end_of(fields: &[&[u8]]) -> Option<Line>
     ensures { result ≡ spec.end_of_words (map (λ w. w.now) fields.now) }
@@ -144,6 +150,7 @@ fn end_of(fields: &[&[u8]]) -> Option<Line>
     }
 }
 
+/// The line of a stop, by the words behind the first: name and place.
 #[tactic(auto, unfolding(crate::specs::Kinds::stop_of_words))]
 fn stop_of(alloc: Global, fields: &[&[u8]]) -> Result<Option<Line>, AllocError>
     ensures { IfOk result (λ read. read ≡ spec.stop_of_words (map (λ w. w.now) fields.now)) }
@@ -195,6 +202,7 @@ fn rule_of<'a>(fields: &[&'a [u8]]) -> Option<Option<&'a [u8]>>
     }
 }
 
+/// The line of the days, by the words behind the first: first date, count, and the zone rule, if there is one.
 #[tactic(auto, unfolding(crate::specs::Kinds::days_of_words))]
 fn days_of(alloc: Global, fields: &[&[u8]]) -> Result<Option<Line>, AllocError>
     ensures { IfOk result (λ read. read ≡ spec.days_of_words (map (λ w. w.now) fields.now)) }
@@ -216,6 +224,7 @@ fn days_of(alloc: Global, fields: &[&[u8]]) -> Result<Option<Line>, AllocError>
     }
 }
 
+/// The line of a kind, which is its first word, by the words behind it.
 #[tactic(auto, unfolding(crate::specs::Kinds::line_of_kind))]
 fn kind_of(alloc: Global, kind: &[u8], fields: &[&[u8]]) -> Result<Option<Line>, AllocError>
     ensures { IfOk result (λ read. read ≡ spec.line_of_kind kind.now (map (λ w. w.now) fields.now)) }
@@ -245,7 +254,8 @@ fn kind_of(alloc: Global, kind: &[u8], fields: &[&[u8]]) -> Result<Option<Line>,
 
 /// The line that a text spells; `None` exactly where it spells none. The words of the text are left in `words`, so
 /// that one list serves many lines.
-// Apart from its caller, since what a line of days holds is else moved about for each line.
+///
+/// Apart from its caller, since what a line of days holds is else moved about for each line.
 #[inline(never)]
 #[tactic(auto, unfolding(crate::specs::Kinds::line_of))]
 pub fn line_of<'a>(

@@ -4,8 +4,10 @@ ghost use Rattle.std.specs.Prelude.{◌≡◌, position};
 ghost use Rattle.std.specs.Str.{bytes_eq};
 ghost use Rattle.region_file.specs.Letters.{letter_at, letter_name};
 
+/// The letter that the first of the names is of.
 const FIRST: u8 = 3;
 
+/// The names of the letters that trips have, in the order of their numbers.
 const NAMES: [&[u8]; 11] = [
     b"tram",
     b"metro",

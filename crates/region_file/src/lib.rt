@@ -6,6 +6,7 @@ mod decoding;
 mod encoding;
 pub mod fault;
 pub mod format;
+mod formatting;
 mod fronts;
 mod kinds;
 mod letters;
@@ -14,9 +15,9 @@ mod printing;
 mod reading;
 mod records;
 pub mod section;
-mod texting;
 mod writing;
 
+pub use counts::counts_of;
 pub use decoding::decode;
 pub use encoding::encode;
 pub use fault::RegionFault;

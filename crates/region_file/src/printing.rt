@@ -5,7 +5,7 @@ ghost use Rattle.std.specs.Fmt.{signed_decimal};
 ghost use Rattle.plain_texts.specs.Hexadecimal.{hexadecimal};
 ghost use Rattle.plain_texts.specs.Lines.{spaced};
 ghost use Rattle.region_file.specs.Lines.{arc_words, flags_of, mode_name, place_words};
-ghost use Rattle.region_file.specs.inside.Texts.{call_text, line_text};
+ghost use Rattle.region_file.specs.inside.Texts.{line_text};
 ghost use Rattle.region_file.specs.declared.lines.Line.TheVariants as line;
 
 use crate::letters::letter_name;
@@ -63,6 +63,7 @@ pub fn push_days(out: &mut Vec<u8>, days: &Days) -> Result<(), AllocError>
     push_line_feed(out)
 }
 
+/// The word of a mode.
 fn mode_name(mode: Mode) -> &'static [u8]
     ensures { result.now ≡ mode_name mode }
 {
@@ -143,7 +144,7 @@ pub fn flags_of(call: Call) -> u8
 /// The line of a call.
 #[tactic(auto, unfolding(plain_texts::specs::Lines::spaced))]
 pub fn push_call(out: &mut Vec<u8>, call: Call) -> Result<(), AllocError>
-    ensures { OnOk result (out.new.items ≡ out.old.items ++ call_text call) }
+    ensures { OnOk result (out.new.items ≡ out.old.items ++ line_text (line.Call call)) }
 {
     out.extend_from_slice(b"call")?;
     push_number(out, u64::from(call.stop))?;

@@ -3,15 +3,17 @@ use Rattle.std.specs.Prelude.{ℕ, List, [], ◌++◌, length, slice_index_or, �
 use Rattle.std.specs.List.{flat_map}
 use Rattle.plain_texts.specs.Lines.{with_feed}
 use Rattle.plan_base.specs.declared.places.Place.{Place}
-use Rattle.timetable_arcs.specs.declared.trips.Call.{Call}
 use Rattle.timetable_arcs.specs.Trips.{TripLists}
 use Rattle.mode_network.specs.declared.nodes.Node.{Node}
 use Rattle.mode_network.specs.declared.nodes.NodeKey.{NodeKey}
 use Rattle.mode_network.specs.declared.nodes.NodeKey.TheVariants.{Road, Stop, Switch}
 use Rattle.region_file.specs.declared.lines.Line.{Line}
 use Rattle.region_file.specs.declared.lines.Line.TheVariants as line
-use Rattle.region_file.specs.Bytes.{call_bytes, record_bytes, trip_bytes}
-use Rattle.region_file.specs.Lines.{spelled}
+use Rattle.mode_network.specs.NetworkLists.{NetworkLists}
+use Rattle.region_file.specs.declared.format.Format.{Format}
+use Rattle.region_file.specs.declared.format.Format.TheVariants.{Text, Binary}
+use Rattle.region_file.specs.Bytes.{call_bytes, counts_of, head_bytes, record_bytes, trip_bytes}
+use Rattle.region_file.specs.Lines.{head_line, spelled, trip_lines}
 
 -- a line and its line feed
 abbrev pub line_text : Line → List ℕ
@@ -27,20 +29,22 @@ named_line names (Road mode id) place = line.Road mode id place
 named_line names (Stop stop) place = line.Stop (name_at names stop) place
 named_line names (Switch id) place = line.Switch id place
 
-abbrev pub node_line_text : List (List ℕ) → Node → List ℕ
-node_line_text names node = line_text (named_line names node.key node.place)
+-- a line as it is written in a format
+abbrev pub line_in : Format → Line → List ℕ
+line_in Text l = line_text l
+line_in Binary l = record_bytes l
 
-abbrev pub call_text : Call → List ℕ
-call_text call = line_text (line.Call call)
+abbrev pub node_in : Format → List (List ℕ) → Node → List ℕ
+node_in format names node = line_in format (named_line names node.key node.place)
 
 -- the line of a trip, and those of its calls
-abbrev pub trip_text : TripLists → List ℕ
-trip_text trip =
-    line_text (line.Trip trip.letter trip.days (length trip.calls) trip.name) ++ flat_map call_text trip.calls
+abbrev pub trip_in : Format → TripLists → List ℕ
+trip_in format trip = flat_map (line_in format) (trip_lines trip)
 
--- the record of a node, whose stop has its name
-abbrev pub node_record : List (List ℕ) → Node → List ℕ
-node_record names node = record_bytes (named_line names node.key node.place)
+-- what stands before the lines in a format
+abbrev pub head_in : Format → NetworkLists → List ℕ
+head_in Text n = head_line
+head_in Binary n = head_bytes n.days (counts_of n)
 
 -- the record of a trip, and those of its calls
 abbrev pub trip_records : TripLists → List ℕ

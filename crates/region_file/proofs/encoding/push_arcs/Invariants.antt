@@ -1,7 +1,8 @@
 use Rattle.std.proofs.Common.{◌≡◌, ◌++◌, take}
 use Rattle.std.specs.List.{flat_map}
-use Rattle.region_file.specs.Bytes.{arc_bytes}
+use Rattle.region_file.specs.declared.lines.Line.TheVariants as line
+use Rattle.region_file.specs.inside.Texts.{line_in}
 use Rattle.region_file.proofs.encoding.push_arcs.Given as goal
 
 abbrev pub invariant-loop-arc : goal.invariant-loop-arc
-invariant-loop-arc l = l.out.items ≡ l.fn.out.items ++ flat_map arc_bytes (take l.arc-index l.arcs)
+invariant-loop-arc l = l.out.items ≡ l.fn.out.items ++ flat_map (λ arc. line_in l.format (line.Arc arc)) (take l.arc-index l.arcs)

@@ -1,6 +1,6 @@
 use Rattle.std.proofs.lemmas.Option.{get_or_from_slice_get, slice_get_within}
 use Rattle.mode_network.specs.NetworkLists.{nodes_of}
-use Rattle.region_file.specs.inside.Texts.{node_record}
+use Rattle.region_file.specs.inside.Texts.{node_in}
 use Rattle.region_file.proofs.Encoded.{text_more}
 use Rattle.region_file.proofs.encoding.push_nodes.Goals as goal
 
@@ -10,4 +10,4 @@ loop-v-preserved c =
     let node = c.node.result in
     let within = slice_get_within nodes c.loop-v.v node c.node.ensures in
     let is = get_or_from_slice_get nodes c.loop-v.v node node c.node.ensures in
-    text_more nodes c.loop-v.v node within is (node_record c.args.network.now.stop_names) _ _ _ c.loop-v.invariant c.in_ok-push_node.ensures
+    text_more nodes c.loop-v.v node within is (node_in c.args.format c.args.network.now.stop_names) _ _ _ c.loop-v.invariant c.in_ok-push_node.ensures

@@ -1,8 +1,8 @@
 use Rattle.std.proofs.Common.{◌≡◌, ◌++◌, take}
 use Rattle.std.specs.List.{flat_map}
 use Rattle.mode_network.specs.NetworkLists.{nodes_of}
-use Rattle.region_file.specs.inside.Texts.{node_record}
+use Rattle.region_file.specs.inside.Texts.{node_in}
 use Rattle.region_file.proofs.encoding.push_nodes.Given as goal
 
 abbrev pub invariant-loop-v : goal.invariant-loop-v
-invariant-loop-v l = l.out.items ≡ l.fn.out.items ++ flat_map (node_record l.network.stop_names) (take l.v (nodes_of l.network))
+invariant-loop-v l = l.out.items ≡ l.fn.out.items ++ flat_map (node_in l.format l.network.stop_names) (take l.v (nodes_of l.network))

@@ -1,12 +1,16 @@
-use Rattle.std.proofs.Common.{ap, ◌∙◌, ◌++◌, length}
+use Rattle.std.proofs.Common.{ap, sym, ◌∙◌, ◌++◌, length}
 use Rattle.std.specs.List.{flat_map}
+use Rattle.std.proofs.lemmas.List.Folds.{flat_map-map}
 use Rattle.timetable_arcs.specs.Trips.{TripLists}
-use Rattle.region_file.specs.Bytes.{call_bytes, trip_bytes}
+use Rattle.region_file.specs.declared.lines.Line.TheVariants as line
+use Rattle.region_file.specs.inside.Texts.{line_in}
 use Rattle.region_file.proofs.PushLaws.{two}
 use Rattle.region_file.proofs.encoding.push_trip.Goals as goal
 
 pub returns : goal.returns
 returns c =
     let trip : TripLists = c.args.trip.now in
-    two _ _ _ _ _ c.in_ok-push_trip_head.ensures c.in_ok-push_calls.ensures
-    ∙ ap (λ calls. c.args.out.now.items ++ (trip_bytes trip.letter trip.days (length trip.calls) trip.name ++ flat_map call_bytes calls)) (c.deref.ensures.value ∙ ap (λ (t : TripLists). t.calls) c.trip.view_is)
+    let text = line_in c.args.format in
+    two _ _ _ _ _ c.in_ok-push_trip_line.ensures c.in_ok-push_calls.ensures
+    ∙ ap (λ calls. c.args.out.now.items ++ (text (line.Trip trip.letter trip.days (length trip.calls) trip.name) ++ calls))
+    (ap (flat_map (λ call. text (line.Call call))) (c.deref.ensures.value ∙ ap (λ (t : TripLists). t.calls) c.trip.view_is) ∙ sym (flat_map-map text line.Call trip.calls))

@@ -1,6 +1,6 @@
 use Rattle.std.proofs.Common.{◌≤◌, ◌+◌, ◌-◌, length}
 use Rattle.mode_network.specs.NetworkLists.{nodes_of}
-use Rattle.region_file.proofs.encoding.stop_count.Given as goal
+use Rattle.region_file.proofs.counts.stop_count.Given as goal
 
 abbrev pub invariant-loop-v : goal.invariant-loop-v
 invariant-loop-v l = (l.fn.roads ≤ l.v) × (l.v ≤ length l.network.roads + length l.network.stops)

@@ -1,6 +1,6 @@
 use Rattle.std.proofs.Common.{◌≤◌, ◌-◌, length}
 use Rattle.mode_network.specs.NetworkLists.{nodes_of}
-use Rattle.region_file.proofs.encoding.road_count.Given as goal
+use Rattle.region_file.proofs.counts.road_count.Given as goal
 
 abbrev pub invariant-loop-v : goal.invariant-loop-v
 invariant-loop-v l = l.v ≤ length l.network.roads

@@ -1,8 +1,0 @@
-use Rattle.std.proofs.Common.{◌≡◌, ◌++◌, take}
-use Rattle.std.specs.List.{flat_map}
-use Rattle.region_file.specs.declared.lines.Line.TheVariants as line
-use Rattle.region_file.specs.inside.Texts.{line_text}
-use Rattle.region_file.proofs.texting.push_arcs.Given as goal
-
-abbrev pub invariant-loop-arc : goal.invariant-loop-arc
-invariant-loop-arc l = l.out.items ≡ l.fn.out.items ++ flat_map (λ arc. line_text (line.Arc arc)) (take l.arc-index l.arcs)

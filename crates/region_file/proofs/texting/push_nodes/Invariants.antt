@@ -1,8 +1,0 @@
-use Rattle.std.proofs.Common.{◌≡◌, ◌++◌, take}
-use Rattle.std.specs.List.{flat_map}
-use Rattle.mode_network.specs.NetworkLists.{nodes_of}
-use Rattle.region_file.specs.inside.Texts.{node_line_text}
-use Rattle.region_file.proofs.texting.push_nodes.Given as goal
-
-abbrev pub invariant-loop-v : goal.invariant-loop-v
-invariant-loop-v l = l.out.items ≡ l.fn.out.items ++ flat_map (node_line_text l.network.stop_names) (take l.v (nodes_of l.network))

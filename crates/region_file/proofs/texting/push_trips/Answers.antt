@@ -1,7 +1,0 @@
-use Rattle.std.proofs.Common.{sym}
-use Rattle.region_file.specs.inside.Texts.{trip_text}
-use Rattle.region_file.proofs.Encoded.{text_more}
-use Rattle.region_file.proofs.texting.push_trips.Goals as goal
-
-pub loop-trip-preserved : goal.loop-trip-preserved
-loop-trip-preserved c = text_more c.args.trips.now c.loop-trip.trip-index c.trip-item.result c.loop-trip-test.true (sym c.trip-item.is) trip_text _ _ _ c.loop-trip.invariant c.in_ok-push_trip.ensures

@@ -1,7 +1,0 @@
-use Rattle.std.proofs.Common.{◌≡◌, ◌++◌, take}
-use Rattle.std.specs.List.{flat_map}
-use Rattle.region_file.specs.inside.Texts.{trip_text}
-use Rattle.region_file.proofs.texting.push_trips.Given as goal
-
-abbrev pub invariant-loop-trip : goal.invariant-loop-trip
-invariant-loop-trip l = l.out.items ≡ l.fn.out.items ++ flat_map trip_text (take l.trip-index l.trips)
