@@ -11,16 +11,14 @@ use Rattle.hierarchy_file.specs.declared.fault.HFileFault.TheVariants.{BadHead, 
 use Rattle.hierarchy_file.specs.Spelling.{magic, counts_text, hierarchy_counts, node_in_bytes, entry_text, witness_text, records_text, hierarchy_text, FitsRow, FitsWalk, key_of_entry, key_of_witness}
 use Rattle.hierarchy_file.specs.Reading.{next_node, entry_front, witness_at, many_ascending, head_at, with_witnesses, with_entries, with_order, hierarchy_records, whole_hierarchy, of_head, hierarchy_of, GivesHierarchy}
 use Rattle.hierarchy_file.specs.Causes.{AreRows, StopsAt, AnyNext, itself, NextPair, NextThree, RecordsStop, HasHead, HasCause, IsNoHierarchy, IsRefusedHierarchy, SpellHierarchy, SpellNone}
-use Rattle.hierarchy_file.proofs.FieldLaws.{IsBytes}
+use Rattle.file_records.proofs.Steps.{err_is}
+use Rattle.file_records.proofs.NumberLaws.{IsBytes}
 use Rattle.hierarchy_file.proofs.ManyLaws.{many_takes, many_stops}
 use Rattle.hierarchy_file.proofs.RecordLaws.{next_node_takes, next_node_again, entry_takes, entry_again, witness_takes, witness_again}
 use Rattle.hierarchy_file.proofs.WholeLaws.{head_takes, head_again, hierarchy_again, records_take, spelling_from}
 
 abbrev Read : Type 0
 Read = HierarchyLists × List ℕ
-
-left_is : {A : Type 0} (a b : ℕ) → ◌≡◌ {A = Result A ℕ} (Err a) (Err b) → a ≡ b
-left_is a b e = cc
 
 -- where the records stop
 records_stop : (c : Counts) (bytes : List ℕ) (left : ℕ) → IsBytes bytes → hierarchy_records c bytes ≡ Err left → RecordsStop c bytes left
@@ -31,19 +29,19 @@ records_stop c bytes left fits e = by_order (many_ascending next_node itself c.o
         → with_witnesses order entries r ≡ Err left → StopsAt witness_text FitsWalk NextThree key_of_witness None c.witnesses rest left
     by_witnesses order entries rest fits (Ok x) is e = absurd cc
     by_witnesses order entries rest fits (Err l) is e =
-        many_stops witness_at key_of_witness witness_text FitsWalk NextThree witness_takes witness_again c.witnesses None rest left fits (is ∙ ap Err (left_is l left e))
+        many_stops witness_at key_of_witness witness_text FitsWalk NextThree witness_takes witness_again c.witnesses None rest left fits (is ∙ ap Err (err_is l left e))
 
     by_entries : (order : List ℕ) (rest : List ℕ) → IsBytes rest → AreRows node_in_bytes IsNode AnyNext itself c.order bytes rest → (r : Result (List Entry × List ℕ) ℕ) → many_ascending entry_front key_of_entry c.entries None rest ≡ r
         → with_entries c order r ≡ Err left → RecordsStop c bytes left
     by_entries order rest fits rows (Err l) is e =
-        inr (rest, rows, inl (many_stops entry_front key_of_entry entry_text FitsRow NextPair entry_takes entry_again c.entries None rest left fits (is ∙ ap Err (left_is l left e))))
+        inr (rest, rows, inl (many_stops entry_front key_of_entry entry_text FitsRow NextPair entry_takes entry_again c.entries None rest left fits (is ∙ ap Err (err_is l left e))))
     by_entries order rest fits rows (Ok x) is e =
         let taken = many_takes entry_front key_of_entry entry_text FitsRow NextPair entry_takes entry_again c.entries None rest x fits is in
         let more : AreRows entry_text FitsRow NextPair key_of_entry c.entries rest x.1 = record { rows = x.0; fit = taken.2; follow = taken.3; counted = taken.1; are = taken.0.parts } in
         inr (rest, rows, inr (x.1, more, by_witnesses order x.0 x.1 taken.0.rest_fits (many_ascending witness_at key_of_witness c.witnesses None x.1) refl e))
 
     by_order : (r : Result (List ℕ × List ℕ) ℕ) → many_ascending next_node itself c.order None bytes ≡ r → with_order c r ≡ Err left → RecordsStop c bytes left
-    by_order (Err l) is e = inl (many_stops next_node itself node_in_bytes IsNode AnyNext next_node_takes next_node_again c.order None bytes left fits (is ∙ ap Err (left_is l left e)))
+    by_order (Err l) is e = inl (many_stops next_node itself node_in_bytes IsNode AnyNext next_node_takes next_node_again c.order None bytes left fits (is ∙ ap Err (err_is l left e)))
     by_order (Ok x) is e =
         let taken = many_takes next_node itself node_in_bytes IsNode AnyNext next_node_takes next_node_again c.order None bytes x fits is in
         let rows : AreRows node_in_bytes IsNode AnyNext itself c.order bytes x.1 = record { rows = x.0; fit = taken.2; follow = taken.3; counted = taken.1; are = taken.0.parts } in

@@ -1,19 +1,8 @@
 -- Reading records one after the other, as a loop does.
-use Rattle.std.proofs.Common.{◌≡◌, ℕ, zero, suc, ◌-◌, ◌+◌, ◌≤◌, ◌<◌, List, [], ◌∷◌, ◌++◌, length, Some, None, Result, Ok, Err, refl, sym, ap, ◌∙◌, append_assoc, append-nil, arith}
+use Rattle.std.proofs.Common.{◌≡◌, ℕ, zero, suc, ◌-◌, ◌+◌, ◌≤◌, ◌<◌, List, [], ◌∷◌, ◌++◌, length, Some, None, Result, Ok, Err, refl, sym, ap, ◌∙◌, append-nil, arith}
 use Rattle.std.specs.Prelude.{Option}
-use Rattle.hierarchy_file.specs.Reading.{many_ascending, with_first, next_node}
-
--- what was read before, and what is still read
-abbrev pub with_front : {X : Type 0} → List X → Result (List X × List ℕ) ℕ → Result (List X × List ℕ) ℕ
-with_front front (Ok x) = Ok (front ++ x.0, x.1)
-with_front front (Err left) = Err left
-
-regroup : {X : Type 0} (front : List X) (x : X) (others : Result (List X × List ℕ) ℕ) → with_front front (with_first x others) ≡ with_front (front ++ x ∷ []) others
-regroup front x (Ok others) = ap (λ xs. Ok (xs, others.1)) (sym (append_assoc front (x ∷ []) others.0))
-regroup front x (Err left) = refl
-
-pub done_is : {X : Type 0} (a b : X) → ◌≡◌ {A = Result X ℕ} (Ok a) (Ok b) → a ≡ b
-done_is a b e = cc
+use Rattle.file_records.proofs.RowLaws.{regroup, with_front}
+use Rattle.hierarchy_file.specs.Reading.{many_ascending, next_node}
 
 module _ {X K : Type 0} (read : Option K → List ℕ → Option (X × List ℕ)) (key : X → K) where
   pub goes_on : (front : List X) (count i : ℕ) (before : Option K) (bytes : List ℕ) (x : X) (after : List ℕ) (total : Result (List X × List ℕ) ℕ) → i < count

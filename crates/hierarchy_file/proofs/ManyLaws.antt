@@ -6,19 +6,15 @@ use Rattle.std.specs.Cmp.{IsTotalOrder}
 use Rattle.std.specs.Ordering.{is_lt}
 use Rattle.std.proofs.lemmas.List.Concat.{flat_map-cons}
 use Rattle.std.proofs.lemmas.List.Elements.{All-cons, All-nil, All-head, All-weaker}
-use Rattle.hierarchy_file.specs.Reading.{many_ascending, record_then, with_first, is_after}
+use Rattle.std.proofs.lemmas.Option.{none-some}
+use Rattle.file_records.specs.Reading.{with_first}
+use Rattle.file_records.proofs.Steps.{err_is}
+use Rattle.file_records.proofs.NumberLaws.{IsBytes, Takes, Takes-then}
+use Rattle.file_records.proofs.RowLaws.{first_ok, first_err}
+use Rattle.hierarchy_file.specs.Reading.{many_ascending, record_then, is_after}
 use Rattle.hierarchy_file.specs.Causes.{Follow, StopsAt}
-use Rattle.hierarchy_file.proofs.FieldLaws.{IsBytes, Takes, Takes-then}
 
--- a record and those behind it, where they were read
-onto_ok : {X : Type 0} (x : X) (r : Result (List X × List ℕ) ℕ) (y : List X × List ℕ) → with_first x r ≡ Ok y → (z : List X × List ℕ) × (r ≡ Ok z) × (y ≡ (x ∷ z.0, z.1))
-onto_ok x (Ok z) y e = (z, refl, (let same : ◌≡◌ {A = List _ × List ℕ} (x ∷ z.0, z.1) y = cc in sym same))
-onto_ok x (Err left) y e = absurd cc
-
-onto_err : {X : Type 0} (x : X) (r : Result (List X × List ℕ) ℕ) (left : ℕ) → with_first x r ≡ Err left → r ≡ Err left
-onto_err x (Ok z) left e = absurd cc
-onto_err x (Err l) left e = e
-
+-- a record, where the reading went on behind it
 behind_ok : {X : Type 0} (others : X → List ℕ → Result (List X × List ℕ) ℕ) (left : ℕ) (o : Option (X × List ℕ)) (y : List X × List ℕ) → record_then others left o ≡ Ok y
     → (x : X × List ℕ) × (o ≡ Some x) × (with_first x.0 (others x.0 x.1) ≡ Ok y)
 behind_ok others left None y e = absurd cc
@@ -36,11 +32,11 @@ module _ {X K : Type 0} (read : Option K → List ℕ → Option (X × List ℕ)
       (record { parts = refl; rest_fits = fits }, refl, tt, tt)
   many_takes (suc n) before bytes y fits e =
       let first = behind_ok (λ x rest. many_ascending read key n (Some (key x)) rest) (length bytes) (read before bytes) y e in
-      let others = onto_ok first.0.0 (many_ascending read key n (Some (key first.0.0)) first.0.1) y first.2 in
+      let others = first_ok first.0.0 (many_ascending read key n (Some (key first.0.0)) first.0.1) y first.2 in
       let one = takes before bytes first.0 fits first.1 in
       let more = many_takes n (Some (key first.0.0)) first.0.1 others.0 one.0.rest_fits others.1 in
       let both = Takes-then bytes (text first.0.0) first.0.1 (flat_map text others.0.0) others.0.1 one.0 more.0 in
-      subst (λ (z : List X × List ℕ). Takes bytes (flat_map text z.0) z.1 × (length z.0 ≡ suc n) × AllByRecursion Fits z.0 × Follow Next key before z.0) (sym others.2)
+      subst (λ (z : List X × List ℕ). Takes bytes (flat_map text z.0) z.1 × (length z.0 ≡ suc n) × AllByRecursion Fits z.0 × Follow Next key before z.0) others.2
       (rw flat_map-cons both, ap suc more.1, (one.1, more.2), (one.2, more.3))
 
   pub many_again : (xs : List X) (before : Option K) (rest : List ℕ) → AllByRecursion Fits xs → Follow Next key before xs
@@ -69,17 +65,12 @@ module _ {X K : Type 0} (read : Option K → List ℕ → Option (X × List ℕ)
         fit = tt;
         follow = tt;
         are = refl;
-        left_is = (let same : length bytes ≡ left = err_is (length bytes) left e in sym same);
-        none = λ x rest fit next is. none_some x rest (sym unread ∙ ap (read before) is ∙ again before x rest fit next);
-      } where
-        none_some : (x : X) (rest : List ℕ) → ◌≡◌ {A = Option (X × List ℕ)} None (Some (x, rest)) → ⊥
-        none_some x rest e = cc
-
-        err_is : (a b : ℕ) → ◌≡◌ {A = Result (List X × List ℕ) ℕ} (Err a) (Err b) → a ≡ b
-        err_is a b e = cc
+        left_is = sym (err_is {A = List X × List ℕ} (length bytes) left e);
+        none = λ x rest fit next is. none-some (x, rest) (sym unread ∙ ap (read before) is ∙ again before x rest fit next);
+      }
       by_first (Some x) is e more =
           let one = takes before bytes x fits is in
-          let rest = more x.0 x.1 one.0.rest_fits (onto_err x.0 (many_ascending read key n (Some (key x.0)) x.1) left e) in
+          let rest = more x.0 x.1 one.0.rest_fits (first_err x.0 (many_ascending read key n (Some (key x.0)) x.1) left e) in
           record {
             rows = x.0 ∷ rest.rows;
             rest = rest.rest;

@@ -11,8 +11,11 @@ use Rattle.hierarchy.specs.Lists.{WitnessLists}
 use Rattle.hierarchy.specs.Rules.{IsNode}
 use Rattle.hierarchy_file.specs.Causes.{Follow, AnyNext, itself, NextPair, NextThree}
 use Rattle.hierarchy_file.specs.Spelling.{FitsRow, FitsWalk, node_in_bytes, entry_text, witness_text, middle_number, key_of_entry, key_of_witness, pair_cmp, three_cmp}
-use Rattle.hierarchy_file.specs.Reading.{number_front, node_at, next_node, middle_of, entry_front, witness_at, many_ascending, all_read, is_after}
-use Rattle.hierarchy_file.proofs.FieldLaws.{IsBytes, Takes, Takes-then, and_then, wide32, wide64, number_takes, number_again, node_takes, node_again, middle_takes, middle_again, middle_fits}
+use Rattle.file_records.specs.Numbers.{number_front}
+use Rattle.file_records.proofs.Steps.{and_then}
+use Rattle.file_records.proofs.NumberLaws.{IsBytes, Takes, Takes-then, wide32, wide64, number_takes, number_again}
+use Rattle.hierarchy_file.specs.Reading.{node_at, next_node, middle_of, entry_front, witness_at, many_ascending, all_read, is_after}
+use Rattle.hierarchy_file.proofs.FieldLaws.{node_takes, node_again, middle_takes, middle_again, middle_fits}
 use Rattle.hierarchy_file.proofs.ManyLaws.{many_takes, many_again}
 
 -- ---- nodes

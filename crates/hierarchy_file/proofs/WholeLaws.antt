@@ -7,10 +7,9 @@ use Rattle.std.specs.Int.{w64, to_be_bytes}
 use Rattle.std.specs.Cmp.{IsTotalOrder}
 use Rattle.std.proofs.lemmas.Bool.{eqb-true}
 use Rattle.std.proofs.lemmas.Cmp.{then_total, on_total, nat_cmp_total}
-use Rattle.std.proofs.lemmas.List.{take-append-drop, nil_from_length}
+use Rattle.std.proofs.lemmas.List.{nil_from_length}
 use Rattle.std.proofs.lemmas.List.Elements.{All-from_recursion, recursion_from_All, All-weaker}
 use Rattle.std.proofs.lemmas.Option.{same_Some, cond_some, option_and_then_some}
-use Rattle.std.proofs.lemmas.Slice.Eq.{bytes_eq-Decides}
 use Rattle.hierarchy.specs.declared.entry.Entry.{Entry}
 use Rattle.hierarchy.specs.Lists.{HierarchyLists, WitnessLists}
 use Rattle.mode_network.specs.Rules.{IsAscending}
@@ -19,8 +18,10 @@ use Rattle.hierarchy_file.specs.declared.head.Counts.{Counts}
 use Rattle.hierarchy_file.specs.declared.fault.HFileFault.{HFileFault}
 use Rattle.hierarchy_file.specs.declared.fault.HFileFault.TheVariants.{Trailing}
 use Rattle.hierarchy_file.specs.Spelling.{magic, counts_text, hierarchy_counts, node_in_bytes, entry_text, witness_text, records_text, hierarchy_text, HasSpelling, FitEightBytes, FitsRow, FitsWalk, key_of_entry, key_of_witness, pair_cmp, three_cmp}
-use Rattle.hierarchy_file.specs.Reading.{number_front, next_node, entry_front, witness_at, many_ascending, behind_magic, counts_at, head_at, with_witnesses, with_entries, with_order, hierarchy_records, whole_hierarchy, of_head, hierarchy_of, GivesHierarchy}
-use Rattle.hierarchy_file.proofs.FieldLaws.{IsBytes, IsBytes-drop, Takes, Takes-then, and_then, wide64, number_takes, number_again}
+use Rattle.hierarchy_file.specs.Reading.{next_node, entry_front, witness_at, many_ascending, behind_magic, counts_at, head_at, with_witnesses, with_entries, with_order, hierarchy_records, whole_hierarchy, of_head, hierarchy_of, GivesHierarchy}
+use Rattle.file_records.specs.Numbers.{number_front}
+use Rattle.file_records.proofs.Steps.{and_then}
+use Rattle.file_records.proofs.NumberLaws.{IsBytes, Takes, Takes-then, begins_with, wide64, number_takes, number_again}
 use Rattle.hierarchy_file.proofs.ManyLaws.{many_takes, many_again, ascending_from, follow_from}
 use Rattle.hierarchy_file.specs.Causes.{itself, NextPair, NextThree}
 use Rattle.hierarchy_file.proofs.RecordLaws.{nodes_take, nodes_again, entry_takes, entry_again, witness_takes, witness_again}
@@ -56,18 +57,11 @@ counts_again c rest fits =
     (and_then (number_front w64 (entries ++ (witnesses ++ rest))) _ (c.entries, witnesses ++ rest) (Some (c, rest)) (number_again w64 (2 ^ 64) wide64 c.entries (witnesses ++ rest) fits.entries)
     (and_then (number_front w64 (witnesses ++ rest)) _ (c.witnesses, rest) (Some (c, rest)) (number_again w64 (2 ^ 64) wide64 c.witnesses rest fits.witnesses) refl))
 
-same_bytes : (xs ys : List ℕ) → bytes_eq xs ys ≡ true → xs ≡ ys
-same_bytes xs ys e = (bytes_eq-Decides xs ys).0 e
-
 magic_takes : (bytes rest : List ℕ) → IsBytes bytes → behind_magic bytes ≡ Some rest → Takes bytes magic rest
 unfolding behind_magic
 magic_takes bytes rest fits e =
     let g = cond_some (bytes_eq (take (length magic) bytes) magic) (drop (length magic) bytes) rest e in
-    let front : take (length magic) bytes ≡ magic = same_bytes (take (length magic) bytes) magic g.0 in
-    record {
-      parts = sym (take-append-drop (length magic) bytes) ∙ ap (λ t. t ++ drop (length magic) bytes) front ∙ ap (λ t. magic ++ t) g.1;
-      rest_fits = subst IsBytes g.1 (IsBytes-drop (length magic) bytes fits);
-    }
+    subst (Takes bytes magic) g.1 (begins_with magic bytes fits g.0)
 
 magic_again : (rest : List ℕ) → behind_magic (magic ++ rest) ≡ Some rest
 unfolding behind_magic

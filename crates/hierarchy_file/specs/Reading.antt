@@ -1,14 +1,14 @@
 -- Reading from left to right, up to the first record that may not stand where it does.
-use Rattle.std.specs.Prelude.{◌≡◌, ℕ, zero, suc, ◌-◌, ◌^◌, ◌==◌, ◌&&◌, nat_lt, Bool, true, List, [], ◌∷◌, length, take, drop, Option, Some, None, option_and_then, Result, Ok, Err, if◌then◌else◌}
+use Rattle.std.specs.Prelude.{◌≡◌, ℕ, zero, suc, ◌-◌, ◌^◌, ◌==◌, ◌&&◌, nat_lt, Bool, true, List, [], length, take, drop, Option, Some, None, option_and_then, Result, Ok, Err, if◌then◌else◌}
 use Rattle.std.specs.Str.{bytes_eq}
-use Rattle.std.specs.Int.{Width, w32, w64, byte_len, from_be_bytes}
+use Rattle.std.specs.Int.{w32, w64}
 use Rattle.std.specs.Ordering.{is_lt}
 use Rattle.std.specs.declared.cmp.Ordering.{Ordering}
+use Rattle.file_records.specs.Numbers.{number_front}
+use Rattle.file_records.specs.Reading.{with_first}
 use Rattle.hierarchy.specs.declared.entry.Entry.{Entry}
 use Rattle.hierarchy.specs.Lists.{HierarchyLists, WitnessLists}
 use Rattle.hierarchy_file.specs.declared.head.Counts.{Counts}
-use Rattle.hierarchy_file.specs.declared.fault.Halt.{Halt}
-use Rattle.hierarchy_file.specs.declared.fault.Halt.TheVariants.{Memory, Left}
 use Rattle.hierarchy_file.specs.declared.fault.HFileFault.{HFileFault}
 use Rattle.hierarchy_file.specs.declared.fault.HFileFault.TheVariants.{BadHead, BadRecord, Trailing, OutOfMemory}
 use Rattle.hierarchy_file.specs.Spelling.{magic, pair_cmp, three_cmp, key_of_entry, key_of_witness}
@@ -18,9 +18,6 @@ abbrev pub ◌>>=◌ : {A B : Type 0} → Option A → (A → Option B) → Opti
 o >>= f = option_and_then f o
 
 -- ---- one record: its value and the bytes behind it, or none where it is cut short or breaks its rule
-
-abbrev pub number_front : Width → List ℕ → Option (ℕ × List ℕ)
-number_front w bytes = if nat_lt (length bytes) (byte_len w) then None else Some (from_be_bytes w (take (byte_len w) bytes), drop (byte_len w) bytes)
 
 unfoldable pub node_at : List ℕ → Option (ℕ × List ℕ)
 node_at bytes = do
@@ -45,10 +42,6 @@ entry_front before bytes = do
   if is_after pair_cmp before (from.0, to.0) then Some (record { from = from.0; to = to.0; weight = weight.0; via = via }, middle.1) else None
 
 -- ---- records in a row
-
-abbrev pub with_first : {X : Type 0} → X → Result (List X × List ℕ) ℕ → Result (List X × List ℕ) ℕ
-with_first x (Ok others) = Ok (x ∷ others.0, others.1)
-with_first x (Err left) = Err left
 
 abbrev pub record_then : {X : Type 0} → (X → List ℕ → Result (List X × List ℕ) ℕ) → ℕ → Option (X × List ℕ) → Result (List X × List ℕ) ℕ
 record_then others left None = Err left
@@ -121,14 +114,8 @@ of_head len (Some head) = whole_hierarchy len (hierarchy_records head.0 head.1)
 unfoldable pub hierarchy_of : List ℕ → Result HierarchyLists HFileFault
 hierarchy_of bytes = of_head (length bytes) (head_at bytes)
 
--- ---- what a function returned, seen by view, is what reading gives, unless memory ran out
+-- ---- what a function returned is what reading gives, unless memory ran out
 
-abbrev pub Gives : {X Y : Type 0} → (X → Y) → Result X Halt → Result Y ℕ → Type 0
-Gives view (Ok x) read = read ≡ Ok (view x)
-Gives view (Err Memory) read = Unit {0}
-Gives view (Err (Left left)) read = read ≡ Err left
-
--- the same of a fault of the whole
 abbrev pub GivesHierarchy : Result HierarchyLists HFileFault → Result HierarchyLists HFileFault → Type 0
 GivesHierarchy (Ok h) read = read ≡ Ok h
 GivesHierarchy (Err OutOfMemory) read = Unit {0}

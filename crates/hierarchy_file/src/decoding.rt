@@ -1,20 +1,22 @@
 //! From bytes to a hierarchy.
 
 ghost use Rattle.std.specs.Prelude.{◌≡◌, Ok, IfOk, IfErr};
+ghost use Rattle.file_records.specs.Reading.{GivesRead};
 ghost use Rattle.hierarchy.specs.Lists.{HierarchyLists};
 ghost use Rattle.hierarchy_file.specs.Causes.{HasCause, IsRefusedHierarchy, SpellHierarchy};
-ghost use Rattle.hierarchy_file.specs.Reading.{Gives, GivesHierarchy, hierarchy_records, hierarchy_of};
+ghost use Rattle.hierarchy_file.specs.Reading.{GivesHierarchy, hierarchy_records, hierarchy_of};
 
-use crate::fault::{HFileFault, Halt};
+use crate::fault::HFileFault;
 use crate::head::{Counts, head_at};
 use crate::records::{entries_of, read_nodes, witnesses_of};
+use file_records::Halt;
 use hierarchy::{Hierarchy, Lists};
 use std::alloc::Global;
 
 /// All records, and the bytes behind them.
 #[tactic(auto, unfolding(crate::specs::Reading::hierarchy_records))]
 fn records_of(alloc: Global, counts: Counts, bytes: &[u8]) -> Result<(Lists, &[u8]), Halt>
-    ensures { Gives (λ x. (x.0, x.1.now)) result (hierarchy_records counts bytes.now) }
+    ensures { GivesRead (λ x. (x.0, x.1.now)) result (hierarchy_records counts bytes.now) }
 {
     let mut order = Vec::new(alloc);
     let rest = read_nodes(&mut order, counts.order, bytes)?;
@@ -48,6 +50,7 @@ fn lists_of(alloc: Global, bytes: &[u8]) -> Result<Lists, HFileFault>
     }
 }
 
+/// The hierarchy that the bytes spell, with its tables.
 fn read(alloc: Global, bytes: &[u8]) -> Result<Hierarchy, HFileFault>
     ensures { GivesHierarchy result (hierarchy_of bytes.now) }
 {

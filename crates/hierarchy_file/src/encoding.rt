@@ -6,11 +6,12 @@ ghost use Rattle.hierarchy_file.specs.Spelling.{node_in_bytes, entry_text, witne
 ghost use Rattle.hierarchy_file.specs.Causes.{SpellHierarchy};
 
 use crate::head::{Counts, push_head};
-use crate::numbers::{push_u32, push_u64};
 use crate::records::NO_MIDDLE;
+use file_records::{push_u32, push_u64};
 use hierarchy::{Entry, Lists, Sizes, Witness, Witnesses};
 use std::alloc::{AllocError, Global};
 
+/// The numbers of nodes, one behind the other.
 fn push_nodes(out: &mut Vec<u8>, nodes: &[u32]) -> Result<(), AllocError>
     ensures { OnOk result (out.new.items ≡ out.old.items ++ flat_map node_in_bytes nodes.now) }
 {
@@ -20,6 +21,7 @@ fn push_nodes(out: &mut Vec<u8>, nodes: &[u32]) -> Result<(), AllocError>
     Ok(())
 }
 
+/// The number that stands for the middle node of an entry, or for none.
 fn middle_number(via: Option<u32>) -> u32
     ensures { result ≡ middle_number via }
 {
@@ -29,6 +31,7 @@ fn middle_number(via: Option<u32>) -> u32
     }
 }
 
+/// The record of an entry.
 fn push_entry(out: &mut Vec<u8>, entry: Entry) -> Result<(), AllocError>
     ensures text { OnOk result (out.new.items ≡ out.old.items ++ entry_text entry) }
     ensures fit { OnOk result (entry.weight < 2 ^ 64) }
@@ -39,6 +42,7 @@ fn push_entry(out: &mut Vec<u8>, entry: Entry) -> Result<(), AllocError>
     push_u32(out, middle_number(entry.via))
 }
 
+/// The records of the entries.
 fn push_entries(out: &mut Vec<u8>, entries: &[Entry]) -> Result<(), AllocError>
     ensures text { OnOk result (out.new.items ≡ out.old.items ++ flat_map entry_text entries.now) }
     ensures fit { OnOk result (All (λ entry. entry.weight < 2 ^ 64) entries.now) }
@@ -49,6 +53,7 @@ fn push_entries(out: &mut Vec<u8>, entries: &[Entry]) -> Result<(), AllocError>
     Ok(())
 }
 
+/// The record of a witness, which counts its nodes before them.
 fn push_witness(out: &mut Vec<u8>, witness: &Witness<'_>) -> Result<(), AllocError>
     ensures text { OnOk result (out.new.items ≡ out.old.items ++ witness_text witness.now) }
     ensures fit { OnOk result (length witness.now.nodes < 2 ^ 64) }
@@ -59,6 +64,7 @@ fn push_witness(out: &mut Vec<u8>, witness: &Witness<'_>) -> Result<(), AllocErr
     Ok(())
 }
 
+/// The records of the witnesses.
 fn push_witnesses(out: &mut Vec<u8>, witnesses: &Witnesses) -> Result<(), AllocError>
     ensures text { OnOk result (out.new.items ≡ out.old.items ++ flat_map witness_text witnesses.now) }
     ensures fit { OnOk result (All (λ witness. length witness.nodes < 2 ^ 64) witnesses.now) }

@@ -2,9 +2,8 @@
 
 ghost use Rattle.std.specs.Prelude.{◌≡◌};
 ghost use Rattle.hierarchy_file.specs.declared.fault.HFileFault.TheVariants.{OutOfMemory};
-ghost use Rattle.hierarchy_file.specs.declared.fault.Halt.TheVariants.{Memory};
 
-use std::alloc::{AllocError, AllocFailed};
+use std::alloc::AllocError;
 
 /// The first thing that is wrong with the bytes of a hierarchy.
 #[derive(Clone, Copy, Debug, PartialEq, Eq)]
@@ -24,29 +23,5 @@ impl From<AllocError> for HFileFault {
 
     fn from(_error: AllocError) -> HFileFault {
         HFileFault::OutOfMemory
-    }
-}
-
-/// Why the reading of records stopped.
-#[derive(Clone, Copy, Debug, PartialEq, Eq)]
-pub enum Halt {
-    Memory,
-    /// So many bytes were left where the record begins that may not stand there.
-    Left(u64),
-}
-
-impl From<AllocError> for Halt {
-    ghost from_gives = { λ _ halt. halt ≡ Memory };
-
-    fn from(_error: AllocError) -> Halt {
-        Halt::Memory
-    }
-}
-
-impl<T: Drop> From<AllocFailed<T>> for Halt {
-    ghost from_gives = { λ _ halt. halt ≡ Memory };
-
-    fn from(_error: AllocFailed<T>) -> Halt {
-        Halt::Memory
     }
 }

@@ -4,7 +4,7 @@ ghost use Rattle.std.specs.Prelude.{◌≡◌, ◌++◌, option_map, OnOk};
 ghost use Rattle.hierarchy_file.specs.Spelling.{magic, counts_text};
 ghost use Rattle.hierarchy_file.specs.Reading.{behind_magic, counts_at, head_at};
 
-use crate::numbers::{push_u64, u64_at};
+use file_records::{push_u64, u64_front};
 use std::alloc::AllocError;
 
 /// What the bytes of a hierarchy begin with.
@@ -26,13 +26,14 @@ fn behind_magic(bytes: &[u8]) -> Option<&[u8]>
     bytes.strip_prefix(MAGIC)
 }
 
+/// How many records of each kind follow.
 #[tactic(auto, unfolding(crate::specs::Reading::counts_at))]
 fn counts_at(bytes: &[u8]) -> Option<(Counts, &[u8])>
     ensures { option_map (λ x. (x.0, x.1.now)) result ≡ counts_at bytes.now }
 {
-    let (order, rest) = u64_at(bytes)?;
-    let (entries, rest) = u64_at(rest)?;
-    let (witnesses, rest) = u64_at(rest)?;
+    let (order, rest) = u64_front(bytes)?;
+    let (entries, rest) = u64_front(rest)?;
+    let (witnesses, rest) = u64_front(rest)?;
     Some((
         Counts {
             order,
@@ -52,6 +53,7 @@ pub(crate) fn head_at(bytes: &[u8]) -> Option<(Counts, &[u8])>
     counts_at(rest)
 }
 
+/// The head: the magic, and how many records of each kind follow.
 pub(crate) fn push_head(out: &mut Vec<u8>, counts: Counts) -> Result<(), AllocError>
     ensures { OnOk result (out.new.items ≡ out.old.items ++ (magic ++ counts_text counts)) }
 {

@@ -5,7 +5,6 @@ mod decoding;
 mod encoding;
 pub mod fault;
 pub mod head;
-mod numbers;
 mod records;
 
 pub use decoding::{decode, decode_lists};

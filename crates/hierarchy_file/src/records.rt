@@ -1,11 +1,11 @@
 //! The records of a hierarchy, read one after the other.
 
 ghost use Rattle.std.specs.Prelude.{◌≡◌, ℕ, option_map, IfOk};
+ghost use Rattle.file_records.specs.Reading.{GivesRead};
 ghost use Rattle.hierarchy_file.specs.Spelling.{key_of_entry, key_of_witness, pair_cmp, three_cmp};
-ghost use Rattle.hierarchy_file.specs.Reading.{Gives, node_at, next_node, middle_of, entry_front, witness_at, many_ascending, is_after};
+ghost use Rattle.hierarchy_file.specs.Reading.{node_at, next_node, middle_of, entry_front, witness_at, many_ascending, is_after};
 
-use crate::fault::Halt;
-use crate::numbers::{u32_at, u64_at};
+use file_records::{Halt, u32_front, u64_front};
 use hierarchy::{Entry, Witness, Witnesses};
 use std::alloc::{AllocError, Global};
 
@@ -20,7 +20,7 @@ pub(crate) const NO_MIDDLE: u32 = 0xffff_ffff;
 fn node_at(bytes: &[u8]) -> Option<(u32, &[u8])>
     ensures { option_map (λ x. (x.0, x.1.now)) result ≡ node_at bytes.now }
 {
-    let (node, rest) = u32_at(bytes)?;
+    let (node, rest) = u32_front(bytes)?;
     if node < NODES {
         Some((node, rest))
     } else {
@@ -69,8 +69,8 @@ fn entry_at(before: Option<(u32, u32)>, bytes: &[u8]) -> Option<(Entry, &[u8])>
 {
     let (from, rest) = node_at(bytes)?;
     let (to, rest) = node_at(rest)?;
-    let (weight, rest) = u64_at(rest)?;
-    let (middle, rest) = u32_at(rest)?;
+    let (weight, rest) = u64_front(rest)?;
+    let (middle, rest) = u32_front(rest)?;
     let via = middle_of(middle)?;
     if pair_is_after(before, (from, to)) {
         Some((
@@ -93,7 +93,7 @@ pub(crate) fn read_nodes<'a>(
     count: u64,
     bytes: &'a [u8],
 ) -> Result<&'a [u8], Halt>
-    ensures { Gives (λ rest. (nodes.new.items, rest.now)) result (many_ascending next_node (λ (v : ℕ). v) count
+    ensures { GivesRead (λ rest. (nodes.new.items, rest.now)) result (many_ascending next_node (λ (v : ℕ). v) count
         None bytes.now) }
 {
     nodes.clear();
@@ -114,7 +114,7 @@ pub(crate) fn entries_of(
     count: u64,
     bytes: &[u8],
 ) -> Result<(Vec<Entry>, &[u8]), Halt>
-    ensures { Gives (λ x. (x.0.items, x.1.now)) result (many_ascending entry_front key_of_entry count None
+    ensures { GivesRead (λ x. (x.0.items, x.1.now)) result (many_ascending entry_front key_of_entry count None
         bytes.now) }
 {
     let mut entries = Vec::new(alloc);
@@ -144,7 +144,7 @@ fn witness_at<'a>(
     let Some((below, rest)) = node_at(bytes) else {
         return Ok(None);
     };
-    let Some((count, rest)) = u64_at(rest) else {
+    let Some((count, rest)) = u64_front(rest) else {
         return Ok(None);
     };
     match read_nodes(nodes, count, rest) {
@@ -167,7 +167,7 @@ pub(crate) fn witnesses_of(
     count: u64,
     bytes: &[u8],
 ) -> Result<(Witnesses, &[u8]), Halt>
-    ensures { Gives (λ x. (x.0, x.1.now)) result (many_ascending witness_at key_of_witness count None
+    ensures { GivesRead (λ x. (x.0, x.1.now)) result (many_ascending witness_at key_of_witness count None
         bytes.now) }
 {
     let mut witnesses = Witnesses::new(alloc);

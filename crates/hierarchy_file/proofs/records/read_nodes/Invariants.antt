@@ -1,6 +1,6 @@
 use Rattle.std.proofs.Common.{◌≡◌, ℕ, ◌-◌, None}
 use Rattle.hierarchy_file.specs.Reading.{many_ascending, next_node}
-use Rattle.hierarchy_file.proofs.LoopLemmas.{with_front}
+use Rattle.file_records.proofs.RowLaws.{with_front}
 use Rattle.hierarchy_file.proofs.records.read_nodes.Given as goal
 
 abbrev pub invariant-loop : goal.invariant-loop

@@ -1,7 +1,7 @@
 use Rattle.std.proofs.Common.{◌≡◌, ◌-◌, None}
 use Rattle.hierarchy_file.specs.Spelling.{key_of_witness}
 use Rattle.hierarchy_file.specs.Reading.{many_ascending, witness_at}
-use Rattle.hierarchy_file.proofs.LoopLemmas.{with_front}
+use Rattle.file_records.proofs.RowLaws.{with_front}
 use Rattle.hierarchy_file.proofs.records.witnesses_of.Given as goal
 
 abbrev pub invariant-loop : goal.invariant-loop
