@@ -9,7 +9,8 @@ use Rattle.search_laws.proofs.WalkLemmas.{walk_rises, walk_known}
 use Rattle.product_search.specs.declared.label.Label.{Label}
 use Rattle.product_search.specs.Reach.{IsBefore}
 use Rattle.product_search.specs.Listed.{label_of, IsBelow, AreAscendingLabels}
-use Rattle.product_search.specs.Closed.{IsListedBy, IsInOrderAt, ArcIsListed, HoldsBelow, IsClosed, NoneArrivesBefore}
+use Rattle.search_laws.specs.Firsts.{HoldsBelow}
+use Rattle.product_search.specs.Closed.{IsListedBy, IsInOrderAt, ArcIsListed, IsClosed, NoneArrivesBefore}
 use Rattle.product_search.proofs.CheckLemmas.{label_total}
 use Rattle.product_search.proofs.StartLemmas.{pairs_contain}
 

@@ -1,9 +1,9 @@
--- The check of a list of labels: a label is found by halving, and each clause at its first failing place.
-use Rattle.std.proofs.Common.{◌≡◌, ℕ, ◌<◌, ◌≤◌, Bool, false, List, length, get_or, Less, Equal, Greater, inl, inr, sym, ◌∙◌, ap, subst, arith}
+-- A label is found in a list by halving.
+use Rattle.std.proofs.Common.{◌≡◌, ℕ, ◌<◌, ◌≤◌, Bool, List, length, get_or, Less, Equal, Greater, inl, inr, sym, ◌∙◌, ap, subst, arith}
 use Rattle.std.specs.Prelude.{IsTrue, Contains, ◌↔◌}
 use Rattle.std.specs.Cmp.{IsTotalOrder}
 use Rattle.std.specs.Ordering.{nat_cmp, ordering_reverse}
-use Rattle.std.proofs.lemmas.Bool.{false≢true, cases_lt, cases_order}
+use Rattle.std.proofs.lemmas.Bool.{cases_lt, cases_order}
 use Rattle.std.proofs.lemmas.Bool.Decides.{nat_tests}
 use Rattle.std.proofs.lemmas.Cmp.{then_total, on_total, nat_cmp_total}
 use Rattle.std.proofs.lemmas.List.{get_or_default}
@@ -11,14 +11,7 @@ use Rattle.std.proofs.lemmas.List.Elements.{Contains-get_or}
 use Rattle.std.proofs.lemmas.Map.Lookups.{exact_pairs, exact_unsigned}
 use Rattle.product_search.specs.declared.label.Label.{Label}
 use Rattle.product_search.specs.Listed.{label_of, label_cmp, AreAscendingLabels}
-use Rattle.product_search.specs.Closed.{IsListedBy, HoldsBelow, FailsFirstAt}
-
--- ---- the first place where a test fails
-
-pub fails_here : (n : ℕ) (P : ℕ → Type 0) (k : ℕ) (b : Bool) → k < n → (IsTrue b ↔ P k) → b ≡ false → HoldsBelow k P → FailsFirstAt n P k
-fails_here n P k b lt test no_pass before = record { place = lt; fails = λ holds. false≢true (sym no_pass ∙ test.1 holds); before = before }
-
--- ---- halving
+use Rattle.product_search.specs.Closed.{IsListedBy}
 
 pub label_total : IsTotalOrder label_cmp
 label_total = then_total (on_total (λ (x : Label). x.node) nat_cmp_total) (on_total (λ (x : Label). x.state) nat_cmp_total)

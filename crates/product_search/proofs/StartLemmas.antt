@@ -9,7 +9,8 @@ use Rattle.std.proofs.Math.Seq.{get_or-append_seam}
 use Rattle.product_search.specs.Reach.{IsBefore}
 use Rattle.search_laws.specs.LabelLaws.{LabelsMeaning}
 use Rattle.product_search.specs.declared.label.Label.{Label}
-use Rattle.product_search.specs.Closed.{start_states, pairs_at, start_pairs, IsPairListed, AllListed, FailsAt, StartIsListedAt, HoldsBelow, FailsFirstAt}
+use Rattle.search_laws.specs.Firsts.{HoldsBelow, FailsFirstAt}
+use Rattle.product_search.specs.Closed.{start_states, pairs_at, start_pairs, IsPairListed, AllListed, FailsAt, StartIsListedAt}
 
 -- ---- the start states below a number
 

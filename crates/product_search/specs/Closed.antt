@@ -1,5 +1,6 @@
 -- When a list of labels is closed: then no accepted walk reaches a target before the arrival that it goes with.
 use Rattle.std.specs.Prelude.{◌≡◌, ℕ, zero, suc, ◌-◌, ◌<◌, ◌≤◌, ◌⊎◌, List, [], ◌∷◌, ◌++◌, map, length, slice_index_or, Option, Some, MatchOption, IsTrue, Contains, All, if◌then◌else◌}
+use Rattle.search_laws.specs.Firsts.{HoldsBelow, FailsFirstAt}
 use Rattle.search_laws.specs.GraphLaws.{GraphMeaning}
 use Rattle.search_laws.specs.LabelLaws.{LabelsMeaning, AllAfter}
 use Rattle.search_laws.specs.Walks.{ArrivesAt}
@@ -65,20 +66,11 @@ ArcsAreListedAt g l arrival list k = (d : Label) → ArcsAreListed g l arrival l
 
 -- ---- all four
 
-abbrev pub HoldsBelow : ℕ → (ℕ → Type 0) → Type 0
-HoldsBelow n P = (k : ℕ) → k < n → P k
-
 pub record IsClosed (g : GraphMeaning) (l : LabelsMeaning) (starts targets : List ℕ) (dep : ℕ) (arrival : Option ℕ) (list : List Label) : Type 0 where
   pub in_order : HoldsBelow (length list) (IsInOrderAt g l arrival list)
   pub starts_listed : HoldsBelow (length (start_pairs l starts)) (StartIsListedAt l starts dep arrival list)
   pub no_end : HoldsBelow (length list) (IsNoEndAt l targets list)
   pub arcs_listed : HoldsBelow (length list) (ArcsAreListedAt g l arrival list)
-
--- P fails at k, and at no place before
-pub record FailsFirstAt (n : ℕ) (P : ℕ → Type 0) (k : ℕ) : Type 0 where
-  pub place : k < n
-  pub fails : P k → ⊥
-  pub before : HoldsBelow k P
 
 -- The list is closed; or the clause is the least that fails, at its least place.
 abbrev pub IsVerdict : GraphMeaning → LabelsMeaning → List ℕ → List ℕ → ℕ → Option ℕ → List Label → LabelVerdict → Type 0

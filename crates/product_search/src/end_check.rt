@@ -1,7 +1,8 @@
 //! Clause 8: no label stands at a target in an accepting state.
 
 ghost use Rattle.std.specs.Prelude.{◌<◌, ◌↔◌, All, IsTrue, MatchOption, length};
-ghost use Rattle.product_search.specs.Closed.{IsNoEnd, IsNoEndAt, HoldsBelow, FailsFirstAt};
+ghost use Rattle.search_laws.specs.Firsts.{HoldsBelow, FailsFirstAt};
+ghost use Rattle.product_search.specs.Closed.{IsNoEnd, IsNoEndAt};
 
 use crate::label::Label;
 use search_laws::Labels;

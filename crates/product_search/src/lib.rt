@@ -40,9 +40,7 @@ pub use label::{Best, Found, FoundWithCount, Hop, Label, Walk};
 pub use limit::{Limited, stops_are_due};
 pub use machine::Machine;
 pub use question::Question;
-pub use searching::{
-    search, search_best_with, search_counted_with, search_counted_within, search_within,
-};
+pub use searching::{search, search_best_with, search_counted_within, search_within};
 pub use targets::TargetTable;
 pub use verdict::LabelVerdict;
 pub use workspace::Workspace;

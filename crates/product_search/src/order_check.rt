@@ -2,7 +2,8 @@
 
 ghost use Rattle.std.specs.Prelude.{◌<◌, ◌↔◌, IsTrue, MatchOption, length};
 ghost use Rattle.product_search.specs.Listed.{IsBelow};
-ghost use Rattle.product_search.specs.Closed.{IsInOrderAt, IsInRange, HoldsBelow, FailsFirstAt};
+ghost use Rattle.search_laws.specs.Firsts.{HoldsBelow, FailsFirstAt};
+ghost use Rattle.product_search.specs.Closed.{IsInOrderAt, IsInRange};
 
 use crate::label::Label;
 use crate::listing::is_before;

@@ -75,23 +75,8 @@ pub fn search_within<G: Graph, L: Labels>(
     }))
 }
 
-/// The same as [`search`] with the count of the labels in place of these, with lists and a table that are kept for the next search.
-/// Where a search fails, the next one makes new ones.
-pub fn search_counted_with<G: Graph, L: Labels>(
-    alloc: Global,
-    workspace: &mut Workspace,
-    question: &Question<'_, G, L>,
-) -> Result<FoundWithCount, AllocError>
-    ensures arrival { IfOk result (λ f. FindsArrival (question_of question.now) f.arrival) }
-    ensures walk { IfOk result (λ f. FindsWalk (question_of question.now) f.arrival f.walk) }
-    ensures labels { IfOk result (λ f. CountsLabels (question_of question.now) f.arrival f.labels) }
-    ensures time { IfOk result (λ f. IfSome f.arrival (λ t. t ≤ last_time question.now.dep)) }
-{
-    let found = search_counted_within(alloc, workspace, question, None)?;
-    Ok(found.into_answer())
-}
-
-/// The same as [`search_counted_with`], but given up as [`search_within`] is.
+/// The same as [`search_within`] with the count of the labels in place of these, with lists and a table that are kept for the
+/// next search. Where a search fails, the next one makes new ones.
 pub fn search_counted_within<G: Graph, L: Labels>(
     alloc: Global,
     workspace: &mut Workspace,
@@ -128,7 +113,8 @@ pub fn search_counted_within<G: Graph, L: Labels>(
     }))
 }
 
-/// The same as [`search_counted_with`] without the count.
+/// The same as [`search`] without the labels, with lists and a table that are kept for the next search. Where a search fails,
+/// the next one makes new ones.
 pub fn search_best_with<G: Graph, L: Labels>(
     alloc: Global,
     workspace: &mut Workspace,

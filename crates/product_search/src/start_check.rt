@@ -2,7 +2,8 @@
 
 ghost use Rattle.std.specs.Prelude.{◌≡◌, ◌<◌, ◌≤◌, ◌^◌, length, IfOk, IfErr, MatchOption};
 ghost use Rattle.product_search.specs.Listed.{AreAscendingLabels};
-ghost use Rattle.product_search.specs.Closed.{start_states, start_pairs, pairs_at, AllListed, FailsAt, StartIsListedAt, HoldsBelow, FailsFirstAt};
+ghost use Rattle.search_laws.specs.Firsts.{HoldsBelow, FailsFirstAt};
+ghost use Rattle.product_search.specs.Closed.{start_states, start_pairs, pairs_at, AllListed, FailsAt, StartIsListedAt};
 
 use crate::label::Label;
 use crate::listing::is_before;

@@ -1,5 +1,6 @@
 use Rattle.std.proofs.Common.{◌-◌}
-use Rattle.product_search.specs.Closed.{ArcIsListed, HoldsBelow}
+use Rattle.search_laws.specs.Firsts.{HoldsBelow}
+use Rattle.product_search.specs.Closed.{ArcIsListed}
 use Rattle.product_search.proofs.arc_check.arcs_are_listed.Given as goal
 
 abbrev pub invariant-arcs : goal.invariant-arcs

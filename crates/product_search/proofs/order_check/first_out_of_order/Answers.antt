@@ -1,6 +1,6 @@
 use Rattle.std.proofs.Common.{length, below_more}
 use Rattle.product_search.specs.Closed.{IsInOrderAt}
-use Rattle.product_search.proofs.CheckLemmas.{fails_here}
+use Rattle.search_laws.proofs.FirstLemmas.{fails_here}
 use Rattle.product_search.proofs.order_check.first_out_of_order.Goals as goal
 
 pub returns-then-not-is_in_order_at : goal.returns-then-not-is_in_order_at
