@@ -8,6 +8,7 @@ mod chains;
 mod checking;
 mod claim;
 mod end_check;
+mod ends;
 mod explore;
 mod frontier;
 mod item_heap;

@@ -71,16 +71,18 @@ pub(crate) fn passed(limit: Option<u64>, count: u64) -> Option<u64>
     }
 }
 
-/// The limit, if there is one and more than that is settled before a time. It is counted only where the pace says so too.
+/// The limit, if there is one and more than that is settled before a time, at which one more is settled. Only where the pace says
+/// so are the labels counted, and without a limit nothing is.
 pub(crate) fn passed_before(
     limit: Option<u64>,
-    pace: u64,
+    pace: &mut Pace,
     frontier: &Frontier,
     at: Time,
 ) -> Option<u64>
     ensures { IfSome result (λ most. (limit ≡ Some most) × HasMoreSettled frontier.now at most) }
 {
-    passed(limit, pace)?;
+    limit?;
+    passed(limit, pace.count(at))?;
     passed(limit, count_labels(frontier, Some(at)))
 }
 

@@ -6,6 +6,7 @@ ghost use Rattle.std.specs.Ordering.{nat_cmp};
 ghost use Rattle.product_search.specs.Questions.{question_of};
 ghost use Rattle.product_search.specs.inside.Searching.{IsExploredWithin, end_arrival};
 
+use crate::ends::Ends;
 use crate::explore::explore;
 use crate::frontier::{Frontier, Settled};
 use crate::limit::{Limited, Pace, passed_before};
@@ -15,7 +16,6 @@ use crate::start::offer_starts;
 use crate::workspace::Workspace;
 use search_laws::{GivenRuns, Graph, Labels, Time};
 use std::alloc::{AllocError, Global};
-use std::collections::BTreeSet;
 
 /// What a search has settled, and the end that it has come to, if any, unless it was given up.
 #[derive(Drop)]
@@ -35,7 +35,7 @@ pub(crate) fn settle_all<G: Graph, L: Labels>(
     ensures { IfOk result (λ e. IsExploredWithin (question_of question.now) limit e.frontier e.end) }
 {
     let labels = &question.machine.labels;
-    let ends = set_of(alloc, question.targets)?;
+    let ends = Ends::of(alloc, question.targets)?;
     let mut frontier = Frontier::new(
         alloc,
         workspace,
@@ -59,8 +59,7 @@ pub(crate) fn settle_all<G: Graph, L: Labels>(
                 end: Limited::Ended(Some(settled)),
             });
         }
-        let before = pace.count(settled.at);
-        if let Some(most) = passed_before(limit, before, &frontier, settled.at) {
+        if let Some(most) = passed_before(limit, &mut pace, &frontier, settled.at) {
             return Ok(Explored {
                 frontier,
                 end: Limited::Stopped(most),
@@ -82,17 +81,10 @@ pub(crate) fn arrival_of(end: Option<Settled>) -> Option<Time>
 }
 
 /// Whether a product state is a target in an accepting state.
-fn is_end<L: Labels>(labels: &L, ends: &BTreeSet<u32>, settled: Settled) -> bool
+fn is_end<L: Labels>(labels: &L, ends: &Ends, settled: Settled) -> bool
     requires { settled.state < (L.automaton labels.now).states }
     ensures { result ≡ ((L.automaton labels.now).accepts settled.state && sorted.contains nat_cmp ends.now
         settled.node) }
 {
-    labels.accepts(settled.state) && ends.contains(&settled.node)
-}
-
-/// The nodes of a list, to be looked up.
-fn set_of(alloc: Global, nodes: &[u32]) -> Result<BTreeSet<u32>, AllocError>
-    ensures { IfOk result (sorted.IsFromIterResult nat_cmp nodes.now) }
-{
-    nodes.iter().copied().collect(alloc)
+    labels.accepts(settled.state) && ends.contains(settled.node)
 }
