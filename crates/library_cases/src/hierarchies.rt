@@ -7,8 +7,8 @@ ghost use Rattle.witness.specs.Rows.{AreEdgeRows, IsEdgeOf};
 use crate::parts;
 use case_script::{Answer, Script, words};
 use contractor::{Progress, contract};
-use hierarchy::Hierarchy;
-use hierarchy_file::{decode, encode};
+use hierarchy::{Hierarchy, Lists, Sizes};
+use hierarchy_file::{decode, decode_lists, encode};
 use mode_network::Network;
 use std::alloc::{AllocError, Global};
 use witness::{Edge, Workspace, find};
@@ -18,14 +18,23 @@ use witness::{Edge, Workspace, find};
 pub fn hierarchy(out: &mut Answer, script: &Script, words: &[u8]) {
     let bytes = script.text(parts::word(words, 0));
     match decode(out.alloc(), bytes) {
-        Ok(h) => print_hierarchy(out, &h, bytes, parts::node(words, 1)),
+        Ok(h) => {
+            print_spelled(out, bytes);
+            print_hierarchy(out, &h, parts::node(words, 1));
+        }
         Err(fault) => out.debug("", &fault),
     }
 }
 
-fn print_hierarchy(out: &mut Answer, h: &Hierarchy, bytes: &[u8], count: u32) {
-    let same = parts::is_text(encode(out.alloc(), h), bytes);
-    out.shown("written as the same bytes: ", same);
+/// Whether the lists that the bytes spell are written as the same bytes.
+fn print_spelled(out: &mut Answer, bytes: &[u8]) {
+    if let Ok(lists) = decode_lists(out.alloc(), bytes) {
+        let same = parts::is_text(encode(out.alloc(), lists), bytes);
+        out.shown("written as the same bytes: ", same);
+    }
+}
+
+fn print_hierarchy(out: &mut Answer, h: &Hierarchy, count: u32) {
     for v in 0..count {
         print_node(out, h, v);
     }
@@ -70,7 +79,7 @@ fn print_pair(out: &mut Answer, h: &Hierarchy, u: u32, v: u32) {
 struct Silent;
 
 impl Progress for Silent {
-    fn told(&mut self, _contracted: u64, _of: u64, _entries: u64) {}
+    fn told(&mut self, _sizes: Sizes, _of: u64) {}
 }
 
 /// `contracted REGION KEEP`: the order in which a contraction that keeps so many nodes takes the others, and how many entries are
@@ -86,7 +95,7 @@ pub fn contracted(out: &mut Answer, network: &Network, keep: &[u8]) {
 }
 
 /// How many entries are shortcuts.
-fn shortcuts(h: &Hierarchy) -> usize {
+fn shortcuts(h: &Lists) -> usize {
     let mut shortcuts = 0usize;
     for entry in h.entries() {
         if entry.via.is_some() {
