@@ -6,4 +6,6 @@ pub mod halt;
 mod numbers;
 
 pub use halt::Halt;
-pub use numbers::{i32_front, i64_front, push_i32, push_i64, push_u32, push_u64, u32_front, u64_front};
+pub use numbers::{
+    i32_front, i64_front, push_i32, push_i64, push_u32, push_u64, u32_front, u64_front,
+};
