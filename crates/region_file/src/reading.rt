@@ -1,6 +1,6 @@
 //! From records to the parts of a network.
 
-ghost use Rattle.std.specs.Prelude.{◌≡◌, ◌++◌, ◌∷◌, [], OnOk};
+ghost use Rattle.std.specs.Prelude.{◌≡◌, ◌++◌, ◌∷◌, [], ℕ, List, Option, OnOk, option_map};
 ghost use Rattle.mode_network.specs.declared.nodes.NodeKey.TheVariants.{Stop};
 ghost use Rattle.region_file.specs.Fronts.{arc_front, call_front, road_front, switch_front};
 ghost use Rattle.file_records.specs.Reading.{GivesRead, one};
@@ -16,68 +16,89 @@ use service_days::Days;
 use std::alloc::{AllocError, Global};
 use timetable_arcs::{Call, Trip};
 
-/// So many road nodes.
-fn roads_of(alloc: Global, count: u32, bytes: &[u8]) -> Result<(Vec<Node>, &[u8]), Halt>
-    ensures { GivesRead (λ x. (x.0.items, x.1.now)) result (many (one road_front) count bytes.now) }
-{
-    let mut roads = Vec::new(alloc);
-    let mut rest = bytes;
-    for _ in 0..count {
-        let Some((road, behind)) = fronts::road_front(rest) else {
-            return Err(Halt::Left(rest.len() as u64));
-        };
-        roads.push(road)?;
-        rest = behind;
-    }
-    Ok((roads, rest))
+/// A kind of records, each of which is read by itself.
+trait RecordKind {
+    /// What a record tells.
+    type Row: Drop;
+
+    /// What the record at the front of bytes tells, and the bytes behind it.
+    ghost told: { List ℕ → Option (Self.Row × List ℕ) };
+
+    /// What the record at the front of the bytes tells, and the bytes behind it; `None` exactly where none stands there.
+    fn front(bytes: &[u8]) -> Option<(Self::Row, &[u8])>
+        ensures { option_map (λ x. (x.0, x.1.now)) result ≡ told bytes.now };
 }
 
-/// So many switches.
-fn switches_of(alloc: Global, count: u32, bytes: &[u8]) -> Result<(Vec<Node>, &[u8]), Halt>
-    ensures { GivesRead (λ x. (x.0.items, x.1.now)) result (many (one switch_front) count bytes.now) }
-{
-    let mut switches = Vec::new(alloc);
-    let mut rest = bytes;
-    for _ in 0..count {
-        let Some((switch, behind)) = fronts::switch_front(rest) else {
-            return Err(Halt::Left(rest.len() as u64));
-        };
-        switches.push(switch)?;
-        rest = behind;
+/// Records of road nodes.
+struct RoadRecords;
+
+impl RecordKind for RoadRecords {
+    type Row = Node;
+
+    ghost told = { road_front };
+
+    fn front(bytes: &[u8]) -> Option<(Node, &[u8])> {
+        fronts::road_front(bytes)
     }
-    Ok((switches, rest))
 }
 
-/// So many road arcs or links.
-fn arcs_of(alloc: Global, count: u32, bytes: &[u8]) -> Result<(Vec<Arc>, &[u8]), Halt>
-    ensures { GivesRead (λ x. (x.0.items, x.1.now)) result (many (one arc_front) count bytes.now) }
-{
-    let mut arcs = Vec::new(alloc);
-    let mut rest = bytes;
-    for _ in 0..count {
-        let Some((arc, behind)) = fronts::arc_front(rest) else {
-            return Err(Halt::Left(rest.len() as u64));
-        };
-        arcs.push(arc)?;
-        rest = behind;
+/// Records of switches.
+struct SwitchRecords;
+
+impl RecordKind for SwitchRecords {
+    type Row = Node;
+
+    ghost told = { switch_front };
+
+    fn front(bytes: &[u8]) -> Option<(Node, &[u8])> {
+        fronts::switch_front(bytes)
     }
-    Ok((arcs, rest))
 }
 
-/// So many calls.
-fn calls_of(alloc: Global, count: u32, bytes: &[u8]) -> Result<(Vec<Call>, &[u8]), Halt>
-    ensures { GivesRead (λ x. (x.0.items, x.1.now)) result (many (one call_front) count bytes.now) }
+/// Records of road arcs or links.
+struct ArcRecords;
+
+impl RecordKind for ArcRecords {
+    type Row = Arc;
+
+    ghost told = { arc_front };
+
+    fn front(bytes: &[u8]) -> Option<(Arc, &[u8])> {
+        fronts::arc_front(bytes)
+    }
+}
+
+/// Records of calls.
+struct CallRecords;
+
+impl RecordKind for CallRecords {
+    type Row = Call;
+
+    ghost told = { call_front };
+
+    fn front(bytes: &[u8]) -> Option<(Call, &[u8])> {
+        fronts::call_front(bytes)
+    }
+}
+
+/// So many records of a kind.
+fn rows_of<K: RecordKind>(
+    alloc: Global,
+    count: u32,
+    bytes: &[u8],
+) -> Result<(Vec<K::Row>, &[u8]), Halt>
+    ensures { GivesRead (λ x. (x.0.items, x.1.now)) result (many (one K.told) count bytes.now) }
 {
-    let mut calls = Vec::new(alloc);
+    let mut rows = Vec::new(alloc);
     let mut rest = bytes;
     for _ in 0..count {
-        let Some((call, behind)) = fronts::call_front(rest) else {
+        let Some((row, behind)) = K::front(rest) else {
             return Err(Halt::Left(rest.len() as u64));
         };
-        calls.push(call)?;
+        rows.push(row)?;
         rest = behind;
     }
-    Ok((calls, rest))
+    Ok((rows, rest))
 }
 
 /// A trip and its calls.
@@ -88,7 +109,7 @@ fn trip_of(alloc: Global, bytes: &[u8]) -> Result<(Trip, &[u8]), Halt>
     let Some(((mut trip, count), rest)) = fronts::trip_front(alloc, bytes)? else {
         return Err(Halt::Left(bytes.len() as u64));
     };
-    let (calls, behind) = calls_of(alloc, count, rest)?;
+    let (calls, behind) = rows_of::<CallRecords>(alloc, count, rest)?;
     trip.calls = calls;
     Ok((trip, behind))
 }
@@ -161,11 +182,11 @@ pub fn parts_of(
 ) -> Result<(Parts, &[u8]), Halt>
     ensures { GivesRead (λ x. (x.0, x.1.now)) result (network_records days counts bytes.now) }
 {
-    let (roads, rest) = roads_of(alloc, counts.roads, bytes)?;
+    let (roads, rest) = rows_of::<RoadRecords>(alloc, counts.roads, bytes)?;
     let (stops, rest) = stops_of(alloc, counts.stops, rest)?;
-    let (switches, rest) = switches_of(alloc, counts.switches, rest)?;
-    let (arcs, rest) = arcs_of(alloc, counts.arcs, rest)?;
-    let (links, rest) = arcs_of(alloc, counts.links, rest)?;
+    let (switches, rest) = rows_of::<SwitchRecords>(alloc, counts.switches, rest)?;
+    let (arcs, rest) = rows_of::<ArcRecords>(alloc, counts.arcs, rest)?;
+    let (links, rest) = rows_of::<ArcRecords>(alloc, counts.links, rest)?;
     let (trips, behind) = trips_of(alloc, counts.trips, rest)?;
     let Stops {
         names: stop_names,
