@@ -1,4 +1,4 @@
-use Rattle.std.proofs.Common.{◌≡◌, ℕ, List, Ok, refl, arith}
+use Rattle.std.proofs.Common.{◌≡◌, Ok, refl, arith}
 use Rattle.hierarchy.specs.Lists.{HierarchyLists}
 use Rattle.hierarchy_file.specs.Reading.{hierarchy_records}
 use Rattle.hierarchy_file.proofs.WholeLaws.{rules_read}
