@@ -1,6 +1,6 @@
 -- The laws of what the lines of a text make, for every kind of certificates.
-use Rattle.std.proofs.Common.{◌≡◌, ℕ, List, map, refl, ap, ◌∙◌, Bool, true, false, Option, inl, inr}
-use Rattle.std.specs.Prelude.{Some, Result, Ok, Err, fold, IfErr}
+use Rattle.std.proofs.Common.{◌≡◌, ℕ, List, map, refl, ap, subst, ◌∙◌, Bool, true, false, Option, inl, inr}
+use Rattle.std.specs.Prelude.{Some, Result, Ok, Err, fold, IfOk, IfErr}
 use Rattle.std.specs.List.{AllByRecursion}
 use Rattle.plain_texts.specs.Lines.{IsLine, pieces, lines_text}
 use Rattle.plain_texts.specs.Course.{Course, whole, bad, trailing, lines_from, run_on, IsWhole}
@@ -12,6 +12,14 @@ use Rattle.certificate.specs.Making.{made_by, Gives, IsCause}
 
 pub same_Ok : {A E : Type 0} (x y : A) → ◌≡◌ {A = Result A E} (Ok x) (Ok y) → x ≡ y
 same_Ok x y e = cc
+
+-- what is read has what all that is spelled so has, and what is spelled so is read
+pub gives_found : {M : Type 0} (P : M → Type 0) (defined : Result M CertFault) → ((m : M) → defined ≡ Ok m → P m) → (r : Result M CertFault) → Gives r defined → IfOk r P
+gives_found P defined found (Ok m) e = found m e
+gives_found P defined found (Err fault) e = tt
+
+pub gives_only : {M : Type 0} (defined : Result M CertFault) (r : Result M CertFault) → Gives r defined → (m : M) → defined ≡ Ok m → Gives r (Ok m)
+gives_only defined r e m is = subst (λ x. Gives r x) is e
 
 module _ {L P M : Type 0} (spell : L → List ℕ) (Fits : L → Type 0) (after : P → L → Option P) (is_last : P → Bool) (line_at : P → List ℕ → Option (L × P))
     (reads : ReadsLines spell Fits after is_last line_at) (first : P) (going : is_last first ≡ false) (put : M → L → M) (nothing : M) where

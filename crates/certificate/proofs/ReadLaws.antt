@@ -1,6 +1,6 @@
 -- What the bytes of a certificate spell: the laws of the whole.
 use Rattle.std.proofs.Common.{◌≡◌, ℕ, List, [], ◌∷◌, ◌++◌, map, refl, ap, sym, ◌∙◌, subst, Bool, true, false, cond}
-use Rattle.std.specs.Prelude.{Option, Some, None, Result, Ok, Err, All, fold, codes, IfOk, IfErr}
+use Rattle.std.specs.Prelude.{Option, Some, None, Result, Ok, Err, All, fold, codes, IfErr}
 use Rattle.std.specs.List.{AllByRecursion, slice_split, onto_first}
 use Rattle.std.proofs.lemmas.List.Elements.{All-nil, All-cons, All-append, All-drop}
 use Rattle.plain_texts.specs.Lines.{IsLine, is_feed, pieces, spaced}
@@ -19,12 +19,12 @@ use Rattle.certificate.specs.declared.lines.Line.TheVariants as line
 use Rattle.certificate.specs.declared.due.Due.TheVariants as due
 use Rattle.certificate.specs.Certificates.{Claim}
 use Rattle.certificate.specs.Lines.{FitsLine, FitsStep, HasLabelTime, spelled}
-use Rattle.certificate.specs.Sections.{due_behind, is_last, line_at}
+use Rattle.certificate.specs.Sections.{due_behind, is_last}
 use Rattle.certificate.specs.Texts.{FitsCertificate, FitsResult, IsCertText, cert_lines, cert_text, label_lines, result_lines}
-use Rattle.certificate.specs.Reading.{HasCause, cert_of, nothing, put}
+use Rattle.certificate.specs.Reading.{HasCause, cert_meaning, cert_of, nothing, put}
 use Rattle.certificate.proofs.FitLemmas.{both_parts, of_both}
 use Rattle.certificate.proofs.Making.{made_of, read_again, cause_is, gives_cause as gives_cause_by}
-use Rattle.certificate.specs.Making.{made_by, Gives}
+use Rattle.certificate.specs.Making.{made_by, Gives, line_at}
 use Rattle.certificate.proofs.KindLaws.{IsInWords, words_are_words}
 use Rattle.certificate.proofs.SectionLaws.{reads_lines}
 use Rattle.certificate.proofs.Again.{made_again, runs_to_end}
@@ -72,10 +72,10 @@ fits c h query =
     record { line = query; result = result_fits c.result parts.0; labels = labels_have_times c.labels labels.0 }
 
 -- What is read is spelled so.
-found : (bytes : List ℕ) (c : Claim) → cert_of bytes ≡ Ok c → IsCertText bytes c
+pub found : (bytes : List ℕ) (c : Claim) → cert_of bytes ≡ Ok c → IsCertText bytes c
 unfolding cert_of cert_text
 found bytes c e =
-    let (ls, h, makes) = made_of spelled FitsLine due_behind is_last line_at reads_lines due.Head refl put nothing bytes c e in
+    let (ls, h, makes) = made_of spelled FitsLine due_behind is_last (line_at cert_meaning) reads_lines due.Head refl put nothing bytes c e in
     let cert = cert_is ls h.place h.runs h.last in
     let made : cert.0 ≡ c = sym (made_again cert.0) ∙ ap (fold put nothing) (sym cert.1) ∙ makes in
     let lines : ls ≡ cert_lines c = cert.1 ∙ ap cert_lines made in
@@ -110,23 +110,16 @@ all_lines c query h =
 pub again : (bytes : List ℕ) (c : Claim) → IsCertText bytes c → cert_of bytes ≡ Ok c
 unfolding cert_of cert_text
 again bytes c h =
-    ap (λ x. made_by put nothing (lines_from line_at is_last due.Head 1 (pieces x))) h.spelled
-    ∙ read_again spelled FitsLine due_behind is_last line_at reads_lines due.Head refl put nothing (cert_lines c) due.Nothing (runs_to_end c) refl h.lines (all_lines c h.fits.line h.lines)
+    ap (λ x. made_by put nothing (lines_from (line_at cert_meaning) is_last due.Head 1 (pieces x))) h.spelled
+    ∙ read_again spelled FitsLine due_behind is_last (line_at cert_meaning) reads_lines due.Head refl put nothing (cert_lines c) due.Nothing (runs_to_end c) refl h.lines (all_lines c h.fits.line h.lines)
     ∙ ap Ok (made_again c)
 
--- The clauses of read, from what it gives.
-pub gives_found : (bytes : List ℕ) (r : Result Claim CertFault) → Gives r (cert_of bytes) → IfOk r (IsCertText bytes)
-gives_found bytes (Ok c) e = found bytes c e
-gives_found bytes (Err fault) e = tt
-
-pub gives_only : (bytes : List ℕ) (r : Result Claim CertFault) → Gives r (cert_of bytes) → (c : Claim) → IsCertText bytes c → Gives r (Ok c)
-gives_only bytes r e c h = subst (λ x. Gives r x) (again bytes c h) e
-
+-- Each refusal has its cause.
 pub gives_cause : (bytes : List ℕ) (r : Result Claim CertFault) → Gives r (cert_of bytes) → IfErr r (HasCause bytes)
 unfolding cert_of
-gives_cause = gives_cause_by spelled FitsLine due_behind is_last line_at reads_lines due.Head refl put nothing
+gives_cause = gives_cause_by spelled FitsLine due_behind is_last (line_at cert_meaning) reads_lines due.Head refl put nothing
 
 -- a line that is the first which may not stand is named
 pub bad_line_is : (bytes : List ℕ) (line : ℕ) → HasCause bytes (BadLine line) → cert_of bytes ≡ Err (BadLine line)
 unfolding cert_of
-bad_line_is = cause_is spelled FitsLine due_behind is_last line_at reads_lines due.Head refl put nothing
+bad_line_is = cause_is spelled FitsLine due_behind is_last (line_at cert_meaning) reads_lines due.Head refl put nothing

@@ -12,9 +12,9 @@ use Rattle.certificate.specs.Certificates.{Claim}
 use Rattle.certificate.specs.Lines.{spelled}
 use Rattle.certificate.specs.Texts.{cert_text, front_lines, label_lines, result_lines}
 
-pub lines_append : (xs ys : List Line) → lines_text (map spelled (xs ++ ys)) ≡ lines_text (map spelled xs) ++ lines_text (map spelled ys)
-lines_append [] ys = refl
-lines_append (x ∷ xs) ys = ap (λ t. with_feed (spelled x) ++ t) (lines_append xs ys) ∙ sym (append_assoc (with_feed (spelled x)) (lines_text (map spelled xs)) (lines_text (map spelled ys)))
+pub lines_append : {L : Type 0} (spell : L → List ℕ) (xs ys : List L) → lines_text (map spell (xs ++ ys)) ≡ lines_text (map spell xs) ++ lines_text (map spell ys)
+lines_append spell [] ys = refl
+lines_append spell (x ∷ xs) ys = ap (λ t. with_feed (spell x) ++ t) (lines_append spell xs ys) ∙ sym (append_assoc (with_feed (spell x)) (lines_text (map spell xs)) (lines_text (map spell ys)))
 
 -- lines that are made alike
 pub made_alike : {X : Type 0} (f : X → Line) (xs : List X) → flat_map (λ x. with_feed (spelled (f x))) xs ≡ lines_text (map spelled (map f xs))
@@ -30,10 +30,10 @@ steps_text t node at steps = ap (λ x. with_feed (spelled (line.Arrive t)) ++ (w
 
 pub rest_text : (labels : List Label) → lines_text (map spelled (label_lines labels)) ≡ with_feed (spelled (line.Labels (length labels))) ++ (flat_map (λ label. with_feed (spelled (line.Label label))) labels ++ with_feed (codes "end"))
 unfolding spaced
-rest_text labels = ap (λ x. with_feed (spelled (line.Labels (length labels))) ++ x) (lines_append (map line.Label labels) (line.End ∷ []) ∙ ap (λ x. x ++ with_feed (codes "end")) (sym (made_alike line.Label labels)))
+rest_text labels = ap (λ x. with_feed (spelled (line.Labels (length labels))) ++ x) (lines_append spelled (map line.Label labels) (line.End ∷ []) ∙ ap (λ x. x ++ with_feed (codes "end")) (sym (made_alike line.Label labels)))
 
 pub whole_text : (c : Claim) → cert_text c ≡ lines_text (map spelled (front_lines c.line c.phases)) ++ (lines_text (map spelled (result_lines c.result)) ++ lines_text (map spelled (label_lines c.labels)))
 unfolding cert_text
 whole_text c =
-    lines_append (front_lines c.line c.phases) (result_lines c.result ++ label_lines c.labels)
-    ∙ ap (λ x. lines_text (map spelled (front_lines c.line c.phases)) ++ x) (lines_append (result_lines c.result) (label_lines c.labels))
+    lines_append spelled (front_lines c.line c.phases) (result_lines c.result ++ label_lines c.labels)
+    ∙ ap (λ x. lines_text (map spelled (front_lines c.line c.phases)) ++ x) (lines_append spelled (result_lines c.result) (label_lines c.labels))

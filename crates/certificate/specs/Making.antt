@@ -1,7 +1,7 @@
 -- What the lines of a text make, one put after the other; and what is wrong with bytes that make nothing. For every kind of certificates.
-use Rattle.std.specs.Prelude.{◌≡◌, ℕ, ◌⊎◌, List, Bool, Option, Result, Ok, Err, fold}
+use Rattle.std.specs.Prelude.{◌≡◌, ℕ, ◌⊎◌, List, Bool, Option, Result, Ok, Err, fold, option_and_then, option_map}
 use Rattle.plain_texts.specs.Lines.{pieces}
-use Rattle.plain_texts.specs.Course.{Course, whole, bad, trailing, IsFirstBad, IsTrailing}
+use Rattle.plain_texts.specs.Course.{Course, whole, bad, trailing, lines_from, IsFirstBad, IsTrailing}
 use Rattle.certificate.specs.declared.verdict.CertFault.{CertFault}
 use Rattle.certificate.specs.declared.verdict.CertFault.TheVariants.{BadLine, OutOfMemory}
 
@@ -10,6 +10,24 @@ abbrev pub made_by : {L M : Type 0} → (M → L → M) → M → Course L → R
 made_by put nothing (whole lines) = Ok (fold put nothing lines)
 made_by put nothing (bad at) = Err (BadLine at)
 made_by put nothing (trailing at) = Err (BadLine at)
+
+-- What the texts of a kind of certificates are read by: the line that a text spells; what is due behind a line, if it may stand at a place; which place
+-- is the last, and what is due first; the certificate that says nothing yet, and what it is with one line more.
+pub record LinedMeaning (L P M : Type 0) : Type 0 where
+  pub line_of : List ℕ → Option L
+  pub due_behind : P → L → Option P
+  pub is_last : P → Bool
+  pub first : P
+  pub nothing : M
+  pub put : M → L → M
+
+-- the line that a text spells, if it may stand here, and what is due behind it
+unfoldable pub line_at : {L P M : Type 0} → LinedMeaning L P M → P → List ℕ → Option (L × P)
+line_at kind place text = option_and_then (λ l. option_map (λ next. (l, next)) (kind.due_behind place l)) (kind.line_of text)
+
+-- what bytes spell: a certificate of the kind, or the first line that may not stand where it does
+abbrev pub reading : {L P M : Type 0} → LinedMeaning L P M → List ℕ → Result M CertFault
+reading kind bytes = made_by kind.put kind.nothing (lines_from (line_at kind) kind.is_last kind.first 1 (pieces bytes))
 
 -- What a function returned is what is defined, unless memory ran out.
 abbrev pub Gives : {M : Type 0} → Result M CertFault → Result M CertFault → Type 0

@@ -1,17 +1,17 @@
 -- What the lines of a certificate text make, and what is wrong with bytes that are no certificate.
 use Rattle.std.specs.Prelude.{ℕ, List, [], ◌∷◌, ◌++◌, Some, None, option_map, Result, false}
-use Rattle.plain_texts.specs.Lines.{pieces}
-use Rattle.plain_texts.specs.Course.{lines_from}
 use Rattle.mode_network.specs.declared.steps.Step.{Step}
 use Rattle.mode_network.specs.Journeys.{Route}
 use Rattle.certificate.specs.declared.verdict.CertFault.{CertFault}
 use Rattle.certificate.specs.declared.lines.Line.{Line}
 use Rattle.certificate.specs.declared.lines.Line.TheVariants as line
+use Rattle.certificate.specs.declared.due.Due.{Due}
 use Rattle.certificate.specs.declared.due.Due.TheVariants as due
 use Rattle.certificate.specs.Certificates.{Claim}
+use Rattle.certificate.specs.Kinds.{line_of}
 use Rattle.certificate.specs.Lines.{FitsLine, spelled}
-use Rattle.certificate.specs.Making.{made_by, IsCause}
-use Rattle.certificate.specs.Sections.{due_behind, is_last, line_at}
+use Rattle.certificate.specs.Making.{IsCause, LinedMeaning, reading}
+use Rattle.certificate.specs.Sections.{due_behind, is_last}
 
 -- no line yet
 abbrev pub nothing : Claim
@@ -37,9 +37,13 @@ put c (line.Labels count) = c
 put c (line.Label label) = record c { labels = c.labels ++ label ∷ [] }
 put c line.End = c
 
+-- what certificates are read by
+abbrev pub cert_meaning : LinedMeaning Line Due Claim
+cert_meaning = record { line_of = line_of; due_behind = due_behind; is_last = is_last; first = due.Head; nothing = nothing; put = put }
+
 -- what bytes spell: a certificate, or the first line that may not stand where it does
 unfoldable pub cert_of : List ℕ → Result Claim CertFault
-cert_of bytes = made_by put nothing (lines_from line_at is_last due.Head 1 (pieces bytes))
+cert_of bytes = reading cert_meaning bytes
 
 -- Why bytes are refused.
 abbrev pub HasCause : List ℕ → CertFault → Type 0

@@ -1,11 +1,10 @@
 -- Which line may stand where: the head, the query line and the graph; the arrival, the start and the steps of a journey, or that there is none; the
 -- count of the labels, and exactly so many; and the end.
-use Rattle.std.specs.Prelude.{ℕ, ◌-◌, List, Bool, true, false, Option, Some, None, option_and_then, option_map, nat_lt, nat_eq, if◌then◌else◌}
+use Rattle.std.specs.Prelude.{◌-◌, Bool, true, false, Option, Some, None, nat_lt, nat_eq, if◌then◌else◌}
 use Rattle.certificate.specs.declared.lines.Line.{Line}
 use Rattle.certificate.specs.declared.lines.Line.TheVariants as line
 use Rattle.certificate.specs.declared.due.Due.{Due}
 use Rattle.certificate.specs.declared.due.Due.TheVariants as due
-use Rattle.certificate.specs.Kinds.{line_of}
 
 -- what is due behind a line, if the line may stand here
 abbrev pub due_behind : Due → Line → Option Due
@@ -26,7 +25,3 @@ due_behind _ _ = None
 abbrev pub is_last : Due → Bool
 is_last due.Nothing = true
 is_last _ = false
-
--- the line that a text spells, if it may stand here, and what is due behind it
-unfoldable pub line_at : Due → List ℕ → Option (Line × Due)
-line_at place text = option_and_then (λ l. option_map (λ next. (l, next)) (due_behind place l)) (line_of text)

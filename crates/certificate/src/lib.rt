@@ -6,6 +6,7 @@ pub mod claimed;
 pub mod due;
 pub mod kinds;
 mod laws;
+pub mod line_by_line;
 pub mod lines;
 pub mod printing;
 mod reading;

@@ -203,10 +203,10 @@ fn mark_move(step: Move, letter: u8, set: &mut [bool])
     }
 }
 
-/// Whether a move is by the letter. Letters are below [`LETTERS`].
+/// Whether a move is by this letter, if it is one: letters are below [`LETTERS`].
 fn has_letter(step: Move, letter: u8) -> bool
     requires { IsLetterSet step.letters }
     ensures { IsTrue result ↔ IsBitSet step.letters letter }
 {
-    letter < LETTERS as u8 && step.letters & (1 << letter) != 0
+    letter < LETTERS as u8 && step.has_letter(letter)
 }

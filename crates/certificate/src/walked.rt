@@ -3,12 +3,11 @@
 ghost use Rattle.std.specs.Prelude.{◌≡◌, ◌<◌, ◌++◌, [], List, ℕ, All, option_to_list};
 ghost use Rattle.search_laws.specs.Times.{time_bound};
 ghost use Rattle.journey.specs.Ends.{HasTime, HasTimes};
-ghost use Rattle.journey.specs.Rides.{KeepsRules};
 ghost use Rattle.certificate.specs.StateSets.{AreAfter};
 ghost use Rattle.certificate.specs.Walked.{IsWalkedThrough};
 
 use crate::state_sets::StateSets;
-use journey::{StepEnd, step_end};
+use journey::{StepEnd, keeps_rules, step_end};
 use mode_network::{Journey, Network, Step};
 use plan_base::Time;
 use search_laws::Labels;
@@ -36,14 +35,6 @@ impl Walked {
         self.node = end.node;
         self.at = end.at;
     }
-}
-
-/// The rules that each network keeps.
-fn keeps_rules(network: &Network)
-    ensures { KeepsRules network.now }
-{
-    network.known();
-    network.days().known();
 }
 
 /// Walks a journey; or answers the place of its first step that is none.

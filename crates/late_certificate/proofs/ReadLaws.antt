@@ -1,6 +1,6 @@
 -- What the bytes of a late certificate spell: the laws of the whole.
 use Rattle.std.proofs.Common.{◌≡◌, ℕ, List, [], ◌∷◌, ◌++◌, map, refl, ap, sym, ◌∙◌, subst, arith}
-use Rattle.std.specs.Prelude.{Option, Some, None, Result, Ok, Err, codes, fold, IfOk, IfErr}
+use Rattle.std.specs.Prelude.{Option, Some, None, Result, Ok, Err, codes, fold, IfErr}
 use Rattle.std.specs.List.{AllByRecursion}
 use Rattle.plain_texts.specs.Lines.{IsLine, pieces}
 use Rattle.plain_texts.specs.Course.{lines_from}
@@ -15,7 +15,7 @@ use Rattle.certificate.specs.Lines as usual_lines
 use Rattle.certificate.specs.Texts.{label_lines}
 use Rattle.certificate.proofs.FitLemmas.{both_parts, of_both}
 use Rattle.certificate.proofs.Making.{made_of, read_again, cause_is, gives_cause as gives_cause_by}
-use Rattle.certificate.specs.Making.{made_by, Gives}
+use Rattle.certificate.specs.Making.{made_by, Gives, line_at}
 use Rattle.certificate.proofs.KindLaws.{IsInWords}
 use Rattle.certificate.proofs.ReadLaws.{pieces_are_lines, query_is_line, query_line, steps_have_times, labels_have_times, mapped_in_words, each_is_line as usual_are_lines}
 use Rattle.latest_departure.specs.ValidLate.{LateClaim}
@@ -24,9 +24,9 @@ use Rattle.late_certificate.specs.declared.lines.Line.TheVariants as line
 use Rattle.late_certificate.specs.declared.due.Due.TheVariants as due
 use Rattle.certificate.specs.declared.due.Due.TheVariants as usual_due
 use Rattle.late_certificate.specs.Lines.{FitsLine, spelled}
-use Rattle.late_certificate.specs.Sections.{due_behind, is_last, line_at}
+use Rattle.late_certificate.specs.Sections.{due_behind, is_last}
 use Rattle.late_certificate.specs.Texts.{FitsLate, FitsLateResult, IsLateText, late_lines, late_text, result_lines}
-use Rattle.late_certificate.specs.Reading.{HasCause, late_of, nothing, put}
+use Rattle.late_certificate.specs.Reading.{HasCause, late_meaning, late_of, nothing, put}
 use Rattle.late_certificate.proofs.SectionLaws.{reads_lines}
 use Rattle.late_certificate.proofs.Again.{made_again, runs_to_end}
 use Rattle.late_certificate.proofs.Found.{late_is}
@@ -44,10 +44,10 @@ fits c h query =
     record { line = query; result = result_fits c.result parts.0; labels = labels_have_times c.labels labels.0 }
 
 -- What is read is spelled so.
-found : (bytes : List ℕ) (c : LateClaim) → late_of bytes ≡ Ok c → IsLateText bytes c
+pub found : (bytes : List ℕ) (c : LateClaim) → late_of bytes ≡ Ok c → IsLateText bytes c
 unfolding late_of late_text
 found bytes c e =
-    let (ls, h, makes) = made_of spelled FitsLine due_behind is_last line_at reads_lines due.Head refl put nothing bytes c e in
+    let (ls, h, makes) = made_of spelled FitsLine due_behind is_last (line_at late_meaning) reads_lines due.Head refl put nothing bytes c e in
     let cert = late_is ls h.place h.runs h.last in
     let made : cert.0 ≡ c = sym (made_again cert.0) ∙ ap (fold put nothing) (sym cert.1) ∙ makes in
     let lines : ls ≡ late_lines c = cert.1 ∙ ap late_lines made in
@@ -92,23 +92,16 @@ all_lines c query h =
 pub again : (bytes : List ℕ) (c : LateClaim) → IsLateText bytes c → late_of bytes ≡ Ok c
 unfolding late_of late_text
 again bytes c h =
-    ap (λ x. made_by put nothing (lines_from line_at is_last due.Head 1 (pieces x))) h.spelled
-    ∙ read_again spelled FitsLine due_behind is_last line_at reads_lines due.Head refl put nothing (late_lines c) (due.Usual usual_due.Nothing) (runs_to_end c) refl h.lines (all_lines c h.fits.line h.lines)
+    ap (λ x. made_by put nothing (lines_from (line_at late_meaning) is_last due.Head 1 (pieces x))) h.spelled
+    ∙ read_again spelled FitsLine due_behind is_last (line_at late_meaning) reads_lines due.Head refl put nothing (late_lines c) (due.Usual usual_due.Nothing) (runs_to_end c) refl h.lines (all_lines c h.fits.line h.lines)
     ∙ ap Ok (made_again c)
 
--- The clauses of read, from what it gives.
-pub gives_found : (bytes : List ℕ) (r : Result LateClaim CertFault) → Gives r (late_of bytes) → IfOk r (IsLateText bytes)
-gives_found bytes (Ok c) e = found bytes c e
-gives_found bytes (Err fault) e = tt
-
-pub gives_only : (bytes : List ℕ) (r : Result LateClaim CertFault) → Gives r (late_of bytes) → (c : LateClaim) → IsLateText bytes c → Gives r (Ok c)
-gives_only bytes r e c h = subst (λ x. Gives r x) (again bytes c h) e
-
+-- Each refusal has its cause.
 pub gives_cause : (bytes : List ℕ) (r : Result LateClaim CertFault) → Gives r (late_of bytes) → IfErr r (HasCause bytes)
 unfolding late_of
-gives_cause = gives_cause_by spelled FitsLine due_behind is_last line_at reads_lines due.Head refl put nothing
+gives_cause = gives_cause_by spelled FitsLine due_behind is_last (line_at late_meaning) reads_lines due.Head refl put nothing
 
 -- a line that is the first which may not stand is named
 pub bad_line_is : (bytes : List ℕ) (line : ℕ) → HasCause bytes (BadLine line) → late_of bytes ≡ Err (BadLine line)
 unfolding late_of
-bad_line_is = cause_is spelled FitsLine due_behind is_last line_at reads_lines due.Head refl put nothing
+bad_line_is = cause_is spelled FitsLine due_behind is_last (line_at late_meaning) reads_lines due.Head refl put nothing

@@ -1,5 +1,5 @@
 -- The text of a late certificate, part by part.
-use Rattle.std.proofs.Common.{◌≡◌, ℕ, List, [], ◌∷◌, ◌++◌, map, refl, ap, sym, ◌∙◌, append_assoc}
+use Rattle.std.proofs.Common.{◌≡◌, ℕ, List, [], ◌∷◌, ◌++◌, map, refl, ap, sym, ◌∙◌}
 use Rattle.std.specs.Prelude.{codes}
 use Rattle.std.specs.List.{AllByRecursion, flat_map}
 use Rattle.std.proofs.lemmas.List.{append-nil}
@@ -9,16 +9,11 @@ use Rattle.certificate.specs.declared.lines.Line.{Line as UsualLine}
 use Rattle.certificate.specs.declared.lines.Line.TheVariants as usual
 use Rattle.certificate.specs.Lines as usual_lines
 use Rattle.certificate.specs.Texts.{label_lines}
-use Rattle.certificate.proofs.TextLemmas.{made_alike}
+use Rattle.certificate.proofs.TextLemmas.{lines_append, made_alike}
 use Rattle.latest_departure.specs.ValidLate.{LateClaim}
-use Rattle.late_certificate.specs.declared.lines.Line.{Line}
 use Rattle.late_certificate.specs.declared.lines.Line.TheVariants as line
 use Rattle.late_certificate.specs.Lines.{FitsLine, spelled}
 use Rattle.late_certificate.specs.Texts.{front_lines, late_text, result_lines}
-
-lines_append : (xs ys : List Line) → lines_text (map spelled (xs ++ ys)) ≡ lines_text (map spelled xs) ++ lines_text (map spelled ys)
-lines_append [] ys = refl
-lines_append (x ∷ xs) ys = ap (λ t. with_feed (spelled x) ++ t) (lines_append xs ys) ∙ sym (append_assoc (with_feed (spelled x)) (lines_text (map spelled xs)) (lines_text (map spelled ys)))
 
 -- lines that any certificate may have are spelled as they are there, and say what they may say there
 usual_text : (ls : List UsualLine) → lines_text (map spelled (map line.Usual ls)) ≡ lines_text (map usual_lines.spelled ls)
@@ -46,6 +41,6 @@ steps_text j =
 pub whole_text : (c : LateClaim) → late_text c ≡ lines_text (map spelled (front_lines c.line)) ++ (lines_text (map spelled (result_lines c.result)) ++ lines_text (map usual_lines.spelled (label_lines c.labels)))
 unfolding late_text
 whole_text c =
-    lines_append (front_lines c.line) (result_lines c.result ++ map line.Usual (label_lines c.labels))
-    ∙ ap (λ x. lines_text (map spelled (front_lines c.line)) ++ x) (lines_append (result_lines c.result) (map line.Usual (label_lines c.labels))
+    lines_append spelled (front_lines c.line) (result_lines c.result ++ map line.Usual (label_lines c.labels))
+    ∙ ap (λ x. lines_text (map spelled (front_lines c.line)) ++ x) (lines_append spelled (result_lines c.result) (map line.Usual (label_lines c.labels))
     ∙ ap (λ x. lines_text (map spelled (result_lines c.result)) ++ x) (usual_text (label_lines c.labels)))

@@ -1,19 +1,19 @@
 -- What the lines of a late certificate's text make, and what is wrong with bytes that are no late certificate.
 use Rattle.std.specs.Prelude.{ℕ, List, [], ◌∷◌, ◌++◌, Some, None, option_map, Result}
-use Rattle.plain_texts.specs.Lines.{pieces}
-use Rattle.plain_texts.specs.Course.{lines_from}
 use Rattle.mode_network.specs.declared.steps.Step.{Step}
 use Rattle.mode_network.specs.Journeys.{Route}
 use Rattle.certificate.specs.declared.verdict.CertFault.{CertFault}
 use Rattle.certificate.specs.declared.lines.Line.{Line as UsualLine}
 use Rattle.certificate.specs.declared.lines.Line.TheVariants as usual
-use Rattle.certificate.specs.Making.{made_by, IsCause}
+use Rattle.certificate.specs.Making.{IsCause, LinedMeaning, reading}
 use Rattle.latest_departure.specs.ValidLate.{LateClaim}
 use Rattle.late_certificate.specs.declared.lines.Line.{Line}
 use Rattle.late_certificate.specs.declared.lines.Line.TheVariants as line
+use Rattle.late_certificate.specs.declared.due.Due.{Due}
 use Rattle.late_certificate.specs.declared.due.Due.TheVariants as due
+use Rattle.late_certificate.specs.Kinds.{line_of}
 use Rattle.late_certificate.specs.Lines.{FitsLine, spelled}
-use Rattle.late_certificate.specs.Sections.{due_behind, is_last, line_at}
+use Rattle.late_certificate.specs.Sections.{due_behind, is_last}
 
 -- no line yet
 abbrev pub nothing : LateClaim
@@ -44,9 +44,13 @@ put c line.Head = c
 put c (line.Depart at) = record c { result = Some (record { start = 0; at = at; steps = [] }) }
 put c (line.Usual said) = put_usual c said
 
+-- what late certificates are read by
+abbrev pub late_meaning : LinedMeaning Line Due LateClaim
+late_meaning = record { line_of = line_of; due_behind = due_behind; is_last = is_last; first = due.Head; nothing = nothing; put = put }
+
 -- what bytes spell: a late certificate, or the first line that may not stand where it does
 unfoldable pub late_of : List ℕ → Result LateClaim CertFault
-late_of bytes = made_by put nothing (lines_from line_at is_last due.Head 1 (pieces bytes))
+late_of bytes = reading late_meaning bytes
 
 -- Why bytes are refused.
 abbrev pub HasCause : List ℕ → CertFault → Type 0

@@ -1,6 +1,6 @@
 -- Which line may stand where: the head and the query line; the departure and a start at that time, or that no journey is in time; and then what stands
 -- there in any certificate.
-use Rattle.std.specs.Prelude.{ℕ, List, Bool, false, Option, Some, None, option_and_then, option_map, nat_eq, if◌then◌else◌}
+use Rattle.std.specs.Prelude.{Bool, false, Option, Some, None, option_map, nat_eq, if◌then◌else◌}
 use Rattle.certificate.specs.declared.lines.Line.TheVariants as usual
 use Rattle.certificate.specs.declared.due.Due.TheVariants as usual_due
 use Rattle.certificate.specs.Sections as behind
@@ -8,7 +8,6 @@ use Rattle.late_certificate.specs.declared.lines.Line.{Line}
 use Rattle.late_certificate.specs.declared.lines.Line.TheVariants as line
 use Rattle.late_certificate.specs.declared.due.Due.{Due}
 use Rattle.late_certificate.specs.declared.due.Due.TheVariants as due
-use Rattle.late_certificate.specs.Kinds.{line_of}
 
 -- what is due behind a line, if the line may stand here
 abbrev pub due_behind : Due → Line → Option Due
@@ -24,7 +23,3 @@ due_behind _ _ = None
 abbrev pub is_last : Due → Bool
 is_last (due.Usual place) = behind.is_last place
 is_last _ = false
-
--- the line that a text spells, if it may stand here, and what is due behind it
-unfoldable pub line_at : Due → List ℕ → Option (Line × Due)
-line_at place text = option_and_then (λ l. option_map (λ next. (l, next)) (due_behind place l)) (line_of text)

@@ -16,25 +16,8 @@ use product_search::Limited;
 use std::alloc::{AllocError, Global};
 
 /// The late certificate of a query: a journey that starts at the latest departure, or that none is in time, and the labels of
-/// the search. It is valid, so it proves what it claims. The table of what leads to each node and the room serve many queries.
-pub fn certify_late(
-    alloc: Global,
-    room: &mut LateRoom,
-    backwards: &Backwards<'_>,
-    query: Query,
-) -> Result<LateCertificate, AllocError>
-    requires asks { IsQuery backwards.now.network query.line query.from query.to query.depart
-        (form_of query.expr) }
-    requires usable { IsUsable (form_of query.expr) }
-    requires soon { query.depart < 2 ^ 64 }
-    requires line { IsLine query.line }
-    ensures { IfOk result (IsLateCertificateOf backwards.now.network query.line) }
-{
-    let certificate = certify_late_within(alloc, room, backwards, query, None)?;
-    Ok(certificate.into_answer())
-}
-
-/// The same as [`certify_late`], but stopped where the search has more labels than the limit, if there is one, and there alone.
+/// the search. It is valid, so it proves what it claims. Where the search has more labels than the limit, if there is one, and
+/// there alone, it is stopped. The table of what leads to each node and the room serve many queries.
 pub fn certify_late_within(
     alloc: Global,
     room: &mut LateRoom,

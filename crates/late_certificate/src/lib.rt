@@ -13,7 +13,7 @@ mod records;
 mod verifying;
 
 pub use certificate::{CertFault, CertVerdict};
-pub use certifying::{certify_late, certify_late_within};
+pub use certifying::certify_late_within;
 pub use late::LateCertificate;
 pub use laws::late_verdict_is_unique;
 pub use printing::print_late;

@@ -3,23 +3,15 @@
 ghost use Rattle.std.specs.Prelude.{◌≡◌, option_map, OnOk};
 ghost use Rattle.late_certificate.specs.Reading as spec;
 
+use crate::due::Due;
+use crate::kinds::line_of;
 use crate::late::LateCertificate;
 use crate::lines::Line;
+use certificate::line_by_line::Lined;
 use certificate::lines::Line as UsualLine;
 use mode_network::{Bytes, Journey, Step};
 use plan_base::Time;
 use std::alloc::{AllocError, Global};
-
-/// A certificate that says nothing yet.
-pub(crate) fn nothing(alloc: Global) -> LateCertificate
-    ensures { result ≡ spec.nothing }
-{
-    LateCertificate {
-        line: Bytes::from(Vec::new(alloc)),
-        result: None,
-        labels: Vec::new(alloc),
-    }
-}
 
 /// Puts the start of the journey, if there is a journey.
 fn put_start(answer: &mut Option<Journey>, node: u32, at: Time)
@@ -56,24 +48,51 @@ fn put_usual(certificate: &mut LateCertificate, said: UsualLine) -> Result<(), A
     Ok(())
 }
 
-/// Puts what a line says.
-pub(crate) fn put(
-    alloc: Global,
-    certificate: &mut LateCertificate,
-    said: Line,
-) -> Result<(), AllocError>
-    ensures { OnOk result (certificate.new ≡ spec.put certificate.old said) }
-{
-    match said {
-        Line::Head => {}
-        Line::Depart(at) => {
-            certificate.result = Some(Journey {
-                start: 0,
-                at,
-                steps: Vec::new(alloc),
-            });
-        }
-        Line::Usual(said) => put_usual(certificate, said)?,
+impl Lined for LateCertificate {
+    ghost use Rattle.late_certificate.specs.Reading.{late_meaning};
+
+    type Line = Line;
+
+    type Due = Due;
+
+    ghost meaning = { late_meaning };
+
+    fn line_of(alloc: Global, text: &[u8]) -> Result<Option<Line>, AllocError> {
+        line_of(alloc, text)
     }
-    Ok(())
+
+    fn first() -> Due {
+        Due::Head
+    }
+
+    fn behind(place: Due, line: &Line) -> Option<Due> {
+        place.behind(line)
+    }
+
+    fn is_last(place: Due) -> bool {
+        place.is_last()
+    }
+
+    fn nothing(alloc: Global) -> LateCertificate {
+        LateCertificate {
+            line: Bytes::from(Vec::new(alloc)),
+            result: None,
+            labels: Vec::new(alloc),
+        }
+    }
+
+    fn put(&mut self, alloc: Global, said: Line) -> Result<(), AllocError> {
+        match said {
+            Line::Head => {}
+            Line::Depart(at) => {
+                self.result = Some(Journey {
+                    start: 0,
+                    at,
+                    steps: Vec::new(alloc),
+                });
+            }
+            Line::Usual(said) => put_usual(self, said)?,
+        }
+        Ok(())
+    }
 }

@@ -1,11 +1,17 @@
-use Rattle.certificate.proofs.ReadLaws.{gives_found, gives_only, gives_cause}
+use Rattle.certificate.proofs.Making.{gives_found, gives_only}
+use Rattle.certificate.specs.Reading.{cert_of}
+use Rattle.certificate.specs.Texts.{IsCertText}
+use Rattle.certificate.proofs.ReadLaws.{found, again, gives_cause}
 use Rattle.certificate.proofs.reading.read.Goals as goal
 
 pub returns-clause-found : goal.returns-clause-found
-returns-clause-found c = gives_found c.args.bytes.now c.read_lines.result c.read_lines.ensures
+unfolding cert_of
+returns-clause-found c = gives_found (IsCertText c.args.bytes.now) (cert_of c.args.bytes.now) (found c.args.bytes.now) c.read_lines.result c.read_lines.ensures
 
 pub returns-clause-only : goal.returns-clause-only
-returns-clause-only c = gives_only c.args.bytes.now c.read_lines.result c.read_lines.ensures
+unfolding cert_of
+returns-clause-only c = λ m h. gives_only (cert_of c.args.bytes.now) c.read_lines.result c.read_lines.ensures m (again c.args.bytes.now m h)
 
 pub returns-clause-cause : goal.returns-clause-cause
+unfolding cert_of
 returns-clause-cause c = gives_cause c.args.bytes.now c.read_lines.result c.read_lines.ensures
