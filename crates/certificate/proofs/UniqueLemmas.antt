@@ -3,6 +3,8 @@
 use Rattle.std.proofs.Common.{◌≡◌, ℕ, zero, suc, ◌<◌, ◌≤◌, ◌⊎◌, inl, inr, List, [], ◌∷◌, ◌++◌, length, take, Bool, true, Option, Some, None, if◌then◌else◌, refl, sym, ap, ap₂, subst, ◌∙◌, arith}
 use Rattle.std.specs.Prelude.{slice_index_or, is_some, Ok, Err}
 use Rattle.std.proofs.lemmas.Bool.{cases_lt}
+use Rattle.search_laws.specs.Firsts.{HoldsBelow, FailsFirstAt}
+use Rattle.search_laws.proofs.FirstLemmas.{first_once}
 use Rattle.search_laws.specs.Collapse.{collapse}
 use Rattle.search_laws.specs.GraphLaws.{GraphMeaning}
 use Rattle.search_laws.specs.LabelLaws.{LabelsMeaning, HasMove, AllAfter}
@@ -10,7 +12,7 @@ use Rattle.product_search.specs.declared.label.Label.{Label}
 use Rattle.product_search.specs.declared.verdict.LabelVerdict.{LabelVerdict}
 use Rattle.product_search.specs.declared.verdict.LabelVerdict.TheVariants.{Closed, Open}
 use Rattle.product_search.specs.Reach.{IsBefore}
-use Rattle.product_search.specs.Closed.{IsListedBy, IsInOrderAt, StartIsListedAt, IsNoEndAt, ArcsAreListedAt, start_states, start_pairs, pairs_at, HoldsBelow, FailsFirstAt, IsVerdict}
+use Rattle.product_search.specs.Closed.{IsListedBy, IsInOrderAt, StartIsListedAt, IsNoEndAt, ArcsAreListedAt, start_states, start_pairs, pairs_at, IsVerdict}
 use Rattle.mode_expression.specs.Form.{IsWordOf}
 use Rattle.automaton.specs.Written.{written}
 use Rattle.automaton.specs.States.{IsPositionAutomaton}
@@ -43,17 +45,6 @@ use Rattle.certificate.specs.declared.claimed.Goal.{Goal}
 use Rattle.certificate.specs.Claimed.{IsTimely, FailsFirstOfThree, JourneyFails, IsAsClaimed}
 use Rattle.certificate.specs.Verdicts.{goal_of, IsResultVerdict, IsCertVerdict, VerdictIsUnique, as_verdict}
 use Rattle.certificate.proofs.VerdictLemmas.{answers_as_claimed}
-
--- ---- the first place where something fails
-
-first_once : (n m : ℕ) (P Q : ℕ → Type 0) → ((k : ℕ) → k < n → P k → Q k) → ((k : ℕ) → k < m → Q k → P k) → (a b : ℕ) → FailsFirstAt n P a → FailsFirstAt m Q b → a ≡ b
-first_once n m P Q to from a b one other = elim (cases_lt a b) [
-  | inl lt ↦ absurd (one.fails (from a (let w = other.place in omega arith) (other.before a lt)))
-  | inr ge ↦ elim (cases_lt b a) [
-    | inl lt ↦ absurd (other.fails (to b (let w = one.place in omega arith) (one.before b lt)))
-    | inr le ↦ omega arith
-  ]
-]
 
 -- ---- the clauses of labels, over two graphs and two automata that answer alike
 
