@@ -4,7 +4,7 @@ use Rattle.std.specs.Prelude.{ℕ, List, [], ◌∷◌, Bool, true, false, Optio
 use Rattle.std.specs.Map.{lookup}
 use Rattle.road_profile.specs.declared.classes.Class.{Class}
 
-abbrev road : Bool → Bool → Option ℕ → Class
+abbrev pub road : Bool → Bool → Option ℕ → Class
 road foot bike car = record { foot = foot; bike = bike; car = car }
 
 abbrev pub classes : List (List ℕ × Class)

@@ -2,7 +2,7 @@
 
 ghost use Rattle.std.specs.Prelude.{◌≡◌, ◌≤◌, IfSome, map, bytes_eq};
 ghost use Rattle.std.specs.Map.{lookup};
-ghost use Rattle.road_profile.specs.Classes.{class_named};
+ghost use Rattle.road_profile.specs.Classes.{class_named, road};
 
 /// What a way's value of the key `highway` says of it.
 #[derive(Clone, Copy, Debug, PartialEq, Eq)]
@@ -15,200 +15,44 @@ pub struct Class {
     pub car: Option<u32>,
 }
 
-static CLASSES: [(&str, Class); 23] = [
-    (
-        "motorway",
-        Class {
-            foot: false,
-            bike: false,
-            car: Some(30_556),
-        },
-    ),
-    (
-        "motorway_link",
-        Class {
-            foot: false,
-            bike: false,
-            car: Some(16_667),
-        },
-    ),
-    (
-        "trunk",
-        Class {
-            foot: false,
-            bike: false,
-            car: Some(25_000),
-        },
-    ),
-    (
-        "trunk_link",
-        Class {
-            foot: false,
-            bike: false,
-            car: Some(13_889),
-        },
-    ),
-    (
-        "primary",
-        Class {
-            foot: true,
-            bike: true,
-            car: Some(16_667),
-        },
-    ),
-    (
-        "primary_link",
-        Class {
-            foot: true,
-            bike: true,
-            car: Some(11_111),
-        },
-    ),
-    (
-        "secondary",
-        Class {
-            foot: true,
-            bike: true,
-            car: Some(13_889),
-        },
-    ),
-    (
-        "secondary_link",
-        Class {
-            foot: true,
-            bike: true,
-            car: Some(11_111),
-        },
-    ),
-    (
-        "tertiary",
-        Class {
-            foot: true,
-            bike: true,
-            car: Some(12_500),
-        },
-    ),
-    (
-        "tertiary_link",
-        Class {
-            foot: true,
-            bike: true,
-            car: Some(9_722),
-        },
-    ),
-    (
-        "unclassified",
-        Class {
-            foot: true,
-            bike: true,
-            car: Some(11_111),
-        },
-    ),
-    (
-        "residential",
-        Class {
-            foot: true,
-            bike: true,
-            car: Some(8_333),
-        },
-    ),
-    (
-        "living_street",
-        Class {
-            foot: true,
-            bike: true,
-            car: Some(2_778),
-        },
-    ),
-    (
-        "service",
-        Class {
-            foot: true,
-            bike: true,
-            car: Some(5_556),
-        },
-    ),
-    (
-        "road",
-        Class {
-            foot: true,
-            bike: true,
-            car: Some(8_333),
-        },
-    ),
-    (
-        "track",
-        Class {
-            foot: true,
-            bike: true,
-            car: None,
-        },
-    ),
-    (
-        "path",
-        Class {
-            foot: true,
-            bike: true,
-            car: None,
-        },
-    ),
-    (
-        "cycleway",
-        Class {
-            foot: true,
-            bike: true,
-            car: None,
-        },
-    ),
-    (
-        "pedestrian",
-        Class {
-            foot: true,
-            bike: false,
-            car: None,
-        },
-    ),
-    (
-        "footway",
-        Class {
-            foot: true,
-            bike: false,
-            car: None,
-        },
-    ),
-    (
-        "steps",
-        Class {
-            foot: true,
-            bike: false,
-            car: None,
-        },
-    ),
-    (
-        "bridleway",
-        Class {
-            foot: true,
-            bike: false,
-            car: None,
-        },
-    ),
-    (
-        "corridor",
-        Class {
-            foot: true,
-            bike: false,
-            car: None,
-        },
-    ),
+/// A value of the key `highway`, and the class that it stands for: whether walkers and whether cyclists may use
+/// the way, and the speed of cars in mm/s, where they may.
+type Row = (&'static str, bool, bool, Option<u32>);
+
+static CLASSES: [Row; 23] = [
+    ("motorway", false, false, Some(30_556)),
+    ("motorway_link", false, false, Some(16_667)),
+    ("trunk", false, false, Some(25_000)),
+    ("trunk_link", false, false, Some(13_889)),
+    ("primary", true, true, Some(16_667)),
+    ("primary_link", true, true, Some(11_111)),
+    ("secondary", true, true, Some(13_889)),
+    ("secondary_link", true, true, Some(11_111)),
+    ("tertiary", true, true, Some(12_500)),
+    ("tertiary_link", true, true, Some(9_722)),
+    ("unclassified", true, true, Some(11_111)),
+    ("residential", true, true, Some(8_333)),
+    ("living_street", true, true, Some(2_778)),
+    ("service", true, true, Some(5_556)),
+    ("road", true, true, Some(8_333)),
+    ("track", true, true, None),
+    ("path", true, true, None),
+    ("cycleway", true, true, None),
+    ("pedestrian", true, false, None),
+    ("footway", true, false, None),
+    ("steps", true, false, None),
+    ("bridleway", true, false, None),
+    ("corridor", true, false, None),
 ];
 
-fn class_in(table: &[(&'static str, Class)], highway: &[u8]) -> Option<Class>
+fn class_in(table: &[Row], highway: &[u8]) -> Option<Class>
     ensures { result ≡ lookup (λ name. bytes_eq name highway.now)
-        (map (λ row. (row.0.now, row.1)) table.now) }
+        (map (λ row. (row.0.now, road row.1 row.2 row.3)) table.now) }
 {
     for row in table {
-        if row.0.as_bytes() == highway {
-            return Some(row.1);
+        let (name, foot, bike, car) = *row;
+        if name.as_bytes() == highway {
+            return Some(Class { foot, bike, car });
         }
     }
     None
