@@ -21,15 +21,8 @@ impl Model for Id {
 impl Id {
     ghost use Rattle.std.specs.Prelude.{IfOk};
 
-    /// The id with these bytes.
-    pub fn new(bytes: Vec<u8>) -> Id
-        ensures { result ≡ bytes.items }
-    {
-        Id { bytes }
-    }
-
     /// A copy of these bytes as an id.
-    pub fn from_slice(alloc: Global, bytes: &[u8]) -> Result<Id, AllocError>
+    pub(crate) fn from_slice(alloc: Global, bytes: &[u8]) -> Result<Id, AllocError>
         ensures { IfOk result (λ id. id ≡ bytes.now) }
     {
         let bytes = Vec::from_slice(alloc, bytes)?;

@@ -59,7 +59,6 @@ pub use faults::FeedFault;
 pub use feeds::{Feed, read_feed};
 pub use files::{FeedFile, FeedFiles};
 pub use frequencies::FrequencyRow;
-pub use ids::Id;
 pub use routes::RouteRow;
 pub use services::ServiceRow;
 pub use stops::StopRow;
