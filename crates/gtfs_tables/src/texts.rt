@@ -2,11 +2,11 @@
 
 ghost use Rattle.std.specs.Prelude.{◌≡◌, ◌<◌, ◌≤◌, length, reverse, option_map, IfSome};
 ghost use Rattle.std.specs.Str.{is_utf8};
-ghost use Rattle.service_days.specs.ReadClock.{below_sixty};
 ghost use Rattle.plain_texts.specs.FixedDecimal.{fixed_at};
 ghost use Rattle.gtfs_tables.specs.Forms as spec;
 
 use plain_texts::read_fixed;
+use service_days::below_sixty;
 
 /// Whether a field is an id, or the name of a time zone: at least one byte and fewer than 2^30, in UTF-8.
 #[tactic(auto, unfolding(crate::specs::Forms::is_id))]
@@ -135,13 +135,6 @@ pub(crate) fn letter_of(type_: u32) -> u8
         11 | 12 => type_ as u8,
         _ => 13,
     }
-}
-
-fn below_sixty(n: u32) -> Option<u32>
-    ensures value { result ≡ below_sixty n }
-    ensures within { IfSome result (λ n. n < 60) }
-{
-    if n < 60 { Some(n) } else { None }
 }
 
 /// The seconds of `:MM:SS`.
