@@ -45,8 +45,8 @@ fn roads_of(alloc: Global, objects: &Objects) -> Result<Roads, AllocError>
     ensures are { IfOk result (λ roads. AreRoads objects.now roads.ends roads.nodes.items roads.arcs.items) }
     ensures few { IfOk result (λ roads. length roads.ends < 2 ^ 32) }
 {
-    let rows = road_arcs(alloc, objects)?;
     let places = places_of(alloc, &objects.nodes)?;
+    let rows = road_arcs(alloc, &places, objects)?;
     let ends = Ends::of(alloc, &rows)?;
     if ends.as_slice().len() > u32::MAX as usize {
         return Err(AllocError);

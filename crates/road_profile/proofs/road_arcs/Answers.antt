@@ -1,10 +1,10 @@
-use Rattle.std.proofs.Common.{IfOk, List, ap, ◌∙◌, subst}
+use Rattle.std.proofs.Common.{◌≡◌, ℤ, IfOk, List, ap, ◌∙◌, subst, sym}
 use Rattle.std.specs.HashMap.{get}
 use Rattle.std.specs.Ordering.{int_eq}
 use Rattle.opl_reader.specs.ObjectLists.{ObjectLists}
 use Rattle.road_profile.specs.declared.rows.RoadRow.{RoadRow}
 use Rattle.road_profile.specs.Arcs.{AreArcsOf}
-use Rattle.road_profile.specs.Legs.{legs_of}
+use Rattle.road_profile.specs.Legs.{legs_of, place_of_node}
 use Rattle.road_profile.proofs.PlaceLaws.{legs_by_places}
 use Rattle.road_profile.proofs.TimedLaws.{answer_timed}
 use Rattle.road_profile.proofs.EndLaws.{answer_joined}
@@ -13,7 +13,8 @@ use Rattle.road_profile.proofs.road_arcs.Goals as goal
 pub returns-clause-arcs : goal.returns-clause-arcs
 returns-clause-arcs c =
     let objects : ObjectLists = record { nodes = c.objects.inside.nodes.items; ways = c.objects.inside.ways.items } in
-    let legs = legs_by_places (get int_eq c.in_ok-places.places.by_id) objects c.in_ok-legs.legs.items (rw c.deref-2.ensures.value at c.in_ok-legs.ensures) (rw c.deref.ensures.value at c.in_ok-places.ensures) in
+    let placed = subst (λ (objects : ObjectLists). (id : ℤ) → get int_eq c.args.places.now.by_id id ≡ place_of_node objects.nodes id) (sym c.objects.view_is) c.requires in
+    let legs = legs_by_places (get int_eq c.args.places.now.by_id) objects c.in_ok-legs.legs.items (rw c.deref.ensures.value at c.in_ok-legs.ensures) placed in
     subst (λ (legs : List RoadRow). IfOk c.arcs_of.result (λ rows. AreArcsOf legs rows.items)) (legs ∙ ap legs_of c.objects.view_is) c.arcs_of.ensures
 
 pub returns-clause-timed : goal.returns-clause-timed

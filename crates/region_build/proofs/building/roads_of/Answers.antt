@@ -9,6 +9,11 @@ use Rattle.mode_network.specs.Rules.{AreInOrder}
 use Rattle.region_build.specs.Roads.{arcs_of, road_nodes}
 use Rattle.region_build.proofs.building.roads_of.Goals as goal
 
+pub road_arcs-requires : goal.road_arcs-requires
+road_arcs-requires c = λ id.
+    c.in_ok-places.ensures id
+    ∙ ap (λ (nodes : List OsmNode). place_of_node nodes id) (c.deref.ensures.value ∙ ap (λ (objects : ObjectLists). objects.nodes) c.objects.view_is)
+
 pub returns-clause-are : goal.returns-clause-are
 returns-clause-are c = record {
   rows = c.in_ok-rows.rows.items;
