@@ -15,10 +15,8 @@ use geo_length::duration_ms;
 use mode_network::{Arc, Node};
 use opl_reader::{Amenity, OsmNode};
 use plan_base::{Mode, Place};
+use road_profile::FOOT_SPEED;
 use std::alloc::{AllocError, Global};
-
-/// How fast one walks along a link, in mm/s.
-const FOOT_SPEED: u32 = 1_400;
 
 /// How a place is joined with the layer of a mode.
 #[derive(Clone, Copy)]

@@ -18,6 +18,7 @@ mod tags;
 
 use legs::legs_of_ways;
 use opl_reader::Objects;
+pub use passages::FOOT_SPEED;
 pub use places::{Places, place_of, places_of};
 pub use rows::RoadRow;
 use rows::arcs_of;

@@ -26,7 +26,8 @@ pub struct Passages {
     pub car: Option<Passage>,
 }
 
-const FOOT_SPEED: u32 = 1_400;
+/// How fast one walks, in mm/s.
+pub const FOOT_SPEED: u32 = 1_400;
 
 const BIKE_SPEED: u32 = 4_200;
 
