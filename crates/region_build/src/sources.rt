@@ -51,19 +51,48 @@ pub(crate) fn frequencies_in_order(
     Ok(sorted)
 }
 
-fn count_calls(calls: &[CallRow], trip: u32) -> usize
-    ensures { result ≡ own_count trip_of_call trip calls.now }
-{
-    calls.iter().take_while(|call| call.trip == trip).count()
+/// A row of a feed that is one of a trip's.
+trait OfTrip {
+    /// The place of its trip in the feed's list.
+    ghost trip_of: { Self → ℕ };
+
+    /// The place of its trip in the feed's list.
+    fn trip(&self) -> u32
+        ensures { result ≡ trip_of self.now };
 }
 
-fn count_frequencies(frequencies: &[FrequencyRow], trip: u32) -> usize
-    ensures { result ≡ own_count trip_of_frequency trip frequencies.now }
+impl OfTrip for CallRow {
+    ghost trip_of = { trip_of_call };
+
+    fn trip(&self) -> u32 {
+        self.trip
+    }
+}
+
+impl OfTrip for FrequencyRow {
+    ghost trip_of = { trip_of_frequency };
+
+    fn trip(&self) -> u32 {
+        self.trip
+    }
+}
+
+/// How many rows of a trip stand in front.
+fn own_count<R: OfTrip>(rows: &[R], trip: u32) -> usize
+    ensures { result ≡ own_count R.trip_of trip rows.now }
 {
-    frequencies
-        .iter()
-        .take_while(|frequency| frequency.trip == trip)
-        .count()
+    rows.iter().take_while(|row| row.trip() == trip).count()
+}
+
+/// The rows of a trip, where they stand in front, and those of later trips.
+fn split_rows<R: OfTrip>(rows: &[R], trip: u32) -> (&[R], &[R])
+    requires { Ascend R.trip_of trip rows.now }
+    ensures own { result.0.now ≡ filter (is_of R.trip_of trip) rows.now }
+    ensures ascend { Ascend R.trip_of (trip + 1) result.1.now }
+    ensures later { (k : ℕ) → trip + 1 ≤ k
+        → filter (is_of R.trip_of k) result.1.now ≡ filter (is_of R.trip_of k) rows.now }
+{
+    rows.split_at(own_count(rows, trip))
 }
 
 fn letter_of(routes: &[RouteRow], route: u32) -> u8
@@ -75,26 +104,7 @@ fn letter_of(routes: &[RouteRow], route: u32) -> u8
     }
 }
 
-fn split_calls(calls: &[CallRow], trip: u32) -> (&[CallRow], &[CallRow])
-    requires { Ascend trip_of_call trip calls.now }
-    ensures own { result.0.now ≡ filter (is_of trip_of_call trip) calls.now }
-    ensures ascend { Ascend trip_of_call (trip + 1) result.1.now }
-    ensures later { (k : ℕ) → trip + 1 ≤ k → filter (is_of trip_of_call k) result.1.now ≡ filter
-        (is_of trip_of_call k) calls.now }
-{
-    calls.split_at(count_calls(calls, trip))
-}
-
-fn split_frequencies(frequencies: &[FrequencyRow], trip: u32) -> (&[FrequencyRow], &[FrequencyRow])
-    requires { Ascend trip_of_frequency trip frequencies.now }
-    ensures own { result.0.now ≡ filter (is_of trip_of_frequency trip) frequencies.now }
-    ensures ascend { Ascend trip_of_frequency (trip + 1) result.1.now }
-    ensures later { (k : ℕ) → trip + 1 ≤ k → filter (is_of trip_of_frequency k) result.1.now ≡ filter
-        (is_of trip_of_frequency k) frequencies.now }
-{
-    frequencies.split_at(count_frequencies(frequencies, trip))
-}
-
+/// What the tables say of a trip that has these days, these calls and these headways.
 fn source_of<'a>(
     feed: &'a Feed,
     trip: &'a TripRow,
@@ -136,8 +146,8 @@ pub(crate) fn sources_of<'a>(
     let (mut calls_left, mut frequencies_left) = (calls, frequencies);
     let mut rest = feed.trips.as_slice();
     while let [trip, after @ ..] = rest {
-        let (own_calls, later_calls) = split_calls(calls_left, place);
-        let (own, later_frequencies) = split_frequencies(frequencies_left, place);
+        let (own_calls, later_calls) = split_rows(calls_left, place);
+        let (own, later_frequencies) = split_rows(frequencies_left, place);
         let runs = services.days_of(&mut known, days, trip.service.as_bytes())?;
         sources.push(source_of(feed, trip, runs, own_calls, own))?;
         place += 1;

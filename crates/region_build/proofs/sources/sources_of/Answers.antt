@@ -29,13 +29,13 @@ loop-rest-preserved c =
     record {
       so_far = one_more c.args.feed.now c.args.days.now c.args.calls.now c.args.frequencies.now c.args.feed.now.trips c.loop-rest.place c.loop-rest.rest.now _ c.trip-item.result _ _ _ _ _
           split c.in_ok-push.ensures.items
-          (c.split_calls.ensures.own ∙ c.loop-rest.invariant.calls_same c.loop-rest.place (omega arith)) (c.split_frequencies.ensures.own ∙ c.loop-rest.invariant.frequencies_same c.loop-rest.place (omega arith))
+          (c.split_rows.ensures.own ∙ c.loop-rest.invariant.calls_same c.loop-rest.place (omega arith)) (c.split_rows-in-len1-up.ensures.own ∙ c.loop-rest.invariant.frequencies_same c.loop-rest.place (omega arith))
           (c.source_of.ensures c.args.days.now runs) c.loop-rest.invariant.so_far;
       count = omega (arith, counted, c.loop-rest.invariant.count);
-      calls_ascend = c.split_calls.ensures.ascend;
-      frequencies_ascend = c.split_frequencies.ensures.ascend;
-      calls_same = λ k high. c.split_calls.ensures.later k high ∙ c.loop-rest.invariant.calls_same k (omega arith);
-      frequencies_same = λ k high. c.split_frequencies.ensures.later k high ∙ c.loop-rest.invariant.frequencies_same k (omega arith);
+      calls_ascend = c.split_rows.ensures.ascend;
+      frequencies_ascend = c.split_rows-in-len1-up.ensures.ascend;
+      calls_same = λ k high. c.split_rows.ensures.later k high ∙ c.loop-rest.invariant.calls_same k (omega arith);
+      frequencies_same = λ k high. c.split_rows-in-len1-up.ensures.later k high ∙ c.loop-rest.invariant.frequencies_same k (omega arith);
       know = c.in_ok-runs.ensures.known;
     }
 
