@@ -7,57 +7,48 @@ use crate::columns::Column;
 use crate::files::FeedFile;
 use plan_base::Kind;
 use std::alloc::AllocError;
-use thiserror::Error;
 
 /// The first fault of a feed.
 ///
 /// A missing file comes first. The files are read in the order of [`FeedFile`]: in a file a missing column comes
 /// first, and then the rows go in turn. In a row the faults are tried in the order of these variants.
-#[derive(Clone, Copy, Debug, PartialEq, Eq, Error)]
+#[derive(Clone, Copy, Debug, PartialEq, Eq)]
 pub enum FeedFault {
     /// A required file is not there. Where neither calendar file is there, it is [`FeedFile::Calendar`].
-    #[error("{} is not there, and a feed must have it", .file.name())]
     MissingFile {
         file: FeedFile,
     },
     /// A file's header does not name a column that it must name: the first such column.
-    #[error("the header of {} must name the column {}", .file.name(), .column.name())]
     MissingColumn {
         file: FeedFile,
         column: Column,
     },
     /// A row's field is not of its form: the first such column. Rows count from 1 at the header.
-    #[error("{}, row {row}: {} must be {}", .file.name(), .column.name(), .column.form())]
     BadField {
         file: FeedFile,
         row: u64,
         column: Column,
     },
     /// A row has the key of an earlier row of its file.
-    #[error("{}, row {row}: an earlier row has the same key, and no two rows may", .file.name())]
     RepeatedKey {
         file: FeedFile,
         row: u64,
     },
     /// A row has an id of another table that is no key there: the first such column.
-    #[error("{}, row {row}: {} must be an id of {}", .file.name(), .column.name(), .column.table())]
     DanglingKey {
         file: FeedFile,
         row: u64,
         column: Column,
     },
     /// A row of agency.txt has another time zone than the first.
-    #[error("agency.txt, row {row}: agency_timezone must be that of the first row")]
     MixedZones {
         row: u64,
     },
     /// With a row there are more stops, routes, services, dates, trips or calls than the limits allow.
-    #[error("too many {}: there may be {} at most", .kind.name(), .kind.most())]
     TooMany {
         kind: Kind,
     },
     /// Memory ran out.
-    #[error("out of memory")]
     OutOfMemory,
 }
 

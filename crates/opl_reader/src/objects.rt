@@ -7,7 +7,6 @@ use crate::lists::Items;
 use plan_base::{Kind, Place};
 use std::alloc::AllocError;
 use std::marker::Model;
-use thiserror::Error;
 
 /// Bytes of a key or a value, after unescaping.
 pub type Bytes = Items<u8>;
@@ -75,20 +74,17 @@ impl Model for Objects {
 
 /// Why a map's text gives no objects: the fault of the first line that has one. On one line the earlier of these
 /// is tried first.
-#[derive(Clone, Copy, Debug, PartialEq, Eq, Error)]
+#[derive(Clone, Copy, Debug, PartialEq, Eq)]
 pub enum OplFault {
-    /// A line is of no form that a line may have. Lines are counted from 1.
-    #[error("line {line} is no line of OPL: it must be a node, as `n17 x13.37 y52.51`, or a way, as `w5 Thighway=path Nn17,n18`")]
+    /// A line is of no form that a line may have: it must be a node, as `n17 x13.37 y52.51`, or a way, as
+    /// `w5 Thighway=path Nn17,n18`, or one that is passed over. Lines are counted from 1.
     BadLine { line: u64 },
     /// A line has a visible node or way with the id of an earlier visible node or way.
-    #[error("line {line}: an earlier line has a visible object of this kind and id, and there may be one")]
     RepeatedObject { line: u64 },
     /// With the line there are more visible nodes with a place ([`Kind::OsmNodes`]), more visible ways
     /// ([`Kind::Ways`]) or more references of visible ways to nodes ([`Kind::Refs`]) than the limits allow.
-    #[error("too many {}: there may be {} at most", .kind.name(), .kind.most())]
     TooMany { kind: Kind },
     /// Memory ran out.
-    #[error("out of memory")]
     OutOfMemory,
 }
 

@@ -5,19 +5,15 @@ ghost use Rattle.region_build.specs.declared.faults.BuildFault.TheVariants.{OutO
 
 use plan_base::Kind;
 use std::alloc::AllocError;
-use thiserror::Error;
 
 /// The first fault of what a map and a feed give.
-#[derive(Clone, Copy, Debug, PartialEq, Eq, Error)]
+#[derive(Clone, Copy, Debug, PartialEq, Eq)]
 pub enum BuildFault {
     /// There is more of this kind than the limits allow: of nodes, stops, arcs, links, trips and calls the first such.
-    #[error("the region has too many of these: {kind:?}")]
     TooMany { kind: Kind },
     /// The times of the trip in this row of trips.txt go back.
-    #[error("trips.txt, row {row}: the times of this trip's calls go back")]
     TimeGoesBack { row: u64 },
     /// Memory ran out.
-    #[error("out of memory")]
     OutOfMemory,
 }
 
