@@ -4,12 +4,12 @@ use Rattle.std.specs.Prelude.{bytes_eq, option_to_list}
 use Rattle.std.specs.List.{AllByRecursion, IsDistinct, flat_map}
 use Rattle.std.specs.List.Sorted.{IsPermutation, IsSorted}
 use Rattle.std.specs.Cmp.{IsTotalOrder}
-use Rattle.std.specs.Ordering.{int_cmp, int_eq, is_eq, nat_cmp}
+use Rattle.std.specs.Ordering.{int_cmp, int_eq, is_eq}
 use Rattle.std.specs.declared.cmp.Ordering.TheVariants.{Equal}
 use Rattle.std.proofs.lemmas.Bool.{false≢true}
 use Rattle.std.proofs.lemmas.Bool.Decides.{Decides-int_eq}
 use Rattle.std.proofs.lemmas.Cmp.{int_cmp_total, nat_cmp_total, on_total, then_total}
-use Rattle.std.proofs.lemmas.Map.Lookups.{exact_pairs, exact_signed, exact_unsigned}
+use Rattle.std.proofs.lemmas.Map.Lookups.{exact_signed}
 use Rattle.std.proofs.lemmas.Map.Text.{is_eq-slice_cmp}
 use Rattle.std.proofs.lemmas.Slice.Eq.{bytes_eq-Decides}
 use Rattle.plain_texts.specs.Escape.{escaped}
@@ -28,23 +28,15 @@ use Rattle.road_profile.specs.declared.rows.RoadRow.{RoadRow}
 use Rattle.gtfs_tables.specs.declared.stops.StopRow.{StopRow}
 use Rattle.mode_network.specs.Rules.{name_cmp}
 use Rattle.mode_network.specs.declared.nodes.Node.{Node}
-use Rattle.mode_network.proofs.RuleLemmas.{mode_by_number, names_total}
-use Rattle.region_build.specs.Ends.{AreEnds, End, end_cmp, ends_at, key_of_end, once_behind}
+use Rattle.mode_network.proofs.RuleLemmas.{names_total}
+use Rattle.region_build.specs.Ends.{AreEnds, End, end_cmp, ends_at, once_behind}
 use Rattle.region_build.specs.Links.{FindsNearest, join, join_links, layer, linked_to, links_at, stop_joins, stop_links, switch_joins, switch_links}
 use Rattle.region_build.specs.StopNames.{entries_from}
 use Rattle.region_build.specs.Switches.{AreSwitches, is_switch, switch_at}
+use Rattle.region_build.proofs.EndLaws.{end_total, exact_end}
 use Rattle.promises.proofs.OrderLemmas.{ascending_once, distinct_by, distinct_once, sorted_once}
 
 -- ---- roads
-
-end_total : IsTotalOrder end_cmp
-end_total = then_total (on_total (λ (end : End). end.0) int_cmp_total) (on_total (λ (end : End). number_of_mode end.1) nat_cmp_total)
-
--- ends that stand at one place of the order are one
-exact_end : (x e : End) → end_cmp x e ≡ Equal → x ≡ e
-exact_end x e is =
-    let keys : key_of_end x ≡ key_of_end e = exact_pairs int_cmp nat_cmp exact_signed exact_unsigned (key_of_end x) (key_of_end e) is in
-    ap₂ (λ (id : ℤ) (mode : Mode). (id, mode)) (ap (λ (key : ℤ × ℕ). key.0) keys) (mode_by_number x.1 e.1 (ap (λ (key : ℤ × ℕ). key.1) keys))
 
 rows_total : IsTotalOrder row_cmp
 rows_total = then_total (on_total (λ (row : RoadRow). row.from) int_cmp_total) (then_total (on_total (λ (row : RoadRow). row.to) int_cmp_total) (on_total (λ (row : RoadRow). number_of_mode row.mode) nat_cmp_total))

@@ -1,7 +1,7 @@
 mod ArcLaws
 mod BuildLaws
 mod CopyLaws
-mod EndLaws
+pub mod EndLaws
 mod GroupLaws
 mod IdLaws
 mod KeyLaws
