@@ -89,6 +89,7 @@ fn times_of(arrival: Option<u32>, departure: Option<u32>) -> Option<Times>
     }
 }
 
+/// The times of a call, if the row has any.
 fn read_times(row: &TableRow<'_>) -> Result<Option<Times>, FeedFault>
     ensures { result ≡ spec.times_in row.now }
 {
@@ -97,6 +98,7 @@ fn read_times(row: &TableRow<'_>) -> Result<Option<Times>, FeedFault>
     Ok(times_of(arrival, departure))
 }
 
+/// What a row says of the visit at its stop.
 fn read_visit(row: &TableRow<'_>) -> Result<Visit, FeedFault>
     ensures { result ≡ spec.visit_in row.now }
 {

@@ -62,6 +62,7 @@ fn read_weekdays(row: &TableRow<'_>) -> Result<[bool; 7], FeedFault>
     ])
 }
 
+/// The weekdays of a service, and its first and its last date.
 fn read_rule(row: &TableRow<'_>) -> Result<ServiceRule, FeedFault>
     ensures { result ≡ spec.rule_in row.now }
 {

@@ -73,6 +73,7 @@ pub(crate) fn push_row<R: Drop>(
     Ok(())
 }
 
+/// Takes the rows below a header, one after the other.
 fn take_rows<T: TakesRows>(
     table: &mut T,
     file: FeedFile,

@@ -106,6 +106,7 @@ pub(crate) fn read_added(text: &[u8]) -> Option<bool>
     }
 }
 
+/// One digit up to `most`, or nothing, which stands for 0.
 fn read_choice(text: &[u8], most: u8) -> Option<u8>
     requires { most ≤ 9 }
     ensures { result ≡ spec.choice_at most text.now }
@@ -152,6 +153,7 @@ fn read_part(text: &[u8]) -> Option<u32>
     }
 }
 
+/// A number of up to three digits.
 fn read_hours(text: &[u8]) -> Option<u32>
     requires { length text.now ≤ 3 }
     ensures value { result ≡ fixed_at text.now }

@@ -11,6 +11,7 @@ use crate::objects::OsmWay;
 use indexmap::IndexMap;
 use std::alloc::{AllocError, Global};
 
+/// Whether a node of this id was seen, and with a place.
 fn has_place(seen: &IndexMap<i64, bool>, id: i64) -> bool
     ensures { result ≡ is_seen_placed seen.now.entries id }
 {
@@ -20,6 +21,7 @@ fn has_place(seen: &IndexMap<i64, bool>, id: i64) -> bool
     }
 }
 
+/// What stands between the nodes that have no place.
 fn cuts<'a>(
     alloc: Global,
     seen: &IndexMap<i64, bool>,
@@ -31,6 +33,7 @@ fn cuts<'a>(
     references.split(|id| !has_place(seen, *id)).collect(alloc)
 }
 
+/// Those of two or more nodes.
 fn long_pieces(alloc: Global, pieces: &[&[i64]]) -> Result<Items<Items<i64>>, AllocError>
     ensures { IfOk result (λ v. v ≡ filter (λ piece. nat_le 2 (length piece))
         (map (λ piece. piece.now) pieces.now)) }

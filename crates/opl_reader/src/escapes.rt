@@ -7,6 +7,7 @@ use crate::cuts::cut;
 use crate::objects::Bytes;
 use std::alloc::{AllocError, Global};
 
+/// The value of a hexadecimal digit of either case.
 fn digit(byte: u8) -> Option<u32>
     ensures value { result ≡ either_case_digit_of byte }
     ensures within { IfSome result (λ d. d < 16) }
@@ -19,6 +20,7 @@ fn digit(byte: u8) -> Option<u32>
     }
 }
 
+/// The number that 1 to 6 hexadecimal digits spell.
 #[tactic(auto, unfolding(crate::specs::Escapes::hexadecimal_scalar_at))]
 fn hexadecimal(digits: &[u8]) -> Option<u32>
     ensures { result ≡ hexadecimal_scalar_at digits.now }
@@ -39,6 +41,7 @@ fn scalar(n: u32) -> Option<char>
     char::from_u32(n)
 }
 
+/// The character that stands between two percent signs.
 #[tactic(auto, unfolding(crate::specs::Escapes::character_at))]
 fn character(digits: &[u8]) -> Option<char>
     ensures { result ≡ character_at digits.now }
@@ -46,6 +49,7 @@ fn character(digits: &[u8]) -> Option<char>
     scalar(hexadecimal(digits)?)
 }
 
+/// Puts the UTF-8 of a character behind other bytes.
 fn push_character(bytes: &mut Vec<u8>, character: char) -> Result<(), AllocError>
     ensures { OnOk result (bytes.new.items ≡ bytes.old.items ++ encode_utf8 character) }
 {

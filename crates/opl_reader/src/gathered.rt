@@ -44,6 +44,7 @@ fn note_way(seen: &mut IndexSet<i64>, id: i64) -> Result<bool, AllocError>
     Ok(new)
 }
 
+/// Puts a node to the others, if it has a place.
 fn push_placed(nodes: &mut Vec<OsmNode>, node: NodeLine) -> Result<(), AllocError>
     ensures { OnOk result (nodes.new.items ≡ nodes.old.items ++ option_to_list (placed node)) }
 {
@@ -78,6 +79,7 @@ impl Gathered {
         }
     }
 
+    /// A visible node more, on the line of this number.
     fn take_node(&mut self, caps: &Caps, number: u64, node: NodeLine) -> Result<(), OplFault>
         requires { number ≡ self.old.lines + 1 }
         ensures ok { OnOk result (with_node caps.now (lists_of self.old) node ≡ Ok (lists_of self.new)) }
@@ -96,6 +98,7 @@ impl Gathered {
         Ok(())
     }
 
+    /// A visible way more, on the line of this number.
     fn take_way(&mut self, caps: &Caps, number: u64, way: WayLine) -> Result<(), OplFault>
         requires { number ≡ self.old.lines + 1 }
         ensures ok { OnOk result (with_way caps.now (lists_of self.old) way ≡ Ok (lists_of self.new)) }

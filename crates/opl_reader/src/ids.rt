@@ -15,6 +15,7 @@ fn digit(byte: u8) -> Option<u64>
     }
 }
 
+/// The number that 1 to 18 digits spell.
 #[tactic(auto, unfolding(crate::specs::Ids::up_to_eighteen_digits_at))]
 fn number(digits: &[u8]) -> Option<u64>
     ensures value { result ≡ up_to_eighteen_digits_at digits.now }

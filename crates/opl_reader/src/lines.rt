@@ -51,6 +51,7 @@ fn is_letter(byte: u8) -> bool
     (b'A' <= byte && byte <= b'Z') || (b'a' <= byte && byte <= b'z')
 }
 
+/// Whether a word may be a field: it begins with a letter.
 fn is_field(text: &[u8]) -> bool
     ensures { result ≡ spec.is_field text.now }
 {
@@ -71,6 +72,7 @@ fn are_fields(fields: &[&[u8]]) -> bool
     true
 }
 
+/// What stands behind this letter, if the field begins with it.
 fn value_with(letter: u8, field: &[u8]) -> Option<&[u8]>
     ensures { option_map (λ value. value.now) result ≡ spec.value_with letter field.now }
 {
@@ -98,6 +100,7 @@ fn field<'a>(letter: u8, fields: &[&'a [u8]]) -> Option<Option<&'a [u8]>>
     Some(found)
 }
 
+/// The value of the field with this letter, empty where there is none; `None` exactly where there are more.
 fn text<'a>(letter: u8, fields: &[&'a [u8]]) -> Option<&'a [u8]>
     ensures { option_map (λ value. value.now) result ≡ spec.field_text letter
         (map (λ field. field.now) fields.now) }
@@ -108,6 +111,7 @@ fn text<'a>(letter: u8, fields: &[&'a [u8]]) -> Option<&'a [u8]>
     }
 }
 
+/// What the value of the field `d` says.
 fn is_visible(value: &[u8]) -> Option<bool>
     ensures { result ≡ spec.visible_at (Some value.now) }
 {
@@ -120,6 +124,7 @@ fn is_visible(value: &[u8]) -> Option<bool>
     }
 }
 
+/// Whether an object is visible; `None` exactly where its field `d` may not be so.
 fn read_visible(fields: &[&[u8]]) -> Option<bool>
     ensures { result ≡ spec.visible_of (map (λ field. field.now) fields.now) }
 {
@@ -129,6 +134,7 @@ fn read_visible(fields: &[&[u8]]) -> Option<bool>
     }
 }
 
+/// The degrees in the field with this letter, if it has any; `None` exactly where it may not be so.
 fn coordinate(letter: u8, most: u32, fields: &[&[u8]]) -> Option<Option<i64>>
     requires { most ≤ 180 }
     ensures { result ≡ spec.coordinate_of letter most (map (λ field. field.now) fields.now) }
@@ -144,6 +150,7 @@ fn place_at(lat: Option<i64>, lon: Option<i64>) -> Option<Place>
     Place::new(lat, lon)
 }
 
+/// The place of a node, if it has both coordinates; `None` exactly where one of them may not be so.
 fn read_place(fields: &[&[u8]]) -> Option<Option<Place>>
     ensures { result ≡ spec.place_in (map (λ field. field.now) fields.now) }
 {
@@ -152,12 +159,14 @@ fn read_place(fields: &[&[u8]]) -> Option<Option<Place>>
     Some(place_at(lat, lon))
 }
 
+/// A line of a deleted object is passed over.
 fn shown(visible: bool, line: Line) -> Line
     ensures { result ≡ spec.line_if_visible visible line }
 {
     if visible { line } else { Line::Passed }
 }
 
+/// The node with this id and these fields and tags; `None` exactly where one of them may not be so.
 #[tactic(auto, unfolding(crate::specs::Lines::node_by_tags))]
 fn node(id: &[u8], fields: &[&[u8]], tags: &[(Bytes, Bytes)]) -> Option<Line>
     ensures { result ≡ spec.node_by_tags id.now (map (λ field. field.now) fields.now) tags.now }
@@ -170,6 +179,7 @@ fn node(id: &[u8], fields: &[&[u8]], tags: &[(Bytes, Bytes)]) -> Option<Line>
     Some(shown(visible, Line::Node(node)))
 }
 
+/// The way with this id and these fields; `None` exactly where one of them may not be so.
 #[tactic(auto, unfolding(crate::specs::Lines::way_by_tags))]
 fn way(
     id: &[u8],
@@ -189,6 +199,7 @@ fn way(
     Some(shown(visible, Line::Way(way)))
 }
 
+/// The tags in the field `T`; `None` exactly where it may not be so.
 fn tags_in(
     alloc: Global,
     element: Element,
@@ -202,6 +213,7 @@ fn tags_in(
     }
 }
 
+/// The ids in the field `N`; `None` exactly where it may not be so.
 fn references_in(alloc: Global, fields: &[&[u8]]) -> Result<Option<Items<i64>>, AllocError>
     ensures { IfOk result (λ ids. ids ≡ spec.references_in (map (λ field. field.now) fields.now)) }
 {
@@ -211,6 +223,7 @@ fn references_in(alloc: Global, fields: &[&[u8]]) -> Result<Option<Items<i64>>, 
     }
 }
 
+/// What a line of a node says; `None` exactly where it is bad.
 #[tactic(auto, unfolding(crate::specs::Lines::node_by_fields))]
 fn node_line(alloc: Global, id: &[u8], fields: &[&[u8]]) -> Result<Option<Line>, AllocError>
     ensures { IfOk result (λ line. line ≡ spec.node_by_fields id.now (map (λ field. field.now) fields.now)) }
@@ -221,6 +234,7 @@ fn node_line(alloc: Global, id: &[u8], fields: &[&[u8]]) -> Result<Option<Line>,
     Ok(node(id, fields, tags.as_slice()))
 }
 
+/// What a line of a way says; `None` exactly where it is bad.
 #[tactic(auto, unfolding(crate::specs::Lines::way_by_fields))]
 fn way_line(alloc: Global, id: &[u8], fields: &[&[u8]]) -> Result<Option<Line>, AllocError>
     ensures { IfOk result (λ line. line ≡ spec.way_by_fields id.now (map (λ field. field.now) fields.now)) }
@@ -249,6 +263,7 @@ fn element_line(
     }
 }
 
+/// What a line with these words behind its first letter says.
 fn words_line(alloc: Global, element: Element, words: &[&[u8]]) -> Result<Line, AllocError>
     ensures { IfOk result (λ line. line ≡ spec.words_line element (map (λ word. word.now) words.now)) }
 {
@@ -266,6 +281,7 @@ fn words_line(alloc: Global, element: Element, words: &[&[u8]]) -> Result<Line, 
     }
 }
 
+/// Whether no byte is a control character but the tab.
 fn are_plain(text: &[u8]) -> bool
     ensures { result ≡ list_all spec.is_plain_byte text.now }
 {
@@ -273,6 +289,7 @@ fn are_plain(text: &[u8]) -> bool
         .all(|byte| *byte == b'\t' || (b' ' <= *byte && *byte != 0x7f))
 }
 
+/// What a line with this text behind its first letter says.
 #[tactic(auto, unfolding(crate::specs::Lines::text_line))]
 fn text_line(alloc: Global, element: Element, text: &[u8]) -> Result<Line, AllocError>
     ensures { IfOk result (λ line. line ≡ spec.text_line element text.now) }

@@ -67,6 +67,7 @@ impl Reader {
         }
     }
 
+    /// Judges the line that ends with these bytes.
     fn end_line(&mut self, line: &[u8]) -> Result<(), OplFault>
         ensures ok { OnOk result (with_end (holding (state_of self.old) line.now) ≡ Ok (state_of self.new)) }
         ensures fault { IfErr result (IsFaultOf (with_end (holding (state_of self.old) line.now))) }

@@ -25,6 +25,7 @@ pub(crate) fn read_coordinate(value: &[u8], most: u32) -> Option<Option<i64>>
     }
 }
 
+/// Whether a text is a longitude, `y` and a latitude.
 fn are_coordinates(text: &[u8]) -> bool
     ensures { result ≡ spec.are_coordinates (cut_of 121 text.now) }
 {
@@ -34,6 +35,7 @@ fn are_coordinates(text: &[u8]) -> bool
     }
 }
 
+/// An id, behind which `x` and coordinates may stand.
 fn placed_id(text: &[u8]) -> Option<i64>
     ensures { result ≡ spec.placed_id text.now (cut_of 120 text.now) }
 {
@@ -47,6 +49,7 @@ fn placed_id(text: &[u8]) -> Option<i64>
     }
 }
 
+/// `n` and an id.
 #[tactic(auto, unfolding(crate::specs::References::reference_at))]
 fn read_reference(text: &[u8]) -> Option<i64>
     ensures { result ≡ spec.reference_at text.now }
@@ -57,6 +60,7 @@ fn read_reference(text: &[u8]) -> Option<i64>
     }
 }
 
+/// The ids of these references; `None` exactly where one of them is none.
 fn read_each(alloc: Global, texts: &[&[u8]]) -> Result<Option<Items<i64>>, AllocError>
     ensures { IfOk result (λ ids. ids ≡ each spec.reference_at (map (λ text. text.now) texts.now)) }
 {

@@ -10,6 +10,7 @@ use crate::lists::Items;
 use crate::objects::{Amenity, Bytes, Element};
 use std::alloc::{AllocError, Global};
 
+/// Whether a tag of ways with this key is kept.
 fn is_way_key(key: &[u8]) -> bool
     ensures { result ≡ spec.is_way_key key.now }
 {
@@ -24,6 +25,7 @@ fn is_way_key(key: &[u8]) -> bool
         || key == b"area".as_slice()
 }
 
+/// Whether a tag of nodes with this key is kept.
 fn is_node_key(key: &[u8]) -> bool
     ensures { result ≡ spec.is_node_key key.now }
 {
@@ -39,6 +41,7 @@ fn is_key(element: Element, key: &[u8]) -> bool
     }
 }
 
+/// `key=value`; `None` exactly where a text is not of this form.
 #[tactic(auto, unfolding(crate::specs::Tags::tag_at))]
 fn read_tag(alloc: Global, text: &[u8]) -> Result<Option<(Bytes, Bytes)>, AllocError>
     ensures { IfOk result (λ tag. tag ≡ spec.tag_at text.now) }
@@ -64,6 +67,7 @@ fn has_key(tags: &[(Bytes, Bytes)], key: &[u8]) -> bool
     tags.iter().any(|tag| tag.0.as_slice() == key)
 }
 
+/// Puts a tag to the others, if its key is of use and new.
 fn push_tag(
     element: Element,
     tags: &mut Vec<(Bytes, Bytes)>,
@@ -77,6 +81,7 @@ fn push_tag(
     Ok(())
 }
 
+/// The first tag of each key of use; `None` exactly where one of the texts is no tag.
 fn read_each(
     alloc: Global,
     element: Element,
@@ -113,6 +118,7 @@ pub(crate) fn read_tags(
     read_each(alloc, element, &texts)
 }
 
+/// What a node with this value of the key `amenity` is.
 fn amenity_at(value: &[u8]) -> Amenity
     ensures { result ≡ spec.amenity_at value.now }
 {

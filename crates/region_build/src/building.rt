@@ -40,6 +40,7 @@ struct Roads {
     arcs: Vec<Arc>,
 }
 
+/// The roads of a map.
 fn roads_of(alloc: Global, objects: &Objects) -> Result<Roads, AllocError>
     requires { AreObjects objects.now }
     ensures are { IfOk result (λ roads. AreRoads objects.now roads.ends roads.nodes.items roads.arcs.items) }
@@ -95,6 +96,7 @@ fn numbered_links(
     links_of(alloc, &roads.nodes, &roads.ends, entries, places)
 }
 
+/// The nodes, the road arcs and the links that a map and a feed give.
 fn lists_of(alloc: Global, objects: &Objects, feed: &Feed) -> Result<Lists, AllocError>
     requires objects { AreObjects objects.now }
     requires feed { IsFeed feed.now }

@@ -15,12 +15,14 @@ use plain_texts::name_of_id;
 use std::alloc::{AllocError, Global};
 use timetable_arcs::{Call, Trip};
 
+/// A time of a trip, on the copy that leaves its first stop at `leave` in place of `first`.
 fn moved(first: u32, leave: u64, time: u32) -> u128
     ensures { result ≡ spec.moved first leave time }
 {
     (u128::from(time) + u128::from(leave)).saturating_sub(u128::from(first))
 }
 
+/// A call on the copy that leaves its first stop at `leave` in place of `first`.
 #[tactic(auto, unfolding(crate::specs::Copies::call_at))]
 fn call_at(numbers: &StopNumbers, first: u32, leave: u64, call: &CallRow) -> Call
     requires { spec.is_copy_early first leave call.now ≡ true }
@@ -35,6 +37,7 @@ fn call_at(numbers: &StopNumbers, first: u32, leave: u64, call: &CallRow) -> Cal
     }
 }
 
+/// The calls on that copy.
 fn calls_at(
     alloc: Global,
     numbers: &StopNumbers,
@@ -55,6 +58,7 @@ fn calls_at(
     Ok(copy)
 }
 
+/// The copy of a trip that leaves at this time.
 #[tactic(auto, unfolding(crate::specs::Copies::copy_at))]
 fn copy_at(
     alloc: Global,
@@ -76,6 +80,7 @@ fn copy_at(
     })
 }
 
+/// Puts the copies that leave at these times to the others.
 fn push_each(
     alloc: Global,
     trips: &mut Vec<Trip>,

@@ -33,6 +33,7 @@ impl Model for Ends {
     ghost invariant = { λ e. e.keys.keys ≡ map key_of_end e.ends.items };
 }
 
+/// Puts both ends of a road arc to the others.
 fn push_ends(ends: &mut Vec<(i64, Mode)>, row: &RoadRow) -> Result<(), AllocError>
     ensures { OnOk result (ends.new.items ≡ ends.old.items ++ ends_at row.now) }
 {

@@ -22,6 +22,7 @@ pub(crate) fn first_departure(calls: &[CallRow]) -> u32
     }
 }
 
+/// The latest time of some calls.
 fn latest(calls: &[CallRow]) -> u32
     ensures { result ≡ latest_of 0 calls.now }
 {
@@ -63,6 +64,7 @@ fn is_leaving(source: &Source<'_>) -> bool
     runs(source) && are_exact(source.frequencies)
 }
 
+/// Puts the times of a row at which a trip leaves, before a time, to the others.
 #[tactic(auto, unfolding(crate::specs::inside::Leaving::leaves_by))]
 fn push_leaves(times: &mut Vec<u64>, before: u64, row: &FrequencyRow) -> Result<(), AllocError>
     ensures { OnOk result (times.new.items ≡ times.old.items ++ leaves_by before row.now) }
@@ -79,6 +81,7 @@ fn push_leaves(times: &mut Vec<u64>, before: u64, row: &FrequencyRow) -> Result<
     Ok(())
 }
 
+/// The same of several rows.
 fn push_all_leaves(
     times: &mut Vec<u64>,
     before: u64,
@@ -125,6 +128,7 @@ fn starts(start: u64, end: u64, headway: u64) -> u64
     end.saturating_sub(start).div_ceil(headway)
 }
 
+/// How often a trip leaves by a row, and how often before a time.
 fn count_row(before: u64, row: &FrequencyRow) -> CopyCounts
     requires { 1 ≤ row.now.headway }
     ensures kept { result.kept ≡ length (leaves_by before row.now) }
@@ -163,6 +167,7 @@ impl CopyCounts {
     }
 }
 
+/// The same of several rows; `None` where a count is past 64 bits.
 fn count_rows(before: u64, rows: &[FrequencyRow]) -> Option<CopyCounts>
     requires { AllByRecursion (λ row. 1 ≤ row.headway) rows.now }
     ensures { IfSome result (AreRowCounts before rows.now) }

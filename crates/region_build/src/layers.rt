@@ -23,6 +23,7 @@ pub(crate) struct Layers {
     car: Grid,
 }
 
+/// A node by its id and its place, if it is of this mode.
 fn point_in(mode: Mode, node: &Node) -> Option<(i64, Place)>
     ensures { result ≡ spec.point_in mode node.now.place node.now.key }
 {
@@ -43,6 +44,7 @@ fn push_point(points: &mut Vec<(i64, Place)>, point: Option<(i64, Place)>) -> Re
     Ok(())
 }
 
+/// The nodes of a mode.
 #[tactic(auto, unfolding(crate::specs::Links::layer))]
 fn points_of(alloc: Global, mode: Mode, roads: &[Node]) -> Result<Vec<(i64, Place)>, AllocError>
     ensures { IfOk result (λ points. points.items ≡ spec.layer mode roads.now) }

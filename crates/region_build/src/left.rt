@@ -31,18 +31,21 @@ fn with_one(count: u64, is: bool) -> Option<u64>
     }
 }
 
+/// Whether a trip has fewer than two calls.
 fn is_short(source: &Source<'_>) -> bool
     ensures { result ≡ spec.is_short (lists_of source.now) }
 {
     source.calls.len() < 2
 }
 
+/// Whether a trip has two calls or more, and no day.
 fn is_idle(source: &Source<'_>) -> bool
     ensures { result ≡ spec.is_idle (lists_of source.now) }
 {
     source.calls.len() >= 2 && source.days.0 == 0
 }
 
+/// Whether a trip would run, but for a headway without exact times.
 fn is_inexact(source: &Source<'_>) -> bool
     ensures { result ≡ spec.is_inexact (lists_of source.now) }
 {

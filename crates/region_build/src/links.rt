@@ -56,6 +56,7 @@ fn out_of_place(mode: Mode) -> Join
     joined(mode, false, true)
 }
 
+/// Puts the links of a place and a road node to the others, if there is such a node and a duration.
 fn push_linked(
     links: &mut Vec<Arc>,
     join: Join,
@@ -93,6 +94,7 @@ fn road_number(ends: &Ends, id: i64, mode: Mode) -> Option<u32>
     Some(number as u32)
 }
 
+/// Puts the links of a place with the nearest node of a layer to the others, if one is near enough.
 #[tactic(auto, unfolding(crate::specs::Links::join_links))]
 fn push_join(
     links: &mut Vec<Arc>,
@@ -181,6 +183,7 @@ impl JoinedPlace for OsmNode {
     }
 }
 
+/// Puts the links of these places to the others; their nodes are numbered from `first` on.
 fn push_places<P: JoinedPlace>(
     links: &mut Vec<Arc>,
     layers: &Layers,

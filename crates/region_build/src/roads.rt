@@ -12,6 +12,7 @@ use plan_base::Mode;
 use road_profile::{Places, RoadRow, place_of};
 use std::alloc::{AllocError, Global};
 
+/// The node of a mode at the place of this OSM id, if it has one.
 #[tactic(auto, unfolding(crate::specs::Roads::road_node))]
 fn road_node(places: &Places, id: i64, mode: Mode) -> Option<Node>
     ensures { result ≡ spec.road_node (get int_eq places.now.by_id) (id, mode) }
@@ -58,6 +59,7 @@ pub(crate) fn road_nodes(
     Ok(nodes)
 }
 
+/// A road arc by the numbers of its ends, if both have one.
 #[tactic(auto, unfolding(crate::specs::Roads::arc_by_row))]
 fn arc_of(ends: &Ends, row: &RoadRow) -> Option<Arc>
     requires { length ends.now < 2 ^ 32 }

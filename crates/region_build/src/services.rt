@@ -18,7 +18,7 @@ pub(crate) struct Services<'a> {
     removed: HashMap<&'a [u8], Vec<u32>>,
 }
 
-// Keeps the rule of a service, unless an earlier one has its id.
+/// Keeps the rule of a service, unless an earlier one has its id.
 fn note_rule<'a>(
     rules: &mut HashMap<&'a [u8], ServiceRule>,
     service: &'a ServiceRow,
@@ -45,13 +45,14 @@ fn rules_of(
     Ok(rules)
 }
 
+/// Whether a row adds a date, or whether it removes one.
 fn is_change(added: bool, row: &DateRow) -> bool
     ensures { result ≡ spec.is_change added row.now }
 {
     if added { row.added } else { !row.added }
 }
 
-// Puts the date of a row to those of its service.
+/// Puts the date of a row to those of its service.
 fn note_date<'a>(
     alloc: Global,
     dates: &mut HashMap<&'a [u8], Vec<u32>>,
@@ -67,6 +68,7 @@ fn note_date<'a>(
     Ok(())
 }
 
+/// The dates that are added to each service, or those that are removed.
 #[tactic(auto, unfolding(crate::specs::Services::dates_of))]
 fn dates_of(
     alloc: Global,
@@ -101,6 +103,7 @@ impl<'a> Services<'a> {
         })
     }
 
+    /// The days of a region on which the service of this id runs.
     fn run_days(&self, days: &Days, id: &[u8]) -> DaySet
         ensures { AreDaysBy days.now (at self.now.rules id.now)
             (listed self.now.added id.now) (listed self.now.removed id.now) result }

@@ -95,6 +95,7 @@ fn split_rows<R: OfTrip>(rows: &[R], trip: u32) -> (&[R], &[R])
     rows.split_at(own_count(rows, trip))
 }
 
+/// The letter of the route at this place; 0 where there is none.
 fn letter_of(routes: &[RouteRow], route: u32) -> u8
     ensures { result ≡ spec.letter_of routes.now route }
 {

@@ -112,7 +112,7 @@ pub(crate) struct StopNumbers {
     pub(crate) by_stop: HashMap<u32, u32>,
 }
 
-// Notes the number of a stop, unless it has one.
+/// Notes the number of a stop, unless it has one.
 fn note(by_stop: &mut HashMap<u32, u32>, stop: u32, number: u32) -> Result<(), AllocError>
     ensures { OnOk result ((other : ℕ) → get nat_eq by_stop.new other ≡ number_with
         (get nat_eq by_stop.old other) stop number other) }

@@ -114,6 +114,7 @@ impl Tally {
     }
 }
 
+/// What the trips of these sources come to; `None` where a count is past its bits.
 fn tallied(sources: &[Source<'_>]) -> Option<Tally>
     requires { AllByRecursion (λ source. AllByRecursion (λ row. 1 ≤ row.headway) source.frequencies.now)
         sources.now }

@@ -16,6 +16,7 @@ use opl_reader::{Items, OsmWay};
 use plan_base::{Mode, Place};
 use std::alloc::{AllocError, Global};
 
+/// Puts a leg and the one back to the others, as far as the mode may go so.
 fn push_directed(
     rows: &mut Vec<RoadRow>,
     row: RoadRow,
@@ -41,6 +42,7 @@ fn push_directed(
     Ok(())
 }
 
+/// Puts the legs of a mode between two neighbours that are so far apart, if they are not too long.
 #[tactic(auto, unfolding(crate::specs::Legs::mode_legs))]
 fn push_mode(
     rows: &mut Vec<RoadRow>,
@@ -63,6 +65,7 @@ fn push_mode(
     }
 }
 
+/// Puts the legs of all modes between two neighbours that are so far apart.
 #[tactic(auto, unfolding(crate::specs::Legs::pair_legs))]
 fn push_pair(
     rows: &mut Vec<RoadRow>,
@@ -80,6 +83,7 @@ fn push_pair(
     push_mode(rows, Mode::Car, from, to, mm, passages.car)
 }
 
+/// The same, where both neighbours have a place.
 fn push_placed(
     rows: &mut Vec<RoadRow>,
     passages: &Passages,
@@ -98,6 +102,7 @@ fn push_placed(
     }
 }
 
+/// The same, where the neighbours are not one node.
 #[tactic(auto, unfolding(crate::specs::Legs::step_legs))]
 fn push_step(
     rows: &mut Vec<RoadRow>,
@@ -117,6 +122,7 @@ fn push_step(
     push_placed(rows, passages, from, to, ends)
 }
 
+/// Puts the legs along nodes in a row behind the first one.
 fn push_behind(
     rows: &mut Vec<RoadRow>,
     places: &Places,
@@ -136,6 +142,7 @@ fn push_behind(
     Ok(())
 }
 
+/// Puts the legs along a piece of a way.
 #[tactic(auto, unfolding(crate::specs::Legs::piece_legs))]
 fn push_piece(
     rows: &mut Vec<RoadRow>,
@@ -169,7 +176,7 @@ fn push_pieces(
     Ok(())
 }
 
-// Whether no mode may use the way, as on most of a map's ways, which are no roads.
+/// Whether no mode may use the way, as on most of a map's ways, which are no roads.
 fn is_closed(passages: &Passages) -> bool
     ensures { result ≡ true → passages.now ≡ closed }
 {

@@ -29,8 +29,10 @@ pub struct Passages {
 /// How fast one walks, in mm/s.
 pub const FOOT_SPEED: u32 = 1_400;
 
+/// How fast one cycles, in mm/s.
 const BIKE_SPEED: u32 = 4_200;
 
+/// How fast cars are on a way that their own tag alone lets them use, in mm/s.
 const SLOW_CAR_SPEED: u32 = 2_778;
 
 const CLOSED: Passages = Passages {
@@ -39,6 +41,7 @@ const CLOSED: Passages = Passages {
     car: None,
 };
 
+/// A speed, where the class of a way lets a mode use it.
 fn where_let(may: bool, speed: u32) -> Option<u32>
     requires { 1 ≤ speed }
     ensures moving { IfSome result (λ speed. 1 ≤ speed) }
@@ -56,6 +59,7 @@ fn with_speed(direction: Direction, speed: Option<u32>) -> Option<Passage>
     Some(Passage { speed, direction })
 }
 
+/// How the modes may use a way of this class.
 #[tactic(auto, unfolding(crate::specs::Passages::passages_by))]
 fn passages_by(tags: &[(Bytes, Bytes)], highway: &[u8], class: Class) -> Passages
     requires { IfSome class.car (λ speed. 1 ≤ speed) }
@@ -94,6 +98,7 @@ fn passages_by(tags: &[(Bytes, Bytes)], highway: &[u8], class: Class) -> Passage
     }
 }
 
+/// How the modes may use a way with this value of the key `highway`.
 #[tactic(auto, unfolding(crate::specs::Passages::passages_on, crate::specs::Passages::passages_by))]
 fn passages_on(tags: &[(Bytes, Bytes)], highway: Option<&[u8]>) -> Passages
     ensures moving { HaveSpeeds result }
@@ -108,6 +113,7 @@ fn passages_on(tags: &[(Bytes, Bytes)], highway: Option<&[u8]>) -> Passages
     }
 }
 
+/// Whether a way is the edge of an area.
 #[tactic(auto, unfolding(crate::specs::Passages::is_area))]
 fn is_area(area: Option<&[u8]>) -> bool
     ensures { result ≡ spec.is_area (option_map (λ value. value.now) area.entry) }

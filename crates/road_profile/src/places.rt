@@ -16,7 +16,7 @@ pub struct Places {
     pub by_id: HashMap<i64, Place>,
 }
 
-// Keeps the place of a node, unless an earlier node has its id.
+/// Keeps the place of a node, unless an earlier node has its id.
 fn add_place(by_id: &mut HashMap<i64, Place>, node: &OsmNode) -> Result<(), AllocError>
     ensures { OnOk result ((id : ℤ) → get int_eq by_id.new id ≡ place_with (get int_eq by_id.old id)
         node.now id) }

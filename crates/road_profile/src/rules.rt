@@ -13,6 +13,7 @@ pub enum Direction {
     Backward,
 }
 
+/// Whether a mode's own tag lets it use a way.
 #[tactic(auto, unfolding(crate::specs::Rules::grants))]
 fn grants(own: Option<&[u8]>) -> bool
     ensures { result ≡ spec.grants (option_map (λ value. value.now) own.entry) }
@@ -23,6 +24,7 @@ fn grants(own: Option<&[u8]>) -> bool
     )
 }
 
+/// Whether a mode's own tag keeps it from a way.
 #[tactic(auto, unfolding(crate::specs::Rules::refuses))]
 fn refuses(own: Option<&[u8]>) -> bool
     ensures { result ≡ spec.refuses (option_map (λ value. value.now) own.entry) }
@@ -30,6 +32,7 @@ fn refuses(own: Option<&[u8]>) -> bool
     is_among(own, &["no", "private", "dismount", "use_sidepath"])
 }
 
+/// Whether the key `access` keeps a mode from a way of which its own tag says nothing.
 #[tactic(auto, unfolding(crate::specs::Rules::closes))]
 fn closes(access: Option<&[u8]>) -> bool
     ensures { result ≡ spec.closes (option_map (λ value. value.now) access.entry) }
