@@ -42,12 +42,19 @@ line_stops n stops others way line = map (λ other. corner_stop_number stops (cr
 abbrev pub fleet_trips : ℕ → List CityStop → List ℕ → Fleet → List TripLists
 fleet_trips n stops stopped fleet = flat_map (λ line. line_trips fleet line (line_stops n stops stopped fleet.way line)) stopped
 
--- Letter 6 is the bus, and 3 is the tram; byte 66 is B, and 84 is T.
+-- the bytes that the names of their trips begin with: B and T
+abbrev pub bus_head : ℕ
+bus_head = 66
+
+abbrev pub tram_head : ℕ
+tram_head = 84
+
+-- letter 6 is the bus, and 3 is the tram
 abbrev pub buses : Fleet
-buses = record { letter = 6; head = 66; every = 600; trips = 108; way = Row }
+buses = record { letter = 6; head = bus_head; every = 600; trips = 108; way = Row }
 
 abbrev pub trams : Fleet
-trams = record { letter = 3; head = 84; every = 900; trips = 72; way = Column }
+trams = record { letter = 3; head = tram_head; every = 900; trips = 72; way = Column }
 
 -- along these lines, where there are two or more
 abbrev pub trips_along : ℕ → List CityStop → List ℕ → List TripLists
