@@ -26,12 +26,14 @@ pub(crate) fn push_node(
     Ok(())
 }
 
+/// Puts the node of a corner in the layer of this mode to the others.
 fn push_road(nodes: &mut Vec<Node>, at: Corner, mode: Mode) -> Result<(), AllocError>
     ensures { OnOk result (nodes.new.items ≡ nodes.old.items ++ spec.road_at at mode) }
 {
     push_node(nodes, place_at(at), NodeKey::Road(mode, i64::from(at.id)))
 }
 
+/// Puts the nodes of a corner in all layers to the others.
 fn push_nodes(nodes: &mut Vec<Node>, at: Corner) -> Result<(), AllocError>
     ensures { OnOk result (nodes.new.items ≡ nodes.old.items ++ spec.nodes_at at) }
 {
@@ -60,7 +62,7 @@ pub(crate) struct RoadNumbers {
     pub(crate) by_end: HashMap<(i64, u8), u32>,
 }
 
-// Notes the number of an end, unless it has one.
+/// Notes the number of an end, unless it has one.
 fn note(by_end: &mut HashMap<(i64, u8), u32>, key: (i64, u8), number: u32) -> Result<(), AllocError>
     ensures { OnOk result ((end : spec.RoadNodeKey) → get spec.is_same_road_key by_end.new end
         ≡ number_if_here (get spec.is_same_road_key by_end.old end) (spec.is_same_road_key key end) number) }
@@ -72,7 +74,7 @@ fn note(by_end: &mut HashMap<(i64, u8), u32>, key: (i64, u8), number: u32) -> Re
     Ok(())
 }
 
-// Notes the number of a road node, unless it has one.
+/// Notes the number of a road node, unless it has one.
 fn note_node(
     by_end: &mut HashMap<(i64, u8), u32>,
     key: NodeKey,

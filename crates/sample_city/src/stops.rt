@@ -59,6 +59,7 @@ fn stop_in(name: Option<Name>, place: Option<Place>, at: Corner) -> Option<CityS
     })
 }
 
+/// Puts the stop of a corner to the others, if it has one.
 fn push_stop(alloc: Global, stops: &mut Vec<CityStop>, at: Corner) -> Result<(), AllocError>
     ensures { OnOk result (stops.new.items ≡ stops.old.items ++ option_to_list (spec.corner_stop at)) }
 {
@@ -128,6 +129,7 @@ pub(crate) fn city_switches(alloc: Global, n: u32) -> Result<Vec<Node>, AllocErr
     Ok(switches)
 }
 
+/// Puts the links between a place and a road node, both ways, to the others, if there is such a node.
 fn push_link_both(
     links: &mut Vec<Arc>,
     ms: u32,
@@ -140,6 +142,7 @@ fn push_link_both(
     push_arc(links, Some(place), road, ms)
 }
 
+/// Puts the links of these stops to the others; their nodes are numbered from `first` on.
 fn push_stop_links(
     links: &mut Vec<Arc>,
     numbers: &RoadNumbers,
@@ -165,6 +168,7 @@ fn push_stop_links(
     Ok(())
 }
 
+/// Puts the links of both switches to the others; the node of the first has the number `place`.
 fn push_switch_links(
     links: &mut Vec<Arc>,
     numbers: &RoadNumbers,

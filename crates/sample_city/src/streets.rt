@@ -55,6 +55,7 @@ pub(crate) fn in_order(mut arcs: Vec<Arc>) -> Result<Vec<Arc>, AllocError>
     Ok(arcs)
 }
 
+/// How long an arc takes, in ms: up to a second more than its base, by the ids of its ends.
 fn time_between(base: u32, from: u64, to: u64) -> u32
     requires base { base < 100000 }
     requires from { from < 2 ^ 33 }
@@ -64,6 +65,7 @@ fn time_between(base: u32, from: u64, to: u64) -> u32
     base + ((37 * from + 11 * to) % 1_000) as u32
 }
 
+/// Puts the arcs of a mode between two corners, both ways, to the others.
 fn push_street(
     arcs: &mut Vec<Arc>,
     numbers: &RoadNumbers,
@@ -83,6 +85,7 @@ fn push_street(
     push_arc(arcs, end, start, time_between(base, b, a))
 }
 
+/// The same of all modes.
 fn push_streets(
     arcs: &mut Vec<Arc>,
     numbers: &RoadNumbers,
@@ -107,6 +110,7 @@ fn push_streets(
     Ok(())
 }
 
+/// Puts the arcs between a corner and the next one of this way to the others, if there is one.
 fn push_along(
     arcs: &mut Vec<Arc>,
     numbers: &RoadNumbers,

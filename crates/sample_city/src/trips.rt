@@ -80,6 +80,7 @@ const TRAMS: Fleet = Fleet {
     way: Direction::Column,
 };
 
+/// Puts the trip number `j` of a fleet along a line to the others.
 fn push_trip(
     alloc: Global,
     trips: &mut Vec<Trip>,
@@ -106,6 +107,7 @@ fn push_trip(
     Ok(())
 }
 
+/// Puts the trips of a fleet along a line to the others.
 fn push_line(
     alloc: Global,
     trips: &mut Vec<Trip>,
@@ -147,6 +149,7 @@ fn line_stops(
     Ok(numbers)
 }
 
+/// Puts the trips of a fleet along all lines to the others.
 fn push_fleet(
     alloc: Global,
     trips: &mut Vec<Trip>,
