@@ -5,7 +5,7 @@ use crate::parts;
 use case_script::{Answer, Script};
 use opl_reader::Objects;
 use plan_base::Caps;
-use road_profile::road_arcs;
+use road_profile::{RoadRow, places_of, road_arcs};
 use std::alloc::{AllocError, Global};
 
 /// `roads TEXT [TAGS]`: the road arcs of a map; with tags, of the map and a way with these between nodes 1 and 2.
@@ -30,8 +30,14 @@ fn way_of(alloc: Global, tags: &[u8]) -> Result<Vec<u8>, AllocError> {
     Ok(line)
 }
 
+/// The road arcs of a map.
+fn arcs_of(alloc: Global, objects: &Objects) -> Result<Vec<RoadRow>, AllocError> {
+    let places = places_of(alloc, &objects.nodes)?;
+    road_arcs(alloc, &places, objects)
+}
+
 fn print_arcs(out: &mut Answer, objects: &Objects) {
-    if let Ok(rows) = road_arcs(out.alloc(), objects) {
+    if let Ok(rows) = arcs_of(out.alloc(), objects) {
         for row in &rows {
             out.shown("", row.from);
             out.shown(" to ", row.to);

@@ -1,35 +1,9 @@
 //! What is counted for the summary.
 
-ghost use Rattle.std.specs.Prelude.{◌≡◌, ◌<◌, ◌^◌, length};
+ghost use Rattle.std.specs.Prelude.{◌≡◌, ◌<◌, ◌^◌};
 ghost use Rattle.sample_command.specs.Times as spec;
 
-use mode_network::Network;
 use plan_base::Time;
-
-/// How many stops there are: they stand behind the road nodes.
-pub(crate) fn stop_count(network: &Network) -> u32
-    ensures { result ≡ length network.now.stops }
-{
-    let roads = road_count(network);
-    network.known();
-    let mut v = roads;
-    while v < network.nodes() && network.stop_at(v).is_some() {
-        v += 1;
-    }
-    v - roads
-}
-
-/// How many road nodes there are.
-fn road_count(network: &Network) -> u32
-    ensures { result ≡ length network.now.roads }
-{
-    network.known();
-    let mut v = 0;
-    while v < network.nodes() && network.mode(v).is_some() {
-        v += 1;
-    }
-    v
-}
 
 /// How many queries have a journey.
 pub(crate) fn journeys(times: &[Option<Time>]) -> usize

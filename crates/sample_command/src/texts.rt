@@ -8,6 +8,7 @@ use crate::counts;
 use mode_network::Network;
 use plain_texts::push_decimal;
 use plan_base::Time;
+use region_file::counts_of;
 use std::alloc::{AllocError, Global};
 
 /// The lines of the summary: what there is of the city, and what the queries take without a hierarchy and over one.
@@ -49,7 +50,7 @@ fn push_city(text: &mut Vec<u8>, n: u32, city: &Network) -> Result<(), AllocErro
     push_told(text, "nodes", u128::from(city.nodes()))?;
     push_told(text, "arcs", city.arcs().len() as u128)?;
     push_told(text, "links", city.links().len() as u128)?;
-    push_told(text, "stops", u128::from(counts::stop_count(city)))?;
+    push_told(text, "stops", u128::from(counts_of(city).stops))?;
     push_told(text, "trips", city.timetable().trips().len() as u128)?;
     Ok(())
 }
