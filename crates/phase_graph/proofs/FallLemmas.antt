@@ -14,14 +14,14 @@ use Rattle.std.proofs.lemmas.Option.{slice_get-get_or}
 use Rattle.search_laws.specs.declared.graph.Way.{Way}
 use Rattle.mode_network.proofs.RuleLemmas.{both}
 use Rattle.hierarchy.specs.Lists.{HierarchyLists, IsAbove, is_above}
-use Rattle.hierarchy.specs.Lookups.{AreFrom, ArePlaces, FallsTo}
+use Rattle.hierarchy.specs.Lookups.{AreFrom, ArePlaces, FallsTo, entry_at, no_entry}
 use Rattle.hierarchy.specs.Rules.{IsHierarchy, entry_cmp}
 use Rattle.hierarchy.proofs.LookupLemmas.{entry_total, from_rises}
 use Rattle.hierarchy.proofs.OffsetLemmas.{are_from}
 use Rattle.phase_graph.specs.declared.falls.ChainedFall.{ChainedFall}
 use Rattle.phase_graph.specs.declared.falls.Fall.{Fall}
 use Rattle.phase_graph.specs.Marks.{has_mark, is_fall}
-use Rattle.phase_graph.specs.PhaseArcs.{entries_at, entry_at, first_entry, no_entry}
+use Rattle.phase_graph.specs.PhaseArcs.{entries_at, first_entry}
 use Rattle.phase_graph.specs.inside.Falls.{AreChains, AreFallsByEnd, AreInTurn, HasFalls, IsChain, IsFallAt, IsFallFrom, LeavesBelow, chained_at, fall_at, falls_from, places_from}
 use Rattle.phase_graph.specs.inside.Marking.{AreMarked}
 
@@ -30,15 +30,15 @@ use Rattle.phase_graph.specs.inside.Marking.{AreMarked}
 -- the falls to the first nodes are gathered, and lead to lower nodes than the others will
 pub record AreGathered (h : HierarchyLists) (marks : List Bool) (nodes places : List ℕ) (n : ℕ) : Type 0 where
   pub each : All (IsFallAt h marks) places
-  pub so_far : (place : ℕ) → IsFallAt h marks place → Contains (take n nodes) (entry_at h place).to → Contains places place
-  pub lower : (m d : ℕ) → n ≤ m → m < length nodes → All (λ k. (entry_at h k).to < get_or nodes m d) places
+  pub so_far : (place : ℕ) → IsFallAt h marks place → Contains (take n nodes) (entry_at h.entries place).to → Contains places place
+  pub lower : (m d : ℕ) → n ≤ m → m < length nodes → All (λ k. (entry_at h.entries k).to < get_or nodes m d) places
   pub in_turn : AreInTurn h places
 
 pub gathered_none : (h : HierarchyLists) (marks : List Bool) (nodes : List ℕ) → AreGathered h marks nodes [] 0
 gathered_none h marks nodes = record {
   each = All-nil (IsFallAt h marks);
   so_far = λ place fell there. absurd (omega (arith, there.1));
-  lower = λ m d from lt. All-nil (λ k. (entry_at h k).to < get_or nodes m d);
+  lower = λ m d from lt. All-nil (λ k. (entry_at h.entries k).to < get_or nodes m d);
   in_turn = λ i j d before within. absurd (omega arith);
 }
 
@@ -51,27 +51,27 @@ pairs_append R (x ∷ xs) ys first second across =
 
 module _ (h : HierarchyLists) (rules : IsHierarchy h) (marks : List Bool) (nodes : List ℕ) (are : AreMarked h marks nodes) where
   -- an entry stands before one from the same node to a higher one
-  stands_first : (j k : ℕ) → j < length h.entries → (entry_at h j).to < (entry_at h k).to → (entry_at h j).from ≡ (entry_at h k).from → j < k
+  stands_first : (j k : ℕ) → j < length h.entries → (entry_at h.entries j).to < (entry_at h.entries k).to → (entry_at h.entries j).from ≡ (entry_at h.entries k).from → j < k
   stands_first j k within to from = elim (cases_lt j k) [
     | inl before ↦ before
     | inr after ↦ elim (cases_lt k j) [
-      | inl behind ↦ (let less : entry_cmp (entry_at h j) (entry_at h k) ≡ Less = rw (from, tied_itself nat_cmp_total (entry_at h k).from, lt-ltb _ _ to) refl in
-          let clash : Less ≡ Greater = sym less ∙ entry_total.antisymm (entry_at h j) (entry_at h k) ∙ ap ordering_reverse (rules.entries_ascend k j no_entry behind within) in cc)
-      | inr also ↦ (let same : j ≡ k = omega arith in absurd (omega (arith, to, ap (λ i. (entry_at h i).to) same)))
+      | inl behind ↦ (let less : entry_cmp (entry_at h.entries j) (entry_at h.entries k) ≡ Less = rw (from, tied_itself nat_cmp_total (entry_at h.entries k).from, lt-ltb _ _ to) refl in
+          let clash : Less ≡ Greater = sym less ∙ entry_total.antisymm (entry_at h.entries j) (entry_at h.entries k) ∙ ap ordering_reverse (rules.entries_ascend k j no_entry behind within) in cc)
+      | inr also ↦ (let same : j ≡ k = omega arith in absurd (omega (arith, to, ap (λ i. (entry_at h.entries i).to) same)))
     ]
   ]
 
   module _ (x : ℕ) (marked : Contains nodes x) (into : List ℕ) (places : ArePlaces (FallsTo h.order x) h.entries into) where
-    falls_there : (k d : ℕ) → k < length into → FallsTo h.order x (entry_at h (get_or into k d))
+    falls_there : (k d : ℕ) → k < length into → FallsTo h.order x (entry_at h.entries (get_or into k d))
     falls_there k d lt =
         let place = get_or into k d in
-        places.each place (entry_at h place) (k, lt, sym (get_or_default into k d place lt)) (slice_get-get_or h.entries place no_entry (places.within k d lt))
+        places.each place (entry_at h.entries place) (k, lt, sym (get_or_default into k d place lt)) (slice_get-get_or h.entries place no_entry (places.within k d lt))
 
     -- what leads down to a node with a mark is a fall
     are_falls : All (IsFallAt h marks) into
     are_falls k d lt =
         let place = get_or into k d in
-        let e = entry_at h place in
+        let e = entry_at h.entries place in
         let within = places.within k d lt in
         let falls = falls_there k d lt in
         let from = are.set e.from (are.followed x marked place e within (get_or_default h.entries place e no_entry within) falls.ends falls.above) in
@@ -80,9 +80,9 @@ module _ (h : HierarchyLists) (rules : IsHierarchy h) (marks : List Bool) (nodes
         (within, rw (to, from, above) refl)
 
     -- and each fall to it does
-    has_fall : (place : ℕ) → IsFallAt h marks place → (entry_at h place).to ≡ x → Contains into place
+    has_fall : (place : ℕ) → IsFallAt h marks place → (entry_at h.entries place).to ≡ x → Contains into place
     has_fall place (within, fell) is =
-        let e = entry_at h place in
+        let e = entry_at h.entries place in
         let tests = both (has_mark marks e.to) (has_mark marks e.from && is_above h.order e.from e.to) fell in
         let above = ltb-true _ _ (both (has_mark marks e.from) (is_above h.order e.from e.to) tests.1).1 in
         places.all place e (slice_get-get_or h.entries place no_entry within) (record { ends = is; above = subst (IsAbove h.order e.from) is above })
@@ -90,13 +90,13 @@ module _ (h : HierarchyLists) (rules : IsHierarchy h) (marks : List Bool) (nodes
   pub gathered_more : (places : List ℕ) (n : ℕ) (into : List ℕ) → AreGathered h marks nodes places n → n < length nodes → ArePlaces (FallsTo h.order (get_or nodes n 0)) h.entries into → AreGathered h marks nodes (places ++ into) (n + 1)
   gathered_more places n into far lt falls = record {
     each = All-append (IsFallAt h marks) places into far.each (are_falls x here into falls);
-    so_far = λ place fell there. elim (Contains-push_cases (take n nodes) x (entry_at h place).to (subst (λ xs. Contains xs (entry_at h place).to) (take_more nodes n 0 lt) there)) [
+    so_far = λ place fell there. elim (Contains-push_cases (take n nodes) x (entry_at h.entries place).to (subst (λ xs. Contains xs (entry_at h.entries place).to) (take_more nodes n 0 lt) there)) [
       | inl before ↦ Contains-append_left places into place (far.so_far place fell before)
       | inr is ↦ Contains-append_right places into place (has_fall x here into falls place fell (sym is))
     ];
-    lower = λ m d past within. All-append (λ k. (entry_at h k).to < get_or nodes m d) places into (far.lower m d (omega arith) within)
+    lower = λ m d past within. All-append (λ k. (entry_at h.entries k).to < get_or nodes m d) places into (far.lower m d (omega arith) within)
         (λ i e inside. (let rise = are.ascending n m d (omega arith) within in omega (arith, rise, (falls_there x here into falls i e inside).ends, get_or_default nodes n 0 d lt)));
-    in_turn = pairs_append (λ j k. (entry_at h j).from ≡ (entry_at h k).from → j < k) places into far.in_turn (λ i j d before within from. falls.ascending i j d before within)
+    in_turn = pairs_append (λ j k. (entry_at h.entries j).from ≡ (entry_at h.entries k).from → j < k) places into far.in_turn (λ i j d before within from. falls.ascending i j d before within)
         (λ i d inside j e within. stands_first (get_or places i d) (get_or into j e) (far.each i d inside).0
         (omega (arith, far.lower n 0 (omega arith) lt i d inside, (falls_there x here into falls j e within).ends)));
   } where
@@ -109,7 +109,7 @@ module _ (h : HierarchyLists) (rules : IsHierarchy h) (marks : List Bool) (nodes
   pub gathered_all : (places : List ℕ) (n : ℕ) → length nodes ≤ n → AreGathered h marks nodes places n → AreFallsByEnd h marks places
   gathered_all places n past far = record {
     each = far.each;
-    all = λ place fell. far.so_far place fell (subst (λ xs. Contains xs (entry_at h place).to) (sym (take_all n nodes past)) (are.listed (entry_at h place).to (both _ _ fell.1).0));
+    all = λ place fell. far.so_far place fell (subst (λ xs. Contains xs (entry_at h.entries place).to) (sym (take_all n nodes past)) (are.listed (entry_at h.entries place).to (both _ _ fell.1).0));
     in_turn = far.in_turn;
   }
 
@@ -118,7 +118,7 @@ pub leave_below : (h : HierarchyLists) (marks : List Bool) (places : List ℕ) �
 leave_below h marks places falls k d lt =
     let place = get_or places k d in
     let (within, fell) = falls k d lt in
-    (within, marked (entry_at h place).from (both _ _ (both (has_mark marks (entry_at h place).to) _ fell).1).0)
+    (within, marked (entry_at h.entries place).from (both _ _ (both (has_mark marks (entry_at h.entries place).to) _ fell).1).0)
   where
     marked : (v : ℕ) → has_mark marks v ≡ true → v < length marks
     marked v is = grind (arith, get_or_past marks v false)
@@ -149,11 +149,11 @@ chains_none h (suc nodes) zero = refl
 chains_none h (suc nodes) (suc v) = chains_none h nodes v
 
 pub chains_more : (h : HierarchyLists) (place : ℕ) (places : List ℕ) (all : List ChainedFall) (first : List ℕ) → LeavesBelow h (length first) place → AreChains h places all first
-    → AreChains h (place ∷ places) (all ++ record { fall = fall_at h place; next = get_or first (entry_at h place).from 0 } ∷ []) (set first (entry_at h place).from (length all + 1))
+    → AreChains h (place ∷ places) (all ++ record { fall = fall_at h place; next = get_or first (entry_at h.entries place).from 0 } ∷ []) (set first (entry_at h.entries place).from (length all + 1))
 chains_more h place places all first leaves chains v = by_node (nat_eq u v) refl
   where
     u : ℕ
-    u = (entry_at h place).from
+    u = (entry_at h.entries place).from
 
     one : ChainedFall
     one = record { fall = fall_at h place; next = get_or first u 0 }
@@ -218,19 +218,19 @@ range_ascends a n i j d before lt =
 
 module _ (h : HierarchyLists) (rules : IsHierarchy h) (marks : List Bool) (places : List ℕ) (falls : AreFallsByEnd h marks places) where
   -- those that leave a node are the falls among its entries
-  falls_of : (v : ℕ) → places_from h places v ≡ filter (λ place. is_fall h marks (entry_at h place)) (range_with_len (first_entry h v) (entries_at h v))
+  falls_of : (v : ℕ) → places_from h places v ≡ filter (λ place. is_fall h marks (entry_at h.entries place)) (range_with_len (first_entry h v) (entries_at h v))
   falls_of v =
       same_numbers (places_from h places v) (filter fell range)
-      (λ i j d before within. AllPairs-filter (λ j k. (entry_at h j).from ≡ (entry_at h k).from → j < k) leaves places falls.in_turn i j d before within
+      (λ i j d before within. AllPairs-filter (λ j k. (entry_at h.entries j).from ≡ (entry_at h.entries k).from → j < k) leaves places falls.in_turn i j d before within
       (eqb-true _ _ (filter_passes leaves places i d (omega arith)) ∙ sym (eqb-true _ _ (filter_passes leaves places j d within))))
       (AllPairs-filter (λ j k. j < k) fell range (range_ascends begin count))
       (λ k there. (let (within, pass) = All-contains (IsFallAt h marks) _ k (All-filter leaves (IsFallAt h marks) places falls.each) there in
-      let inside = from.all k (entry_at h k) (slice_get-get_or h.entries k no_entry within) (eqb-true _ _ (All-contains (λ j. leaves j ≡ true) _ k (filter_passes leaves places) there)) in
+      let inside = from.all k (entry_at h.entries k) (slice_get-get_or h.entries k no_entry within) (eqb-true _ _ (All-contains (λ j. leaves j ≡ true) _ k (filter_passes leaves places) there)) in
       filter_has fell range k (range_has begin count k inside.0 (omega (arith, inside.1, from.in_order))) pass))
       (λ k there. (let (low, high) = All-contains (λ j. (begin ≤ j) × (j < begin + count)) _ k (All-filter fell (λ j. (begin ≤ j) × (j < begin + count)) range (range_within begin count)) there in
       let within : k < length h.entries = omega (arith, high, from.within, from.in_order) in
       filter_has leaves places k (falls.all k (within, All-contains (λ j. fell j ≡ true) _ k (filter_passes fell range) there))
-      (eq-eqb _ _ (from.inside k (entry_at h k) low (omega (arith, high, from.in_order)) (slice_get-get_or h.entries k no_entry within)))))
+      (eq-eqb _ _ (from.inside k (entry_at h.entries k) low (omega (arith, high, from.in_order)) (slice_get-get_or h.entries k no_entry within)))))
     where
       begin : ℕ
       begin = first_entry h v
@@ -242,10 +242,10 @@ module _ (h : HierarchyLists) (rules : IsHierarchy h) (marks : List Bool) (place
       range = range_with_len begin count
 
       leaves : ℕ → Bool
-      leaves place = nat_eq (entry_at h place).from v
+      leaves place = nat_eq (entry_at h.entries place).from v
 
       fell : ℕ → Bool
-      fell place = is_fall h marks (entry_at h place)
+      fell place = is_fall h marks (entry_at h.entries place)
 
       from : AreFrom h.entries v begin (first_entry h (v + 1))
       from = are_from h.entries (from_rises h.entries rules.entries_ascend) v
@@ -258,7 +258,7 @@ module _ (h : HierarchyLists) (rules : IsHierarchy h) (marks : List Bool) (place
 -- each is at one of the places
 pub falls_within : (h : HierarchyLists) (marks : List Bool) (first count : ℕ) → All (IsFallFrom first count) (falls_from h marks first count)
 falls_within h marks first count =
-    All-map (IsFallFrom first count) (fall_at h) _ (All-filter (λ place. is_fall h marks (entry_at h place)) (λ k. IsFallFrom first count (fall_at h k)) (range_with_len first count)
+    All-map (IsFallFrom first count) (fall_at h) _ (All-filter (λ place. is_fall h marks (entry_at h.entries place)) (λ k. IsFallFrom first count (fall_at h k)) (range_with_len first count)
     (λ i d lt. (let (low, high) = range_within first count i d lt in record { low = low; high = high })))
 
 -- the falls before one with a number and 1 are appended as ways, and with the others they are the whole

@@ -18,7 +18,7 @@ use Rattle.hierarchy.specs.Rules.{IsHierarchy}
 use Rattle.hierarchy.specs.Indexes.{AreBelow}
 use Rattle.hierarchy.specs.Rises.{is_rise}
 use Rattle.hierarchy.specs.Soundness.{IsSound, FitsLayer}
-use Rattle.hierarchy.specs.Lookups.{from_of}
+use Rattle.hierarchy.specs.Lookups.{from_of, entry_at, no_entry}
 use Rattle.hierarchy.proofs.LookupLemmas.{from_rises}
 use Rattle.hierarchy.proofs.RiseLemmas.{are_rise_places}
 use Rattle.hierarchy.proofs.OffsetLemmas.{count_most, key_in_range}
@@ -28,7 +28,7 @@ use Rattle.phase_graph.specs.declared.phases.PhaseArc.{PhaseArc}
 use Rattle.phase_graph.specs.declared.phases.PhaseArc.TheVariants.{Up, Down, Other}
 use Rattle.phase_graph.specs.Arcs.{phase_node}
 use Rattle.phase_graph.specs.Marks.{is_fall}
-use Rattle.phase_graph.specs.PhaseArcs.{phase_meaning, phase_arc, phase_arcs_at, arc_of, phase_arrival, entry_at, rises_at, first_entry, entries_at, others_at, first_other, no_entry, node_of, is_down}
+use Rattle.phase_graph.specs.PhaseArcs.{phase_meaning, phase_arc, phase_arcs_at, arc_of, phase_arrival, rises_at, first_entry, entries_at, others_at, first_other, node_of, is_down}
 
 -- ---- the numbers of nodes
 
@@ -67,15 +67,15 @@ module _ (n : NetworkLists) (h : HierarchyLists) (network : IsNetwork n) (sound 
 
 -- what is known of an arc out of v
 abbrev pub IsArcAt : NetworkLists → HierarchyLists → TableLists → ℕ → Bool → PhaseArc → Type 0
-IsArcAt n h t v down (Up place) = (down ≡ false) × (place < length h.entries) × ((entry_at h place).from ≡ v) × (is_rise h.order (entry_at h place) ≡ true)
-IsArcAt n h t v down (Down place) = (place < length h.entries) × ((entry_at h place).from ≡ v)
+IsArcAt n h t v down (Up place) = (down ≡ false) × (place < length h.entries) × ((entry_at h.entries place).from ≡ v) × (is_rise h.order (entry_at h.entries place) ≡ true)
+IsArcAt n h t v down (Down place) = (place < length h.entries) × ((entry_at h.entries place).from ≡ v)
 IsArcAt n h t v down (Other place) = (first_other n v down ≤ place) × (place < first_other n v down + others_at n t v down)
 
 -- each of the entries of a node leaves it
 pub entry_inside : (h : HierarchyLists) (v i : ℕ) → i < entries_at h v → first_entry h v + i < length h.entries
 entry_inside h v i lt = omega (arith, lt, count_most from_of h.entries (v + 1))
 
-pub entry_begins : (h : HierarchyLists) → IsHierarchy h → (v i : ℕ) → i < entries_at h v → (entry_at h (first_entry h v + i)).from ≡ v
+pub entry_begins : (h : HierarchyLists) → IsHierarchy h → (v i : ℕ) → i < entries_at h v → (entry_at h.entries (first_entry h v + i)).from ≡ v
 entry_begins h rules v i lt = key_in_range from_of h.entries (from_rises h.entries rules.entries_ascend) v (first_entry h v + i) no_entry (omega arith) (omega (arith, lt))
 
 -- what arrives if a test holds
@@ -104,7 +104,7 @@ module _ (n : NetworkLists) (h : HierarchyLists) (network : IsNetwork n) (rules 
       let are = are_rise_places h rules v in
       let place = get_or (rises_at h v false) i 0 in
       let within = are.within i 0 lt in
-      let rises = are.each place (entry_at h place) (i, lt, sym (get_or_default (rises_at h v false) i 0 place lt)) (slice_get-get_or h.entries place no_entry within) in
+      let rises = are.each place (entry_at h.entries place) (i, lt, sym (get_or_default (rises_at h v false) i 0 place lt)) (slice_get-get_or h.entries place no_entry within) in
       (refl, within, rises.begins, rises.leads)
 
   pub arc_is : (v i : ℕ) (down : Bool) → i < phase_arcs_at n t h v down → IsKnown v down (phase_arc n h v down i)
@@ -125,7 +125,7 @@ module _ (n : NetworkLists) (h : HierarchyLists) (network : IsNetwork n) (rules 
   few_double : 2 * length (nodes_of n) ≤ 2 ^ 25
   few_double = let few = network.few_nodes in omega (arith, few)
 
-  layer : (place : ℕ) → place < length h.entries → FitsLayer n (entry_at h place)
+  layer : (place : ℕ) → place < length h.entries → FitsLayer n (entry_at h.entries place)
   layer place lt = sound.in_layers place no_entry lt
 
   mode_fits : (v : ℕ) (o : Option ℕ) → letter_at n.roads v ≡ o → IfSome o IsLetter
@@ -144,8 +144,8 @@ module _ (n : NetworkLists) (h : HierarchyLists) (network : IsNetwork n) (rules 
   laws = plain_lawful n network t table of
 
   to_fits : (v : ℕ) (down : Bool) (a : PhaseArc) → v < length (nodes_of n) → IsKnown v down a → (arc_of n t h v down a).to < 2 * length (nodes_of n)
-  to_fits v down (Up place) node is = let f = layer place is.1 in in_nodes (entry_at h place).to false (length (nodes_of n)) (road_inside n h network sound (entry_at h place).to (number_of_mode f.mode) (letter_of n.roads (entry_at h place).to _ f.to_mode))
-  to_fits v down (Down place) node is = let f = layer place is.0 in in_nodes (entry_at h place).to true (length (nodes_of n)) (road_inside n h network sound (entry_at h place).to (number_of_mode f.mode) (letter_of n.roads (entry_at h place).to _ f.to_mode))
+  to_fits v down (Up place) node is = let f = layer place is.1 in in_nodes (entry_at h.entries place).to false (length (nodes_of n)) (road_inside n h network sound (entry_at h.entries place).to (number_of_mode f.mode) (letter_of n.roads (entry_at h.entries place).to _ f.to_mode))
+  to_fits v down (Down place) node is = let f = layer place is.0 in in_nodes (entry_at h.entries place).to true (length (nodes_of n)) (road_inside n h network sound (entry_at h.entries place).to (number_of_mode f.mode) (letter_of n.roads (entry_at h.entries place).to _ f.to_mode))
   to_fits v down (Other place) node is = in_nodes (plain.arc_at v place).to down (length (nodes_of n)) (laws.to_in_range v place (plain_has v place down node is))
 
   letter_fits : (v : ℕ) (down : Bool) (a : PhaseArc) → v < length (nodes_of n) → IsKnown v down a → IfSome (arc_of n t h v down a).letter IsLetter
@@ -157,21 +157,21 @@ module _ (n : NetworkLists) (h : HierarchyLists) (network : IsNetwork n) (rules 
   soon v time at down (Up place) node is e = let light = (layer place is.1).light in let same = some_is e in (omega (arith, same), omega (arith, same, light))
   soon v time at down (Down place) node is e =
       let light = (layer place is.0).light in
-      let same = (taken (is_fall h marks (entry_at h place)) _ at e).1 in
+      let same = (taken (is_fall h marks (entry_at h.entries place)) _ at e).1 in
       (omega (arith, same), omega (arith, same, light))
   soon v time at down (Other place) node is e = (laws.not_before v place time at (plain_has v place down node is) e, laws.not_late v place time at (plain_has v place down node is) e)
 
   later : (v s time a b : ℕ) (down : Bool) (arc : PhaseArc) → v < length (nodes_of n) → IsKnown v down arc → s ≤ time → phase_arrival n t h marks v s arc ≡ Some a → phase_arrival n t h marks v time arc ≡ Some b → a ≤ b
   later v s time a b down (Up place) node is le e f = omega (arith, le, some_is e, some_is f)
   later v s time a b down (Down place) node is le e f =
-      let first = (taken (is_fall h marks (entry_at h place)) _ a e).1 in
-      let second = (taken (is_fall h marks (entry_at h place)) _ b f).1 in
+      let first = (taken (is_fall h marks (entry_at h.entries place)) _ a e).1 in
+      let second = (taken (is_fall h marks (entry_at h.entries place)) _ b f).1 in
       omega (arith, le, first, second)
   later v s time a b down (Other place) node is le e f = laws.rises v place s time a b (plain_has v place down node is) le e f
 
   never : (v s time : ℕ) (down : Bool) (arc : PhaseArc) → v < length (nodes_of n) → IsKnown v down arc → s ≤ time → phase_arrival n t h marks v s arc ≡ None → phase_arrival n t h marks v time arc ≡ None
   never v s time down (Up place) node is le e = cc
-  never v s time down (Down place) node is le e = shut (is_fall h marks (entry_at h place)) _ _ e
+  never v s time down (Down place) node is le e = shut (is_fall h marks (entry_at h.entries place)) _ _ e
   never v s time down (Other place) node is le e = laws.stays_none v place s time (plain_has v place down node is) le e
 
   pub node_half : (p : ℕ) → p < 2 * length (nodes_of n) → node_of p < length (nodes_of n)

@@ -26,7 +26,7 @@ use Rattle.hierarchy.specs.Lists.{HierarchyLists, height_in, is_above, IsAbove, 
 use Rattle.hierarchy.specs.Rules.{IsHierarchy}
 use Rattle.hierarchy.specs.Rises.{is_core, leads_up}
 use Rattle.hierarchy.specs.Soundness.{HasEntry, IsSound}
-use Rattle.hierarchy.specs.Lookups.{from_of}
+use Rattle.hierarchy.specs.Lookups.{from_of, entry_at, no_entry}
 use Rattle.hierarchy.specs.Indexes.{AreEndsBelow}
 use Rattle.hierarchy.proofs.LookupLemmas.{from_rises}
 use Rattle.hierarchy.proofs.RiseLemmas.{are_rise_places}
@@ -44,7 +44,7 @@ use Rattle.phase_graph.specs.declared.phases.PhaseArc.TheVariants.{Up, Down, Oth
 use Rattle.phase_graph.specs.Moves.{PhaseMove, rest, rise, fall, cross, stand, IsPhaseMove, IsRise, IsCrossing, IsMarked}
 use Rattle.phase_graph.specs.Arcs.{phase_node, IsResting, IsArcBy, IsArcOfMove, IsPhaseGraph}
 use Rattle.phase_graph.specs.Marks.{AreMarksFor, has_mark, is_fall}
-use Rattle.phase_graph.specs.PhaseArcs.{phase_meaning, phase_arc, phase_arcs_at, arc_of, phase_arrival, entry_at, rises_at, first_entry, entries_at, others_at, first_other, no_entry}
+use Rattle.phase_graph.specs.PhaseArcs.{phase_meaning, phase_arc, phase_arcs_at, arc_of, phase_arrival, rises_at, first_entry, entries_at, others_at, first_other}
 use Rattle.phase_graph.proofs.GraphLemmas.{half, phase_of, in_nodes, road_inside, IsArcAt, arc_is, taken, place_fits}
 use Rattle.phase_graph.proofs.MarkLemmas.{marked_by_fall}
 use Rattle.phase_graph.proofs.PlaceLemmas.{up_is, down_is, other_is}
@@ -93,9 +93,9 @@ module _ (n : NetworkLists) (h : HierarchyLists) (targets : List ℕ) (network :
           let cores = both (is_core h.order u) (is_core h.order v) (sym (ap (λ b. b || (is_core h.order u && is_core h.order v)) e) ∙ up) in
           inr (eqb-true _ _ cores.0, eqb-true _ _ cores.1)
 
-  entry_is : (v place : ℕ) → place < length h.entries → (entry_at h place).from ≡ v → HasEntry h.entries v (entry_at h place).to (entry_at h place).weight
+  entry_is : (v place : ℕ) → place < length h.entries → (entry_at h.entries place).from ≡ v → HasEntry h.entries v (entry_at h.entries place).to (entry_at h.entries place).weight
   entry_is v place lt from =
-      let e = entry_at h place in
+      let e = entry_at h.entries place in
       let row : Entry = record { from = v; to = e.to; weight = e.weight; via = e.via } in
       (e.via, (place, lt, sym (get_or_default h.entries place no_entry row lt) ∙ ap (λ x. record { from = x; to = e.to; weight = e.weight; via = e.via }) from))
 
@@ -110,8 +110,8 @@ module _ (n : NetworkLists) (h : HierarchyLists) (targets : List ℕ) (network :
 
   up_move : (v time u place : ℕ) (down : Bool) → IsArcAt n h t v down (Up place) → phase_arrival n t h marks v time (Up place) ≡ Some u → IsMoveAlong v down time u (arc_of n t h v down (Up place))
   up_move v time u place down (before, lt, from, up) e =
-      let to = (entry_at h place).to in
-      let weight = (entry_at h place).weight in
+      let to = (entry_at h.entries place).to in
+      let weight = (entry_at h.entries place).weight in
       record {
         move = rise (record { to = to; weight = weight });
         to = to;
@@ -124,11 +124,11 @@ module _ (n : NetworkLists) (h : HierarchyLists) (targets : List ℕ) (network :
   down_move : (v time u place : ℕ) (down : Bool) → IsArcAt n h t v down (Down place) → phase_arrival n t h marks v time (Down place) ≡ Some u
       → IsMoveAlong v down time u (arc_of n t h v down (Down place))
   down_move v time u place down (lt, from) e =
-      let to = (entry_at h place).to in
-      let weight = (entry_at h place).weight in
-      let fell = taken (is_fall h marks (entry_at h place)) (time + weight) u e in
-      let tests = both (has_mark marks to) (has_mark marks (entry_at h place).from && is_above h.order (entry_at h place).from to) fell.0 in
-      let above = both (has_mark marks (entry_at h place).from) (is_above h.order (entry_at h place).from to) tests.1 in
+      let to = (entry_at h.entries place).to in
+      let weight = (entry_at h.entries place).weight in
+      let fell = taken (is_fall h marks (entry_at h.entries place)) (time + weight) u e in
+      let tests = both (has_mark marks to) (has_mark marks (entry_at h.entries place).from && is_above h.order (entry_at h.entries place).from to) fell.0 in
+      let above = both (has_mark marks (entry_at h.entries place).from) (is_above h.order (entry_at h.entries place).from to) tests.1 in
       let lower : IsAbove h.order v to = subst (λ x. IsAbove h.order x to) from (ltb-true _ _ above.1) in
       record {
         move = fall (record { to = to; weight = weight });
@@ -251,7 +251,7 @@ module _ (n : NetworkLists) (h : HierarchyLists) (targets : List ℕ) (network :
       let found = (are_rise_places h rules v).all k e (slice_get-get_or h.entries k e lt ∙ ap Some is) (record { begins = refl; leads = up_of v hop.to up }) in
       let i = found.0 in
       let place : get_or (rises_at h v false) i 0 ≡ k = get_or_default (rises_at h v false) i 0 k found.1 ∙ found.2 in
-      let entry : entry_at h k ≡ e = get_or_default h.entries k no_entry e lt ∙ is in
+      let entry : entry_at h.entries k ≡ e = get_or_default h.entries k no_entry e lt ∙ is in
       arc_there v false time i (phase_node hop.to false) (time + hop.weight) (time + hop.weight) (letter_at n.roads v) (Up k) (entry_node v hop.to hop.weight (via, (k, lt, is)))
       (let within = found.1 in omega (arith, within)) (up_is n h v false i k found.1 place)
       (ap (λ (x : Entry). Some (time + x.weight)) entry) (omega arith) (ap (λ (x : Entry). phase_node x.to false) entry) refl
@@ -264,7 +264,7 @@ module _ (n : NetworkLists) (h : HierarchyLists) (targets : List ℕ) (network :
       let i = k - first_entry h v in
       let back : first_entry h v + i ≡ k = omega (arith, range.0) in
       let within : i < entries_at h v = omega (arith, range.0, range.1) in
-      let entry : entry_at h k ≡ e = get_or_default h.entries k no_entry e lt ∙ is in
+      let entry : entry_at h.entries k ≡ e = get_or_default h.entries k no_entry e lt ∙ is in
       let ends = subst (AreEndsBelow (length marks)) is (are.long.entries k e lt) in
       let fell : is_fall h marks e ≡ true = rw (are.all hop.to ends.1 marked, are.all v ends.0 (marked_by_fall h targets k e lt is above marked), lt-ltb _ _ above) refl in
       arc_there v down time (length (rises_at h v down) + i) (phase_node hop.to true) (time + hop.weight) (time + hop.weight) (letter_at n.roads v) (Down k) (entry_node v hop.to hop.weight (via, (k, lt, is)))

@@ -10,13 +10,15 @@ use Rattle.search_laws.specs.Collapse.{collapse}
 use Rattle.search_laws.specs.GraphLaws.{GraphMeaning, HasArc, IsLawfulGraph}
 use Rattle.mode_network.specs.NetworkLists.{NetworkLists}
 use Rattle.mode_network.specs.Rules.{IsNetwork}
+use Rattle.mode_network.specs.declared.steps.Step.{Step}
+use Rattle.mode_network.specs.Journeys.{AreSteps}
 use Rattle.hierarchy.specs.Lists.{HierarchyLists, is_contracted, IsContracted}
 use Rattle.plain_graph.specs.PlainArcs.{plain_meaning}
 use Rattle.plain_graph.specs.Lawful.{plain_lawful}
 use Rattle.plain_graph.proofs.Same.{journeys_are_walks, arcs_are_steps, steps_are_arcs}
 use Rattle.phase_graph.specs.Arcs.{phase_node, IsArcBy, IsPhaseGraph}
 use Rattle.phase_graph.specs.PhaseArcs.{phase_meaning, node_of, is_down}
-use Rattle.phase_graph.specs.InUse.{IsPlain, starts_in, target_numbers, ends_in, node_under, HasWalkInUse, JourneysHaveWalksInUse, GraphsInUseAreLawful, Covers, GraphsInUseAreAlike}
+use Rattle.phase_graph.specs.InUse.{IsInUse, IsSoundIfGiven, IsPlain, starts_in, target_numbers, ends_in, node_under, HasWalkInUse, JourneysHaveWalksInUse, GraphsInUseAreLawful, Covers, GraphsInUseAreAlike}
 use Rattle.phase_graph.proofs.GraphLemmas.{lawful, whole, half}
 use Rattle.phase_graph.proofs.GraphMoves.{is_phase_graph}
 use Rattle.phase_graph.proofs.WalkedLemmas.{journeys_have_walks}
@@ -79,10 +81,13 @@ ends_under (Some h) targets p there = unlisted h targets p there
 
 -- ---- journeys are walks
 
-pub journeys_have_walks_in_use : JourneysHaveWalksInUse
-journeys_have_walks_in_use n network None sound origins targets g in_use steps v t w u letters real from to =
+-- a journey from an origin to one of some among the targets has a walk to their numbers
+pub walk_to_some : (n : NetworkLists) → IsNetwork n → (o : Option HierarchyLists) → IsSoundIfGiven n o → (origins targets ends : List ℕ) → ((v : ℕ) → Contains ends v → Contains targets v)
+    → (g : GraphMeaning) → IsInUse n o targets g → (steps : List Step) (v t w u : ℕ) (letters : List ℕ) → AreSteps n v t steps w u letters → Contains origins v → Contains ends w
+    → HasWalkInUse g (starts_in o origins) (ends_in o ends) t u letters
+walk_to_some n network None sound origins targets ends inside g in_use steps v t w u letters real from to =
     let walk = journeys_are_walks n network in_use.table in_use.keeps in_use.of v t steps w u letters real in
-    subst (λ (x : GraphMeaning). HasWalkInUse x origins targets t u letters) (sym in_use.is) (record {
+    subst (λ (x : GraphMeaning). HasWalkInUse x origins ends t u letters) (sym in_use.is) (record {
       start = v;
       end = w;
       at = u;
@@ -93,21 +98,24 @@ journeys_have_walks_in_use n network None sound origins targets g in_use steps v
       no_later = omega arith;
       same_word = ap collapse walk.word;
     })
-journeys_have_walks_in_use n network (Some h) (rules, sound) origins targets g in_use steps v t w u letters real from to =
+walk_to_some n network (Some h) (rules, sound) origins targets ends inside g in_use steps v t w u letters real from to =
     let is = is_phase_graph n h targets network rules sound in_use.table in_use.keeps in_use.of in_use.marks in_use.are in
-    let p = journeys_have_walks n h targets network sound (phase_meaning n in_use.table h in_use.marks) is steps v t w u letters real to in
+    let p = journeys_have_walks n h targets network sound (phase_meaning n in_use.table h in_use.marks) is steps v t w u letters real (inside w to) in
     let walk = p.walk in
-    subst (λ (x : GraphMeaning). HasWalkInUse x (starts_in (Some h) origins) (ends_in (Some h) targets) t u letters) (sym in_use.is) (record {
+    subst (λ (x : GraphMeaning). HasWalkInUse x (starts_in (Some h) origins) (ends_in (Some h) ends) t u letters) (sym in_use.is) (record {
       start = phase_node v false;
       end = phase_node w p.down;
       at = p.at;
       steps = walk.steps;
       starts_there = mapped (λ x. phase_node x false) origins v from;
-      ends_there = listed h targets w (phase_node w p.down) to (numbered h w p.down p.at_target);
+      ends_there = listed h ends w (phase_node w p.down) to (numbered h w p.down p.at_target);
       walk = walk.walk;
       no_later = p.no_later;
       same_word = ap collapse walk.word_is ∙ p.same_word;
     })
+
+pub journeys_have_walks_in_use : JourneysHaveWalksInUse
+journeys_have_walks_in_use n network o sound origins targets g in_use = walk_to_some n network o sound origins targets targets (λ v there. there) g in_use
 
 -- ---- laws
 

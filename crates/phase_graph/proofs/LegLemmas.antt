@@ -10,7 +10,8 @@ use Rattle.hierarchy.specs.Rules.{IsHierarchy}
 use Rattle.hierarchy.specs.Rises.{Rise, has_legs, leg_of, legs_from, number_before, place_of, rise_places_from, rises_of}
 use Rattle.hierarchy.proofs.RiseLemmas.{are_rises_from}
 use Rattle.phase_graph.specs.declared.phases.PhaseArc.{PhaseArc}
-use Rattle.phase_graph.specs.PhaseArcs.{arc_of, entry_at, is_down, legs_at, no_entry, node_of, phase_arrival, phase_meaning, rises_at}
+use Rattle.hierarchy.specs.Lookups.{entry_at, no_entry}
+use Rattle.phase_graph.specs.PhaseArcs.{arc_of, is_down, legs_at, node_of, phase_arrival, phase_meaning, rises_at}
 use Rattle.phase_graph.proofs.PlaceLemmas.{up_known}
 
 module _ (h : HierarchyLists) (v : ℕ) where
@@ -35,7 +36,7 @@ module _ (h : HierarchyLists) (v : ℕ) where
 
   -- the entry at the place, as a leg
   abbrev pub entry_leg : ℕ → Leg
-  entry_leg place = record { to = number_before (entry_at h place).to; ms = (entry_at h place).weight }
+  entry_leg place = record { to = number_before (entry_at h.entries place).to; ms = (entry_at h.entries place).weight }
 
   pub leg_told : IsHierarchy h → (down : Bool) (i : ℕ) (d : Leg) → i < length (legs_at h v down) → get_or (legs_at h v down) i d ≡ entry_leg (get_or (rises_at h v down) i 0)
   leg_told rules true i d lt = absurd (omega arith)
@@ -48,7 +49,7 @@ module _ (h : HierarchyLists) (v : ℕ) where
         let of = (are_rises_from h rules v).each i nothing inside in
         let place : get_or (rise_places_from h v) i 0 ≡ rise.place = get_or-map place_of (rises_of h v) i nothing 0 inside in
         ap (λ b. get_or (cond b (map leg_of (rises_of h v)) []) i d) has ∙ get_or-map leg_of (rises_of h v) i nothing d inside
-        ∙ sym (ap entry_leg place ∙ ap (λ to. record { to = number_before to; ms = (entry_at h rise.place).weight }) (of.ends no_entry) ∙ ap (λ ms. record { to = number_before rise.to; ms = ms }) (of.weighs no_entry))
+        ∙ sym (ap entry_leg place ∙ ap (λ to. record { to = number_before to; ms = (entry_at h.entries rise.place).weight }) (of.ends no_entry) ∙ ap (λ ms. record { to = number_before rise.to; ms = ms }) (of.weighs no_entry))
 
 -- a leg tells of the arc at its place
 pub leg_is : (n : NetworkLists) (h : HierarchyLists) (t : TableLists) → IsHierarchy h → (p i : ℕ) (d : Leg) (marks : _) → i < length (legs_at h (node_of p) (is_down p))

@@ -64,13 +64,17 @@ extends_more a b c first second i d lt = let x = first i d lt in let y = second 
 pub extends_same : (a : List ℕ) → Extends a a
 extends_same a i d lt = (lt, refl)
 
--- of a list to which one node may have been added all are marked
-pub marked_or : (h : HierarchyLists) (targets old new : List ℕ) (v : ℕ) → All (IsMarked h targets) old → AreOldOr v old new → IsMarked h targets v → All (IsMarked h targets) new
-marked_or h targets old new v each only is k d lt = by_origin (only (get_or new k d) (k, lt, get_or_default new k (get_or new k d) d lt))
+-- what holds of all in a list and of a node holds of all where that node may have been added
+pub all_or : (P : ℕ → Type 0) (old new : List ℕ) (v : ℕ) → All P old → AreOldOr v old new → P v → All P new
+all_or P old new v each only is k d lt = by_origin (only (get_or new k d) (k, lt, get_or_default new k (get_or new k d) d lt))
   where
-    by_origin : Contains old (get_or new k d) ⊎ (get_or new k d ≡ v) → IsMarked h targets (get_or new k d)
-    by_origin (inl there) = All-contains (IsMarked h targets) old (get_or new k d) each there
-    by_origin (inr same) = subst (IsMarked h targets) (sym same) is
+    by_origin : Contains old (get_or new k d) ⊎ (get_or new k d ≡ v) → P (get_or new k d)
+    by_origin (inl there) = All-contains P old (get_or new k d) each there
+    by_origin (inr same) = subst P (sym same) is
+
+-- a target is marked, by the empty chain
+pub marked_targets : (h : HierarchyLists) (targets queue : List ℕ) → All (Contains targets) queue → All (IsMarked h targets) queue
+marked_targets h targets queue only k d lt = record { end = get_or queue k d; hops = []; ends_there = only k d lt; chain = refl; falls = tt }
 
 -- a fall to a marked node marks the node that it leaves
 pub marked_by_fall : (h : HierarchyLists) (targets : List ℕ) (k : ℕ) (e : Entry) → k < length h.entries → get_or h.entries k e ≡ e → IsAbove h.order e.from e.to → IsMarked h targets e.to
@@ -126,7 +130,7 @@ module _ (h : HierarchyLists) (targets : List ℕ) (nodes x : ℕ) (places : Lis
   pub following_more : IsAbove h.order e.from x → IsMarked h targets x → (marks2 : List Bool) (queue2 : List ℕ) → AreMarks nodes marks2 queue2 → Contains queue2 e.from
       → Extends queue queue2 → AreOldOr e.from queue queue2 → IsFollowing h targets nodes x places marks2 queue2 queue0 (n + 1)
   following_more above marked marks2 queue2 are here kept only = record {
-    marking = record { are = are; each = marked_or h targets queue queue2 e.from far.marking.each only (marked_by_fall h targets k e inside_k (e_is e) (subst (IsAbove h.order e.from) (sym to_x) above) (subst (IsMarked h targets) (sym to_x) marked)) };
+    marking = record { are = are; each = all_or (IsMarked h targets) queue queue2 e.from far.marking.each only (marked_by_fall h targets k e inside_k (e_is e) (subst (IsAbove h.order e.from) (sym to_x) above) (subst (IsMarked h targets) (sym to_x) marked)) };
     kept = extends_more queue0 queue queue2 far.kept kept;
     followed = λ j d lt. by_place j d lt (nat_eq j n) refl;
   } where

@@ -31,7 +31,8 @@ use Rattle.phase_graph.specs.declared.phases.PhaseArc.{PhaseArc}
 use Rattle.phase_graph.specs.declared.phases.PhaseArc.TheVariants.{Down, Other}
 use Rattle.phase_graph.specs.Arcs.{phase_node}
 use Rattle.phase_graph.specs.Marks.{is_fall}
-use Rattle.phase_graph.specs.PhaseArcs.{phase_meaning, phase_arc, arc_of, phase_arrival, rises_at, first_entry, entries_at, entry_at, others_at, first_other, node_of, is_down, before_descent, renumbered, phase_rides, FitsAnew}
+use Rattle.hierarchy.specs.Lookups.{entry_at}
+use Rattle.phase_graph.specs.PhaseArcs.{phase_meaning, phase_arc, arc_of, phase_arrival, rises_at, first_entry, entries_at, others_at, first_other, node_of, is_down, before_descent, renumbered, phase_rides, FitsAnew}
 use Rattle.phase_graph.specs.inside.Falls.{fall_at, fall_way, falls_from}
 use Rattle.phase_graph.proofs.GraphLemmas.{whole}
 use Rattle.phase_graph.proofs.PlaceLemmas.{down_is, other_is}
@@ -84,16 +85,16 @@ module _ (n : NetworkLists) (h : HierarchyLists) (t : TableLists) (marks : List 
 
   -- an entry of the node is a way where it falls
   one_falls : is_open letters letter ≡ true → (i : ℕ) → i < downs
-      → way_at g p time letters (ups + i) ≡ cond (is_fall h marks (entry_at h (begin + i))) (as_way (fall_at h (begin + i)) ∷ []) []
+      → way_at g p time letters (ups + i) ≡ cond (is_fall h marks (entry_at h.entries (begin + i))) (as_way (fall_at h (begin + i)) ∷ []) []
   one_falls opens i lt =
-      way_is (ups + i) (Down (begin + i)) (down_is n h (node_of p) (is_down p) i (begin + i) lt refl) ∙ rw opens (by_test (is_fall h marks (entry_at h (begin + i))))
+      way_is (ups + i) (Down (begin + i)) (down_is n h (node_of p) (is_down p) i (begin + i) lt refl) ∙ rw opens (by_test (is_fall h marks (entry_at h.entries (begin + i))))
     where
-      by_test : (b : Bool) → way_if (ups + i) (arc_of n t h (node_of p) (is_down p) (Down (begin + i))) (cond b (Some (time + (entry_at h (begin + i)).weight)) None)
+      by_test : (b : Bool) → way_if (ups + i) (arc_of n t h (node_of p) (is_down p) (Down (begin + i))) (cond b (Some (time + (entry_at h.entries (begin + i)).weight)) None)
           ≡ cond b (as_way (fall_at h (begin + i)) ∷ []) []
       by_test false = refl
       by_test true =
           let same : ups + i ≡ begin + i - begin + ups = omega arith in
-          ap (λ k. record { place = k; arc = record { to = phase_node (entry_at h (begin + i)).to true; letter = letter }; at = time + (entry_at h (begin + i)).weight } ∷ []) same
+          ap (λ k. record { place = k; arc = record { to = phase_node (entry_at h.entries (begin + i)).to true; letter = letter }; at = time + (entry_at h.entries (begin + i)).weight } ∷ []) same
 
   -- so the falls of some of its entries are their ways
   falls_are : is_open letters letter ≡ true → (i k : ℕ) → i + k ≤ downs → map as_way (falls_from h marks (begin + i) k) ≡ from (ups + i) k
@@ -101,11 +102,11 @@ module _ (n : NetworkLists) (h : HierarchyLists) (t : TableLists) (marks : List 
   falls_are opens i (suc k) within =
       let next : begin + i + 1 ≡ begin + (i + 1) = omega arith in
       let there : ups + (i + 1) ≡ ups + i + 1 = omega arith in
-      by_test (is_fall h marks (entry_at h (begin + i))) ∙ ap (λ (ws : List Way). ws ++ map as_way (falls_from h marks (begin + i + 1) k)) (sym (one_falls opens i (omega arith)))
+      by_test (is_fall h marks (entry_at h.entries (begin + i))) ∙ ap (λ (ws : List Way). ws ++ map as_way (falls_from h marks (begin + i + 1) k)) (sym (one_falls opens i (omega arith)))
       ∙ ap (λ (ws : List Way). way_at g p time letters (ups + i) ++ ws) (ap (λ x. map as_way (falls_from h marks x k)) next ∙ falls_are opens (i + 1) k (omega arith) ∙ ap (λ x. from x k) there)
     where
       later : List ℕ
-      later = filter (λ place. is_fall h marks (entry_at h place)) (range_with_len (begin + i + 1) k)
+      later = filter (λ place. is_fall h marks (entry_at h.entries place)) (range_with_len (begin + i + 1) k)
 
       by_test : (b : Bool) → map as_way (map (fall_at h) (cond b ((begin + i) ∷ later) later)) ≡ cond b (as_way (fall_at h (begin + i)) ∷ []) [] ++ map as_way (map (fall_at h) later)
       by_test true = refl

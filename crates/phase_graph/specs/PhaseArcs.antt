@@ -9,26 +9,15 @@ use Rattle.search_laws.specs.declared.graph.Leg.{Leg}
 use Rattle.search_laws.specs.declared.graph.Way.{Way}
 use Rattle.timetable_arcs.specs.Patterns.{TableLists}
 use Rattle.mode_network.specs.NetworkLists.{NetworkLists, nodes_of, letter_at}
-use Rattle.hierarchy.specs.declared.entry.Entry.{Entry}
 use Rattle.hierarchy.specs.Lists.{HierarchyLists}
-use Rattle.hierarchy.specs.Lookups.{range_of, from_of}
+use Rattle.hierarchy.specs.Lookups.{entry_at, range_of, from_of}
 use Rattle.hierarchy.specs.Rises.{legs_from, rise_places_from}
 use Rattle.plain_graph.specs.BoardWays.{plain_rides}
-use Rattle.plain_graph.specs.PlainArcs.{plain_meaning, count_from, stands_at, inner_arcs_at, arcs_at, plain_arc}
-use Rattle.plain_graph.specs.declared.plain.PlainArc.{PlainArc}
-use Rattle.plain_graph.specs.declared.plain.PlainArc.TheVariants as plain
+use Rattle.plain_graph.specs.PlainArcs.{plain_meaning, count_from, stands_at, inner_arcs_at, arcs_at}
 use Rattle.phase_graph.specs.declared.phases.PhaseArc.{PhaseArc}
 use Rattle.phase_graph.specs.declared.phases.PhaseArc.TheVariants.{Up, Down, Other}
-use Rattle.phase_graph.specs.declared.phases.PhaseStep.{PhaseStep}
-use Rattle.phase_graph.specs.declared.phases.PhaseStep.TheVariants as step
 use Rattle.phase_graph.specs.Arcs.{phase_node}
 use Rattle.phase_graph.specs.Marks.{is_fall}
-
-abbrev pub no_entry : Entry
-no_entry = record { from = 0; to = 0; weight = 0; via = None }
-
-abbrev pub entry_at : HierarchyLists → ℕ → Entry
-entry_at h place = slice_index_or h.entries place no_entry
 
 -- the places of the entries that lead up or along the core; in the descent nothing leads up
 abbrev pub rises_at : HierarchyLists → ℕ → Bool → List ℕ
@@ -64,7 +53,7 @@ phase_arcs_at n t h v down = length (rises_at h v down) + entries_at h v + other
 
 -- the entry at this place leaves v
 abbrev pub BeginsAt : HierarchyLists → ℕ → ℕ → Type 0
-BeginsAt h v place = (place < length h.entries) × ((entry_at h place).from ≡ v)
+BeginsAt h v place = (place < length h.entries) × ((entry_at h.entries place).from ≡ v)
 
 -- an arc out of v whose place is one
 abbrev pub IsArcOutOf : NetworkLists → TableLists → HierarchyLists → ℕ → PhaseArc → Type 0
@@ -74,17 +63,17 @@ IsArcOutOf n t h v (Other place) = place < arcs_at n t v
 
 -- where it leads, and its letter
 abbrev pub arc_of : NetworkLists → TableLists → HierarchyLists → ℕ → Bool → PhaseArc → GraphArc
-arc_of n t h v down (Up place) = record { to = phase_node (entry_at h place).to false; letter = letter_at n.roads v }
-arc_of n t h v down (Down place) = record { to = phase_node (entry_at h place).to true; letter = letter_at n.roads v }
+arc_of n t h v down (Up place) = record { to = phase_node (entry_at h.entries place).to false; letter = letter_at n.roads v }
+arc_of n t h v down (Down place) = record { to = phase_node (entry_at h.entries place).to true; letter = letter_at n.roads v }
 arc_of n t h v down (Other place) = record { to = phase_node ((plain_meaning n t).arc_at v place).to down; letter = ((plain_meaning n t).arc_at v place).letter }
 
 -- an entry down is taken from a node with a mark to another alone
 abbrev pub fall_arrival : HierarchyLists → List Bool → ℕ → ℕ → Option ℕ
-fall_arrival h marks place time = if is_fall h marks (entry_at h place) then Some (time + (entry_at h place).weight) else None
+fall_arrival h marks place time = if is_fall h marks (entry_at h.entries place) then Some (time + (entry_at h.entries place).weight) else None
 
 -- when it arrives, taken at a time
 abbrev pub phase_arrival : NetworkLists → TableLists → HierarchyLists → List Bool → ℕ → ℕ → PhaseArc → Option ℕ
-phase_arrival n t h marks v time (Up place) = Some (time + (entry_at h place).weight)
+phase_arrival n t h marks v time (Up place) = Some (time + (entry_at h.entries place).weight)
 phase_arrival n t h marks v time (Down place) = fall_arrival h marks place time
 phase_arrival n t h marks v time (Other place) = (plain_meaning n t).arrive v place time
 
@@ -119,15 +108,3 @@ phase_meaning n t h marks = record {
   arc_at = λ p i. arc_of n t h (node_of p) (is_down p) (phase_arc n h (node_of p) (is_down p) i);
   arrive = λ p i time. phase_arrival n t h marks (node_of p) time (phase_arc n h (node_of p) (is_down p) i);
 }
-
--- what is done along an arc of the plain graph, and along one of the phase graph
-abbrev pub other_step : PlainArc → PhaseStep
-other_step (plain.Road arc) = step.Entry arc.to
-other_step (plain.Link link) = step.Link link.to
-other_step plain.Stand = step.Stand
-other_step (plain.Ride ride) = step.Ride ride.pattern ride.board ride.alight
-
-abbrev pub phase_step : NetworkLists → TableLists → HierarchyLists → ℕ → PhaseArc → PhaseStep
-phase_step n t h v (Up place) = step.Entry (entry_at h place).to
-phase_step n t h v (Down place) = step.Entry (entry_at h place).to
-phase_step n t h v (Other place) = other_step (plain_arc n t v place)

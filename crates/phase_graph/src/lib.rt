@@ -11,7 +11,7 @@ ghost use Rattle.phase_graph.specs.Arcs.{PhaseGraphsHaveMoves, PhaseGraphsHaveNo
 ghost use Rattle.phase_graph.specs.Laws.{JourneysHavePhaseWalks, PhaseWalksHaveJourneys};
 
 pub use in_use::{GraphInUse, ends_in, starts_in};
-pub use phases::{PhaseArc, PhaseStep, Phases};
+pub use phases::{PhaseArc, Phases};
 
 /// For each journey to a target, whatever sound hierarchy is taken, there is a walk through the phase graph with the
 /// same ends and departure, whose word collapses to the same and which arrives no later.

@@ -29,7 +29,7 @@ pub(crate) fn mark_nodes(
 {
     let mut marks = vec![in alloc; false; nodes as usize]?;
     let mut queue = Vec::new(alloc);
-    mark_targets(h, nodes, targets, &mut marks, &mut queue)?;
+    mark_targets(nodes, targets, &mut marks, &mut queue)?;
     let mut next = 0;
     while next < queue.len() {
         let x = queue[next];
@@ -46,7 +46,6 @@ pub(crate) fn mark_nodes(
 
 /// Marks the targets.
 fn mark_targets(
-    h: &Hierarchy,
     nodes: u32,
     targets: &[u32],
     marks: &mut Vec<bool>,
@@ -54,10 +53,10 @@ fn mark_targets(
 ) -> Result<(), AllocError>
     requires marks { AreMarks nodes marks.old.items queue.old.items }
     requires none { queue.old.items ≡ [] }
-    ensures marks { OnOk result (IsMarking h.now targets.now nodes marks.new.items queue.new.items) }
+    ensures marks { OnOk result (AreMarks nodes marks.new.items queue.new.items) }
+    ensures only { OnOk result (All (Contains targets.now) queue.new.items) }
     ensures all { OnOk result (All (λ v. v < nodes → Contains queue.new.items v) targets.now) }
 {
-    let _ = h;
     for v in targets {
         mark(nodes, *v, marks, queue)?;
     }

@@ -14,7 +14,7 @@ use crate::falls::{Fall, FallChains, falls};
 use crate::marks::mark_nodes;
 use hierarchy::{Entry, Hierarchy};
 use mode_network::Network;
-use plain_graph::{Plain, PlainArc};
+use plain_graph::Plain;
 use search_laws::{
     GivenRuns, Graph, GraphArc, Leg, Steady, Time, Visit, Way, is_open, moving_letters, push_way,
 };
@@ -31,20 +31,6 @@ pub enum PhaseArc {
     Other(u64),
 }
 
-/// What is done along an arc. A link and an entry lead to a node of the network; a ride goes from one call of a
-/// pattern to another.
-#[derive(Clone, Copy)]
-pub enum PhaseStep {
-    Entry(u32),
-    Link(u32),
-    Ride {
-        pattern: u32,
-        board: u32,
-        alight: u32,
-    },
-    Stand,
-}
-
 /// The phase graph of a sound hierarchy for some targets. The node `2v` is the network's node v before the descent, and
 /// `2v + 1` is v in the descent.
 #[derive(Drop)]
@@ -55,7 +41,7 @@ pub struct Phases<'a> {
     falls: FallChains,
     ghost listed: { HasFalls hierarchy.now marks.items falls.all.items falls.first.items } by { HasFalls-prop hierarchy.now marks.items falls.all.items falls.first.items },
     pub ghost sound: { ∥ IsSound plain.network.now hierarchy.now ∥₁ },
-    pub ghost lawful: { IsLawfulGraph (phase_meaning plain.network.now plain.timetable.now hierarchy.now marks.items) } by { IsLawfulGraph-prop (phase_meaning plain.network.now plain.timetable.now hierarchy.now marks.items) },
+    pub ghost lawful: { IsLawfulGraph (phase_meaning plain.network.now plain.timetable.now hierarchy.now marks.items) } by { IsLawfulGraph-prop _ },
 }
 
 impl<'a> Phases<'a> {
@@ -65,10 +51,10 @@ impl<'a> Phases<'a> {
     ghost use Rattle.mode_network.specs.NetworkLists.{nodes_of, letter_at};
     ghost use Rattle.phase_graph.specs.Arcs.{IsPhaseGraph, phase_node};
     ghost use Rattle.phase_graph.specs.Marks.{AreMarksFor, has_mark, is_fall};
-    ghost use Rattle.hierarchy.specs.Lookups.{AreFrom};
+    ghost use Rattle.hierarchy.specs.Lookups.{AreFrom, entry_at};
     ghost use Rattle.timetable_arcs.specs.Table.{IsTable};
     ghost use Rattle.phase_graph.specs.Walked.{JourneysHaveWalks, WalksHaveJourneys};
-    ghost use Rattle.phase_graph.specs.PhaseArcs.{phase_meaning, rises_at, legs_at, first_entry, entries_at, others_at, first_other, phase_arc, phase_arcs_at, IsArcOutOf, BeginsAt, entry_at, fall_arrival, phase_step, phase_rides, node_of, is_down};
+    ghost use Rattle.phase_graph.specs.PhaseArcs.{phase_meaning, rises_at, legs_at, first_entry, entries_at, others_at, first_other, phase_arc, phase_arcs_at, IsArcOutOf, BeginsAt, fall_arrival, phase_rides, node_of, is_down};
     ghost use Rattle.plain_graph.specs.PlainArcs.{plain_meaning, arcs_at};
 
     /// The phase graph of a sound hierarchy for these targets, which are nodes of the network. For each journey to a
@@ -243,7 +229,7 @@ impl<'a> Phases<'a> {
     fn entry_arc(&self, letter: Option<u8>, place: u64, down: bool) -> GraphArc
         requires { place < length self.now.hierarchy.now.entries }
         ensures { result ≡ record {
-          to = phase_node (entry_at self.now.hierarchy.now place).to down;
+          to = phase_node (entry_at self.now.hierarchy.now.entries place).to down;
           letter
               = letter;
         } }
@@ -258,7 +244,7 @@ impl<'a> Phases<'a> {
     /// How long an entry takes.
     fn weight(&self, place: u64) -> Time
         requires { place < length self.now.hierarchy.now.entries }
-        ensures value { result ≡ (entry_at self.now.hierarchy.now place).weight }
+        ensures value { result ≡ (entry_at self.now.hierarchy.now.entries place).weight }
         ensures small { result < 2 ^ 64 }
     {
         Time::from(self.hierarchy.entries()[place as usize].weight)
@@ -293,33 +279,6 @@ impl<'a> Phases<'a> {
         GraphArc {
             to: number_of(arc.to, down),
             letter: arc.letter,
-        }
-    }
-
-    /// What is done along the arc at place `i` of those out of the node `p`. The numbering of arcs has no other use.
-    pub fn step(&self, p: u32, i: u64) -> PhaseStep
-        requires node { p < (phase_meaning self.now.plain.network.now self.now.plain.timetable.now
-            self.now.hierarchy.now self.now.marks.items).nodes }
-        requires arc { i < (phase_meaning self.now.plain.network.now self.now.plain.timetable.now
-            self.now.hierarchy.now self.now.marks.items).arcs p }
-        ensures { result ≡ phase_step self.now.plain.network.now self.now.plain.timetable.now
-            self.now.hierarchy.now (node_of p) (phase_arc self.now.plain.network.now self.now.hierarchy.now
-            (node_of p) (is_down p) i) }
-    {
-        match self.phase_arc(p, i) {
-            PhaseArc::Up(place) | PhaseArc::Down(place) => {
-                PhaseStep::Entry(self.hierarchy.entries()[place as usize].to)
-            }
-            PhaseArc::Other(place) => match self.plain.plain_arc(p / 2, place) {
-                PlainArc::Road(arc) => PhaseStep::Entry(arc.to),
-                PlainArc::Link(link) => PhaseStep::Link(link.to),
-                PlainArc::Stand => PhaseStep::Stand,
-                PlainArc::Ride(ride) => PhaseStep::Ride {
-                    pattern: ride.pattern,
-                    board: ride.board,
-                    alight: ride.alight,
-                },
-            },
         }
     }
 

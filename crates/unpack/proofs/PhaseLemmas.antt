@@ -26,7 +26,7 @@ use Rattle.hierarchy.specs.Hops.{Hop as RoadHop, AreHops, total}
 use Rattle.hierarchy.specs.Lists.{HierarchyLists}
 use Rattle.hierarchy.specs.Rules.{IsHierarchy}
 use Rattle.hierarchy.specs.Soundness.{HasEntry, IsSound, IsMade, IsMadeBy, FitsLayer}
-use Rattle.hierarchy.specs.Lookups.{IsEntryFor, HasNoEntry}
+use Rattle.hierarchy.specs.Lookups.{IsEntryFor, HasNoEntry, entry_at}
 use Rattle.hierarchy.proofs.HopLemmas.{hops_then, total-append}
 use Rattle.hierarchy.proofs.LookupLemmas.{weight_once}
 use Rattle.hierarchy.proofs.RoadLemmas.{Roads, roads_under}
@@ -38,7 +38,7 @@ use Rattle.plain_graph.proofs.Same.{step_at}
 use Rattle.phase_graph.specs.declared.phases.PhaseArc.{PhaseArc}
 use Rattle.phase_graph.specs.declared.phases.PhaseArc.TheVariants.{Other}
 use Rattle.phase_graph.specs.Arcs.{phase_node}
-use Rattle.phase_graph.specs.PhaseArcs.{phase_arc, arc_of, phase_arrival as arrives_along, entry_at, node_of, is_down}
+use Rattle.phase_graph.specs.PhaseArcs.{phase_arc, arc_of, phase_arrival as arrives_along, node_of, is_down}
 use Rattle.phase_graph.proofs.GraphLemmas.{half}
 use Rattle.phase_graph.proofs.WordLemmas.{same_letter, again}
 use Rattle.journey.specs.Boarded.{AreOnTime}
@@ -343,11 +343,11 @@ module _ (n : NetworkLists) (network : IsNetwork n) (table : TableLists) (h : Hi
   arc_there = phase_arc n h (node_of p) (is_down p) i
 
   -- along an entry
-  pub by_entry : (a : PhaseArc) (down : Bool) (place : ℕ) → a ≡ arc_there → arc_of n table h (node_of p) (is_down p) a ≡ record { to = phase_node (entry_at h place).to down; letter = letter_at n.roads (node_of p) }
-      → ((u : ℕ) → arrives_along n table h marks (node_of p) t a ≡ Some u → t + (entry_at h place).weight ≡ u) → (entry_at h place).from ≡ node_of p → (entry_at h place).from ≢ (entry_at h place).to
-      → GoesOnByRoads n (entry_at h place).from (entry_at h place).to (entry_at h place).weight old new → GoesOnByArc n table h marks p i t old new
+  pub by_entry : (a : PhaseArc) (down : Bool) (place : ℕ) → a ≡ arc_there → arc_of n table h (node_of p) (is_down p) a ≡ record { to = phase_node (entry_at h.entries place).to down; letter = letter_at n.roads (node_of p) }
+      → ((u : ℕ) → arrives_along n table h marks (node_of p) t a ≡ Some u → t + (entry_at h.entries place).weight ≡ u) → (entry_at h.entries place).from ≡ node_of p → (entry_at h.entries place).from ≢ (entry_at h.entries place).to
+      → GoesOnByRoads n (entry_at h.entries place).from (entry_at h.entries place).to (entry_at h.entries place).weight old new → GoesOnByArc n table h marks p i t old new
   by_entry a down place at leads takes from differ roads u arrives =
-      let e = entry_at h place in
+      let e = entry_at h.entries place in
       let is : arc_of n table h (node_of p) (is_down p) arc_there ≡ record { to = phase_node e.to down; letter = letter_at n.roads (node_of p) } = sym (ap (arc_of n table h (node_of p) (is_down p)) at) ∙ leads in
       let ends : u ≡ t + e.weight = sym (takes u (ap (arrives_along n table h marks (node_of p) t) at ∙ arrives)) in
       let to : e.to ≡ node_of (arc_of n table h (node_of p) (is_down p) arc_there).to = sym (half e.to down) ∙ sym (ap (λ (x : GraphArc). node_of x.to) is) in

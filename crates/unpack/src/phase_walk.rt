@@ -3,7 +3,8 @@
 ghost use Rattle.std.specs.Prelude.{◌≡◌, ◌≢◌, ◌<◌, [], IfOk, OnOk, All, Contains, Some, length};
 ghost use Rattle.search_laws.specs.GraphLaws.{HasArc};
 ghost use Rattle.hierarchy.specs.Soundness.{IsSound};
-ghost use Rattle.phase_graph.specs.PhaseArcs.{phase_meaning, node_of, entry_at};
+ghost use Rattle.hierarchy.specs.Lookups.{entry_at};
+ghost use Rattle.phase_graph.specs.PhaseArcs.{phase_meaning, node_of};
 ghost use Rattle.unpack.specs.Unpacking.{AreHopsIn, IsSoon, node_after, arrival_after};
 ghost use Rattle.unpack.specs.PhaseUnpacking.{IsUnpacked, GoesOn, GoesOnByArc, GoesOnByRoads, ArePartsOf, letters_in};
 
@@ -79,11 +80,12 @@ fn push_entry_at(
     requires place { place < length phases.now.hierarchy.now.entries }
     requires none { stack.old.items ≡ [] }
     ensures none { OnOk result (stack.new.items ≡ []) }
-    ensures differ { (entry_at phases.now.hierarchy.now place).from ≢
-        (entry_at phases.now.hierarchy.now place).to }
+    ensures differ { (entry_at phases.now.hierarchy.now.entries place).from ≢
+        (entry_at phases.now.hierarchy.now.entries place).to }
     ensures roads { OnOk result (GoesOnByRoads phases.now.plain.network.now
-        (entry_at phases.now.hierarchy.now place).from (entry_at phases.now.hierarchy.now place).to
-        (entry_at phases.now.hierarchy.now place).weight steps.old.items steps.new.items) }
+        (entry_at phases.now.hierarchy.now.entries place).from
+        (entry_at phases.now.hierarchy.now.entries place).to
+        (entry_at phases.now.hierarchy.now.entries place).weight steps.old.items steps.new.items) }
 {
     let hierarchy = phases.hierarchy();
     hierarchy.known();
@@ -147,7 +149,11 @@ fn steps(
 /// The journey under a walk through the phase graph: the road arcs under its entries, and its links, rides and legs of
 /// length zero. It is real, with the walk's ends in the network, departure and arrival, and its word collapses to the same.
 /// Each ride is boarded when it departs, as in [`from_plain`](crate::from_plain).
-pub fn from_phases(alloc: Global, phases: &Phases<'_>, walk: &Walk) -> Result<Journey, AllocError>
+pub fn from_phases(
+    alloc: Global,
+    phases: &Phases<'_>,
+    walk: &Walk,
+) -> Result<Journey, AllocError>
     requires { AreHopsIn (phase_meaning phases.now.plain.network.now phases.now.plain.timetable.now
         phases.now.hierarchy.now phases.now.marks.items) walk.now.node walk.now.at walk.now.hops.items }
     ensures start { IfOk result (λ j. j.start ≡ node_of walk.now.node) }

@@ -8,15 +8,16 @@ use Rattle.phase_graph.specs.declared.falls.ChainedFall.{ChainedFall}
 use Rattle.phase_graph.specs.declared.falls.Fall.{Fall}
 use Rattle.phase_graph.specs.Arcs.{phase_node}
 use Rattle.phase_graph.specs.Marks.{is_fall}
-use Rattle.phase_graph.specs.PhaseArcs.{entries_at, entry_at, first_entry}
+use Rattle.hierarchy.specs.Lookups.{entry_at}
+use Rattle.phase_graph.specs.PhaseArcs.{entries_at, first_entry}
 
 -- the entry at a place, which leads into the descent
 abbrev pub fall_at : HierarchyLists → ℕ → Fall
-fall_at h place = record { place = place; to = phase_node (entry_at h place).to true; weight = (entry_at h place).weight }
+fall_at h place = record { place = place; to = phase_node (entry_at h.entries place).to true; weight = (entry_at h.entries place).weight }
 
 -- those at so many places, from one on, that lead down from a node with a mark to another
 abbrev pub falls_from : HierarchyLists → List Bool → ℕ → ℕ → List Fall
-falls_from h marks first count = map (fall_at h) (filter (λ place. is_fall h marks (entry_at h place)) (range_with_len first count))
+falls_from h marks first count = map (fall_at h) (filter (λ place. is_fall h marks (entry_at h.entries place)) (range_with_len first count))
 
 -- the fall is at one of so many places, from one on
 pub record IsFallFrom (first count : ℕ) (fall : Fall) : Type 0 where
@@ -27,11 +28,11 @@ pub record IsFallFrom (first count : ℕ) (fall : Fall) : Type 0 where
 
 -- the entry at this place leads down from a node with a mark to another
 abbrev pub IsFallAt : HierarchyLists → List Bool → ℕ → Type 0
-IsFallAt h marks place = (place < length h.entries) × (is_fall h marks (entry_at h place) ≡ true)
+IsFallAt h marks place = (place < length h.entries) × (is_fall h marks (entry_at h.entries place) ≡ true)
 
 -- an entry that leaves the same node as an earlier one stands behind it
 abbrev pub AreInTurn : HierarchyLists → List ℕ → Type 0
-AreInTurn h places = AllPairs (λ j k. (entry_at h j).from ≡ (entry_at h k).from → j < k) places
+AreInTurn h places = AllPairs (λ j k. (entry_at h.entries j).from ≡ (entry_at h.entries k).from → j < k) places
 
 -- all places of such entries are in the list, and no others
 pub record AreFallsByEnd (h : HierarchyLists) (marks : List Bool) (places : List ℕ) : Type 0 where
@@ -52,11 +53,11 @@ IsChain all number (fall ∷ falls) = (0 < number) × (number ≤ length all) ×
 
 -- the entry at this place leaves a node below the number
 abbrev pub LeavesBelow : HierarchyLists → ℕ → ℕ → Type 0
-LeavesBelow h nodes place = (place < length h.entries) × ((entry_at h place).from < nodes)
+LeavesBelow h nodes place = (place < length h.entries) × ((entry_at h.entries place).from < nodes)
 
 -- those of the places where entries leave v
 abbrev pub places_from : HierarchyLists → List ℕ → ℕ → List ℕ
-places_from h places v = filter (λ place. (entry_at h place).from == v) places
+places_from h places v = filter (λ place. (entry_at h.entries place).from == v) places
 
 -- the chain of each node has the falls at those of these places where entries leave it, in their order
 abbrev pub AreChains : HierarchyLists → List ℕ → List ChainedFall → List ℕ → Type 0

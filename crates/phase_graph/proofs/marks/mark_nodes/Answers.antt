@@ -5,8 +5,18 @@ use Rattle.std.proofs.lemmas.List.{get_or_default}
 use Rattle.std.proofs.lemmas.List.Elements.{All-contains}
 use Rattle.std.proofs.lemmas.List.Filters.{dedup_is}
 use Rattle.phase_graph.specs.inside.Marking.{AreMarked, IsFollowed}
-use Rattle.phase_graph.proofs.MarkLemmas.{extends_contains, still_followed, are_marks, marked_in_order}
+use Rattle.phase_graph.proofs.MarkLemmas.{extends_contains, still_followed, are_marks, marked_in_order, marked_targets}
 use Rattle.phase_graph.proofs.marks.mark_nodes.Goals as goal
+
+pub loop-next-init : goal.loop-next-init
+loop-next-init c = record {
+  marking = record {
+    are = c.in_ok-mark_targets.ensures.marks;
+    each = marked_targets c.args.h.now c.args.targets.now c.mark_targets.new.queue.items c.in_ok-mark_targets.ensures.only;
+  };
+  started = c.in_ok-mark_targets.ensures.all;
+  followed = λ j d lt. absurd (omega (arith, lt));
+}
 
 pub loop-next-preserved : goal.loop-next-preserved
 loop-next-preserved c = record {

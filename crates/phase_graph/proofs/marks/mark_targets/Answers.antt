@@ -1,8 +1,8 @@
-use Rattle.std.proofs.Common.{◌≡◌, ℕ, ◌+◌, ◌<◌, ◌∙◌, nat_eq, Bool, true, false, get_or, refl, sym, ap, subst, arith, []}
+use Rattle.std.proofs.Common.{◌≡◌, ℕ, ◌+◌, ◌<◌, ◌∙◌, nat_eq, Bool, true, false, get_or, refl, sym, ap, subst, arith}
 use Rattle.std.specs.Prelude.{Contains}
 use Rattle.std.proofs.lemmas.Bool.{eqb-true, eqb-false}
 use Rattle.std.proofs.lemmas.List.{get_or_default}
-use Rattle.phase_graph.proofs.MarkLemmas.{marked_or, extends_contains}
+use Rattle.phase_graph.proofs.MarkLemmas.{all_or, extends_contains}
 use Rattle.phase_graph.proofs.marks.mark_targets.Goals as goal
 
 pub loop-v-preserved : goal.loop-v-preserved
@@ -15,11 +15,8 @@ loop-v-preserved c =
     let old = c.loop-v.queue.items in
     let new = c.mark.new.queue.items in
     record {
-      marking = record {
-        are = done.marks;
-        each = marked_or c.args.h.now targets old new v c.loop-v.invariant.marking.each done.only
-            (record { end = v; hops = []; ends_there = (n, c.loop-v-test.true, at v); chain = refl; falls = tt });
-      };
+      marks = done.marks;
+      only = all_or (Contains targets) old new v c.loop-v.invariant.only done.only (n, c.loop-v-test.true, at v);
       so_far = λ j d lt. by_place j d lt (nat_eq j n) refl;
     }
   where

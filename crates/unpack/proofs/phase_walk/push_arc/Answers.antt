@@ -4,7 +4,7 @@ use Rattle.timetable_arcs.specs.Table.{IsTable}
 use Rattle.plain_graph.specs.declared.plain.Plain.{Plain}
 use Rattle.mode_network.proofs.RuleLemmas.{some_is}
 use Rattle.phase_graph.specs.Marks.{is_fall}
-use Rattle.phase_graph.specs.PhaseArcs.{entry_at}
+use Rattle.hierarchy.specs.Lookups.{entry_at}
 use Rattle.phase_graph.proofs.GraphLemmas.{taken}
 use Rattle.phase_graph.specs.declared.phases.PhaseArc.TheVariants.{Up, Down}
 use Rattle.unpack.proofs.PhaseLemmas.{by_entry, by_other}
@@ -24,7 +24,7 @@ returns-in-Down-clause-steps c =
     let done = c.push_entry_at-in-Down.ensures in
     let place = c.in-Down.place in
     on_ok_weaker c.push_entry_at-in-Down.result (by_entry p.plain.network.now p.plain.kept p.plain.timetable.now p.hierarchy.now p.marks.items c.args.p c.args.i c.args.t c.args.steps.now.items c.push_entry_at-in-Down.new.steps.items (Down place) true place
-    c.in-Down.ensures.value refl (λ u e. (taken (is_fall p.hierarchy.now p.marks.items (entry_at p.hierarchy.now place)) _ u e).1) c.in-Down.ensures.fits.1 done.differ) done.roads
+    c.in-Down.ensures.value refl (λ u e. (taken (is_fall p.hierarchy.now p.marks.items (entry_at p.hierarchy.now.entries place)) _ u e).1) c.in-Down.ensures.fits.1 done.differ) done.roads
 
 pub returns-in-Other-clause-steps : goal.returns-in-Other-clause-steps
 returns-in-Other-clause-steps c =

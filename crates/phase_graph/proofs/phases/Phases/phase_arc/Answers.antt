@@ -1,7 +1,8 @@
 use Rattle.std.proofs.Common.{◌+◌, ◌-◌, ◌<◌, length, sym, subst, arith}
 use Rattle.std.proofs.lemmas.Option.{slice_get-get_or}
 use Rattle.timetable_arcs.specs.Table.{IsTable}
-use Rattle.phase_graph.specs.PhaseArcs.{rises_at, entries_at, others_at, node_of, is_down, entry_at, no_entry}
+use Rattle.hierarchy.specs.Lookups.{entry_at, no_entry}
+use Rattle.phase_graph.specs.PhaseArcs.{rises_at, entries_at, others_at, node_of, is_down}
 use Rattle.phase_graph.proofs.PlaceLemmas.{up_known, down_known, other_known, other_fits}
 use Rattle.phase_graph.proofs.WayTies.{few_others}
 use Rattle.phase_graph.proofs.phases.Phases.phase_arc.Goals as goal
@@ -31,7 +32,7 @@ returns-then-i-ups-2-clause-fits c =
     let from = rw c.split-v.ensures at c.entries_at-first.ensures.are in
     let place = c.entries_at-first.result.0 + (c.args.i - length c.rises_at-rises.result.now) in
     let lt : place < length h.entries = omega (arith, c.if-i-ups-2.true, from.within) in
-    (lt, from.inside place (entry_at h place) (omega arith) (omega (arith, c.if-i-ups-2.true)) (slice_get-get_or h.entries place no_entry lt))
+    (lt, from.inside place (entry_at h.entries place) (omega arith) (omega (arith, c.if-i-ups-2.true)) (slice_get-get_or h.entries place no_entry lt))
 
 pub returns-else-i-ups-2-clause-value : goal.returns-else-i-ups-2-clause-value
 returns-else-i-ups-2-clause-value c =

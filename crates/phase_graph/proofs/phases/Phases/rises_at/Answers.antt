@@ -1,7 +1,7 @@
 use Rattle.std.proofs.Common.{get_or, sym}
 use Rattle.std.proofs.lemmas.List.{get_or_default}
 use Rattle.std.proofs.lemmas.Option.{slice_get-get_or}
-use Rattle.phase_graph.specs.PhaseArcs.{entry_at, no_entry}
+use Rattle.hierarchy.specs.Lookups.{entry_at, no_entry}
 use Rattle.phase_graph.proofs.phases.Phases.rises_at.Goals as goal
 
 pub returns-else-down-clause-each : goal.returns-else-down-clause-each
@@ -11,4 +11,4 @@ returns-else-down-clause-each c k d lt =
     let are = c.rise_places_from.ensures.are in
     let place = get_or places k d in
     let within = are.within k d lt in
-    (within, (are.each place (entry_at h place) (k, lt, sym (get_or_default places k d place lt)) (slice_get-get_or h.entries place no_entry within)).begins)
+    (within, (are.each place (entry_at h.entries place) (k, lt, sym (get_or_default places k d place lt)) (slice_get-get_or h.entries place no_entry within)).begins)
