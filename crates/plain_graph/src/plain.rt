@@ -38,8 +38,8 @@ pub struct Plain<'a> {
     network: &'a Network,
     timetable: &'a Timetable,
     pub ghost kept: { IsNetwork network.now } by { IsNetwork-prop network.now },
-    pub ghost of: { IsTimetableOf network.now timetable.now } by { IsTimetableOf-prop network.now timetable.now },
-    pub ghost lawful: { IsLawfulGraph (plain_meaning network.now timetable.now) } by { IsLawfulGraph-prop (plain_meaning network.now timetable.now) },
+    pub ghost of: { IsTimetableOf network.now timetable.now } by { IsTimetableOf-prop _ _ },
+    pub ghost lawful: { IsLawfulGraph (plain_meaning network.now timetable.now) } by { IsLawfulGraph-prop _ },
 }
 
 /// A board of a stop, and the place of its first ride among the arcs out of the stop.
