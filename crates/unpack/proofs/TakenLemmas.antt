@@ -27,7 +27,8 @@ use Rattle.unpack.specs.Unpacking.{IsSoon, letters_of, node_after}
 use Rattle.unpack.specs.Taken.{IsPlainWalk, TakesHops}
 use Rattle.unpack.proofs.UnpackLemmas.{hops_end, hops_letters, plain_hops}
 
-has_time : (step : Step) → IsSoon step → HasTime step
+-- a step that is soon has a time
+pub has_time : (step : Step) → IsSoon step → HasTime step
 has_time (Wait until) soon = omega arith
 has_time (Road to) soon = tt
 has_time (Link to) soon = tt

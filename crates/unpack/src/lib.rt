@@ -6,5 +6,4 @@ mod phase_walk;
 mod plain_walk;
 
 pub use graph_walk::from_graph;
-pub use phase_walk::from_phases;
 pub use plain_walk::from_plain;

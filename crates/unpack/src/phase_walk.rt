@@ -149,7 +149,7 @@ fn steps(
 /// The journey under a walk through the phase graph: the road arcs under its entries, and its links, rides and legs of
 /// length zero. It is real, with the walk's ends in the network, departure and arrival, and its word collapses to the same.
 /// Each ride is boarded when it departs, as in [`from_plain`](crate::from_plain).
-pub fn from_phases(
+pub(crate) fn from_phases(
     alloc: Global,
     phases: &Phases<'_>,
     walk: &Walk,
