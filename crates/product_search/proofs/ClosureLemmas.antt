@@ -16,7 +16,7 @@ use Rattle.product_search.proofs.ReachLemmas.{reached_more}
 -- ---- what is reached is in range
 
 module _ (g : GraphMeaning) (graph : IsLawfulGraph g) (l : LabelsMeaning) (labels : IsLawfulLabels l) where
-  walk_stays : (steps : List WalkStep) (v t v2 t2 : ℕ) → v < g.nodes → IsWalk g v t steps v2 t2 → v2 < g.nodes
+  pub walk_stays : (steps : List WalkStep) (v t v2 t2 : ℕ) → v < g.nodes → IsWalk g v t steps v2 t2 → v2 < g.nodes
   walk_stays [] v t v2 t2 within walk = subst (λ w. w < g.nodes) (sym walk.0) within
   walk_stays (wait w ∷ steps) v t v2 t2 within walk = walk_stays steps v w v2 t2 within walk.1
   walk_stays (arc i ∷ steps) v t v2 t2 within (u, has, e, walk) = walk_stays steps (g.arc_at v i).to u v2 t2 (graph.to_in_range v i has) walk
@@ -74,7 +74,7 @@ none_counts : (g : GraphMeaning) (l : LabelsMeaning) (starts targets : List ℕ)
 none_counts g l starts targets dep bound None t none listed arrives = none t listed arrives
 none_counts g l starts targets dep bound (Some a) t least listed arrives = let late = least.0.least t arrives in absurd (omega arith)
 
-all_after : (l : LabelsMeaning) (q : ℕ) (letter : Option ℕ) (P : ℕ → Type 0) → ((r : ℕ) → Follows l q letter r → P r) → AllAfter l q letter P
+pub all_after : (l : LabelsMeaning) (q : ℕ) (letter : Option ℕ) (P : ℕ → Type 0) → ((r : ℕ) → Follows l q letter r → P r) → AllAfter l q letter P
 all_after l q None P holds = holds q refl
 all_after l q (Some c) P holds = λ j lt bit. holds (l.move_at q j).to (j, record { place = lt; letter = bit; to = refl })
 

@@ -10,7 +10,7 @@ mod GivenLemmas
 mod LegLemmas
 mod TakenLemmas
 mod StepLemmas
-mod ReachLemmas
+pub mod ReachLemmas
 mod EndLemmas
 mod NotingLemmas
 mod TrailLemmas
@@ -19,7 +19,7 @@ mod LimitLemmas
 mod CheckLemmas
 mod StartLemmas
 pub mod BoundLemmas
-mod ClosureLemmas
+pub mod ClosureLemmas
 mod LetterLemmas
 mod MoveLemmas
 mod SortLemmas
