@@ -1,81 +1,33 @@
 -- A least arrival over the graph in use, at the copies of one destination among its targets, is that of a best journey.
-use Rattle.std.proofs.Common.{◌≡◌, ℕ, zero, suc, ◌≤◌, ◌∙◌, Bool, true, false, cond, List, [], ◌∷◌, map, Option, Some, None, refl, sym, ap, subst, arith}
+use Rattle.std.proofs.Common.{ℕ, ◌≤◌, ◌∙◌, List, ◌∷◌, Option, Some, None, refl, sym, ap, subst, arith}
 use Rattle.std.specs.Prelude.{Contains}
-use Rattle.std.specs.List.{flat_map}
-use Rattle.std.proofs.Math.ListN.{get_or-map}
-use Rattle.std.proofs.lemmas.Bool.{lt-ltb}
-use Rattle.std.proofs.lemmas.List.{length-map}
-use Rattle.std.proofs.lemmas.List.Elements.{Contains-append_left, Contains-append_right}
 use Rattle.search_laws.specs.Collapse.{collapse}
 use Rattle.search_laws.specs.GraphLaws.{GraphMeaning}
 use Rattle.search_laws.specs.LabelLaws.{LabelsMeaning}
 use Rattle.search_laws.specs.Walks.{WalkStep, wait, IsWalk, word_from, ArrivesAt}
 use Rattle.product_search.specs.Answer.{IsArrival}
-use Rattle.hierarchy.specs.Lists.{HierarchyLists, is_contracted, IsContracted}
+use Rattle.hierarchy.specs.Lists.{HierarchyLists}
 use Rattle.plain_graph.proofs.Same.{walks_are_journeys}
 use Rattle.phase_graph.specs.Arcs.{phase_node, IsPhaseGraph}
-use Rattle.phase_graph.specs.PhaseArcs.{phase_meaning, node_of, is_down}
-use Rattle.phase_graph.specs.InUse.{IsInUse, IsSoundIfGiven, starts_in, ends_in, node_under, target_numbers, HasWalkInUse}
+use Rattle.phase_graph.specs.PhaseArcs.{node_of, is_down}
+use Rattle.phase_graph.specs.InUse.{IsInUse, IsSoundIfGiven, starts_in, ends_in, node_under}
 use Rattle.phase_graph.specs.Laws.{HasJourney}
 use Rattle.phase_graph.proofs.GraphLemmas.{whole, half}
 use Rattle.phase_graph.proofs.GraphMoves.{is_phase_graph}
-use Rattle.phase_graph.proofs.InUseLemmas.{starts_under, ends_under, journeys_have_walks_in_use}
-use Rattle.phase_graph.proofs.WalkedLemmas.{journeys_have_walks, walks_have_journeys}
+use Rattle.phase_graph.proofs.InUseLemmas.{starts_under, ends_under, walk_to_some}
+use Rattle.phase_graph.proofs.WalkedLemmas.{walks_have_journeys}
 use Rattle.mode_expression.specs.Form.{IsWordOf}
-use Rattle.mode_network.specs.declared.steps.Step.{Step}
 use Rattle.mode_network.specs.NetworkLists.{NetworkLists}
 use Rattle.mode_network.specs.Rules.{IsNetwork}
-use Rattle.mode_network.specs.Journeys.{Route, AreSteps}
+use Rattle.mode_network.specs.Journeys.{Route}
 use Rattle.journey.specs.CopyLists.{AreTheCopies}
 use Rattle.journey.specs.Best.{Asked, Answers}
 use Rattle.certificate.specs.Verdicts.{AreDenoted}
 use Rattle.planning.specs.Arrivals.{IsBestArrival}
 
--- ---- numbers of starts and ends
-
-numbered_start : (origins : List ℕ) (v : ℕ) → Contains origins v → Contains (map (λ x. phase_node x false) origins) (phase_node v false)
-numbered_start origins v (k, lt, is) = (k, omega (arith, lt, length-map origins (λ x. phase_node x false)), get_or-map (λ x. phase_node x false) origins k v ∙ ap (λ x. phase_node x false) is)
-
-numbered : (h : HierarchyLists) (v : ℕ) (down : Bool) → (down ≡ true → IsContracted h.order v) → Contains (target_numbers h v) (phase_node v down)
-numbered h v down low = by_test (is_contracted h.order v) refl down low
-  where
-    by_test : (b : Bool) → is_contracted h.order v ≡ b → (down : Bool) → (down ≡ true → IsContracted h.order v)
-        → Contains (cond b (phase_node v false ∷ phase_node v true ∷ []) (phase_node v false ∷ [])) (phase_node v down)
-    by_test true e false low = (0, omega arith, refl)
-    by_test true e true low = (1, omega arith, refl)
-    by_test false e false low = (0, omega arith, refl)
-    by_test false e true low = absurd (let is = lt-ltb _ _ (low refl) in let clash = sym is ∙ e in cc)
-
-numbered_end : (h : HierarchyLists) (copies : List ℕ) (v p : ℕ) → Contains copies v → Contains (target_numbers h v) p → Contains (flat_map (target_numbers h) copies) p
-numbered_end h [] v p (k, lt, is) there = absurd (omega (arith, lt))
-numbered_end h (x ∷ copies) v p (zero, lt, is) there = Contains-append_left (target_numbers h x) (flat_map (target_numbers h) copies) p (subst (λ y. Contains (target_numbers h y) p) (sym is) there)
-numbered_end h (x ∷ copies) v p (suc k, lt, is) there = Contains-append_right (target_numbers h x) (flat_map (target_numbers h) copies) p (numbered_end h copies v p (k, omega (arith, lt), is) there)
-
 -- ---- walks and journeys
 
 module _ (n : NetworkLists) (network : IsNetwork n) (targets : List ℕ) where
-  -- a journey from an origin to a copy among the targets has a walk to the numbers of the copies
-  walk_to : (h : Option HierarchyLists) → IsSoundIfGiven n h → (g : GraphMeaning) → IsInUse n h targets g → (origins copies : List ℕ) → ((v : ℕ) → Contains copies v → Contains targets v)
-      → (steps : List Step) (v t w u : ℕ) (letters : List ℕ) → AreSteps n v t steps w u letters → Contains origins v → Contains copies w
-      → HasWalkInUse g (starts_in h origins) (ends_in h copies) t u letters
-  walk_to None sound g in_use origins copies inside steps v t w u letters real from to =
-      journeys_have_walks_in_use n network None sound origins copies g in_use steps v t w u letters real from to
-  walk_to (Some h) (rules, sound) g in_use origins copies inside steps v t w u letters real from to =
-      let is = is_phase_graph n h targets network rules sound in_use.table in_use.keeps in_use.of in_use.marks in_use.are in
-      let p = journeys_have_walks n h targets network sound (phase_meaning n in_use.table h in_use.marks) is steps v t w u letters real (inside w to) in
-      let walk = p.walk in
-      subst (λ (x : GraphMeaning). HasWalkInUse x (starts_in (Some h) origins) (ends_in (Some h) copies) t u letters) (sym in_use.is) (record {
-        start = phase_node v false;
-        end = phase_node w p.down;
-        at = p.at;
-        steps = walk.steps;
-        starts_there = numbered_start origins v from;
-        ends_there = numbered_end h copies w (phase_node w p.down) to (numbered h w p.down p.at_target);
-        walk = walk.walk;
-        no_later = p.no_later;
-        same_word = ap collapse walk.word_is ∙ p.same_word;
-      })
-
   -- under each walk there is a journey
   journey_under : (h : Option HierarchyLists) → IsSoundIfGiven n h → (g : GraphMeaning) → IsInUse n h targets g → (steps : List WalkStep) (p t q u : ℕ) → IsWalk g p t steps q u
       → HasJourney n (node_under h p) t (node_under h q) u (word_from g p steps)
@@ -99,7 +51,7 @@ module _ (n : NetworkLists) (network : IsNetwork n) (h : Option HierarchyLists) 
   -- for each journey that answers an accepted walk from the departure on arrives no later
   walk_of : (k : Route) (t : ℕ) → Answers n asked k t → (s : ℕ) × (s ≤ t) × ArrivesAt g l (starts_in h origins) (ends_in h copies) asked.depart s
   walk_of k t a =
-      let w = walk_to n network targets h sound g in_use origins copies inside k.steps k.start k.at a.end t a.real.letters a.real.steps
+      let w = walk_to_some n network h sound origins targets copies inside g in_use k.steps k.start k.at a.end t a.real.letters a.real.steps
       ((from.are k.start).1 a.starts_at_copy) ((to.are a.end).1 a.ends_at_copy) in
       let denoted : IsWordOf asked.form (collapse (word_from g w.start w.steps)) = subst (IsWordOf asked.form) (a.real.word_is ∙ sym w.same_word) a.denoted in (
         w.at,

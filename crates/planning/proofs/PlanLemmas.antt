@@ -16,8 +16,6 @@ use Rattle.hierarchy.specs.Lists.{HierarchyLists}
 use Rattle.phase_graph.specs.InUse.{IsInUse, starts_in, ends_in, node_under}
 use Rattle.phase_graph.proofs.InUseLemmas.{starts_under, ends_under}
 use Rattle.mode_expression.specs.Form.{form_of, IsWordOf}
-use Rattle.mode_network.specs.declared.steps.Step.{Step}
-use Rattle.mode_network.specs.declared.steps.Step.TheVariants.{Wait, Road, Link, Stand, Ride}
 use Rattle.mode_network.specs.NetworkLists.{NetworkLists, nodes_of}
 use Rattle.mode_network.specs.Rules.{IsNetwork}
 use Rattle.mode_network.specs.Journeys.{Route, AreSteps}
@@ -25,12 +23,12 @@ use Rattle.mode_network.specs.Copies.{IsCopy}
 use Rattle.journey.specs.declared.query.Query.{Query}
 use Rattle.journey.specs.Queries.{IsQuery}
 use Rattle.journey.specs.Best.{Asked, Answers, asked_by}
-use Rattle.journey.specs.Ends.{HasTime}
 use Rattle.journey.specs.Blocks.{IsPrintable}
 use Rattle.journey.specs.Boarded.{BoardsOnTime}
 use Rattle.journey.proofs.CopyLemmas.{copy_in_range}
-use Rattle.unpack.specs.Unpacking.{IsSoon, node_after}
+use Rattle.unpack.specs.Unpacking.{node_after}
 use Rattle.unpack.specs.PhaseUnpacking.{letters_in}
+use Rattle.unpack.proofs.TakenLemmas.{has_time}
 use Rattle.unpack.proofs.UnpackLemmas.{hops_in, hops_end_in, hops_letters_in}
 use Rattle.certificate.specs.Texts.{FitsResult}
 use Rattle.certificate.specs.Valid.{ResultHolds, claimed_arrival, IsBestResult, Proves}
@@ -51,18 +49,12 @@ module _ (n : NetworkLists) (h : Option HierarchyLists) (targets : List ℕ) (g 
       by_graph None is low = subst (λ (x : GraphMeaning). p < x.nodes) (sym is.is) low
       by_graph (Some k) is low = subst (λ (x : GraphMeaning). p < x.nodes) (sym is.is) (omega (arith, low))
 
-  low_if_under : (nodes numbers : List ℕ) → All (λ v. v < length (nodes_of n)) nodes → ((p : ℕ) → Contains numbers p → Contains nodes (node_under h p)) → All (λ p. p < g.nodes) numbers
-  low_if_under nodes numbers low under k d lt =
-      let p = slice_index_or numbers k d in
-      let (i, within, is) = under p (All-contains_itself numbers k d lt) in
-      low_over p (subst (λ v. v < length (nodes_of n)) is (low i (node_under h p) within))
-
-  -- so are the numbers of starts and of ends
+  -- so are the numbers of starts
   pub starts_low : (origins : List ℕ) → All (λ v. v < length (nodes_of n)) origins → All (λ p. p < g.nodes) (starts_in h origins)
-  starts_low origins low = low_if_under origins (starts_in h origins) low (starts_under h origins)
-
-  pub ends_low : All (λ v. v < length (nodes_of n)) targets → All (λ p. p < g.nodes) (ends_in h targets)
-  ends_low low = low_if_under targets (ends_in h targets) low (ends_under h targets)
+  starts_low origins low k d lt =
+      let p = slice_index_or (starts_in h origins) k d in
+      let (i, within, is) = starts_under h origins p (All-contains_itself (starts_in h origins) k d lt) in
+      low_over p (subst (λ v. v < length (nodes_of n)) is (low i (node_under h p) within))
 
 -- ---- what a search finds
 
@@ -88,13 +80,6 @@ module _ (n : NetworkLists) (network : IsNetwork n) (h : Option HierarchyLists) 
       let over = subst (λ (ss : List ℕ). NoneArrivesBefore g (collapsed l) ss (ends_in h s.targets) q.depart (claimed_arrival result)) s.starts_are
       (subst (λ (es : List ℕ). NoneArrivesBefore g (collapsed l) starts es q.depart (claimed_arrival result)) s.ends_are (none_before (claimed_arrival result) arrival)) in
       best_result n network h s.sound (asked_by q) (collapsed l) s.origins s.targets s.denotes s.origin s.destination g s.in_use result holds over
-
-  has_time : (step : Step) → IsSoon step → HasTime step
-  has_time (Wait until) soon = omega arith
-  has_time (Road to) soon = tt
-  has_time (Link to) soon = tt
-  has_time Stand soon = tt
-  has_time (Ride trip day board alight) soon = tt
 
   -- the journey under a walk that counts answers
   walk_answers : (a : ℕ) (w : Walk) (j : Route) → IsWalkTo g (collapsed l) starts ends q.depart a w → LiesUnder n h g w j → Answers n (asked_by q) j a

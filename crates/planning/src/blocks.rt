@@ -55,24 +55,8 @@ fn body(
 }
 
 /// The right block of a query line, and how many labels the search for it had, if it was over a hierarchy, which is sound
-/// for the network. The search uses the room.
-pub fn block_of(
-    alloc: Global,
-    room: &mut Room,
-    network: &Network,
-    hierarchy: Option<&Hierarchy>,
-    line: &[u8],
-) -> Result<(Vec<u8>, u64), AllocError>
-    requires { IfSome hierarchy (λ h. IsSound network.now h.now) }
-    ensures block { IfOk result (λ it. IsToldBlock network.now line.now it.0.items) }
-    ensures settled { IfOk result (λ it. IsSettledCount network.now (option_map (λ h. h.now) hierarchy.entry)
-        line.now it.1) }
-{
-    block_within(alloc, room, network, hierarchy, line, None)
-}
-
-/// The same as [`block_of`], but where the search has more labels than the limit, if there is one, it is stopped, and the
-/// block says so. A search that is stopped counts no labels.
+/// for the network. But where the search has more labels than the limit, if there is one, it is stopped, the block says
+/// so, and no labels are counted. The search uses the room.
 pub fn block_within(
     alloc: Global,
     room: &mut Room,

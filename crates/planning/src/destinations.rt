@@ -103,8 +103,7 @@ impl<'a> Destinations<'a> {
             query.depart,
         )?;
         room.kept.put(expressed)?;
-        let list = earliest_of_each(alloc, &self.parts, &times)?;
-        Ok(list)
+        earliest_of_each(alloc, &self.parts, &times)
     }
 }
 

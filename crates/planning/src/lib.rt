@@ -6,7 +6,7 @@ pub mod blocks;
 pub mod destinations;
 pub mod plans;
 
-pub use blocks::{block_of, block_within};
+pub use blocks::block_within;
 pub use destinations::Destinations;
 pub use kept_automata::Room;
 pub use plans::{

@@ -1,6 +1,7 @@
 //! A best journey for a query.
 
-ghost use Rattle.std.specs.Prelude.{◌≡◌, ◌≤◌, IfOk, IfSome, Some, length, option_map};
+ghost use Rattle.std.specs.Prelude.{◌≡◌, ◌<◌, ◌≤◌, All, IfOk, IfSome, Some, length, option_map};
+ghost use Rattle.std.proofs.Props.{props};
 ghost use Rattle.automaton.specs.Meanings.{position_meaning};
 ghost use Rattle.hierarchy.specs.Soundness.{IsSound};
 ghost use Rattle.journey.specs.Best.{asked_by};
@@ -12,7 +13,7 @@ ghost use Rattle.planning.specs.Settled.{HasLabelCount, IsLabelCount, told_count
 ghost use Rattle.planning.specs.Limits.{SearchHasAtMost, SearchHasMore};
 ghost use Rattle.product_search.specs.Limits.{IfEnded, IfStopped};
 
-use automaton::positions_accept;
+use automaton::{Collapsed, Positions, positions_accept};
 use hierarchy::Hierarchy;
 use journey::{Query, copies};
 use kept_automata::{Expressed, Forward, Room};
@@ -40,13 +41,43 @@ pub struct BestPlan {
     pub settled: u64,
 }
 
-/// What a search for a query goes over: the graph in use, from the starts to the ends, and an automaton for the expression.
+/// What a search for a query goes over: the graph in use, from the starts to the ends, and an automaton for the
+/// expression.
 #[derive(Drop)]
 struct Searched<'a> {
     graph: GraphInUse<'a>,
     expressed: Expressed<Forward>,
     starts: Vec<u32>,
     ends: Vec<u32>,
+    ghost starts_there: { All (λ v. v < (meaning_in_use graph).nodes) starts.items } by { Prim.hlevel props },
+}
+
+impl Searched<'_> {
+    ghost use Rattle.std.specs.Prelude.{◌≡◌, ◌<◌, ◌^◌, All, None};
+    ghost use Rattle.automaton.specs.Collapsed.{collapsed};
+    ghost use Rattle.product_search.specs.Questions.{question_of};
+
+    /// The question for the least arrival at an end, for this departure.
+    fn question(&self, depart: Time) -> Question<'_, GraphInUse<'_>, Collapsed<Positions>>
+        requires { depart < 2 ^ 64 }
+        ensures { question_of result ≡ record {
+          graph = meaning_in_use self.now.graph;
+          labels = collapsed (position_meaning self.now.expressed.made.labels.inner);
+          starts = self.now.starts.items;
+          targets = self.now.ends.items;
+          dep = depart;
+          bound = None;
+        } }
+    {
+        Question {
+            graph: &self.graph,
+            machine: &self.expressed.made,
+            starts: &self.starts,
+            targets: &self.ends,
+            dep: depart,
+            bound: None,
+        }
+    }
 }
 
 /// A best journey for a query, or none exactly where no journey answers it. Over a hierarchy, which is sound for the
@@ -130,15 +161,7 @@ pub fn best_arrival(
 {
     network.known();
     let searched = prepared(alloc, room, network, hierarchy, query)?;
-    let question = Question {
-        graph: &searched.graph,
-        machine: &searched.expressed.made,
-        starts: &searched.starts,
-        targets: &searched.ends,
-        dep: query.depart,
-        bound: None,
-    };
-    let found = search_best_with(alloc, &mut room.workspace, &question)?;
+    let found = search_best_with(alloc, &mut room.workspace, &searched.question(query.depart))?;
     room.kept.put(searched.expressed)?;
     let Best { arrival, walk: _ } = found;
     Ok(arrival)
@@ -156,15 +179,7 @@ fn find_plain(
 {
     network.known();
     let searched = prepared(alloc, room, network, None, query)?;
-    let question = Question {
-        graph: &searched.graph,
-        machine: &searched.expressed.made,
-        starts: &searched.starts,
-        targets: &searched.ends,
-        dep: query.depart,
-        bound: None,
-    };
-    let found = search_best_with(alloc, &mut room.workspace, &question)?;
+    let found = search_best_with(alloc, &mut room.workspace, &searched.question(query.depart))?;
     let Best { arrival: _, walk } = found;
     let route = unpacked(alloc, &searched.graph, &walk)?;
     room.kept.put(searched.expressed)?;
@@ -192,15 +207,12 @@ fn find_counted(
 {
     network.known();
     let searched = prepared(alloc, room, network, hierarchy, query)?;
-    let question = Question {
-        graph: &searched.graph,
-        machine: &searched.expressed.made,
-        starts: &searched.starts,
-        targets: &searched.ends,
-        dep: query.depart,
-        bound: None,
-    };
-    let found = search_counted_within(alloc, &mut room.workspace, &question, limit)?;
+    let found = search_counted_within(
+        alloc,
+        &mut room.workspace,
+        &searched.question(query.depart),
+        limit,
+    )?;
     let FoundWithCount {
         arrival: _,
         labels,
@@ -266,15 +278,7 @@ pub fn find_plan_within(
 {
     network.known();
     let searched = prepared(alloc, room, network, hierarchy, query)?;
-    let question = Question {
-        graph: &searched.graph,
-        machine: &searched.expressed.made,
-        starts: &searched.starts,
-        targets: &searched.ends,
-        dep: query.depart,
-        bound: None,
-    };
-    let found = search_within(alloc, &question, limit)?;
+    let found = search_within(alloc, &searched.question(query.depart), limit)?;
     let Found {
         arrival,
         labels,

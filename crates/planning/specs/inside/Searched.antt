@@ -1,5 +1,5 @@
 -- What a search for a query goes over, and the journey under the walk that it finds.
-use Rattle.std.specs.Prelude.{◌≡◌, ℕ, ◌<◌, List, Option, Some, None, All}
+use Rattle.std.specs.Prelude.{◌≡◌, ℕ, List, Option, Some, None, All}
 use Rattle.mode_expression.specs.Form.{form_of}
 use Rattle.search_laws.specs.GraphLaws.{GraphMeaning}
 use Rattle.search_laws.specs.LabelLaws.{LabelsMeaning, IsLawfulLabels}
@@ -27,8 +27,6 @@ pub record IsSearchSpace (n : NetworkLists) (h : Option HierarchyLists) (q : Que
   pub in_use : IsInUse n h targets g
   pub starts_are : starts ≡ starts_in h origins
   pub ends_are : ends ≡ ends_in h targets
-  pub starts_low : All (λ v. v < g.nodes) starts
-  pub ends_low : All (λ v. v < g.nodes) ends
   pub positions : IsPositionAutomaton (written (form_of q.expr)) l
   pub denotes : AreDenoted (form_of q.expr) (collapsed l)
   pub lawful : IsLawfulLabels l

@@ -1,5 +1,6 @@
-use Rattle.std.proofs.Common.{Bor}
+use Rattle.std.proofs.Common.{Bor, subst}
 use Rattle.std.specs.Prelude.{option_map}
+use Rattle.product_search.specs.Questions.{QuestionMeaning, CountsLabels, FindsArrival, FindsWalk, HasMore}
 use Rattle.automaton.specs.Meanings.{position_meaning}
 use Rattle.hierarchy.specs.declared.hierarchy.Hierarchy.{Hierarchy}
 use Rattle.phase_graph.specs.InUse.{starts_in, ends_in}
@@ -10,22 +11,19 @@ use Rattle.planning.proofs.AnyGraph.{labels_over}
 use Rattle.planning.proofs.LimitLemmas.{has_more}
 use Rattle.planning.proofs.plans.find_counted.Goals as goal
 
-pub invariant_of-question-clause-starts_there : goal.invariant_of-question-clause-starts_there
-invariant_of-question-clause-starts_there c = rw c.deref.ensures.value c.in_ok-searched.ensures.is.starts_low
-
 pub unpacked-requires : goal.unpacked-requires
 unpacked-requires c =
     let s = c.in_ok-searched.searched in
     let h = option_map (λ (x : Bor Hierarchy). x.now) c.args.hierarchy in
-    let walk = rw (c.in-Ended.is, c.deref.ensures.value, c.deref-2.ensures.value) at c.in_ok-found.ensures.walk in
+    let walk = subst (λ (asked : QuestionMeaning). FindsWalk asked _ _) c.question.ensures (rw c.in-Ended.is at c.in_ok-found.ensures.walk) in
     walk_is_of c.args.network.now c.known.ensures h c.args.query.now (meaning_in_use s.graph) (position_meaning s.expressed.made.labels.inner) s.starts.items s.ends.items c.in_ok-searched.ensures.is _ _ walk
 
 pub returns-clause-journey : goal.returns-clause-journey
 returns-clause-journey c =
     let s = c.in_ok-searched.searched in
     let h = option_map (λ (x : Bor Hierarchy). x.now) c.args.hierarchy in
-    let walk = rw (c.in-Ended.is, c.deref.ensures.value, c.deref-2.ensures.value) at c.in_ok-found.ensures.walk in
-    let arrival = rw (c.in-Ended.is, c.deref.ensures.value, c.deref-2.ensures.value) at c.in_ok-found.ensures.arrival in
+    let walk = subst (λ (asked : QuestionMeaning). FindsWalk asked _ _) c.question.ensures (rw c.in-Ended.is at c.in_ok-found.ensures.walk) in
+    let arrival = subst (λ (asked : QuestionMeaning). FindsArrival asked _) c.question.ensures (rw c.in-Ended.is at c.in_ok-found.ensures.arrival) in
     let time = rw c.in-Ended.is at c.in_ok-found.ensures.time in
     let under = rw (c.in_ok-searched.ensures.network, c.in_ok-searched.ensures.hierarchy) at c.in_ok-journey.ensures in
     plan_for c.args.network.now c.known.ensures h c.args.query.now (meaning_in_use s.graph) (position_meaning s.expressed.made.labels.inner) s.starts.items s.ends.items c.in_ok-searched.ensures.is
@@ -40,8 +38,8 @@ returns-clause-labels c =
     let is = c.in_ok-searched.ensures.is in
     let g = meaning_in_use s.graph in
     let l = position_meaning s.expressed.made.labels.inner in
-    let counted = rw (c.in-Ended.is, c.deref.ensures.value, is.starts_are) at c.in_ok-found.ensures.labels in
-    let first = rw (c.in-Ended.is, c.deref.ensures.value, c.deref-2.ensures.value, is.starts_are, is.ends_are) at c.in_ok-found.ensures.arrival in (
+    let counted = rw is.starts_are at (subst (λ (asked : QuestionMeaning). CountsLabels asked _ _) c.question.ensures (rw c.in-Ended.is at c.in_ok-found.ensures.labels)) in
+    let first = rw (is.starts_are, is.ends_are) at (subst (λ (asked : QuestionMeaning). FindsArrival asked _) c.question.ensures (rw c.in-Ended.is at c.in_ok-found.ensures.arrival)) in (
       counted.0,
       record {
         automaton = l;
@@ -63,8 +61,9 @@ pub returns-in-Stopped-clause-stopped : goal.returns-in-Stopped-clause-stopped
 returns-in-Stopped-clause-stopped c =
     let s = c.in_ok-searched.searched in
     let h = option_map (λ (x : Bor Hierarchy). x.now) c.args.hierarchy in
-    let stopped = rw (c.in-Stopped.is, c.deref.ensures.value, c.deref-2.ensures.value) at c.in_ok-found.ensures.stopped in (
+    let stopped = rw c.in-Stopped.is at c.in_ok-found.ensures.stopped in (
       stopped.0,
       has_more c.args.network.now c.known.ensures h c.args.query.now (meaning_in_use s.graph) (position_meaning s.expressed.made.labels.inner) s.starts.items s.ends.items
-          c.in_ok-searched.ensures.is c.in-Stopped.most stopped.1,
+          c.in_ok-searched.ensures.is c.in-Stopped.most
+          (subst (λ (asked : QuestionMeaning). HasMore asked c.in-Stopped.most) c.question.ensures stopped.1),
     )

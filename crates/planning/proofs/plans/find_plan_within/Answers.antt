@@ -1,5 +1,6 @@
 use Rattle.std.proofs.Common.{ℕ, Option, Bor, refl, sym, subst, arith}
 use Rattle.std.specs.Prelude.{option_map}
+use Rattle.product_search.specs.Questions.{QuestionMeaning, FindsArrival, FindsWalk, HasMore, ListsClosed, ListsLabels}
 use Rattle.product_search.specs.Closed.{IsClosed}
 use Rattle.automaton.specs.Collapsed.{collapsed}
 use Rattle.automaton.specs.Meanings.{position_meaning}
@@ -15,14 +16,11 @@ use Rattle.planning.proofs.AnyGraph.{labels_over}
 use Rattle.planning.proofs.LimitLemmas.{has_more}
 use Rattle.planning.proofs.plans.find_plan_within.Goals as goal
 
-pub invariant_of-question-clause-starts_there : goal.invariant_of-question-clause-starts_there
-invariant_of-question-clause-starts_there c = rw c.deref.ensures.value c.in_ok-searched.ensures.is.starts_low
-
 pub unpacked-requires : goal.unpacked-requires
 unpacked-requires c =
     let s = c.in_ok-searched.searched in
     let h = option_map (λ (x : Bor Hierarchy). x.now) c.args.hierarchy in
-    let walk = rw (c.in-Ended.is, c.deref.ensures.value, c.deref-2.ensures.value) at c.in_ok-found.ensures.walk in
+    let walk = subst (λ (asked : QuestionMeaning). FindsWalk asked _ _) c.question.ensures (rw c.in-Ended.is at c.in_ok-found.ensures.walk) in
     walk_is_of c.args.network.now c.known.ensures h c.args.query.now (meaning_in_use s.graph) (position_meaning s.expressed.made.labels.inner) s.starts.items s.ends.items c.in_ok-searched.ensures.is _ _ walk
 
 pub returns : goal.returns
@@ -35,11 +33,11 @@ returns c =
     let g = meaning_in_use s.graph in
     let l = position_meaning s.expressed.made.labels.inner in
     let listed = c.in-Ended.found.labels.items in
-    let walk = rw (c.in-Ended.is, c.deref.ensures.value, c.deref-2.ensures.value) at c.in_ok-found.ensures.walk in
-    let arrival = rw (c.in-Ended.is, c.deref.ensures.value, c.deref-2.ensures.value) at c.in_ok-found.ensures.arrival in
-    let least = rw (c.in-Ended.is, c.deref.ensures.value, is.starts_are) at c.in_ok-found.ensures.labels in
-    let first = rw (c.in-Ended.is, c.deref.ensures.value, c.deref-2.ensures.value, is.starts_are, is.ends_are) at c.in_ok-found.ensures.arrival in
-    let closed = rw (c.in-Ended.is, c.deref.ensures.value, c.deref-2.ensures.value, is.starts_are, is.ends_are) at c.in_ok-found.ensures.closed refl in
+    let walk = subst (λ (asked : QuestionMeaning). FindsWalk asked _ _) c.question.ensures (rw c.in-Ended.is at c.in_ok-found.ensures.walk) in
+    let arrival = subst (λ (asked : QuestionMeaning). FindsArrival asked _) c.question.ensures (rw c.in-Ended.is at c.in_ok-found.ensures.arrival) in
+    let least = rw is.starts_are at (subst (λ (asked : QuestionMeaning). ListsLabels asked _ _) c.question.ensures (rw c.in-Ended.is at c.in_ok-found.ensures.labels)) in
+    let first = rw (is.starts_are, is.ends_are) at (subst (λ (asked : QuestionMeaning). FindsArrival asked _) c.question.ensures (rw c.in-Ended.is at c.in_ok-found.ensures.arrival)) in
+    let closed = rw (is.starts_are, is.ends_are) at (subst (λ (asked : QuestionMeaning). ListsClosed asked _ _) c.question.ensures ((rw c.in-Ended.is at c.in_ok-found.ensures.closed) refl)) in
     let times = rw c.in-Ended.is at c.in_ok-found.ensures.times in
     let under = rw (c.in_ok-searched.ensures.network, c.in_ok-searched.ensures.hierarchy) at c.in_ok-journey.ensures in
     let found = found_for n c.known.ensures h q g l s.starts.items s.ends.items is _ _ _ arrival walk c.requires.read.soon times.arrival under in
@@ -90,8 +88,9 @@ pub returns-in-Stopped-clause-stopped : goal.returns-in-Stopped-clause-stopped
 returns-in-Stopped-clause-stopped c =
     let s = c.in_ok-searched.searched in
     let h = option_map (λ (x : Bor Hierarchy). x.now) c.args.hierarchy in
-    let stopped = rw (c.in-Stopped.is, c.deref.ensures.value, c.deref-2.ensures.value) at c.in_ok-found.ensures.stopped in (
+    let stopped = rw c.in-Stopped.is at c.in_ok-found.ensures.stopped in (
       stopped.0,
       has_more c.args.network.now c.known.ensures h c.args.query.now (meaning_in_use s.graph) (position_meaning s.expressed.made.labels.inner) s.starts.items s.ends.items
-          c.in_ok-searched.ensures.is c.in-Stopped.most stopped.1,
+          c.in_ok-searched.ensures.is c.in-Stopped.most
+          (subst (λ (asked : QuestionMeaning). HasMore asked c.in-Stopped.most) c.question.ensures stopped.1),
     )

@@ -6,11 +6,20 @@ use Rattle.mode_expression.specs.Form.{form_of}
 use Rattle.phase_graph.specs.InUse.{IsInUse, starts_in, ends_in}
 use Rattle.phase_graph.specs.InUseGraph.{meaning_in_use}
 use Rattle.kept_automata.proofs.TextLemmas.{query_spells}
-use Rattle.planning.proofs.PlanLemmas.{starts_low, ends_low}
+use Rattle.planning.proofs.PlanLemmas.{starts_low}
 use Rattle.planning.proofs.plans.prepared.Goals as goal
 
 pub take-requires-clause-spelled : goal.take-requires-clause-spelled
 take-requires-clause-spelled c = query_spells c.args.network.now _ _ _ _ _ c.requires.read.asks
+
+pub invariant_of-result-clause-starts_there : goal.invariant_of-result-clause-starts_there
+invariant_of-result-clause-starts_there c =
+    let h = option_map (λ (x : Bor Hierarchy). x.now) c.args.hierarchy in
+    let g = meaning_in_use c.in_ok-graph.graph in
+    let targets = c.in_ok-targets.targets.items in
+    let in_use = subst (λ (ts : List ℕ). IsInUse c.args.network.now h ts g) c.deref.ensures.value c.in_ok-graph.ensures.is in
+    subst (All (λ v. v < g.nodes)) (sym (c.in_ok-starts.ensures ∙ ap (starts_in h) c.deref-2.ensures.value))
+    (starts_low c.args.network.now h targets g in_use c.in_ok-origins.origins.items c.in_ok-origins.ensures.nodes)
 
 pub returns-clause-is : goal.returns-clause-is
 returns-clause-is c =
@@ -33,8 +42,6 @@ returns-clause-is c =
       in_use = in_use;
       starts_are = starts;
       ends_are = ends;
-      starts_low = subst (All (λ v. v < g.nodes)) (sym starts) (starts_low n h targets g in_use origins c.in_ok-origins.ensures.nodes);
-      ends_low = subst (All (λ v. v < g.nodes)) (sym ends) (ends_low n h targets g in_use c.in_ok-targets.ensures.nodes);
       positions = c.in_ok-expressed.ensures;
       denotes = c.positions_accept.ensures.collapsed (form_of q.expr) c.requires.read.usable (position_meaning labels) labels.lawful c.in_ok-expressed.ensures;
       lawful = labels.lawful;

@@ -1,11 +1,13 @@
 use Rattle.std.proofs.Common.{◌∙◌, ◌<◌, List, ℕ, sym, ap, subst}
 use Rattle.std.specs.Prelude.{All}
+use Rattle.std.proofs.lemmas.Result.{IfOk-weaker}
 use Rattle.automaton.specs.Collapsed.{collapsed}
 use Rattle.automaton.specs.Meanings.{position_meaning}
 use Rattle.mode_expression.specs.Form.{form_of}
 use Rattle.phase_graph.specs.InUse.{starts_in}
 use Rattle.phase_graph.specs.InUseGraph.{meaning_in_use}
 use Rattle.product_search.specs.Arrivals.{AreArrivals}
+use Rattle.planning.specs.Arrivals.{AreArrivalsTo}
 use Rattle.planning.specs.Destinations.{hierarchy_searched}
 use Rattle.planning.proofs.PlanLemmas.{starts_low}
 use Rattle.kept_automata.proofs.TextLemmas.{query_spells}
@@ -37,5 +39,5 @@ returns c =
     let denotes = c.positions_accept.ensures.collapsed (form_of q.expr) c.requires.read.usable (position_meaning labels) labels.lawful c.in_ok-expressed.ensures in
     let starts = c.deref-2.ensures.value ∙ (c.in_ok-starts.ensures ∙ ap (starts_in h) c.deref.ensures.value) in
     let are = subst (λ (ss : List ℕ). AreArrivals (meaning_in_use d.graph) l ss d.table.nodes.items q.depart c.in_ok-times.times.items) starts c.in_ok-times.ensures in
-    let list = rw (c.deref-3.ensures.value, c.deref-4.ensures.value) at c.in_ok-list.ensures in
-    rw list (all_arrivals d c.requires.ready c.in_ok-times.times.items c.known.ensures q l denotes c.in_ok-origins.origins.items c.in_ok-origins.ensures.are are)
+    let all = all_arrivals d c.requires.ready c.in_ok-times.times.items c.known.ensures q l denotes c.in_ok-origins.origins.items c.in_ok-origins.ensures.are are in
+    IfOk-weaker c.earliest_of_each.result _ _ (λ list is. subst (AreArrivalsTo d.network.now q d.queries.now) (sym is) all) (rw (c.deref-3.ensures.value, c.deref-4.ensures.value) at c.earliest_of_each.ensures)
