@@ -1,7 +1,7 @@
 -- The rounds of the search make the boardings list.
-use Rattle.std.proofs.Common.{◌≡◌, ℕ, ◌<◌, ◌≤◌, ◌⊎◌, Bool, true, false, nat_lt, cond, List, [], ◌∷◌, length, Option, Some, None, inl, inr, refl, sym, ap, subst, arith}
+use Rattle.std.proofs.Common.{◌≡◌, ℕ, ◌<◌, ◌≤◌, ◌⊎◌, Bool, true, false, cond, List, [], ◌∷◌, length, Option, Some, None, inl, inr, refl, sym, ap, subst, arith}
 use Rattle.std.specs.Prelude.{All, AllPairs, Contains, IfSome, ◌↔◌}
-use Rattle.std.proofs.lemmas.Bool.{ltb-true, ltb-false}
+use Rattle.std.proofs.lemmas.Bool.{cases_lt, ltb-false, ltb-true}
 use Rattle.std.proofs.lemmas.List.Elements.{All-nil, All-cons, All-contains, Contains-append_left, Contains-append_right}
 use Rattle.std.proofs.lemmas.List.Kept.{AllPairs-cons}
 use Rattle.mode_network.specs.NetworkLists.{NetworkLists}
@@ -11,14 +11,6 @@ use Rattle.few_boardings.specs.declared.boardings.FewRow.{FewRow}
 use Rattle.few_boardings.specs.declared.boardings.Found.{Found}
 use Rattle.few_boardings.specs.Boardings.{rides, IsListedArrival, IsFewRow, AreFewRows, HasNoneByFew, IsPrintableFewRow}
 use Rattle.few_boardings.specs.Rounds.{IsLeastFound, IsLeastBelow, is_later, with_fewer_rides, HasRowAsGood, IsOpen, AreRowsSoFar}
-
--- a number is at most another, or above it
-le_or_above : (a b : ℕ) → (a ≤ b) ⊎ (b < a)
-le_or_above a b = on_test (nat_lt b a) refl
-  where
-    on_test : (t : Bool) → nat_lt b a ≡ t → (a ≤ b) ⊎ (b < a)
-    on_test true e = inr (ltb-true b a e)
-    on_test false e = inl (ltb-false b a e)
 
 first_of_all : (row : FewRow) (rows : List FewRow) → Contains (row ∷ rows) row
 first_of_all row rows = Contains-append_left (row ∷ []) rows row (0, omega arith, refl)
@@ -30,11 +22,11 @@ module _ (n : NetworkLists) (q : Asked) where
   -- what was found with fewer rides than a limit has no more rides and arrives no later than a journey below the limit, or has more
   open_below : (limit : ℕ) (best : Option Found) → IsLeastBelow n q limit best → (k : Route) (u : ℕ) → rides k < limit → Answers n q k u → IsOpen best k u
   open_below limit None none k u below answers = none k u below answers
-  open_below limit (Some f) least k u below answers = on_rides (le_or_above f.row.boardings (rides k))
+  open_below limit (Some f) least k u below answers = on_rides (cases_lt (rides k) f.row.boardings)
     where
-      on_rides : (f.row.boardings ≤ rides k) ⊎ (rides k < f.row.boardings) → IsOpen (Some f) k u
-      on_rides (inl few) = inl (few, least.least k u below answers)
-      on_rides (inr more) = inr more
+      on_rides : (rides k < f.row.boardings) ⊎ (f.row.boardings ≤ rides k) → IsOpen (Some f) k u
+      on_rides (inl fewer) = inr fewer
+      on_rides (inr as_many) = inl (as_many, least.least k u below answers)
 
   pub starts : (best : Option Found) → IsLeastBelow n q 9 best → AreRowsSoFar n q [] best
   starts best least = record {
@@ -186,12 +178,12 @@ module _ (n : NetworkLists) (q : Asked) where
           let within = least.within in
           let covered = covered_at_end rows least.journey t (so_far.covers least.journey t (omega arith) least.answers) in
           let row = All-contains (IsFewRow n q) rows covered.row so_far.right covered.listed in
-          (covered.row, covered.listed, same covered row (le_or_above boardings covered.row.boardings) (omega (arith, covered.few)))
+          (covered.row, covered.listed, same covered row (cases_lt covered.row.boardings boardings) (omega (arith, covered.few)))
         where
-          same : (covered : HasRowAsGood n q rows listed.least.journey t) → IsFewRow n q covered.row → (boardings ≤ covered.row.boardings) ⊎ (covered.row.boardings < boardings)
+          same : (covered : HasRowAsGood n q rows listed.least.journey t) → IsFewRow n q covered.row → (covered.row.boardings < boardings) ⊎ (boardings ≤ covered.row.boardings)
               → covered.row.boardings ≤ boardings → covered.row.boardings ≡ boardings
-          same covered row (inl le) ge = omega arith
-          same covered row (inr less) ge =
+          same covered row (inr le) ge = omega arith
+          same covered row (inl less) ge =
               let later = listed.later covered.row.journey covered.arrival (let b = row.boards in omega arith) covered.answers in
               let soon = covered.soon in absurd (omega arith)
 

@@ -7,9 +7,9 @@ ghost use Rattle.journey.specs.Queries.{IsQuery};
 ghost use Rattle.few_boardings.specs.Boardings.{IsPrintableFewRow};
 ghost use Rattle.few_boardings.specs.Blocks.{AreBoardingsTold, IsFewText, IsFewBlock};
 
-use crate::boardings::{FewRow, few_with};
+use crate::boardings::{FewRow, few};
 use crate::counting::Counting;
-use journey::{BlockBody, Query, QueryFault, block, framed, push_journey, read_query};
+use journey::{Query, framed, push_journey, read_query, refused_block};
 use kept_automata::Kept;
 use mode_network::Network;
 use plain_texts::{push_decimal, push_line_feed};
@@ -80,8 +80,7 @@ fn rows_block(
 {
     let mut text = Vec::new(alloc);
     push_body(alloc, &mut text, network, rows)?;
-    let block = framed(alloc, line, &text)?;
-    Ok(block)
+    framed(alloc, line, &text)
 }
 
 /// The right block of the line that is this query.
@@ -98,9 +97,8 @@ fn query_block(
     requires soon { query.now.depart < 2 ^ 64 }
     ensures { IfOk result (λ block. IsFewBlock network.now query.now.line block.items) }
 {
-    let rows = few_with(alloc, workspace, kept, network, query)?;
-    let block = rows_block(alloc, network, query.line.as_slice(), &rows)?;
-    Ok(block)
+    let rows = few(alloc, workspace, kept, network, query)?;
+    rows_block(alloc, network, query.line.as_slice(), &rows)
 }
 
 /// The right block of a query line: that of its refusal, or of the journeys that are worth their boardings. The searches
@@ -116,10 +114,6 @@ pub fn few_block(
 {
     match read_query(alloc, network, line) {
         Ok(query) => query_block(alloc, workspace, kept, network, &query),
-        Err(QueryFault::OutOfMemory) => Err(AllocError),
-        Err(fault) => {
-            let block = block(alloc, network, line, &BlockBody::Refused(fault))?;
-            Ok(block)
-        }
+        Err(fault) => refused_block(alloc, network, line, fault),
     }
 }

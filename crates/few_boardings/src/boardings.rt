@@ -108,8 +108,7 @@ pub fn least_below(
     let best = search_best_with(alloc, workspace, &question)?;
     kept.put(expressed)?;
     let Best { arrival, walk } = best;
-    let found = unpacked(alloc, &plain, arrival, &walk)?;
-    Ok(found)
+    unpacked(alloc, &plain, arrival, &walk)
 }
 
 /// Whether what was found arrives later than `t`, or nothing was found.
@@ -136,26 +135,11 @@ fn keep(rows: &mut Vec<FewRow>, found: Found, fewer: &Option<Found>) -> Result<(
 
 /// For each number of rides from 0 to 8 with which one arrives earlier than with fewer: a journey that answers the
 /// query with so many rides and arrives as early as can be, by rising boardings. None with at most 8 rides answers
-/// exactly where the list is empty.
-pub fn few(alloc: Global, network: &Network, query: &Query) -> Result<Vec<FewRow>, AllocError>
-    requires asks { IsQuery network.now query.now.line query.now.from query.now.to query.now.depart
-        (form_of query.now.expr) }
-    requires usable { IsUsable (form_of query.now.expr) }
-    requires soon { query.now.depart < 2 ^ 64 }
-    ensures rows { IfOk result (λ rows. AreFewRows network.now (asked_by query.now) rows.items) }
-    ensures none { IfOk result (λ rows. (rows.items ≡ []) ↔ HasNoneByFew network.now (asked_by query.now)) }
-    ensures printable { IfOk result (λ rows. All (IsPrintableFewRow network.now) rows.items) }
-{
-    let mut workspace = Workspace::new(alloc);
-    let mut kept = Kept::new(alloc);
-    few_with(alloc, &mut workspace, &mut kept, network, query)
-}
-
-/// The same with a workspace, and with the automata that are kept while the text of the expression stays.
+/// exactly where the list is empty. The searches use the workspace and what is kept.
 ///
 /// Each search goes below the rides of the journey that the one before found, so there are as many searches as rows, one
 /// more at the end, and one for each journey that another with fewer rides is as early as.
-pub fn few_with(
+pub(crate) fn few(
     alloc: Global,
     workspace: &mut Workspace,
     kept: &mut Kept<Counting>,

@@ -7,6 +7,6 @@ mod counted;
 mod counting;
 
 pub use blocks::few_block;
-pub use boardings::{FewRow, Found, few, few_with, least_below};
+pub use boardings::{Found, least_below};
 pub use counted::{Counted, Side};
 pub use counting::Counting;

@@ -1,4 +1,5 @@
 use Rattle.std.proofs.Common.{◌+◌, ◌-◌, ◌≡◌, ◌≤◌, subst, arith}
+use Rattle.std.proofs.lemmas.Result.{IfOk-weaker}
 use Rattle.automaton.specs.Collapsed.{collapsed}
 use Rattle.automaton.specs.Meanings.{position_meaning}
 use Rattle.mode_expression.specs.Form.{form_of}
@@ -34,9 +35,7 @@ returns c =
     let few = counting_of (form_of q.expr) inner AtMost most c.positions_accept.ensures.collapsed c.requires.usable reader.inner.lawful reader.fits is.positions in
     let walk = rw (c.new-plain.ensures.network, c.deref.ensures.value, c.deref-2.ensures.value, is.on_side, is.limited) at c.in_ok-best.ensures.walk in
     let arrival = rw (c.new-plain.ensures.network, c.deref.ensures.value, c.deref-2.ensures.value, is.on_side, is.limited) at c.in_ok-best.ensures.arrival in
-    let found = rw c.new-plain.ensures.network at c.in_ok-found.ensures in
     let limit : most + 1 ≡ c.args.limit = let some = c.if-limit-eq0.false in omega arith in
     let small : most ≤ 8 = let few = c.requires.limit in omega arith in
-    let below = found_below n c.known.ensures c.new-plain.result.timetable.now (asked_by q) (counted (collapsed inner) AtMost most) most c.in_ok-starts.starts.items c.in_ok-targets.targets.items
-    few c.new-plain.ensures.journeys c.in_ok-starts.ensures.are c.in_ok-targets.ensures.are small _ _ _ arrival walk c.requires.soon found in
-    subst (λ k. IsLeastBelow n (asked_by q) k c.in_ok-found.found) limit below
+    IfOk-weaker c.unpacked.result _ _ (λ found is. subst (λ k. IsLeastBelow n (asked_by q) k found) limit (found_below n c.known.ensures c.new-plain.result.timetable.now (asked_by q) (counted (collapsed inner) AtMost most) most c.in_ok-starts.starts.items c.in_ok-targets.targets.items
+    few c.new-plain.ensures.journeys c.in_ok-starts.ensures.are c.in_ok-targets.ensures.are small _ _ _ arrival walk c.requires.soon is)) (rw c.new-plain.ensures.network at c.unpacked.ensures)

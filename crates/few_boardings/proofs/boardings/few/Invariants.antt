@@ -1,6 +1,6 @@
 use Rattle.few_boardings.specs.Rounds.{AreRowsSoFar, rides_left}
 use Rattle.journey.specs.Best.{asked_by}
-use Rattle.few_boardings.proofs.boardings.few_with.Given as goal
+use Rattle.few_boardings.proofs.boardings.few.Given as goal
 
 abbrev pub invariant-loop-best : goal.invariant-loop-best
 invariant-loop-best l = AreRowsSoFar l.network (asked_by l.query) l.rows.items l.best

@@ -4,7 +4,7 @@ use Rattle.few_boardings.specs.declared.boardings.FewRow.{FewRow}
 use Rattle.few_boardings.specs.declared.boardings.Found.{Found}
 use Rattle.few_boardings.specs.Rounds.{AreRowsSoFar}
 use Rattle.few_boardings.proofs.RoundLemmas.{starts, goes_on_by, are_rows, none_or_some}
-use Rattle.few_boardings.proofs.boardings.few_with.Goals as goal
+use Rattle.few_boardings.proofs.boardings.few.Goals as goal
 
 pub loop-best-init : goal.loop-best-init
 loop-best-init c =
