@@ -1,78 +1,21 @@
 -- The labels of a search that are least below a time, before which no accepted walk arrives, are closed.
-use Rattle.std.proofs.Common.{◌≡◌, ℕ, zero, suc, ◌+◌, ◌-◌, ◌<◌, ◌≤◌, ◌⊎◌, ◌==◌, ◌&&◌, true, false, Bool, List, [], ◌∷◌, ◌++◌, length, Option, Some, None, inl, inr, refl, sym, ap, ◌∙◌, subst, arith}
-use Rattle.std.specs.Prelude.{All, Contains, IsTrue, cond, slice_index_or, option_to_list}
+use Rattle.std.proofs.Common.{◌≡◌, ℕ, zero, suc, ◌+◌, ◌-◌, ◌<◌, ◌≤◌, ◌⊎◌, ◌==◌, ◌&&◌, true, false, Bool, List, [], ◌∷◌, length, Option, Some, None, inl, inr, refl, ap, ◌∙◌, arith}
+use Rattle.std.specs.Prelude.{All, Contains, slice_index_or}
 use Rattle.std.proofs.lemmas.Bool.Decides.{nat_tests}
-use Rattle.std.proofs.lemmas.List.{get_or_default}
-use Rattle.std.proofs.lemmas.List.Elements.{All-nil, All-cons, All-append, All-contains, Contains-append_left, Contains-append_right, Contains-append_cases}
-use Rattle.search_laws.specs.GraphLaws.{GraphMeaning, IsLawfulGraph, HasArc}
-use Rattle.search_laws.specs.LabelLaws.{LabelsMeaning, IsLawfulLabels, Reads, Follows, AllAfter}
-use Rattle.search_laws.specs.Walks.{WalkStep, wait, arc, IsWalk, ArrivesAt, word_from}
-use Rattle.search_laws.proofs.WalkLemmas.{reads_more, reads_one, walk_more, word_more}
+use Rattle.std.proofs.lemmas.List.Elements.{All-contains, Contains-append_left, Contains-append_right, Contains-append_cases}
+use Rattle.search_laws.specs.GraphLaws.{GraphMeaning, IsLawfulGraph}
+use Rattle.search_laws.specs.LabelLaws.{LabelsMeaning, IsLawfulLabels}
+use Rattle.search_laws.specs.Walks.{arc, ArrivesAt}
 use Rattle.product_search.specs.declared.label.Label.{Label}
 use Rattle.product_search.specs.Reach.{IsReachedAt, IsLeastAt}
 use Rattle.product_search.specs.Listed.{label_of, AreAscendingLabels, AreLeastLabels}
 use Rattle.product_search.specs.Answer.{IsArrival}
-use Rattle.product_search.specs.Closed.{IsListedBy, start_states, pairs_at, start_pairs, IsInOrderAt, StartIsListedAt, IsNoEndAt, ArcsAreListedAt, IsClosed}
+use Rattle.product_search.specs.Closed.{IsListedBy, start_pairs, IsInOrderAt, StartIsListedAt, IsNoEndAt, ArcsAreListedAt, IsClosed}
+use Rattle.product_search.proofs.ClosureLemmas.{walk_stays, all_start, all_after}
+use Rattle.product_search.proofs.ReachLemmas.{reached_more}
 use Rattle.mode_network.proofs.RuleLemmas.{both}
 use Rattle.latest_departure.proofs.OrderLemmas.{le_or_above, head_is}
 use Rattle.latest_departure.proofs.ReversedLemmas.{reads_below}
-
-walk_stays : (g : GraphMeaning) → IsLawfulGraph g → (steps : List WalkStep) (v t v2 t2 : ℕ) → v < g.nodes → IsWalk g v t steps v2 t2 → v2 < g.nodes
-walk_stays g graph [] v t v2 t2 within walk = subst (λ w. w < g.nodes) (sym walk.0) within
-walk_stays g graph (wait w ∷ steps) v t v2 t2 within walk = walk_stays g graph steps v w v2 t2 within walk.1
-walk_stays g graph (arc i ∷ steps) v t v2 t2 within (u, has, e, walk) = walk_stays g graph steps (g.arc_at v i).to u v2 t2 (graph.to_in_range v i has) walk
-
-all_after : (l : LabelsMeaning) (q : ℕ) (letter : Option ℕ) (P : ℕ → Type 0) → ((r : ℕ) → Follows l q letter r → P r) → AllAfter l q letter P
-all_after l q None P holds = holds q refl
-all_after l q (Some c) P holds = λ j lt bit. holds (l.move_at q j).to (j, record { place = lt; letter = bit; to = refl })
-
--- a walk with one arc more
-reached_more : (g : GraphMeaning) (l : LabelsMeaning) (starts : List ℕ) (dep v q t i u r : ℕ) → IsReachedAt g l starts dep v q t → HasArc g v i
-    → g.arrive v i t ≡ Some u → Follows l q (g.arc_at v i).letter r → IsReachedAt g l starts dep (g.arc_at v i).to r u
-reached_more g l starts dep v q t i u r reached has e follows = record {
-  start = reached.start;
-  first = reached.first;
-  steps = reached.steps ++ arc i ∷ [];
-  starts_there = reached.starts_there;
-  is_state = reached.is_state;
-  is_start = reached.is_start;
-  walk = walk_more g reached.steps reached.start dep v t i u reached.walk has e;
-  reads = subst (λ w. Reads l reached.first w r) (sym (word_more g reached.steps reached.start dep v t i reached.walk))
-      (reads_more l (word_from g reached.start reached.steps) (option_to_list (g.arc_at v i).letter) reached.first q r reached.reads
-      (reads_one l (g.arc_at v i).letter q r follows));
-}
-
--- ---- the pairs of a start and a start state
-
-module _ (l : LabelsMeaning) (starts : List ℕ) where
-  abbrev IsStart : ℕ → Type 0
-  IsStart q = (q < l.states) × IsTrue (l.is_start q)
-
-  states_start : (n : ℕ) → n ≤ l.states → All IsStart (start_states l n)
-  states_start zero le = All-nil IsStart
-  states_start (suc n) le = All-append IsStart (start_states l n) _ (states_start n (omega arith)) (last (l.is_start n) refl)
-    where
-      last : (b : Bool) → l.is_start n ≡ b → All IsStart (cond b (n ∷ []) [])
-      last true e = All-cons IsStart n [] (omega arith, e) (All-nil IsStart)
-      last false e = All-nil IsStart
-
-  abbrev IsStartPair : ℕ × ℕ → Type 0
-  IsStartPair p = Contains starts p.0 × IsStart p.1
-
-  pairs_start : (v : ℕ) → Contains starts v → (states : List ℕ) → All IsStart states → All IsStartPair (pairs_at v states)
-  pairs_start v has [] all = All-nil IsStartPair
-  pairs_start v has (q ∷ states) all =
-      All-cons IsStartPair (v, q) (pairs_at v states) (has, all 0 q (omega arith)) (pairs_start v has states (λ k d lt. all (suc k) d (omega arith)))
-
-  some_start : (some : List ℕ) → All (Contains starts) some → All IsStartPair (start_pairs l some)
-  some_start [] all = All-nil IsStartPair
-  some_start (v ∷ some) all =
-      All-append IsStartPair (pairs_at v (start_states l l.states)) (start_pairs l some)
-      (pairs_start v (all 0 v (omega arith)) (start_states l l.states) (states_start l.states (omega arith)))
-      (some_start some (λ k d lt. all (suc k) d (omega arith)))
-
-  all_start : All IsStartPair (start_pairs l starts)
-  all_start = some_start starts (λ k d lt. (k, lt, get_or_default starts k (slice_index_or starts k d) d lt))
 
 -- ---- a product state has a label in a list, or has none
 
@@ -137,7 +80,7 @@ module _ (g : GraphMeaning) (graph : IsLawfulGraph g) (l : LabelsMeaning) (label
   node_within : (v q t : ℕ) → Reached v q t → v < g.nodes
   node_within v q t r =
       let start : r.start < g.nodes = All-contains (λ (v : ℕ). v < g.nodes) starts r.start within r.starts_there in
-      walk_stays g graph r.steps r.start dep v t start r.walk
+      walk_stays g graph l labels r.steps r.start dep v t start r.walk
 
   in_order : (k : ℕ) → k < length list → IsInOrderAt g l (Some a) list k
   in_order k lt d =

@@ -1,5 +1,5 @@
 -- The text of a late block.
-use Rattle.std.proofs.Common.{◌≡◌, ℕ, List, ◌++◌, append_assoc, Option, Some, None, inr, refl, ap, ◌∙◌}
+use Rattle.std.proofs.Common.{◌≡◌, ℕ, List, ◌++◌, append_assoc, Option, Some, None, ◌≢◌, inl, inr, refl, ap, ◌∙◌}
 use Rattle.std.specs.Prelude.{IfSome}
 use Rattle.std.specs.Prelude.{codes}
 use Rattle.plain_texts.specs.Lines.{with_feed}
@@ -7,9 +7,13 @@ use Rattle.service_days.specs.Clock.{clock_text_of}
 use Rattle.mode_network.specs.NetworkLists.{NetworkLists}
 use Rattle.mode_network.specs.Journeys.{Route}
 use Rattle.journey.specs.Blocks.{AddsText}
-use Rattle.journey.specs.Texts.{IsJourneyText}
-use Rattle.journey.specs.Best.{Asked, Asks}
-use Rattle.journey.specs.Blocks.{IsPrintable}
+use Rattle.journey.specs.declared.answer.BlockBody.TheVariants.{Refused}
+use Rattle.journey.specs.declared.fault.QueryFault.{QueryFault}
+use Rattle.journey.specs.declared.fault.QueryFault.TheVariants.{OutOfMemory}
+use Rattle.journey.specs.Queries.{IsRefusal}
+use Rattle.journey.specs.Texts.{IsJourneyText, block_text}
+use Rattle.journey.specs.Best.{Asked, Asks, IsRefusedBlock}
+use Rattle.journey.specs.Blocks.{IsBlockText, IsPrintable}
 use Rattle.latest_departure.specs.Late.{IsToldResult}
 use Rattle.latest_departure.specs.Latest.{IsLate}
 use Rattle.latest_departure.specs.Blocks.{IsLateJourneyText, IsAnswerBlock, IsLateBlock}
@@ -23,6 +27,12 @@ late_told n j old now new departs own =
       is = record { own = own.text; told = own.is; text_is = refl };
       added = own.added ∙ ap (λ (t : List ℕ). t ++ own.text) departs ∙ append_assoc old line own.text;
     }
+
+-- the block of a line that is refused with a fault is a right one
+pub refused_told : (n : NetworkLists) (line : List ℕ) (fault : QueryFault) → IsRefusal n line fault → (block : List ℕ) → (fault ≢ OutOfMemory) × IsBlockText n line (Refused fault) block
+    → IsRefusedBlock n line block
+refused_told n line fault (inl none) block (some, told) = absurd (some none)
+refused_told n line fault (inr refused) block (some, told) = record { fault = fault; refused = refused; block_is = told.block_is ∙ ap (block_text line) told.is_body }
 
 -- what is answered can be printed, and its block is right
 pub late_printable : (n : NetworkLists) (q : Asked) (found : Option Route) → IsLate n q found → IfSome found (IsPrintable n)

@@ -6,15 +6,13 @@ ghost use Rattle.mode_expression.specs.Form.{form_of, IsUsable};
 ghost use Rattle.service_days.specs.Clock.{clock_text_of};
 ghost use Rattle.journey.specs.Blocks.{AddsText, IsPrintable};
 ghost use Rattle.journey.specs.Queries.{IsQuery};
-ghost use Rattle.latest_departure.specs.Blocks.{IsLateJourneyText, IsResultText, IsAnswerBlock, IsLateBlock};
+ghost use Rattle.latest_departure.specs.Blocks.{IsLateJourneyText, IsResultText, IsAnswerBlock};
 ghost use Rattle.latest_departure.specs.Limits.{IsLateBlockWithin};
 
 use crate::backwards::Backwards;
-use crate::departing::find_latest_within;
+use crate::departing::find_latest;
 use crate::room::LateRoom;
-use journey::{
-    BlockBody, Query, QueryFault, block, framed, push_journey, read_query, stopped_block,
-};
+use journey::{Query, framed, push_journey, read_query, refused_block, stopped_block};
 use mode_network::{Journey, Network};
 use plain_texts::push_line_feed;
 use product_search::Limited;
@@ -31,8 +29,8 @@ fn push_departure(out: &mut Vec<u8>, network: &Network, t: Time) -> Result<(), A
     push_line_feed(out)
 }
 
-/// Appends when a journey departs, and then what any block prints of it.
-fn push_late(
+/// Appends when a journey departs, as the line `depart`, and then what any block prints of it.
+pub fn push_late(
     alloc: Global,
     out: &mut Vec<u8>,
     network: &Network,
@@ -75,8 +73,7 @@ pub fn answer_block(
 {
     let mut text = Vec::new(alloc);
     push_answer(alloc, &mut text, network, answer)?;
-    let block = framed(alloc, line, &text)?;
-    Ok(block)
+    framed(alloc, line, &text)
 }
 
 /// The right late block of the line that is this query, within the limit, if there is one.
@@ -94,7 +91,7 @@ fn query_block(
         block.items) }
 {
     let line = query.line.as_slice();
-    let found = find_latest_within(alloc, room, backwards, query, limit)?;
+    let found = find_latest(alloc, room, backwards, query, limit)?;
     let journey = match found {
         Limited::Ended(journey) => journey,
         Limited::Stopped(most) => return stopped_block(alloc, line, most),
@@ -103,22 +100,10 @@ fn query_block(
 }
 
 /// The right late block of a query line: that of its refusal, of the best journey for its deadline, or of the answer that
-/// there is none.
+/// there is none. But where the search through mirrored time has more labels than the limit, if there is one, it is stopped,
+/// and the block says so.
 ///
 /// The table of what leads to each node and the room serve many lines.
-pub fn late_block(
-    alloc: Global,
-    room: &mut LateRoom,
-    backwards: &Backwards<'_>,
-    line: &[u8],
-) -> Result<Vec<u8>, AllocError>
-    ensures { IfOk result (λ block. IsLateBlock backwards.now.network line.now block.items) }
-{
-    late_block_within(alloc, room, backwards, line, None)
-}
-
-/// The same as [`late_block`], but where the search through mirrored time has more labels than the limit, if there is one, it is
-/// stopped, and the block says so.
 pub fn late_block_within(
     alloc: Global,
     room: &mut LateRoom,
@@ -131,10 +116,6 @@ pub fn late_block_within(
     let network = backwards.network();
     match read_query(alloc, network, line) {
         Ok(query) => query_block(alloc, room, backwards, &query, limit),
-        Err(QueryFault::OutOfMemory) => Err(AllocError),
-        Err(fault) => {
-            let block = block(alloc, network, line, &BlockBody::Refused(fault))?;
-            Ok(block)
-        }
+        Err(fault) => refused_block(alloc, network, line, fault),
     }
 }

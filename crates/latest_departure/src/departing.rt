@@ -58,8 +58,7 @@ fn best_at(
     match moment {
         Some(moment) => {
             let at = query.depart - moment;
-            let journey = first_from(alloc, room, backwards.network(), query, search, at)?;
-            Ok(journey)
+            first_from(alloc, room, backwards.network(), query, search, at)
         }
         None => Ok(None),
     }
@@ -115,25 +114,9 @@ fn least_moment(
 /// arrives first; None exactly where none is in time.
 ///
 /// The time of a query is the deadline. The departure is found by a search through mirrored time, and the journey by one from
-/// there on. The table of what leads to each node and the room serve many queries.
-pub fn find_latest(
-    alloc: Global,
-    room: &mut LateRoom,
-    backwards: &Backwards<'_>,
-    query: &Query,
-) -> Result<Option<Journey>, AllocError>
-    requires asks { IsQuery backwards.now.network query.now.line query.now.from query.now.to query.now.depart
-        (form_of query.now.expr) }
-    requires usable { IsUsable (form_of query.now.expr) }
-    ensures { IfOk result (IsLate backwards.now.network (asked_by query.now)) }
-{
-    let found = find_latest_within(alloc, room, backwards, query, None)?;
-    Ok(found.into_answer())
-}
-
-/// The same as [`find_latest`], but stopped where the search through mirrored time has more labels than the limit, if there is
-/// one, and there alone.
-pub fn find_latest_within(
+/// there on. The first search is stopped where it has more labels than the limit, if there is one, and there alone. The table
+/// of what leads to each node and the room serve many queries.
+pub(crate) fn find_latest(
     alloc: Global,
     room: &mut LateRoom,
     backwards: &Backwards<'_>,
@@ -164,26 +147,8 @@ pub fn find_latest_within(
 }
 
 /// What is answered for a deadline: such a journey, and exactly the labels of the search through mirrored time, up to the
-/// region's first date. The table of what leads to each node and the room serve many queries.
-pub fn latest(
-    alloc: Global,
-    room: &mut LateRoom,
-    backwards: &Backwards<'_>,
-    query: &Query,
-) -> Result<Late, AllocError>
-    requires asks { IsQuery backwards.now.network query.now.line query.now.from query.now.to query.now.depart
-        (form_of query.now.expr) }
-    requires usable { IsUsable (form_of query.now.expr) }
-    ensures journey { IfOk result (λ late. IsLate backwards.now.network (asked_by query.now) late.journey) }
-    ensures labels { IfOk result (λ late. AreLateLabels backwards.now.network (asked_by query.now)
-        late.labels.items) }
-    ensures times { IfOk result (λ late. All (λ x. x.at < time_bound) late.labels.items) }
-{
-    let late = latest_within(alloc, room, backwards, query, None)?;
-    Ok(late.into_answer())
-}
-
-/// The same as [`latest`], but stopped where the search has more labels than the limit, if there is one, and there alone.
+/// region's first date. It is stopped where there are more than the limit, if there is one, and there alone. The table of
+/// what leads to each node and the room serve many queries.
 pub fn latest_within(
     alloc: Global,
     room: &mut LateRoom,
@@ -194,7 +159,8 @@ pub fn latest_within(
     requires asks { IsQuery backwards.now.network query.now.line query.now.from query.now.to query.now.depart
         (form_of query.now.expr) }
     requires usable { IsUsable (form_of query.now.expr) }
-    ensures journey { IfEnded result (λ late. IsLate backwards.now.network (asked_by query.now) late.journey) }
+    ensures journey { IfEnded result (λ late. IsLate backwards.now.network (asked_by query.now)
+        late.journey) }
     ensures labels { IfEnded result (λ late. AreLateLabels backwards.now.network (asked_by query.now)
         late.labels.items) }
     ensures times { IfEnded result (λ late. All (λ x. x.at < time_bound) late.labels.items) }
@@ -220,7 +186,8 @@ fn late_over(
     requires usable { IsUsable (form_of query.now.expr) }
     requires spelled { IsSpelledIn query.now.line (form_of query.now.expr) }
     requires search { IsSearchFor backwards.now (asked_by query.now) search.now }
-    ensures journey { IfEnded result (λ late. IsLate backwards.now.network (asked_by query.now) late.journey) }
+    ensures journey { IfEnded result (λ late. IsLate backwards.now.network (asked_by query.now)
+        late.journey) }
     ensures labels { IfEnded result (λ late. AreLateLabels backwards.now.network (asked_by query.now)
         late.labels.items) }
     ensures times { IfEnded result (λ late. All (λ x. x.at < time_bound) late.labels.items) }

@@ -69,6 +69,5 @@ pub(crate) fn first_from(
     let best = search_best_with(alloc, &mut room.workspace, &question)?;
     room.kept.put(expressed)?;
     let Best { arrival: _, walk } = best;
-    let journey = unpacked(alloc, &plain, &walk)?;
-    Ok(journey)
+    unpacked(alloc, &plain, &walk)
 }

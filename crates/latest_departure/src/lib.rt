@@ -14,13 +14,9 @@ mod room;
 mod search;
 mod source;
 
-pub use backward::{Backward, BackwardMachine};
 pub use backwards::Backwards;
-pub use blocks::{answer_block, late_block, late_block_within};
-pub use departing::{Late, find_latest, find_latest_within, latest, latest_within};
+pub use blocks::{answer_block, late_block_within, push_late};
+pub use departing::{Late, latest_within};
 pub use laws::valid_late_proves;
-pub use mirror::Mirror;
-pub use reversed::Reversed;
 pub use room::LateRoom;
 pub use search::LateSearch;
-pub use source::{Entry, Source};

@@ -1,13 +1,12 @@
-use Rattle.std.proofs.Common.{subst, rules}
-use Rattle.mode_network.specs.NetworkLists.{NetworkLists}
-use Rattle.journey.specs.Best.{IsRefusedBlock}
-use Rattle.latest_departure.specs.Limits.{IsLateBlockWithin}
+use Rattle.std.proofs.lemmas.Result.{IfOk-weaker}
 use Rattle.latest_departure.proofs.LimitLemmas.{late_refused}
+use Rattle.latest_departure.proofs.TextLemmas.{refused_told}
 use Rattle.latest_departure.proofs.blocks.late_block_within.Goals as goal
 
-pub returns-in_ok-block-in-Err : goal.returns-in_ok-block-in-Err
-returns-in_ok-block-in-Err c =
-    let block = c.in_ok-block-in-Err.block.items in
-    let refused : IsRefusedBlock c.network-network.result.now c.args.line.now block = search rules in
-    subst (λ (n : NetworkLists). IsLateBlockWithin n c.args.limit c.args.line.now block) c.network-network.ensures
-    (late_refused c.network-network.result.now c.args.line.now block refused c.args.limit)
+pub returns-in-Err : goal.returns-in-Err
+returns-in-Err c =
+    let n = c.args.backwards.now.network in
+    let refusal = rw (c.in-Err.is, c.network-network.ensures) at c.read_query.ensures.fault in
+    IfOk-weaker c.refused_block.result _ _
+    (λ block told. late_refused n c.args.line.now block.items (refused_told n c.args.line.now c.in-Err.fault refusal block.items told) c.args.limit)
+    (rw c.network-network.ensures at c.refused_block.ensures)

@@ -1,3 +1,4 @@
+use Rattle.std.proofs.lemmas.Result.{IfOk-weaker}
 use Rattle.automaton.specs.Collapsed.{collapsed}
 use Rattle.automaton.specs.Meanings.{position_meaning}
 use Rattle.journey.specs.Best.{asked_by}
@@ -29,6 +30,5 @@ returns c =
     let reads = c.positions_accept.ensures.collapsed q.form c.requires.usable inner labels.lawful c.in_ok-expressed.ensures in
     let walk = rw (c.new-plain.ensures.network, c.deref.ensures.value, c.deref-2.ensures.value) at c.in_ok-best.ensures.walk in
     let arrival = rw (c.new-plain.ensures.network, c.deref.ensures.value, c.deref-2.ensures.value) at c.in_ok-best.ensures.arrival in
-    let found = rw c.new-plain.ensures.network at c.in_ok-journey.ensures in
-    found_first n c.known.ensures c.new-plain.result.timetable.now q (collapsed inner) s.targets.items s.starts.items reads c.new-plain.ensures.journeys
-    c.requires.ends.origin c.requires.ends.destination _ _ _ arrival walk c.requires.soon found
+    IfOk-weaker c.unpacked.result _ _ (λ journey is. found_first n c.known.ensures c.new-plain.result.timetable.now q (collapsed inner) s.targets.items s.starts.items reads c.new-plain.ensures.journeys
+    c.requires.ends.origin c.requires.ends.destination _ _ _ arrival walk c.requires.soon is) (rw c.new-plain.ensures.network at c.unpacked.ensures)
