@@ -35,7 +35,7 @@ use Rattle.departures.specs.Departures.{SetsOff, IsPair, IsRidden}
 use Rattle.departures.specs.inside.SettingOff.{IsSetOff}
 use Rattle.departures.specs.inside.Searching.{ReadsRides, IsRowFor, IsRowUnpacked, IsFirstRow, IsFirstRowFrom}
 use Rattle.departures.proofs.ReaderLemmas.{pair_rises}
-use Rattle.departures.proofs.SettingOffLemmas.{sets_off, same_rides, have_times, has_time}
+use Rattle.departures.proofs.SettingOffLemmas.{sets_off, same_rides, have_times}
 
 -- what answers from one moment on answers from each moment on before it departs
 asked_from : (n : NetworkLists) (q : Asked) (s t : ℕ) (k : Route) (u : ℕ) → Answers n (leaving q s) k u → t ≤ k.at → Answers n (leaving q t) k u
@@ -98,7 +98,7 @@ module _ (n : NetworkLists) (network : IsNetwork n) (q : Asked) (j k : Route) (a
     node = copy_in_range n network q.from k.start off_answers.starts_at_copy;
     times = record {
       at = off.soon;
-      waits = subst (All HasTime) (sym off.steps) (have_times j.steps (λ i d within. has_time _ (soon i d within)));
+      waits = subst (All HasTime) (sym off.steps) (have_times j.steps (λ i d within. taken.has_time _ (soon i d within)));
     };
     taken = record { end = answers.end; arrival = a; letters = answers.real.letters; are = off_steps };
   }

@@ -21,7 +21,8 @@ use Rattle.departures.specs.LeastArcs.{least_meaning}
 use Rattle.departures.specs.inside.Searching.{ReadsRides, NoneTakesLess}
 use Rattle.departures.proofs.FirstLemmas.{arrives}
 use Rattle.departures.proofs.LeastWalkLemmas.{walk_as_fast}
-use Rattle.departures.proofs.OrderLemmas.{le_or_above, not_before}
+use Rattle.latest_departure.proofs.OrderLemmas.{le_or_above}
+use Rattle.departures.proofs.OrderLemmas.{not_before}
 
 module _ (n : NetworkLists) (network : IsNetwork n) (table : TableLists) (keeps : IsTable table) (of : IsTimetableOf n table) (runs : List (List FastestCall))
     (fastest : NoneIsFaster table runs) (q : Asked) (l : LabelsMeaning) (origins destinations : List ℕ) (reads : ReadsRides q.form l) (from : AreTheCopies n q.from origins)

@@ -13,7 +13,8 @@ use Rattle.departures.specs.declared.row.Row.{Row}
 use Rattle.departures.specs.Departures.{IsPair, IsShorter, IsListed, AreDepartures, IsRow, pair_of, AreRows}
 use Rattle.departures.specs.inside.Searching.{IsPrintableRow, IsFirstRow, IsFirstRowFrom}
 use Rattle.departures.specs.inside.Listing.{next_moment, is_shorter, is_later_row, with_departure}
-use Rattle.departures.proofs.OrderLemmas.{le_or_above, same_pair, not_before}
+use Rattle.latest_departure.proofs.OrderLemmas.{le_or_above}
+use Rattle.departures.proofs.OrderLemmas.{same_pair, not_before}
 use Rattle.departures.proofs.ListLemmas.{here}
 
 -- The rows so far are those of a window that closes when the search goes on, and what was found last departs then or later.

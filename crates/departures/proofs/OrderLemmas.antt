@@ -1,19 +1,11 @@
 -- Pairs by their departures and arrivals, and what is as long as without a ride.
 use Rattle.std.proofs.Common.{◌≡◌, ℕ, ◌+◌, ◌-◌, ◌<◌, ◌≤◌, ◌⊎◌, Option, Some, None, inl, inr, ap₂, arith}
-use Rattle.std.proofs.lemmas.Bool.{cases_lt}
+use Rattle.latest_departure.proofs.OrderLemmas.{le_or_above}
 use Rattle.departures.specs.declared.row.Pair.{Pair}
 use Rattle.mode_network.specs.NetworkLists.{NetworkLists}
 use Rattle.journey.specs.Best.{Asked}
 use Rattle.departures.specs.Departures.{IsPair, IsShorter}
 use Rattle.departures.specs.Laws.{IsAsLong}
-
--- a number is at most another, or above it
-pub le_or_above : (a b : ℕ) → (a ≤ b) ⊎ (b < a)
-le_or_above a b = turned (cases_lt b a)
-  where
-    turned : (b < a) ⊎ (a ≤ b) → (a ≤ b) ⊎ (b < a)
-    turned (inl less) = inr less
-    turned (inr le) = inl le
 
 pub same_pair : (o p : Pair) → o.depart ≡ p.depart → o.arrive ≡ p.arrive → o ≡ p
 same_pair o p departs arrives = ap₂ (λ (d a : ℕ). let pair : Pair = record { depart = d; arrive = a } in pair) departs arrives

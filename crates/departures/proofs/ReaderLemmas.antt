@@ -16,7 +16,8 @@ use Rattle.few_boardings.specs.Boardings.{rides}
 use Rattle.departures.specs.declared.row.Pair.{Pair}
 use Rattle.departures.specs.Departures.{IsPair, IsUndominated, IsWithout, IsShorter, IsListed, AreDepartures}
 use Rattle.departures.specs.Laws.{first_from, IsAsLong, IsBeforeOthers, IsNoEarlier, DeparturesMissNothing}
-use Rattle.departures.proofs.OrderLemmas.{le_or_above, shorter_or_long, long_or_not, long_around, same_or_less}
+use Rattle.latest_departure.proofs.OrderLemmas.{le_or_above}
+use Rattle.departures.proofs.OrderLemmas.{shorter_or_long, long_or_not, long_around, same_or_less}
 use Rattle.departures.proofs.MovedLemmas.{without_long}
 use Rattle.departures.proofs.ListLemmas.{IsFirstFrom, is_first}
 

@@ -14,7 +14,6 @@ use Rattle.journey.specs.Boarded.{DepartsAt, AreOnTime}
 use Rattle.journey.specs.Ends.{HasTime}
 use Rattle.journey.specs.Rides.{KeepsRules}
 use Rattle.journey.proofs.StepLemmas.{step_once, step_in_time, on_time}
-use Rattle.unpack.specs.Unpacking.{IsSoon}
 use Rattle.few_boardings.specs.Boardings.{is_ride}
 use Rattle.few_boardings.proofs.RideLemmas.{rides_more}
 use Rattle.departures.specs.Departures.{SetsOff}
@@ -49,13 +48,6 @@ have_times (Road to ∷ steps) times = All-cons HasTime (Road to) (unwaited step
 have_times (Link to ∷ steps) times = All-cons HasTime (Link to) (unwaited steps) tt (have_times steps (All-tail HasTime (Link to) steps times))
 have_times (Stand ∷ steps) times = All-cons HasTime Stand (unwaited steps) tt (have_times steps (All-tail HasTime Stand steps times))
 have_times (Ride trip day board alight ∷ steps) times = times
-
-pub has_time : (step : Step) → IsSoon step → HasTime step
-has_time (Wait until) soon = omega arith
-has_time (Road to) soon = tt
-has_time (Link to) soon = tt
-has_time Stand soon = tt
-has_time (Ride trip day board alight) soon = tt
 
 -- ---- how they are made
 

@@ -9,7 +9,7 @@ use Rattle.few_boardings.specs.Counted.{transits, counted, AcceptsCounted}
 use Rattle.few_boardings.specs.CountedLaws.{added_road}
 use Rattle.few_boardings.proofs.CountedLemmas.{transits_more}
 use Rattle.departures.specs.inside.Transit.{IsTransit, ReadsNoTransit}
-use Rattle.departures.proofs.OrderLemmas.{le_or_above}
+use Rattle.latest_departure.proofs.OrderLemmas.{le_or_above}
 
 -- a set without the bits of the letters of transit has none of them
 pub none_set : (set c : ℕ) → bit_and set transit_letters ≡ 0 → IsTransit c → IsBitSet set c → ⊥

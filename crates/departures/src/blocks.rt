@@ -1,12 +1,9 @@
 //! The block of a query line that asks for the departures of a window.
 
-ghost use Rattle.std.specs.Prelude.{◌≡◌, [], ◌∷◌, ◌++◌, All, IfOk, OnOk, None, codes};
-ghost use Rattle.plain_texts.specs.Lines.{with_feed};
+ghost use Rattle.std.specs.Prelude.{◌≡◌, [], ◌∷◌, ◌++◌, All, IfOk, OnOk, None};
 ghost use Rattle.mode_expression.specs.Form.{form_of, IsUsable};
-ghost use Rattle.service_days.specs.Clock.{clock_text_of};
-ghost use Rattle.journey.specs.Blocks.{AddsText, IsFramed, IsPrintable};
+ghost use Rattle.journey.specs.Blocks.{AddsText, IsFramed};
 ghost use Rattle.journey.specs.Queries.{IsQuery};
-ghost use Rattle.latest_departure.specs.Blocks.{IsLateJourneyText};
 ghost use Rattle.departures.specs.Blocks.{AreRowsTold, without_line, IsProfileText, IsProfileBlock};
 ghost use Rattle.departures.specs.inside.Searching.{IsPrintableRow};
 
@@ -15,9 +12,10 @@ use crate::listing::{departures_worth, without_ride};
 use crate::row::Row;
 use crate::search::RideSearch;
 use few_boardings::Counting;
-use journey::{BlockBody, Query, QueryFault, block, framed, push_journey, read_query};
+use journey::{Query, framed, read_query, refused_block};
 use kept_automata::Kept;
-use mode_network::{Journey, Network};
+use latest_departure::push_late;
+use mode_network::Network;
 use plain_texts::{push_decimal, push_line_feed};
 use product_search::Workspace;
 use search_laws::Time;
@@ -32,31 +30,6 @@ fn push_without(out: &mut Vec<u8>, c: Time) -> Result<(), AllocError>
     push_line_feed(out)
 }
 
-/// Appends the line of a departure.
-fn push_departure(out: &mut Vec<u8>, network: &Network, t: Time) -> Result<(), AllocError>
-    ensures { OnOk result (out.new.items ≡ out.old.items
-        ++ with_feed (codes "depart " ++ clock_text_of network.now.days t)) }
-{
-    out.extend_from_slice(b"depart ")?;
-    network.days().push_clock(out, t)?;
-    push_line_feed(out)
-}
-
-/// Appends when a journey departs, and then what any block prints of it.
-fn push_timed(
-    alloc: Global,
-    out: &mut Vec<u8>,
-    network: &Network,
-    journey: &Journey,
-) -> Result<(), AllocError>
-    requires { IsPrintable network.now journey.now }
-    ensures { OnOk result (AddsText (IsLateJourneyText network.now journey.now) out.old.items out.new.items) }
-{
-    push_departure(out, network, journey.at)?;
-    push_journey(alloc, out, network, journey)?;
-    Ok(())
-}
-
 /// Appends a row.
 fn push_row(
     alloc: Global,
@@ -67,8 +40,7 @@ fn push_row(
     requires { IsPrintableRow network.now row.now }
     ensures { OnOk result (AddsText (AreRowsTold network.now (row.now ∷ [])) out.old.items out.new.items) }
 {
-    push_timed(alloc, out, network, &row.journey)?;
-    Ok(())
+    push_late(alloc, out, network, &row.journey)
 }
 
 /// Appends the rows, one after the other.
@@ -142,8 +114,7 @@ fn rows_block(
 {
     let mut text = Vec::new(alloc);
     push_body(alloc, &mut text, network, without, rows)?;
-    let block = framed(alloc, line, &text)?;
-    Ok(block)
+    framed(alloc, line, &text)
 }
 
 /// The right block of the line that is this query.
@@ -167,8 +138,7 @@ fn query_block(
     let search = RideSearch::new(alloc, kept, network, query)?;
     let rows = departures_worth(alloc, workspace, least, &search, without, window)?;
     kept.put(search.expressed)?;
-    let block = rows_block(alloc, network, query.line.as_slice(), without, &rows)?;
-    Ok(block)
+    rows_block(alloc, network, query.line.as_slice(), without, &rows)
 }
 
 /// The right block of a query line: that of its refusal, or of the departures of a window of so many milliseconds,
@@ -188,10 +158,6 @@ pub fn profile_block(
     let network = least.network();
     match read_query(alloc, network, line) {
         Ok(query) => query_block(alloc, workspace, kept, least, &query, window),
-        Err(QueryFault::OutOfMemory) => Err(AllocError),
-        Err(fault) => {
-            let block = block(alloc, network, line, &BlockBody::Refused(fault))?;
-            Ok(block)
-        }
+        Err(fault) => refused_block(alloc, network, line, fault),
     }
 }

@@ -20,8 +20,8 @@ use timetable_arcs::{Call, Ride};
 pub struct LeastTimes<'a> {
     pub(crate) plain: Plain<'a>,
     runs: Vec<FastestRun>,
-    ghost fastest: { NoneIsFaster plain.timetable.now runs.items } by { NoneIsFaster-prop plain.timetable.now runs.items },
-    ghost lawful: { IsLawfulGraph (least_meaning plain.network.now plain.timetable.now runs.items) } by { IsLawfulGraph-prop (least_meaning plain.network.now plain.timetable.now runs.items) },
+    ghost fastest: { NoneIsFaster plain.timetable.now runs.items } by { NoneIsFaster-prop _ _ },
+    ghost lawful: { IsLawfulGraph (least_meaning plain.network.now plain.timetable.now runs.items) } by { IsLawfulGraph-prop _ },
 }
 
 impl<'a> LeastTimes<'a> {

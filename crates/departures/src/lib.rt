@@ -15,4 +15,3 @@ mod transit;
 pub use blocks::profile_block;
 pub use laws::{departures_are_unique, departures_miss_nothing, without_is_the_same};
 pub use least::LeastTimes;
-pub use row::{Pair, Row};

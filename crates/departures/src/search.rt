@@ -122,8 +122,7 @@ impl<'a> RideSearch<'a> {
         };
         let best = search_best_with(alloc, workspace, &question)?;
         let Best { arrival, walk } = best;
-        let row = unpacked(alloc, &self.plain, arrival, &walk)?;
-        Ok(row)
+        unpacked(alloc, &self.plain, arrival, &walk)
     }
 
     /// Whether a journey with a ride may take less than `c`: whether a walk by least times does. If none does, no journey does,

@@ -1,10 +1,10 @@
-use Rattle.std.proofs.Common.{subst, rules}
-use Rattle.mode_network.specs.NetworkLists.{NetworkLists}
-use Rattle.departures.specs.Blocks.{IsProfileBlock}
+use Rattle.std.proofs.Common.{inl}
+use Rattle.std.proofs.lemmas.Result.{IfOk-weaker}
+use Rattle.latest_departure.proofs.TextLemmas.{refused_told}
 use Rattle.departures.proofs.blocks.profile_block.Goals as goal
 
-pub returns-in_ok-block-in-Err : goal.returns-in_ok-block-in-Err
-returns-in_ok-block-in-Err c =
-    let block = c.in_ok-block-in-Err.block.items in
-    let told : IsProfileBlock c.network-network.result.now c.args.window c.args.line.now block = search rules in
-    subst (λ (n : NetworkLists). IsProfileBlock n c.args.window c.args.line.now block) c.network-network.ensures told
+pub returns-in-Err : goal.returns-in-Err
+returns-in-Err c =
+    let n = c.args.least.now.plain.network.now in
+    let refusal = rw (c.in-Err.is, c.network-network.ensures) at c.read_query.ensures.fault in
+    IfOk-weaker c.refused_block.result _ _ (λ block told. inl (refused_told n c.args.line.now c.in-Err.fault refusal block.items told)) (rw c.network-network.ensures at c.refused_block.ensures)

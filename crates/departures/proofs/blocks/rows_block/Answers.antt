@@ -1,4 +1,5 @@
 use Rattle.std.proofs.Common.{◌∙◌, ap}
+use Rattle.std.proofs.lemmas.Result.{IfOk-weaker}
 use Rattle.journey.specs.Texts.{block_text}
 use Rattle.journey.proofs.PrintLemmas.{framed_text}
 use Rattle.departures.specs.Blocks.{IsProfileText}
@@ -6,5 +7,5 @@ use Rattle.departures.proofs.blocks.rows_block.Goals as goal
 
 pub returns : goal.returns
 returns c =
-    framed_text (IsProfileText c.args.network.now c.args.without c.args.rows.now) c.args.line.now c.new-text.result.items c.push_body.new.out.items c.in_ok-block.block.items c.new-text.ensures.items
-    c.in_ok-push_body.ensures (c.in_ok-block.ensures ∙ ap (block_text c.args.line.now) c.deref.ensures.value)
+    IfOk-weaker c.framed.result _ _ (λ block is. framed_text (IsProfileText c.args.network.now c.args.without c.args.rows.now) c.args.line.now c.new-text.result.items c.push_body.new.out.items block.items c.new-text.ensures.items
+    c.in_ok-push_body.ensures (is ∙ ap (block_text c.args.line.now) c.deref.ensures.value)) c.framed.ensures

@@ -1,3 +1,4 @@
+use Rattle.std.proofs.lemmas.Result.{IfOk-weaker}
 use Rattle.journey.specs.Best.{asked_by}
 use Rattle.unpack.proofs.TakenLemmas.{walk_is_plain}
 use Rattle.latest_departure.specs.inside.Forward.{leaving}
@@ -29,6 +30,6 @@ returns c =
     let s = c.args.self.now in
     let walk = rw (c.deref.ensures.value, c.deref-2.ensures.value) at c.in_ok-best.ensures.walk in
     let arrival = rw (c.deref.ensures.value, c.deref-2.ensures.value) at c.in_ok-best.ensures.arrival in
-    first_row s.plain.network.now s.plain.kept s.plain.timetable.now (asked_by s.query.now) (search_labels s) s.origins.items s.destinations.items
+    IfOk-weaker c.unpacked.result _ _ (λ row is. first_row s.plain.network.now s.plain.kept s.plain.timetable.now (asked_by s.query.now) (search_labels s) s.origins.items s.destinations.items
     c.requires.search.reads c.requires.search.journeys c.requires.search.origin c.requires.search.destination c.args.at c.requires.late _ _ _ arrival walk c.requires.soon
-    c.in_ok-best.ensures.time c.in_ok-row.ensures
+    c.in_ok-best.ensures.time is) c.unpacked.ensures
