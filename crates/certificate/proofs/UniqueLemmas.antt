@@ -3,11 +3,11 @@
 use Rattle.std.proofs.Common.{◌≡◌, ℕ, zero, suc, ◌<◌, ◌≤◌, ◌⊎◌, inl, inr, List, [], ◌∷◌, ◌++◌, length, take, Bool, true, Option, Some, None, if◌then◌else◌, refl, sym, ap, ap₂, subst, ◌∙◌, arith}
 use Rattle.std.specs.Prelude.{slice_index_or, is_some, Ok, Err}
 use Rattle.std.proofs.lemmas.Bool.{cases_lt}
-use Rattle.search_laws.specs.Firsts.{HoldsBelow, FailsFirstAt}
-use Rattle.search_laws.proofs.FirstLemmas.{first_once}
 use Rattle.search_laws.specs.Collapse.{collapse}
 use Rattle.search_laws.specs.GraphLaws.{GraphMeaning}
 use Rattle.search_laws.specs.LabelLaws.{LabelsMeaning, HasMove, AllAfter}
+use Rattle.search_laws.specs.Firsts.{HoldsBelow, FailsFirstAt}
+use Rattle.search_laws.proofs.FirstLemmas.{first_once}
 use Rattle.product_search.specs.declared.label.Label.{Label}
 use Rattle.product_search.specs.declared.verdict.LabelVerdict.{LabelVerdict}
 use Rattle.product_search.specs.declared.verdict.LabelVerdict.TheVariants.{Closed, Open}
