@@ -20,7 +20,7 @@ use timetable_arcs::{Call, Ride};
 pub struct LeastTimes<'a> {
     pub(crate) plain: Plain<'a>,
     runs: Vec<FastestRun>,
-    ghost fastest: { NoneIsFaster plain.timetable.now runs.items } by { NoneIsFaster-prop _ _ },
+    ghost fastest: { NoneIsFaster plain.timetable.now runs.items } by { NoneIsFaster-prop plain.timetable.now runs.items },
     ghost lawful: { IsLawfulGraph (least_meaning plain.network.now plain.timetable.now runs.items) } by { IsLawfulGraph-prop _ },
 }
 

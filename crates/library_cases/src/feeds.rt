@@ -2,7 +2,7 @@
 
 use crate::parts;
 use case_script::{Answer, Script, words};
-use gtfs_tables::{Feed, FeedFault, FeedFiles, read_feed};
+use gtfs_tables::{Feed, FeedFiles, read_feed};
 
 /// `feed FOLDER [KIND MOST]`: the rows of the feed whose files are the texts in a folder; or its first fault, in both spellings.
 pub fn feed(out: &mut Answer, script: &Script, words: &[u8]) {
@@ -20,7 +20,7 @@ pub fn feed(out: &mut Answer, script: &Script, words: &[u8]) {
     let caps = words::caps(parts::behind(words, 1));
     match read_feed(out.alloc(), &files, &caps) {
         Ok(feed) => print_feed(out, &feed),
-        Err(fault) => print_fault(out, &fault),
+        Err(fault) => out.debug("", &fault),
     }
 }
 
@@ -32,11 +32,6 @@ fn file<'a>(script: &'a Script, folder: &[u8], name: &str) -> Option<&'a [u8]> {
         }
     }
     None
-}
-
-fn print_fault(out: &mut Answer, fault: &FeedFault) {
-    out.debug("", fault);
-    out.shown(": ", fault);
 }
 
 fn print_feed(out: &mut Answer, feed: &Feed) {

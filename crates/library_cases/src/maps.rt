@@ -68,14 +68,7 @@ pub fn again(out: &mut Answer, script: &Script, words: &[u8]) {
     out.debug("", opl.feed(script.text(parts::word(words, 0))).err());
     out.debug(", ", opl.feed(b"\n").err());
     out.debug(", ", opl.feed(b"").err());
-    print_end(out, opl.finish().err());
-}
-
-fn print_end(out: &mut Answer, end: Option<OplFault>) {
-    out.debug(", ", &end);
-    if let Some(fault) = end {
-        out.shown("\n", &fault);
-    }
+    out.debug(", ", opl.finish().err());
 }
 
 /// What two pieces of a text give. What is fed behind a fault changes nothing.
