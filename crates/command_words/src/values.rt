@@ -1,14 +1,13 @@
 //! The values that words spell: formats, days and numbers.
 
 ghost use Rattle.std.specs.Prelude.{◌≡◌, ◌<◌, ◌≤◌, ◌^◌, Err, IfOk, IfSome, None, Some, option_map};
-ghost use Rattle.service_days.specs.ReadClock.{below_sixty};
 ghost use Rattle.command_words.specs.Requests.{date_of_word, days_of, format_of, format_or, keep_of, keep_or_none, limit_of_word, limit_or_none, most_labels, most_places, seconds_of, size_of_word, small_number_of_word, window_of, window_or_two_hours};
 ghost use Rattle.command_words.specs.declared.fault.WordsFault.TheVariants.{Refused};
 
 use crate::fault::WordsFault;
 use plain_texts::{read_fixed, read_short_number};
 use region_file::Format;
-use service_days::{Days, RangeFault};
+use service_days::{Days, RangeFault, below_sixty};
 use std::alloc::Global;
 
 /// The most labels that a search may be limited to.
@@ -175,13 +174,6 @@ fn read_seconds(word: &[u8]) -> Option<u32>
         }
         _ => None,
     }
-}
-
-/// A number of minutes or seconds.
-fn below_sixty(n: u32) -> Option<u32>
-    ensures { result ≡ below_sixty n }
-{
-    if n < 60 { Some(n) } else { None }
 }
 
 /// A number of 1 to 8 digits.
