@@ -61,7 +61,7 @@ pub fn bad_build(alloc: Global, folder: &str, fault: BuildFault) -> Result<Strin
             let (name, most) = (kind.name(), kind.most());
             format!(in alloc; "the region would have too many {name}; {most} is the most")
         }
-        fault => format!(in alloc; "{fault}"),
+        BuildFault::OutOfMemory => format!(in alloc; "memory ran out"),
     }
 }
 

@@ -127,7 +127,13 @@ fn reason(refusal: &[u8]) -> &'static str {
         "the region has no such TO"
     } else if refusal.starts_with(b"refused far") {
         "the place is too far from the region's nodes; the number is how far, in millimetres"
+    } else if refusal.starts_with(b"refused long") {
+        "an expression has at most 4096 bytes; the number is how many this one has"
+    } else if refusal.starts_with(b"refused deep") {
+        "parentheses are at most 64 deep; the number is the byte of the expression, from 0, at which one is deeper"
+    } else if refusal.starts_with(b"refused syntax") {
+        "no expression goes on like this; the number is the byte of the expression, from 0, at which it should go on otherwise, as docs/EXPRESSIONS.md tells"
     } else {
-        "the expression can't be read; docs/EXPRESSIONS.md tells what it may be"
+        "the expression has so many places for letters; at most 200 are allowed, or as many as --places says"
     }
 }
