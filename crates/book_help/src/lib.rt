@@ -5,4 +5,4 @@
 mod description;
 mod usage;
 
-pub use usage::{VERSION, help};
+pub use usage::help;

@@ -4,4 +4,4 @@
 
 mod usage;
 
-pub use usage::{VERSION, help};
+pub use usage::help;

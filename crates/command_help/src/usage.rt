@@ -13,7 +13,7 @@ use service_days::{Days, RangeFault};
 use std::alloc::{AllocError, Global};
 
 /// The version of the program, and the kit with which it was proved, as `rt version` says it.
-pub const VERSION: &str = "1.0 (rattle-kit-13f logic dac8208d650f15bf)";
+const VERSION: &str = "1.0 (rattle-kit-13f logic dac8208d650f15bf)";
 
 /// What people are told whose words ask for no command: help, the version, or which word is wrong and what would be right.
 pub fn help(alloc: Global, words: &[String]) -> Result<String, AllocError> {

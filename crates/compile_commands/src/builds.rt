@@ -18,14 +18,14 @@ use std::alloc::Global;
 
 /// What a region is made of: the objects of a map and the lists of a feed, over some days.
 #[derive(Drop)]
-pub struct MapAndFeed {
-    pub objects: Objects,
-    pub feed: Feed,
-    pub days: Days,
+pub(crate) struct MapAndFeed {
+    pub(crate) objects: Objects,
+    pub(crate) feed: Feed,
+    pub(crate) days: Days,
 }
 
 /// The region of a map and a feed, which lies in this folder, and what was left out. If there is none, `notes` is told why.
-pub fn built<E: Sink>(
+pub(crate) fn built<E: Sink>(
     alloc: Global,
     of: MapAndFeed,
     folder: &str,

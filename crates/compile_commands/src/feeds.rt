@@ -28,7 +28,7 @@ const IN_ORDER: [FeedFile; 8] = [
 ];
 
 /// The timetable feed whose files lie in this folder. If there is none, `notes` is told why.
-pub fn read_feed_in<F: Shelf, E: Sink>(
+pub(crate) fn read_feed_in<F: Shelf, E: Sink>(
     alloc: Global,
     shelf: &mut F,
     folder: &str,

@@ -9,7 +9,4 @@ mod feeds;
 mod maps;
 mod parts;
 
-pub use builds::{MapAndFeed, built};
 pub use compiling::{compile, migrate};
-pub use feeds::read_feed_in;
-pub use maps::read_map;

@@ -22,7 +22,7 @@ const PIECE: usize = 65_536;
 
 /// The objects of the map of this name. What is read is taken before more is asked for, so the map is never held whole, and
 /// the first fault is answered as soon as what was read shows it. If there are no objects, `notes` is told why.
-pub fn read_map<F: Shelf, E: Sink>(
+pub(crate) fn read_map<F: Shelf, E: Sink>(
     alloc: Global,
     shelf: &mut F,
     name: &str,

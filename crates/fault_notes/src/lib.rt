@@ -13,5 +13,5 @@ pub use certificates::{bad_certificate, invalid_certificate};
 pub use feeds::{bad_build, bad_feed};
 pub use hierarchies::bad_hierarchy;
 pub use maps::bad_map;
-pub use pieces::{seen, shown};
+pub use pieces::seen;
 pub use regions::bad_region;

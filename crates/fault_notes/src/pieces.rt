@@ -7,7 +7,7 @@ const MOST_SHOWN: usize = 60;
 
 /// A piece of a file in quotes: its first sixty characters, and `..` where there are more, each as [`seen`] shows it. So
 /// are bytes that are no text.
-pub fn shown(alloc: Global, piece: &[u8]) -> Result<String, AllocError> {
+pub(crate) fn shown(alloc: Global, piece: &[u8]) -> Result<String, AllocError> {
     let text = String::from_utf8_lossy(alloc, piece)?;
     let mut out = String::from_str(alloc, "\"")?;
     for (count, c) in text.chars().enumerate() {

@@ -12,4 +12,4 @@ pub use checking::check;
 pub use contracting::contract;
 pub use laws::{check_completes, contract_completes};
 pub use progress::ContractionNotes;
-pub use reading::{read_hierarchy, read_if_named};
+pub use reading::read_if_named;

@@ -39,7 +39,7 @@ pub fn read_if_named<F: Shelf, E: Sink>(
 }
 
 /// The hierarchy that a file spells, which is sound for the network. If there is none, `notes` is told why.
-pub fn read_hierarchy<F: Shelf, E: Sink>(
+pub(crate) fn read_hierarchy<F: Shelf, E: Sink>(
     alloc: Global,
     shelf: &mut F,
     name: &str,

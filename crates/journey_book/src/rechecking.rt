@@ -13,9 +13,9 @@ use std::alloc::{AllocError, Global};
 
 /// Says of a certificate whether it is valid in a network, over a hierarchy, if there is one: `valid`, or `invalid CLAUSE AT`.
 #[derive(Drop)]
-pub struct Recheck<'a> {
-    pub network: &'a Network,
-    pub hierarchy: Option<&'a Hierarchy>,
+pub(crate) struct Recheck<'a> {
+    pub(crate) network: &'a Network,
+    pub(crate) hierarchy: Option<&'a Hierarchy>,
 }
 
 impl Report for Recheck<'_> {

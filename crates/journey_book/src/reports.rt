@@ -14,7 +14,7 @@ use planning::Room;
 use std::alloc::{AllocError, Global};
 
 /// What says something of a certificate.
-pub trait Report {
+pub(crate) trait Report {
     ghost use Rattle.journey_book.specs.Reports.{ReportRule};
 
     /// When it may be asked.
@@ -43,9 +43,9 @@ pub trait Report {
 
 /// The lines of a report, and whether all of them are well.
 #[derive(Drop)]
-pub struct Reported {
-    pub text: Vec<u8>,
-    pub well: bool,
+pub(crate) struct Reported {
+    pub(crate) text: Vec<u8>,
+    pub(crate) well: bool,
 }
 
 /// What is said of all that a keeper keeps: a line for each name, ascending by bytes, with what is said of the certificate
@@ -54,7 +54,7 @@ pub struct Reported {
 /// # Errors
 ///
 /// Where the keeper fails, or memory is refused.
-pub fn report_of<R: Report, K: Keeper>(
+pub(crate) fn report_of<R: Report, K: Keeper>(
     alloc: Global,
     report: &R,
     keeper: &mut K,

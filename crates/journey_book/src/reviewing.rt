@@ -23,9 +23,9 @@ use std::alloc::{AllocError, Global};
 /// arrives as is kept: `same`, `earlier CLOCK`, `later CLOCK`, `none` where there is none any more, `found CLOCK` where there was none; or how the query
 /// is refused.
 #[derive(Drop)]
-pub struct Review<'a> {
-    pub network: &'a Network,
-    pub hierarchy: Option<&'a Hierarchy>,
+pub(crate) struct Review<'a> {
+    pub(crate) network: &'a Network,
+    pub(crate) hierarchy: Option<&'a Hierarchy>,
 }
 
 impl Report for Review<'_> {

@@ -61,18 +61,18 @@ fn carry_out<F: Shelf, K: Keeper, O: Sink, E: Sink>(
 }
 
 /// Does what a command with these words asks for, within these limits.
-pub fn run_book_within<F: Shelf, K: Keeper, O: Sink, E: Sink>(
+fn run_book_within<F: Shelf, K: Keeper, O: Sink, E: Sink>(
     ports: &mut Ports<F, O, E>,
     words: &[String],
     keeper: &mut K,
     caps: &Caps,
 ) -> BookOutcome
     ensures outcome { IsBookOutcome caps.now (map string_bytes words.now)
-        (book_scene (F.meaning ports.old.shelf) (K.meaning keeper.old) (O.meaning ports.old.out))
-        (book_scene (F.meaning ports.new.shelf) (K.meaning keeper.new) (O.meaning ports.new.out)) result }
+        (scene_of (F.meaning ports.old.shelf) (O.meaning ports.old.out) (K.meaning keeper.old))
+        (scene_of (F.meaning ports.new.shelf) (O.meaning ports.new.out) (K.meaning keeper.new)) result }
     ensures complete { IsBookComplete caps.now (map string_bytes words.now)
-        (book_scene (F.meaning ports.old.shelf) (K.meaning keeper.old) (O.meaning ports.old.out))
-        (book_scene (F.meaning ports.new.shelf) (K.meaning keeper.new) (O.meaning ports.new.out)) result }
+        (scene_of (F.meaning ports.old.shelf) (O.meaning ports.old.out) (K.meaning keeper.old))
+        (scene_of (F.meaning ports.new.shelf) (O.meaning ports.new.out) (K.meaning keeper.new)) result }
 {
     let Some(command) = read_words(words) else {
         return BookOutcome::Common(Outcome::Usage);

@@ -17,7 +17,7 @@ use std::alloc::{AllocError, Global};
 
 /// What a table says of an origin and a destination.
 #[derive(Clone, Copy, Debug, PartialEq, Eq)]
-pub enum Cell {
+pub(crate) enum Cell {
     /// A best journey arrives so many milliseconds after the departure.
     Takes(Time),
     /// No journey answers.

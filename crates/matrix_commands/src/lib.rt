@@ -6,12 +6,11 @@
 #![tactic(auto)]
 
 pub mod asking;
-pub mod cell;
+mod cell;
 mod laws;
 mod table;
 mod tabulating;
 
 pub use asking::Asking;
-pub use cell::Cell;
 pub use laws::matrix_completes;
 pub use tabulating::{TableFiles, matrix};

@@ -3,5 +3,5 @@
 
 mod running;
 
-pub use run_steps::{FileRole, Outcome, Ports, SourceFault};
-pub use running::{run, run_within};
+pub use run_steps::{Outcome, Ports};
+pub use running::run;

@@ -121,7 +121,7 @@ fn asking_of<'a>(times: &TimesAsked<'a>) -> Asking<'a>
 }
 
 /// Does what a command with these words asks for, within these limits.
-pub fn run_within<F: Shelf, O: Sink, E: Sink>(
+fn run_within<F: Shelf, O: Sink, E: Sink>(
     ports: &mut Ports<F, O, E>,
     words: &[String],
     caps: &Caps,

@@ -10,7 +10,7 @@ use memchr::memchr;
 
 /// A command that a line may name.
 #[derive(Clone, Copy, Debug, PartialEq, Eq)]
-pub enum LineCommand {
+pub(crate) enum LineCommand {
     Answer,
     Few,
     Latest,

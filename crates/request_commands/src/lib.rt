@@ -6,6 +6,5 @@ mod laws;
 mod replies;
 mod requesting;
 
-pub use asked::LineCommand;
 pub use laws::requests_completes;
 pub use requesting::requests;
