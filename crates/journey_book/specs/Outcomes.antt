@@ -1,10 +1,7 @@
 -- What a run says by its outcome.
 use Rattle.std.specs.Prelude.{◌≡◌, ℕ, ◌⊎◌, List, Some}
 use Rattle.plan_base.specs.Counts.{Rose}
-use Rattle.plan_base.specs.CapsByKind.{cap_of}
-use Rattle.plan_base.specs.FullCaps.{full_cap_of}
 use Rattle.plan_base.specs.declared.limits.Caps.{Caps}
-use Rattle.plan_base.specs.declared.limits.Kind.{Kind}
 use Rattle.journey_book.specs.Commands.{book_says}
 use Rattle.run_steps.specs.Complete.{Files}
 use Rattle.run_steps.specs.declared.outcome.Outcome.TheVariants.{Usage}
@@ -14,12 +11,8 @@ use Rattle.journey_book.specs.Sayings.{BookScene, BookEnds}
 use Rattle.journey_book.specs.declared.outcome.BookOutcome.{BookOutcome}
 use Rattle.journey_book.specs.declared.outcome.BookOutcome.TheVariants.{Common}
 
--- the limits of the programs
-abbrev pub AreFull : Caps → Type 0
-AreFull caps = (kind : Kind) → cap_of caps kind ≡ full_cap_of kind
-
 -- What a run with these words says: that they are refused, where they ask for nothing; or what it says that was asked for.
-abbrev pub IsBookOutcome : Caps → List (List ℕ) → BookScene → BookScene → BookOutcome → Type 0
+abbrev pub IsBookOutcome : Caps → List (List ℕ) → Scene KeeperMeaning → Scene KeeperMeaning → BookOutcome → Type 0
 IsBookOutcome caps words old new outcome =
     (AreRefusedByBook words × BookEnds (Common Usage) old new outcome)
     ⊎ ((r : BookRequest) × AsksOfBook words r × book_says caps r old new outcome)

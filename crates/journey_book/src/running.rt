@@ -2,8 +2,10 @@
 
 ghost use Rattle.std.specs.Prelude.{◌≡◌, ℕ, List, map, string_bytes};
 ghost use Rattle.plan_base.specs.declared.limits.Caps.{Caps};
+ghost use Rattle.run_steps.specs.Regions.{AreFull};
+ghost use Rattle.run_steps.specs.Scene.{scene_of};
 ghost use Rattle.journey_book.specs.Commands.{book_says};
-ghost use Rattle.journey_book.specs.Outcomes.{AreFull, IsBookComplete, IsBookOutcome};
+ghost use Rattle.journey_book.specs.Outcomes.{IsBookComplete, IsBookOutcome};
 ghost use Rattle.journey_book.specs.Requests.{book_request_of};
 ghost use Rattle.journey_book.specs.Sayings.{book_scene, book_end_of};
 

@@ -3,10 +3,11 @@
 ghost use Rattle.std.specs.Prelude.{◌≡◌, map, string_bytes};
 ghost use Rattle.plan_base.specs.declared.limits.Caps.{Caps};
 ghost use Rattle.command_words.specs.Requests.{AsksFor, IsPlainForm, Request, request_of};
+ghost use Rattle.run_steps.specs.Regions.{AreFull};
 ghost use Rattle.run_steps.specs.Scene.{scene};
 ghost use Rattle.run_steps.specs.Sayings.{end_of};
 ghost use Rattle.planner_core.specs.Commands.{says};
-ghost use Rattle.planner_core.specs.Outcomes.{IsOutcome, AreFull};
+ghost use Rattle.planner_core.specs.Outcomes.{IsOutcome};
 ghost use Rattle.planner_core.specs.Complete.{IsComplete};
 ghost use Rattle.planner_core.specs.inside.Working.{HasSize};
 

@@ -3,7 +3,7 @@ use Rattle.std.specs.Prelude.{◌≡◌, ℕ, ◌≤◌, List, ◌++◌, Option,
 use Rattle.plan_base.specs.declared.limits.Caps.{Caps}
 use Rattle.mode_network.specs.NetworkLists.{NetworkLists}
 use Rattle.mode_network.specs.Rules.{IsNetwork, first_fault}
-use Rattle.planner_core.specs.Outcomes.{AreFull}
+use Rattle.run_steps.specs.Regions.{AreFull}
 use Rattle.sample_city.specs.SampleCity.{IsSampleCity}
 use Rattle.sample_command.specs.Summary.{IsSummary}
 use Rattle.sample_command.specs.Texts.{city_text, times_text}

@@ -1,6 +1,9 @@
 -- What a run says that reads a region.
 use Rattle.std.specs.Prelude.{◌≡◌, ℕ, ◌⊎◌, List}
 use Rattle.plan_base.specs.declared.limits.Caps.{Caps}
+use Rattle.plan_base.specs.declared.limits.Kind.{Kind}
+use Rattle.plan_base.specs.CapsByKind.{cap_of}
+use Rattle.plan_base.specs.FullCaps.{full_cap_of}
 use Rattle.mode_network.specs.NetworkLists.{NetworkLists}
 use Rattle.mode_network.specs.Rules.{IsNetwork}
 use Rattle.region_file.specs.declared.fault.RegionFault.{RegionFault}
@@ -8,6 +11,10 @@ use Rattle.region_file.specs.Regions.{IsDecoded, IsNoRegion}
 use Rattle.run_steps.specs.declared.outcome.FileRole.TheVariants.{Region}
 use Rattle.run_steps.specs.declared.outcome.Outcome.TheVariants.{BadRegion}
 use Rattle.run_steps.specs.Sayings.{Saying, Ends, OnFile}
+
+-- the limits of the programs
+abbrev pub AreFull : Caps → Type 0
+AreFull caps = (kind : Kind) → cap_of caps kind ≡ full_cap_of kind
 
 -- the bytes spell no network within the limits, and why is told
 abbrev pub IsBadRegion : Caps → List ℕ → Saying
