@@ -15,7 +15,7 @@ use Rattle.run_steps.specs.declared.outcome.Outcome.TheVariants.{Done, WriteFaul
 use Rattle.run_steps.specs.Certificates.{SaysVerified}
 use Rattle.run_steps.specs.Complete.{Files, Completes, IsDoneOrMemory}
 use Rattle.run_steps.specs.Regions.{OnRegion}
-use Rattle.run_steps.specs.Scene.{scene as shown}
+use Rattle.run_steps.specs.Scene.{Scene, scene as shown, with_shelf}
 use Rattle.run_steps.specs.Sayings.{WritesText}
 use Rattle.run_steps.proofs.CertificateOutcomes.{certificate_fails}
 use Rattle.run_steps.proofs.CompleteSteps.{file_completes, network_completes, writes_completes}
@@ -27,27 +27,27 @@ use Rattle.answer_commands.proofs.CompleteLemmas.{verify_completes}
 use Rattle.journey_book.specs.Books.{Book, dropped, kept}
 use Rattle.journey_book.specs.Commands.{book_says}
 use Rattle.journey_book.specs.Complete.{AreHeld, CanBeDoneByBook, IsDoneOrAbsent}
-use Rattle.journey_book.specs.Keepers.{Tells}
+use Rattle.journey_book.specs.Keepers.{KeeperMeaning, Tells}
 use Rattle.journey_book.specs.Reports.{IsListing, IsReported, recheck_rule}
 use Rattle.journey_book.specs.Reviews.{review_rule}
 use Rattle.journey_book.specs.Requests.{BookRequest, keep, drop, list, show, recheck, review}
-use Rattle.journey_book.specs.Sayings.{BookScene, book_scene, Changes, EndsBy, IsCertificateOutcome, OnBoth, ThenDone, BookWrites}
+use Rattle.journey_book.specs.Sayings.{Changes, EndsBy, IsCertificateOutcome, OnBoth, ThenDone, BookWrites}
 use Rattle.journey_book.specs.declared.outcome.BookOutcome.{BookOutcome}
 use Rattle.journey_book.specs.declared.outcome.BookOutcome.TheVariants.{Common, KeepFault, Absent, NotWell}
 
 -- no count of faults rose
-pub record IsQuiet (old new : BookScene) : Type 0 where
+pub record IsQuiet (old new : Scene KeeperMeaning) : Type 0 where
   pub shelf : Rose old.shelf.faults new.shelf.faults → ⊥
-  pub keeper : Rose old.keeper.faults new.keeper.faults → ⊥
+  pub keeper : Rose old.more.faults new.more.faults → ⊥
   pub out : Rose old.out.faults new.out.faults → ⊥
 
-changes_complete : (P : Book → Type 0) (change : Book → Book) (old new : BookScene) (outcome : BookOutcome) → (Rose old.keeper.faults new.keeper.faults → ⊥) → Changes P change old new outcome → IsDoneOrAbsent outcome
+changes_complete : (P : Book → Type 0) (change : Book → Book) (old new : Scene KeeperMeaning) (outcome : BookOutcome) → (Rose old.more.faults new.more.faults → ⊥) → Changes P change old new outcome → IsDoneOrAbsent outcome
 changes_complete P change old new (Common Done) quiet is = tt
 changes_complete P change old new (Common OutOfMemory) quiet is = tt
 changes_complete P change old new KeepFault quiet (rose, same) = absurd (quiet rose)
 changes_complete P change old new outcome quiet none = absurd none
 
-writes_complete : (IsText : List ℕ → BookOutcome → Type 0) (old new : BookScene) (outcome : BookOutcome) → (Rose old.keeper.faults new.keeper.faults → ⊥) → (Rose old.out.faults new.out.faults → ⊥)
+writes_complete : (IsText : List ℕ → BookOutcome → Type 0) (old new : Scene KeeperMeaning) (outcome : BookOutcome) → (Rose old.more.faults new.more.faults → ⊥) → (Rose old.out.faults new.out.faults → ⊥)
     → BookWrites IsText old new outcome → IsDoneOrAbsent outcome
 writes_complete IsText old new (Common Done) quiet calm is = tt
 writes_complete IsText old new NotWell quiet calm is = tt
@@ -60,7 +60,7 @@ absent_completes : (outcome : BookOutcome) → outcome ≡ Absent → IsDoneOrAb
 absent_completes outcome is = subst IsDoneOrAbsent (sym is) tt
 
 -- it ends as a run of the planner does that is as complete
-by_completes : (IsCause : Outcome → Type 0) (old new : BookScene) (outcome : BookOutcome) → ((common : Outcome) → IsCause common → Stays old.out new.out → IsDoneOrMemory common)
+by_completes : (IsCause : Outcome → Type 0) (old new : Scene KeeperMeaning) (outcome : BookOutcome) → ((common : Outcome) → IsCause common → Stays old.out new.out → IsDoneOrMemory common)
     → EndsBy IsCause old new outcome → IsDoneOrAbsent outcome
 by_completes IsCause old new (Common common) complete (why, same) = complete common why same.0
 by_completes IsCause old new outcome complete none = absurd none
@@ -71,7 +71,7 @@ reads : (caps : Caps) (files : Files) (region : List ℕ) (named : Option (List 
 reads caps files region named =
     file_completes files _ region _ _ (network_completes files caps _ _ (λ n rules. named_completes files n named _ _ (λ h sound. writes_completes files _ _)))
 
-module _ (caps : Caps) (files : Files) (old new : BookScene) (tells : old.shelf.files ≡ Some files) (quiet : IsQuiet old new) where
+module _ (caps : Caps) (files : Files) (old new : Scene KeeperMeaning) (tells : old.shelf.files ≡ Some files) (quiet : IsQuiet old new) where
   both_complete : (region : List ℕ) (named : Option (List ℕ)) → AreHeld caps files region named
       → (common : Outcome) → IsBothOutcome caps old.shelf new.shelf region named common → Stays old.out new.out → IsDoneOrMemory common
   both_complete region named held common why same =
@@ -81,7 +81,7 @@ module _ (caps : Caps) (files : Files) (old new : BookScene) (tells : old.shelf.
   report_completes : (region : List ℕ) (named : Option (List ℕ)) (IsText : NetworkLists → Option HierarchyLists → List ℕ → BookOutcome → Type 0) → AreHeld caps files region named
       → (outcome : BookOutcome) → OnBoth caps region named (λ n h. BookWrites (IsText n h)) old new outcome → IsDoneOrAbsent outcome
   report_completes region named IsText held outcome (inl ends) = by_completes (IsBothOutcome caps old.shelf new.shelf region named) old new outcome (both_complete region named held) ends
-  report_completes region named IsText held outcome (inr (n, h, mid, both, wrote)) = writes_complete (IsText n h) (book_scene mid old.keeper old.out) new outcome quiet.keeper quiet.out wrote
+  report_completes region named IsText held outcome (inr (n, h, mid, both, wrote)) = writes_complete (IsText n h) (with_shelf old mid) new outcome quiet.keeper quiet.out wrote
 
   -- a certificate that is held, and is valid, is kept
   module _ (region certificate : List ℕ) (named : Option (List ℕ)) (held : CanVerify caps files region certificate named) where
@@ -106,16 +106,16 @@ module _ (caps : Caps) (files : Files) (old new : BookScene) (tells : old.shelf.
     keep_completes : (name : List ℕ) (outcome : BookOutcome) → book_says caps (keep name region certificate named) old new outcome → IsDoneOrAbsent outcome
     keep_completes name outcome (inl ends) = by_completes (IsBothOutcome caps old.shelf new.shelf region named) old new outcome region_completes ends
     keep_completes name outcome (inr (n, h, mid, both, inl ends)) =
-        by_completes (IsCertificateOutcome n h mid new.shelf certificate) (book_scene mid old.keeper old.out) new outcome (certificate_completes n h mid both) ends
-    keep_completes name outcome (inr (n, h, mid, both, inr (bytes, then, has, changed))) = changes_complete (λ book. Unit {0}) (kept name bytes) (book_scene then old.keeper old.out) new outcome quiet.keeper changed
+        by_completes (IsCertificateOutcome n h mid new.shelf certificate) (with_shelf old mid) new outcome (certificate_completes n h mid both) ends
+    keep_completes name outcome (inr (n, h, mid, both, inr (bytes, then, has, changed))) = changes_complete (λ book. Unit {0}) (kept name bytes) (with_shelf old then) new outcome quiet.keeper changed
 
   -- what can be done is done
   pub completes : (r : BookRequest) → CanBeDoneByBook caps files r → (outcome : BookOutcome) → book_says caps r old new outcome → IsDoneOrAbsent outcome
   completes (keep name region certificate hierarchy) can outcome said = keep_completes region certificate hierarchy can name outcome said
-  completes (recheck region hierarchy fail) can outcome said = report_completes region hierarchy (λ n h. IsReported (recheck_rule n h) fail old.keeper) can outcome said
-  completes (review region hierarchy fail) can outcome said = report_completes region hierarchy (λ n h. IsReported (review_rule n) fail old.keeper) can outcome said
+  completes (recheck region hierarchy fail) can outcome said = report_completes region hierarchy (λ n h. IsReported (recheck_rule n h) fail old.more) can outcome said
+  completes (review region hierarchy fail) can outcome said = report_completes region hierarchy (λ n h. IsReported (review_rule n) fail old.more) can outcome said
   completes (drop name) can outcome (inl (none, ends)) = absent_completes outcome ends.0
   completes (drop name) can outcome (inr changed) = changes_complete (λ book. IsSome (book name)) (dropped name) old new outcome quiet.keeper changed
-  completes list can outcome said = writes_complete (ThenDone (IsListing old.keeper)) old new outcome quiet.keeper quiet.out said
+  completes list can outcome said = writes_complete (ThenDone (IsListing old.more)) old new outcome quiet.keeper quiet.out said
   completes (show name) can outcome (inl (none, ends)) = absent_completes outcome ends.0
-  completes (show name) can outcome (inr written) = writes_complete (ThenDone (λ text. Tells old.keeper (λ book. book name ≡ Some text))) old new outcome quiet.keeper quiet.out written
+  completes (show name) can outcome (inr written) = writes_complete (ThenDone (λ text. Tells old.more (λ book. book name ≡ Some text))) old new outcome quiet.keeper quiet.out written

@@ -9,6 +9,7 @@ use Rattle.hierarchy.specs.Lists.{HierarchyLists}
 use Rattle.hierarchy_commands.specs.Working.{IsFoundSound, IsNamedOutcome}
 use Rattle.run_steps.specs.declared.outcome.Outcome.{Outcome}
 use Rattle.run_steps.specs.declared.outcome.Outcome.TheVariants.{Done, Usage, WriteFault, OutOfMemory}
+use Rattle.run_steps.specs.Scene.{Scene, with_shelf}
 use Rattle.run_steps.proofs.Steps.{later_twice, not_earlier, told_before}
 use Rattle.answer_commands.specs.Working.{HasBoth, IsBothOutcome}
 use Rattle.journey_book.specs.Books.{Book, dropped, kept}
@@ -19,7 +20,7 @@ use Rattle.journey_book.specs.Reports.{IsListing, IsReported, recheck_rule}
 use Rattle.journey_book.specs.Reviews.{review_rule}
 use Rattle.journey_book.specs.Requests.{AsksOfBook, BookRequest, keep, drop, list, show, recheck, review}
 use Rattle.journey_book.specs.Runs.{Change, Does, Run, RunsFold, book_after, changed, keeps, drops, nothing}
-use Rattle.journey_book.specs.Sayings.{BookScene, book_scene, Changes, EndsBy, IsCertificateOutcome, OnBoth, ThenDone, BookWrites}
+use Rattle.journey_book.specs.Sayings.{Changes, EndsBy, IsCertificateOutcome, OnBoth, ThenDone, BookWrites}
 use Rattle.journey_book.specs.declared.outcome.BookOutcome.{BookOutcome}
 use Rattle.journey_book.specs.declared.outcome.BookOutcome.TheVariants.{Common, KeepFault, NotWell}
 
@@ -43,28 +44,28 @@ after_alike (change ∷ changes) a b alike = after_alike changes (changed a chan
 -- ---- what one run does
 
 -- the book stays, and the work is not done
-abbrev IsIdle : BookScene → BookScene → BookOutcome → Type 0
-IsIdle old new outcome = BookStays old.keeper new.keeper × (outcome ≡ Common Done → ⊥)
+abbrev IsIdle : Scene KeeperMeaning → Scene KeeperMeaning → BookOutcome → Type 0
+IsIdle old new outcome = BookStays old.more new.more × (outcome ≡ Common Done → ⊥)
 
 -- the work is done, and the book becomes what the change makes of it; or neither
-abbrev Moves : (Book → Book) → BookScene → BookScene → BookOutcome → Type 0
-Moves change old new outcome = IsIdle old new outcome ⊎ ((outcome ≡ Common Done) × Becomes old.keeper new.keeper change)
+abbrev Moves : (Book → Book) → Scene KeeperMeaning → Scene KeeperMeaning → BookOutcome → Type 0
+Moves change old new outcome = IsIdle old new outcome ⊎ ((outcome ≡ Common Done) × Becomes old.more new.more change)
 
 not_done : (outcome : Outcome) → (outcome ≡ Done → ⊥) → Common outcome ≡ Common Done → ⊥
 not_done outcome not done = let same : outcome ≡ Done = cc in not same
 
 -- a run that ends so has not done its work
-by_idle : (IsCause : Outcome → Type 0) → (IsCause Done → ⊥) → (old new : BookScene) (outcome : BookOutcome) → EndsBy IsCause old new outcome → IsIdle old new outcome
+by_idle : (IsCause : Outcome → Type 0) → (IsCause Done → ⊥) → (old new : Scene KeeperMeaning) (outcome : BookOutcome) → EndsBy IsCause old new outcome → IsIdle old new outcome
 by_idle IsCause not old new (Common outcome) (why, same) = (same.1, not_done outcome (λ done. not (subst IsCause done why)))
 by_idle IsCause not old new outcome none = absurd none
 
-changes_move : (P : Book → Type 0) (change : Book → Book) (old new : BookScene) (outcome : BookOutcome) → Changes P change old new outcome → Moves change old new outcome
+changes_move : (P : Book → Type 0) (change : Book → Book) (old new : Scene KeeperMeaning) (outcome : BookOutcome) → Changes P change old new outcome → Moves change old new outcome
 changes_move P change old new (Common Done) (tells, becomes, unwritten) = inr (refl, becomes)
 changes_move P change old new (Common OutOfMemory) same = inl (same.1, not_done OutOfMemory (λ done. cc))
 changes_move P change old new KeepFault (rose, same) = inl (same.1, λ done. cc)
 changes_move P change old new outcome none = absurd none
 
-writes_stay : (IsText : List ℕ → BookOutcome → Type 0) (old new : BookScene) (outcome : BookOutcome) → BookWrites IsText old new outcome → BookStays old.keeper new.keeper
+writes_stay : (IsText : List ℕ → BookOutcome → Type 0) (old new : Scene KeeperMeaning) (outcome : BookOutcome) → BookWrites IsText old new outcome → BookStays old.more new.more
 writes_stay IsText old new (Common Done) (written, stays) = stays
 writes_stay IsText old new NotWell (written, stays) = stays
 writes_stay IsText old new (Common WriteFault) (rose, front, stays) = stays
@@ -72,15 +73,15 @@ writes_stay IsText old new (Common OutOfMemory) same = same.1
 writes_stay IsText old new KeepFault (rose, same) = same.1
 writes_stay IsText old new outcome none = absurd none
 
-by_stays : (IsCause : Outcome → Type 0) (old new : BookScene) (outcome : BookOutcome) → EndsBy IsCause old new outcome → BookStays old.keeper new.keeper
+by_stays : (IsCause : Outcome → Type 0) (old new : Scene KeeperMeaning) (outcome : BookOutcome) → EndsBy IsCause old new outcome → BookStays old.more new.more
 by_stays IsCause old new (Common outcome) (why, same) = same.1
 by_stays IsCause old new outcome none = absurd none
 
 -- a report leaves the book
-report_stays : (caps : Caps) (region : List ℕ) (named : Option (List ℕ)) (IsText : NetworkLists → Option HierarchyLists → List ℕ → BookOutcome → Type 0) (old new : BookScene) (outcome : BookOutcome)
-    → OnBoth caps region named (λ n h. BookWrites (IsText n h)) old new outcome → BookStays old.keeper new.keeper
+report_stays : (caps : Caps) (region : List ℕ) (named : Option (List ℕ)) (IsText : NetworkLists → Option HierarchyLists → List ℕ → BookOutcome → Type 0) (old new : Scene KeeperMeaning) (outcome : BookOutcome)
+    → OnBoth caps region named (λ n h. BookWrites (IsText n h)) old new outcome → BookStays old.more new.more
 report_stays caps region named IsText old new outcome (inl ends) = by_stays (IsBothOutcome caps old.shelf new.shelf region named) old new outcome ends
-report_stays caps region named IsText old new outcome (inr (n, h, mid, both, wrote)) = writes_stay (IsText n h) (book_scene mid old.keeper old.out) new outcome wrote
+report_stays caps region named IsText old new outcome (inr (n, h, mid, both, wrote)) = writes_stay (IsText n h) (with_shelf old mid) new outcome wrote
 
 -- ---- what was read is told of the first shelf
 
@@ -107,20 +108,20 @@ not_certificate n h old new name (inl unread) = unread
 not_certificate n h old new name (inr has) = has.fails
 
 -- the certificate of a file is kept under the name; or neither
-abbrev Keeps : List ℕ → List ℕ → BookScene → BookScene → BookOutcome → Type 0
+abbrev Keeps : List ℕ → List ℕ → Scene KeeperMeaning → Scene KeeperMeaning → BookOutcome → Type 0
 Keeps name certificate old new outcome =
-    IsIdle old new outcome ⊎ ((body : List ℕ) × (outcome ≡ Common Done) × Told old.shelf certificate (λ held. held ≡ Some body) × Becomes old.keeper new.keeper (kept name body))
+    IsIdle old new outcome ⊎ ((body : List ℕ) × (outcome ≡ Common Done) × Told old.shelf certificate (λ held. held ≡ Some body) × Becomes old.more new.more (kept name body))
 
-certificate_keeps : (caps : Caps) (name region certificate : List ℕ) (named : Option (List ℕ)) (old new : BookScene) (outcome : BookOutcome)
+certificate_keeps : (caps : Caps) (name region certificate : List ℕ) (named : Option (List ℕ)) (old new : Scene KeeperMeaning) (outcome : BookOutcome)
     → book_says caps (keep name region certificate named) old new outcome → Keeps name certificate old new outcome
 certificate_keeps caps name region certificate named old new outcome (inl ends) = inl (by_idle (IsBothOutcome caps old.shelf new.shelf region named) (not_both caps old.shelf new.shelf region named) old new outcome ends)
 certificate_keeps caps name region certificate named old new outcome (inr (n, h, mid, both, inl ends)) =
-    let idle = by_idle (IsCertificateOutcome n h mid new.shelf certificate) (not_certificate n h mid new.shelf certificate) (book_scene mid old.keeper old.out) new outcome ends in
+    let idle = by_idle (IsCertificateOutcome n h mid new.shelf certificate) (not_certificate n h mid new.shelf certificate) (with_shelf old mid) new outcome ends in
     inl (idle.0, idle.1)
 certificate_keeps caps name region certificate named old new outcome (inr (n, h, mid, both, inr (bytes, then, has, changed))) =
-    moved (changes_move (λ book. Unit {0}) (kept name bytes) (book_scene then old.keeper old.out) new outcome changed)
+    moved (changes_move (λ book. Unit {0}) (kept name bytes) (with_shelf old then) new outcome changed)
   where
-    moved : Moves (kept name bytes) (book_scene then old.keeper old.out) new outcome → Keeps name certificate old new outcome
+    moved : Moves (kept name bytes) (with_shelf old then) new outcome → Keeps name certificate old new outcome
     moved (inl idle) = inl (idle.0, idle.1)
     moved (inr (done, becomes)) =
         inr (bytes, done, told_before old.shelf mid (both_later caps old.shelf mid region named n h both) certificate (λ held. held ≡ Some bytes) has.file.file, becomes)
@@ -129,7 +130,7 @@ certificate_keeps caps name region certificate named old new outcome (inr (n, h,
 record DoesSo (run : Run) : Type 0 where
   change : Change
   does : Does run change
-  becomes : Becomes run.old.keeper run.new.keeper (λ book. changed book change)
+  becomes : Becomes run.old.more run.new.more (λ book. changed book change)
 
 idles : (run : Run) → IsIdle run.old run.new run.outcome → DoesSo run
 idles run (stays, not) = record { change = nothing; does = inl not; becomes = stays }
@@ -146,19 +147,19 @@ asked_to caps run (drop name) asks (inr changes) = of (changes_move (λ book. Is
     of : Moves (dropped name) run.old run.new run.outcome → DoesSo run
     of (inl idle) = idles run idle
     of (inr (done, becomes)) = record { change = drops name; does = (done, asks); becomes = becomes }
-asked_to caps run list asks said = record { change = nothing; does = inr (list, asks, refl); becomes = writes_stay (ThenDone (IsListing run.old.keeper)) run.old run.new run.outcome said }
+asked_to caps run list asks said = record { change = nothing; does = inr (list, asks, refl); becomes = writes_stay (ThenDone (IsListing run.old.more)) run.old run.new run.outcome said }
 asked_to caps run (show name) asks (inl (none, ends)) = let e = ends.0 in idles run (ends.1.1, λ done. cc)
 asked_to caps run (show name) asks (inr writes) =
-    record { change = nothing; does = inr (show name, asks, refl); becomes = writes_stay (ThenDone (λ text. Tells run.old.keeper (λ book. book name ≡ Some text))) run.old run.new run.outcome writes }
+    record { change = nothing; does = inr (show name, asks, refl); becomes = writes_stay (ThenDone (λ text. Tells run.old.more (λ book. book name ≡ Some text))) run.old run.new run.outcome writes }
 asked_to caps run (recheck region hierarchy fail) asks said = record {
   change = nothing;
   does = inr (recheck region hierarchy fail, asks, refl);
-  becomes = report_stays caps region hierarchy (λ n h. IsReported (recheck_rule n h) fail run.old.keeper) run.old run.new run.outcome said;
+  becomes = report_stays caps region hierarchy (λ n h. IsReported (recheck_rule n h) fail run.old.more) run.old run.new run.outcome said;
 }
 asked_to caps run (review region hierarchy fail) asks said = record {
   change = nothing;
   does = inr (review region hierarchy fail, asks, refl);
-  becomes = report_stays caps region hierarchy (λ n h. IsReported (review_rule n) fail run.old.keeper) run.old run.new run.outcome said;
+  becomes = report_stays caps region hierarchy (λ n h. IsReported (review_rule n) fail run.old.more) run.old run.new run.outcome said;
 }
 
 one_run : (caps : Caps) (run : Run) → IsBookOutcome caps run.words run.old run.new run.outcome → DoesSo run
@@ -170,7 +171,7 @@ runs_fold caps first last [] same book is = ([], tt, book, ap (λ (k : KeeperMea
 runs_fold caps first last (run ∷ runs) (same, outcome, more) book is =
     let one = one_run caps run outcome in
     let then = one.becomes book (ap (λ (k : KeeperMeaning). k.book) same ∙ is) in
-    let rest = runs_fold caps run.new.keeper last runs more then.0 then.1 in (
+    let rest = runs_fold caps run.new.more last runs more then.0 then.1 in (
       one.change ∷ rest.0,
       (one.does, rest.1),
       rest.2,

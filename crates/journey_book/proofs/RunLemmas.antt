@@ -4,29 +4,30 @@ use Rattle.std.specs.Prelude.{Result, ⊤, IfErr, IfSome, OnOk}
 use Rattle.plan_base.specs.Sinks.{Appended}
 use Rattle.run_steps.specs.declared.outcome.Outcome.{Outcome}
 use Rattle.run_steps.specs.declared.outcome.Outcome.TheVariants.{Done, WriteFault}
+use Rattle.run_steps.specs.Scene.{Scene}
 use Rattle.run_steps.specs.Working.{IsTextOutcome}
 use Rattle.journey_book.specs.Books.{Book}
 use Rattle.journey_book.specs.Keepers.{KeeperMeaning, IsKeepFault, BookStays, Tells}
 use Rattle.journey_book.specs.Reports.{IsReport, IsReported, ReportRule, end_by}
-use Rattle.journey_book.specs.Sayings.{BookScene, IsUntouched, Changes, ThenDone, BookWrites}
+use Rattle.journey_book.specs.Sayings.{IsUntouched, Changes, ThenDone, BookWrites}
 use Rattle.journey_book.specs.Working.{ended_by, outcome_of_keeper}
 use Rattle.journey_book.specs.declared.keeper.KeepFault.{KeepFault as KeepCause}
 use Rattle.journey_book.specs.declared.keeper.KeepFault.TheVariants as keep_cause
 use Rattle.journey_book.specs.declared.outcome.BookOutcome.{BookOutcome}
 use Rattle.journey_book.specs.declared.outcome.BookOutcome.TheVariants.{Common}
 
-module _ (old new : BookScene) (same : IsUntouched old new) where
+module _ (old new : Scene KeeperMeaning) (same : IsUntouched old new) where
   -- the keeper refused a change
-  pub change_fails : (P : Book → Type 0) (change : Book → Book) (fault : KeepCause) → IsKeepFault old.keeper new.keeper fault → Changes P change old new (outcome_of_keeper fault)
+  pub change_fails : (P : Book → Type 0) (change : Book → Book) (fault : KeepCause) → IsKeepFault old.more new.more fault → Changes P change old new (outcome_of_keeper fault)
   change_fails P change keep_cause.Failed rose = (rose, same)
   change_fails P change keep_cause.OutOfMemory none = same
 
   -- the keeper refused to tell what was to be written
-  pub telling_fails : (IsText : List ℕ → BookOutcome → Type 0) (fault : KeepCause) → IsKeepFault old.keeper new.keeper fault → BookWrites IsText old new (outcome_of_keeper fault)
+  pub telling_fails : (IsText : List ℕ → BookOutcome → Type 0) (fault : KeepCause) → IsKeepFault old.more new.more fault → BookWrites IsText old new (outcome_of_keeper fault)
   telling_fails IsText keep_cause.Failed rose = (rose, same)
   telling_fails IsText keep_cause.OutOfMemory none = same
 
-module _ (old new : BookScene) (stays : BookStays old.keeper new.keeper) where
+module _ (old new : Scene KeeperMeaning) (stays : BookStays old.more new.more) where
   -- the text was not written whole
   text_fails : (IsText : List ℕ → BookOutcome → Type 0) (text : List ℕ) (end : BookOutcome) → IsText text end → (outcome : Outcome) → IsTextOutcome old.out new.out text outcome
       → BookWrites IsText old new (Common outcome)

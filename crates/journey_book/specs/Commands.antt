@@ -11,7 +11,7 @@ use Rattle.journey_book.specs.declared.outcome.BookOutcome.TheVariants.{Absent}
 
 -- nothing is kept under the name, if the keeper tells
 abbrev pub IsNotKept : List ℕ → BookSaying
-IsNotKept name old new outcome = Tells old.keeper (λ book. book name ≡ None) × BookEnds Absent old new outcome
+IsNotKept name old new outcome = Tells old.more (λ book. book name ≡ None) × BookEnds Absent old new outcome
 
 -- What a run says that was asked for this. `keep` keeps the certificate's bytes under the name, where it is valid
 -- in the region; `drop` removes a name that is there; `list` writes the names; `show` what is kept under a name that
@@ -24,13 +24,13 @@ book_says caps (keep name region certificate hierarchy) old new outcome =
     (λ n h. OnValid n h certificate (λ bytes. Changes (λ book. Unit {0}) (kept name bytes))) old new outcome
 book_says caps (drop name) old new outcome =
     IsNotKept name old new outcome ⊎ Changes (λ book. IsSome (book name)) (dropped name) old new outcome
-book_says caps list old new outcome = BookWrites (ThenDone (IsListing old.keeper)) old new outcome
+book_says caps list old new outcome = BookWrites (ThenDone (IsListing old.more)) old new outcome
 book_says caps (show name) old new outcome =
     IsNotKept name old new outcome
-    ⊎ BookWrites (ThenDone (λ text. Tells old.keeper (λ book. book name ≡ Some text))) old new outcome
+    ⊎ BookWrites (ThenDone (λ text. Tells old.more (λ book. book name ≡ Some text))) old new outcome
 book_says caps (recheck region hierarchy fail) old new outcome =
     OnBoth caps region hierarchy
-    (λ n h. BookWrites (IsReported (recheck_rule n h) fail old.keeper)) old new outcome
+    (λ n h. BookWrites (IsReported (recheck_rule n h) fail old.more)) old new outcome
 book_says caps (review region hierarchy fail) old new outcome =
     OnBoth caps region hierarchy
-    (λ n h. BookWrites (IsReported (review_rule n) fail old.keeper)) old new outcome
+    (λ n h. BookWrites (IsReported (review_rule n) fail old.more)) old new outcome

@@ -4,10 +4,12 @@ use Rattle.plan_base.specs.Counts.{Rose}
 use Rattle.plan_base.specs.declared.limits.Caps.{Caps}
 use Rattle.journey_book.specs.Commands.{book_says}
 use Rattle.run_steps.specs.Complete.{Files}
+use Rattle.run_steps.specs.Scene.{Scene}
 use Rattle.run_steps.specs.declared.outcome.Outcome.TheVariants.{Usage}
 use Rattle.journey_book.specs.Complete.{CanBeDoneByBook, IsDoneOrAbsent}
+use Rattle.journey_book.specs.Keepers.{KeeperMeaning}
 use Rattle.journey_book.specs.Requests.{AreRefusedByBook, AsksOfBook, BookRequest}
-use Rattle.journey_book.specs.Sayings.{BookScene, BookEnds}
+use Rattle.journey_book.specs.Sayings.{BookEnds}
 use Rattle.journey_book.specs.declared.outcome.BookOutcome.{BookOutcome}
 use Rattle.journey_book.specs.declared.outcome.BookOutcome.TheVariants.{Common}
 
@@ -19,9 +21,9 @@ IsBookOutcome caps words old new outcome =
 
 -- Where the shelf tells that all files are there and without fault, and no count of faults rose, all of the work is done, unless
 -- nothing is kept under the name or memory ran out.
-abbrev pub IsBookComplete : Caps → List (List ℕ) → BookScene → BookScene → BookOutcome → Type 0
+abbrev pub IsBookComplete : Caps → List (List ℕ) → Scene KeeperMeaning → Scene KeeperMeaning → BookOutcome → Type 0
 IsBookComplete caps words old new outcome =
     (r : BookRequest) (files : Files) → AsksOfBook words r → old.shelf.files ≡ Some files → CanBeDoneByBook caps files r
-    → (Rose old.shelf.faults new.shelf.faults → ⊥) → (Rose old.keeper.faults new.keeper.faults → ⊥)
+    → (Rose old.shelf.faults new.shelf.faults → ⊥) → (Rose old.more.faults new.more.faults → ⊥)
     → (Rose old.out.faults new.out.faults → ⊥)
     → IsDoneOrAbsent outcome

@@ -3,11 +3,11 @@ use Rattle.std.specs.Prelude.{◌≡◌, ℕ, ◌⊎◌, Bool, true, false, List
 use Rattle.std.specs.List.{AllZip}
 use Rattle.plan_base.specs.Shelves.{Told}
 use Rattle.plan_base.specs.declared.limits.Caps.{Caps}
+use Rattle.run_steps.specs.Scene.{Scene}
 use Rattle.journey_book.specs.Books.{Book, dropped, kept}
 use Rattle.journey_book.specs.Keepers.{KeeperMeaning}
 use Rattle.journey_book.specs.Outcomes.{IsBookOutcome}
 use Rattle.journey_book.specs.Requests.{AsksOfBook, BookRequest, keep, drop, list, show, recheck, review}
-use Rattle.journey_book.specs.Sayings.{BookScene}
 use Rattle.journey_book.specs.declared.outcome.BookOutcome.{BookOutcome}
 use Rattle.journey_book.specs.declared.outcome.BookOutcome.TheVariants.{Common}
 use Rattle.run_steps.specs.declared.outcome.Outcome.TheVariants.{Done}
@@ -30,16 +30,16 @@ book_after changes book = fold changed book changes
 -- a run with these words
 pub record Run : Type 0 where
   pub words : List (List ℕ)
-  pub old : BookScene
-  pub new : BookScene
+  pub old : Scene KeeperMeaning
+  pub new : Scene KeeperMeaning
   pub outcome : BookOutcome
 
 -- runs, each over the keeper that the one before it left
 abbrev pub AreRuns : Caps → KeeperMeaning → List Run → KeeperMeaning → Type 0
 AreRuns caps first [] last = last ≡ first
 AreRuns caps first (run ∷ runs) last =
-    (run.old.keeper ≡ first) × IsBookOutcome caps run.words run.old run.new run.outcome
-    × AreRuns caps run.new.keeper runs last
+    (run.old.more ≡ first) × IsBookOutcome caps run.words run.old run.new run.outcome
+    × AreRuns caps run.new.more runs last
 
 -- whether a request is one to keep or to drop
 abbrev pub may_change : BookRequest → Bool

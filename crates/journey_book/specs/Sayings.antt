@@ -3,7 +3,6 @@ use Rattle.std.specs.Prelude.{◌≡◌, ℕ, ◌⊎◌, ⊤, List, take, Option
 use Rattle.plan_base.specs.Counts.{Rose}
 use Rattle.plan_base.specs.Shelves.{ShelfMeaning, IsLater, HasRead}
 use Rattle.plan_base.specs.Sinks as sinks
-use Rattle.plan_base.specs.Sinks.{SinkMeaning}
 use Rattle.plan_base.specs.declared.limits.Caps.{Caps}
 use Rattle.mode_network.specs.NetworkLists.{NetworkLists}
 use Rattle.hierarchy.specs.Lists.{HierarchyLists}
@@ -11,6 +10,7 @@ use Rattle.run_steps.specs.declared.outcome.FileRole.TheVariants.{Certificate}
 use Rattle.run_steps.specs.declared.outcome.Outcome.{Outcome}
 use Rattle.run_steps.specs.declared.outcome.Outcome.TheVariants.{Done, WriteFault, OutOfMemory}
 use Rattle.run_steps.specs.CertificateCauses.{IsUnverified}
+use Rattle.run_steps.specs.Scene.{Scene, SayingOf, with_shelf}
 use Rattle.run_steps.specs.Sayings.{HasWritten, IsUnread, most_bytes}
 use Rattle.answer_commands.specs.Complete.{SpellsValid}
 use Rattle.answer_commands.specs.Outputs.{best_certificates}
@@ -20,18 +20,9 @@ use Rattle.journey_book.specs.Keepers.{KeeperMeaning, Becomes, BookStays, Tells}
 use Rattle.journey_book.specs.declared.outcome.BookOutcome.{BookOutcome}
 use Rattle.journey_book.specs.declared.outcome.BookOutcome.TheVariants.{Common, KeepFault, NotWell}
 
--- what a run works on: the shelf that it reads from, the keeper, and the output
-pub record BookScene : Type 0 where
-  pub shelf : ShelfMeaning
-  pub keeper : KeeperMeaning
-  pub out : SinkMeaning
-
-abbrev pub book_scene : ShelfMeaning → KeeperMeaning → SinkMeaning → BookScene
-book_scene shelf keeper out = record { shelf = shelf; keeper = keeper; out = out }
-
--- a saying speaks of a run, or of the rest of one: of what it works on, before and after, and of the outcome
+-- what is said of a run that works on a keeper too, by its outcome
 abbrev pub BookSaying : Type 1
-BookSaying = BookScene → BookScene → BookOutcome → Type 0
+BookSaying = SayingOf KeeperMeaning BookOutcome
 
 -- how a step of a run ends the run, or that it goes on to its end
 abbrev pub book_end_of : Result ⊤ BookOutcome → BookOutcome
@@ -39,8 +30,8 @@ book_end_of (Ok _) = Common Done
 book_end_of (Err outcome) = outcome
 
 -- nothing is written, and the book stays
-abbrev pub IsUntouched : BookScene → BookScene → Type 0
-IsUntouched old new = sinks.Stays old.out new.out × BookStays old.keeper new.keeper
+abbrev pub IsUntouched : Scene KeeperMeaning → Scene KeeperMeaning → Type 0
+IsUntouched old new = sinks.Stays old.out new.out × BookStays old.more new.more
 
 -- the run ends so, and nothing is changed
 abbrev pub BookEnds : BookOutcome → BookSaying
@@ -59,7 +50,7 @@ abbrev pub OnBoth : Caps → List ℕ → Option (List ℕ) → (NetworkLists �
 OnBoth caps region named rest old new outcome =
     EndsBy (IsBothOutcome caps old.shelf new.shelf region named) old new outcome
     ⊎ ((n : NetworkLists) × (h : Option HierarchyLists) × (mid : ShelfMeaning)
-    × HasBoth caps old.shelf mid region named n h × rest n h (book_scene mid old.keeper old.out) new outcome)
+    × HasBoth caps old.shelf mid region named n h × rest n h (with_shelf old mid) new outcome)
 
 -- the file of this name was read whole, and spells a certificate that is valid
 pub record HasValid (n : NetworkLists) (h : Option HierarchyLists) (old new : ShelfMeaning)
@@ -87,7 +78,7 @@ abbrev pub OnValid : NetworkLists → Option HierarchyLists → List ℕ → (Li
 OnValid n h name rest old new outcome =
     EndsBy (IsCertificateOutcome n h old.shelf new.shelf name) old new outcome
     ⊎ ((bytes : List ℕ) × (mid : ShelfMeaning) × HasValid n h old.shelf mid name bytes
-    × rest bytes (book_scene mid old.keeper old.out) new outcome)
+    × rest bytes (with_shelf old mid) new outcome)
 
 -- ---- the book
 
@@ -95,9 +86,9 @@ OnValid n h name rest old new outcome =
 -- changed
 abbrev pub Changes : (Book → Type 0) → (Book → Book) → BookSaying
 Changes P change old new (Common Done) =
-    Tells old.keeper P × Becomes old.keeper new.keeper change × sinks.Stays old.out new.out
+    Tells old.more P × Becomes old.more new.more change × sinks.Stays old.out new.out
 Changes P change old new (Common OutOfMemory) = IsUntouched old new
-Changes P change old new KeepFault = Rose old.keeper.faults new.keeper.faults × IsUntouched old new
+Changes P change old new KeepFault = Rose old.more.faults new.more.faults × IsUntouched old new
 Changes P change old new _ = ⊥
 
 -- ---- writing
@@ -110,7 +101,7 @@ BeginsOne IsText part =
 -- a text is written with which the run may end so, and the book stays
 abbrev pub EndsWithText : (List ℕ → BookOutcome → Type 0) → BookSaying
 EndsWithText IsText old new outcome =
-    HasWritten (λ text. IsText text outcome) old.out new.out × BookStays old.keeper new.keeper
+    HasWritten (λ text. IsText text outcome) old.out new.out × BookStays old.more new.more
 
 -- a text is written, which says how the run ends; or a front of one; or the keeper fails, or memory runs out, and
 -- nothing is written
@@ -119,9 +110,9 @@ BookWrites IsText old new (Common Done) = EndsWithText IsText old new (Common Do
 BookWrites IsText old new NotWell = EndsWithText IsText old new NotWell
 BookWrites IsText old new (Common WriteFault) =
     Rose old.out.faults new.out.faults × HasWritten (BeginsOne IsText) old.out new.out
-    × BookStays old.keeper new.keeper
+    × BookStays old.more new.more
 BookWrites IsText old new (Common OutOfMemory) = IsUntouched old new
-BookWrites IsText old new KeepFault = Rose old.keeper.faults new.keeper.faults × IsUntouched old new
+BookWrites IsText old new KeepFault = Rose old.more.faults new.more.faults × IsUntouched old new
 BookWrites IsText old new _ = ⊥
 
 -- a text that has P, with which all is done

@@ -4,13 +4,11 @@ ghost use Rattle.std.specs.Prelude.{◌≡◌, IfErr, IfOk, IfSome, OnOk, option
 ghost use Rattle.plan_base.specs.Sinks.{SinkMeaning};
 ghost use Rattle.plan_base.specs.Shelves.{ShelfMeaning};
 ghost use Rattle.hierarchy.specs.Soundness.{IsSound};
-ghost use Rattle.run_steps.specs.CertificateCauses.{IsUnverified};
-ghost use Rattle.answer_commands.specs.Complete.{SpellsValid};
-ghost use Rattle.answer_commands.specs.Outputs.{best_certificates};
+ghost use Rattle.run_steps.specs.Scene.{scene_of};
 ghost use Rattle.journey_book.specs.Books.{kept};
 ghost use Rattle.journey_book.specs.Commands.{book_says};
 ghost use Rattle.journey_book.specs.Requests.{keep, drop};
-ghost use Rattle.journey_book.specs.Sayings.{Changes, HasValid, IsCertificateOutcome, OnValid, book_scene, book_end_of};
+ghost use Rattle.journey_book.specs.Sayings.{Changes, HasValid, IsCertificateOutcome, OnValid, book_end_of};
 
 use crate::keeper::Keeper;
 use crate::outcome::BookOutcome;
@@ -44,8 +42,8 @@ pub(crate) fn keep<F: Shelf, K: Keeper, O: Sink, E: Sink>(
 ) -> Result<(), BookOutcome>
     ensures { book_says caps.now (keep what.entry.name.now what.entry.region.now what.entry.certificate.now
         (option_map (λ it. it.now) what.entry.hierarchy))
-        (book_scene (F.meaning ports.old.shelf) (K.meaning keeper.old) (O.meaning ports.old.out))
-        (book_scene (F.meaning ports.new.shelf) (K.meaning keeper.new) (O.meaning ports.new.out))
+        (scene_of (F.meaning ports.old.shelf) (O.meaning ports.old.out) (K.meaning keeper.old))
+        (scene_of (F.meaning ports.new.shelf) (O.meaning ports.new.out) (K.meaning keeper.new))
         (book_end_of result) }
 {
     let Keeping {
@@ -80,8 +78,8 @@ fn keep_over<F: Shelf, K: Keeper, O: Sink, E: Sink>(
     requires { IfSome hierarchy (λ h. IsSound network.now h.now) }
     ensures { OnValid network.now (option_map (λ h. h.now) hierarchy.entry)
         certificate.now (λ bytes. Changes (λ book. Unit {0}) (kept name.now bytes))
-        (book_scene (F.meaning ports.old.shelf) (K.meaning keeper.old) (O.meaning ports.old.out))
-        (book_scene (F.meaning ports.new.shelf) (K.meaning keeper.new) (O.meaning ports.new.out))
+        (scene_of (F.meaning ports.old.shelf) (O.meaning ports.old.out) (K.meaning keeper.old))
+        (scene_of (F.meaning ports.new.shelf) (O.meaning ports.new.out) (K.meaning keeper.new))
         (book_end_of result) }
 {
     let alloc = ports.alloc;
@@ -101,8 +99,8 @@ fn keep_over<F: Shelf, K: Keeper, O: Sink, E: Sink>(
 /// Keeps bytes under a name.
 fn put<K: Keeper>(name: &str, bytes: &[u8], keeper: &mut K) -> Result<(), BookOutcome>
     ensures { (shelf : ShelfMeaning) (out : SinkMeaning) → Changes (λ book. Unit {0})
-        (kept name.now bytes.now) (book_scene shelf (K.meaning keeper.old) out)
-        (book_scene shelf (K.meaning keeper.new) out) (book_end_of result) }
+        (kept name.now bytes.now) (scene_of shelf out (K.meaning keeper.old))
+        (scene_of shelf out (K.meaning keeper.new)) (book_end_of result) }
 {
     match keeper.put(name, bytes) {
         Ok(()) => Ok(()),
@@ -180,7 +178,7 @@ pub(crate) fn drop_name<K: Keeper>(
     caps: &Caps,
 ) -> Result<(), BookOutcome>
     ensures { (shelf : ShelfMeaning) (out : SinkMeaning) → book_says caps.now (drop name.now)
-        (book_scene shelf (K.meaning keeper.old) out) (book_scene shelf (K.meaning keeper.new) out)
+        (scene_of shelf out (K.meaning keeper.old)) (scene_of shelf out (K.meaning keeper.new))
         (book_end_of result) }
 {
     match keeper.remove(name) {

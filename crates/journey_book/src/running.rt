@@ -7,7 +7,7 @@ ghost use Rattle.run_steps.specs.Scene.{scene_of};
 ghost use Rattle.journey_book.specs.Commands.{book_says};
 ghost use Rattle.journey_book.specs.Outcomes.{IsBookComplete, IsBookOutcome};
 ghost use Rattle.journey_book.specs.Requests.{book_request_of};
-ghost use Rattle.journey_book.specs.Sayings.{book_scene, book_end_of};
+ghost use Rattle.journey_book.specs.Sayings.{book_end_of};
 
 use crate::keeper::Keeper;
 use crate::keeping::{Keeping, drop_name, keep};
@@ -27,8 +27,8 @@ fn carry_out<F: Shelf, K: Keeper, O: Sink, E: Sink>(
     caps: &Caps,
 ) -> Result<(), BookOutcome>
     ensures { book_says caps.now (book_request_of command.entry)
-        (book_scene (F.meaning ports.old.shelf) (K.meaning keeper.old) (O.meaning ports.old.out))
-        (book_scene (F.meaning ports.new.shelf) (K.meaning keeper.new) (O.meaning ports.new.out))
+        (scene_of (F.meaning ports.old.shelf) (O.meaning ports.old.out) (K.meaning keeper.old))
+        (scene_of (F.meaning ports.new.shelf) (O.meaning ports.new.out) (K.meaning keeper.new))
         (book_end_of result) }
 {
     match command {
@@ -101,11 +101,11 @@ pub fn run_book<F: Shelf, K: Keeper, O: Sink, E: Sink>(
     keeper: &mut K,
 ) -> BookOutcome
     ensures outcome { (caps : Caps) × AreFull caps × IsBookOutcome caps (map string_bytes words.now)
-        (book_scene (F.meaning ports.old.shelf) (K.meaning keeper.old) (O.meaning ports.old.out))
-        (book_scene (F.meaning ports.new.shelf) (K.meaning keeper.new) (O.meaning ports.new.out)) result }
+        (scene_of (F.meaning ports.old.shelf) (O.meaning ports.old.out) (K.meaning keeper.old))
+        (scene_of (F.meaning ports.new.shelf) (O.meaning ports.new.out) (K.meaning keeper.new)) result }
     ensures complete { (caps : Caps) × AreFull caps × IsBookComplete caps (map string_bytes words.now)
-        (book_scene (F.meaning ports.old.shelf) (K.meaning keeper.old) (O.meaning ports.old.out))
-        (book_scene (F.meaning ports.new.shelf) (K.meaning keeper.new) (O.meaning ports.new.out)) result }
+        (scene_of (F.meaning ports.old.shelf) (O.meaning ports.old.out) (K.meaning keeper.old))
+        (scene_of (F.meaning ports.new.shelf) (O.meaning ports.new.out) (K.meaning keeper.new)) result }
 {
     let outcome = run_book_within(ports, words, keeper, &Caps::FULL);
     tell_end(ports.alloc, words, outcome, &mut ports.notes);

@@ -4,11 +4,12 @@ ghost use Rattle.std.specs.Prelude.{◌≡◌, IfOk, IfSome, map, option_map, st
 ghost use Rattle.plain_texts.specs.Lines.{lines_text};
 ghost use Rattle.plan_base.specs.Shelves.{ShelfMeaning};
 ghost use Rattle.hierarchy.specs.Soundness.{IsSound};
+ghost use Rattle.run_steps.specs.Scene.{scene_of};
 ghost use Rattle.journey_book.specs.Commands.{book_says};
 ghost use Rattle.journey_book.specs.Requests.{list, show, recheck, review};
 ghost use Rattle.journey_book.specs.Reports.{IsReported, end_by, recheck_rule};
 ghost use Rattle.journey_book.specs.Reviews.{review_rule};
-ghost use Rattle.journey_book.specs.Sayings.{BookWrites, book_scene, book_end_of};
+ghost use Rattle.journey_book.specs.Sayings.{BookWrites, book_end_of};
 
 use crate::keeper::Keeper;
 use crate::outcome::BookOutcome;
@@ -32,8 +33,8 @@ pub(crate) fn list<K: Keeper, O: Sink>(
     caps: &Caps,
 ) -> Result<(), BookOutcome>
     ensures { (shelf : ShelfMeaning) → book_says caps.now list
-        (book_scene shelf (K.meaning keeper.old) (O.meaning out.old))
-        (book_scene shelf (K.meaning keeper.new) (O.meaning out.new)) (book_end_of result) }
+        (scene_of shelf (O.meaning out.old) (K.meaning keeper.old))
+        (scene_of shelf (O.meaning out.new) (K.meaning keeper.new)) (book_end_of result) }
 {
     let names = match keeper.names() {
         Ok(names) => names,
@@ -65,8 +66,8 @@ pub(crate) fn show<K: Keeper, O: Sink>(
     caps: &Caps,
 ) -> Result<(), BookOutcome>
     ensures { (shelf : ShelfMeaning) → book_says caps.now (show name.now)
-        (book_scene shelf (K.meaning keeper.old) (O.meaning out.old))
-        (book_scene shelf (K.meaning keeper.new) (O.meaning out.new)) (book_end_of result) }
+        (scene_of shelf (O.meaning out.old) (K.meaning keeper.old))
+        (scene_of shelf (O.meaning out.new) (K.meaning keeper.new)) (book_end_of result) }
 {
     match keeper.get(name) {
         Ok(Some(body)) => ended(write_text(out, &body), Ok(())),
@@ -85,8 +86,8 @@ pub(crate) fn recheck_all<F: Shelf, K: Keeper, O: Sink, E: Sink>(
     caps: &Caps,
 ) -> Result<(), BookOutcome>
     ensures { book_says caps.now (recheck region.now (option_map (λ it. it.now) hierarchy.entry) fail)
-        (book_scene (F.meaning ports.old.shelf) (K.meaning keeper.old) (O.meaning ports.old.out))
-        (book_scene (F.meaning ports.new.shelf) (K.meaning keeper.new) (O.meaning ports.new.out))
+        (scene_of (F.meaning ports.old.shelf) (O.meaning ports.old.out) (K.meaning keeper.old))
+        (scene_of (F.meaning ports.new.shelf) (O.meaning ports.new.out) (K.meaning keeper.new))
         (book_end_of result) }
 {
     let alloc = ports.alloc;
@@ -123,8 +124,8 @@ fn recheck_over<K: Keeper, O: Sink>(
     ensures { (shelf : ShelfMeaning) → BookWrites
         (IsReported (recheck_rule network.now (option_map (λ h. h.now) hierarchy.entry)) fail
         (K.meaning keeper.old))
-        (book_scene shelf (K.meaning keeper.old) (O.meaning out.old))
-        (book_scene shelf (K.meaning keeper.new) (O.meaning out.new)) (book_end_of result) }
+        (scene_of shelf (O.meaning out.old) (K.meaning keeper.old))
+        (scene_of shelf (O.meaning out.new) (K.meaning keeper.new)) (book_end_of result) }
 {
     let recheck = Recheck { network, hierarchy };
     write_report(alloc, &recheck, fail, keeper, out)
@@ -140,8 +141,8 @@ pub(crate) fn review_all<F: Shelf, K: Keeper, O: Sink, E: Sink>(
     caps: &Caps,
 ) -> Result<(), BookOutcome>
     ensures { book_says caps.now (review region.now (option_map (λ it. it.now) hierarchy.entry) fail)
-        (book_scene (F.meaning ports.old.shelf) (K.meaning keeper.old) (O.meaning ports.old.out))
-        (book_scene (F.meaning ports.new.shelf) (K.meaning keeper.new) (O.meaning ports.new.out))
+        (scene_of (F.meaning ports.old.shelf) (O.meaning ports.old.out) (K.meaning keeper.old))
+        (scene_of (F.meaning ports.new.shelf) (O.meaning ports.new.out) (K.meaning keeper.new))
         (book_end_of result) }
 {
     let alloc = ports.alloc;
@@ -177,8 +178,8 @@ fn review_over<K: Keeper, O: Sink>(
     requires { IfSome hierarchy (λ h. IsSound network.now h.now) }
     ensures { (shelf : ShelfMeaning) → BookWrites
         (IsReported (review_rule network.now) fail (K.meaning keeper.old))
-        (book_scene shelf (K.meaning keeper.old) (O.meaning out.old))
-        (book_scene shelf (K.meaning keeper.new) (O.meaning out.new)) (book_end_of result) }
+        (scene_of shelf (O.meaning out.old) (K.meaning keeper.old))
+        (scene_of shelf (O.meaning out.new) (K.meaning keeper.new)) (book_end_of result) }
 {
     let review = Review { network, hierarchy };
     write_report(alloc, &review, fail, keeper, out)
@@ -194,8 +195,8 @@ fn write_report<R: Report, K: Keeper, O: Sink>(
 ) -> Result<(), BookOutcome>
     requires { R.may report.now }
     ensures { (shelf : ShelfMeaning) → BookWrites (IsReported (R.rule report.now) fail (K.meaning keeper.old))
-        (book_scene shelf (K.meaning keeper.old) (O.meaning out.old))
-        (book_scene shelf (K.meaning keeper.new) (O.meaning out.new)) (book_end_of result) }
+        (scene_of shelf (O.meaning out.old) (K.meaning keeper.old))
+        (scene_of shelf (O.meaning out.new) (K.meaning keeper.new)) (book_end_of result) }
 {
     match report_of(alloc, report, keeper) {
         Ok(reported) => ended(write_text(out, &reported.text), end_by(fail, reported.well)),

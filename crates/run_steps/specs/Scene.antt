@@ -13,9 +13,12 @@ pub record Scene (K : Type 0) : Type 0 where
 abbrev pub SayingOf : Type 0 → Type 0 → Type 1
 SayingOf K E = Scene K → Scene K → E → Type 0
 
+abbrev pub scene_of : {K : Type 0} → ShelfMeaning → SinkMeaning → K → Scene K
+scene_of shelf out more = record { shelf = shelf; out = out; more = more }
+
 -- a scene of a shelf and an output alone
 abbrev pub scene : ShelfMeaning → SinkMeaning → Scene ⊤
-scene shelf out = record { shelf = shelf; out = out; more = tt }
+scene shelf out = scene_of shelf out tt
 
 -- the same, with the shelf as it is later
 abbrev pub with_shelf : {K : Type 0} → Scene K → ShelfMeaning → Scene K

@@ -1,5 +1,5 @@
 use Rattle.plan_base.proofs.MoreWritten.{stays_so as unwritten}
-use Rattle.journey_book.specs.Sayings.{book_scene}
+use Rattle.run_steps.specs.Scene.{scene_of}
 use Rattle.journey_book.proofs.RunLemmas.{change_fails, tells_all}
 use Rattle.journey_book.proofs.keeping.put.Goals as goal
 
@@ -8,6 +8,6 @@ returns-in-Ok g c shelf out = (tells_all (g.K.Keeper.meaning c.args.keeper.now),
 
 pub returns-in-Err : goal.returns-in-Err
 returns-in-Err g c shelf out =
-    let old = book_scene shelf (g.K.Keeper.meaning c.args.keeper.now) out in
-    let new = book_scene shelf (g.K.Keeper.meaning c.put.new.self) out in
+    let old = scene_of shelf out (g.K.Keeper.meaning c.args.keeper.now) in
+    let new = scene_of shelf out (g.K.Keeper.meaning c.put.new.self) in
     rw (c.outcome_of_keeper.ensures) (change_fails old new (unwritten out, c.in-Err.ensures.same) _ _ c.in-Err.fault c.in-Err.ensures.cause)

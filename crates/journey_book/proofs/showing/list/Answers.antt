@@ -1,7 +1,8 @@
 use Rattle.std.proofs.Common.{◌≡◌, ◌∙◌, List, ap, map, string_bytes, subst, sym}
 use Rattle.plain_texts.specs.Lines.{lines_text}
+use Rattle.run_steps.specs.Scene.{scene_of}
 use Rattle.journey_book.specs.Reports.{IsListing}
-use Rattle.journey_book.specs.Sayings.{ThenDone, BookWrites, book_scene}
+use Rattle.journey_book.specs.Sayings.{ThenDone, BookWrites}
 use Rattle.journey_book.specs.declared.outcome.BookOutcome.{BookOutcome}
 use Rattle.journey_book.proofs.RunLemmas.{text_written}
 use Rattle.journey_book.proofs.showing.list.Goals as goal
@@ -10,8 +11,8 @@ pub returns : goal.returns
 returns g c shelf =
     let before = g.K.Keeper.meaning c.args.keeper.now in
     let after = g.K.Keeper.meaning c.names.new.self in
-    let old = book_scene shelf before (g.O.Sink.meaning c.args.out.now) in
-    let new = book_scene shelf after (g.O.Sink.meaning c.write_text.new.out) in
+    let old = scene_of shelf (g.O.Sink.meaning c.args.out.now) before in
+    let new = scene_of shelf (g.O.Sink.meaning c.write_text.new.out) after in
     let names = map string_bytes c.in-Ok.names.items in
     let text : c.deref-2.result.now ≡ lines_text names =
     c.deref-2.ensures.value ∙ c.in-Ok-listed.ensures ∙ ap (λ (ns : List _). lines_text (map string_bytes ns)) c.deref.ensures.value in

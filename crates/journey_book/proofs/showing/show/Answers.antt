@@ -1,7 +1,8 @@
 use Rattle.std.proofs.Common.{◌≡◌, ℕ, List, Option, Some, Global, inr, option_map, subst, sym}
 use Rattle.std.specs.Prelude.{Vec}
+use Rattle.run_steps.specs.Scene.{scene_of}
 use Rattle.journey_book.specs.Keepers.{Tells}
-use Rattle.journey_book.specs.Sayings.{ThenDone, BookWrites, book_scene}
+use Rattle.journey_book.specs.Sayings.{ThenDone, BookWrites}
 use Rattle.journey_book.specs.declared.outcome.BookOutcome.{BookOutcome}
 use Rattle.journey_book.proofs.RunLemmas.{text_written}
 use Rattle.journey_book.proofs.showing.show.Goals as goal
@@ -10,8 +11,8 @@ pub returns-in-Ok-Some : goal.returns-in-Ok-Some
 returns-in-Ok-Some g c shelf =
     let name = c.args.name.now in
     let before = g.K.Keeper.meaning c.args.keeper.now in
-    let old = book_scene shelf before (g.O.Sink.meaning c.args.out.now) in
-    let new = book_scene shelf (g.K.Keeper.meaning c.get.new.self) (g.O.Sink.meaning c.write_text.new.out) in
+    let old = scene_of shelf (g.O.Sink.meaning c.args.out.now) before in
+    let new = scene_of shelf (g.O.Sink.meaning c.write_text.new.out) (g.K.Keeper.meaning c.get.new.self) in
     let told =
     subst (λ (held : Option (Vec ℕ Global)). Tells before (λ book. book name ≡ option_map (λ body. body.items) held)) c.in-Ok-Some.field-0-is c.in-Ok-Some.ensures.ok in
     let is = subst (λ (text : List ℕ). Tells before (λ book. book name ≡ Some text)) (sym c.deref.ensures.value) told in

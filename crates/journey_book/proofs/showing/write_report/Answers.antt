@@ -1,7 +1,8 @@
 use Rattle.std.proofs.Common.{◌≡◌, ◌∙◌, ap, subst, sym}
 use Rattle.plan_base.proofs.MoreWritten.{stays_so as unwritten}
+use Rattle.run_steps.specs.Scene.{scene_of}
 use Rattle.journey_book.specs.Reports.{IsReport, IsReported, end_by}
-use Rattle.journey_book.specs.Sayings.{BookWrites, book_scene, book_end_of}
+use Rattle.journey_book.specs.Sayings.{BookWrites, book_end_of}
 use Rattle.journey_book.specs.Working.{ended_by}
 use Rattle.journey_book.specs.declared.outcome.BookOutcome.{BookOutcome}
 use Rattle.journey_book.proofs.RunLemmas.{report_written, telling_fails}
@@ -11,8 +12,8 @@ pub returns-in-Ok : goal.returns-in-Ok
 returns-in-Ok g c shelf =
     let rule = g.R.Report.rule c.args.report.now in
     let before = g.K.Keeper.meaning c.args.keeper.now in
-    let old = book_scene shelf before (g.O.Sink.meaning c.args.out.now) in
-    let new = book_scene shelf (g.K.Keeper.meaning c.report_of.new.keeper) (g.O.Sink.meaning c.write_text.new.out) in
+    let old = scene_of shelf (g.O.Sink.meaning c.args.out.now) before in
+    let new = scene_of shelf (g.O.Sink.meaning c.write_text.new.out) (g.K.Keeper.meaning c.report_of.new.keeper) in
     let end : book_end_of c.ended.result ≡ ended_by c.write_text.result (end_by c.args.fail c.in-Ok.reported.well) = c.ended.ensures ∙ ap (ended_by c.write_text.result) c.end_by.ensures in
     subst (λ (o : BookOutcome). BookWrites (IsReported rule c.args.fail before) old new o) (sym end)
     (report_written old new c.in-Ok.ensures.same rule before c.deref.result.now c.args.fail c.in-Ok.reported.well
@@ -24,4 +25,4 @@ returns-in-Err g c shelf =
     let after = g.K.Keeper.meaning c.report_of.new.keeper in
     let out = g.O.Sink.meaning c.args.out.now in
     rw (c.outcome_of_keeper.ensures)
-    (telling_fails (book_scene shelf before out) (book_scene shelf after out) (unwritten out, c.in-Err.ensures.same) (IsReported (g.R.Report.rule c.args.report.now) c.args.fail before) c.in-Err.fault c.in-Err.ensures.cause)
+    (telling_fails (scene_of shelf out before) (scene_of shelf out after) (unwritten out, c.in-Err.ensures.same) (IsReported (g.R.Report.rule c.args.report.now) c.args.fail before) c.in-Err.fault c.in-Err.ensures.cause)
