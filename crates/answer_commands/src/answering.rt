@@ -102,9 +102,7 @@ fn answer_over<F: Shelf, O: Sink, E: Sink>(
     };
     let settled = write_in_turn(ports, &best, FileRole::Queries, path)?;
     if hierarchy.is_some() {
-        let Ok(line) = settled_line(ports.alloc, settled) else {
-            return Err(Outcome::OutOfMemory);
-        };
+        let line = settled_line(ports.alloc, settled)?;
         return write_text(&mut ports.out, &line);
     }
     Ok(())

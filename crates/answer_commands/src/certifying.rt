@@ -66,9 +66,7 @@ fn write_certified<O: Sink>(
         → WritesText (IsCertified network.now (option_map (λ h. h.now) hierarchy.entry) limits line.now)
         (scene old (O.meaning out.old)) (scene new (O.meaning out.new)) (end_of result) }
 {
-    let Ok(text) = certified(alloc, network, hierarchy, limits, line) else {
-        return Err(Outcome::OutOfMemory);
-    };
+    let text = certified(alloc, network, hierarchy, limits, line)?;
     write_text(out, &text)
 }
 

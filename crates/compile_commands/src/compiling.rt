@@ -69,9 +69,7 @@ fn write_compiled<O: Sink, E: Sink>(
         → WritesText (IsRegionFile caps format region.now.network) (scene old (O.meaning out.old))
         (scene new (O.meaning out.new)) (end_of result) }
 {
-    let Ok(text) = encode(alloc, &region.network, format) else {
-        return Err(Outcome::OutOfMemory);
-    };
+    let text = encode(alloc, &region.network, format)?;
     tell_closing(alloc, region, sources, text.len(), notes);
     write_text(out, &text)
 }
@@ -103,8 +101,6 @@ fn write_network<O: Sink>(
         → WritesText (IsRegionFile caps format network.now) (scene old (O.meaning out.old))
         (scene new (O.meaning out.new)) (end_of result) }
 {
-    let Ok(bytes) = encode(alloc, network, format) else {
-        return Err(Outcome::OutOfMemory);
-    };
+    let bytes = encode(alloc, network, format)?;
     write_text(out, &bytes)
 }

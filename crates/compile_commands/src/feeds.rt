@@ -63,9 +63,7 @@ fn read_tables<F: Shelf, E: Sink>(
     for table in tables {
         let text = read_table(alloc, shelf, folder, *table, notes)?;
         tell_large(alloc, folder, *table, text.as_deref(), notes);
-        let Ok(()) = texts.push(text) else {
-            return Err(Outcome::OutOfMemory);
-        };
+        texts.push(text)?;
     }
     Ok(texts)
 }
@@ -103,13 +101,10 @@ fn read_table<F: Shelf, E: Sink>(
     ensures err { IfErr result (IsTableUnread (F.meaning shelf.old) (F.meaning shelf.new) folder.now table
         (may_be_absent table)) }
 {
-    let Ok(path) = path_of(alloc, folder, table) else {
-        return Err(Outcome::OutOfMemory);
-    };
+    let path = path_of(alloc, folder, table)?;
     let role = FileRole::Feed(table);
     if may_be_absent(table) {
-        let text = read_file_if_there(alloc, shelf, &path, role, notes)?;
-        return Ok(text);
+        return read_file_if_there(alloc, shelf, &path, role, notes);
     }
     let text = read_file(alloc, shelf, &path, role, notes)?;
     Ok(Some(text))

@@ -98,9 +98,9 @@ fn sound_of<E: Sink>(
     ensures ok { IfOk result (IsSoundOf network.now lists) }
     ensures err { IfErr result (IsUnsoundOf network.now lists) }
 {
-    match check_nodes(alloc, network, lists.order(), lists.entries()) {
-        Ok(Verdict::Sound) => joined(alloc, network, path, lists, notes),
-        Ok(Verdict::Broken { clause, at, by }) => {
+    match check_nodes(alloc, network, lists.order(), lists.entries())? {
+        Verdict::Sound => joined(alloc, network, path, lists, notes),
+        Verdict::Broken { clause, at, by } => {
             let judged = Judged {
                 network,
                 path,
@@ -110,7 +110,6 @@ fn sound_of<E: Sink>(
             tell(alloc, notes, judged.broken(alloc, clause, at, by));
             Err(Outcome::Unsound { clause, at, by })
         }
-        Err(_) => Err(Outcome::OutOfMemory),
     }
 }
 
@@ -127,9 +126,7 @@ fn joined<E: Sink>(
     ensures ok { IfOk result (IsSoundOf network.now lists) }
     ensures err { IfErr result (IsUnsoundOf network.now lists) }
 {
-    let Ok(h) = lists.into_hierarchy(alloc) else {
-        return Err(Outcome::OutOfMemory);
-    };
+    let h = lists.into_hierarchy(alloc)?;
     match check_ways(network, &h) {
         Verdict::Sound => Ok(h),
         Verdict::Broken { clause, at, by } => {

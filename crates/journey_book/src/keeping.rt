@@ -52,17 +52,17 @@ pub(crate) fn keep<F: Shelf, K: Keeper, O: Sink, E: Sink>(
         certificate,
         hierarchy,
     } = what;
-    match read_both(
-        ports.alloc,
-        region,
-        hierarchy,
-        &mut ports.shelf,
-        &mut ports.notes,
-        caps,
-    ) {
-        Ok(both) => keep_over(ports, name, &both.0, both.1.as_ref(), certificate, keeper),
-        Err(outcome) => Err(BookOutcome::Common(outcome)),
-    }
+    let alloc = ports.alloc;
+    let (shelf, notes) = (&mut ports.shelf, &mut ports.notes);
+    let (network, hierarchy) = read_both(alloc, region, hierarchy, shelf, notes, caps)?;
+    keep_over(
+        ports,
+        name,
+        &network,
+        hierarchy.as_ref(),
+        certificate,
+        keeper,
+    )
 }
 
 /// Reads a certificate, whose labels are over the hierarchy, if there is one, and keeps its bytes under the name, if it
@@ -83,17 +83,9 @@ fn keep_over<F: Shelf, K: Keeper, O: Sink, E: Sink>(
         (book_end_of result) }
 {
     let alloc = ports.alloc;
-    match read_valid(
-        alloc,
-        network,
-        hierarchy,
-        certificate,
-        &mut ports.shelf,
-        &mut ports.notes,
-    ) {
-        Ok(bytes) => put(name, bytes.as_slice(), keeper),
-        Err(outcome) => Err(BookOutcome::Common(outcome)),
-    }
+    let (shelf, notes) = (&mut ports.shelf, &mut ports.notes);
+    let bytes = read_valid(alloc, network, hierarchy, certificate, shelf, notes)?;
+    put(name, bytes.as_slice(), keeper)
 }
 
 /// Keeps bytes under a name.

@@ -141,8 +141,7 @@ impl Keeper for MemoryKeeper {
         ensures counted { IsCounted self.old self.new (has_failed result) }
     {
         self.begin()?;
-        let held = get_from(self.alloc, &self.map, name)?;
-        Ok(held)
+        Ok(get_from(self.alloc, &self.map, name)?)
     }
 
     fn names(&mut self) -> Result<Vec<String>, KeepFault>
@@ -154,7 +153,6 @@ impl Keeper for MemoryKeeper {
         ensures counted { IsCounted self.old self.new (has_failed result) }
     {
         self.begin()?;
-        let names = names_of(self.alloc, &self.map)?;
-        Ok(names)
+        Ok(names_of(self.alloc, &self.map)?)
     }
 }

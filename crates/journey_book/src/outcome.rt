@@ -4,6 +4,7 @@ ghost use Rattle.std.specs.Prelude.{◌≡◌};
 ghost use Rattle.journey_book.specs.Statuses.{book_status_of};
 
 use run_steps::Outcome;
+use std::alloc::AllocError;
 
 /// How a command ends. Each outcome has an exit status.
 #[derive(Clone, Copy, Debug)]
@@ -16,6 +17,27 @@ pub enum BookOutcome {
     Absent,
     /// The report is written, and a line of it is not well, for which the run was asked to fail.
     NotWell,
+}
+
+impl From<Outcome> for BookOutcome {
+    ghost use Rattle.journey_book.specs.declared.outcome.BookOutcome.TheVariants.{Common};
+
+    ghost from_gives = { λ outcome book_outcome. book_outcome ≡ Common outcome };
+
+    fn from(outcome: Outcome) -> BookOutcome {
+        BookOutcome::Common(outcome)
+    }
+}
+
+impl From<AllocError> for BookOutcome {
+    ghost use Rattle.run_steps.specs.declared.outcome.Outcome.TheVariants.{OutOfMemory};
+    ghost use Rattle.journey_book.specs.declared.outcome.BookOutcome.TheVariants.{Common};
+
+    ghost from_gives = { λ _ outcome. outcome ≡ Common OutOfMemory };
+
+    fn from(_: AllocError) -> BookOutcome {
+        BookOutcome::Common(Outcome::OutOfMemory)
+    }
 }
 
 impl BookOutcome {

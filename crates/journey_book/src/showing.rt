@@ -22,7 +22,7 @@ use hierarchy::Hierarchy;
 use mode_network::Network;
 use plain_texts::push_line_feed;
 use plan_base::{Caps, Shelf, Sink};
-use run_steps::{Outcome, Ports, write_text};
+use run_steps::{Ports, write_text};
 use std::alloc::{AllocError, Global};
 
 /// Writes all names.
@@ -40,9 +40,7 @@ pub(crate) fn list<K: Keeper, O: Sink>(
         Ok(names) => names,
         Err(fault) => return Err(outcome_of_keeper(fault)),
     };
-    let Ok(text) = listed(alloc, &names) else {
-        return Err(BookOutcome::Common(Outcome::OutOfMemory));
-    };
+    let text = listed(alloc, &names)?;
     ended(write_text(out, &text), Ok(()))
 }
 
@@ -91,24 +89,10 @@ pub(crate) fn recheck_all<F: Shelf, K: Keeper, O: Sink, E: Sink>(
         (book_end_of result) }
 {
     let alloc = ports.alloc;
-    match read_both(
-        alloc,
-        region,
-        hierarchy,
-        &mut ports.shelf,
-        &mut ports.notes,
-        caps,
-    ) {
-        Ok(both) => recheck_over(
-            alloc,
-            &both.0,
-            both.1.as_ref(),
-            fail,
-            keeper,
-            &mut ports.out,
-        ),
-        Err(outcome) => Err(BookOutcome::Common(outcome)),
-    }
+    let (shelf, notes) = (&mut ports.shelf, &mut ports.notes);
+    let (network, hierarchy) = read_both(alloc, region, hierarchy, shelf, notes, caps)?;
+    let out = &mut ports.out;
+    recheck_over(alloc, &network, hierarchy.as_ref(), fail, keeper, out)
 }
 
 /// Writes which of the certificates that are kept hold.
@@ -146,24 +130,10 @@ pub(crate) fn review_all<F: Shelf, K: Keeper, O: Sink, E: Sink>(
         (book_end_of result) }
 {
     let alloc = ports.alloc;
-    match read_both(
-        alloc,
-        region,
-        hierarchy,
-        &mut ports.shelf,
-        &mut ports.notes,
-        caps,
-    ) {
-        Ok(both) => review_over(
-            alloc,
-            &both.0,
-            both.1.as_ref(),
-            fail,
-            keeper,
-            &mut ports.out,
-        ),
-        Err(outcome) => Err(BookOutcome::Common(outcome)),
-    }
+    let (shelf, notes) = (&mut ports.shelf, &mut ports.notes);
+    let (network, hierarchy) = read_both(alloc, region, hierarchy, shelf, notes, caps)?;
+    let out = &mut ports.out;
+    review_over(alloc, &network, hierarchy.as_ref(), fail, keeper, out)
 }
 
 /// Writes what the region does to the journeys that are kept.

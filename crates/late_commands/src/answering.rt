@@ -191,9 +191,7 @@ pub fn latest<F: Shelf, O: Sink, E: Sink>(
         caps,
         &mut ports.notes,
     )?;
-    let Ok(backwards) = Backwards::new(ports.alloc, &network) else {
-        return Err(Outcome::OutOfMemory);
-    };
+    let backwards = Backwards::new(ports.alloc, &network)?;
     let late = LateBlocks {
         backwards: &backwards,
         limits,
@@ -222,9 +220,7 @@ pub fn profile<F: Shelf, O: Sink, E: Sink>(
         caps,
         &mut ports.notes,
     )?;
-    let Ok(least) = LeastTimes::new(ports.alloc, &network) else {
-        return Err(Outcome::OutOfMemory);
-    };
+    let least = LeastTimes::new(ports.alloc, &network)?;
     let profile = ProfileBlocks {
         least: &least,
         window,

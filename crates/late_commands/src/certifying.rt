@@ -51,9 +51,7 @@ fn write_certified<O: Sink>(
     ensures { (old new : ShelfMeaning) → WritesText (IsLateCertified network.now limits line.now)
         (scene old (O.meaning out.old)) (scene new (O.meaning out.new)) (end_of result) }
 {
-    let Ok(text) = certified_late(alloc, network, limits, line) else {
-        return Err(Outcome::OutOfMemory);
-    };
+    let text = certified_late(alloc, network, limits, line)?;
     write_text(out, &text)
 }
 

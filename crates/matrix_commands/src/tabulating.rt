@@ -91,15 +91,9 @@ fn write_rows<F: Shelf, O: Sink, E: Sink>(
         (scene (F.meaning ports.new.shelf) (O.meaning ports.new.out)) (end_of result) }
 {
     let alloc = ports.alloc;
-    let Ok(lines) = destination_lines(alloc, bytes) else {
-        return Err(Outcome::OutOfMemory);
-    };
-    let Ok(queries) = read_ends(alloc, network, asking, &lines) else {
-        return Err(Outcome::OutOfMemory);
-    };
-    let Ok(destinations) = Destinations::new(alloc, network, hierarchy, &queries) else {
-        return Err(Outcome::OutOfMemory);
-    };
+    let lines = destination_lines(alloc, bytes)?;
+    let queries = read_ends(alloc, network, asking, &lines)?;
+    let destinations = Destinations::new(alloc, network, hierarchy, &queries)?;
     let table = Table {
         asking,
         lines: &lines,

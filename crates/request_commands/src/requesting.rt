@@ -51,12 +51,8 @@ fn reply_over<F: Shelf, O: Sink, E: Sink>(
         limits) (scene (F.meaning ports.old.shelf) (O.meaning ports.old.out))
         (scene (F.meaning ports.new.shelf) (O.meaning ports.new.out)) (end_of result) }
 {
-    let Ok(backwards) = Backwards::new(ports.alloc, network) else {
-        return Err(Outcome::OutOfMemory);
-    };
-    let Ok(least) = LeastTimes::new(ports.alloc, network) else {
-        return Err(Outcome::OutOfMemory);
-    };
+    let backwards = Backwards::new(ports.alloc, network)?;
+    let least = LeastTimes::new(ports.alloc, network)?;
     let replies = Replies {
         network,
         hierarchy,

@@ -74,10 +74,7 @@ fn verified<C: Certificates, E: Sink>(
     ensures err { IfErr result (IsUnverified (C.kind certificates.now) bytes.now) }
 {
     match certificates.shown(alloc, bytes) {
-        Ok(block) => match behind_valid(alloc, &block) {
-            Ok(text) => Ok(text),
-            Err(_) => Err(Outcome::OutOfMemory),
-        },
+        Ok(block) => Ok(behind_valid(alloc, &block)?),
         Err(outcome) => {
             tell_why(alloc, certificates, path, bytes, outcome, notes);
             Err(outcome)

@@ -297,9 +297,7 @@ impl<B: LineBlocks> Turn<'_, B> {
         ensures err { IfErr result (IsBlockOutcome (O.meaning out.old) (O.meaning out.new)
             (B.is_block self.now.blocks.now query.now)) }
     {
-        let Ok((block, count)) = self.blocks.block_of(self.alloc, &mut kept.room, query) else {
-            return Err(Outcome::OutOfMemory);
-        };
+        let (block, count) = self.blocks.block_of(self.alloc, &mut kept.room, query)?;
         match write_all(out, &block) {
             Ok(()) => {}
             Err(_) => return Err(Outcome::WriteFault),
@@ -334,10 +332,8 @@ fn keep(rest: &mut Vec<u8>, more: &[u8], file: FileRole) -> Result<(), Outcome>
     if more.len() as u64 > room {
         return Err(Outcome::TooLong { file });
     }
-    match rest.extend_from_slice(more) {
-        Ok(()) => Ok(()),
-        Err(_) => Err(Outcome::OutOfMemory),
-    }
+    rest.extend_from_slice(more)?;
+    Ok(())
 }
 
 /// Why a file can't be read on from a place. It is missing only where nothing was read of it before.

@@ -7,6 +7,7 @@ use hierarchy_file::HFileFault;
 use opl_reader::OplFault;
 use region_build::BuildFault;
 use region_file::RegionFault;
+use std::alloc::{AllocError, AllocFailed};
 
 /// A file that a command reads.
 #[derive(Clone, Copy, Debug, PartialEq, Eq)]
@@ -83,6 +84,26 @@ pub enum Outcome {
     Unsound { clause: u8, at: u64, by: u64 },
     /// Memory ran out.
     OutOfMemory,
+}
+
+impl From<AllocError> for Outcome {
+    ghost use Rattle.run_steps.specs.declared.outcome.Outcome.TheVariants.{OutOfMemory};
+
+    ghost from_gives = { λ _ outcome. outcome ≡ OutOfMemory };
+
+    fn from(_: AllocError) -> Outcome {
+        Outcome::OutOfMemory
+    }
+}
+
+impl<T: Drop> From<AllocFailed<T>> for Outcome {
+    ghost use Rattle.run_steps.specs.declared.outcome.Outcome.TheVariants.{OutOfMemory};
+
+    ghost from_gives = { λ _ outcome. outcome ≡ OutOfMemory };
+
+    fn from(_: AllocFailed<T>) -> Outcome {
+        Outcome::OutOfMemory
+    }
 }
 
 impl Outcome {

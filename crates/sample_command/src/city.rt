@@ -17,8 +17,7 @@ pub(crate) fn city_read_back(alloc: Global, n: u32, caps: &Caps) -> Result<Netwo
     ensures { IfOk result (IsSampleCity n) }
 {
     let city = city_of(alloc, n, caps)?;
-    let again = read_back(alloc, &city, caps)?;
-    Ok(again)
+    read_back(alloc, &city, caps)
 }
 
 /// The sample city. One that is past a limit of `caps` is refused like want of memory.

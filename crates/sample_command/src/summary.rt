@@ -38,11 +38,8 @@ pub fn sample<O: Sink, E: Sink>(
     ensures { (old new : ShelfMeaning) → spec.SaysSample n (scene old (O.meaning out.old))
         (scene new (O.meaning out.new)) (end_of result) }
 {
-    let Ok(text) = summary(alloc, n, notes, caps) else {
-        return Err(Outcome::OutOfMemory);
-    };
-    write_text(out, &text)?;
-    Ok(())
+    let text = summary(alloc, n, notes, caps)?;
+    write_text(out, &text)
 }
 
 /// The summary of the sample city.
@@ -58,8 +55,7 @@ fn summary<E: Sink>(
 {
     let city = city_read_back(alloc, n, caps)?;
     tell(alloc, notes, told_of_city(alloc, &city));
-    let text = summary_of(alloc, n, &city, notes)?;
-    Ok(text)
+    summary_of(alloc, n, &city, notes)
 }
 
 /// The summary of this sample city.
@@ -77,8 +73,7 @@ fn summary_of<E: Sink>(
     city.known();
     let (plain, _) = times_of(alloc, city, None, n)?;
     let (over, settled) = times_over(alloc, n, city, notes)?;
-    let text = text_of(alloc, n, city, &plain, &over, settled)?;
-    Ok(text)
+    text_of(alloc, n, city, &plain, &over, settled)
 }
 
 /// How long the best journeys take that are found over a hierarchy, and how many labels the searches had together.

@@ -12,13 +12,15 @@ returns-in_err-settled g c =
     let p = err_from_is_err_and c.from_residual.result c.from_residual.ensures.1 in
     rw (p.1, p.2) (inl c.in_err-settled.ensures.err)
 
-pub returns-in_default : goal.returns-in_default
-returns-in_default g c =
+pub returns-in_err-line : goal.returns-in_err-line
+returns-in_err-line g c =
+    let p = err_from_is_err_and c.from_residual-in_err-line.result c.from_residual-in_err-line.ensures.1 in
     let done = c.in_ok-settled.ensures.ok in
     let shelf = g.F.Shelf.meaning c.write_in_turn.new.ports.shelf in
     let mid = g.O.Sink.meaning c.write_in_turn.new.ports.out in
     let some = lent_same c.args.hierarchy ∙ (sym c.is_some.ensures ∙ c.if-is_some.true) in
-    inr (done.0, scene shelf mid, done.1, unmade_settled c.args.network.now c.args.limits shelf mid done.0 (option_map (λ (x : Bor Hierarchy). x.now) c.args.hierarchy) some)
+    rw (p.1, p.2)
+    (inr (done.0, scene shelf mid, done.1, unmade_settled c.args.network.now c.args.limits shelf mid done.0 (option_map (λ (x : Bor Hierarchy). x.now) c.args.hierarchy) some))
 
 pub returns-then-is_some : goal.returns-then-is_some
 returns-then-is_some g c =
@@ -34,7 +36,7 @@ returns-then-is_some g c =
       scene shelf mid,
       done.1,
       settled_ends n c.args.limits shelf mid done.0 h some (g.O.Sink.meaning c.write_text.new.out) sum done.2 c.write_text.result
-          (rw (← c.in-Ok.ensures, ← c.deref.ensures.value) c.write_text.ensures.ok) (rw (← c.in-Ok.ensures, ← c.deref.ensures.value) c.write_text.ensures.err),
+          (rw (← c.in_ok-line.ensures, ← c.deref.ensures.value) c.write_text.ensures.ok) (rw (← c.in_ok-line.ensures, ← c.deref.ensures.value) c.write_text.ensures.err),
     )
 
 pub returns : goal.returns

@@ -4,6 +4,6 @@ use Rattle.compile_commands.proofs.compiling.write_network.Goals as goal
 
 pub returns : goal.returns
 returns g c = λ caps old new within.
-    text_ends old new (g.O.Sink.meaning c.args.out.now) (g.O.Sink.meaning c.write_text.new.out) (IsRegionFile caps c.args.format c.args.network.now) c.in-Ok.bytes.items
-    (record { text = c.in-Ok.ensures.spelled; spells = c.in-Ok.ensures.again caps within }) c.write_text.result
+    text_ends old new (g.O.Sink.meaning c.args.out.now) (g.O.Sink.meaning c.write_text.new.out) (IsRegionFile caps c.args.format c.args.network.now) c.in_ok-bytes.bytes.items
+    (record { text = c.in_ok-bytes.ensures.spelled; spells = c.in_ok-bytes.ensures.again caps within }) c.write_text.result
     (rw (← c.deref.ensures.value) c.write_text.ensures.ok) (rw (← c.deref.ensures.value) c.write_text.ensures.err)

@@ -4,8 +4,8 @@ use Rattle.hierarchy_check.specs.Nodes.{HasNodes}
 use Rattle.hierarchy_commands.proofs.reading.joined.Goals as goal
 
 pub check_ways-requires : goal.check_ways-requires
-check_ways-requires g c = subst (HasNodes c.args.network.now) (sym c.in-Ok.ensures) c.requires
+check_ways-requires g c = subst (HasNodes c.args.network.now) (sym c.in_ok-h.ensures) c.requires
 
 pub returns-in-Broken-clause-err : goal.returns-in-Broken-clause-err
 returns-in-Broken-clause-err g c =
-    subst (λ h. IsFirstBroken c.args.network.now h c.in-Broken.clause c.in-Broken.at c.in-Broken.by) c.in-Ok.ensures (rw c.in-Broken.is at c.check_ways.ensures)
+    subst (λ h. IsFirstBroken c.args.network.now h c.in-Broken.clause c.in-Broken.at c.in-Broken.by) c.in_ok-h.ensures (rw c.in-Broken.is at c.check_ways.ensures)

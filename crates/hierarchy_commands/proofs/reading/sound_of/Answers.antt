@@ -2,7 +2,7 @@ use Rattle.std.proofs.Common.{sym}
 use Rattle.hierarchy_commands.proofs.reading.sound_of.Goals as goal
 
 pub joined-requires : goal.joined-requires
-joined-requires g c = rw c.in-Ok-Sound.field-0-is at c.in-Ok-Sound.ensures c.args.lists (sym c.order.ensures) (sym c.entries.ensures)
+joined-requires g c = rw c.in-Sound.is at c.in_ok-check_nodes.ensures c.args.lists (sym c.order.ensures) (sym c.entries.ensures)
 
-pub returns-in-Ok-Broken-clause-err : goal.returns-in-Ok-Broken-clause-err
-returns-in-Ok-Broken-clause-err g c = rw c.in-Ok-Broken.field-0-is at c.in-Ok-Broken.ensures c.args.lists (sym c.order.ensures) (sym c.entries.ensures)
+pub returns-in-Broken-clause-err : goal.returns-in-Broken-clause-err
+returns-in-Broken-clause-err g c = rw c.in-Broken.is at c.in_ok-check_nodes.ensures c.args.lists (sym c.order.ensures) (sym c.entries.ensures)

@@ -15,6 +15,6 @@ returns g c shelf =
     let new = scene_of shelf (g.O.Sink.meaning c.write_text.new.out) after in
     let names = map string_bytes c.in-Ok.names.items in
     let text : c.deref-2.result.now ≡ lines_text names =
-    c.deref-2.ensures.value ∙ c.in-Ok-listed.ensures ∙ ap (λ (ns : List _). lines_text (map string_bytes ns)) c.deref.ensures.value in
+    c.deref-2.ensures.value ∙ c.in_ok-text.ensures ∙ ap (λ (ns : List _). lines_text (map string_bytes ns)) c.deref.ensures.value in
     subst (λ (o : BookOutcome). BookWrites (ThenDone (IsListing before)) old new o) (sym c.ended.ensures)
     (text_written old new c.in-Ok.ensures.same (IsListing before) c.deref-2.result.now (names, c.in-Ok.ensures.ok, text) c.write_text.result c.write_text.ensures.ok c.write_text.ensures.err)

@@ -1,16 +1,19 @@
 use Rattle.std.proofs.Common.{inl, inr}
+use Rattle.std.proofs.lemmas.Result.{err_from_is_err_and}
+use Rattle.plan_base.proofs.MoreWritten.{stays_so as unwritten}
 use Rattle.answer_commands.proofs.LentLemmas.{lent_sound}
 use Rattle.journey_book.proofs.KeeperLemmas.{stays_so}
-use Rattle.plan_base.proofs.MoreWritten.{stays_so as unwritten}
 use Rattle.journey_book.proofs.showing.review_all.Goals as goal
 
 pub review_over-requires : goal.review_over-requires
-review_over-requires g c = lent_sound c.in-Ok.both.0 c.as_ref.result c.in-Ok.both.1 c.as_ref.ensures.value c.in-Ok.ensures.sound
+review_over-requires g c = lent_sound c.in_ok-network.network c.as_ref.result c.in_ok-network.hierarchy c.as_ref.ensures.value c.in_ok-network.ensures.sound
 
-pub returns-in-Ok : goal.returns-in-Ok
-returns-in-Ok g c =
+pub returns-in_err-network : goal.returns-in_err-network
+returns-in_err-network g c =
+    let p = err_from_is_err_and c.from_residual.result c.from_residual.ensures.1 in
+    rw (p.1, p.2) (inl (c.in_err-network.ensures.err, (unwritten (g.O.Sink.meaning c.args.ports.now.out), stays_so (g.K.Keeper.meaning c.args.keeper.now))))
+
+pub returns : goal.returns
+returns g c =
     let mid = g.F.Shelf.meaning c.read_both.new.shelf in
-    inr (c.in-Ok.both.0, c.in-Ok.both.1, mid, c.in-Ok.ensures.ok, (c.review_over.ensures mid))
-
-pub returns-in-Err : goal.returns-in-Err
-returns-in-Err g c = inl (c.in-Err.ensures.err, (unwritten (g.O.Sink.meaning c.args.ports.now.out), stays_so (g.K.Keeper.meaning c.args.keeper.now)))
+    inr (c.in_ok-network.network, c.in_ok-network.hierarchy, mid, c.in_ok-network.ensures.ok, c.review_over.ensures mid)

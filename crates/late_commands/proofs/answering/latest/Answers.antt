@@ -1,4 +1,5 @@
 use Rattle.std.proofs.Common.{subst}
+use Rattle.std.proofs.lemmas.Result.{err_from_is_err_and}
 use Rattle.mode_network.specs.NetworkLists.{NetworkLists}
 use Rattle.run_steps.specs.declared.outcome.FileRole.TheVariants.{Queries}
 use Rattle.run_steps.specs.declared.outcome.Outcome.TheVariants.{Done}
@@ -10,12 +11,14 @@ use Rattle.run_steps.proofs.Steps.{on_region}
 use Rattle.late_commands.specs.Commands.{IsLatestBlock}
 use Rattle.late_commands.proofs.answering.latest.Goals as goal
 
-pub returns-in_default : goal.returns-in_default
-returns-in_default g c =
+pub returns-in_err-backwards : goal.returns-in_err-backwards
+returns-in_err-backwards g c =
+    let p = err_from_is_err_and c.from_residual-in_err-backwards.result c.from_residual-in_err-backwards.ensures.1 in
     let mid = g.F.Shelf.meaning c.read_region.new.shelf in
     let out = g.O.Sink.meaning c.args.ports.now.out in
-    on_region (g.F.Shelf.meaning c.args.ports.now.shelf) mid mid out out c.args.region.now
-    c.args.caps.now _ c.in_ok-network.network c.in_ok-network.ensures.ok c.in_ok-network.ensures.later _ (stops_early Queries c.args.queries.now (IsLatestBlock c.in_ok-network.network c.args.limits) (λ bytes. Ends Done) mid out)
+    rw (p.1, p.2)
+    (on_region (g.F.Shelf.meaning c.args.ports.now.shelf) mid mid out out c.args.region.now
+    c.args.caps.now _ c.in_ok-network.network c.in_ok-network.ensures.ok c.in_ok-network.ensures.later _ (stops_early Queries c.args.queries.now (IsLatestBlock c.in_ok-network.network c.args.limits) (λ bytes. Ends Done) mid out))
 
 pub returns : goal.returns
 returns g c =
@@ -25,4 +28,4 @@ returns g c =
     let after = g.O.Sink.meaning c.answer_file.new.ports.out in
     on_region (g.F.Shelf.meaning c.args.ports.now.shelf) mid new before after c.args.region.now
     c.args.caps.now _ c.in_ok-network.network c.in_ok-network.ensures.ok c.in_ok-network.ensures.later _
-    (subst (λ (n : NetworkLists). AnswersFile Queries c.args.queries.now (IsLatestBlock n c.args.limits) (scene mid before) (scene new after) (end_of c.answer_file.result)) c.in-Ok.ensures c.answer_file.ensures)
+    (subst (λ (n : NetworkLists). AnswersFile Queries c.args.queries.now (IsLatestBlock n c.args.limits) (scene mid before) (scene new after) (end_of c.answer_file.result)) c.in_ok-backwards.ensures c.answer_file.ensures)

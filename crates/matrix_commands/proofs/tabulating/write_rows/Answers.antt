@@ -1,4 +1,5 @@
 use Rattle.std.proofs.Common.{◌∙◌, List, ℕ, Bor, map, ap, subst}
+use Rattle.std.proofs.lemmas.Result.{err_from_is_err_and}
 use Rattle.mode_network.specs.NetworkLists.{NetworkLists}
 use Rattle.run_steps.specs.declared.outcome.FileRole.TheVariants.{Origins}
 use Rattle.run_steps.specs.declared.outcome.Outcome.TheVariants.{Done}
@@ -10,14 +11,20 @@ use Rattle.run_steps.proofs.PieceLemmas.{stops_early}
 use Rattle.matrix_commands.specs.Rows.{AreRowsOf}
 use Rattle.matrix_commands.proofs.tabulating.write_rows.Goals as goal
 
-pub returns-in_default : goal.returns-in_default
-returns-in_default g c = stops_early Origins _ _ (λ bytes. Ends Done) _ _
+pub returns-in_err-lines : goal.returns-in_err-lines
+returns-in_err-lines g c =
+    let p = err_from_is_err_and c.from_residual.result c.from_residual.ensures.1 in
+    rw (p.1, p.2) (stops_early Origins _ _ (λ bytes. Ends Done) _ _)
 
-pub returns-in_default-read_ends : goal.returns-in_default-read_ends
-returns-in_default-read_ends g c = stops_early Origins _ _ (λ bytes. Ends Done) _ _
+pub returns-in_err-queries : goal.returns-in_err-queries
+returns-in_err-queries g c =
+    let p = err_from_is_err_and c.from_residual-in_err-queries.result c.from_residual-in_err-queries.ensures.1 in
+    rw (p.1, p.2) (stops_early Origins _ _ (λ bytes. Ends Done) _ _)
 
-pub returns-in_default-new : goal.returns-in_default-new
-returns-in_default-new g c = stops_early Origins _ _ (λ bytes. Ends Done) _ _
+pub returns-in_err-destinations : goal.returns-in_err-destinations
+returns-in_err-destinations g c =
+    let p = err_from_is_err_and c.from_residual-in_err-destinations.result c.from_residual-in_err-destinations.ensures.1 in
+    rw (p.1, p.2) (stops_early Origins _ _ (λ bytes. Ends Done) _ _)
 
 pub returns : goal.returns
 returns g c =
@@ -25,6 +32,6 @@ returns g c =
     let old = scene (g.F.Shelf.meaning c.args.ports.now.shelf) (g.O.Sink.meaning c.args.ports.now.out) in
     let new = scene (g.F.Shelf.meaning c.answer_file.new.ports.shelf) (g.O.Sink.meaning c.answer_file.new.ports.out) in
     let said = λ (n : NetworkLists) (lines : List (List ℕ)). AnswersFile Origins c.args.origins.now (AreRowsOf n it.places lines it.date.now it.time.now it.expr.now) old new (end_of c.answer_file.result) in
-    let lines = ap (map (λ (x : Bor (List ℕ)). x.now)) c.deref-3.ensures.value ∙ c.in-Ok.ensures in
-    subst (λ (n : NetworkLists). said n (query_lines c.args.bytes.now)) c.in-Ok-new.ensures.network
-    (subst (λ (ls : List (List ℕ)). said c.in-Ok-new.destinations.network.now ls) lines c.answer_file.ensures)
+    let lines = ap (map (λ (x : Bor (List ℕ)). x.now)) c.deref-3.ensures.value ∙ c.in_ok-lines.ensures in
+    subst (λ (n : NetworkLists). said n (query_lines c.args.bytes.now)) c.in_ok-destinations.ensures.network
+    (subst (λ (ls : List (List ℕ)). said c.in_ok-destinations.destinations.network.now ls) lines c.answer_file.ensures)

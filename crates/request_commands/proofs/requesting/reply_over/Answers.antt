@@ -1,4 +1,5 @@
 use Rattle.std.proofs.Common.{Bor}
+use Rattle.std.proofs.lemmas.Result.{err_from_is_err_and}
 use Rattle.std.specs.Prelude.{option_map}
 use Rattle.hierarchy.specs.declared.hierarchy.Hierarchy.{Hierarchy}
 use Rattle.run_steps.specs.declared.outcome.FileRole.TheVariants.{Requests}
@@ -8,12 +9,14 @@ use Rattle.run_steps.proofs.PieceLemmas.{stops_early}
 use Rattle.request_commands.specs.Requests.{IsReply}
 use Rattle.request_commands.proofs.requesting.reply_over.Goals as goal
 
-pub returns-in_default : goal.returns-in_default
-returns-in_default g c =
-    stops_early Requests c.args.path.now (IsReply c.args.network.now (option_map (λ (x : Bor Hierarchy). x.now) c.args.hierarchy) c.args.limits) (λ bytes. Ends Done)
-    (g.F.Shelf.meaning c.args.ports.now.shelf) (g.O.Sink.meaning c.args.ports.now.out)
+pub returns-in_err-backwards : goal.returns-in_err-backwards
+returns-in_err-backwards g c =
+    let p = err_from_is_err_and c.from_residual.result c.from_residual.ensures.1 in
+    rw (p.1, p.2) (stops_early Requests c.args.path.now (IsReply c.args.network.now (option_map (λ (x : Bor Hierarchy). x.now) c.args.hierarchy) c.args.limits) (λ bytes. Ends Done)
+    (g.F.Shelf.meaning c.args.ports.now.shelf) (g.O.Sink.meaning c.args.ports.now.out))
 
-pub returns-in_default-new : goal.returns-in_default-new
-returns-in_default-new g c =
-    stops_early Requests c.args.path.now (IsReply c.args.network.now (option_map (λ (x : Bor Hierarchy). x.now) c.args.hierarchy) c.args.limits) (λ bytes. Ends Done)
-    (g.F.Shelf.meaning c.args.ports.now.shelf) (g.O.Sink.meaning c.args.ports.now.out)
+pub returns-in_err-least : goal.returns-in_err-least
+returns-in_err-least g c =
+    let p = err_from_is_err_and c.from_residual-in_err-least.result c.from_residual-in_err-least.ensures.1 in
+    rw (p.1, p.2) (stops_early Requests c.args.path.now (IsReply c.args.network.now (option_map (λ (x : Bor Hierarchy). x.now) c.args.hierarchy) c.args.limits) (λ bytes. Ends Done)
+    (g.F.Shelf.meaning c.args.ports.now.shelf) (g.O.Sink.meaning c.args.ports.now.out))

@@ -1,6 +1,7 @@
 use Rattle.std.proofs.Common.{sym, subst}
+use Rattle.std.proofs.lemmas.Result.{IfOk-weaker}
 use Rattle.sample_city.specs.SampleCity.{IsSampleCity}
 use Rattle.sample_command.proofs.city.city_read_back.Goals as goal
 
 pub returns : goal.returns
-returns c = subst (IsSampleCity c.args.n) (sym c.in_ok-again.ensures) c.in_ok-city.ensures.city
+returns c = IfOk-weaker c.read_back.result _ _ (λ again is. subst (IsSampleCity c.args.n) (sym is) c.in_ok-city.ensures.city) c.read_back.ensures

@@ -1,4 +1,5 @@
 use Rattle.std.proofs.Common.{arith}
+use Rattle.std.proofs.lemmas.Result.{IfOk-weaker}
 use Rattle.sample_command.specs.Queries.{sampled_queries}
 use Rattle.sample_command.proofs.TimeLaws.{same_times}
 use Rattle.sample_command.proofs.summary.summary_of.Goals as goal
@@ -13,7 +14,7 @@ returns g c =
     let city = c.args.city.now in
     let plain = c.in_ok-plain.plain.items in
     let over = c.in_ok-over.over.items in
-    record {
+    IfOk-weaker c.text_of.result _ _ (λ text is. record {
       city = city;
       rules = c.known.ensures;
       is = c.requires.city;
@@ -23,5 +24,5 @@ returns g c =
       same = same_times city (sampled_queries c.args.n) over plain c.in_ok-over.ensures.times c.in_ok-plain.ensures.times;
       settled = c.in_ok-over.settled;
       labels = c.in_ok-over.ensures.labels;
-      text = rw (← c.deref.ensures.value, ← c.deref-2.ensures.value) c.in_ok-text.ensures;
-    }
+      text = rw (← c.deref.ensures.value, ← c.deref-2.ensures.value) is;
+    }) c.text_of.ensures

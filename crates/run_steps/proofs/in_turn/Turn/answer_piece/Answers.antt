@@ -1,7 +1,6 @@
 use Rattle.std.proofs.Common.{◌≡◌, ℕ, ◌+◌, ◌∙◌, List, ◌∷◌, ◌++◌, append_assoc, ap, sym, subst, arith}
 use Rattle.std.proofs.lemmas.List.Elements.{All-nil}
 use Rattle.std.proofs.lemmas.Result.{err_from_is_err_and, IfErr-weaker}
-use Rattle.plain_texts.specs.Lines.{IsLine}
 use Rattle.run_steps.specs.inside.TurnCauses.{AreAnswered, IsBegun}
 use Rattle.run_steps.proofs.LineLemmas.{line_join}
 use Rattle.run_steps.proofs.TurnLemmas.{answered_twice, keep_fails, line_answered, line_fails, none_answered, piece_fails}

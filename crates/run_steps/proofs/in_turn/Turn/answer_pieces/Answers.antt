@@ -1,4 +1,4 @@
-use Rattle.std.proofs.Common.{◌≡◌, ℕ, ◌+◌, ◌<◌, ◌≤◌, ◌++◌, length, take, length-take-le, sym, subst, arith, rules}
+use Rattle.std.proofs.Common.{ℕ, ◌+◌, ◌≤◌, ◌++◌, length, take, length-take-le, sym, subst, arith, rules}
 use Rattle.run_steps.specs.Scene.{scene}
 use Rattle.run_steps.specs.inside.TurnCauses.{AreAnswered, IsPieceOutcome}
 use Rattle.run_steps.proofs.PieceLemmas.{IsGoingOn, going_on, going_stops}
