@@ -1,11 +1,8 @@
 //! The command `certify`: a certificate for a query line.
 
-ghost use Rattle.std.specs.Prelude.{◌≢◌, IfOk, IfSome, option_map};
+ghost use Rattle.std.specs.Prelude.{IfOk, IfSome, option_map};
 ghost use Rattle.plain_texts.specs.Lines.{IsLine};
 ghost use Rattle.hierarchy.specs.Soundness.{IsSound};
-ghost use Rattle.journey.specs.declared.answer.BlockBody.TheVariants.{Refused};
-ghost use Rattle.journey.specs.declared.fault.QueryFault.TheVariants.{OutOfMemory};
-ghost use Rattle.journey.specs.Blocks.{IsBlockText};
 ghost use Rattle.planning.specs.Plans.{IsRead};
 ghost use Rattle.plan_base.specs.Shelves.{ShelfMeaning};
 ghost use Rattle.run_steps.specs.Scene.{scene};
@@ -16,7 +13,7 @@ ghost use Rattle.answer_commands.specs.Outputs.{IsCertified, IsCertifiedWithin};
 use crate::reading::read_both;
 use certificate::{Certificate, print};
 use hierarchy::Hierarchy;
-use journey::{BlockBody, Query, QueryFault, block, large_block, read_query, stopped_block};
+use journey::{Query, large_block, read_query, refused_block, stopped_block};
 use mode_network::Network;
 use plan_base::{Caps, Shelf, Sink};
 use planning::{FoundPlan, Room, find_plan_within};
@@ -105,23 +102,7 @@ pub fn certified_within(
 {
     match read_query(alloc, network, line) {
         Ok(query) => certificate_text(alloc, room, network, hierarchy, limit, query),
-        Err(fault) => refused(alloc, network, line, fault),
-    }
-}
-
-/// The block of a line that is refused with this fault. A line that was not read, for want of memory, has none.
-fn refused(
-    alloc: Global,
-    network: &Network,
-    line: &[u8],
-    fault: QueryFault,
-) -> Result<Vec<u8>, AllocError>
-    ensures { IfOk result (λ text. (fault ≢ OutOfMemory) × IsBlockText network.now line.now (Refused fault)
-        text.items) }
-{
-    match fault {
-        QueryFault::OutOfMemory => Err(AllocError),
-        _ => block(alloc, network, line, &BlockBody::Refused(fault)),
+        Err(fault) => refused_block(alloc, network, line, fault),
     }
 }
 

@@ -1,11 +1,8 @@
 //! The command `certify-latest`: a certificate of the latest departure for a query line.
 
-ghost use Rattle.std.specs.Prelude.{◌≡◌, ◌≢◌, ◌<◌, ◌^◌, IfOk};
+ghost use Rattle.std.specs.Prelude.{◌≡◌, ◌<◌, ◌^◌, IfOk};
 ghost use Rattle.plain_texts.specs.Lines.{IsLine};
 ghost use Rattle.mode_expression.specs.Form.{form_of, IsUsable};
-ghost use Rattle.journey.specs.declared.answer.BlockBody.TheVariants.{Refused};
-ghost use Rattle.journey.specs.declared.fault.QueryFault.TheVariants.{OutOfMemory};
-ghost use Rattle.journey.specs.Blocks.{IsBlockText};
 ghost use Rattle.journey.specs.Queries.{IsQuery};
 ghost use Rattle.plan_base.specs.Shelves.{ShelfMeaning};
 ghost use Rattle.run_steps.specs.Scene.{scene};
@@ -13,7 +10,7 @@ ghost use Rattle.run_steps.specs.Sayings.{WritesText, end_of};
 ghost use Rattle.late_commands.specs.Outputs.{IsLateCertified, IsLateCertifiedWithin};
 ghost use Rattle.late_commands.specs.Commands.{SaysCertifyLatest};
 
-use journey::{BlockBody, Query, QueryFault, block, large_block, read_query, stopped_block};
+use journey::{Query, large_block, read_query, refused_block, stopped_block};
 use late_certificate::{certify_late_within, print_late};
 use latest_departure::{Backwards, LateRoom};
 use mode_network::Network;
@@ -86,23 +83,7 @@ pub fn certified_late_within(
     let network = backwards.network();
     match read_query(alloc, network, line) {
         Ok(query) => certificate_text(alloc, room, backwards, limit, line, query),
-        Err(fault) => refused(alloc, network, line, fault),
-    }
-}
-
-/// The block of a line that is refused with this fault. A line that was not read, for want of memory, has none.
-fn refused(
-    alloc: Global,
-    network: &Network,
-    line: &[u8],
-    fault: QueryFault,
-) -> Result<Vec<u8>, AllocError>
-    ensures { IfOk result (λ text. (fault ≢ OutOfMemory) × IsBlockText network.now line.now (Refused fault)
-        text.items) }
-{
-    match fault {
-        QueryFault::OutOfMemory => Err(AllocError),
-        _ => block(alloc, network, line, &BlockBody::Refused(fault)),
+        Err(fault) => refused_block(alloc, network, line, fault),
     }
 }
 
