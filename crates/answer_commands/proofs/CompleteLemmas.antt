@@ -26,7 +26,7 @@ use Rattle.answer_commands.specs.Complete.{SpellsValid, AnswerCompletes, Certify
 spells : (n : NetworkLists) (h : Option HierarchyLists) (bytes : List ℕ) → SpellsValid n h bytes → (line : ℕ) → HasCause bytes (BadLine line) → ⊥
 spells n h bytes (claim, text, valid) line bad = let good = again bytes claim text in let named = bad_line_is bytes line bad in cc
 
-same_claim : (bytes : List ℕ) (a b : Claim) → IsCertText bytes a → IsCertText bytes b → a ≡ b
+pub same_claim : (bytes : List ℕ) (a b : Claim) → IsCertText bytes a → IsCertText bytes b → a ≡ b
 same_claim bytes a b p q = let x = again bytes a p in let y = again bytes b q in cc
 
 holds : (n : NetworkLists) → IsNetwork n → (h : Option HierarchyLists) → IsSoundIfGiven n h → (bytes : List ℕ) → SpellsValid n h bytes

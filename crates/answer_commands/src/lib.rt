@@ -11,4 +11,4 @@ pub use answering::answer;
 pub use certifying::{certified_within, certify};
 pub use laws::{answer_completes, certify_completes, verify_completes};
 pub use reading::read_both;
-pub use verifying::verify;
+pub use verifying::{BestCertificates, verified, verify};

@@ -1,6 +1,9 @@
 //! The command `verify`: what a certificate shows.
 
 ghost use Rattle.std.specs.Prelude.{◌≡◌, IfOk, IfErr, IfSome, option_map};
+ghost use Rattle.certificate.specs.Texts.{IsCertText};
+ghost use Rattle.certificate.specs.Valid.{IsValid, Proves};
+ghost use Rattle.run_steps.specs.CertificateCauses.{IsUnverified};
 ghost use Rattle.run_steps.specs.Certificates.{SaysVerified};
 ghost use Rattle.hierarchy.specs.Soundness.{IsSound};
 ghost use Rattle.journey.specs.Blocks.{IsBlockText, IsPrintableBody};
@@ -21,9 +24,9 @@ use std::alloc::{AllocError, Global};
 
 /// Certificates of earliest arrival, whose labels are over a hierarchy, if there is one.
 #[derive(Drop)]
-struct BestCertificates<'a> {
-    network: &'a Network,
-    hierarchy: Option<&'a Hierarchy>,
+pub struct BestCertificates<'a> {
+    pub network: &'a Network,
+    pub hierarchy: Option<&'a Hierarchy>,
 }
 
 impl Certificates for BestCertificates<'_> {
@@ -37,22 +40,9 @@ impl Certificates for BestCertificates<'_> {
 
     fn shown(&self, alloc: Global, bytes: &[u8]) -> Result<Vec<u8>, Outcome> {
         self.network.known();
-        let certificate = match read(alloc, bytes) {
-            Ok(certificate) => certificate,
-            Err(CertFault::BadLine { line }) => return Err(Outcome::BadCertificate { line }),
-            Err(CertFault::OutOfMemory) => return Err(Outcome::OutOfMemory),
-        };
-        match certificate::verify(alloc, self.network, self.hierarchy, &certificate) {
-            Ok(CertVerdict::Valid) => {}
-            Ok(CertVerdict::Invalid { clause, at }) => {
-                return Err(Outcome::Invalid { clause, at });
-            }
-            Err(_) => return Err(Outcome::OutOfMemory),
-        }
-        match claimed_block(alloc, self.network, certificate) {
-            Ok(block) => Ok(block),
-            Err(_) => Err(Outcome::OutOfMemory),
-        }
+        let certificate = verified(alloc, self.network, self.hierarchy, bytes)?;
+        let block = claimed_block(alloc, self.network, certificate)?;
+        Ok(block)
     }
 
     fn invalid(
@@ -63,6 +53,36 @@ impl Certificates for BestCertificates<'_> {
         at: u64,
     ) -> Result<String, AllocError> {
         invalid_certificate(alloc, path, clause, at)
+    }
+}
+
+/// The certificate that bytes spell, which is valid, over the hierarchy, if there is one.
+///
+/// # Errors
+///
+/// `BadCertificate` where the bytes are no text of a certificate, `Invalid` where they are that of one which is not valid,
+/// and `OutOfMemory`.
+pub fn verified(
+    alloc: Global,
+    network: &Network,
+    hierarchy: Option<&Hierarchy>,
+    bytes: &[u8],
+) -> Result<Certificate, Outcome>
+    requires { IfSome hierarchy (λ h. IsSound network.now h.now) }
+    ensures text { IfOk result (IsCertText bytes.now) }
+    ensures valid { IfOk result (IsValid network.now (option_map (λ h. h.now) hierarchy.entry)) }
+    ensures proves { IfOk result (Proves network.now) }
+    ensures err { IfErr result (IsUnverified
+        (best_certificates network.now (option_map (λ h. h.now) hierarchy.entry)) bytes.now) }
+{
+    let certificate = match read(alloc, bytes) {
+        Ok(certificate) => certificate,
+        Err(CertFault::BadLine { line }) => return Err(Outcome::BadCertificate { line }),
+        Err(CertFault::OutOfMemory) => return Err(Outcome::OutOfMemory),
+    };
+    match certificate::verify(alloc, network, hierarchy, &certificate)? {
+        CertVerdict::Valid => Ok(certificate),
+        CertVerdict::Invalid { clause, at } => Err(Outcome::Invalid { clause, at }),
     }
 }
 

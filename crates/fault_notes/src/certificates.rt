@@ -52,7 +52,26 @@ pub fn invalid_certificate(
     clause: u8,
     at: u64,
 ) -> Result<String, AllocError> {
-    let rule = rule_of(clause);
+    not_valid(alloc, path, clause, at, rule_of(clause))
+}
+
+/// The clause that is the first to fail for the late certificate file of this path, and where it fails.
+pub fn invalid_late_certificate(
+    alloc: Global,
+    path: &str,
+    clause: u8,
+    at: u64,
+) -> Result<String, AllocError> {
+    not_valid(alloc, path, clause, at, late_rule_of(clause))
+}
+
+fn not_valid(
+    alloc: Global,
+    path: &str,
+    clause: u8,
+    at: u64,
+    rule: &str,
+) -> Result<String, AllocError> {
     format!(in alloc; "{path}: the certificate is not valid: clause {clause} fails at {at}: {rule}")
 }
 
@@ -69,5 +88,20 @@ fn rule_of(clause: u8) -> &'static str {
         7 => "each start must be labelled with the departure",
         8 => "no label may stand at the destination in an accepting state",
         _ => "no arc may lead from a label on to a state that is not labelled as early",
+    }
+}
+
+/// What a clause of late certificates asks for.
+fn late_rule_of(clause: u8) -> &'static str {
+    match clause {
+        1 => "its query line must be one that this region answers",
+        3 => "it must start at a copy of the origin, on the region's first date or later",
+        4 => "each step must be one of the network",
+        5 =>
+            "it must end at a copy of the destination, arrive by the deadline, and have a word that the expression denotes",
+        6 => "its labels must ascend, be in range, and be later than the departure",
+        7 => "each end must be labelled with the deadline",
+        8 => "no label may stand at the origin in a state in which a journey starts",
+        _ => "no arc may lead to a label from a state that is not labelled as late",
     }
 }

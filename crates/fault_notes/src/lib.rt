@@ -9,7 +9,7 @@ mod maps;
 mod pieces;
 mod regions;
 
-pub use certificates::{bad_certificate, invalid_certificate};
+pub use certificates::{bad_certificate, invalid_certificate, invalid_late_certificate};
 pub use feeds::{bad_build, bad_feed};
 pub use hierarchies::bad_hierarchy;
 pub use maps::bad_map;

@@ -30,6 +30,7 @@ use Rattle.certificate.specs.Valid.{IsBestResult}
 use Rattle.certificate.proofs.ReadLaws.{again, bad_line_is}
 use Rattle.certificate.proofs.UniqueLemmas.{verdict_is_unique}
 use Rattle.certificate.proofs.VerifyLemmas.{valid_proves}
+use Rattle.answer_commands.proofs.CompleteLemmas.{same_claim}
 use Rattle.journey_book.specs.Books.{Book, AreNamesOf}
 use Rattle.journey_book.specs.Keepers.{KeeperMeaning, Tells}
 use Rattle.journey_book.specs.Laws.{HoldsOfOneText, IsFixedEnd, ReportsAreFixed, StartsAt, ValidIsSame}
@@ -54,9 +55,6 @@ names_once book one other a b =
 -- one text is right for a certificate
 abbrev pub IsExact : ClaimRule → Type 0
 IsExact AreRight = (claim : Claim) → HoldsOfOneText (AreRight claim)
-
-pub same_claim : (bytes : List ℕ) (a b : Claim) → IsCertText bytes a → IsCertText bytes b → a ≡ b
-same_claim bytes a b p q = let x = again bytes a p in let y = again bytes b q in cc
 
 not_bad : (bytes : List ℕ) (c : Claim) (line : ℕ) → IsCertText bytes c → HasCause bytes (BadLine line) → ⊥
 not_bad bytes c line text bad = let good = again bytes c text in let named = bad_line_is bytes line bad in cc

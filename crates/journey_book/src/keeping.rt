@@ -1,6 +1,6 @@
 //! The commands `keep` and `drop`, which change the book.
 
-ghost use Rattle.std.specs.Prelude.{◌≡◌, IfErr, IfOk, IfSome, OnOk, option_map};
+ghost use Rattle.std.specs.Prelude.{◌≡◌, IfErr, IfOk, IfSome, option_map};
 ghost use Rattle.plan_base.specs.Sinks.{SinkMeaning};
 ghost use Rattle.plan_base.specs.Shelves.{ShelfMeaning};
 ghost use Rattle.hierarchy.specs.Soundness.{IsSound};
@@ -13,13 +13,11 @@ ghost use Rattle.journey_book.specs.Sayings.{Changes, HasValid, IsCertificateOut
 use crate::keeper::Keeper;
 use crate::outcome::BookOutcome;
 use crate::steps::outcome_of_keeper;
-use answer_commands::read_both;
-use certificate::{CertFault, CertVerdict, read, verify};
-use fault_notes::{bad_certificate, invalid_certificate};
+use answer_commands::{BestCertificates, read_both, verified};
 use hierarchy::Hierarchy;
 use mode_network::Network;
 use plan_base::{Caps, Shelf, Sink};
-use run_steps::{FileRole, Outcome, Ports, read_file, tell};
+use run_steps::{FileRole, Outcome, Ports, read_file, tell_unverified};
 use std::alloc::Global;
 
 /// What is to be kept: the certificate of a file, under a name, where it is valid in the region of a file, over the
@@ -117,49 +115,13 @@ fn read_valid<F: Shelf, E: Sink>(
 {
     let bytes = read_file(alloc, shelf, path, FileRole::Certificate, notes)?;
     let text = bytes.as_slice();
-    match check_valid(alloc, network, hierarchy, text) {
-        Ok(()) => Ok(bytes),
+    match verified(alloc, network, hierarchy, text) {
+        Ok(_) => Ok(bytes),
         Err(outcome) => {
-            tell_why(alloc, path, text, outcome, notes);
+            let best = BestCertificates { network, hierarchy };
+            tell_unverified(alloc, &best, path, text, outcome, notes);
             Err(outcome)
         }
-    }
-}
-
-/// Checks that bytes spell a certificate that is valid.
-fn check_valid(
-    alloc: Global,
-    network: &Network,
-    hierarchy: Option<&Hierarchy>,
-    bytes: &[u8],
-) -> Result<(), Outcome>
-    requires { IfSome hierarchy (λ h. IsSound network.now h.now) }
-    ensures ok { OnOk result (SpellsValid network.now (option_map (λ h. h.now) hierarchy.entry) bytes.now) }
-    ensures err { IfErr result (IsUnverified
-        (best_certificates network.now (option_map (λ h. h.now) hierarchy.entry)) bytes.now) }
-{
-    let certificate = match read(alloc, bytes) {
-        Ok(certificate) => certificate,
-        Err(CertFault::BadLine { line }) => return Err(Outcome::BadCertificate { line }),
-        Err(CertFault::OutOfMemory) => return Err(Outcome::OutOfMemory),
-    };
-    match verify(alloc, network, hierarchy, &certificate) {
-        Ok(CertVerdict::Valid) => Ok(()),
-        Ok(CertVerdict::Invalid { clause, at }) => Err(Outcome::Invalid { clause, at }),
-        Err(_) => Err(Outcome::OutOfMemory),
-    }
-}
-
-/// Tells why bytes spell no valid certificate.
-fn tell_why<E: Sink>(alloc: Global, path: &str, bytes: &[u8], outcome: Outcome, notes: &mut E) {
-    match outcome {
-        Outcome::BadCertificate { line } => {
-            tell(alloc, notes, bad_certificate(alloc, path, bytes, line));
-        }
-        Outcome::Invalid { clause, at } => {
-            tell(alloc, notes, invalid_certificate(alloc, path, clause, at));
-        }
-        _ => {}
     }
 }
 

@@ -7,6 +7,7 @@ ghost use Rattle.run_steps.specs.Scene.{scene};
 ghost use Rattle.run_steps.specs.Sayings.{end_of};
 ghost use Rattle.late_commands.specs.Commands.{SaysVerifyLatest};
 
+use fault_notes::invalid_late_certificate;
 use late_certificate::{CertFault, CertVerdict, LateCertificate, read_late, verify_late};
 use latest_departure::answer_block;
 use mode_network::Network;
@@ -32,17 +33,12 @@ impl Certificates for LateCertificates<'_> {
             Err(CertFault::BadLine { line }) => return Err(Outcome::BadCertificate { line }),
             Err(CertFault::OutOfMemory) => return Err(Outcome::OutOfMemory),
         };
-        match verify_late(alloc, self.network, &certificate) {
-            Ok(CertVerdict::Valid) => {}
-            Ok(CertVerdict::Invalid { clause, at }) => {
-                return Err(Outcome::Invalid { clause, at });
-            }
-            Err(_) => return Err(Outcome::OutOfMemory),
+        match verify_late(alloc, self.network, &certificate)? {
+            CertVerdict::Valid => {}
+            CertVerdict::Invalid { clause, at } => return Err(Outcome::Invalid { clause, at }),
         }
-        match claimed_block(alloc, self.network, certificate) {
-            Ok(block) => Ok(block),
-            Err(_) => Err(Outcome::OutOfMemory),
-        }
+        let block = claimed_block(alloc, self.network, certificate)?;
+        Ok(block)
     }
 
     fn invalid(
@@ -52,25 +48,7 @@ impl Certificates for LateCertificates<'_> {
         clause: u8,
         at: u64,
     ) -> Result<String, AllocError> {
-        let rule = rule_of(clause);
-        format!(in alloc;
-            "{path}: the certificate is not valid: clause {clause} fails at {at}: {rule}"
-        )
-    }
-}
-
-/// What a clause of late certificates asks for.
-fn rule_of(clause: u8) -> &'static str {
-    match clause {
-        1 => "its query line must be one that this region answers",
-        3 => "it must start at a copy of the origin, on the region's first date or later",
-        4 => "each step must be one of the network",
-        5 =>
-            "it must end at a copy of the destination, arrive by the deadline, and have a word that the expression denotes",
-        6 => "its labels must ascend, be in range, and be later than the departure",
-        7 => "each end must be labelled with the deadline",
-        8 => "no label may stand at the origin in a state in which a journey starts",
-        _ => "no arc may lead to a label from a state that is not labelled as late",
+        invalid_late_certificate(alloc, path, clause, at)
     }
 }
 

@@ -76,7 +76,7 @@ fn verified<C: Certificates, E: Sink>(
     match certificates.shown(alloc, bytes) {
         Ok(block) => Ok(behind_valid(alloc, &block)?),
         Err(outcome) => {
-            tell_why(alloc, certificates, path, bytes, outcome, notes);
+            tell_unverified(alloc, certificates, path, bytes, outcome, notes);
             Err(outcome)
         }
     }
@@ -91,8 +91,8 @@ fn behind_valid(alloc: Global, block: &[u8]) -> Result<Vec<u8>, AllocError>
     Ok(text)
 }
 
-/// Tells why bytes show nothing.
-fn tell_why<C: Certificates, E: Sink>(
+/// Tells why the bytes of the certificate file of this path were not verified, where that is how the run ends.
+pub fn tell_unverified<C: Certificates, E: Sink>(
     alloc: Global,
     certificates: &C,
     path: &str,

@@ -18,7 +18,7 @@ mod tally;
 mod texts;
 
 pub use blocks::LineBlocks;
-pub use certificates::{Certificates, write_verified};
+pub use certificates::{Certificates, tell_unverified, write_verified};
 pub use files::{MOST_BYTES, most_of, read_file, read_file_if_there, read_region, refused};
 pub use in_turn::{answer_file, write_in_turn};
 pub use limits::Limits;

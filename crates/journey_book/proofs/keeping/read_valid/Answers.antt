@@ -11,7 +11,7 @@ pub returns-in-Ok-clause-ok : goal.returns-in-Ok-clause-ok
 returns-in-Ok-clause-ok g c = record {
   file = c.in_ok-bytes.ensures.ok;
   later = c.in_ok-bytes.ensures.later;
-  valid = rw c.as_slice-text.ensures.value at c.in-Ok.ensures.ok;
+  valid = (c.in-Ok.field-0, rw c.as_slice-text.ensures.value at c.in-Ok.ensures.text, c.in-Ok.ensures.valid);
 }
 
 pub returns-in-Err-clause-err : goal.returns-in-Err-clause-err

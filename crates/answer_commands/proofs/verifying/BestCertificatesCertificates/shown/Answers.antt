@@ -1,21 +1,16 @@
-use Rattle.std.proofs.Common.{Bor, subst}
+use Rattle.std.proofs.Common.{Bor}
 use Rattle.std.specs.Prelude.{option_map}
 use Rattle.hierarchy.specs.declared.hierarchy.Hierarchy.{Hierarchy}
-use Rattle.certificate.specs.Verdicts.{IsCertVerdict}
 use Rattle.answer_commands.proofs.BlockLemmas.{valid_printable, shown_block}
 use Rattle.answer_commands.proofs.verifying.BestCertificatesCertificates.shown.Goals as goal
 
 pub claimed_block-requires : goal.claimed_block-requires
 claimed_block-requires c =
-    let n = c.args.self.now.network.now in
     let h = option_map (λ (x : Bor Hierarchy). x.now) c.args.self.now.hierarchy in
-    let claim = c.in-Ok.certificate in
-    valid_printable n c.known.ensures h c.args.bytes.now claim c.in-Ok.ensures.found (subst (IsCertVerdict n h claim) c.in-Ok-Valid.field-0-is c.in-Ok-Valid.ensures.verdict)
+    valid_printable c.args.self.now.network.now c.known.ensures h c.args.bytes.now c.in_ok-certificate.certificate c.in_ok-certificate.ensures.text c.in_ok-certificate.ensures.valid
 
-pub returns-in-Ok-claimed_block-clause-ok : goal.returns-in-Ok-claimed_block-clause-ok
-returns-in-Ok-claimed_block-clause-ok c =
-    let n = c.args.self.now.network.now in
+pub returns-clause-ok : goal.returns-clause-ok
+returns-clause-ok c =
     let h = option_map (λ (x : Bor Hierarchy). x.now) c.args.self.now.hierarchy in
-    let claim = c.in-Ok.certificate in
-    shown_block n h c.args.bytes.now claim c.in-Ok-claimed_block.block.items c.in-Ok.ensures.found
-    (subst (IsCertVerdict n h claim) c.in-Ok-Valid.field-0-is c.in-Ok-Valid.ensures.verdict) (c.in-Ok-Valid.ensures.proves c.in-Ok-Valid.field-0-is) c.in-Ok-claimed_block.ensures
+    let shown = c.in_ok-certificate.ensures in
+    shown_block c.args.self.now.network.now h c.args.bytes.now c.in_ok-certificate.certificate c.in_ok-block.block.items shown.text shown.valid shown.proves c.in_ok-block.ensures

@@ -7,11 +7,11 @@ pub claimed_block-requires : goal.claimed_block-requires
 claimed_block-requires c =
     let n = c.args.self.now.network.now in
     let claim = c.in-Ok.certificate in
-    valid_printable n c.known.ensures c.args.bytes.now claim c.in-Ok.ensures.found (subst (IsLateVerdict n claim) c.in-Ok-Valid.field-0-is c.in-Ok-Valid.ensures.verdict)
+    valid_printable n c.known.ensures c.args.bytes.now claim c.in-Ok.ensures.found (subst (IsLateVerdict n claim) c.in-Valid.is c.in_ok-verify_late.ensures.verdict)
 
-pub returns-in-Ok-claimed_block-clause-ok : goal.returns-in-Ok-claimed_block-clause-ok
-returns-in-Ok-claimed_block-clause-ok c =
+pub returns-clause-ok : goal.returns-clause-ok
+returns-clause-ok c =
     let n = c.args.self.now.network.now in
     let claim = c.in-Ok.certificate in
-    shown_block n c.args.bytes.now claim c.in-Ok-claimed_block.block.items c.in-Ok.ensures.found
-    (subst (IsLateVerdict n claim) c.in-Ok-Valid.field-0-is c.in-Ok-Valid.ensures.verdict) (c.in-Ok-Valid.ensures.proves c.in-Ok-Valid.field-0-is) c.in-Ok-claimed_block.ensures
+    shown_block n c.args.bytes.now claim c.in_ok-block.block.items c.in-Ok.ensures.found
+    (subst (IsLateVerdict n claim) c.in-Valid.is c.in_ok-verify_late.ensures.verdict) (c.in_ok-verify_late.ensures.proves c.in-Valid.is) c.in_ok-block.ensures
