@@ -13,6 +13,6 @@ pub returns : goal.returns
 returns c =
     let s = c.in_ok-searched.searched in
     let is = c.in_ok-searched.ensures.is in
-    let arrival = rw (is.starts_are, is.ends_are) at (subst (λ (asked : QuestionMeaning). FindsArrival asked _) c.question.ensures c.in_ok-found.ensures.arrival) in
+    let arrival = rw (is.starts_are, is.ends_are) at (subst (λ (asked : QuestionMeaning). FindsArrival asked c.in_ok-found.found.arrival) c.question.ensures c.in_ok-found.ensures.arrival) in
     best_arrival c.args.network.now c.known.ensures (option_map (λ (x : Bor Hierarchy). x.now) c.args.hierarchy) is.sound is.targets (meaning_in_use s.graph) is.in_use
     (asked_by c.args.query.now) (collapsed (position_meaning s.expressed.made.labels.inner)) is.denotes is.origins is.targets is.origin is.destination (λ v there. there) _ arrival

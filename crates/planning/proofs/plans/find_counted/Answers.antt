@@ -1,5 +1,6 @@
-use Rattle.std.proofs.Common.{Bor, subst}
-use Rattle.std.specs.Prelude.{option_map}
+use Rattle.std.proofs.Common.{◌≤◌, Bor, subst}
+use Rattle.std.specs.Prelude.{IfSome, option_map}
+use Rattle.product_search.specs.Answer.{last_time}
 use Rattle.product_search.specs.Questions.{QuestionMeaning, CountsLabels, FindsArrival, FindsWalk, HasMore}
 use Rattle.automaton.specs.Meanings.{position_meaning}
 use Rattle.hierarchy.specs.declared.hierarchy.Hierarchy.{Hierarchy}
@@ -15,16 +16,16 @@ pub unpacked-requires : goal.unpacked-requires
 unpacked-requires c =
     let s = c.in_ok-searched.searched in
     let h = option_map (λ (x : Bor Hierarchy). x.now) c.args.hierarchy in
-    let walk = subst (λ (asked : QuestionMeaning). FindsWalk asked _ _) c.question.ensures (rw c.in-Ended.is at c.in_ok-found.ensures.walk) in
+    let walk = subst (λ (asked : QuestionMeaning). FindsWalk asked c.in-Ended.found.arrival c.in-Ended.found.walk) c.question.ensures (rw c.in-Ended.is at c.in_ok-found.ensures.walk) in
     walk_is_of c.args.network.now c.known.ensures h c.args.query.now (meaning_in_use s.graph) (position_meaning s.expressed.made.labels.inner) s.starts.items s.ends.items c.in_ok-searched.ensures.is _ _ walk
 
 pub returns-clause-journey : goal.returns-clause-journey
 returns-clause-journey c =
     let s = c.in_ok-searched.searched in
     let h = option_map (λ (x : Bor Hierarchy). x.now) c.args.hierarchy in
-    let walk = subst (λ (asked : QuestionMeaning). FindsWalk asked _ _) c.question.ensures (rw c.in-Ended.is at c.in_ok-found.ensures.walk) in
-    let arrival = subst (λ (asked : QuestionMeaning). FindsArrival asked _) c.question.ensures (rw c.in-Ended.is at c.in_ok-found.ensures.arrival) in
-    let time = rw c.in-Ended.is at c.in_ok-found.ensures.time in
+    let walk = subst (λ (asked : QuestionMeaning). FindsWalk asked c.in-Ended.found.arrival c.in-Ended.found.walk) c.question.ensures (rw c.in-Ended.is at c.in_ok-found.ensures.walk) in
+    let arrival = subst (λ (asked : QuestionMeaning). FindsArrival asked c.in-Ended.found.arrival) c.question.ensures (rw c.in-Ended.is at c.in_ok-found.ensures.arrival) in
+    let time = subst (λ (asked : QuestionMeaning). IfSome c.in-Ended.found.arrival (λ t. t ≤ last_time asked.dep)) c.question.ensures (rw c.in-Ended.is at c.in_ok-found.ensures.time) in
     let under = rw (c.in_ok-searched.ensures.network, c.in_ok-searched.ensures.hierarchy) at c.in_ok-journey.ensures in
     plan_for c.args.network.now c.known.ensures h c.args.query.now (meaning_in_use s.graph) (position_meaning s.expressed.made.labels.inner) s.starts.items s.ends.items c.in_ok-searched.ensures.is
     _ _ _ arrival walk c.requires.read.soon time under
@@ -38,8 +39,8 @@ returns-clause-labels c =
     let is = c.in_ok-searched.ensures.is in
     let g = meaning_in_use s.graph in
     let l = position_meaning s.expressed.made.labels.inner in
-    let counted = rw is.starts_are at (subst (λ (asked : QuestionMeaning). CountsLabels asked _ _) c.question.ensures (rw c.in-Ended.is at c.in_ok-found.ensures.labels)) in
-    let first = rw (is.starts_are, is.ends_are) at (subst (λ (asked : QuestionMeaning). FindsArrival asked _) c.question.ensures (rw c.in-Ended.is at c.in_ok-found.ensures.arrival)) in (
+    let counted = rw is.starts_are at (subst (λ (asked : QuestionMeaning). CountsLabels asked c.in-Ended.found.arrival c.in-Ended.found.labels) c.question.ensures (rw c.in-Ended.is at c.in_ok-found.ensures.labels)) in
+    let first = rw (is.starts_are, is.ends_are) at (subst (λ (asked : QuestionMeaning). FindsArrival asked c.in-Ended.found.arrival) c.question.ensures (rw c.in-Ended.is at c.in_ok-found.ensures.arrival)) in (
       counted.0,
       record {
         automaton = l;

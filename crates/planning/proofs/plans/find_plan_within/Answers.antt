@@ -1,6 +1,7 @@
-use Rattle.std.proofs.Common.{ℕ, Option, Bor, refl, sym, subst, arith}
+use Rattle.std.proofs.Common.{ℕ, Option, Bor, refl, sym, ap, subst, arith}
 use Rattle.std.specs.Prelude.{option_map}
 use Rattle.product_search.specs.Questions.{QuestionMeaning, FindsArrival, FindsWalk, HasMore, ListsClosed, ListsLabels}
+use Rattle.product_search.specs.Answer.{IsByLastTime}
 use Rattle.product_search.specs.Closed.{IsClosed}
 use Rattle.automaton.specs.Collapsed.{collapsed}
 use Rattle.automaton.specs.Meanings.{position_meaning}
@@ -20,7 +21,7 @@ pub unpacked-requires : goal.unpacked-requires
 unpacked-requires c =
     let s = c.in_ok-searched.searched in
     let h = option_map (λ (x : Bor Hierarchy). x.now) c.args.hierarchy in
-    let walk = subst (λ (asked : QuestionMeaning). FindsWalk asked _ _) c.question.ensures (rw c.in-Ended.is at c.in_ok-found.ensures.walk) in
+    let walk = subst (λ (asked : QuestionMeaning). FindsWalk asked c.in-Ended.found.arrival c.in-Ended.found.walk) c.question.ensures (rw c.in-Ended.is at c.in_ok-found.ensures.walk) in
     walk_is_of c.args.network.now c.known.ensures h c.args.query.now (meaning_in_use s.graph) (position_meaning s.expressed.made.labels.inner) s.starts.items s.ends.items c.in_ok-searched.ensures.is _ _ walk
 
 pub returns : goal.returns
@@ -33,12 +34,13 @@ returns c =
     let g = meaning_in_use s.graph in
     let l = position_meaning s.expressed.made.labels.inner in
     let listed = c.in-Ended.found.labels.items in
-    let walk = subst (λ (asked : QuestionMeaning). FindsWalk asked _ _) c.question.ensures (rw c.in-Ended.is at c.in_ok-found.ensures.walk) in
-    let arrival = subst (λ (asked : QuestionMeaning). FindsArrival asked _) c.question.ensures (rw c.in-Ended.is at c.in_ok-found.ensures.arrival) in
-    let least = rw is.starts_are at (subst (λ (asked : QuestionMeaning). ListsLabels asked _ _) c.question.ensures (rw c.in-Ended.is at c.in_ok-found.ensures.labels)) in
-    let first = rw (is.starts_are, is.ends_are) at (subst (λ (asked : QuestionMeaning). FindsArrival asked _) c.question.ensures (rw c.in-Ended.is at c.in_ok-found.ensures.arrival)) in
-    let closed = rw (is.starts_are, is.ends_are) at (subst (λ (asked : QuestionMeaning). ListsClosed asked _ _) c.question.ensures ((rw c.in-Ended.is at c.in_ok-found.ensures.closed) refl)) in
-    let times = rw c.in-Ended.is at c.in_ok-found.ensures.times in
+    let walk = subst (λ (asked : QuestionMeaning). FindsWalk asked c.in-Ended.found.arrival c.in-Ended.found.walk) c.question.ensures (rw c.in-Ended.is at c.in_ok-found.ensures.walk) in
+    let arrival = subst (λ (asked : QuestionMeaning). FindsArrival asked c.in-Ended.found.arrival) c.question.ensures (rw c.in-Ended.is at c.in_ok-found.ensures.arrival) in
+    let least = rw is.starts_are at (subst (λ (asked : QuestionMeaning). ListsLabels asked c.in-Ended.found.arrival c.in-Ended.found.labels.items) c.question.ensures (rw c.in-Ended.is at c.in_ok-found.ensures.labels)) in
+    let first = rw (is.starts_are, is.ends_are) at arrival in
+    let closed = rw (is.starts_are, is.ends_are) at (subst (λ (asked : QuestionMeaning). ListsClosed asked c.in-Ended.found.arrival c.in-Ended.found.labels.items) c.question.ensures ((rw c.in-Ended.is at c.in_ok-found.ensures.closed) (ap (λ (asked : QuestionMeaning). asked.bound) c.question.ensures))) in
+    let times : IsByLastTime q.depart c.in-Ended.found =
+    subst (λ (asked : QuestionMeaning). IsByLastTime asked.dep c.in-Ended.found) c.question.ensures (rw c.in-Ended.is at c.in_ok-found.ensures.times) in
     let under = rw (c.in_ok-searched.ensures.network, c.in_ok-searched.ensures.hierarchy) at c.in_ok-journey.ensures in
     let found = found_for n c.known.ensures h q g l s.starts.items s.ends.items is _ _ _ arrival walk c.requires.read.soon times.arrival under in
     let best = sym c.with_arrival-best.ensures in

@@ -12,14 +12,16 @@ use Rattle.planning.proofs.plans.prepared.Goals as goal
 pub take-requires-clause-spelled : goal.take-requires-clause-spelled
 take-requires-clause-spelled c = query_spells c.args.network.now _ _ _ _ _ c.requires.read.asks
 
-pub invariant_of-result-clause-starts_there : goal.invariant_of-result-clause-starts_there
-invariant_of-result-clause-starts_there c =
+pub invariant_of-result : goal.invariant_of-result
+invariant_of-result c =
     let h = option_map (λ (x : Bor Hierarchy). x.now) c.args.hierarchy in
     let g = meaning_in_use c.in_ok-graph.graph in
     let targets = c.in_ok-targets.targets.items in
     let in_use = subst (λ (ts : List ℕ). IsInUse c.args.network.now h ts g) c.deref.ensures.value c.in_ok-graph.ensures.is in
-    subst (All (λ v. v < g.nodes)) (sym (c.in_ok-starts.ensures ∙ ap (starts_in h) c.deref-2.ensures.value))
-    (starts_low c.args.network.now h targets g in_use c.in_ok-origins.origins.items c.in_ok-origins.ensures.nodes)
+    record {
+      starts_there = subst (All (λ v. v < g.nodes)) (sym (c.in_ok-starts.ensures ∙ ap (starts_in h) c.deref-2.ensures.value))
+          (starts_low c.args.network.now h targets g in_use c.in_ok-origins.origins.items c.in_ok-origins.ensures.nodes);
+    }
 
 pub returns-clause-is : goal.returns-clause-is
 returns-clause-is c =
