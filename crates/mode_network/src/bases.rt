@@ -1,6 +1,6 @@
 //! When the days of a region begin, and the timetable over them.
 
-ghost use Rattle.std.specs.Prelude.{◌≡◌, None, IfOk, OnOk, IfErr, length};
+ghost use Rattle.std.specs.Prelude.{◌≡◌, [], None, IfOk, OnOk, IfErr, length};
 ghost use Rattle.timetable_arcs.specs.Table.{AreBases, IsTable};
 ghost use Rattle.timetable_arcs.specs.TripRules.{table_fault, IsFaultOf};
 
@@ -38,4 +38,20 @@ pub(crate) fn timetable(
     let timetable = Timetable::build(alloc, bases, stops, trips, caps)?;
     timetable.known();
     Ok(timetable)
+}
+
+/// The timetable over the days of a region that has no trips.
+pub(crate) fn no_trips(alloc: Global, days: &Days, stops: u32) -> Result<Timetable, AllocError>
+    ensures bases { IfOk result (λ t. t.bases ≡ days.now.bases) }
+    ensures stops { IfOk result (λ t. t.stops ≡ stops) }
+    ensures trips { IfOk result (λ t. t.trips ≡ []) }
+{
+    match timetable(alloc, days, stops, Vec::new(alloc), &Caps::FULL) {
+        Ok(timetable) => Ok(timetable),
+        Err(TableFault::OutOfMemory) => Err(AllocError),
+        Err(TableFault::TimeGoesBack { .. }) => unreachable!(),
+        Err(TableFault::UnknownStop { .. }) => unreachable!(),
+        Err(TableFault::BadTrip { .. }) => unreachable!(),
+        Err(TableFault::TooMany { .. }) => unreachable!(),
+    }
 }

@@ -1,6 +1,6 @@
 //! A network: its lists, and what finds things in them.
 
-ghost use Rattle.std.specs.Prelude.{◌≡◌, ◌<◌, ◌≤◌, ◌^◌, ◌↔◌, ℕ, Some, None, ◌++◌, length, All, IfOk, OnOk, IfErr, slice_get, true};
+ghost use Rattle.std.specs.Prelude.{◌≡◌, ◌<◌, ◌≤◌, ◌^◌, ◌↔◌, ℕ, Some, None, [], ◌++◌, length, All, IfOk, OnOk, IfErr, slice_get, true};
 ghost use Rattle.mode_network.specs.NetworkLists.{nodes_of, mode_at, letter_at, stop_at, stop_node};
 ghost use Rattle.mode_network.specs.Rules.{AreParts, IsNetwork, IsFaultOf, IsAscending, IsRoad, arc_cmp, node_cmp, name_cmp, rank_of, first_fault};
 ghost use Rattle.mode_network.specs.Journeys.{IsDuration};
@@ -10,7 +10,7 @@ ghost use Rattle.timetable_arcs.specs.Table.{IsTable};
 ghost use Rattle.mode_network.specs.Copies.{IsNearestRoad, IsNearestIn, IsNearCopy, IsNearCopyIn, IsRoadCopy, IsCopyIn, IsStopCopy, AreExactly, AreCopies, IsPlaceOf};
 ghost use Rattle.mode_network.specs.Indexes.{range_from, legs_from, IsRange, is_end_of};
 
-use crate::bases::timetable;
+use crate::bases::{no_trips, timetable};
 use crate::endpoints::Endpoint;
 use crate::faults::NetFault;
 use crate::indexes::{NodeRow, Tables};
@@ -24,7 +24,7 @@ use plain_texts::Name;
 use plan_base::{Caps, Mode, Place};
 use search_laws::Leg;
 use service_days::Days;
-use std::alloc::Global;
+use std::alloc::{AllocError, Global};
 use std::marker::Model;
 use timetable_arcs::Timetable;
 
@@ -110,6 +110,14 @@ impl Network {
             linked,
             grid,
         })
+    }
+
+    /// The same network without its trips, whose memory is free again.
+    pub fn without_trips(mut self, alloc: Global) -> Result<Network, AllocError>
+        ensures { IfOk result (λ network. network ≡ record self { trips = [] }) }
+    {
+        self.timetable = no_trips(alloc, &self.days, self.stops.len() as u32)?;
+        Ok(self)
     }
 
     /// Each network keeps the rules.
