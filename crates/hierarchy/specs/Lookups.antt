@@ -1,8 +1,9 @@
 -- What the lists of a hierarchy are asked for.
-use Rattle.std.specs.Prelude.{◌≡◌, ℕ, ◌+◌, ◌<◌, ◌≤◌, nat_lt, Bool, ◌&&◌, ◌==◌, List, length, Some, None, All, AllPairs, Contains, filter, slice_get, slice_index_or, count_by}
+use Rattle.std.specs.Prelude.{◌≡◌, ℕ, ◌+◌, ◌<◌, ◌≤◌, nat_lt, Bool, ◌&&◌, ◌==◌, List, length, map, Some, None, All, AllPairs, Contains, filter, slice_get, slice_index_or, count_by}
 use Rattle.std.specs.List.{range_with_len}
 use Rattle.hierarchy.specs.declared.entry.Entry.{Entry}
-use Rattle.hierarchy.specs.Lists.{WitnessLists, IsAbove, first_of, is_above, last_of}
+use Rattle.hierarchy.specs.declared.falls.Fall.{Fall}
+use Rattle.hierarchy.specs.Lists.{HierarchyLists, WitnessLists, IsAbove, first_of, is_above, last_of}
 use Rattle.hierarchy.specs.Soundness.{HasEntry}
 
 -- the listed entry leads from u to v
@@ -76,3 +77,17 @@ falls_to order x e = is_fall order e && (e.to == x)
 pub record FallsTo (order : List ℕ) (x : ℕ) (e : Entry) : Type 0 where
   pub ends : e.to ≡ x
   pub above : IsAbove order e.from x
+
+-- an entry at a place, as it is kept by its end
+abbrev pub fall_at : List Entry → ℕ → Fall
+fall_at entries place = record { from = (entry_at entries place).from; place = place; weight = (entry_at entries place).weight }
+
+abbrev pub place_of_fall : Fall → ℕ
+place_of_fall fall = fall.place
+
+-- those that lead down to x, in order
+abbrev pub falls_in : List ℕ → List Entry → ℕ → List Fall
+falls_in order entries x = map (fall_at entries) (places_of (falls_to order x) entries)
+
+abbrev pub falls_into : HierarchyLists → ℕ → List Fall
+falls_into h x = falls_in h.order h.entries x

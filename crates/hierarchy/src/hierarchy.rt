@@ -4,9 +4,10 @@ ghost use Rattle.std.specs.Prelude.{◌≡◌, IfOk, MatchOption};
 ghost use Rattle.hierarchy.specs.Lists.{height_in, is_above, is_contracted};
 ghost use Rattle.hierarchy.specs.Rules.{IsHierarchy};
 ghost use Rattle.hierarchy.specs.Rises.{IsRiseRange, RisesFrom, all_rises, has_legs, legs_from, rise_from, rise_places_from};
-ghost use Rattle.hierarchy.specs.Lookups.{IsEntryFor, HasNoEntry, IsWitnessFor, HasNoWitness, AreFrom, ArePlaces, FallsTo, range_of, from_of};
+ghost use Rattle.hierarchy.specs.Lookups.{IsEntryFor, HasNoEntry, IsWitnessFor, HasNoWitness, AreFrom, ArePlaces, falls_into, range_of, from_of};
 
 use crate::entry::Entry;
+use crate::falls::Fall;
 use crate::lists::Lists;
 use crate::lookup::entry_between;
 use crate::tables::{NodeRow, Tables};
@@ -26,8 +27,8 @@ pub struct Hierarchy {
     rows: Vec<NodeRow>,
     rises: Vec<u64>,
     legs: Vec<Leg>,
-    fall_offsets: Vec<u64>,
-    falls: Vec<u64>,
+    fall_offsets: Vec<u32>,
+    falls: Vec<Fall>,
 }
 
 impl Model for Hierarchy {
@@ -146,10 +147,11 @@ impl Hierarchy {
         }
     }
 
-    /// The places in [`entries`](Self::entries) of those that lead down to `x`: that end there and begin above it, ascending.
-    /// To a core node none does.
-    pub fn falls_into(&self, x: u32) -> &[u64]
-        ensures { ArePlaces (FallsTo self.now.order x) self.now.entries result.now }
+    /// The entries that lead down to `x`, in their order: those that end there and begin above it. To a core node none
+    /// does.
+    #[inline(always)]
+    pub fn falls_into(&self, x: u32) -> &[Fall]
+        ensures { result.now ≡ falls_into self.now x }
     {
         if x < self.nodes {
             let first = self.fall_offsets[x as usize] as usize;

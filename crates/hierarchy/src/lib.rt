@@ -3,7 +3,7 @@
 #![tactic(auto)]
 
 pub mod entry;
-mod falls;
+pub mod falls;
 mod heights;
 pub mod hierarchy;
 pub mod laws;
@@ -16,6 +16,7 @@ pub mod verdict;
 pub mod witnesses;
 
 pub use entry::Entry;
+pub use falls::Fall;
 pub use hierarchy::Hierarchy;
 pub use laws::{contractions_keep_soundness, cores_keep_distances, entries_are_roads};
 pub use lists::Lists;

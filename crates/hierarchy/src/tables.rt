@@ -7,7 +7,7 @@ ghost use Rattle.hierarchy.specs.Lookups.{from_of};
 ghost use Rattle.hierarchy.specs.inside.Tables.{AreTablesOf};
 
 use crate::entry::Entry;
-use crate::falls::fall_tables;
+use crate::falls::{Fall, fall_tables};
 use crate::heights::{HeightTable, heights, past_entries, past_order};
 use crate::rises::{legs, rows};
 use search_laws::Leg;
@@ -31,10 +31,10 @@ pub(crate) struct Tables {
     pub rises: Vec<u64>,
     /// Where these lead; empty if one of them takes 2^32 ms or longer.
     pub legs: Vec<Leg>,
-    /// For each node number and one past the last, how many of the places in `falls` are at lower nodes.
-    pub fall_offsets: Vec<u64>,
-    /// The places of the entries that lead down, by their ends.
-    pub falls: Vec<u64>,
+    /// For each node number and one past the last, how many of `falls` end at lower nodes.
+    pub fall_offsets: Vec<u32>,
+    /// The entries that lead down, by their ends.
+    pub falls: Vec<Fall>,
 }
 
 impl Tables {

@@ -53,9 +53,9 @@ fn unbridged_at(h: &Hierarchy, x: u32, look: &mut Look) -> Option<(u64, u64)>
         (λ found. FirstUnbridgedAt h.now x found.0 found.1) }
 {
     let entries = h.entries();
-    for at in h.falls_into(x) {
-        if let Some(by) = unbridged_after(h, x, entries[*at as usize], look) {
-            return Some((*at, by));
+    for fall in h.falls_into(x) {
+        if let Some(by) = unbridged_after(h, x, entries[fall.place as usize], look) {
+            return Some((fall.place as u64, by));
         }
     }
     None

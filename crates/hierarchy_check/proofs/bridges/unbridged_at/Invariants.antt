@@ -1,5 +1,7 @@
+use Rattle.std.proofs.Common.{map}
+use Rattle.hierarchy.specs.Lookups.{place_of_fall}
 use Rattle.hierarchy_check.proofs.BridgeLemmas.{BridgedSoFar}
 use Rattle.hierarchy_check.proofs.bridges.unbridged_at.Given as goal
 
-abbrev pub invariant-loop-at : goal.invariant-loop-at
-invariant-loop-at l = BridgedSoFar l.h l.x l.at-items l.at-index
+abbrev pub invariant-loop-fall : goal.invariant-loop-fall
+invariant-loop-fall l = BridgedSoFar l.h l.x (map place_of_fall l.fall-items) l.fall-index
