@@ -9,7 +9,7 @@ use Rattle.search_laws.specs.declared.graph.Leg.{Leg}
 use Rattle.search_laws.specs.declared.graph.Way.{Way}
 use Rattle.search_laws.specs.Fresh.{StandsStill}
 use Rattle.search_laws.proofs.FreshLemmas.{closed_unset}
-use Rattle.search_laws.proofs.WayLemmas.{ways_more}
+use Rattle.search_laws.proofs.WayLemmas.{ways_more, ways_split}
 use Rattle.timetable_arcs.specs.Patterns.{TableLists}
 use Rattle.timetable_arcs.specs.Rides.{rides_at, boards_at}
 use Rattle.mode_network.specs.declared.nodes.Arc.{Arc}
@@ -117,6 +117,11 @@ module _ (n : NetworkLists) (t : TableLists) (time letters v : ℕ) where
 
   pub stand_closed : (mode : ℕ) → letter_at n.roads v ≡ Some mode → is_open letters (Some mode) ≡ false → from (roads + links) (inner_arcs_at n t v) ≡ []
   stand_closed mode has closed = inner_is mode has ∙ rw closed refl
+
+  -- where no link begins, and one stands by a letter that is not asked for, nothing is left
+  pub none_past_roads : (mode : ℕ) → letter_at n.roads v ≡ Some mode → links ≡ 0 → is_open letters (Some mode) ≡ false → from roads (links + inner_arcs_at n t v) ≡ []
+  none_past_roads mode has none closed =
+      ways_split (plain_meaning n t) v time letters roads links (inner_arcs_at n t v) ∙ ap (λ k. from roads k ++ from (roads + links) (inner_arcs_at n t v)) none ∙ stand_closed mode has closed
 
   pub rides_ways : (stop : ℕ) → letter_at n.roads v ≡ None → stop_at n v ≡ Some stop
       → from (roads + links) (inner_arcs_at n t v) ≡ boards_ways n t time letters (roads + links) (boards_at t stop)
