@@ -11,3 +11,4 @@ pub mod BridgeLemmas
 pub mod BeginLemmas
 pub mod FinishLemmas
 pub mod WaitingLemmas
+pub mod TripLemmas
