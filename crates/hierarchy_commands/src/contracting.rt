@@ -26,14 +26,13 @@ pub fn contract<F: Shelf, O: Sink, E: Sink>(
 {
     let alloc = ports.alloc;
     let network = read_region(alloc, &mut ports.shelf, region, caps, &mut ports.notes)?;
-    let Ok(text) = contracted(alloc, network, keep, &mut ports.notes) else {
-        return Err(Outcome::OutOfMemory);
-    };
+    let text = contracted(alloc, network, keep, &mut ports.notes)?;
     write_text(&mut ports.out, &text)?;
     Ok(())
 }
 
-/// The text of a hierarchy of the network, whose memory is free again when the text is made.
+/// The text of a hierarchy of the network. The memory of its trips is free again while it is contracted, and all of its
+/// memory when the text is made.
 fn contracted<E: Sink>(
     alloc: Global,
     network: Network,
@@ -43,9 +42,10 @@ fn contracted<E: Sink>(
     ensures { IfOk result (λ text. IsContraction network keep text.items) }
 {
     let mut progress = ContractionNotes::new(alloc, &mut *notes);
-    let lists = contractor::contract(alloc, &network, keep, &mut progress)?;
-    let nodes = network.nodes();
-    drop(network);
+    let roads = network.without_trips(alloc)?;
+    let lists = contractor::contract(alloc, &roads, keep, &mut progress)?;
+    let nodes = roads.nodes();
+    drop(roads);
     let sizes = lists.sizes();
     let text = encode(alloc, lists)?;
     tell(alloc, notes, told_at_end(alloc, nodes, sizes, text.len()));

@@ -12,7 +12,7 @@ returns-in_err-write_text g c =
     rw (p.1, p.2)
     (on_region (g.F.Shelf.meaning c.args.ports.now.shelf) new new before after c.args.region.now
     c.args.caps.now _ c.in_ok-network.network c.in_ok-network.ensures.ok c.in_ok-network.ensures.later _
-    (text_fails new new before after (IsContraction c.in_ok-network.network c.args.keep) c.in-Ok.text.items c.in-Ok.ensures _
+    (text_fails new new before after (IsContraction c.in_ok-network.network c.args.keep) c.in_ok-text.text.items c.in_ok-text.ensures _
     (rw (← c.deref.ensures.value) c.in_err-write_text.ensures.err)))
 
 pub returns : goal.returns
@@ -22,4 +22,4 @@ returns g c =
     let new = g.F.Shelf.meaning c.read_region.new.shelf in
     on_region (g.F.Shelf.meaning c.args.ports.now.shelf) new new before after c.args.region.now
     c.args.caps.now _ c.in_ok-network.network c.in_ok-network.ensures.ok c.in_ok-network.ensures.later _
-    (record { out = c.in-Ok.text.items; is = c.in-Ok.ensures; appended = rw (← c.deref.ensures.value) c.in_ok-write_text.ensures.ok })
+    (record { out = c.in_ok-text.text.items; is = c.in_ok-text.ensures; appended = rw (← c.deref.ensures.value) c.in_ok-write_text.ensures.ok })
