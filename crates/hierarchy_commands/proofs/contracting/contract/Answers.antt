@@ -1,7 +1,14 @@
+use Rattle.std.proofs.Common.{inl}
 use Rattle.std.proofs.lemmas.Result.{err_from_is_err_and}
+use Rattle.plan_base.proofs.MoreWritten.{stays_so}
 use Rattle.run_steps.proofs.Steps.{on_region, text_fails}
 use Rattle.hierarchy_commands.specs.Commands.{IsContraction}
 use Rattle.hierarchy_commands.proofs.contracting.contract.Goals as goal
+
+pub returns-in_err-text : goal.returns-in_err-text
+returns-in_err-text g c =
+    let p = err_from_is_err_and c.from_residual-in_err-text.result c.from_residual-in_err-text.ensures.1 in
+    rw (p.1, p.2) (inl (tt, stays_so (g.O.Sink.meaning c.args.ports.now.out)))
 
 pub returns-in_err-write_text : goal.returns-in_err-write_text
 returns-in_err-write_text g c =
