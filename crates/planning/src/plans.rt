@@ -78,6 +78,12 @@ impl Searched<'_> {
             bound: None,
         }
     }
+
+    /// Gives back to a room what it is to keep for the next query.
+    fn give_back(self, room: &mut Room) -> Result<(), AllocError> {
+        self.graph.give_back(&mut room.marks);
+        room.kept.put(self.expressed)
+    }
 }
 
 /// A best journey for a query, or none exactly where no journey answers it. Over a hierarchy, which is sound for the
@@ -162,7 +168,7 @@ pub fn best_arrival(
     network.known();
     let searched = prepared(alloc, room, network, hierarchy, query)?;
     let found = search_best_with(alloc, &mut room.workspace, &searched.question(query.depart))?;
-    room.kept.put(searched.expressed)?;
+    searched.give_back(room)?;
     let Best { arrival, walk: _ } = found;
     Ok(arrival)
 }
@@ -182,7 +188,7 @@ fn find_plain(
     let found = search_best_with(alloc, &mut room.workspace, &searched.question(query.depart))?;
     let Best { arrival: _, walk } = found;
     let route = unpacked(alloc, &searched.graph, &walk)?;
-    room.kept.put(searched.expressed)?;
+    searched.give_back(room)?;
     Ok(route)
 }
 
@@ -220,12 +226,12 @@ fn find_counted(
     } = match found {
         Limited::Ended(found) => found,
         Limited::Stopped(most) => {
-            room.kept.put(searched.expressed)?;
+            searched.give_back(room)?;
             return Ok(Limited::Stopped(most));
         }
     };
     let journey = unpacked(alloc, &searched.graph, &walk)?;
-    room.kept.put(searched.expressed)?;
+    searched.give_back(room)?;
     Ok(Limited::Ended(BestPlan {
         journey,
         settled: labels,
@@ -286,12 +292,12 @@ pub fn find_plan_within(
     } = match found {
         Limited::Ended(found) => found,
         Limited::Stopped(most) => {
-            room.kept.put(searched.expressed)?;
+            searched.give_back(room)?;
             return Ok(Limited::Stopped(most));
         }
     };
     let journey = unpacked(alloc, &searched.graph, &walk)?;
-    room.kept.put(searched.expressed)?;
+    searched.give_back(room)?;
     let best = with_arrival(arrival, journey);
     Ok(Limited::Ended(FoundPlan { best, labels }))
 }
@@ -317,7 +323,7 @@ fn prepared<'a>(
     let expressed = room.kept.take(alloc, Forward, query)?;
     let origins = copies(alloc, network, &query.from)?;
     let targets = copies(alloc, network, &query.to)?;
-    let graph = GraphInUse::new(alloc, network, hierarchy, &targets)?;
+    let graph = GraphInUse::new_in(alloc, &mut room.marks, network, hierarchy, &targets)?;
     let starts = starts_in(alloc, hierarchy, &origins)?;
     let ends = ends_in(alloc, hierarchy, &targets)?;
     Ok(Searched {
