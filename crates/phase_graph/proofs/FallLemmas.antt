@@ -1,40 +1,51 @@
--- How falls are gathered by where they lead, and put in chains.
-use Rattle.std.proofs.Common.{◌≡◌, ℕ, suc, zero, ◌+◌, ◌-◌, ◌<◌, ◌≤◌, ◌⊎◌, inl, inr, ◌∙◌, nat_eq, ◌&&◌, Bool, true, false, cond, List, [], ◌∷◌, ◌++◌, length, take, drop, set, get_or, append_assoc, append-nil, refl, ap, arith, sym, subst, Less, Greater}
+-- The falls by where they lead, and how they are put in chains.
+use Rattle.std.proofs.Common.{◌≡◌, ℕ, suc, zero, ◌+◌, ◌-◌, ◌<◌, ◌≤◌, ◌⊎◌, inl, inr, ◌∙◌, nat_eq, ◌&&◌, Bool, true, false, cond, List, [], ◌∷◌, ◌++◌, length, take, drop, set, get_or, add-one, append_assoc, append-nil, le_refl, refl, ap, arith, sym, subst, Less, Greater}
 use Rattle.std.specs.Prelude.{All, AllPairs, Contains, map, filter}
 use Rattle.std.specs.Ordering.{ordering_reverse}
 use Rattle.std.specs.List.{range_with_len}
-use Rattle.std.proofs.Math.ListN.{replicate}
 use Rattle.std.proofs.lemmas.Bool.{cases_lt, eq-eqb, eqb-true, eqb-false, lt-ltb, ltb-true}
 use Rattle.std.proofs.lemmas.Cmp.{nat_cmp_total, tied_itself}
-use Rattle.std.proofs.lemmas.List.{drop_more, get_or_append_left, get_or_default, get_or_past, get_or_push, get_or-set_other, get_or-set_same, length_push, take-append-drop, take_all, take_more}
+use Rattle.std.proofs.lemmas.List.{drop_more, get_or_append_left, get_or_default, get_or_push, get_or-set_other, get_or-set_same, length_push, take-append-drop, take_all, take_more}
 use Rattle.std.proofs.lemmas.List.Elements.{All-append, All-contains, All-filter, All-head, All-map, All-nil, All-tail, Contains-append_left, Contains-append_right, Contains-push_cases, filter-append, filter_passes}
 use Rattle.std.proofs.lemmas.List.FromFn.{get_or-range_with_len, length-range_with_len}
 use Rattle.std.proofs.lemmas.List.Kept.{AllPairs-cons, AllPairs-filter}
+use Rattle.std.proofs.lemmas.Grind.{flat_map-append}
 use Rattle.std.proofs.lemmas.Option.{slice_get-get_or}
 use Rattle.search_laws.specs.declared.graph.Way.{Way}
 use Rattle.mode_network.proofs.RuleLemmas.{both}
 use Rattle.hierarchy.specs.Lists.{HierarchyLists, IsAbove, is_above}
 use Rattle.hierarchy.specs.Lookups.{AreFrom, ArePlaces, FallsTo, entry_at, no_entry}
 use Rattle.hierarchy.specs.Rules.{IsHierarchy, entry_cmp}
+use Rattle.hierarchy.proofs.FallLemmas.{into_node}
 use Rattle.hierarchy.proofs.LookupLemmas.{entry_total, from_rises}
 use Rattle.hierarchy.proofs.OffsetLemmas.{are_from}
 use Rattle.phase_graph.specs.declared.falls.ChainedFall.{ChainedFall}
 use Rattle.phase_graph.specs.declared.falls.Fall.{Fall}
 use Rattle.phase_graph.specs.Marks.{has_mark, is_fall}
 use Rattle.phase_graph.specs.PhaseArcs.{entries_at, first_entry}
-use Rattle.phase_graph.specs.inside.Falls.{AreChains, AreFallsByEnd, AreInTurn, HasFalls, IsChain, IsFallAt, IsFallFrom, LeavesBelow, chained_at, fall_at, falls_from, places_from}
-use Rattle.phase_graph.specs.inside.Marking.{AreMarked}
+use Rattle.phase_graph.specs.inside.Falls.{AreChains, HasFalls, IsChain, IsFallAt, IsFallFrom, chained_at, fall_at, falls_from, places_from, places_into, places_into_all}
+use Rattle.phase_graph.specs.inside.Marking.{AreMarked, HasNoFalls}
 
 -- ---- the falls to one marked node after the other
 
--- the falls to the first nodes are gathered, and lead to lower nodes than the others will
-pub record AreGathered (h : HierarchyLists) (marks : List Bool) (nodes places : List ℕ) (n : ℕ) : Type 0 where
+-- an entry that leaves the same node as an earlier one stands behind it
+abbrev AreInTurn : HierarchyLists → List ℕ → Type 0
+AreInTurn h places = AllPairs (λ j k. (entry_at h.entries j).from ≡ (entry_at h.entries k).from → j < k) places
+
+-- the places of all falls are in the list, and no others
+pub record AreFallsByEnd (h : HierarchyLists) (marks : List Bool) (places : List ℕ) : Type 0 where
+  pub each : All (IsFallAt h marks) places
+  pub all : (place : ℕ) → IsFallAt h marks place → Contains places place
+  pub in_turn : AreInTurn h places
+
+-- the falls to the first nodes are in the list, and lead to lower nodes than the others will
+record AreGathered (h : HierarchyLists) (marks : List Bool) (nodes places : List ℕ) (n : ℕ) : Type 0 where
   pub each : All (IsFallAt h marks) places
   pub so_far : (place : ℕ) → IsFallAt h marks place → Contains (take n nodes) (entry_at h.entries place).to → Contains places place
   pub lower : (m d : ℕ) → n ≤ m → m < length nodes → All (λ k. (entry_at h.entries k).to < get_or nodes m d) places
   pub in_turn : AreInTurn h places
 
-pub gathered_none : (h : HierarchyLists) (marks : List Bool) (nodes : List ℕ) → AreGathered h marks nodes [] 0
+gathered_none : (h : HierarchyLists) (marks : List Bool) (nodes : List ℕ) → AreGathered h marks nodes [] 0
 gathered_none h marks nodes = record {
   each = All-nil (IsFallAt h marks);
   so_far = λ place fell there. absurd (omega (arith, there.1));
@@ -68,7 +79,7 @@ module _ (h : HierarchyLists) (rules : IsHierarchy h) (marks : List Bool) (nodes
         places.each place (entry_at h.entries place) (k, lt, sym (get_or_default into k d place lt)) (slice_get-get_or h.entries place no_entry (places.within k d lt))
 
     -- what leads down to a node with a mark is a fall
-    are_falls : All (IsFallAt h marks) into
+    pub are_falls : All (IsFallAt h marks) into
     are_falls k d lt =
         let place = get_or into k d in
         let e = entry_at h.entries place in
@@ -87,7 +98,7 @@ module _ (h : HierarchyLists) (rules : IsHierarchy h) (marks : List Bool) (nodes
         let above = ltb-true _ _ (both (has_mark marks e.from) (is_above h.order e.from e.to) tests.1).1 in
         places.all place e (slice_get-get_or h.entries place no_entry within) (record { ends = is; above = subst (IsAbove h.order e.from) is above })
 
-  pub gathered_more : (places : List ℕ) (n : ℕ) (into : List ℕ) → AreGathered h marks nodes places n → n < length nodes → ArePlaces (FallsTo h.order (get_or nodes n 0)) h.entries into → AreGathered h marks nodes (places ++ into) (n + 1)
+  gathered_more : (places : List ℕ) (n : ℕ) (into : List ℕ) → AreGathered h marks nodes places n → n < length nodes → ArePlaces (FallsTo h.order (get_or nodes n 0)) h.entries into → AreGathered h marks nodes (places ++ into) (n + 1)
   gathered_more places n into far lt falls = record {
     each = All-append (IsFallAt h marks) places into far.each (are_falls x here into falls);
     so_far = λ place fell there. elim (Contains-push_cases (take n nodes) x (entry_at h.entries place).to (subst (λ xs. Contains xs (entry_at h.entries place).to) (take_more nodes n 0 lt) there)) [
@@ -106,22 +117,28 @@ module _ (h : HierarchyLists) (rules : IsHierarchy h) (marks : List Bool) (nodes
     here : Contains nodes x
     here = (n, lt, get_or_default nodes n x 0 lt)
 
-  pub gathered_all : (places : List ℕ) (n : ℕ) → length nodes ≤ n → AreGathered h marks nodes places n → AreFallsByEnd h marks places
-  gathered_all places n past far = record {
-    each = far.each;
-    all = λ place fell. far.so_far place fell (subst (λ xs. Contains xs (entry_at h.entries place).to) (sym (take_all n nodes past)) (are.listed (entry_at h.entries place).to (both _ _ fell.1).0));
-    in_turn = far.in_turn;
-  }
+  gathered : (n : ℕ) → n ≤ length nodes → AreGathered h marks nodes (places_into_all h (take n nodes)) n
+  gathered zero le = gathered_none h marks nodes
+  gathered (suc n) le =
+      let x = get_or nodes n 0 in
+      let more = gathered_more (places_into_all h (take n nodes)) n (places_into h x) (gathered n (omega arith)) (omega arith) (into_node h.order h.entries x) in
+      let last : places_into_all h (take (n + 1) nodes) ≡ places_into_all h (take n nodes) ++ places_into h x =
+      ap (places_into_all h) (take_more nodes n 0 (omega arith)) ∙ flat_map-append (places_into h) (take n nodes) (x ∷ []) ∙ ap (λ ps. places_into_all h (take n nodes) ++ ps) (append-nil (places_into h x)) in
+      subst (λ m. AreGathered h marks nodes (places_into_all h (take m nodes)) m) (add-one n) (subst (λ ps. AreGathered h marks nodes ps (n + 1)) (sym last) more)
 
--- the nodes that they leave have marks
-pub leave_below : (h : HierarchyLists) (marks : List Bool) (places : List ℕ) → All (IsFallAt h marks) places → All (LeavesBelow h (length marks)) places
-leave_below h marks places falls k d lt =
-    let place = get_or places k d in
-    let (within, fell) = falls k d lt in
-    (within, marked (entry_at h.entries place).from (both _ _ (both (has_mark marks (entry_at h.entries place).to) _ fell).1).0)
-  where
-    marked : (v : ℕ) → has_mark marks v ≡ true → v < length marks
-    marked v is = grind (arith, get_or_past marks v false)
+  pub all_falls : AreFallsByEnd h marks (places_into_all h nodes)
+  all_falls =
+      let whole = take_all (length nodes) nodes (le_refl _) in
+      let far = subst (λ ns. AreGathered h marks nodes (places_into_all h ns) (length nodes)) whole (gathered (length nodes) (le_refl _)) in
+      record {
+        each = far.each;
+        all = λ place fell. far.so_far place fell (subst (λ xs. Contains xs (entry_at h.entries place).to) (sym whole) (are.listed (entry_at h.entries place).to (both _ _ fell.1).0));
+        in_turn = far.in_turn;
+      }
+
+-- the node that a fall leaves has a mark
+pub leaves_marked : (h : HierarchyLists) (marks : List Bool) (place : ℕ) → IsFallAt h marks place → has_mark marks (entry_at h.entries place).from ≡ true
+leaves_marked h marks place (within, fell) = (both _ _ (both (has_mark marks (entry_at h.entries place).to) _ fell).1).0
 
 -- ---- chains
 
@@ -129,27 +146,29 @@ leave_below h marks places falls k d lt =
 chain_stays : (all : List ChainedFall) (one : ChainedFall) (number : ℕ) (falls : List Fall) → IsChain all number falls → IsChain (all ++ one ∷ []) number falls
 chain_stays all one number [] none = none
 chain_stays all one number (fall ∷ falls) (some, within, is, next, more) =
-    let same : chained_at (all ++ one ∷ []) number ≡ chained_at all number = get_or_append_left all (one ∷ []) (chained_at [] 0) (number - 1) (omega arith) in
+    let same : chained_at (all ++ one ∷ []) number ≡ chained_at all number = get_or_append_left all (one ∷ []) (chained_at [] 0) (number - 2) (omega arith) in
     rw same (some, omega (arith, length_push all one), is, next, chain_stays all one (chained_at all number).next falls more)
 
-pub chain_within : (all : List ChainedFall) (number : ℕ) (falls : List Fall) → IsChain all number falls → number ≤ length all
+pub chain_within : (all : List ChainedFall) (number : ℕ) (falls : List Fall) → IsChain all number falls → number ≤ length all + 1
 chain_within all number [] none = omega (arith, none)
 chain_within all number (fall ∷ falls) chain = chain.1
 
+pub chain_ended : (all : List ChainedFall) (number : ℕ) (falls : List Fall) → IsChain all number falls → number ≤ 1 → falls ≡ []
+chain_ended all number [] chain low = refl
+chain_ended all number (fall ∷ falls) chain low = absurd (let some = chain.0 in omega arith)
+
 -- before the others it is the first of their chain
-chain_begins : (all : List ChainedFall) (next : ℕ) (fall : Fall) (falls : List Fall) → IsChain all next falls → IsChain (all ++ record { fall = fall; next = next } ∷ []) (length all + 1) (fall ∷ falls)
+chain_begins : (all : List ChainedFall) (next : ℕ) (fall : Fall) (falls : List Fall) → IsChain all next falls → IsChain (all ++ record { fall = fall; next = next } ∷ []) (length all + 2) (fall ∷ falls)
 chain_begins all next fall falls chain =
     let one : ChainedFall = record { fall = fall; next = next } in
-    let here : chained_at (all ++ one ∷ []) (length all + 1) ≡ one = get_or_push all one (chained_at [] 0) (length all + 1 - 1) (omega arith) in
+    let here : chained_at (all ++ one ∷ []) (length all + 2) ≡ one = get_or_push all one (chained_at [] 0) (length all + 2 - 2) (omega arith) in
     rw here (omega arith, omega (arith, length_push all one), refl, omega (arith, chain_within all next falls chain), chain_stays all one next falls chain)
 
-pub chains_none : (h : HierarchyLists) (nodes : ℕ) → AreChains h [] [] (replicate nodes 0)
-chains_none h zero v = refl
-chains_none h (suc nodes) zero = refl
-chains_none h (suc nodes) (suc v) = chains_none h nodes v
+pub chains_none : (h : HierarchyLists) (first : List ℕ) → HasNoFalls first → AreChains h [] [] first
+chains_none h first none v = none v
 
-pub chains_more : (h : HierarchyLists) (place : ℕ) (places : List ℕ) (all : List ChainedFall) (first : List ℕ) → LeavesBelow h (length first) place → AreChains h places all first
-    → AreChains h (place ∷ places) (all ++ record { fall = fall_at h place; next = get_or first (entry_at h.entries place).from 0 } ∷ []) (set first (entry_at h.entries place).from (length all + 1))
+pub chains_more : (h : HierarchyLists) (place : ℕ) (places : List ℕ) (all : List ChainedFall) (first : List ℕ) → (entry_at h.entries place).from < length first → AreChains h places all first
+    → AreChains h (place ∷ places) (all ++ record { fall = fall_at h place; next = get_or first (entry_at h.entries place).from 0 } ∷ []) (set first (entry_at h.entries place).from (length all + 2))
 chains_more h place places all first leaves chains v = by_node (nat_eq u v) refl
   where
     u : ℕ
@@ -158,21 +177,21 @@ chains_more h place places all first leaves chains v = by_node (nat_eq u v) refl
     one : ChainedFall
     one = record { fall = fall_at h place; next = get_or first u 0 }
 
-    by_node : (b : Bool) → nat_eq u v ≡ b → IsChain (all ++ one ∷ []) (get_or (set first u (length all + 1)) v 0) (map (fall_at h) (cond b (place ∷ places_from h places v) (places_from h places v)))
+    by_node : (b : Bool) → nat_eq u v ≡ b → IsChain (all ++ one ∷ []) (get_or (set first u (length all + 2)) v 0) (map (fall_at h) (cond b (place ∷ places_from h places v) (places_from h places v)))
     by_node false e =
-        let same = get_or-set_other first u v (length all + 1) 0 (λ is. eqb-false u v e (sym is)) in
+        let same = get_or-set_other first u v (length all + 2) 0 (λ is. eqb-false u v e (sym is)) in
         rw same (chain_stays all one (get_or first v 0) (map (fall_at h) (places_from h places v)) (chains v))
     by_node true e =
         let is = eqb-true u v e in
-        subst (λ w. IsChain (all ++ one ∷ []) (get_or (set first u (length all + 1)) w 0) (fall_at h place ∷ map (fall_at h) (places_from h places w))) is
-        (rw (get_or-set_same first u (length all + 1) 0 leaves.1) (chain_begins all (get_or first u 0) (fall_at h place) (map (fall_at h) (places_from h places u)) (chains u)))
+        subst (λ w. IsChain (all ++ one ∷ []) (get_or (set first u (length all + 2)) w 0) (fall_at h place ∷ map (fall_at h) (places_from h places w))) is
+        (rw (get_or-set_same first u (length all + 2) 0 leaves) (chain_begins all (get_or first u 0) (fall_at h place) (map (fall_at h) (places_from h places u)) (chains u)))
 
 -- ---- the chains of all falls
 
 abbrev Ascends : List ℕ → Type 0
 Ascends = AllPairs (λ j k. j < k)
 
-first_or_later : (x : ℕ) (xs : List ℕ) (v : ℕ) → Contains (x ∷ xs) v → (x ≡ v) ⊎ Contains xs v
+pub first_or_later : (x : ℕ) (xs : List ℕ) (v : ℕ) → Contains (x ∷ xs) v → (x ≡ v) ⊎ Contains xs v
 first_or_later x xs v (zero, lt, is) = inl is
 first_or_later x xs v (suc k, lt, is) = inr (k, (omega arith), is)
 
@@ -261,7 +280,7 @@ falls_within h marks first count =
     All-map (IsFallFrom first count) (fall_at h) _ (All-filter (λ place. is_fall h marks (entry_at h.entries place)) (λ k. IsFallFrom first count (fall_at h k)) (range_with_len first count)
     (λ i d lt. (let (low, high) = range_within first count i d lt in record { low = low; high = high })))
 
--- the falls before one with a number and 1 are appended as ways, and with the others they are the whole
+-- the falls before one with a number and 2 are appended as ways, and with the others they are the whole
 pub record AreAppended (all : List ChainedFall) (as_way : Fall → Way) (first count : ℕ) (whole ways : List Way) (number : ℕ) : Type 0 where
   pub left : List Fall
   pub chain : IsChain all number left
@@ -275,13 +294,13 @@ module _ (all : List ChainedFall) (as_way : Fall → Way) (first count : ℕ) (w
     pub less : one.next < number
     pub far : AreAppended all as_way first count whole (ways ++ as_way one.fall ∷ []) one.next
 
-  pub next_appended : 0 < number → (one : ChainedFall) → one ≡ get_or all (number - 1) one → IsNext one
+  pub next_appended : 1 < number → (one : ChainedFall) → one ≡ get_or all (number - 2) one → IsNext one
   next_appended some one here = by_list so_far.left so_far.chain so_far.within so_far.ways_are
     where
       by_list : (left : List Fall) → IsChain all number left → All (IsFallFrom first count) left → ways ++ map as_way left ≡ whole → IsNext one
       by_list [] none within are = absurd (omega (arith, none))
       by_list (fall ∷ left) (low, there, is, less, chain) within are =
-          subst IsNext (get_or_default all (number - 1) (chained_at [] 0) one (omega arith) ∙ sym here) (record {
+          subst IsNext (get_or_default all (number - 2) (chained_at [] 0) one (omega arith) ∙ sym here) (record {
             within = subst (IsFallFrom first count) (sym is) (All-head (IsFallFrom first count) fall left within);
             less = less;
             far = record {
@@ -292,7 +311,7 @@ module _ (all : List ChainedFall) (as_way : Fall → Way) (first count : ℕ) (w
             };
           })
 
-  pub all_appended : number ≤ 0 → ways ≡ whole
+  pub all_appended : number ≤ 1 → ways ≡ whole
   all_appended none = by_list so_far.left so_far.chain so_far.ways_are
     where
       by_list : (left : List Fall) → IsChain all number left → ways ++ map as_way left ≡ whole → ways ≡ whole

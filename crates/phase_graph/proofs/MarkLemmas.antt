@@ -1,14 +1,15 @@
 -- How marks are set, and that the marked nodes are all from which a chain of entries leads down to a target.
-use Rattle.std.proofs.Common.{◌≡◌, ℕ, ◌+◌, ◌<◌, ◌≤◌, ◌⊎◌, inl, inr, ◌∙◌, nat_eq, cond, Some, Bool, true, false, not, List, [], ◌∷◌, ◌++◌, length, set, get_or, refl, ap, arith, sym, subst}
-use Rattle.std.specs.Prelude.{All, Contains, IsPermutation, IsSorted}
+use Rattle.std.proofs.Common.{◌≡◌, ℕ, ◌+◌, ◌<◌, ◌≤◌, ◌⊎◌, inl, inr, ◌∙◌, nat_eq, cond, Some, Bool, true, false, List, [], ◌∷◌, ◌++◌, length, set, get_or, refl, ap, arith, sym, subst}
+use Rattle.std.specs.Prelude.{All, Contains, IsPermutation, IsSorted, nat_lt}
 use Rattle.std.specs.Ordering.{nat_cmp}
 use Rattle.std.specs.List.{dedup}
-use Rattle.std.proofs.lemmas.Bool.{eqb-true, eqb-false}
-use Rattle.std.proofs.lemmas.List.{length_push, get_or_default, get_or-set_same, get_or-set_other, length-set}
+use Rattle.std.proofs.Math.ListN.{get_or-map}
+use Rattle.std.proofs.lemmas.Bool.{cases_lt, eqb-true, eqb-false, lt-ltb, ltb-true}
+use Rattle.std.proofs.lemmas.List.{length_push, length-map, get_or_default, get_or_past, get_or-set_same, get_or-set_other, length-set}
 use Rattle.std.proofs.lemmas.List.Elements.{Contains-append_left, Contains-append_right, Contains-append_cases, All-contains}
 use Rattle.std.proofs.lemmas.List.Kept.{AllPairs-from_increasing, Contains-dedup_nat, Contains-from_dedup}
 use Rattle.std.proofs.lemmas.List.Sorted.{Contains-permutation, IsPermutation-sym}
-use Rattle.std.proofs.lemmas.List.Sums.{sum_by-set}
+use Rattle.std.proofs.lemmas.List.Sums.{count_by-le-length, sum_by-set}
 use Rattle.std.proofs.lemmas.Map.Keys.{IsStrictlyIncreasing-dedup}
 use Rattle.hierarchy.specs.declared.entry.Entry.{Entry}
 use Rattle.hierarchy.specs.Hops.{Hop, AreHops, IsDescent}
@@ -18,38 +19,77 @@ use Rattle.std.proofs.lemmas.Option.{slice_get-get_or}
 use Rattle.hierarchy.specs.Indexes.{AreBelow, AreEndsBelow}
 use Rattle.hierarchy.specs.Lookups.{ArePlaces, FallsTo}
 use Rattle.phase_graph.specs.Moves.{IsMarked}
-use Rattle.phase_graph.specs.Marks.{AreMarksFor, has_mark}
-use Rattle.phase_graph.specs.inside.Marking.{AreMarked, AreMarks, IsMarking, Extends, AreOldOr, IsFollowedAt, IsFollowed}
+use Rattle.phase_graph.specs.Marks.{AreMarksFor, has_mark, marks_in}
+use Rattle.phase_graph.specs.inside.Marking.{AreClear, AreListed, AreMarked, AreMarks, IsMarking, Extends, AreOldOr, IsFollowedAt, IsFollowed, number_at}
 
 -- ---- one mark
 
 last : (queue : List ℕ) (v : ℕ) → Contains (queue ++ v ∷ []) v
 last queue v = Contains-append_right queue (v ∷ []) v (0, omega arith, refl)
 
-pub marked_more : (nodes v : ℕ) (marks : List Bool) (queue : List ℕ) → AreMarks nodes marks queue → v < nodes → get_or marks v false ≡ false → AreMarks nodes (set marks v true) (queue ++ v ∷ [])
-marked_more nodes v marks queue are low unset = record {
-  one_each = length-set marks v true ∙ are.one_each;
+-- a node has a mark where its number is not 0
+pub has_mark_is : (numbers : List ℕ) (v : ℕ) → has_mark (marks_in numbers) v ≡ nat_lt 0 (number_at numbers v)
+has_mark_is numbers v = get_or-map (λ number. nat_lt 0 number) numbers v 0
+
+pub number_if_marked : (numbers : List ℕ) (v : ℕ) → has_mark (marks_in numbers) v ≡ true → 0 < number_at numbers v
+number_if_marked numbers v is = ltb-true _ _ (sym (has_mark_is numbers v) ∙ is)
+
+pub marked_if_number : (numbers : List ℕ) (v : ℕ) → 0 < number_at numbers v → has_mark (marks_in numbers) v ≡ true
+marked_if_number numbers v some = has_mark_is numbers v ∙ lt-ltb _ _ some
+
+-- a node past the end has none
+pub number_within : (numbers : List ℕ) (v : ℕ) → 0 < number_at numbers v → v < length numbers
+number_within numbers v some = elim (cases_lt v (length numbers)) [
+  | inl within ↦ within
+  | inr past ↦ absurd (omega (arith, some, get_or_past numbers v 0 past))
+]
+
+pub none_marked : (nodes : ℕ) (numbers : List ℕ) → AreClear nodes numbers → AreMarks nodes numbers []
+none_marked nodes numbers clear = record {
+  one_each = clear.one_each;
+  small = λ v. omega (arith, clear.none v);
+  listed = λ v some. absurd (omega (arith, some, clear.none v));
+  set = λ v there. absurd (omega (arith, there.1));
+  few = omega (arith, clear.one_each, count_by-le-length (λ number. nat_eq number 0) numbers);
+}
+
+pub marked_more : (nodes v : ℕ) (numbers queue : List ℕ) → AreMarks nodes numbers queue → v < nodes → number_at numbers v ≡ 0 → AreMarks nodes (set numbers v 1) (queue ++ v ∷ [])
+marked_more nodes v numbers queue are low unset = record {
+  one_each = length-set numbers v 1 ∙ are.one_each;
+  small = λ u. small u (nat_eq u v) refl;
   listed = λ u is. by_node u is (nat_eq u v) refl;
   set = λ u there. by_origin u (nat_eq u v) refl (Contains-append_cases queue (v ∷ []) u there);
   few =
-      let within : v < length marks = omega (arith, are.one_each) in
-      let before = ap (λ b. cond {A = ℕ} (not b) 1 0) unset in
-      let sums = sum_by-set (λ b. cond {A = ℕ} (not b) 1 0) marks v true false within in
+      let before = ap (λ k. cond {A = ℕ} (nat_eq k 0) 1 0) unset in
+      let sums = sum_by-set (λ k. cond {A = ℕ} (nat_eq k 0) 1 0) numbers v 1 0 within in
       omega (arith, are.few, sums, before, length_push queue v);
 } where
-  by_node : (u : ℕ) → get_or (set marks v true) u false ≡ true → (b : Bool) → nat_eq u v ≡ b → Contains (queue ++ v ∷ []) u
-  by_node u is true e = subst (Contains (queue ++ v ∷ [])) (sym (eqb-true u v e)) (last queue v)
-  by_node u is false e = Contains-append_left queue (v ∷ []) u (are.listed u (sym (get_or-set_other marks v u true false (eqb-false u v e)) ∙ is))
+  within : v < length numbers
+  within = omega (arith, low, are.one_each)
 
-  here : get_or (set marks v true) v false ≡ true
-  here = get_or-set_same marks v true false (omega (arith, are.one_each))
+  here : number_at (set numbers v 1) v ≡ 1
+  here = get_or-set_same numbers v 1 0 within
+
+  other : (u : ℕ) → nat_eq u v ≡ false → number_at (set numbers v 1) u ≡ number_at numbers u
+  other u e = get_or-set_other numbers v u 1 0 (eqb-false u v e)
+
+  at_node : (u : ℕ) → nat_eq u v ≡ true → number_at (set numbers v 1) u ≡ 1
+  at_node u e = ap (number_at (set numbers v 1)) (eqb-true u v e) ∙ here
+
+  small : (u : ℕ) (b : Bool) → nat_eq u v ≡ b → number_at (set numbers v 1) u ≤ 1
+  small u true e = omega (arith, at_node u e)
+  small u false e = omega (arith, other u e, are.small u)
+
+  by_node : (u : ℕ) → 0 < number_at (set numbers v 1) u → (b : Bool) → nat_eq u v ≡ b → Contains (queue ++ v ∷ []) u
+  by_node u is true e = subst (Contains (queue ++ v ∷ [])) (sym (eqb-true u v e)) (last queue v)
+  by_node u is false e = Contains-append_left queue (v ∷ []) u (are.listed u (omega (arith, is, other u e)))
 
   only : (i d : ℕ) → i < length (v ∷ []) → get_or (v ∷ []) i d ≡ v
   only i d lt = let first : i ≡ 0 = omega arith in ap (λ j. get_or (v ∷ []) j d) first
 
-  by_origin : (u : ℕ) (b : Bool) → nat_eq u v ≡ b → Contains queue u ⊎ Contains (v ∷ []) u → get_or (set marks v true) u false ≡ true
-  by_origin u true e origin = subst (λ w. get_or (set marks v true) w false ≡ true) (sym (eqb-true u v e)) here
-  by_origin u false e (inl before) = get_or-set_other marks v u true false (eqb-false u v e) ∙ are.set u before
+  by_origin : (u : ℕ) (b : Bool) → nat_eq u v ≡ b → Contains queue u ⊎ Contains (v ∷ []) u → 0 < number_at (set numbers v 1) u
+  by_origin u true e origin = omega (arith, at_node u e)
+  by_origin u false e (inl before) = omega (arith, are.set u before, other u e)
   by_origin u false e (inr (i, lt, is)) = absurd (eqb-false u v e (sym is ∙ only i u lt))
 
 -- ---- all that a marked node leads from
@@ -99,12 +139,14 @@ module _ (h : HierarchyLists) (targets queue : List ℕ) (nodes : ℕ) (below : 
       followed hop.to next k entry lt is refl down
 
   -- so the marks are those for the targets
-  pub are_marks : (marks : List Bool) → IsMarking h targets nodes marks queue → AreMarksFor h targets marks
-  are_marks marks far = record {
-    long = subst (AreBelow h) (sym far.are.one_each) below;
-    each = λ v is. All-contains (IsMarked h targets) queue v far.each (far.are.listed v is);
-    all = λ v low marked. far.are.set v (by_chain marked.hops v marked.end marked.ends_there marked.chain marked.falls (omega (arith, low, far.are.one_each)));
-  }
+  pub are_marks : (numbers : List ℕ) → IsMarking h targets nodes numbers queue → AreMarksFor h targets (marks_in numbers)
+  are_marks numbers far = record {
+    long = subst (AreBelow h) (sym long) below;
+    each = λ v is. All-contains (IsMarked h targets) queue v far.each (far.are.listed v (number_if_marked numbers v is));
+    all = λ v low marked. marked_if_number numbers v (far.are.set v (by_chain marked.hops v marked.end marked.ends_there marked.chain marked.falls (omega (arith, low, long))));
+  } where
+    long : length (marks_in numbers) ≡ nodes
+    long = length-map numbers (λ number. nat_lt 0 number) ∙ far.are.one_each
 
 -- ---- one entry more is followed
 
@@ -113,12 +155,12 @@ pub still_followed : (h : HierarchyLists) (queue queue2 : List ℕ) (x k : ℕ) 
 still_followed h queue queue2 x k more at e lt is to above = more e.from (at e lt is to above)
 
 -- how far the places of the entries into x have been followed
-pub record IsFollowing (h : HierarchyLists) (targets : List ℕ) (nodes x : ℕ) (places : List ℕ) (marks : List Bool) (queue queue0 : List ℕ) (n : ℕ) : Type 0 where
-  pub marking : IsMarking h targets nodes marks queue
+pub record IsFollowing (h : HierarchyLists) (targets : List ℕ) (nodes x : ℕ) (places numbers queue queue0 : List ℕ) (n : ℕ) : Type 0 where
+  pub marking : IsMarking h targets nodes numbers queue
   pub kept : Extends queue0 queue
   pub followed : (j d : ℕ) → j < n → IsFollowedAt h queue x (get_or places j d)
 
-module _ (h : HierarchyLists) (targets : List ℕ) (nodes x : ℕ) (places : List ℕ) (marks : List Bool) (queue queue0 : List ℕ) (n : ℕ) (far : IsFollowing h targets nodes x places marks queue queue0 n)
+module _ (h : HierarchyLists) (targets : List ℕ) (nodes x : ℕ) (places numbers queue queue0 : List ℕ) (n : ℕ) (far : IsFollowing h targets nodes x places numbers queue queue0 n)
     (within : n < length places) (k : ℕ) (k_is : (d : ℕ) → get_or places n d ≡ k) (e : Entry) (inside_k : k < length h.entries) (e_is : (d : Entry) → get_or h.entries k d ≡ e) (to_x : e.to ≡ x) where
   -- the entry at the next place is this one
   one_is : (j d : ℕ) → nat_eq j n ≡ true → (e2 : Entry) → get_or h.entries (get_or places j d) e2 ≡ e2 → e ≡ e2
@@ -127,9 +169,9 @@ module _ (h : HierarchyLists) (targets : List ℕ) (nodes x : ℕ) (places : Lis
       sym (e_is e2) ∙ ap (λ i. get_or h.entries i e2) (sym at) ∙ is
 
   -- an entry from a node above, which gets a mark
-  pub following_more : IsAbove h.order e.from x → IsMarked h targets x → (marks2 : List Bool) (queue2 : List ℕ) → AreMarks nodes marks2 queue2 → Contains queue2 e.from
-      → Extends queue queue2 → AreOldOr e.from queue queue2 → IsFollowing h targets nodes x places marks2 queue2 queue0 (n + 1)
-  following_more above marked marks2 queue2 are here kept only = record {
+  pub following_more : IsAbove h.order e.from x → IsMarked h targets x → (numbers2 queue2 : List ℕ) → AreMarks nodes numbers2 queue2 → Contains queue2 e.from
+      → Extends queue queue2 → AreOldOr e.from queue queue2 → IsFollowing h targets nodes x places numbers2 queue2 queue0 (n + 1)
+  following_more above marked numbers2 queue2 are here kept only = record {
     marking = record { are = are; each = all_or (IsMarked h targets) queue queue2 e.from far.marking.each only (marked_by_fall h targets k e inside_k (e_is e) (subst (IsAbove h.order e.from) (sym to_x) above) (subst (IsMarked h targets) (sym to_x) marked)) };
     kept = extends_more queue0 queue queue2 far.kept kept;
     followed = λ j d lt. by_place j d lt (nat_eq j n) refl;
@@ -148,12 +190,12 @@ followed_all h queue x places into n past far k e lt is to above =
 -- ---- the marked nodes in order
 
 -- what is followed stays so, sorted and each node once
-pub marked_in_order : (h : HierarchyLists) (marks : List Bool) (queue sorted : List ℕ) → ((v : ℕ) → has_mark marks v ≡ true → Contains queue v) → ((v : ℕ) → Contains queue v → has_mark marks v ≡ true)
-    → ((x : ℕ) → Contains queue x → IsFollowed h queue x) → IsPermutation queue sorted → IsSorted nat_cmp sorted → AreMarked h marks (dedup nat_eq sorted)
-marked_in_order h marks queue sorted listed set followed moved rises = record {
+pub marked_in_order : (h : HierarchyLists) (nodes : ℕ) (numbers queue sorted : List ℕ) → AreMarks nodes numbers queue
+    → ((x : ℕ) → Contains queue x → IsFollowed h queue x) → IsPermutation queue sorted → IsSorted nat_cmp sorted → AreMarked h (marks_in numbers) (dedup nat_eq sorted)
+marked_in_order h nodes numbers queue sorted are followed moved rises = record {
   ascending = AllPairs-from_increasing _ (IsStrictlyIncreasing-dedup sorted rises);
-  listed = λ v is. kept v (listed v is);
-  set = λ v there. set v (was v there);
+  listed = λ v is. kept v (are.listed v (number_if_marked numbers v is));
+  set = λ v there. marked_if_number numbers v (are.set v (was v there));
   followed = λ x there k. still_followed h queue (dedup nat_eq sorted) x k kept (followed x (was x there) k);
 } where
   kept : (v : ℕ) → Contains queue v → Contains (dedup nat_eq sorted) v
@@ -161,3 +203,15 @@ marked_in_order h marks queue sorted listed set followed moved rises = record {
 
   was : (v : ℕ) → Contains (dedup nat_eq sorted) v → Contains queue v
   was v there = Contains-permutation sorted queue v (IsPermutation-sym queue sorted moved) (Contains-from_dedup nat_eq sorted v there)
+
+-- ---- the numbers of marked nodes
+
+-- where these are the nodes with a mark, each other node has 0
+pub are_listed : (h : HierarchyLists) (numbers nodes : List ℕ) → AreMarked h (marks_in numbers) nodes → AreListed numbers nodes
+are_listed h numbers nodes are = record {
+  within = λ k d lt. number_within numbers (get_or nodes k d) (number_if_marked numbers (get_or nodes k d) (are.set (get_or nodes k d) (k, lt, get_or_default nodes k (get_or nodes k d) d lt)));
+  others = λ v apart. elim (cases_lt 0 (number_at numbers v)) [
+    | inl some ↦ absurd (apart (are.listed v (marked_if_number numbers v some)))
+    | inr none ↦ omega arith
+  ];
+}

@@ -140,6 +140,14 @@ module _ (n : NetworkLists) (h : HierarchyLists) (t : TableLists) (marks : List 
       let falls_none : from ups downs ≡ [] = ap (λ x. from x downs) (sym none) ∙ downs_closed closed 0 downs (omega arith) in
       sym (append-nil before) ∙ ap (λ (ws : List Way). before ++ ws) (sym falls_none)
 
+  -- nor where the node has none
+  pub falls_ended : (before : List Way) → falls_from h marks begin downs ≡ [] → before ≡ before ++ from ups downs
+  falls_ended before none = by_letter (is_open letters letter) refl
+    where
+      by_letter : (b : Bool) → is_open letters letter ≡ b → before ≡ before ++ from ups downs
+      by_letter false closed = falls_closed before closed
+      by_letter true opens = sym (append-nil before) ∙ ap (λ (ws : List Way). before ++ ws) (ap (map as_way) (sym none) ∙ fall_ways opens)
+
   -- ---- the arcs that the plain graph has too
 
   -- before the descent: the same arcs behind the road arcs, numbered anew

@@ -8,11 +8,12 @@ use Rattle.plain_graph.specs.BoardWays.{plain_rides}
 use Rattle.plain_graph.specs.PlainArcs.{plain_meaning, count_from}
 use Rattle.phase_graph.specs.declared.in_use.GraphInUse.{GraphInUse}
 use Rattle.phase_graph.specs.declared.in_use.GraphInUse.TheVariants.{Plain, Phases}
+use Rattle.phase_graph.specs.Marks.{marks_in}
 use Rattle.phase_graph.specs.PhaseArcs.{phase_meaning, phase_rides, legs_at, node_of, is_down}
 
 abbrev pub meaning_in_use : GraphInUse → GraphMeaning
 meaning_in_use (Plain p) = plain_meaning p.network.now p.timetable.now
-meaning_in_use (Phases p) = phase_meaning p.plain.network.now p.plain.timetable.now p.hierarchy.now p.marks.items
+meaning_in_use (Phases p) = phase_meaning p.plain.network.now p.plain.timetable.now p.hierarchy.now (marks_in p.falls.first.items)
 
 -- how many steady arcs a node has: its road arcs, or the entries that lead up from it or along the core
 abbrev pub steady_in_use : GraphInUse → ℕ → ℕ

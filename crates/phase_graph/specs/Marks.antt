@@ -1,5 +1,5 @@
 -- The marks of nodes: one has a mark where a chain of entries, each to a lower node, leads from it to a target.
-use Rattle.std.specs.Prelude.{◌≡◌, ℕ, Bool, true, false, ◌&&◌, ◌<◌, List, length, slice_index_or}
+use Rattle.std.specs.Prelude.{◌≡◌, ℕ, Bool, true, false, ◌&&◌, ◌<◌, nat_lt, List, length, map, slice_index_or}
 use Rattle.hierarchy.specs.declared.entry.Entry.{Entry}
 use Rattle.hierarchy.specs.Lists.{HierarchyLists, is_above}
 use Rattle.hierarchy.specs.Indexes.{AreBelow}
@@ -8,6 +8,10 @@ use Rattle.phase_graph.specs.Moves.{IsMarked}
 -- the marks are listed by node; nodes past the end have none
 abbrev pub has_mark : List Bool → ℕ → Bool
 has_mark marks v = slice_index_or marks v false
+
+-- nodes have numbers, which are 0 where they have no mark
+abbrev pub marks_in : List ℕ → List Bool
+marks_in numbers = map (λ number. nat_lt 0 number) numbers
 
 -- these are the marks for the targets
 pub record AreMarksFor (h : HierarchyLists) (targets : List ℕ) (marks : List Bool) : Type 0 where

@@ -1,10 +1,10 @@
 //! The entries that lead down from a node with a mark to another, in a chain for each node that they leave.
 
 ghost use Rattle.std.specs.Prelude.{◌≡◌, ◌<◌, ◌+◌, ◌++◌, ◌∷◌, [], All, IfOk, OnOk, length, set, slice_index_or};
-ghost use Rattle.phase_graph.specs.inside.Falls.{AreChains, AreFallsByEnd, HasFalls, LeavesBelow, fall_at};
-ghost use Rattle.phase_graph.specs.inside.Marking.{AreMarked};
+ghost use Rattle.phase_graph.specs.Marks.{marks_in};
+ghost use Rattle.phase_graph.specs.inside.Falls.{HasFalls, IsFallAt, PutsFalls, places_into};
+ghost use Rattle.phase_graph.specs.inside.Marking.{AreMarked, HasNoFalls};
 
-use crate::marks::Marks;
 use crate::phases::number_of;
 use hierarchy::Hierarchy;
 use std::alloc::{AllocError, Global};
@@ -13,7 +13,7 @@ use std::alloc::{AllocError, Global};
 #[derive(Clone, Copy)]
 pub(crate) struct Fall {
     /// Its place among all entries.
-    pub place: u64,
+    pub place: u32,
     /// The number of the node that it leads to, in the descent.
     pub to: u32,
     /// How long it takes, in milliseconds.
@@ -24,7 +24,7 @@ pub(crate) struct Fall {
 #[derive(Clone, Copy)]
 pub(crate) struct ChainedFall {
     pub fall: Fall,
-    /// The number of the next fall of the chain and 1; or 0.
+    /// The number of the next fall of the chain and 2; or 1.
     pub next: u32,
 }
 
@@ -32,12 +32,36 @@ pub(crate) struct ChainedFall {
 #[derive(Drop)]
 pub(crate) struct FallChains {
     pub all: Vec<ChainedFall>,
-    /// For each node the number of the first fall of its chain and 1; or 0.
+    /// For each node the number of the first fall of its chain and 2; 1 where there is none; 0 where it has no mark.
     pub first: Vec<u32>,
 }
 
 impl FallChains {
-    /// The number of the first fall from a node and 1; or 0.
+    /// All falls between nodes with these marks.
+    pub fn new(
+        alloc: Global,
+        h: &Hierarchy,
+        numbers: Vec<u32>,
+        nodes: &[u32],
+    ) -> Result<FallChains, AllocError>
+        requires small { HasNoFalls numbers.items }
+        requires marked { AreMarked h.now (marks_in numbers.items) nodes.now }
+        ensures falls { IfOk result (λ falls. HasFalls h.now (marks_in falls.first.items) falls.all.items
+            falls.first.items) }
+        ensures marks { IfOk result (λ falls. marks_in falls.first.items ≡ marks_in numbers.items) }
+    {
+        h.known();
+        let mut falls = FallChains {
+            all: Vec::new(alloc),
+            first: numbers,
+        };
+        for left in (0..nodes.len()).rev() {
+            falls.put_into(h, nodes[left])?;
+        }
+        Ok(falls)
+    }
+
+    /// The number of the first fall from a node and 2; 1 where there is none; 0 where the node has no mark.
     #[inline(always)]
     pub fn first_from(&self, v: u32) -> u32
         ensures { result ≡ slice_index_or self.now.first.items v 0 }
@@ -48,15 +72,37 @@ impl FallChains {
         }
     }
 
+    /// Puts the falls to a node before the others from the nodes that they leave.
+    fn put_into(&mut self, h: &Hierarchy, x: u32) -> Result<(), AllocError>
+        requires { All (IsFallAt h.now (marks_in self.old.first.items)) (places_into h.now x) }
+        ensures { OnOk result (PutsFalls h.now x self.old self.new) }
+    {
+        h.known();
+        let falls = h.falls_into(x);
+        for left in (0..falls.len()).rev() {
+            let fall = &falls[left];
+            self.put(
+                fall.from,
+                Fall {
+                    place: fall.place,
+                    to: number_of(x, true),
+                    weight: fall.weight,
+                },
+            )?;
+        }
+        Ok(())
+    }
+
     /// Puts a fall before the others from a node. That there are too many for a number counts as want of memory.
+    #[inline(always)]
     fn put(&mut self, v: u32, fall: Fall) -> Result<(), AllocError>
         requires { v < length self.old.first.items }
         ensures all { OnOk result (self.new.all.items ≡ self.old.all.items ++
             record { fall = fall; next = slice_index_or self.old.first.items v 0 } ∷ []) }
         ensures first { OnOk result (self.new.first.items ≡
-            set self.old.first.items v (length self.old.all.items + 1)) }
+            set self.old.first.items v (length self.old.all.items + 2)) }
     {
-        let number = self.all.len() + 1;
+        let number = self.all.len() + 2;
         if number > 0xffff_ffff {
             return Err(AllocError);
         }
@@ -64,63 +110,5 @@ impl FallChains {
         self.all.push(ChainedFall { fall, next })?;
         self.first[v as usize] = number as u32;
         Ok(())
-    }
-}
-
-/// All falls between nodes with these marks.
-pub(crate) fn falls(alloc: Global, h: &Hierarchy, marks: &Marks) -> Result<FallChains, AllocError>
-    requires { AreMarked h.now marks.now.flags.items marks.now.nodes.items }
-    ensures { IfOk result (λ falls. HasFalls h.now marks.now.flags.items falls.all.items falls.first.items) }
-{
-    h.known();
-    let places = gather(alloc, h, marks)?;
-    in_chains(alloc, h, marks.flags.len(), &places)
-}
-
-/// The places of the entries that lead down to a node with a mark, by where they lead. Each of them leaves another.
-fn gather(alloc: Global, h: &Hierarchy, marks: &Marks) -> Result<Vec<u64>, AllocError>
-    requires { AreMarked h.now marks.now.flags.items marks.now.nodes.items }
-    ensures { IfOk result (λ places. AreFallsByEnd h.now marks.now.flags.items places.items) }
-{
-    h.known();
-    let mut places = Vec::new(alloc);
-    for x in &marks.nodes {
-        places.extend_from_slice(h.falls_into(*x))?;
-    }
-    Ok(places)
-}
-
-/// The entries at these places, as falls. They leave nodes below a number.
-fn in_chains(
-    alloc: Global,
-    h: &Hierarchy,
-    nodes: usize,
-    places: &[u64],
-) -> Result<FallChains, AllocError>
-    requires { All (LeavesBelow h.now nodes) places.now }
-    ensures { IfOk result (λ falls. AreChains h.now places.now falls.all.items falls.first.items) }
-{
-    let mut falls = FallChains {
-        all: Vec::with_capacity(alloc, places.len())?,
-        first: vec![in alloc; 0; nodes]?,
-    };
-    for left in (0..places.len()).rev() {
-        let place = places[left];
-        falls.put(h.entries()[place as usize].from, fall_at(h, place))?;
-    }
-    Ok(falls)
-}
-
-/// The entry at a place, which leads into the descent.
-fn fall_at(h: &Hierarchy, place: u64) -> Fall
-    requires { place < length h.now.entries }
-    ensures { result ≡ fall_at h.now place }
-{
-    h.known();
-    let entry = &h.entries()[place as usize];
-    Fall {
-        place,
-        to: number_of(entry.to, true),
-        weight: entry.weight,
     }
 }

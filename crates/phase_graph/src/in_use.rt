@@ -6,6 +6,7 @@ ghost use Rattle.hierarchy.specs.Soundness.{IsSound};
 ghost use Rattle.phase_graph.specs.Arcs.{phase_node};
 ghost use Rattle.phase_graph.specs.InUse.{IsInUse, IsSoundIfGiven, starts_in, ends_in, target_numbers};
 
+use crate::mark_table::MarkTable;
 use crate::phases::{Phases, number_of};
 use hierarchy::Hierarchy;
 use mode_network::Network;
@@ -39,13 +40,42 @@ impl<'a> GraphInUse<'a> {
         ensures network { IfOk result (λ g. network_in g ≡ network.now) }
         ensures hierarchy { IfOk result (λ g. hierarchy_in g ≡ option_map (λ h. h.now) hierarchy.entry) }
     {
+        let mut table = MarkTable::new(alloc);
+        GraphInUse::new_in(alloc, &mut table, network, hierarchy, targets)
+    }
+
+    /// The same as [`new`](Self::new), with marks in the numbers of a table, which it makes anew until they are given
+    /// back.
+    pub fn new_in(
+        alloc: Global,
+        table: &mut MarkTable,
+        network: &'a Network,
+        hierarchy: Option<&'a Hierarchy>,
+        targets: &[u32],
+    ) -> Result<GraphInUse<'a>, AllocError>
+        requires { IfSome hierarchy (λ h. IsSound network.now h.now) }
+        ensures is { IfOk result (λ g. IsInUse network.now (option_map (λ h. h.now) hierarchy.entry)
+            targets.now (meaning_in_use g)) }
+        ensures sound { IfOk result (λ _. IsSoundIfGiven network.now
+            (option_map (λ h. h.now) hierarchy.entry)) }
+        ensures network { IfOk result (λ g. network_in g ≡ network.now) }
+        ensures hierarchy { IfOk result (λ g. hierarchy_in g ≡ option_map (λ h. h.now) hierarchy.entry) }
+    {
         match hierarchy {
             None => Ok(GraphInUse::Plain(Plain::new(network))),
             Some(hierarchy) => {
                 hierarchy.known();
-                let phases = Phases::new(alloc, network, hierarchy, targets)?;
+                let phases = Phases::new(alloc, table, network, hierarchy, targets)?;
                 Ok(GraphInUse::Phases(phases))
             }
+        }
+    }
+
+    /// Gives the numbers of its marks, if it has some, back to a table.
+    pub fn give_back(self, table: &mut MarkTable) {
+        match self {
+            GraphInUse::Plain(_) => {}
+            GraphInUse::Phases(phases) => phases.give_back(table),
         }
     }
 }

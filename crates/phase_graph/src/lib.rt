@@ -4,6 +4,7 @@
 
 mod falls;
 pub mod in_use;
+pub mod mark_table;
 mod marks;
 pub mod phases;
 
@@ -11,6 +12,7 @@ ghost use Rattle.phase_graph.specs.Arcs.{PhaseGraphsHaveMoves, PhaseGraphsHaveNo
 ghost use Rattle.phase_graph.specs.Laws.{JourneysHavePhaseWalks, PhaseWalksHaveJourneys};
 
 pub use in_use::{GraphInUse, ends_in, starts_in};
+pub use mark_table::MarkTable;
 pub use phases::{PhaseArc, Phases};
 
 /// For each journey to a target, whatever sound hierarchy is taken, there is a walk through the phase graph with the

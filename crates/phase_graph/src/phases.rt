@@ -1,6 +1,7 @@
 //! The phase graph of a hierarchy, as a graph that can be searched.
 
 ghost use Rattle.std.specs.Prelude.{◌≡◌, ◌<◌, ◌+◌, ◌*◌, ◌^◌, ◌++◌, ◌≤◌, Bool, All, IfOk, OnOk, length, map, take, drop};
+ghost use Rattle.std.proofs.Props.{props};
 ghost use Rattle.search_laws.specs.GraphLaws.{IsLawfulGraph};
 ghost use Rattle.mode_network.specs.NetworkLists.{nodes_of};
 ghost use Rattle.hierarchy.specs.declared.entry.Entry.{Entry};
@@ -8,10 +9,13 @@ ghost use Rattle.hierarchy.specs.Soundness.{IsSound};
 ghost use Rattle.plain_graph.specs.Lawful.{IsLawfulGraph-prop};
 ghost use Rattle.phase_graph.specs.Arcs.{phase_node};
 ghost use Rattle.phase_graph.specs.PhaseArcs.{phase_meaning, node_of, is_down, renumbered, FitsAnew};
+ghost use Rattle.phase_graph.specs.Marks.{marks_in};
 ghost use Rattle.phase_graph.specs.inside.Falls.{HasFalls, HasFalls-prop, fall_way};
+ghost use Rattle.phase_graph.specs.inside.Marking.{AreListed};
 
-use crate::falls::{Fall, FallChains, falls};
-use crate::marks::mark_nodes;
+use crate::falls::{Fall, FallChains};
+use crate::mark_table::MarkTable;
+use crate::marks::{Marks, mark_nodes};
 use hierarchy::{Entry, Hierarchy};
 use mode_network::Network;
 use plain_graph::Plain;
@@ -37,11 +41,13 @@ pub enum PhaseArc {
 pub struct Phases<'a> {
     plain: Plain<'a>,
     hierarchy: &'a Hierarchy,
-    marks: Vec<bool>,
     falls: FallChains,
-    ghost listed: { HasFalls hierarchy.now marks.items falls.all.items falls.first.items } by { HasFalls-prop hierarchy.now marks.items falls.all.items falls.first.items },
+    /// The nodes that have a mark.
+    marked: Vec<u32>,
+    ghost listed: { AreListed falls.first.items marked.items } by { Prim.hlevel props },
+    ghost chained: { HasFalls hierarchy.now (marks_in falls.first.items) falls.all.items falls.first.items } by { HasFalls-prop hierarchy.now _ falls.all.items falls.first.items },
     pub ghost sound: { ∥ IsSound plain.network.now hierarchy.now ∥₁ },
-    pub ghost lawful: { IsLawfulGraph (phase_meaning plain.network.now plain.timetable.now hierarchy.now marks.items) } by { IsLawfulGraph-prop _ },
+    pub ghost lawful: { IsLawfulGraph (phase_meaning plain.network.now plain.timetable.now hierarchy.now (marks_in falls.first.items)) } by { IsLawfulGraph-prop _ },
 }
 
 impl<'a> Phases<'a> {
@@ -50,7 +56,7 @@ impl<'a> Phases<'a> {
     ghost use Rattle.search_laws.specs.Ways.{ways_from, is_open};
     ghost use Rattle.mode_network.specs.NetworkLists.{nodes_of, letter_at};
     ghost use Rattle.phase_graph.specs.Arcs.{IsPhaseGraph, phase_node};
-    ghost use Rattle.phase_graph.specs.Marks.{AreMarksFor, has_mark, is_fall};
+    ghost use Rattle.phase_graph.specs.Marks.{AreMarksFor, has_mark, is_fall, marks_in};
     ghost use Rattle.hierarchy.specs.Lookups.{AreFrom, entry_at};
     ghost use Rattle.timetable_arcs.specs.Table.{IsTable};
     ghost use Rattle.phase_graph.specs.Walked.{JourneysHaveWalks, WalksHaveJourneys};
@@ -60,8 +66,9 @@ impl<'a> Phases<'a> {
     /// The phase graph of a sound hierarchy for these targets, which are nodes of the network. For each journey to a
     /// target it has a walk that arrives no later, with the same ends, whose word collapses to the same; and for each of
     /// its walks there is a journey with the same ends, arrival and collapsed word. Fails where memory runs out.
-    pub fn new(
+    pub(crate) fn new(
         alloc: Global,
+        table: &mut MarkTable,
         network: &'a Network,
         hierarchy: &'a Hierarchy,
         targets: &[u32],
@@ -70,25 +77,35 @@ impl<'a> Phases<'a> {
         ensures network { IfOk result (λ p. p.plain.network.now ≡ network.now) }
         ensures hierarchy { IfOk result (λ p. p.hierarchy.now ≡ hierarchy.now) }
         ensures keeps { IfOk result (λ p. IsTable p.plain.timetable.now) }
-        ensures marks { IfOk result (λ p. AreMarksFor hierarchy.now targets.now p.marks.items) }
+        ensures marks { IfOk result (λ p. AreMarksFor hierarchy.now targets.now
+            (marks_in p.falls.first.items)) }
         ensures is { IfOk result (λ p. IsPhaseGraph network.now hierarchy.now targets.now
-            (phase_meaning network.now p.plain.timetable.now hierarchy.now p.marks.items)) }
+            (phase_meaning network.now p.plain.timetable.now hierarchy.now (marks_in p.falls.first.items))) }
         ensures journeys { IfOk result (λ p. JourneysHaveWalks network.now hierarchy.now targets.now
-            (phase_meaning network.now p.plain.timetable.now hierarchy.now p.marks.items)) }
+            (phase_meaning network.now p.plain.timetable.now hierarchy.now (marks_in p.falls.first.items))) }
         ensures walks { IfOk result (λ p. WalksHaveJourneys network.now
-            (phase_meaning network.now p.plain.timetable.now hierarchy.now p.marks.items)) }
+            (phase_meaning network.now p.plain.timetable.now hierarchy.now (marks_in p.falls.first.items))) }
     {
         network.known();
         hierarchy.known();
-        let marks = mark_nodes(alloc, network.nodes(), hierarchy, targets)?;
-        let falls = falls(alloc, hierarchy, &marks)?;
+        let count = network.nodes();
+        let numbers = table.take(alloc, count)?;
+        let marks = mark_nodes(alloc, count, numbers, hierarchy, targets)?;
+        let Marks { numbers, nodes } = marks;
+        let falls = FallChains::new(alloc, hierarchy, numbers, &nodes)?;
         let plain = Plain::new(network);
         Ok(Phases {
             plain,
             hierarchy,
-            marks: marks.flags,
             falls,
+            marked: nodes,
         })
+    }
+
+    /// Gives the numbers of its marks back to a table.
+    pub(crate) fn give_back(self, table: &mut MarkTable) {
+        let falls = self.falls;
+        table.put(falls.first, &self.marked);
     }
 
     /// The graph of the network.
@@ -152,7 +169,7 @@ impl<'a> Phases<'a> {
     /// Whether an entry leads down from a node with a mark to another.
     #[inline(always)]
     fn is_fall(&self, entry: &Entry) -> bool
-        ensures { result ≡ is_fall self.now.hierarchy.now self.now.marks.items entry.now }
+        ensures { result ≡ is_fall self.now.hierarchy.now (marks_in self.now.falls.first.items) entry.now }
     {
         self.has_mark(entry.to)
             && self.has_mark(entry.from)
@@ -162,10 +179,9 @@ impl<'a> Phases<'a> {
     /// Whether a node has a mark.
     #[inline(always)]
     fn has_mark(&self, v: u32) -> bool
-        ensures { result ≡ has_mark self.now.marks.items v }
+        ensures { result ≡ has_mark (marks_in self.now.falls.first.items) v }
     {
-        let v = v as usize;
-        v < self.marks.len() && self.marks[v]
+        self.falls.first_from(v) > 0
     }
 
     /// How many arcs out of a node lead along no entry: the plain graph's but its road arcs, or in the
@@ -203,9 +219,9 @@ impl<'a> Phases<'a> {
     /// common with this one.
     pub fn phase_arc(&self, p: u32, i: u64) -> PhaseArc
         requires node { p < (phase_meaning self.now.plain.network.now self.now.plain.timetable.now
-            self.now.hierarchy.now self.now.marks.items).nodes }
+            self.now.hierarchy.now (marks_in self.now.falls.first.items)).nodes }
         requires arc { i < (phase_meaning self.now.plain.network.now self.now.plain.timetable.now
-            self.now.hierarchy.now self.now.marks.items).arcs p }
+            self.now.hierarchy.now (marks_in self.now.falls.first.items)).arcs p }
         ensures value { result ≡ phase_arc self.now.plain.network.now self.now.hierarchy.now (node_of p)
             (is_down p) i }
         ensures fits { IsArcOutOf self.now.plain.network.now self.now.plain.timetable.now
@@ -254,7 +270,7 @@ impl<'a> Phases<'a> {
     fn fall_arrival(&self, place: u64, t: Time) -> Option<Time>
         requires place { place < length self.now.hierarchy.now.entries }
         requires time { t < 2 ^ 127 }
-        ensures { result ≡ fall_arrival self.now.hierarchy.now self.now.marks.items place t }
+        ensures { result ≡ fall_arrival self.now.hierarchy.now (marks_in self.now.falls.first.items) place t }
     {
         if self.is_fall(&self.hierarchy.entries()[place as usize]) {
             Some(t + self.weight(place))
@@ -288,7 +304,7 @@ impl<'a> Phases<'a> {
         requires time { visit.at < 2 ^ 127 }
         ensures { OnOk result (ways.new.items ≡ ways.old.items ++ ways_from
             (phase_meaning self.now.plain.network.now self.now.plain.timetable.now self.now.hierarchy.now
-            self.now.marks.items) visit.node visit.at visit.letters 0
+            (marks_in self.now.falls.first.items)) visit.node visit.at visit.letters 0
             (length (rises_at self.now.hierarchy.now (node_of visit.node) (is_down visit.node)))) }
     {
         let p = visit.node;
@@ -309,17 +325,17 @@ impl<'a> Phases<'a> {
             (node_of visit.node)) ≡ true }
         ensures { OnOk result (ways.new.items ≡ ways.old.items ++ ways_from
             (phase_meaning self.now.plain.network.now self.now.plain.timetable.now self.now.hierarchy.now
-            self.now.marks.items) visit.node visit.at visit.letters (length (rises_at self.now.hierarchy.now
-            (node_of visit.node) (is_down visit.node))) (entries_at self.now.hierarchy.now
-            (node_of visit.node))) }
+            (marks_in self.now.falls.first.items)) visit.node visit.at visit.letters
+            (length (rises_at self.now.hierarchy.now (node_of visit.node) (is_down visit.node)))
+            (entries_at self.now.hierarchy.now (node_of visit.node))) }
     {
         let (v, down) = split(visit.node);
         let letter = self.network().letter(v);
         let ups = self.rises_at(v, down).len() as u64;
         let (first, _) = self.entries_at(v);
         let mut number = self.falls.first_from(v);
-        while number > 0 {
-            let chained = &self.falls.all[number as usize - 1];
+        while number > 1 {
+            let chained = &self.falls.all[number as usize - 2];
             ways.push(fall_way(letter, visit.at, first, ups, &chained.fall))?;
             number = chained.next;
         }
@@ -332,11 +348,12 @@ impl<'a> Phases<'a> {
         requires time { visit.at < 2 ^ 127 }
         ensures { OnOk result (ways.new.items ≡ ways.old.items ++ ways_from
             (phase_meaning self.now.plain.network.now self.now.plain.timetable.now self.now.hierarchy.now
-            self.now.marks.items) visit.node visit.at visit.letters (length (rises_at self.now.hierarchy.now
-            (node_of visit.node) (is_down visit.node))) (entries_at self.now.hierarchy.now
-            (node_of visit.node))) }
+            (marks_in self.now.falls.first.items)) visit.node visit.at visit.letters
+            (length (rises_at self.now.hierarchy.now (node_of visit.node) (is_down visit.node)))
+            (entries_at self.now.hierarchy.now (node_of visit.node))) }
     {
-        if is_open(visit.letters, self.network().letter(visit.node / 2)) {
+        let v = visit.node / 2;
+        if self.falls.first_from(v) > 1 && is_open(visit.letters, self.network().letter(v)) {
             self.push_open_falls(visit, ways)
         } else {
             Ok(())
@@ -355,11 +372,11 @@ impl<'a> Phases<'a> {
         requires time { visit.at < 2 ^ 127 }
         ensures { OnOk result (AddsFresh (phase_rides self.now.plain.network.now self.now.plain.timetable.now)
             visit.state given.old given.new (ways_from (phase_meaning self.now.plain.network.now
-            self.now.plain.timetable.now self.now.hierarchy.now self.now.marks.items) visit.node visit.at
-            visit.letters (length (rises_at self.now.hierarchy.now (node_of visit.node) (is_down visit.node))
-            + entries_at self.now.hierarchy.now (node_of visit.node)) (others_at self.now.plain.network.now
-            self.now.plain.timetable.now (node_of visit.node) (is_down visit.node))) ways.old.items
-            ways.new.items) }
+            self.now.plain.timetable.now self.now.hierarchy.now (marks_in self.now.falls.first.items))
+            visit.node visit.at visit.letters (length (rises_at self.now.hierarchy.now (node_of visit.node)
+            (is_down visit.node)) + entries_at self.now.hierarchy.now (node_of visit.node))
+            (others_at self.now.plain.network.now self.now.plain.timetable.now (node_of visit.node)
+            (is_down visit.node))) ways.old.items ways.new.items) }
     {
         let (v, down) = split(visit.node);
         let first = self.rises_at(v, down).len() as u64 + self.entries_at(v).1;
@@ -387,9 +404,10 @@ impl<'a> Phases<'a> {
         requires time { visit.at < 2 ^ 127 }
         ensures { OnOk result (AddsFresh (phase_rides self.now.plain.network.now self.now.plain.timetable.now)
             visit.state given.old given.new (ways_from (phase_meaning self.now.plain.network.now
-            self.now.plain.timetable.now self.now.hierarchy.now self.now.marks.items) visit.node visit.at
-            visit.letters first (others_at self.now.plain.network.now self.now.plain.timetable.now
-            (node_of visit.node) (is_down visit.node))) ways.old.items ways.new.items) }
+            self.now.plain.timetable.now self.now.hierarchy.now (marks_in self.now.falls.first.items))
+            visit.node visit.at visit.letters first (others_at self.now.plain.network.now
+            self.now.plain.timetable.now (node_of visit.node) (is_down visit.node))) ways.old.items
+            ways.new.items) }
     {
         self.plain.timetable().known();
         let node = visit.node / 2;
@@ -408,7 +426,7 @@ impl<'a> Phases<'a> {
             (is_down visit.node)) + entries_at self.now.hierarchy.now (node_of visit.node) }
         ensures { OnOk result (ways.new.items ≡ ways.old.items ++ ways_from
             (phase_meaning self.now.plain.network.now self.now.plain.timetable.now self.now.hierarchy.now
-            self.now.marks.items) visit.node visit.at visit.letters first
+            (marks_in self.now.falls.first.items)) visit.node visit.at visit.letters first
             (others_at self.now.plain.network.now self.now.plain.timetable.now (node_of visit.node)
             (is_down visit.node))) }
     {
@@ -429,10 +447,11 @@ impl<'a> Phases<'a> {
 }
 
 impl Graph for Phases<'_> {
+    ghost use Rattle.phase_graph.specs.Marks.{marks_in};
     ghost use Rattle.phase_graph.specs.PhaseArcs.{phase_meaning, phase_rides, legs_at, node_of, is_down};
 
     ghost meaning = { λ g. phase_meaning g.plain.network.now g.plain.timetable.now g.hierarchy.now
-        g.marks.items };
+        (marks_in g.falls.first.items) };
 
     fn nodes(&self) -> u32 {
         2 * self.network().nodes()
@@ -512,12 +531,12 @@ pub(crate) fn number_of(v: u32, down: bool) -> u32
 /// A fall as a way, where the places that began at `first` begin at `now`.
 fn fall_way(letter: Option<u8>, t: Time, first: u64, now: u64, fall: &Fall) -> Way
     requires place { first ≤ fall.now.place }
-    requires few { fall.now.place + now < 2 ^ 63 }
+    requires few { now < 2 ^ 63 }
     requires time { t < 2 ^ 127 }
     ensures { result ≡ fall_way letter t first now fall.now }
 {
     Way {
-        place: fall.place - first + now,
+        place: fall.place as u64 - first + now,
         arc: GraphArc {
             to: fall.to,
             letter,

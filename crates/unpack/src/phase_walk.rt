@@ -4,6 +4,7 @@ ghost use Rattle.std.specs.Prelude.{◌≡◌, ◌≢◌, ◌<◌, [], IfOk, OnO
 ghost use Rattle.search_laws.specs.GraphLaws.{HasArc};
 ghost use Rattle.hierarchy.specs.Soundness.{IsSound};
 ghost use Rattle.hierarchy.specs.Lookups.{entry_at};
+ghost use Rattle.phase_graph.specs.Marks.{marks_in};
 ghost use Rattle.phase_graph.specs.PhaseArcs.{phase_meaning, node_of};
 ghost use Rattle.unpack.specs.Unpacking.{AreHopsIn, IsSoon, node_after, arrival_after};
 ghost use Rattle.unpack.specs.PhaseUnpacking.{IsUnpacked, GoesOn, GoesOnByArc, GoesOnByRoads, ArePartsOf, letters_in};
@@ -104,11 +105,12 @@ fn push_arc(
     steps: &mut Vec<Step>,
 ) -> Result<(), AllocError>
     requires has { HasArc (phase_meaning phases.now.plain.network.now phases.now.plain.timetable.now
-        phases.now.hierarchy.now phases.now.marks.items) p i }
+        phases.now.hierarchy.now (marks_in phases.now.falls.first.items)) p i }
     requires none { stack.old.items ≡ [] }
     ensures none { OnOk result (stack.new.items ≡ []) }
     ensures steps { OnOk result (GoesOnByArc phases.now.plain.network.now phases.now.plain.timetable.now
-        phases.now.hierarchy.now phases.now.marks.items p i t steps.old.items steps.new.items) }
+        phases.now.hierarchy.now (marks_in phases.now.falls.first.items) p i t steps.old.items
+        steps.new.items) }
 {
     match phases.phase_arc(p, i) {
         PhaseArc::Up(place) => push_entry_at(phases, place, stack, steps),
@@ -130,11 +132,11 @@ fn steps(
     hops: &[Hop],
 ) -> Result<Vec<Step>, AllocError>
     requires { AreHopsIn (phase_meaning phases.now.plain.network.now phases.now.plain.timetable.now
-        phases.now.hierarchy.now phases.now.marks.items) start at hops.now }
+        phases.now.hierarchy.now (marks_in phases.now.falls.first.items)) start at hops.now }
     ensures { IfOk result (λ steps. GoesOn phases.now.plain.network.now (node_of start) at
         (node_of (node_after start hops.now)) (arrival_after at hops.now)
         (letters_in (phase_meaning phases.now.plain.network.now phases.now.plain.timetable.now
-        phases.now.hierarchy.now phases.now.marks.items) start hops.now) [] steps.items) }
+        phases.now.hierarchy.now (marks_in phases.now.falls.first.items)) start hops.now) [] steps.items) }
 {
     let mut steps = Vec::with_capacity(alloc, hops.len())?;
     let mut stack = Vec::new(alloc);
@@ -155,14 +157,15 @@ pub(crate) fn from_phases(
     walk: &Walk,
 ) -> Result<Journey, AllocError>
     requires { AreHopsIn (phase_meaning phases.now.plain.network.now phases.now.plain.timetable.now
-        phases.now.hierarchy.now phases.now.marks.items) walk.now.node walk.now.at walk.now.hops.items }
+        phases.now.hierarchy.now (marks_in phases.now.falls.first.items)) walk.now.node walk.now.at
+        walk.now.hops.items }
     ensures start { IfOk result (λ j. j.start ≡ node_of walk.now.node) }
     ensures at { IfOk result (λ j. j.at ≡ walk.now.at) }
     ensures unpacked { IfOk result (λ j. IsUnpacked phases.now.plain.network.now j.start j.at j.steps
         (node_of (node_after walk.now.node walk.now.hops.items))
         (arrival_after walk.now.at walk.now.hops.items) (letters_in
         (phase_meaning phases.now.plain.network.now phases.now.plain.timetable.now phases.now.hierarchy.now
-        phases.now.marks.items) walk.now.node walk.now.hops.items)) }
+        (marks_in phases.now.falls.first.items)) walk.now.node walk.now.hops.items)) }
     ensures soon { IfOk result (λ j. All IsSoon j.steps) }
 {
     phases.plain().timetable().known();

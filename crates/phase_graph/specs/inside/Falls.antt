@@ -1,14 +1,15 @@
 -- The entries that lead down from a node with a mark to another: those of each node are a chain, in the order of their places.
-use Rattle.std.specs.Prelude.{◌≡◌, ℕ, ◌+◌, ◌-◌, ◌<◌, ◌≤◌, ◌==◌, Bool, true, List, [], ◌∷◌, length, map, filter, Option, All, AllPairs, Contains, slice_index_or}
-use Rattle.std.specs.List.{range_with_len}
+use Rattle.std.specs.Prelude.{◌≡◌, ℕ, ◌+◌, ◌-◌, ◌<◌, ◌≤◌, ◌==◌, Bool, true, List, [], ◌∷◌, ◌++◌, length, map, filter, Option, slice_index_or}
+use Rattle.std.specs.List.{flat_map, range_with_len}
 use Rattle.std.proofs.Props.{props}
 use Rattle.search_laws.specs.declared.graph.Way.{Way}
 use Rattle.hierarchy.specs.Lists.{HierarchyLists}
+use Rattle.hierarchy.specs.Lookups.{entry_at, falls_to, places_of}
 use Rattle.phase_graph.specs.declared.falls.ChainedFall.{ChainedFall}
 use Rattle.phase_graph.specs.declared.falls.Fall.{Fall}
+use Rattle.phase_graph.specs.declared.falls.FallChains.{FallChains}
 use Rattle.phase_graph.specs.Arcs.{phase_node}
-use Rattle.phase_graph.specs.Marks.{is_fall}
-use Rattle.hierarchy.specs.Lookups.{entry_at}
+use Rattle.phase_graph.specs.Marks.{is_fall, marks_in}
 use Rattle.phase_graph.specs.PhaseArcs.{entries_at, first_entry}
 
 -- the entry at a place, which leads into the descent
@@ -24,36 +25,28 @@ pub record IsFallFrom (first count : ℕ) (fall : Fall) : Type 0 where
   pub low : first ≤ fall.place
   pub high : fall.place < first + count
 
--- ---- all of them, by where they lead
-
 -- the entry at this place leads down from a node with a mark to another
 abbrev pub IsFallAt : HierarchyLists → List Bool → ℕ → Type 0
 IsFallAt h marks place = (place < length h.entries) × (is_fall h marks (entry_at h.entries place) ≡ true)
 
--- an entry that leaves the same node as an earlier one stands behind it
-abbrev pub AreInTurn : HierarchyLists → List ℕ → Type 0
-AreInTurn h places = AllPairs (λ j k. (entry_at h.entries j).from ≡ (entry_at h.entries k).from → j < k) places
+-- the places of the entries that lead down to a node
+abbrev pub places_into : HierarchyLists → ℕ → List ℕ
+places_into h x = places_of (falls_to h.order x) h.entries
 
--- all places of such entries are in the list, and no others
-pub record AreFallsByEnd (h : HierarchyLists) (marks : List Bool) (places : List ℕ) : Type 0 where
-  pub each : All (IsFallAt h marks) places
-  pub all : (place : ℕ) → IsFallAt h marks place → Contains places place
-  pub in_turn : AreInTurn h places
+-- and to one node after the other
+abbrev pub places_into_all : HierarchyLists → List ℕ → List ℕ
+places_into_all h nodes = flat_map (places_into h) nodes
 
 -- ---- in chains
 
--- what has a number and 1
+-- what has a number and 2
 abbrev pub chained_at : List ChainedFall → ℕ → ChainedFall
-chained_at all number = slice_index_or all (number - 1) (record { fall = record { place = 0; to = 0; weight = 0 }; next = 0 })
+chained_at all number = slice_index_or all (number - 2) (record { fall = record { place = 0; to = 0; weight = 0 }; next = 0 })
 
--- from the one with this number and 1 on the chain has these falls; each of them was put before the next
+-- from the one with this number and 2 on the chain has these falls; each of them was put before the next
 abbrev pub IsChain : List ChainedFall → ℕ → List Fall → Type 0
-IsChain all number [] = number ≡ 0
-IsChain all number (fall ∷ falls) = (0 < number) × (number ≤ length all) × ((chained_at all number).fall ≡ fall) × ((chained_at all number).next < number) × IsChain all (chained_at all number).next falls
-
--- the entry at this place leaves a node below the number
-abbrev pub LeavesBelow : HierarchyLists → ℕ → ℕ → Type 0
-LeavesBelow h nodes place = (place < length h.entries) × ((entry_at h.entries place).from < nodes)
+IsChain all number [] = number ≤ 1
+IsChain all number (fall ∷ falls) = (1 < number) × (number ≤ length all + 1) × ((chained_at all number).fall ≡ fall) × ((chained_at all number).next < number) × IsChain all (chained_at all number).next falls
 
 -- those of the places where entries leave v
 abbrev pub places_from : HierarchyLists → List ℕ → ℕ → List ℕ
@@ -62,6 +55,11 @@ places_from h places v = filter (λ place. (entry_at h.entries place).from == v)
 -- the chain of each node has the falls at those of these places where entries leave it, in their order
 abbrev pub AreChains : HierarchyLists → List ℕ → List ChainedFall → List ℕ → Type 0
 AreChains h places all first = (v : ℕ) → IsChain all (slice_index_or first v 0) (map (fall_at h) (places_from h places v))
+
+-- the falls to x are put before the others of their chains
+pub record PutsFalls (h : HierarchyLists) (x : ℕ) (old new : FallChains) : Type 0 where
+  pub chains : (places : List ℕ) → AreChains h places old.all.items old.first.items → AreChains h (places_into h x ++ places) new.all.items new.first.items
+  pub marks : marks_in new.first.items ≡ marks_in old.first.items
 
 -- the chain of each node has its falls
 abbrev pub HasFalls : HierarchyLists → List Bool → List ChainedFall → List ℕ → Type 0

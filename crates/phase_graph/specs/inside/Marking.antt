@@ -1,20 +1,37 @@
 -- How far the marking of nodes has come: the nodes that have a mark wait in a list, and are followed one after the other.
-use Rattle.std.specs.Prelude.{◌≡◌, ℕ, ◌+◌, ◌<◌, ◌≤◌, ◌⊎◌, Bool, true, not, List, length, All, AllPairs, Contains, slice_index_or, count_by}
+use Rattle.std.specs.Prelude.{◌≡◌, ℕ, ◌+◌, ◌<◌, ◌≤◌, ◌⊎◌, ◌==◌, Bool, true, List, length, All, AllPairs, Contains, slice_index_or, count_by}
 use Rattle.hierarchy.specs.declared.entry.Entry.{Entry}
 use Rattle.hierarchy.specs.Lists.{HierarchyLists, IsAbove}
 use Rattle.phase_graph.specs.Moves.{IsMarked}
 use Rattle.phase_graph.specs.Marks.{has_mark}
 
--- the marks of so many nodes are those of the nodes in the list, and at most so many can still be set
-pub record AreMarks (nodes : ℕ) (marks : List Bool) (queue : List ℕ) : Type 0 where
-  pub one_each : length marks ≡ nodes
-  pub listed : (v : ℕ) → has_mark marks v ≡ true → Contains queue v
-  pub set : (v : ℕ) → Contains queue v → has_mark marks v ≡ true
-  pub few : count_by not marks + length queue ≤ nodes
+-- the number of a node, which is 0 past the end
+abbrev pub number_at : List ℕ → ℕ → ℕ
+number_at numbers v = slice_index_or numbers v 0
+
+abbrev pub HasNoMarks : List ℕ → Type 0
+HasNoMarks numbers = (v : ℕ) → number_at numbers v ≡ 0
+
+-- a node with a mark has 1 while it has no fall
+abbrev pub HasNoFalls : List ℕ → Type 0
+HasNoFalls numbers = (v : ℕ) → number_at numbers v ≤ 1
+
+-- so many nodes have numbers, which are 0
+pub record AreClear (nodes : ℕ) (numbers : List ℕ) : Type 0 where
+  pub one_each : length numbers ≡ nodes
+  pub none : HasNoMarks numbers
+
+-- the numbers of so many nodes are 1 at the nodes in the list and 0 at the others, of which at most so many can still be set
+pub record AreMarks (nodes : ℕ) (numbers : List ℕ) (queue : List ℕ) : Type 0 where
+  pub one_each : length numbers ≡ nodes
+  pub small : HasNoFalls numbers
+  pub listed : (v : ℕ) → 0 < number_at numbers v → Contains queue v
+  pub set : (v : ℕ) → Contains queue v → 0 < number_at numbers v
+  pub few : count_by (λ number. number == 0) numbers + length queue ≤ nodes
 
 -- all of the list are marked nodes
-pub record IsMarking (h : HierarchyLists) (targets : List ℕ) (nodes : ℕ) (marks : List Bool) (queue : List ℕ) : Type 0 where
-  pub are : AreMarks nodes marks queue
+pub record IsMarking (h : HierarchyLists) (targets : List ℕ) (nodes : ℕ) (numbers : List ℕ) (queue : List ℕ) : Type 0 where
+  pub are : AreMarks nodes numbers queue
   pub each : All (IsMarked h targets) queue
 
 -- the later list goes on where the earlier ends
@@ -31,6 +48,11 @@ IsFollowedAt h queue x k = (e : Entry) → k < length h.entries → slice_index_
 
 abbrev pub IsFollowed : HierarchyLists → List ℕ → ℕ → Type 0
 IsFollowed h queue x = (k : ℕ) → IsFollowedAt h queue x k
+
+-- the list has each node whose number is not 0, and no others than have one
+pub record AreListed (numbers nodes : List ℕ) : Type 0 where
+  pub within : All (λ v. v < length numbers) nodes
+  pub others : (v : ℕ) → (Contains nodes v → ⊥) → number_at numbers v ≡ 0
 
 -- the nodes are those with a mark, ascending, and whatever leads down to one of them leaves another
 pub record AreMarked (h : HierarchyLists) (marks : List Bool) (nodes : List ℕ) : Type 0 where

@@ -4,9 +4,13 @@ use Rattle.std.proofs.lemmas.Bool.{eqb-true, eqb-false}
 use Rattle.std.proofs.lemmas.List.{get_or_default}
 use Rattle.std.proofs.lemmas.List.Elements.{All-contains}
 use Rattle.std.proofs.lemmas.List.Filters.{dedup_is}
+use Rattle.phase_graph.specs.Marks.{marks_in}
 use Rattle.phase_graph.specs.inside.Marking.{AreMarked, IsFollowed}
-use Rattle.phase_graph.proofs.MarkLemmas.{extends_contains, still_followed, are_marks, marked_in_order, marked_targets}
+use Rattle.phase_graph.proofs.MarkLemmas.{extends_contains, still_followed, are_marks, marked_in_order, marked_targets, none_marked}
 use Rattle.phase_graph.proofs.marks.mark_nodes.Goals as goal
+
+pub mark_targets-requires : goal.mark_targets-requires
+mark_targets-requires c = record { marks = rw c.new-queue.ensures.items (none_marked c.args.nodes c.args.numbers.items c.requires.clear); none = c.new-queue.ensures.items }
 
 pub loop-next-init : goal.loop-next-init
 loop-next-init c = record {
@@ -43,10 +47,10 @@ pub returns : goal.returns
 returns c = record {
   marks = are_marks c.args.h.now c.args.targets.now c.loop-next.queue.items c.args.nodes c.requires.below all_followed
       (λ v there. All-contains (λ u. u < c.args.nodes → Contains c.loop-next.queue.items u) c.args.targets.now v c.loop-next.invariant.started there)
-      c.loop-next.marks.items c.loop-next.invariant.marking;
-  nodes = (let are = c.loop-next.invariant.marking.are in
-      subst (AreMarked c.args.h.now c.loop-next.marks.items) (sym (dedup_is _ _ _ c.dedup.ensures.filtered))
-      (marked_in_order c.args.h.now c.loop-next.marks.items c.loop-next.queue.items _ are.listed are.set all_followed c.sort_unstable.ensures.permutation c.sort_unstable.ensures.sorted));
+      c.loop-next.numbers.items c.loop-next.invariant.marking;
+  small = c.loop-next.invariant.marking.are.small;
+  nodes = subst (AreMarked c.args.h.now (marks_in c.loop-next.numbers.items)) (sym (dedup_is _ _ _ c.dedup.ensures.filtered))
+      (marked_in_order c.args.h.now c.args.nodes c.loop-next.numbers.items c.loop-next.queue.items _ c.loop-next.invariant.marking.are all_followed c.sort_unstable.ensures.permutation c.sort_unstable.ensures.sorted);
 } where
   all_followed : (x : ℕ) → Contains c.loop-next.queue.items x → IsFollowed c.args.h.now c.loop-next.queue.items x
   all_followed x (i, lt, is) = subst (IsFollowed c.args.h.now c.loop-next.queue.items) is (c.loop-next.invariant.followed i x (omega (arith, lt, c.loop-next-test.false, c.len.ensures)))

@@ -4,7 +4,7 @@ use Rattle.phase_graph.proofs.marks.mark_nodes.Given as goal
 
 abbrev pub invariant-loop-next : goal.invariant-loop-next
 invariant-loop-next l = record {
-  marking : IsMarking l.h l.targets l.nodes l.marks.items l.queue.items;
+  marking : IsMarking l.h l.targets l.nodes l.numbers.items l.queue.items;
   started : All (λ v. v < l.nodes → Contains l.queue.items v) l.targets;
   followed : (j d : ℕ) → j < l.next → IsFollowed l.h l.queue.items (slice_index_or l.queue.items j d);
 }

@@ -1,6 +1,7 @@
 use Rattle.std.proofs.Common.{subst}
 use Rattle.timetable_arcs.specs.Table.{IsTable}
 use Rattle.plain_graph.specs.declared.plain.Plain.{Plain}
+use Rattle.phase_graph.specs.Marks.{marks_in}
 use Rattle.phase_graph.specs.PhaseArcs.{phase_meaning, node_of}
 use Rattle.unpack.specs.Unpacking.{node_after, arrival_after}
 use Rattle.unpack.specs.PhaseUnpacking.{letters_in}
@@ -16,4 +17,4 @@ returns-clause-unpacked c =
     let hops = walk.hops.items in
     let keeps = subst (λ (x : Plain). IsTable x.timetable.now) c.plain.ensures (subst IsTable c.timetable.ensures.same c.timetable.ensures.keeps) in
     is_unpacked n p.plain.kept table keeps p.plain.of (node_of walk.node) walk.at (node_of (node_after walk.node hops)) (arrival_after walk.at hops)
-    (letters_in (phase_meaning n table p.hierarchy.now p.marks.items) walk.node hops) c.in_ok-steps.field-0.items (rw c.deref.ensures.value at c.in_ok-steps.ensures)
+    (letters_in (phase_meaning n table p.hierarchy.now (marks_in p.falls.first.items)) walk.node hops) c.in_ok-steps.field-0.items (rw c.deref.ensures.value at c.in_ok-steps.ensures)

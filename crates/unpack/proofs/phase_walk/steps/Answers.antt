@@ -1,6 +1,7 @@
 use Rattle.std.proofs.Common.{get_or}
 use Rattle.std.proofs.lemmas.List.{drop_more}
 use Rattle.product_search.specs.declared.label.Hop.{Hop}
+use Rattle.phase_graph.specs.Marks.{marks_in}
 use Rattle.phase_graph.specs.PhaseArcs.{phase_meaning}
 use Rattle.unpack.proofs.PhaseLemmas.{hop_taken, further}
 use Rattle.unpack.proofs.phase_walk.steps.Goals as goal
@@ -9,7 +10,7 @@ pub loop-hop-preserved : goal.loop-hop-preserved
 loop-hop-preserved c =
     let p = c.args.phases.now in
     let n = p.plain.network.now in
-    let g = phase_meaning n p.plain.timetable.now p.hierarchy.now p.marks.items in
+    let g = phase_meaning n p.plain.timetable.now p.hierarchy.now (marks_in p.falls.first.items) in
     let hops = c.args.hops.now in
     let k = c.loop-hop.hop-index in
     let zero : Hop = record { arc = 0; to = 0; state = 0; at = 0 } in

@@ -2,6 +2,7 @@ use Rattle.std.proofs.Common.{◌+◌, ◌*◌, ◌^◌, ◌<◌, length, refl, 
 use Rattle.std.proofs.lemmas.Result.{on_ok_weaker}
 use Rattle.search_laws.specs.Ways.{ways_from}
 use Rattle.search_laws.proofs.FreshLemmas.{adds_all}
+use Rattle.phase_graph.specs.Marks.{marks_in}
 use Rattle.phase_graph.specs.PhaseArcs.{phase_meaning, phase_rides, rises_at, entries_at, others_at, node_of, is_down}
 use Rattle.phase_graph.proofs.phases.Phases.push_fresh_others.Goals as goal
 
@@ -38,7 +39,7 @@ returns-then-down c =
     let rises = rw c.split-v.ensures at c.rises_at.ensures.list in
     let entries = rw c.split-v.ensures at c.entries_at.ensures.count in
     on_ok_weaker c.push_stand.result
-    (adds_all (phase_rides n table) c.args.visit.state c.args.given.now (ways_from (phase_meaning n table h self.marks.items) c.args.visit.node c.args.visit.at c.args.visit.letters (length (rises_at h v down) + entries_at h v) (others_at n table v down))
+    (adds_all (phase_rides n table) c.args.visit.state c.args.given.now (ways_from (phase_meaning n table h (marks_in self.falls.first.items)) c.args.visit.node c.args.visit.at c.args.visit.letters (length (rises_at h v down) + entries_at h v) (others_at n table v down))
     c.args.ways.now.items c.push_stand.new.ways.items)
     (rw (rises, entries) at c.push_stand.ensures)
 

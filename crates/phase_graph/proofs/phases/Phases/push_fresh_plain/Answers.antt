@@ -1,5 +1,6 @@
 use Rattle.std.proofs.Common.{◌≡◌, length, subst, arith}
 use Rattle.timetable_arcs.specs.Table.{IsTable}
+use Rattle.phase_graph.specs.Marks.{marks_in}
 use Rattle.phase_graph.specs.PhaseArcs.{node_of}
 use Rattle.phase_graph.proofs.WayTies.{some_fit, put_fresh_behind}
 use Rattle.phase_graph.proofs.phases.Phases.push_fresh_plain.Goals as goal
@@ -23,5 +24,5 @@ returns c =
     let long : c.len-before.result ≡ length c.args.ways.now.items = omega (arith, c.len-before.ensures) in
     let done = rw (long, c.arcs_from-first_arc.ensures.range, c.network.ensures, c.requires.first) at c.renumber.ensures in
     rw c.requires.first
-    (put_fresh_behind n self.hierarchy.now table self.marks.items c.args.visit.node c.args.visit.at c.args.visit.letters c.requires.phase c.args.visit.state c.args.given.now c.push_fresh_past_roads.new.given
+    (put_fresh_behind n self.hierarchy.now table (marks_in self.falls.first.items) c.args.visit.node c.args.visit.at c.args.visit.letters c.requires.phase c.args.visit.state c.args.given.now c.push_fresh_past_roads.new.given
     c.args.ways.now.items c.push_fresh_past_roads.new.ways.items c.renumber.new.ways.items c.in_ok-push_fresh_past_roads.ensures done)

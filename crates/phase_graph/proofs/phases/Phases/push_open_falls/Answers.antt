@@ -1,5 +1,6 @@
 use Rattle.std.proofs.Common.{◌*◌, ◌∙◌, ◌^◌, ◌<◌, ◌++◌, List, length, ap, refl, arith}
 use Rattle.search_laws.specs.declared.graph.Way.{Way}
+use Rattle.phase_graph.specs.Marks.{marks_in}
 use Rattle.phase_graph.specs.PhaseArcs.{entries_at, first_entry, node_of}
 use Rattle.phase_graph.specs.inside.Falls.{falls_from}
 use Rattle.phase_graph.proofs.FallLemmas.{all_appended, chain_within, falls_within, next_appended}
@@ -12,9 +13,9 @@ loop-number-init c =
     let h = self.hierarchy.now in
     let v = node_of c.args.visit.node in
     record {
-      left = falls_from h self.marks.items (first_entry h v) (entries_at h v);
-      chain = rw (c.first_from-number.ensures, c.split-v.ensures) (self.listed v);
-      within = falls_within h self.marks.items (first_entry h v) (entries_at h v);
+      left = falls_from h (marks_in self.falls.first.items) (first_entry h v) (entries_at h v);
+      chain = rw (c.first_from-number.ensures, c.split-v.ensures) (self.chained v);
+      within = falls_within h (marks_in self.falls.first.items) (first_entry h v) (entries_at h v);
       ways_are = refl;
     }
 
@@ -53,4 +54,4 @@ returns c =
     let letter = rw (c.network.ensures, c.split-v.ensures) at c.letter-letter.ensures in
     let all = all_appended _ _ _ _ _ _ _ c.loop-number.invariant c.loop-number-test.false in
     (rw (letter, first, rises) at all) ∙ ap (λ (ws : List Way). c.args.ways.now.items ++ ws)
-    (fall_ways self.plain.network.now self.hierarchy.now self.plain.timetable.now self.marks.items c.args.visit.node c.args.visit.at c.args.visit.letters c.requires.opens)
+    (fall_ways self.plain.network.now self.hierarchy.now self.plain.timetable.now (marks_in self.falls.first.items) c.args.visit.node c.args.visit.at c.args.visit.letters c.requires.opens)

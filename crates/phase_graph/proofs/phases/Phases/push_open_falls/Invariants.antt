@@ -1,4 +1,5 @@
 use Rattle.std.proofs.Common.{◌++◌, map}
+use Rattle.phase_graph.specs.Marks.{marks_in}
 use Rattle.phase_graph.specs.PhaseArcs.{entries_at, first_entry, node_of}
 use Rattle.phase_graph.specs.inside.Falls.{fall_way, falls_from}
 use Rattle.phase_graph.proofs.FallLemmas.{AreAppended}
@@ -10,7 +11,7 @@ invariant-loop-number l =
     let first = first_entry h (node_of l.visit.node) in
     let count = entries_at h (node_of l.visit.node) in
     let as_way = fall_way l.letter l.visit.at l.first l.ups in
-    AreAppended l.self.falls.all.items as_way first count (l.initial.ways.items ++ map as_way (falls_from h l.self.marks.items first count)) l.ways.items l.number
+    AreAppended l.self.falls.all.items as_way first count (l.initial.ways.items ++ map as_way (falls_from h (marks_in l.self.falls.first.items) first count)) l.ways.items l.number
 
 abbrev pub decreases-loop-number : goal.decreases-loop-number
 decreases-loop-number l = l.number

@@ -4,6 +4,7 @@ use Rattle.search_laws.specs.Letters.{IsLetter}
 use Rattle.search_laws.specs.Ways.{ways_from}
 use Rattle.search_laws.specs.declared.graph.GraphArc.{GraphArc}
 use Rattle.search_laws.proofs.WayLemmas.{ways_pushed}
+use Rattle.phase_graph.specs.Marks.{marks_in}
 use Rattle.phase_graph.specs.PhaseArcs.{is_down, node_of, phase_meaning, rises_at}
 use Rattle.phase_graph.proofs.phases.Phases.push_rises.Goals as goal
 
@@ -27,7 +28,7 @@ push_way-requires c =
 pub loop-i-preserved : goal.loop-i-preserved
 loop-i-preserved c =
     let self = c.args.self.now in
-    let g = phase_meaning self.plain.network.now self.plain.timetable.now self.hierarchy.now self.marks.items in
+    let g = phase_meaning self.plain.network.now self.plain.timetable.now self.hierarchy.now (marks_in self.falls.first.items) in
     let i = c.loop-i.i in
     let visit = c.args.visit in
     let before = c.args.ways.now.items in
@@ -44,7 +45,7 @@ loop-i-preserved c =
 pub returns : goal.returns
 returns c =
     let self = c.args.self.now in
-    let g = phase_meaning self.plain.network.now self.plain.timetable.now self.hierarchy.now self.marks.items in
+    let g = phase_meaning self.plain.network.now self.plain.timetable.now self.hierarchy.now (marks_in self.falls.first.items) in
     let visit = c.args.visit in
     let rises = ap length (rw c.split-v.ensures at c.rises_at.ensures.list) in
     let whole : c.loop-i.i ≡ length (rises_at self.hierarchy.now (node_of visit.node) (is_down visit.node)) = omega (arith, c.loop-i-test.false, c.loop-i.invariant.within, rises) in

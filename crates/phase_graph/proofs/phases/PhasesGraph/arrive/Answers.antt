@@ -1,4 +1,5 @@
 use Rattle.std.proofs.Common.{◌∙◌, ap}
+use Rattle.phase_graph.specs.Marks.{marks_in}
 use Rattle.phase_graph.specs.PhaseArcs.{node_of, phase_arrival}
 use Rattle.phase_graph.proofs.phases.PhasesGraph.arrive.Goals as goal
 
@@ -8,4 +9,4 @@ arrive-requires-clause-arc c = rw c.split-v.ensures c.in-Other.ensures.fits
 pub returns-in-Other : goal.returns-in-Other
 returns-in-Other c =
     let self = c.args.self.now in
-    (rw c.split-v.ensures at c.arrive.ensures) ∙ ap (phase_arrival self.plain.network.now self.plain.timetable.now self.hierarchy.now self.marks.items (node_of c.args.p) c.args.t) c.in-Other.ensures.value
+    (rw c.split-v.ensures at c.arrive.ensures) ∙ ap (phase_arrival self.plain.network.now self.plain.timetable.now self.hierarchy.now (marks_in self.falls.first.items) (node_of c.args.p) c.args.t) c.in-Other.ensures.value

@@ -6,6 +6,7 @@ use Rattle.search_laws.specs.Ways.{moving_letters, ways_from, ways_past}
 use Rattle.search_laws.specs.declared.graph.Way.{Way}
 use Rattle.mode_network.specs.NetworkLists.{letter_at}
 use Rattle.hierarchy.specs.Rises.{has_legs}
+use Rattle.phase_graph.specs.Marks.{marks_in}
 use Rattle.phase_graph.specs.PhaseArcs.{entries_at, is_down, legs_at, node_of, phase_meaning, phase_rides, rises_at}
 use Rattle.phase_graph.proofs.LegLemmas.{legs_none, legs_whole}
 use Rattle.phase_graph.proofs.WayTies.{all_along, moving_joined}
@@ -18,7 +19,7 @@ returns c =
     let n = self.plain.network.now in
     let t = self.plain.timetable.now in
     let h = self.hierarchy.now in
-    let marks = self.marks.items in
+    let marks = marks_in self.falls.first.items in
     let visit = c.args.visit in
     let p = visit.node in
     let g = phase_meaning n t h marks in

@@ -1,6 +1,7 @@
 use Rattle.std.proofs.Common.{◌<◌, ◌∙◌, List, length, ap, get_or, sym, subst, arith}
 use Rattle.search_laws.specs.Ways.{IsLeg}
 use Rattle.search_laws.specs.declared.graph.Leg.{Leg}
+use Rattle.phase_graph.specs.Marks.{marks_in}
 use Rattle.phase_graph.specs.declared.phases.PhaseArc.{PhaseArc}
 use Rattle.phase_graph.specs.PhaseArcs.{arc_of, node_of, is_down, phase_meaning}
 use Rattle.phase_graph.proofs.LegLemmas.{leg_is, legs_few}
@@ -30,7 +31,7 @@ returns-clause-letter c i lt =
 pub returns-clause-legs : goal.returns-clause-legs
 returns-clause-legs c i d lt =
     let self = c.args.self.now in
-    let g = phase_meaning self.plain.network.now self.plain.timetable.now self.hierarchy.now self.marks.items in
+    let g = phase_meaning self.plain.network.now self.plain.timetable.now self.hierarchy.now (marks_in self.falls.first.items) in
     let legs = rw c.split-v.ensures at c.legs_at.ensures in
     subst (λ (ls : List Leg). IsLeg g c.args.p i (get_or ls i d)) (sym legs)
-    (leg_is self.plain.network.now self.hierarchy.now self.plain.timetable.now c.known.ensures c.args.p i d self.marks.items (subst (λ (ls : List Leg). i < length ls) legs lt))
+    (leg_is self.plain.network.now self.hierarchy.now self.plain.timetable.now c.known.ensures c.args.p i d (marks_in self.falls.first.items) (subst (λ (ls : List Leg). i < length ls) legs lt))

@@ -2,8 +2,9 @@ use Rattle.std.proofs.Common.{ap₂, subst}
 use Rattle.mode_network.specs.NetworkLists.{NetworkLists}
 use Rattle.mode_network.specs.Timetables.{IsTimetableOf}
 use Rattle.hierarchy.specs.Lists.{HierarchyLists}
+use Rattle.phase_graph.specs.Marks.{marks_in}
 use Rattle.phase_graph.specs.PhaseArcs.{phase_meaning}
-use Rattle.phase_graph.proofs.in_use.GraphInUse.new.Goals as goal
+use Rattle.phase_graph.proofs.in_use.GraphInUse.new_in.Goals as goal
 
 pub returns-in_ok-phases-in-Some-clause-is : goal.returns-in_ok-phases-in-Some-clause-is
 returns-in_ok-phases-in-Some-clause-is c =
@@ -13,7 +14,7 @@ returns-in_ok-phases-in-Some-clause-is c =
       table = p.plain.timetable.now;
       of = subst (λ (n : NetworkLists). IsTimetableOf n p.plain.timetable.now) is.network p.plain.of;
       keeps = is.keeps;
-      marks = p.marks.items;
+      marks = marks_in p.falls.first.items;
       are = is.marks;
-      is = ap₂ (λ (n : NetworkLists) (h : HierarchyLists). phase_meaning n p.plain.timetable.now h p.marks.items) is.network is.hierarchy;
+      is = ap₂ (λ (n : NetworkLists) (h : HierarchyLists). phase_meaning n p.plain.timetable.now h (marks_in p.falls.first.items)) is.network is.hierarchy;
     })
