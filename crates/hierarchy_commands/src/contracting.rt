@@ -31,8 +31,8 @@ pub fn contract<F: Shelf, O: Sink, E: Sink>(
     Ok(())
 }
 
-/// The text of a hierarchy of the network. The memory of its trips is free again while it is contracted, and all of its
-/// memory when the text is made.
+/// The text of a hierarchy of the network. The memory of its trips is free again while it is contracted, and the rest
+/// of its memory when the text is made.
 fn contracted<E: Sink>(
     alloc: Global,
     network: Network,
