@@ -14,7 +14,7 @@ use Rattle.std.proofs.Math.Nat.{mul-le-mul}
 use Rattle.search_laws.specs.GraphLaws.{GraphMeaning, IsLawfulGraph}
 use Rattle.search_laws.specs.LabelLaws.{LabelsMeaning, IsLawfulLabels}
 use Rattle.search_laws.specs.Walks.{ArrivesAt}
-use Rattle.product_search.specs.declared.frontier.Reached.{Reached}
+use Rattle.product_search.specs.declared.row.Reached.{Reached}
 use Rattle.product_search.specs.declared.frontier.Settled.{Settled}
 use Rattle.product_search.specs.declared.frontier.Frontier.{Frontier}
 use Rattle.product_search.specs.Reach.{IsReachedAt, IsWithin, IsToList}

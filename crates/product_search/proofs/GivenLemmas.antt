@@ -9,7 +9,7 @@ use Rattle.search_laws.specs.declared.graph.Visit.{Visit}
 use Rattle.search_laws.specs.declared.graph.Way.{Way}
 use Rattle.search_laws.specs.declared.given.GivenRun.{GivenRun}
 use Rattle.search_laws.specs.declared.given.GivenRuns.{GivenRuns}
-use Rattle.product_search.specs.declared.frontier.Reached.{Reached}
+use Rattle.product_search.specs.declared.row.Reached.{Reached}
 use Rattle.product_search.specs.declared.frontier.Settled.{Settled}
 use Rattle.product_search.specs.declared.frontier.Frontier.{Frontier}
 use Rattle.product_search.specs.inside.Exploring.{IsReachedBy, Offers, WayIsReached, AreGivenReached}

@@ -1,5 +1,5 @@
 -- The lists of the queue, as one.
-use Rattle.std.proofs.Common.{◌≡◌, ◌≢◌, ℕ, ◌+◌, ◌/◌, ◌<◌, ◌≤◌, ◌^◌, false, List, [], ◌∷◌, ◌++◌, get_or, map, zero, suc, inl, inr, refl, sym, ◌∙◌, subst, arith}
+use Rattle.std.proofs.Common.{◌≡◌, ◌≢◌, ℕ, ◌+◌, ◌<◌, ◌≤◌, false, List, [], ◌∷◌, ◌++◌, get_or, map, zero, suc, inl, inr, refl, sym, ◌∙◌, subst, arith}
 use Rattle.std.specs.Prelude.{All, Contains, IsPermutation, vec_len}
 use Rattle.std.specs.List.{AllWithin, swap_remove}
 use Rattle.std.specs.declared.cmp.Reverse.{Reverse}
@@ -31,9 +31,10 @@ as_entries base xs ys far same = IsPermutation-append_left far _ _ (IsPermutatio
 
 -- ---- what the list of all says of a queue
 
-module _ (old new : Queue) (t n : ℕ) (right : IsQueue new) where
+module _ (old new : Queue) (t n : ℕ) (base : new.base ≡ old.base) (right : IsQueue new) where
   takes_in : IsPermutation (entry_of t n ∷ queue_items old) (queue_items new) → TakesIn old new t n
   takes_in put = record {
+    base = base;
     right = right;
     stays = λ u j has. Contains-permutation _ _ (entry_of u j) put (Contains-append_right (entry_of t n ∷ []) (queue_items old) (entry_of u j) has);
     there = Contains-permutation _ _ (entry_of t n) put (zero, omega arith, refl);
@@ -41,6 +42,7 @@ module _ (old new : Queue) (t n : ℕ) (right : IsQueue new) where
 
   gives : All (λ x. t ≤ x.0.0) (queue_items old) → IsPermutation (queue_items old) (entry_of t n ∷ queue_items new) → GivesLeast old new t n
   gives least taken = record {
+    base = base;
     right = right;
     least = λ u j has. All-contains (λ x. t ≤ x.0.0) (queue_items old) (entry_of u j) least has;
     stays = stays;
@@ -59,6 +61,7 @@ module _ (old mid new : Queue) (same : SameQueued old mid) where
 
   pub least_of_same : (t n : ℕ) → GivesLeast mid new t n → GivesLeast old new t n
   least_of_same t n gives = record {
+    base = gives.base ∙ same.base;
     right = gives.right;
     least = λ u j was. gives.least u j (Contains-permutation _ _ (entry_of u j) same_entries was);
     stays = λ u j was other. gives.stays u j (Contains-permutation _ _ (entry_of u j) same_entries was) other;
@@ -66,19 +69,19 @@ module _ (old mid new : Queue) (same : SameQueued old mid) where
   }
 
   pub none_of_same : GivesNone mid new → GivesNone old new
-  none_of_same gives = record { right = gives.right; none = λ u j was. gives.none u j (Contains-permutation _ _ (entry_of u j) same_entries was) }
+  none_of_same gives = record { base = gives.base ∙ same.base; right = gives.right; none = λ u j was. gives.none u j (Contains-permutation _ _ (entry_of u j) same_entries was) }
 
 -- ---- one comes
 
 module _ (old new : Queue) (right : IsQueue old) where
-  pub takes_near : (x : QueueItem) (near : List QueueItem) → IsPermutation (x ∷ old.near) near → IsQueue new
+  pub takes_near : (x : QueueItem) (near : List QueueItem) → IsPermutation (x ∷ old.near) near → new.base ≡ old.base → IsQueue new
       → queue_items new ≡ map (entry_by old.base) (near ++ old.later.items) ++ heap_items old.far → TakesIn old new (due_at old.base x) (number_in x)
-  takes_near x near put right same = takes_in old new (due_at old.base x) (number_in x) right
+  takes_near x near put base right same = takes_in old new (due_at old.base x) (number_in x) base right
       (rw same (as_entries old.base (x ∷ word_items old) (near ++ old.later.items) (heap_items old.far) (IsPermutation-append_left old.later.items (x ∷ old.near) near put)))
 
   pub takes_later : (x : QueueItem) → old.horizon < x.word → new.later.items ≡ old.later.items ++ x ∷ []
       → TakesIn old (record old { later = new.later }) (due_at old.base x) (number_in x)
-  takes_later x due items = takes_in old (record old { later = new.later }) (due_at old.base x) (number_in x)
+  takes_later x due items = takes_in old (record old { later = new.later }) (due_at old.base x) (number_in x) refl
       (record {
         far = right.far;
         after = All-same (λ y. old.horizon < y.word) _ _ items (All-push (λ y. old.horizon < y.word) old.later.items x right.after due);
@@ -88,7 +91,7 @@ module _ (old new : Queue) (right : IsQueue old) where
 
   pub takes_far : (t n : ℕ) → KeepsHeap queue_cmp (heap_items old.far) (heap_items new.far)
       → IsPermutation (entry_of t n ∷ heap_items old.far) (heap_items new.far) → TakesIn old (record old { far = new.far }) t n
-  takes_far t n keeps put = takes_in old (record old { far = new.far }) t n (record { far = keeps right.far; after = right.after })
+  takes_far t n keeps put = takes_in old (record old { far = new.far }) t n refl (record { far = keeps right.far; after = right.after })
       (more_behind (entry_of t n) (map (entry_by old.base) (word_items old)) _ _ put)
 
 -- ---- one goes
@@ -122,7 +125,7 @@ module _ (old new : Queue) (right : IsQueue old) (filled : IsFilled old) where
   module _ (first : NearIsFirst old) where
     pub gives_near : (x : QueueItem) → IsPermutation old.near (x ∷ new.near) → IsLeast old.near x
         → GivesLeast old (record old { near = new.near }) (due_at old.base x) (number_in x)
-    gives_near x popped is = gives old (record old { near = new.near }) (due_at old.base x) (number_in x)
+    gives_near x popped is = gives old (record old { near = new.near }) (due_at old.base x) (number_in x) refl
         (record { far = right.far; after = right.after })
         (none_before (due_at old.base x) near (first (due_at old.base x) near))
         (as_entries old.base (word_items old) (x ∷ (new.near ++ old.later.items)) (heap_items old.far) (IsPermutation-append_left old.later.items _ _ popped)) where
@@ -131,6 +134,7 @@ module _ (old new : Queue) (right : IsQueue old) (filled : IsFilled old) where
 
     pub none_near : old.near ≡ [] → GivesNone old (record old { near = new.near })
     none_near empty = record {
+      base = refl;
       right = record { far = right.far; after = right.after };
       none = none_left old (λ t. none_before t (near t) (first t (near t)));
     } where
@@ -139,7 +143,7 @@ module _ (old new : Queue) (right : IsQueue old) (filled : IsFilled old) where
 
   pub gives_far : FarIsFirst old → (x : Reverse (ℕ × ℕ)) → IsPermutation (heap_items old.far) (x ∷ heap_items new.far)
       → PopsGreatest queue_cmp (heap_items old.far) x (heap_items new.far) → GivesLeast old (record old { far = new.far }) x.0.0 x.0.1
-  gives_far first x popped pops = gives old (record old { far = new.far }) x.0.0 x.0.1
+  gives_far first x popped pops = gives old (record old { far = new.far }) x.0.0 x.0.1 refl
       (record { far = (pops right.far).0; after = right.after })
       (none_before x.0.0 (first x.0.0 far) far)
       (IsPermutation-trans _ _ _ (IsPermutation-append_right items _ _ popped) (IsPermutation-middle items x (heap_items new.far))) where

@@ -8,7 +8,7 @@ use Rattle.search_laws.specs.GraphLaws.{GraphMeaning}
 use Rattle.search_laws.specs.LabelLaws.{LabelsMeaning, AllAfter, Follows}
 use Rattle.search_laws.specs.Ways.{IsLeg}
 use Rattle.search_laws.specs.declared.graph.Leg.{Leg}
-use Rattle.product_search.specs.declared.frontier.Reached.{Reached}
+use Rattle.product_search.specs.declared.row.Reached.{Reached}
 use Rattle.product_search.specs.declared.frontier.Settled.{Settled}
 use Rattle.product_search.specs.declared.frontier.Frontier.{Frontier}
 use Rattle.product_search.specs.inside.Exploring.{IsReachedBy, Offers, IsByLegs, IsReachedAfter, LegIsReached, IsSuccessor, ArcIsReached, way_by}

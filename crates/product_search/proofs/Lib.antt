@@ -15,6 +15,7 @@ mod EndLemmas
 mod NotingLemmas
 mod TrailLemmas
 mod ListLemmas
+mod ListingLemmas
 mod LimitLemmas
 mod CheckLemmas
 mod StartLemmas

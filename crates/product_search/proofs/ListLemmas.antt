@@ -17,14 +17,15 @@ use Rattle.std.proofs.lemmas.Map.Keys.{IsDistinct-head, IsDistinct-tail, IsDisti
 use Rattle.search_laws.specs.GraphLaws.{GraphMeaning}
 use Rattle.search_laws.specs.LabelLaws.{LabelsMeaning}
 use Rattle.product_search.specs.declared.label.Label.{Label}
-use Rattle.product_search.specs.declared.frontier.Reached.{Reached}
+use Rattle.product_search.specs.declared.row.Reached.{Reached}
 use Rattle.product_search.specs.declared.frontier.Frontier.{Frontier}
 use Rattle.product_search.specs.declared.row.Row.{Row}
 use Rattle.product_search.specs.Reach.{IsReachedAt, IsLeastAt, IsWithin, IsToList, is_before}
 use Rattle.product_search.specs.Listed.{label_of, label_order, IsBelow, AreAscendingLabels, AreLeastLabels}
 use Rattle.product_search.specs.Answer.{last_time}
 use Rattle.product_search.specs.Closed.{IsListedBy}
-use Rattle.product_search.specs.inside.Waiting.{state_eq, made, keyed, rows, keyed_rows, reached_in, reached_at, IsApart}
+use Rattle.product_search.specs.inside.OfRows.{made}
+use Rattle.product_search.specs.inside.Waiting.{state_eq, keyed, rows, keyed_rows, reached_in, reached_at, IsApart}
 use Rattle.product_search.specs.inside.Searching.{IsSearched, listed_label, label_of_row}
 use Rattle.product_search.proofs.QueueLemmas.{same_parts, found_in, keys_differ}
 use Rattle.product_search.proofs.ReachLemmas.{tight, within_down}

@@ -10,7 +10,7 @@ use Rattle.std.proofs.lemmas.List.Elements.{All-contains, All-push, Contains-pus
 use Rattle.search_laws.specs.Letters.{IsLetter, letter_count}
 use Rattle.search_laws.specs.LabelLaws.{LabelsMeaning, HasMove, AllAfter}
 use Rattle.product_search.specs.declared.frontier.Frontier.{Frontier}
-use Rattle.product_search.specs.declared.frontier.Reached.{Reached}
+use Rattle.product_search.specs.declared.row.Reached.{Reached}
 use Rattle.search_laws.specs.declared.labels.Move.{Move}
 use Rattle.product_search.specs.inside.MoveTables.{AreTargets, AreTargetsWith, target_by, targets_below}
 use Rattle.product_search.proofs.LetterLemmas.{bit_from_set, set_from_bit}

@@ -2,7 +2,7 @@
 use Rattle.std.proofs.Common.{◌≡◌, ℕ, ◌<◌, ◌≤◌, Bool, true, false, ◌||◌, ◌⊎◌, inl, inr, cond, Some, None, nat_le, refl, sym, ◌∙◌, ap, subst, arith}
 use Rattle.std.specs.Prelude.{Option, List, length, slice_index, Contains}
 use Rattle.std.proofs.lemmas.Bool.{false≢true, leb-true, leb-false, or_parts}
-use Rattle.product_search.specs.declared.frontier.Reached.{Reached}
+use Rattle.product_search.specs.declared.row.Reached.{Reached}
 use Rattle.product_search.specs.declared.frontier.Frontier.{Frontier}
 use Rattle.product_search.specs.inside.Waiting.{reached_at, offered, IsOffered}
 use Rattle.product_search.specs.inside.Exploring.{IsReachedBy, IsSettledBy, CanHasten, IsHastened, Offers, WayIsReached, ArcIsReached, IsStartAt, IsStartAmong, StartIsReached}

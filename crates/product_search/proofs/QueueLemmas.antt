@@ -1,25 +1,27 @@
 -- The rows and the queue of a frontier, change by change.
-use Rattle.std.proofs.Common.{◌≡◌, ◌≢◌, ℕ, ◌+◌, ◌-◌, ◌*◌, ◌/◌, ◌<◌, ◌≤◌, Bool, true, false, not, ◌==◌, cond, List, [], ◌∷◌, ◌++◌, length, get_or, map, Some, None, zero, suc, inl, inr, refl, sym, ◌∙◌, ap, subst, add-one, arith}
-use Rattle.std.specs.Prelude.{◌^◌, Option, slice_get, slice_index, slice_set, if◌then◌else◌}
+use Rattle.std.proofs.Common.{◌≡◌, ◌≢◌, ℕ, ◌+◌, ◌-◌, ◌*◌, ◌/◌, ◌<◌, ◌≤◌, Bool, true, false, not, ◌==◌, ◌&&◌, ◌||◌, nat_lt, cond, List, [], ◌∷◌, ◌++◌, length, get_or, map, Some, None, zero, suc, inl, inr, refl, sym, ◌∙◌, ap, subst, add-one, arith}
+use Rattle.std.specs.Prelude.{◌^◌, nat_le, Option, slice_get, slice_index, slice_set, if◌then◌else◌}
 use Rattle.std.specs.List.{AllByRecursion, IsDistinct}
 use Rattle.std.specs.Map.{keys_of}
 use Rattle.std.specs.declared.cmp.Reverse.{Reverse}
 use Rattle.std.proofs.lemmas.Bool.{cases_lt, eqb-true, and_parts, not-true, false≢true, cases_eq}
 use Rattle.std.proofs.lemmas.Bool.Decides.{nat_tests}
 use Rattle.std.proofs.lemmas.List.{length-set}
-use Rattle.std.proofs.lemmas.Option.{slice_get_within}
+use Rattle.std.proofs.lemmas.Option.{slice_get_within, slice_get-get_or}
 use Rattle.std.proofs.lemmas.Map.Keys.{IsDistinct-cons}
 use Rattle.std.proofs.Math.Nat.{mul-div_cancel}
-use Rattle.product_search.specs.declared.frontier.Reached.{Reached}
-use Rattle.product_search.specs.declared.frontier.Entry.{Entry}
+use Rattle.product_search.specs.declared.row.Reached.{Reached}
 use Rattle.product_search.specs.declared.row.Row.{Row}
 use Rattle.product_search.specs.declared.frontier.Settled.{Settled}
 use Rattle.product_search.specs.declared.frontier.Frontier.{Frontier}
 use Rattle.product_search.specs.declared.key.Key.{Key}
 use Rattle.product_search.specs.inside.Exploring.{IsReachedBy, IsSettledBy}
-use Rattle.product_search.specs.inside.Queued.{entry_of, Queued, TakesIn, GivesLeast, GivesNone}
-use Rattle.product_search.specs.inside.Waiting.{state_eq, made, settled_now, keyed, rows, reached_in, reached_at, waits_at, IsAt, IsNowhere, IsApart, KeepsNumbers, chain_of, chain_in, IsIndexed, IsClear, HasChainsFrom, IsLast, Waits, IsQueueRight, is_same, offered, IsOffered, IsSetAt, NobodyWaits, SameReached, SettlesLeast, HaveKeys, bar_of, key_of}
-use Rattle.product_search.proofs.RowLemmas.{key_read, entry_read}
+use Rattle.product_search.specs.inside.Queued.{IsQueue, entry_of, Queued, TakesIn, GivesLeast, GivesNone}
+use Rattle.product_search.specs.inside.Waiting.{state_eq, keyed, rows, reached_in, reached_at, waits_at, IsAt, IsNowhere, IsApart, KeepsNumbers, chain_of, chain_in, IsIndexed, IsClear, HasChainsFrom, IsLast, IsQueueRight, is_same, offered, IsOffered, IsSetAt, NobodyWaits, SameReached, SettlesLeast, told}
+use Rattle.product_search.specs.declared.entry.Entry.{Entry}
+use Rattle.product_search.specs.declared.entry.Entry.TheVariants.{Near, Wide}
+use Rattle.product_search.specs.inside.Kept.{IsKeyOf, RowsMeaning, TellsTime}
+use Rattle.product_search.specs.inside.OfRows.{made, settled_now, Waits}
 
 -- ---- equal keys
 
@@ -248,6 +250,38 @@ module _ (old new : List Row) (n v q c : ℕ) (way : Reached) (changes : Changes
         subst (λ a. reached_in new a r ≡ Some way) p.0 (subst (λ b. reached_in new v b ≡ Some way) p.1 (at_known new apart_still v q n new_here))
         ∙ sym (ap (λ b. cond b (Some way) (reached_in old w r)) e)
 
+-- ---- nothing is reached yet
+
+none_there : {A : Type 0} (k : ℕ) (r : A) → slice_get [] k ≡ Some r → ⊥
+none_there k r is = cc
+
+pub right_empty : (f : Frontier) → IsQueue f.queue → f.queue.base ≡ f.rows.base → rows f ≡ [] → IsClear f.first.items → IsQueueRight f
+right_empty f queue base none clear = rw none (record {
+  queue = queue;
+  base = base;
+  waits = λ k t r waits. absurd (none_there k r waits.known);
+  apart = λ v q j k at_j at_k. absurd (none_there j (at_j.row) at_j.known);
+  indexed = record {
+    first_of = λ chain. record {
+      none_after = λ k r known from lt same. none_there k r known;
+      there = λ k is. absurd (let none = clear chain in omega (arith, none, is));
+    };
+    next = λ k r known. absurd (none_there k r known);
+  };
+  few = omega arith;
+})
+
+-- the same rows, with the same base
+pub right_kept : (old : Frontier) (kept : RowsMeaning) → IsQueueRight old → kept.base ≡ old.rows.base → kept.rows ≡ rows old → IsQueueRight (record old { rows = kept })
+right_kept old kept right base same = record {
+  queue = right.queue;
+  base = right.base ∙ sym base;
+  waits = λ k t r waits. right.waits k t r (subst (λ rs. Waits rs k t r) same waits);
+  apart = subst (λ rs. IsApart rs) (sym same) right.apart;
+  indexed = subst (λ rs. IsIndexed old.chains.count rs old.first.items) (sym same) right.indexed;
+  few = rw same right.few;
+}
+
 -- ---- who waits
 
 known_waits : (o : Option Reached) (t : ℕ) → waits_at o t ≡ true → (x : Reached) × (o ≡ Some x) × (x.settled ≡ false) × (x.at ≡ t)
@@ -267,15 +301,20 @@ module _ (old new : Frontier) (n v q c : ℕ) (way : Reached) (right : IsQueueRi
         subst (λ u. Queued new.queue u k) at (subst (λ j. Queued new.queue way.at j) (sym same) put.there))
   ]
 
-  pub right_put : IsIndexed new.chains.count (rows new) new.first.items → HaveKeys new.keys.items new.entries.items → length new.entries.items < 2 ^ 32 → IsQueueRight new
-  right_put indexed kept few = record {
+  pub right_put : IsIndexed new.chains.count (rows new) new.first.items → new.rows.base ≡ old.rows.base → length (rows new) < 2 ^ 32 → IsQueueRight new
+  right_put indexed base few = record {
     queue = put.right;
+    base = put.base ∙ right.base ∙ sym base;
     waits = put_waits;
     apart = apart_still (rows old) (rows new) n v q c way changes right.apart;
     indexed = indexed;
-    kept = kept;
     few = few;
   }
+
+-- a way that an entry tells by itself is counted from the queue's base, too
+pub taken_at : (f : Frontier) (entry : Entry) (t : ℕ) → IsQueueRight f → t ≡ (told f entry).at → TellsTime f.queue.base entry t
+taken_at f (Near way) t right is = ap (λ b. b + way.delay) right.base ∙ sym is
+taken_at f (Wide place) t right is = tt
 
 -- ---- the chains
 
@@ -408,6 +447,13 @@ offered_kept f v q way kept = record {
   numbers = λ w r k at. at;
 }
 
+-- a way is offered to the same rows
+pub offered_before : (old : Frontier) (kept : RowsMeaning) (new : Frontier) (v q : ℕ) (way : Reached) → kept.rows ≡ rows old → IsOffered (record old { rows = kept }) new v q way → IsOffered old new v q way
+offered_before old kept new v q way same is = record {
+  known = λ w r. is.known w r ∙ ap (λ rs. if is_same v q w r then offered (reached_in rs w r) way else reached_in rs w r) same;
+  numbers = λ w r k at. is.numbers w r k (subst (λ rs. IsAt rs w r k) (sym same) at);
+}
+
 -- ---- the least of the queue
 
 entry_parts : (t n u k : ℕ) → entry_of t n ≡ entry_of u k → (t ≡ u) × (n ≡ k)
@@ -432,16 +478,15 @@ module _ (old new : Frontier) (t n : ℕ) (right : IsQueueRight old) (popped : G
   still k u e waits other = popped.stays u k (right.waits k u e waits) other
 
   -- by a stale one nobody waits
-  pub right_stale : IsIndexed new.chains.count (rows old) new.first.items → rows new ≡ rows old → HaveKeys new.keys.items new.entries.items → new.entries.items ≡ old.entries.items
-      → ((e : Row) → Waits (rows old) n t e → ⊥) → IsQueueRight new
-  right_stale indexed same kept entries stale = record {
+  pub right_stale : IsIndexed new.chains.count (rows old) new.first.items → rows new ≡ rows old → new.rows.base ≡ old.rows.base → ((e : Row) → Waits (rows old) n t e → ⊥) → IsQueueRight new
+  right_stale indexed same base stale = record {
     queue = popped.right;
+    base = popped.base ∙ right.base ∙ sym base;
     waits = λ k u e waits. (let was : Waits (rows old) k u e = subst (λ rs. Waits rs k u e) same waits in
         still k u e was (λ is. let p = entry_parts t n u k is in stale e (subst (λ j. Waits (rows old) j t e) (sym p.1) (subst (λ s. Waits (rows old) k s e) (sym p.0) was))));
     apart = subst (λ rs. IsApart rs) (sym same) right.apart;
     indexed = subst (λ rs. IsIndexed new.chains.count rs new.first.items) (sym same) indexed;
-    kept = kept;
-    few = rw entries right.few;
+    few = rw same right.few;
   }
 
   pub same_stale : (rows new) ≡ (rows old) → SameReached old new
@@ -464,16 +509,16 @@ module _ (old new : Frontier) (t n : ℕ) (right : IsQueueRight old) (popped : G
           (λ is. let p = entry_parts t n u k is in other (sym p.1))
     ]
 
-    pub right_settled : IsIndexed new.chains.count (rows old) new.first.items → HaveKeys new.keys.items new.entries.items → new.entries.items ≡ old.entries.items → IsQueueRight new
+    pub right_settled : IsIndexed new.chains.count (rows old) new.first.items → new.rows.base ≡ old.rows.base → IsQueueRight new
     unfolding at_row
-    right_settled indexed kept entries = record {
+    right_settled indexed base = record {
       queue = popped.right;
+      base = popped.base ∙ right.base ∙ sym base;
       waits = settled_waits;
       apart = apart_still (rows old) (rows new) n e.node e.state e.next (record e.known { settled = true }) changes right.apart;
       indexed = indexed_links new.chains.count (rows old) (rows new) new.first.items indexed (ap length set ∙ length-set (rows old) n (settled_now e))
           (links_set new.chains.count (rows old) (rows new) n e.node e.state e.next (record e.known { settled = true }) at_row refl changes);
-      kept = kept;
-      few = rw entries right.few;
+      few = rw (ap length set ∙ length-set (rows old) n (settled_now e)) right.few;
     }
 
     pub settles : (first : Frontier) → SameReached first old → (s : Settled) → s.node ≡ e.node → s.state ≡ e.state → s.at ≡ t → s.link ≡ n + 1 → KeepsNumbers first old → SettlesLeast first new s
@@ -506,16 +551,15 @@ nobody first f right same empty w r u = go (waits_at (reached_at first w r) u) r
       absurd (empty u by.0 (right.waits by.0 u by.1 by.2))
 
 -- the queue is empty
-pub right_same : (old new : Frontier) → IsQueueRight old → new.keys.items ≡ old.keys.items → new.entries.items ≡ old.entries.items
-    → IsIndexed new.chains.count (rows old) new.first.items → GivesNone old.queue new.queue → IsQueueRight new
-right_same old new right keys entries indexed empty = let same : rows new ≡ rows old = rw (keys, entries) refl in record {
+pub right_same : (old new : Frontier) → IsQueueRight old → new.rows ≡ old.rows → IsIndexed new.chains.count (rows old) new.first.items → GivesNone old.queue new.queue → IsQueueRight new
+right_same old new right same indexed empty = rw same (record {
   queue = empty.right;
-  waits = λ k t e waits. absurd (empty.none t k (right.waits k t e (subst (λ rs. Waits rs k t e) same waits)));
-  apart = subst (λ rs. IsApart rs) (sym same) right.apart;
-  indexed = subst (λ rs. IsIndexed new.chains.count rs new.first.items) (sym same) indexed;
-  kept = rw (keys, entries) right.kept;
-  few = rw entries right.few;
-}
+  base = empty.base ∙ right.base;
+  waits = λ k t e waits. absurd (empty.none t k (right.waits k t e waits));
+  apart = right.apart;
+  indexed = indexed;
+  few = right.few;
+})
 
 pub within : (rs : List Row) (v q k : ℕ) → IsAt rs v q k → k < length rs
 within rs v q k at = slice_get_within rs k (at.row) at.known
@@ -527,67 +571,46 @@ same_place rs v q w r k at also =
     let same : at.row ≡ also.row = cc in
     (sym at.node ∙ ap (λ (y : Row). y.node) same ∙ also.node, sym at.state ∙ ap (λ (y : Row). y.state) same ∙ also.state)
 
--- ---- what a bar says
+-- the same where the row keeps its place and its link
+pub changes_rewritten : (old new : List Row) (n v q : ℕ) (way : Reached) → IsApart old → (at : IsAt old v q n) → new ≡ slice_set old n (record (at.row) { known = way }) → Changes old new n v q (at.row).next way
+changes_rewritten old new n v q way apart at is =
+    changes_set old new n v q (at.row).next way apart at
+    (is ∙ ap (λ w. slice_set old n (made w (at.row).state (at.row).next way)) at.node ∙ ap (λ r. slice_set old n (made v r (at.row).next way)) at.state)
 
--- a way before the bar is better
-before_bar : (x way : Reached) → way.at < bar_of x - 1 → offered (Some x) way ≡ Some way
-before_bar x way before = grind (arith, nat_tests)
+-- ---- what is compared of a row
 
--- a way from the bar on isn't, unless that is the greatest number
-from_bar : (x way : Reached) → bar_of x - 1 ≤ way.at → (bar_of x ≡ 2 ^ 64 - 1 → ⊥) → offered (Some x) way ≡ Some x
-from_bar x way from other = grind (arith, nat_tests)
+later_better : (x way : Reached) → (not x.settled && nat_lt way.at x.at) ≡ true → offered (Some x) way ≡ Some way
+later_better x way later = grind (arith, nat_tests, later)
 
--- at the greatest number the time tells
-at_top : (x way : Reached) → bar_of x ≡ 2 ^ 64 - 1 → way.at < x.at → offered (Some x) way ≡ Some way
-at_top x way top before = grind (arith, nat_tests)
+later_kept : (x way : Reached) → (not x.settled && nat_lt way.at x.at) ≡ false → offered (Some x) way ≡ Some x
+later_kept x way kept = grind (arith, nat_tests, kept)
 
-from_top : (x way : Reached) → x.at ≤ way.at → offered (Some x) way ≡ Some x
-from_top x way from = grind (arith, nat_tests)
+by_then : (x : Reached) (u : ℕ) → (x.settled || nat_le x.at u) ≡ true → (x.settled ≡ true → x.at ≤ u) → x.at ≤ u
+by_then x u told by = grind (arith, nat_tests, told, by)
 
--- by a time that is not too late it is reached where the bar is at most that and 1
-reached_bar : (x : Reached) (u : ℕ) → u < 2 ^ 64 - 2 → bar_of x ≤ u + 1 → (x.settled ≡ true → x.at ≤ u) → x.at ≤ u
-reached_bar x u early bar by = grind (arith, nat_tests, by)
+then_by : (x : Reached) (u : ℕ) → x.at ≤ u → (x.settled || nat_le x.at u) ≡ true
+then_by x u le = grind (arith, nat_tests, le)
 
-bar_reached : (x : Reached) (u : ℕ) → u < 2 ^ 64 - 2 → x.at ≤ u → bar_of x ≤ u + 1
-bar_reached x u early le = grind (arith, nat_tests)
-
--- what the bar says of the product state whose key was read
-module _ (f : Frontier) (right : IsQueueRight f) (v q k : ℕ) (there : IsAt (rows f) v q k) (x : Key) (read : x ≡ get_or f.keys.items k x) where
+module _ (f : Frontier) (right : IsQueueRight f) (v q k : ℕ) (there : IsAt (rows f) v q k) (told : Bool) where
   known_here : reached_at f v q ≡ Some (there.row).known
   known_here = at_known (rows f) right.apart v q k there
 
-  bar_here : x.bar ≡ bar_of (there.row).known
-  bar_here = ap (λ (y : Key). y.bar) (key_read f.keys.items f.entries.items k x (there.row) right.kept read there.known)
+  module _ (u : ℕ) (is : told ≡ ((there.row).known.settled || nat_le (there.row).known.at u)) where
+    pub reached_here : IsSettledBy f u → told ≡ true → IsReachedBy f v q u
+    reached_here by tells = ((there.row).known, known_here, by_then (there.row).known u (sym is ∙ tells) (by v q (there.row).known known_here))
 
-  module _ (u : ℕ) (early : u < 2 ^ 64 - 2) where
-    pub reached_here : IsSettledBy f u → x.bar ≤ u + 1 → IsReachedBy f v q u
-    reached_here by bar =
-        ((there.row).known, known_here, reached_bar (there.row).known u early (subst (λ b. b ≤ u + 1) bar_here bar) (by v q (there.row).known known_here))
-
-    pub here_reached : IsReachedBy f v q u → x.bar ≤ u + 1
-    here_reached (y, is, le) =
-        let h : Some y ≡ Some (there.row).known = sym is ∙ known_here in
+    pub here_reached : IsReachedBy f v q u → told ≡ true
+    here_reached (y, known, le) =
+        let h : Some y ≡ Some (there.row).known = sym known ∙ known_here in
         let same : y ≡ (there.row).known = cc in
-        subst (λ b. b ≤ u + 1) (sym bar_here) (bar_reached (there.row).known u early (subst (λ (z : Reached). z.at ≤ u) same le))
+        is ∙ then_by (there.row).known u (subst (λ (z : Reached). z.at ≤ u) same le)
 
-  module _ (way : Reached) where
-    pub better_here : way.at < x.bar - 1 → offered (reached_at f v q) way ≡ Some way
-    better_here before = ap (λ o. offered o way) known_here ∙ before_bar (there.row).known way (omega (arith, before, bar_here))
+  module _ (way : Reached) (is : told ≡ (not (there.row).known.settled && nat_lt way.at (there.row).known.at)) where
+    pub better_here : told ≡ true → offered (reached_at f v q) way ≡ Some way
+    better_here tells = ap (λ o. offered o way) known_here ∙ later_better (there.row).known way (sym is ∙ tells)
 
-    pub kept_here : (x.bar ≡ 2 ^ 64 - 1 → ⊥) → x.bar - 1 ≤ way.at → offered (reached_at f v q) way ≡ reached_at f v q
-    kept_here other from =
-        ap (λ o. offered o way) known_here ∙ from_bar (there.row).known way (omega (arith, from, bar_here)) (λ e. other (bar_here ∙ e)) ∙ sym known_here
-
-    -- and what the entry says where the bar doesn't tell
-    module _ (y : Entry) (also : y ≡ get_or f.entries.items k y) where
-      at_here : y.at ≡ (there.row).known.at
-      at_here = ap (λ (z : Entry). z.at) (entry_read f.keys.items f.entries.items k y (there.row) also there.known)
-
-      pub better_top : x.bar ≡ 2 ^ 64 - 1 → way.at < y.at → offered (reached_at f v q) way ≡ Some way
-      better_top top before = ap (λ o. offered o way) known_here ∙ at_top (there.row).known way (sym bar_here ∙ top) (omega (arith, before, at_here))
-
-      pub kept_top : y.at ≤ way.at → offered (reached_at f v q) way ≡ reached_at f v q
-      kept_top from = ap (λ o. offered o way) known_here ∙ from_top (there.row).known way (omega (arith, from, at_here)) ∙ sym known_here
+    pub kept_here : told ≡ false → offered (reached_at f v q) way ≡ reached_at f v q
+    kept_here tells = ap (λ o. offered o way) known_here ∙ later_kept (there.row).known way (sym is ∙ tells) ∙ sym known_here
 
 -- ---- a chain
 
@@ -603,15 +626,16 @@ sought_first count rs first indexed v q c is = rw is (let last = indexed.first_o
   there = λ k at. (let p = last.there k at in (p.1, p.2, p.3));
 })
 
-module _ (f : Frontier) (right : IsQueueRight f) (v q c : ℕ) (x : Key) (some : c ≢ 0) (sought : IsSought f.chains.count (rows f) v q c) (read : x ≡ get_or f.keys.items (c - 1) x) where
+module _ (f : Frontier) (right : IsQueueRight f) (v q c : ℕ) (x : Key) (some : c ≢ 0) (sought : IsSought f.chains.count (rows f) v q c)
+    (read : (r : Row) → slice_get (rows f) (c - 1) ≡ Some r → IsKeyOf r x) where
   -- the row whose key was read
-  sought_row : (e : Row) × (slice_get (rows f) (c - 1) ≡ Some e) × (chain_in f.chains.count e ≡ chain_of f.chains.count v q) × (key_of e ≡ x)
+  sought_row : (e : Row) × (slice_get (rows f) (c - 1) ≡ Some e) × (chain_in f.chains.count e ≡ chain_of f.chains.count v q) × IsKeyOf e x
   sought_row =
       let p = sought.there (c - 1) (omega (arith, some)) in
-      (p.0, p.1, p.2, sym (key_read f.keys.items f.entries.items (c - 1) x p.0 right.kept read p.1))
+      (p.0, p.1, p.2, read p.0 p.1)
 
   same_state : (sought_row.0).state ≡ x.state
-  same_state = ap (λ (y : Key). y.state) sought_row.3
+  same_state = sym (sought_row.3).state
 
   pub sought_found : x.state ≡ q → IsAt (rows f) v q (c - 1)
   sought_found state =
@@ -624,7 +648,7 @@ module _ (f : Frontier) (right : IsQueueRight f) (v q c : ℕ) (x : Key) (some :
       }
 
   sought_last : IsLast f.chains.count (rows f) (chain_of f.chains.count v q) (c - 1) x.next
-  sought_last = subst (λ n. IsLast f.chains.count (rows f) (chain_of f.chains.count v q) (c - 1) n) (ap (λ (y : Key). y.next) sought_row.3)
+  sought_last = subst (λ n. IsLast f.chains.count (rows f) (chain_of f.chains.count v q) (c - 1) n) (sym (sought_row.3).next)
       (subst (λ b. IsLast f.chains.count (rows f) b (c - 1) (sought_row.0).next) sought_row.2 (right.indexed.next (c - 1) sought_row.0 sought_row.1))
 
   pub sought_next : (x.state ≡ q → ⊥) → IsSought f.chains.count (rows f) v q x.next
@@ -667,6 +691,19 @@ behind_next count rs old new i x known behind here others v k is = elim (cases_e
         let p : x ≡ b.2 = cc in absurd (other (sym b.4 ∙ ap (chain_in count) (sym p))))
   ])
 ]
+
+blank : Row
+blank = made 0 0 0 (record { at = 0; parent = 0; arc = 0; settled = false })
+
+-- the same where the key of the row was read
+pub behind_key : (count : ℕ) (rs : List Row) (old new : List ℕ) (i : ℕ) (x : Key) → i < length rs → ((r : Row) → slice_get rs i ≡ Some r → IsKeyOf r x) → HasChainsFrom count rs old i
+    → slice_index new (chain_of count x.node x.state) ≡ 0 → ((v : ℕ) → v ≢ chain_of count x.node x.state → slice_index new v ≡ slice_index old v) → HasChainsFrom count rs new (i + 1)
+behind_key count rs old new i x lt read behind here others =
+    let r = get_or rs i blank in
+    let known = slice_get-get_or rs i blank lt in
+    let key = read r known in
+    let same : chain_of count x.node x.state ≡ chain_in count r = ap (λ v. chain_of count v x.state) key.node ∙ ap (chain_of count r.node) key.state in
+    behind_next count rs old new i r known behind (ap (slice_index new) (sym same) ∙ here) (λ v other. others v (λ e. other (e ∙ same)))
 
 pub behind_all : (count : ℕ) (rs : List Row) (first : List ℕ) (i : ℕ) → length rs ≤ i → HasChainsFrom count rs first i → IsClear first
 behind_all count rs first i all behind v = go (slice_index first v) refl where

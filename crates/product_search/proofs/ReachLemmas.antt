@@ -7,7 +7,7 @@ use Rattle.search_laws.specs.GraphLaws.{GraphMeaning, HasArc, IsLawfulGraph}
 use Rattle.search_laws.specs.LabelLaws.{LabelsMeaning, Reads, Follows, AllAfter}
 use Rattle.search_laws.specs.Walks.{arc, word_from}
 use Rattle.search_laws.proofs.WalkLemmas.{reads_more, reads_one, walk_more, word_more, walk_rises, walk_known}
-use Rattle.product_search.specs.declared.frontier.Reached.{Reached}
+use Rattle.product_search.specs.declared.row.Reached.{Reached}
 use Rattle.product_search.specs.declared.frontier.Frontier.{Frontier}
 use Rattle.product_search.specs.Reach.{IsReachedAt, IsWithin}
 use Rattle.product_search.specs.inside.Waiting.{reached_at, waits_at}

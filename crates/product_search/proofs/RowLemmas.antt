@@ -1,196 +1,289 @@
--- The rows that two lists keep, entry by entry and key by key.
-use Rattle.std.proofs.Common.{◌≡◌, ℕ, ◌+◌, ◌≤◌, ◌⊎◌, inl, inr, true, false, Bool, not, ◌==◌, ◌&&◌, append_assoc, append-nil, None, List, [], ◌∷◌, ◌++◌, length, get_or, map, Some, zero, suc, refl, sym, ◌∙◌, ap, subst, arith}
-use Rattle.std.specs.Prelude.{Option, option_map, slice_get, slice_set, filter_map, option_to_list}
-use Rattle.std.specs.List.{cons_option}
-use Rattle.std.proofs.lemmas.Bool.{false≢true, and_from, and_parts, not_from_false, not-true, eq-eqb, eqb-true}
+-- The rows that keys and entries tell.
+use Rattle.std.proofs.Common.{◌≡◌, ℕ, ◌+◌, ◌-◌, ◌^◌, ◌<◌, ◌⊎◌, inl, inr, false, Bool, not, nat_lt, ◌==◌, ◌&&◌, ◌||◌, List, [], ◌∷◌, ◌++◌, length, get_or, Some, zero, suc, refl, sym, ◌∙◌, ap, subst, arith}
+use Rattle.std.specs.Prelude.{All, nat_le, slice_get, slice_set}
 use Rattle.std.proofs.lemmas.Bool.Decides.{nat_tests}
-use Rattle.std.proofs.lemmas.List.{length-set, map-append, map-set, length-append}
-use Rattle.std.proofs.lemmas.Option.{get_or_from_slice_get, slice_get-map}
-use Rattle.product_search.specs.declared.frontier.Reached.{Reached}
-use Rattle.product_search.specs.declared.frontier.Entry.{Entry}
+use Rattle.std.proofs.lemmas.List.{length-set, length-append, get_or_append_left}
+use Rattle.std.proofs.lemmas.List.Elements.{All-get_or, All-head, All-tail, All-push, All-set}
+use Rattle.std.proofs.lemmas.Option.{get_or_from_slice_get, slice_get-get_or}
+use Rattle.product_search.specs.declared.row.Reached.{Reached}
+use Rattle.product_search.specs.declared.entry.Entry.{Entry}
+use Rattle.product_search.specs.declared.entry.Entry.TheVariants.{Near, Wide}
 use Rattle.product_search.specs.declared.key.Key.{Key}
 use Rattle.product_search.specs.declared.row.Row.{Row}
-use Rattle.product_search.specs.inside.Waiting.{keyed_row, rows_of, bar_of, key_of, slim, settled_now, HaveKeys, Waits, is_waiting}
+use Rattle.product_search.specs.declared.rows.Rows.TheInside.{Inside}
+use Rattle.product_search.specs.inside.Kept.{RowsMeaning, FitsEntry, IsBarOf, IsKept, IsKeyOf, TellsBar, bar_of, keyed_row, nothing, rows_meaning, rows_of, told_by}
+use Rattle.product_search.specs.inside.OfRows.{made, settled_now}
 
--- ---- a row, its entry and its key
+-- ---- a list of which one element is new
 
-bar_tells : (x : Reached) → (bar_of x == 0) ≡ x.settled
-bar_tells x = grind (arith, nat_tests)
+pub set_cases : {X : Type 0} (xs : List X) (i : ℕ) (y : X) (n : ℕ) (x : X) → slice_get (slice_set xs i y) n ≡ Some x
+    → ((n ≡ i) × (y ≡ x)) ⊎ ((n ≡ i → ⊥) × (slice_get xs n ≡ Some x))
+set_cases [] i y n x is = cc
+set_cases (z ∷ xs) zero y zero x is = let same : y ≡ x = cc in inl (refl, same)
+set_cases (z ∷ xs) zero y (suc n) x is = inr ((λ e. omega (arith, e)), is)
+set_cases (z ∷ xs) (suc i) y zero x is = inr ((λ e. omega (arith, e)), is)
+set_cases (z ∷ xs) (suc i) y (suc n) x is = elim (set_cases xs i y n x is) [
+  | inl (at, same) ↦ inl (ap suc at, same)
+  | inr (other, there) ↦ inr ((λ e. other (omega (arith, e))), there)
+]
 
--- what is kept of a row says that row again
-pub row_again : (r : Row) → keyed_row (key_of r) (slim r) ≡ r
-row_again r = ap (λ (b : Bool). record {
-  node = r.node;
-  state = r.state;
-  next = r.next;
-  known = record { at = r.known.at; parent = r.known.parent; arc = r.known.arc; settled = b };
-}) (bar_tells r.known)
-
--- ---- two lists
-
--- a row is that of the entry and the key with its number
-pub row_parts : (ks : List Key) (es : List Entry) (n : ℕ) (r : Row) → slice_get (rows_of ks es) n ≡ Some r
-    → (k : Key) × (e : Entry) × (slice_get ks n ≡ Some k) × (slice_get es n ≡ Some e) × (keyed_row k e ≡ r)
-row_parts [] es n r is = cc
-row_parts (k ∷ ks) [] n r is = cc
-row_parts (k ∷ ks) (e ∷ es) zero r is = let same : keyed_row k e ≡ r = cc in (k, e, refl, refl, same)
-row_parts (k ∷ ks) (e ∷ es) (suc n) r is = row_parts ks es n r is
-
-pub row_there : (ks : List Key) (es : List Entry) (n : ℕ) (k : Key) (e : Entry) → slice_get ks n ≡ Some k → slice_get es n ≡ Some e
-    → slice_get (rows_of ks es) n ≡ Some (keyed_row k e)
-row_there [] es n k e key entry = cc
-row_there (d ∷ ks) [] n k e key entry = cc
-row_there (d ∷ ks) (b ∷ es) zero k e key entry = let p : d ≡ k = cc in let q : b ≡ e = cc in ap (λ x. Some (keyed_row x b)) p ∙ ap (λ x. Some (keyed_row k x)) q
-row_there (d ∷ ks) (b ∷ es) (suc n) k e key entry = row_there ks es n k e key entry
-
-pub rows_length : (ks : List Key) (es : List Entry) → length ks ≡ length es → length (rows_of ks es) ≡ length es
-rows_length [] [] same = refl
-rows_length [] (e ∷ es) same = absurd (omega arith)
-rows_length (k ∷ ks) [] same = absurd (omega arith)
-rows_length (k ∷ ks) (e ∷ es) same = ap suc (rows_length ks es (omega arith))
-
-rows_push : (ks : List Key) (es : List Entry) (k : Key) (e : Entry) → length ks ≡ length es → rows_of (ks ++ k ∷ []) (es ++ e ∷ []) ≡ rows_of ks es ++ keyed_row k e ∷ []
-rows_push [] [] k e same = refl
-rows_push [] (d ∷ es) k e same = absurd (omega arith)
-rows_push (d ∷ ks) [] k e same = absurd (omega arith)
-rows_push (d ∷ ks) (b ∷ es) k e same = ap (λ rs. keyed_row d b ∷ rs) (rows_push ks es k e (omega arith))
-
-rows_set : (ks : List Key) (es : List Entry) (n : ℕ) (k : Key) (e : Entry) → rows_of (slice_set ks n k) (slice_set es n e) ≡ slice_set (rows_of ks es) n (keyed_row k e)
-rows_set [] es n k e = refl
-rows_set (d ∷ ks) [] zero k e = refl
-rows_set (d ∷ ks) [] (suc n) k e = refl
-rows_set (d ∷ ks) (b ∷ es) zero k e = refl
-rows_set (d ∷ ks) (b ∷ es) (suc n) k e = ap (λ rs. keyed_row d b ∷ rs) (rows_set ks es n k e)
+pub push_cases : {X : Type 0} (xs : List X) (y : X) (n : ℕ) (x : X) → slice_get (xs ++ y ∷ []) n ≡ Some x
+    → ((n ≡ length xs) × (y ≡ x)) ⊎ ((n < length xs) × (slice_get xs n ≡ Some x))
+push_cases [] y zero x is = let same : y ≡ x = cc in inl (refl, same)
+push_cases [] y (suc n) x is = cc
+push_cases (z ∷ xs) y zero x is = inr (omega arith, is)
+push_cases (z ∷ xs) y (suc n) x is = elim (push_cases xs y n x is) [
+  | inl (at, same) ↦ inl (ap suc at, same)
+  | inr (lt, there) ↦ inr (omega (arith, lt), there)
+]
 
 set_again : {X : Type 0} (xs : List X) (n : ℕ) (x : X) → slice_get xs n ≡ Some x → slice_set xs n x ≡ xs
 set_again [] n x is = cc
 set_again (y ∷ xs) zero x is = let same : y ≡ x = cc in ap (λ z. z ∷ xs) (sym same)
 set_again (y ∷ xs) (suc n) x is = ap (λ ys. y ∷ ys) (set_again xs n x is)
 
+-- ---- keys and entries, row by row
+
+module _ (base : ℕ) (wide : List Reached) where
+  -- the row with that number, and what tells it
+  pub record IsTold (ks : List Key) (es : List Entry) (n : ℕ) (k : Key) (e : Entry) (r : Row) : Type 0 where
+    pub key : slice_get ks n ≡ Some k
+    pub entry : slice_get es n ≡ Some e
+    pub row : keyed_row base wide k e ≡ r
+
+  pub row_parts : (ks : List Key) (es : List Entry) (n : ℕ) (r : Row) → slice_get (rows_of base wide ks es) n ≡ Some r → (k : Key) × (e : Entry) × IsTold ks es n k e r
+  row_parts [] es n r is = cc
+  row_parts (k ∷ ks) [] n r is = cc
+  row_parts (k ∷ ks) (e ∷ es) zero r is = let same : keyed_row base wide k e ≡ r = cc in (k, e, record { key = refl; entry = refl; row = same })
+  row_parts (k ∷ ks) (e ∷ es) (suc n) r is = let parts = row_parts ks es n r is in (parts.0, parts.1, record { key = parts.2.key; entry = parts.2.entry; row = parts.2.row })
+
+  pub row_there : (ks : List Key) (es : List Entry) (n : ℕ) (k : Key) (e : Entry) → slice_get ks n ≡ Some k → slice_get es n ≡ Some e
+      → slice_get (rows_of base wide ks es) n ≡ Some (keyed_row base wide k e)
+  row_there [] es n k e key entry = cc
+  row_there (d ∷ ks) [] n k e key entry = cc
+  row_there (d ∷ ks) (b ∷ es) zero k e key entry = let p : d ≡ k = cc in let q : b ≡ e = cc in
+      ap (λ x. Some (keyed_row base wide x b)) p ∙ ap (λ x. Some (keyed_row base wide k x)) q
+  row_there (d ∷ ks) (b ∷ es) (suc n) k e key entry = row_there ks es n k e key entry
+
+  pub rows_length : (ks : List Key) (es : List Entry) → length ks ≡ length es → length (rows_of base wide ks es) ≡ length ks
+  rows_length [] es same = refl
+  rows_length (k ∷ ks) [] same = absurd (omega arith)
+  rows_length (k ∷ ks) (e ∷ es) same = ap suc (rows_length ks es (omega arith))
+
+  pub rows_push : (ks : List Key) (es : List Entry) (k : Key) (e : Entry) → length ks ≡ length es
+      → rows_of base wide (ks ++ k ∷ []) (es ++ e ∷ []) ≡ rows_of base wide ks es ++ keyed_row base wide k e ∷ []
+  rows_push [] [] k e same = refl
+  rows_push [] (d ∷ es) k e same = absurd (omega arith)
+  rows_push (d ∷ ks) [] k e same = absurd (omega arith)
+  rows_push (d ∷ ks) (b ∷ es) k e same = ap (λ rs. keyed_row base wide d b ∷ rs) (rows_push ks es k e (omega arith))
+
+  pub rows_set : (ks : List Key) (es : List Entry) (n : ℕ) (k : Key) (e : Entry)
+      → rows_of base wide (slice_set ks n k) (slice_set es n e) ≡ slice_set (rows_of base wide ks es) n (keyed_row base wide k e)
+  rows_set [] es n k e = refl
+  rows_set (d ∷ ks) [] zero k e = refl
+  rows_set (d ∷ ks) [] (suc n) k e = refl
+  rows_set (d ∷ ks) (b ∷ es) zero k e = refl
+  rows_set (d ∷ ks) (b ∷ es) (suc n) k e = ap (λ rs. keyed_row base wide d b ∷ rs) (rows_set ks es n k e)
+
+  told_wider : (way : Reached) (e : Entry) → FitsEntry wide e → told_by base (wide ++ way ∷ []) e ≡ told_by base wide e
+  told_wider way (Near near) fits = refl
+  told_wider way (Wide place) fits = ap (λ (x : Reached). record x { settled = false }) (get_or_append_left wide (way ∷ []) nothing place fits)
+
+  -- where there is one more way, the entries tell what they told
+  pub rows_wider : (way : Reached) (ks : List Key) (es : List Entry) → All (FitsEntry wide) es → rows_of base (wide ++ way ∷ []) ks es ≡ rows_of base wide ks es
+  rows_wider way [] es fits = refl
+  rows_wider way (k ∷ ks) [] fits = refl
+  rows_wider way (k ∷ ks) (e ∷ es) fits =
+      ap (λ (x : Reached). (record { node = k.node; state = k.state; next = k.next; known = record x { settled = k.bar == 0 } }) ∷ rows_of base (wide ++ way ∷ []) ks es)
+      (told_wider way e (All-head (FitsEntry wide) e es fits))
+      ∙ ap (λ rs. keyed_row base wide k e ∷ rs) (rows_wider way ks es (All-tail (FitsEntry wide) e es fits))
+
+  -- ---- bars
+
+  not_zero : (n : ℕ) → (n + 1 == 0) ≡ false
+  not_zero n = grind (arith, nat_tests)
+
+  told_waits : (e : Entry) → record (told_by base wide e) { settled = bar_of e == 0 } ≡ told_by base wide e
+  told_waits (Near way) = ap (λ b. record { at = base + way.delay; parent = way.parent; arc = way.arc; settled = b }) (not_zero way.delay)
+  told_waits (Wide place) = refl
+
+  -- a key with the bar of its entry says that the row waits
+  pub row_waits : (k : Key) (e : Entry) → k.bar ≡ bar_of e → keyed_row base wide k e ≡ made k.node k.state k.next (told_by base wide e)
+  row_waits k e bar =
+      ap (λ b. record { node = k.node; state = k.state; next = k.next; known = record (told_by base wide e) { settled = b == 0 } }) bar
+      ∙ ap (λ x. made k.node k.state k.next x) (told_waits e)
+
+  pub bar_tells : (k : Key) (e : Entry) → IsBarOf k e → TellsBar base k.bar (keyed_row base wide k e).known
+  bar_tells k (Near way) (inl settled) = inl (settled, grind (arith, nat_tests))
+  bar_tells k (Near way) (inr waits) = inr ((omega (arith, waits), grind (arith, nat_tests)), inr (omega (arith, waits)))
+  bar_tells k (Wide place) (inl settled) = inl (settled, grind (arith, nat_tests))
+  bar_tells k (Wide place) (inr waits) = inr ((omega (arith, waits), grind (arith, nat_tests)), inl waits)
+
+-- ---- what a bar says of a way
+
+module _ (base bar : ℕ) (way : Reached) (tells : TellsBar base bar way) where
+  pub later_near : (delay at : ℕ) → at ≡ base + delay → (bar ≡ 2 ^ 32 - 1 → ⊥) → nat_lt (delay + 1) bar ≡ (not way.settled && nat_lt at way.at)
+  later_near delay at is other = elim tells [
+    | inl (none, settled) ↦ rw settled (grind (arith, nat_tests))
+    | inr ((some, waits), inl wide) ↦ absurd (other wide)
+    | inr ((some, waits), inr near) ↦ rw waits (grind (arith, nat_tests))
+  ]
+
+  pub later_asked : (bar ≡ 0 → ⊥) → (later : Bool) → later ≡ (not way.settled && later)
+  later_asked other later = elim tells [
+    | inl (none, settled) ↦ absurd (other none)
+    | inr ((some, waits), told) ↦ rw waits refl
+  ]
+
+  pub not_later : bar ≡ 0 → (later : Bool) → false ≡ (not way.settled && later)
+  not_later none later = elim tells [
+    | inl (zero_bar, settled) ↦ rw settled refl
+    | inr ((some, waits), told) ↦ absurd (omega (arith, some, none))
+  ]
+
+  pub by_near : (delay : ℕ) → (bar ≡ 2 ^ 32 - 1 → ⊥) → nat_le bar (delay + 1) ≡ (way.settled || nat_le way.at (base + delay))
+  by_near delay other = elim tells [
+    | inl (none, settled) ↦ rw settled (grind (arith, nat_tests))
+    | inr ((some, waits), inl wide) ↦ absurd (other wide)
+    | inr ((some, waits), inr near) ↦ rw waits (grind (arith, nat_tests))
+  ]
+
+  pub by_wide : (t : ℕ) → bar ≡ 2 ^ 32 - 1 → not (nat_lt t way.at) ≡ (way.settled || nat_le way.at t)
+  by_wide t is = elim tells [
+    | inl (none, settled) ↦ absurd (omega (arith, none, is))
+    | inr ((some, waits), told) ↦ rw waits (grind (arith, nat_tests))
+  ]
+
+  pub due_near : (delay : ℕ) → (bar ≡ 2 ^ 32 - 1 → ⊥) → (delay + 1 == bar) ≡ (not way.settled && (way.at == base + delay))
+  due_near delay other = elim tells [
+    | inl (none, settled) ↦ rw settled (grind (arith, nat_tests))
+    | inr ((some, waits), inl wide) ↦ absurd (other wide)
+    | inr ((some, waits), inr near) ↦ rw waits (grind (arith, nat_tests))
+  ]
+
 -- ---- what is kept
 
-module _ (ks : List Key) (es : List Entry) (kept : HaveKeys ks es) where
-  pub kept_length : length (rows_of ks es) ≡ length es
-  kept_length = rows_length ks es kept.as_long
+-- where a key and its entry are written, and the bar is one of it
+pub kept_set : (x y : Inside) (n : ℕ) (k : Key) (e : Entry) → y.wide ≡ x.wide → y.keys.items ≡ slice_set x.keys.items n k → y.entries.items ≡ slice_set x.entries.items n e
+    → IsBarOf k e → FitsEntry x.wide.items e → IsKept x → IsKept y
+kept_set x y n k e wide keys entries bar fits kept = record {
+  as_long = ap length keys ∙ length-set x.keys.items n k ∙ kept.as_long ∙ sym (ap length entries ∙ length-set x.entries.items n e);
+  fits = rw (wide, entries) (All-set (FitsEntry x.wide.items) x.entries.items n e fits kept.fits);
+  bars = λ i j d key entry. bars i j d (ap (λ xs. slice_get xs i) (sym keys) ∙ key) (ap (λ xs. slice_get xs i) (sym entries) ∙ entry);
+} where
+  bars : (i : ℕ) (j : Key) (d : Entry) → slice_get (slice_set x.keys.items n k) i ≡ Some j → slice_get (slice_set x.entries.items n e) i ≡ Some d → IsBarOf j d
+  bars i j d key entry = elim (set_cases x.keys.items n k i j key) [
+    | inl (at, same) ↦ elim (set_cases x.entries.items n e i d entry) [
+      | inl (at2, same2) ↦ subst (λ b. IsBarOf j b) same2 (subst (λ b. IsBarOf b e) same bar)
+      | inr (other, there) ↦ absurd (other at)
+    ]
+    | inr (other, there) ↦ elim (set_cases x.entries.items n e i d entry) [
+      | inl (at, same) ↦ absurd (other at)
+      | inr (other2, there2) ↦ kept.bars i j d there there2
+    ]
+  ]
 
-  pub kept_push : (r : Row) → HaveKeys (ks ++ key_of r ∷ []) (es ++ slim r ∷ []) × (rows_of (ks ++ key_of r ∷ []) (es ++ slim r ∷ []) ≡ rows_of ks es ++ r ∷ [])
-  kept_push r =
-      let same : rows_of (ks ++ key_of r ∷ []) (es ++ slim r ∷ []) ≡ rows_of ks es ++ r ∷ [] =
-      rows_push ks es (key_of r) (slim r) kept.as_long ∙ ap (λ x. rows_of ks es ++ x ∷ []) (row_again r) in (
-        record {
-          as_long = omega (arith, length-append ks (key_of r ∷ []), length-append es (slim r ∷ []), kept.as_long);
-          keys = ap (λ xs. xs ++ key_of r ∷ []) kept.keys ∙ sym (map-append key_of (rows_of ks es) (r ∷ [])) ∙ ap (λ rs. map key_of rs) (sym same);
-        },
-        same,
-      )
+-- where a key and its entry come behind the others
+pub kept_push : (x y : Inside) (k : Key) (e : Entry) → y.wide ≡ x.wide → y.keys.items ≡ x.keys.items ++ k ∷ [] → y.entries.items ≡ x.entries.items ++ e ∷ []
+    → IsBarOf k e → FitsEntry x.wide.items e → IsKept x → IsKept y
+kept_push x y k e wide keys entries bar fits kept = record {
+  as_long = omega (arith, ap length keys, ap length entries, length-append x.keys.items (k ∷ []), length-append x.entries.items (e ∷ []), kept.as_long);
+  fits = rw (wide, entries) (All-push (FitsEntry x.wide.items) x.entries.items e kept.fits fits);
+  bars = λ i j d key entry. bars i j d (ap (λ xs. slice_get xs i) (sym keys) ∙ key) (ap (λ xs. slice_get xs i) (sym entries) ∙ entry);
+} where
+  bars : (i : ℕ) (j : Key) (d : Entry) → slice_get (x.keys.items ++ k ∷ []) i ≡ Some j → slice_get (x.entries.items ++ e ∷ []) i ≡ Some d → IsBarOf j d
+  bars i j d key entry = elim (push_cases x.keys.items k i j key) [
+    | inl (at, same) ↦ elim (push_cases x.entries.items e i d entry) [
+      | inl (at2, same2) ↦ subst (λ b. IsBarOf j b) same2 (subst (λ b. IsBarOf b e) same bar)
+      | inr (lt, there) ↦ absurd (omega (arith, lt, at, kept.as_long))
+    ]
+    | inr (lt, there) ↦ elim (push_cases x.entries.items e i d entry) [
+      | inl (at, same) ↦ absurd (omega (arith, lt, at, kept.as_long))
+      | inr (lt2, there2) ↦ kept.bars i j d there there2
+    ]
+  ]
 
-  pub kept_set : (n : ℕ) (r : Row) → HaveKeys (slice_set ks n (key_of r)) (slice_set es n (slim r)) × (rows_of (slice_set ks n (key_of r)) (slice_set es n (slim r)) ≡ slice_set (rows_of ks es) n r)
-  kept_set n r =
-      let same : rows_of (slice_set ks n (key_of r)) (slice_set es n (slim r)) ≡ slice_set (rows_of ks es) n r =
-      rows_set ks es n (key_of r) (slim r) ∙ ap (λ x. slice_set (rows_of ks es) n x) (row_again r) in (
-        record {
-          as_long = length-set ks n (key_of r) ∙ kept.as_long ∙ sym (length-set es n (slim r));
-          keys = ap (λ xs. slice_set xs n (key_of r)) kept.keys ∙ sym (map-set key_of (rows_of ks es) n r) ∙ ap (λ rs. map key_of rs) (sym same);
-        },
-        same,
-      )
+-- ---- what is read
 
-  key_at : (n : ℕ) (r : Row) → slice_get (rows_of ks es) n ≡ Some r → slice_get ks n ≡ Some (key_of r)
-  key_at n r is = ap (λ xs. slice_get xs n) kept.keys ∙ slice_get-map key_of (rows_of ks es) n ∙ ap (λ o. option_map key_of o) is
+module _ (x : Inside) (m : RowsMeaning) (is : rows_meaning x ≡ m) (kept : IsKept x) where
+  pub keys_count : length x.keys.items ≡ length m.rows
+  keys_count = sym (rows_length x.base x.wide.items x.keys.items x.entries.items kept.as_long) ∙ ap (λ (y : RowsMeaning). length y.rows) is
 
-  -- one that is settled, where its entry stays
-  pub kept_settled : (n : ℕ) (r : Row) → slice_get (rows_of ks es) n ≡ Some r
-      → HaveKeys (slice_set ks n (key_of (settled_now r))) es × (rows_of (slice_set ks n (key_of (settled_now r))) es ≡ slice_set (rows_of ks es) n (settled_now r))
-  kept_settled n r is =
-      let parts = row_parts ks es n r is in
-      let entry : slice_get es n ≡ Some (slim (settled_now r)) = parts.3 ∙ ap (λ (x : Row). Some (slim x)) parts.4 in
-      let same : slice_set es n (slim (settled_now r)) ≡ es = set_again es n (slim (settled_now r)) entry in
-      subst (λ xs. HaveKeys (slice_set ks n (key_of (settled_now r))) xs × (rows_of (slice_set ks n (key_of (settled_now r))) xs ≡ slice_set (rows_of ks es) n (settled_now r))) same
-      (kept_set n (settled_now r))
+  pub fits_read : (n : ℕ) (e : Entry) → n < length m.rows → e ≡ get_or x.entries.items n e → FitsEntry x.wide.items e
+  fits_read n e lt read = let there : n < length x.entries.items = omega (arith, lt, keys_count, kept.as_long) in
+      subst (λ d. FitsEntry x.wide.items d) (sym read) (All-get_or (FitsEntry x.wide.items) x.entries.items n e there kept.fits)
 
--- the key that was read is that of the row with that number
-pub key_read : (ks : List Key) (es : List Entry) (n : ℕ) (x : Key) (r : Row) → HaveKeys ks es → x ≡ get_or ks n x → slice_get (rows_of ks es) n ≡ Some r → x ≡ key_of r
-key_read ks es n x r kept is known = is ∙ get_or_from_slice_get ks n (key_of r) x (key_at ks es kept n r known)
+  module _ (n : ℕ) (r : Row) (known : slice_get m.rows n ≡ Some r) where
+    parts : (k : Key) × (e : Entry) × IsTold x.base x.wide.items x.keys.items x.entries.items n k e r
+    parts = row_parts x.base x.wide.items x.keys.items x.entries.items n r (ap (λ (y : RowsMeaning). slice_get y.rows n) is ∙ known)
 
--- and so is the entry
-pub entry_read : (ks : List Key) (es : List Entry) (n : ℕ) (x : Entry) (r : Row) → x ≡ get_or es n x → slice_get (rows_of ks es) n ≡ Some r → x ≡ slim r
-entry_read ks es n x r is known =
-    let parts = row_parts ks es n r known in
-    is ∙ get_or_from_slice_get es n parts.1 x parts.3 ∙ ap (λ (y : Row). slim y) parts.4
+    key_same : (k : Key) → k ≡ get_or x.keys.items n k → parts.0 ≡ k
+    key_same k read = sym (read ∙ get_or_from_slice_get x.keys.items n parts.0 k parts.2.key)
 
--- ---- who waits
+    pub key_told : (k : Key) → k ≡ get_or x.keys.items n k → IsKeyOf r k
+    key_told k read = subst (λ j. IsKeyOf r j) (key_same k read)
+        (subst (λ s. IsKeyOf s parts.0) parts.2.row (record { node = refl; state = refl; next = refl }))
 
-waits_told : (r : Row) (t : ℕ) → is_waiting (bar_of r.known) r.known.at t ≡ (not r.known.settled && (r.known.at == t))
-waits_told r t = grind (arith, nat_tests)
+    pub bar_told : (k : Key) → k ≡ get_or x.keys.items n k → TellsBar m.base k.bar r.known
+    bar_told k read = subst (λ base. TellsBar base k.bar r.known) (ap (λ (y : RowsMeaning). y.base) is)
+        (subst (λ (j : Key). TellsBar x.base j.bar r.known) (key_same k read)
+        (subst (λ (s : Row). TellsBar x.base parts.0.bar s.known) parts.2.row
+        (bar_tells x.base x.wide.items parts.0 parts.1 (kept.bars n parts.0 parts.1 parts.2.key parts.2.entry))))
 
--- what the bar and the entry with the number n say
-module _ (ks : List Key) (es : List Entry) (kept : HaveKeys ks es) (n t : ℕ) (k : Key) (e : Entry) (key : slice_get ks n ≡ Some k) (entry : slice_get es n ≡ Some e) where
-  row_here : slice_get (rows_of ks es) n ≡ Some (keyed_row k e)
-  row_here = row_there ks es n k e key entry
+    pub known_told : (e : Entry) → e ≡ get_or x.entries.items n e → record r.known { settled = false } ≡ record (told_by x.base x.wide.items e) { settled = false }
+    known_told e read = ap (λ (s : Row). record s.known { settled = false }) (sym parts.2.row)
+        ∙ ap (λ (d : Entry). record (told_by x.base x.wide.items d) { settled = false }) (sym (read ∙ get_or_from_slice_get x.entries.items n parts.1 e parts.2.entry))
 
-  told_here : is_waiting k.bar e.at t ≡ (not (keyed_row k e).known.settled && (e.at == t))
-  told_here =
-      let h : Some k ≡ Some (key_of (keyed_row k e)) = sym key ∙ key_at ks es kept n (keyed_row k e) row_here in
-      let same : k ≡ key_of (keyed_row k e) = cc in
-      ap (λ (x : Key). is_waiting x.bar e.at t) same ∙ waits_told (keyed_row k e) t
+    -- a row from its key and how it is reached
+    row_again : (k : Key) (y : Reached) → k ≡ get_or x.keys.items n k → record r.known { settled = false } ≡ record y { settled = false }
+        → r ≡ made k.node k.state k.next (record y { settled = k.bar == 0 })
+    row_again k y read reached =
+        let told : r ≡ made parts.0.node parts.0.state parts.0.next (record r.known { settled = parts.0.bar == 0 }) =
+        subst (λ (s : Row). s ≡ made parts.0.node parts.0.state parts.0.next (record s.known { settled = parts.0.bar == 0 })) parts.2.row refl in
+        told ∙ ap (λ (j : Key). made j.node j.state j.next (record r.known { settled = j.bar == 0 })) (key_same k read)
+        ∙ ap (λ (z : Reached). made k.node k.state k.next (record z { settled = k.bar == 0 })) reached
 
-  pub waits_now : is_waiting k.bar e.at t ≡ true → Waits (rows_of ks es) n t (keyed_row k e)
-  waits_now waits = let p = and_parts (not (keyed_row k e).known.settled) (e.at == t) (sym told_here ∙ waits) in
-      record { known = row_here; unsettled = not-true (keyed_row k e).known.settled p.0; at = eqb-true e.at t p.1 }
+  pub row_read : (n : ℕ) (k : Key) (y : Reached) → n < length m.rows → k ≡ get_or x.keys.items n k
+      → ((r : Row) → slice_get m.rows n ≡ Some r → record r.known { settled = false } ≡ record y { settled = false })
+      → slice_get m.rows n ≡ Some (made k.node k.state k.next (record y { settled = k.bar == 0 }))
+  row_read n k y lt read reached =
+      let r = get_or m.rows n (made 0 0 0 nothing) in
+      let known : slice_get m.rows n ≡ Some r = slice_get-get_or m.rows n (made 0 0 0 nothing) lt in
+      known ∙ ap (λ (s : Row). Some s) (row_again n r known k y read (reached r known))
 
-  pub settled_here : HaveKeys (slice_set ks n (record { state = k.state; next = k.next; bar = 0 })) es
-      × (rows_of (slice_set ks n (record { state = k.state; next = k.next; bar = 0 })) es ≡ slice_set (rows_of ks es) n (settled_now (keyed_row k e)))
-  settled_here = kept_settled ks es kept n (keyed_row k e) row_here
+  -- ---- what is written
 
-  pub none_waits : is_waiting k.bar e.at t ≡ false → (r : Row) → Waits (rows_of ks es) n t r → ⊥
-  none_waits stale r waits =
-      let h : Some (keyed_row k e) ≡ Some r = sym row_here ∙ waits.known in
-      let same : keyed_row k e ≡ r = cc in
-      let still : (keyed_row k e).known.settled ≡ false = ap (λ (x : Row). x.known.settled) same ∙ waits.unsettled in
-      let at : e.at ≡ t = ap (λ (x : Row). x.known.at) same ∙ waits.at in
-      false≢true (sym stale ∙ told_here ∙ and_from (not (keyed_row k e).known.settled) (e.at == t) (not_from_false (keyed_row k e).known.settled still) (eq-eqb e.at t at))
+  pub settled_rows : (n : ℕ) (r : Row) (k : Key) → slice_get m.rows n ≡ Some r → k ≡ get_or x.keys.items n k
+      → rows_of x.base x.wide.items (slice_set x.keys.items n (record k { bar = 0 })) x.entries.items ≡ slice_set m.rows n (settled_now r)
+  settled_rows n r k known read =
+      let p = parts n r known in
+      ap (λ (j : Key). rows_of x.base x.wide.items (slice_set x.keys.items n (record j { bar = 0 })) x.entries.items) (sym (key_same n r known k read))
+      ∙ ap (λ es. rows_of x.base x.wide.items (slice_set x.keys.items n (record (p.0) { bar = 0 })) es) (sym (set_again x.entries.items n p.1 p.2.entry))
+      ∙ rows_set x.base x.wide.items x.keys.items x.entries.items n (record (p.0) { bar = 0 }) p.1
+      ∙ ap (λ (y : RowsMeaning). slice_set y.rows n (settled_now (keyed_row x.base x.wide.items p.0 p.1))) is
+      ∙ ap (λ s. slice_set m.rows n (settled_now s)) p.2.row
 
--- ---- a list made row by row
+  pub kept_settled : (y : Inside) (n : ℕ) (k : Key) → n < length m.rows → k ≡ get_or x.keys.items n k
+      → y.wide ≡ x.wide → y.keys.items ≡ slice_set x.keys.items n (record k { bar = 0 }) → y.entries ≡ x.entries → IsKept y
+  kept_settled y n k lt read wide keys entries =
+      let r = get_or m.rows n (made 0 0 0 nothing) in
+      let p = parts n r (slice_get-get_or m.rows n (made 0 0 0 nothing) lt) in
+      kept_set x y n (record k { bar = 0 }) p.1 wide keys (rw entries (sym (set_again x.entries.items n p.1 p.2.entry)))
+      (inl refl) (fits_read n p.1 lt (sym (get_or_from_slice_get x.entries.items n p.1 p.1 p.2.entry))) kept
 
-cons_is_append : {Y : Type 0} (o : Option Y) (xs : List Y) → cons_option o xs ≡ option_to_list o ++ xs
-cons_is_append None xs = refl
-cons_is_append (Some y) xs = refl
+  pub written_rows : (n : ℕ) (r : Row) (k : Key) (e : Entry) → slice_get m.rows n ≡ Some r → k ≡ get_or x.keys.items n k
+      → rows_of x.base x.wide.items (slice_set x.keys.items n (record k { bar = bar_of e })) (slice_set x.entries.items n e)
+      ≡ slice_set m.rows n (record r { known = told_by m.base m.wide e })
+  written_rows n r k e known read =
+      let told = key_told n r known k read in
+      rows_set x.base x.wide.items x.keys.items x.entries.items n (record k { bar = bar_of e }) e
+      ∙ ap (λ s. slice_set (rows_of x.base x.wide.items x.keys.items x.entries.items) n s) (row_waits x.base x.wide.items (record k { bar = bar_of e }) e refl)
+      ∙ ap (λ (y : RowsMeaning). slice_set y.rows n (made k.node k.state k.next (told_by y.base y.wide e))) is
+      ∙ rw (told.node, told.state, told.next) refl
 
--- what a row gives goes from the rest to the list
-pub listed_next : {Y : Type 0} (h : Row → Option Y) (list all : List Y) (k : Key) (e : Entry) (ks more_keys : List Key) (es more_entries : List Entry)
-    → ks ≡ k ∷ more_keys → es ≡ e ∷ more_entries → list ++ filter_map h (rows_of ks es) ≡ all
-    → (list ++ option_to_list (h (keyed_row k e))) ++ filter_map h (rows_of more_keys more_entries) ≡ all
-listed_next h list all k e ks more_keys es more_entries first second so_far =
-    append_assoc list (option_to_list (h (keyed_row k e))) (filter_map h (rows_of more_keys more_entries))
-    ∙ ap (λ xs. list ++ xs) (sym (cons_is_append (h (keyed_row k e)) (filter_map h (rows_of more_keys more_entries))))
-    ∙ ap (λ xs. list ++ filter_map h (rows_of xs (e ∷ more_entries))) (sym first) ∙ ap (λ xs. list ++ filter_map h (rows_of ks xs)) (sym second) ∙ so_far
-
-pub listed_all : {Y : Type 0} (h : Row → Option Y) (list all : List Y) (ks : List Key) (es : List Entry) → (ks ≡ []) ⊎ (es ≡ [])
-    → list ++ filter_map h (rows_of ks es) ≡ all → list ≡ all
-listed_all h list all [] es ended so_far = sym (append-nil list) ∙ so_far
-listed_all h list all (k ∷ ks) [] ended so_far = sym (append-nil list) ∙ so_far
-listed_all h list all (k ∷ ks) (e ∷ es) ended so_far = elim ended [ inl none ↦ cc | inr none ↦ cc ]
-
--- ---- how many of them there are
-
-pub counted_none : (count all : ℕ) → count ≡ all → 0 + count ≡ all
-counted_none count all is = omega (arith, is)
-
-pub counted_all : {Y : Type 0} (h : Row → Option Y) (count all : ℕ) (ks : List Key) (es : List Entry) → (ks ≡ []) ⊎ (es ≡ [])
-    → count + length (filter_map h (rows_of ks es)) ≡ all → count ≡ all
-counted_all h count all [] es ended so_far = omega (arith, so_far)
-counted_all h count all (k ∷ ks) [] ended so_far = omega (arith, so_far)
-counted_all h count all (k ∷ ks) (e ∷ es) ended so_far = elim ended [ inl none ↦ cc | inr none ↦ cc ]
-
-pub few_listed : {Y : Type 0} (h : Row → Option Y) (ks : List Key) (es : List Entry) → length (filter_map h (rows_of ks es)) ≤ length ks
-few_listed h [] es = omega arith
-few_listed h (k ∷ ks) [] = omega arith
-few_listed h (k ∷ ks) (e ∷ es) =
-    let one = option_few (h (keyed_row k e)) in
-    let parts = ap length (cons_is_append (h (keyed_row k e)) (filter_map h (rows_of ks es))) ∙ length-append (option_to_list (h (keyed_row k e))) (filter_map h (rows_of ks es)) in
-    let rest = few_listed h ks es in
-    omega (arith, one, parts, rest)
-  where
-    option_few : {Y : Type 0} (o : Option Y) → length (option_to_list o) ≤ 1
-    option_few None = omega arith
-    option_few (Some y) = omega arith
+  pub pushed_rows : (k : Key) (e : Entry) → k.bar ≡ bar_of e
+      → rows_of x.base x.wide.items (x.keys.items ++ k ∷ []) (x.entries.items ++ e ∷ []) ≡ m.rows ++ made k.node k.state k.next (told_by m.base m.wide e) ∷ []
+  pushed_rows k e bar =
+      rows_push x.base x.wide.items x.keys.items x.entries.items k e kept.as_long
+      ∙ ap (λ s. rows_of x.base x.wide.items x.keys.items x.entries.items ++ s ∷ []) (row_waits x.base x.wide.items k e bar)
+      ∙ ap (λ (y : RowsMeaning). y.rows ++ made k.node k.state k.next (told_by y.base y.wide e) ∷ []) is

@@ -7,7 +7,7 @@ use Rattle.search_laws.specs.GraphLaws.{GraphMeaning, HasArc}
 use Rattle.search_laws.specs.LabelLaws.{LabelsMeaning, Follows}
 use Rattle.product_search.specs.declared.label.Hop.{Hop}
 use Rattle.product_search.specs.declared.label.Walk.{Walk}
-use Rattle.product_search.specs.declared.frontier.Reached.{Reached}
+use Rattle.product_search.specs.declared.row.Reached.{Reached}
 use Rattle.product_search.specs.declared.frontier.Settled.{Settled}
 use Rattle.product_search.specs.declared.frontier.Frontier.{Frontier}
 use Rattle.product_search.specs.declared.row.Row.{Row}
@@ -15,7 +15,6 @@ use Rattle.product_search.specs.inside.Waiting.{rows, reached_at, IsAt, IsLink, 
 use Rattle.product_search.specs.Answer.{IsHop, AreWalkHops, IsWalkFor, IsWalkTo, last_time}
 use Rattle.product_search.specs.inside.Searching.{IsFromParent, IsFromStart, IsTraced, IsTracedTo, IsEnd, IsExplored, IsSearched, end_arrival}
 use Rattle.product_search.proofs.QueueLemmas.{same_place, found_in, within}
-use Rattle.product_search.proofs.RowLemmas.{kept_length}
 use Rattle.product_search.specs.inside.Trail.{HasParents, IsBackWithin, IsRowOf, IsTrailHop, AreTrail, IsTrailIfAny, IsTrailTo}
 
 pub same_entry : (f : Frontier) (v q : ℕ) (x y : Reached) → reached_at f v q ≡ Some x → reached_at f v q ≡ Some y → x ≡ y
@@ -34,8 +33,8 @@ link_row : (f : Frontier) (v q c : ℕ) → IsLink f v q c → (r : Row) → sli
 link_row f v q c (k, e, at) r is =
     same_place (rows f) v q r.node r.state k at (row_place f k r (subst (λ j. slice_get (rows f) j ≡ Some r) (omega (arith, e)) is))
 
-pub link_within : (f : Frontier) → IsQueueRight f → (v q c : ℕ) → IsLink f v q c → c - 1 < length f.entries.items
-link_within f right v q c (k, e, at) = omega (arith, e, within (rows f) v q k at, kept_length f.keys.items f.entries.items right.kept)
+pub link_within : (f : Frontier) → IsQueueRight f → (v q c : ℕ) → IsLink f v q c → c - 1 < length (rows f)
+link_within f right v q c (k, e, at) = omega (arith, e, within (rows f) v q k at)
 
 less_one : (n : ℕ) → n ≢ 0 → n ≡ suc (n - 1)
 less_one n some = omega (arith, some)

@@ -1,7 +1,9 @@
 pub mod Exploring
 pub mod Heaped
+pub mod Kept
 pub mod MoveTables
 pub mod Noting
+pub mod OfRows
 pub mod Places
 pub mod Searching
 pub mod Trail

@@ -1,6 +1,6 @@
 //! The arcs out of a settled product state, each offered to the frontier.
 
-ghost use Rattle.std.specs.Prelude.{◌≡◌, ℕ, ◌+◌, ◌<◌, ◌≤◌, ◌^◌, false, None, Some, All, OnOk, IfSome, IsTrue, IsBitSet, ◌↔◌, length};
+ghost use Rattle.std.specs.Prelude.{◌≡◌, ℕ, ◌+◌, ◌<◌, ◌≤◌, ◌^◌, false, None, Some, All, OnOk, IfSome, IsTrue, ◌↔◌, length};
 ghost use Rattle.std.specs.List.{AllWithin};
 ghost use Rattle.search_laws.specs.Letters.{IsLetter};
 ghost use Rattle.search_laws.specs.LabelLaws.{AllAfter};
@@ -8,9 +8,10 @@ ghost use Rattle.product_search.specs.Reach.{IsWithin};
 ghost use Rattle.product_search.specs.inside.Waiting.{IsQueueRight};
 ghost use Rattle.product_search.specs.inside.Exploring.{IsReachedBy, IsSettledBy, Offers, LeadsTo, IsByWay, IsByWays, WayIsReached, IsByLeg, IsByLegs, IsByLegsIn, LegIsReached, IsReachedAfter, IsSuccessor, ArcIsReached, AreGivenReached, IsGiven, way_by};
 
-use crate::frontier::{Frontier, Reached, Settled};
+use crate::frontier::{Frontier, Settled};
 use crate::machine::Machine;
 use crate::product::Product;
+use crate::row::Reached;
 use search_laws::{GivenRuns, Graph, GraphArc, Labels, Leg, Time, Visit, Way};
 use std::alloc::AllocError;
 
@@ -152,7 +153,7 @@ fn offer_legs(
 }
 
 /// The first place from `i` on of a leg that may be of use in a state if it is taken at `at`: what those before it lead to is
-/// reached by then. For times past 63 bits, of which few searches have any, it is `i` itself.
+/// reached by then. For times 2^63 ms after the base or later, of which few searches have any, it is `i` itself.
 #[inline(always)]
 fn past_useless(frontier: &Frontier, legs: &[Leg], state: u32, at: Time, i: usize) -> usize
     requires right { IsQueueRight frontier.now }
@@ -162,10 +163,9 @@ fn past_useless(frontier: &Frontier, legs: &[Leg], state: u32, at: Time, i: usiz
     ensures within { result ≤ length legs.now }
     ensures reached { AllWithin (IsReachedAfter frontier.now state at) legs.now i result }
 {
-    if at >= 1 << 63 {
+    let Some(start) = frontier.delay(at) else {
         return i;
-    }
-    let start = at as u64;
+    };
     let mut place = i;
     'useless: while place < legs.len() {
         if !is_useless(frontier, legs[place], state, start) {
@@ -176,13 +176,13 @@ fn past_useless(frontier: &Frontier, legs: &[Leg], state: u32, at: Time, i: usiz
     place
 }
 
-/// Whether what a leg leads to in a state, if it is taken at `start`, is reached by then already.
+/// Whether what a leg leads to in a state, if it is taken so long after the base, is reached by then already.
 #[inline(always)]
 fn is_useless(frontier: &Frontier, leg: Leg, state: u32, start: u64) -> bool
     requires right { IsQueueRight frontier.now }
-    requires settled { IsSettledBy frontier.now start }
+    requires settled { IsSettledBy frontier.now (frontier.now.rows.base + start) }
     requires early { start < 2 ^ 63 }
-    ensures { IsTrue result ↔ IsReachedAfter frontier.now state start leg }
+    ensures { IsTrue result ↔ IsReachedAfter frontier.now state (frontier.now.rows.base + start) leg }
 {
     frontier.is_reached_by(leg.to, state, start + u64::from(leg.ms))
 }

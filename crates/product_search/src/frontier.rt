@@ -1,40 +1,19 @@
 //! What a search has reached, and the queue of those product states that it has not settled.
 
-ghost use Rattle.std.specs.Prelude.{◌≡◌, ◌≢◌, ℕ, ◌<◌, ◌^◌, ◌++◌, false, true, None, Some, IfSome, IfNone, IfOk, OnOk, IsTrue, IsFalse, MatchOption, ◌∷◌, [], slice_get, slice_index, slice_set, ◌+◌, ◌-◌, ◌↔◌, length};
+ghost use Rattle.std.specs.Prelude.{◌≡◌, ◌≢◌, ℕ, ◌<◌, ◌^◌, false, None, Some, IfSome, IfNone, IfOk, OnOk, IsTrue, MatchOption, slice_index, ◌+◌, ◌-◌, ◌↔◌, length};
 ghost use Rattle.product_search.specs.inside.Exploring.{IsReachedBy, IsSettledBy};
-ghost use Rattle.product_search.specs.inside.Waiting.{IsQueueRight, IsOffered, SettlesLeast, NobodyWaits, SameReached, KeepsNumbers, rows, rows_of, reached_at, offered, IsAt, IsNowhere, IsClear, HasChainsFrom, settled_now, Waits, HaveKeys, is_waiting};
+ghost use Rattle.product_search.specs.inside.Waiting.{IsQueueRight, IsOffered, SettlesLeast, NobodyWaits, SameReached, KeepsNumbers, rows, told, reached_at, IsAt, IsNowhere, IsClear, HasChainsFrom};
+ghost use Rattle.product_search.specs.inside.Kept.{FitsEntry, TellsTime};
+ghost use Rattle.product_search.specs.inside.Queued.{IsQueue, TakesIn};
 
 use crate::chains::Chains;
-use crate::key::Key;
+use crate::entry::{Entry, NearWay};
 use crate::queue::Queue;
-use crate::row::Row;
+use crate::row::{Reached, Row};
+use crate::rows::{Rows, number_of};
 use crate::workspace::Workspace;
 use search_laws::Time;
 use std::alloc::{AllocError, Global};
-
-/// What is known of a product state: the best time so far, and how it is reached by then.
-#[derive(Clone, Copy)]
-pub(crate) struct Reached {
-    pub at: Time,
-    /// The number of the entry that it is reached from, and 1; or 0 at a start.
-    pub parent: u32,
-    /// The place of the arc that leads here, among those of the node that it leaves. At a start it says nothing.
-    pub arc: u64,
-    /// Whether the time is the least for good.
-    pub settled: bool,
-}
-
-/// What is kept of a product state besides its key, in 32 bytes.
-#[derive(Clone, Copy)]
-pub(crate) struct Entry {
-    pub node: u32,
-    /// The number of the entry that it is reached from, and 1; or 0 at a start.
-    pub parent: u32,
-    /// The place of the arc that leads here, among those of the node that it leaves.
-    pub arc: u64,
-    /// The best time so far.
-    pub at: Time,
-}
 
 /// A product state that was taken from the queue.
 #[derive(Clone, Copy)]
@@ -51,10 +30,8 @@ pub(crate) struct Settled {
 /// An entry stays in the queue where a better way is found later, and is passed over when it comes up.
 #[derive(Drop)]
 pub(crate) struct Frontier {
-    pub entries: Vec<Entry>,
-    /// For each entry its key.
-    pub keys: Vec<Key>,
-    /// For each chain the number of its last entry, and 1; or 0. Chains past its end have none.
+    pub rows: Rows,
+    /// For each chain the number of its last row, and 1; or 0. Chains past its end have none.
     pub first: Vec<u32>,
     pub chains: Chains,
     pub queue: Queue,
@@ -73,8 +50,7 @@ impl Frontier {
             first,
         } = workspace;
         Frontier {
-            entries,
-            keys,
+            rows: Rows::new(alloc, base, keys, entries),
             first,
             chains: Chains::of(nodes, states),
             queue: Queue::new(alloc, base),
@@ -90,7 +66,7 @@ impl Frontier {
     {
         let mut cursor = self.head(self.chains.place(node, state));
         'chain: while cursor != 0 {
-            let key = self.keys[(cursor - 1) as usize];
+            let key = self.rows.key((cursor - 1) as usize);
             if key.state == state {
                 return Some(cursor - 1);
             }
@@ -99,7 +75,7 @@ impl Frontier {
         None
     }
 
-    /// The number of the last entry of a chain, and 1; or 0.
+    /// The number of the last row of a chain, and 1; or 0.
     #[inline(always)]
     fn head(&self, chain: usize) -> u32
         ensures { result ≡ slice_index self.now.first.items chain }
@@ -110,15 +86,6 @@ impl Frontier {
         }
     }
 
-    /// What an entry and its key say.
-    pub fn row(&self, number: u32) -> Row
-        requires right { IsQueueRight self.now }
-        requires there { number < length self.now.entries.items }
-        ensures { slice_get (rows self.now) number ≡ Some result }
-    {
-        Row::of(self.keys[number as usize], self.entries[number as usize])
-    }
-
     /// Takes a way to a product state, if it is the first or better than the one that is known.
     #[inline(always)]
     pub fn offer(&mut self, node: u32, state: u32, way: Reached) -> Result<(), AllocError>
@@ -127,36 +94,56 @@ impl Frontier {
         ensures right { OnOk result (IsQueueRight self.new) }
         ensures offered { OnOk result (IsOffered self.old self.new node state way) }
     {
+        match NearWay::of(self.rows.base(), way) {
+            Some(near) => self.offer_by(node, state, way.at, Entry::Near(near)),
+            None => self.offer_wide(node, state, way),
+        }
+    }
+
+    /// Takes a way that is not told in few bytes, if it is the first or better.
+    #[inline(never)]
+    fn offer_wide(&mut self, node: u32, state: u32, way: Reached) -> Result<(), AllocError>
+        requires right { IsQueueRight self.old }
+        requires waits { way.settled ≡ false }
+        ensures right { OnOk result (IsQueueRight self.new) }
+        ensures offered { OnOk result (IsOffered self.old self.new node state way) }
+    {
+        let entry = self.rows.put_wide(way)?;
+        self.offer_by(node, state, way.at, entry)
+    }
+
+    /// Takes a way that arrives then, if it is the first or better. An entry tells it.
+    #[inline(always)]
+    fn offer_by(&mut self, node: u32, state: u32, at: Time, entry: Entry) -> Result<(), AllocError>
+        requires right { IsQueueRight self.old }
+        requires fits { FitsEntry self.old.rows.wide entry }
+        requires at { at ≡ (told self.old entry).at }
+        ensures right { OnOk result (IsQueueRight self.new) }
+        ensures offered { OnOk result (IsOffered self.old self.new node state (told self.old entry)) }
+    {
         match self.find(node, state) {
-            None => self.add(node, state, way),
-            Some(number) => self.improve(node, state, number, way),
+            None => self.add(node, state, at, entry),
+            Some(number) => self.improve(node, state, number, at, entry),
         }
     }
 
     /// Takes the first way to a product state.
     #[inline(always)]
-    fn add(&mut self, node: u32, state: u32, way: Reached) -> Result<(), AllocError>
+    fn add(&mut self, node: u32, state: u32, at: Time, entry: Entry) -> Result<(), AllocError>
         requires right { IsQueueRight self.old }
+        requires fits { FitsEntry self.old.rows.wide entry }
+        requires at { at ≡ (told self.old entry).at }
         requires nowhere { IsNowhere (rows self.old) node state }
         ensures right { OnOk result (IsQueueRight self.new) }
-        ensures offered { OnOk result (IsOffered self.old self.new node state way) }
+        ensures offered { OnOk result (IsOffered self.old self.new node state (told self.old entry)) }
     {
-        let number = number_of(self.entries.len())?;
+        let number = number_of(self.rows.len())?;
         let chain = self.chains.place(node, state);
         let next = self.head(chain);
         grow(&mut self.first, chain)?;
-        push(
-            &mut self.entries,
-            &mut self.keys,
-            Row {
-                node,
-                state,
-                next,
-                known: way,
-            },
-        )?;
+        self.rows.push(node, state, next, entry)?;
         self.first[chain] = number + 1;
-        self.queue.push(way.at, number)?;
+        wait(&mut self.queue, number, at, entry)?;
         Ok(())
     }
 
@@ -167,55 +154,46 @@ impl Frontier {
         node: u32,
         state: u32,
         number: u32,
-        way: Reached,
+        at: Time,
+        entry: Entry,
     ) -> Result<(), AllocError>
         requires right { IsQueueRight self.old }
+        requires fits { FitsEntry self.old.rows.wide entry }
+        requires at { at ≡ (told self.old entry).at }
         requires there { IsAt (rows self.old) node state number }
         ensures right { OnOk result (IsQueueRight self.new) }
-        ensures offered { OnOk result (IsOffered self.old self.new node state way) }
+        ensures offered { OnOk result (IsOffered self.old self.new node state (told self.old entry)) }
     {
-        if self.is_improved(node, state, number, way) {
-            let next = self.keys[number as usize].next;
-            let row = Row {
-                node,
-                state,
-                next,
-                known: way,
-            };
-            write(&mut self.entries, &mut self.keys, number, row);
-            self.queue.push(way.at, number)?;
+        if self.rows.is_later(number as usize, at, entry) {
+            self.rows.write(number as usize, entry);
+            wait(&mut self.queue, number, at, entry)?;
         }
         Ok(())
     }
 
-    /// Whether a way is better than what is known. The entry is read only where its key doesn't tell.
+    /// How long after the base a time is, in ms, if that is less than 2^63.
     #[inline(always)]
-    fn is_improved(&self, node: u32, state: u32, number: u32, way: Reached) -> bool
-        requires right { IsQueueRight self.now }
-        requires there { IsAt (rows self.now) node state number }
-        ensures better { IsTrue result → offered (reached_at self.now node state) way ≡ Some way }
-        ensures kept { IsFalse result → offered (reached_at self.now node state) way ≡ reached_at self.now
-            node state }
+    pub fn delay(&self, at: Time) -> Option<u64>
+        ensures { IfSome result (λ delay. (self.now.rows.base + delay ≡ at) × (delay < 2 ^ 63)) }
     {
-        let bar = self.keys[number as usize].bar;
-        if bar == u64::MAX {
-            way.at < self.entries[number as usize].at
+        if at < 1 << 63 {
+            (at as u64).checked_sub(self.rows.base())
         } else {
-            way.at < Time::from(bar.saturating_sub(1))
+            None
         }
     }
 
-    /// Whether a product state is reached by then. Its key tells, as no settled one is later.
+    /// Whether a product state is reached by so long after the base. Its key tells, as no settled one is later.
     #[inline(always)]
-    pub fn is_reached_by(&self, node: u32, state: u32, at: u64) -> bool
+    pub fn is_reached_by(&self, node: u32, state: u32, delay: u64) -> bool
         requires right { IsQueueRight self.now }
-        requires settled { IsSettledBy self.now at }
-        requires early { at < 2 ^ 64 - 2 }
-        ensures { IsTrue result ↔ IsReachedBy self.now node state at }
+        requires settled { IsSettledBy self.now (self.now.rows.base + delay) }
+        requires early { delay < 2 ^ 64 - 1 }
+        ensures { IsTrue result ↔ IsReachedBy self.now node state (self.now.rows.base + delay) }
     {
         match self.find(node, state) {
             None => false,
-            Some(number) => self.keys[number as usize].bar <= at + 1,
+            Some(number) => self.rows.is_by(number as usize, delay),
         }
     }
 
@@ -228,12 +206,12 @@ impl Frontier {
         ensures same { IfOk result (λ r. IfNone r (SameReached self.old self.new)) }
         ensures numbers { IfOk result (λ r. IfNone r (KeepsNumbers self.old self.new)) }
     {
-        while let Some((at, number)) = self.queue.pop()? {
-            if let Some(row) = settle(&self.entries, &mut self.keys, number, at) {
+        while let Some((due, number)) = self.queue.pop()? {
+            if let Some(key) = self.rows.settle(number as usize, due) {
                 return Ok(Some(Settled {
-                    node: row.node,
-                    state: row.state,
-                    at,
+                    node: key.node,
+                    state: key.state,
+                    at: due.time(self.rows.base()),
                     link: number + 1,
                 }));
             }
@@ -242,17 +220,15 @@ impl Frontier {
     }
 }
 
-/// A table as it was before there were entries.
-pub(crate) fn cleared(entries: &[Entry], keys: &[Key], chains: Chains, first: Vec<u32>) -> Vec<u32>
-    requires keys { length keys.now ≡ length entries.now }
-    requires behind { HasChainsFrom chains.count (rows_of keys.now entries.now) first.items 0 }
+/// A table as it was before there were rows.
+pub(crate) fn cleared(rows: &Rows, chains: Chains, first: Vec<u32>) -> Vec<u32>
+    requires { HasChainsFrom chains.count rows.now.rows first.items 0 }
     ensures { IsClear result.items }
 {
     let mut first = first;
-    'clear: for k in 0..entries.len() {
-        let key = keys[k];
-        let entry = entries[k];
-        clear_at(&mut first, chains.place(entry.node, key.state));
+    'clear: for k in 0..rows.len() {
+        let key = rows.key(k);
+        clear_at(&mut first, chains.place(key.node, key.state));
     }
     first
 }
@@ -267,19 +243,6 @@ fn clear_at(first: &mut Vec<u32>, chain: usize)
     }
 }
 
-/// A count as a number of 32 bits. At 2^32 - 1 product states it fails as if memory had run out: a link, which is a number
-/// and 1, would not fit.
-pub(crate) fn number_of(count: usize) -> Result<u32, AllocError>
-    ensures count { IfOk result (λ n. n ≡ count) }
-    ensures small { IfOk result (λ n. n + 1 < 2 ^ 32) }
-{
-    if count < 0xffff_ffff {
-        Ok(count as u32)
-    } else {
-        Err(AllocError)
-    }
-}
-
 /// Makes a table of numbers long enough for a chain.
 pub(crate) fn grow(first: &mut Vec<u32>, chain: usize) -> Result<(), AllocError>
     ensures same { OnOk result ((v : ℕ) → slice_index first.new.items v ≡ slice_index first.old.items v) }
@@ -291,63 +254,15 @@ pub(crate) fn grow(first: &mut Vec<u32>, chain: usize) -> Result<(), AllocError>
     Ok(())
 }
 
-/// Puts an entry and its key behind the others.
-fn push(entries: &mut Vec<Entry>, keys: &mut Vec<Key>, row: Row) -> Result<(), AllocError>
-    requires { HaveKeys keys.old.items entries.old.items }
-    ensures kept { OnOk result (HaveKeys keys.new.items entries.new.items) }
-    ensures rows { OnOk result (rows_of keys.new.items entries.new.items ≡ rows_of keys.old.items
-        entries.old.items ++ row ∷ []) }
-    ensures entries { OnOk result (length entries.new.items ≡ length entries.old.items + 1) }
+/// Puts a number into a queue, with the time of a way that an entry tells.
+#[inline(always)]
+fn wait(queue: &mut Queue, number: u32, at: Time, entry: Entry) -> Result<(), AllocError>
+    requires right { IsQueue queue.old }
+    requires soon { TellsTime queue.old.base entry at }
+    ensures { OnOk result (TakesIn queue.old queue.new at number) }
 {
-    keys.push(Key::of(row))?;
-    entries.push(row.entry())?;
-    Ok(())
-}
-
-/// Writes an entry and its key.
-fn write(entries: &mut Vec<Entry>, keys: &mut Vec<Key>, number: u32, row: Row)
-    requires kept { HaveKeys keys.old.items entries.old.items }
-    requires there { number < length entries.old.items }
-    ensures kept { HaveKeys keys.new.items entries.new.items }
-    ensures rows { rows_of keys.new.items entries.new.items ≡ slice_set
-        (rows_of keys.old.items entries.old.items) number row }
-    ensures entries { length entries.new.items ≡ length entries.old.items }
-{
-    entries[number as usize] = row.entry();
-    keys[number as usize] = Key::of(row);
-}
-
-/// Marks a product state as settled, if it waits for that time, and answers its row as it was.
-fn settle(entries: &[Entry], keys: &mut Vec<Key>, number: u32, at: Time) -> Option<Row>
-    requires { HaveKeys keys.old.items entries.now }
-    ensures kept { HaveKeys keys.new.items entries.now }
-    ensures known { IfSome result (λ r. Waits (rows_of keys.old.items entries.now) number at r) }
-    ensures settled { IfSome result (λ r. rows_of keys.new.items entries.now
-        ≡ slice_set (rows_of keys.old.items entries.now) number (settled_now r)) }
-    ensures stale { IfNone result ((r : _) → Waits (rows_of keys.old.items entries.now) number at r → ⊥) }
-    ensures same { IfNone result (keys.new.items ≡ keys.old.items) }
-{
-    let place = number as usize;
-    if place >= entries.len() {
-        return None;
-    }
-    let key = keys[place];
-    if !waits_for(key.bar, entries, number, at) {
-        return None;
-    }
-    let entry = entries[place];
-    keys[place] = Key { bar: 0, ..key };
-    Some(Row::of(key, entry))
-}
-
-/// Whether the entry with that number and that bar waits for a time. It is read only where its bar doesn't tell.
-fn waits_for(bar: u64, entries: &[Entry], number: u32, at: Time) -> bool
-    requires { number < length entries.now }
-    ensures { (e : _) → slice_get entries.now number ≡ Some e → result ≡ is_waiting bar e.at at }
-{
-    if bar == u64::MAX {
-        entries[number as usize].at == at
-    } else {
-        bar != 0 && Time::from(bar - 1) == at
+    match entry {
+        Entry::Near(way) => queue.push_soon(way.delay, number),
+        Entry::Wide(_) => queue.push_at(at, number),
     }
 }

@@ -1,6 +1,6 @@
 //! The settled product states as a list of labels.
 
-ghost use Rattle.std.specs.Prelude.{◌≡◌, ◌↔◌, All, Some, IfOk, filter_map, IsSorted, IsPermutation, IsTrue, OnOk, ◌++◌, length, option_to_list};
+ghost use Rattle.std.specs.Prelude.{◌≡◌, ◌↔◌, Some, IfOk, filter_map, IsSorted, IsPermutation, IsTrue, OnOk, ◌++◌, length, option_to_list};
 ghost use Rattle.product_search.specs.Listed.{label_order};
 ghost use Rattle.product_search.specs.Reach.{IsBefore, is_before};
 ghost use Rattle.product_search.specs.inside.Searching.{label_of_row};
@@ -32,15 +32,23 @@ pub(crate) fn count_labels(frontier: &Frontier, arrival: Option<Time>) -> u64
     ensures { result ≡ length (filter_map (label_of_row arrival) (rows frontier.now)) }
 {
     let mut count = 0;
-    'rows: for (key, entry) in frontier.keys.iter().zip(frontier.entries.iter()) {
-        if let Some(_) = label_before(arrival, Row::of(*key, *entry)) {
-            count += 1;
-        }
+    'rows: for number in 0..frontier.rows.len() {
+        count += count_of(label_before(arrival, frontier.rows.row(number)));
     }
     count
 }
 
-/// The labels in the order of the entries.
+/// How many labels one is, or none.
+fn count_of(label: Option<Label>) -> u64
+    ensures { result ≡ length (option_to_list label) }
+{
+    match label {
+        Some(_) => 1,
+        None => 0,
+    }
+}
+
+/// The labels in the order of the rows.
 fn settled_labels(
     alloc: Global,
     frontier: &Frontier,
@@ -49,8 +57,8 @@ fn settled_labels(
     ensures labels { IfOk result (λ v. v.items ≡ filter_map (label_of_row arrival) (rows frontier.now)) }
 {
     let mut list = Vec::new(alloc);
-    'rows: for (key, entry) in frontier.keys.iter().zip(frontier.entries.iter()) {
-        push_some(&mut list, label_before(arrival, Row::of(*key, *entry)))?;
+    'rows: for number in 0..frontier.rows.len() {
+        push_some(&mut list, label_before(arrival, frontier.rows.row(number)))?;
     }
     Ok(list)
 }

@@ -1,10 +1,11 @@
 //! The queue of those that wait: numbers by their times.
 
-ghost use Rattle.std.specs.Prelude.{◌≡◌, ℕ, ◌+◌, ◌<◌, [], Contains, IfOk, IfSome, IfNone, IsTrue, IsFalse, OnOk};
+ghost use Rattle.std.specs.Prelude.{◌≡◌, ◌+◌, ◌<◌, [], Contains, IfOk, IfSome, IfNone, IsTrue, IsFalse, OnOk};
 ghost use Rattle.std.specs.BinaryHeap.{heap_len};
-ghost use Rattle.product_search.specs.inside.Queued.{queue_items, due_at, number_in, IsQueue, IsFarHeap, IsFilled, SameQueued};
+ghost use Rattle.product_search.specs.inside.Queued.{queue_items, due_at, number_in, IsQueue, IsFarHeap, IsFilled, SameQueued, time_of};
 ghost use Rattle.product_search.specs.inside.Queued.{NearIsFirst, FarIsFirst, TakesIn, GivesLeast, GivesNone};
 
+use crate::due::Due;
 use crate::item_heap::ItemHeap;
 use crate::queue_item::QueueItem;
 use search_laws::Time;
@@ -43,7 +44,8 @@ const FIRST_WIDTH: u64 = 1 << 48;
 impl Queue {
     /// An empty queue, for times soon after the base.
     pub fn new(alloc: Global, base: u64) -> Queue
-        ensures { IsQueue result }
+        ensures right { IsQueue result }
+        ensures base { result.base ≡ base }
     {
         Queue {
             base,
@@ -55,28 +57,23 @@ impl Queue {
         }
     }
 
-    /// Takes in a number with its time.
-    #[inline]
-    pub fn push(&mut self, at: Time, number: u32) -> Result<(), AllocError>
+    /// Takes in a number that is due so long after the base, in ms.
+    #[inline(always)]
+    pub fn push_soon(&mut self, delay: u32, number: u32) -> Result<(), AllocError>
+        requires { IsQueue self.old }
+        ensures { OnOk result (TakesIn self.old self.new (self.old.base + delay) number) }
+    {
+        self.push_item(QueueItem::new(delay, number))
+    }
+
+    /// Takes in a number that is due at any time.
+    #[inline(never)]
+    pub fn push_at(&mut self, at: Time, number: u32) -> Result<(), AllocError>
         requires { IsQueue self.old }
         ensures { OnOk result (TakesIn self.old self.new at number) }
     {
-        match self.delay_of(at) {
-            Some(delay) => self.push_item(QueueItem::new(delay, number)),
-            None => {
-                self.far.push(Reverse((at, number)))?;
-                Ok(())
-            }
-        }
-    }
-
-    /// How long after the base a time is, if that has 32 bits.
-    #[inline(always)]
-    fn delay_of(&self, at: Time) -> Option<u32>
-        ensures { IfSome result (λ delay. self.now.base + delay ≡ at) }
-    {
-        let delay = at.checked_sub(Time::from(self.base))?;
-        u32::try_from(delay).ok()
+        self.far.push(Reverse((at, number)))?;
+        Ok(())
     }
 
     /// When an item is due.
@@ -107,6 +104,7 @@ impl Queue {
     fn bring_down(&mut self)
         requires { IsQueue self.old }
         ensures right { IsQueue self.new }
+        ensures base { self.new.base ≡ self.old.base }
         ensures same { queue_items self.new ≡ queue_items self.old }
     {
         if self.near.len() < MANY {
@@ -119,10 +117,11 @@ impl Queue {
     }
 
     /// Gives out one with the least time.
-    #[inline]
-    pub fn pop(&mut self) -> Result<Option<(Time, u32)>, AllocError>
+    #[inline(always)]
+    pub fn pop(&mut self) -> Result<Option<(Due, u32)>, AllocError>
         requires { IsQueue self.old }
-        ensures some { IfOk result (λ r. IfSome r (λ x. GivesLeast self.old self.new x.0 x.1)) }
+        ensures some { IfOk result (λ r. IfSome r (λ x. GivesLeast self.old self.new (time_of self.old.base x.0)
+            x.1)) }
         ensures none { IfOk result (λ r. IfNone r (GivesNone self.old self.new)) }
     {
         self.fill()?;
@@ -207,21 +206,33 @@ impl Queue {
 
     /// Gives out one with the least time, where the queue is filled.
     #[inline(always)]
-    fn pop_first(&mut self) -> Option<(Time, u32)>
+    fn pop_first(&mut self) -> Option<(Due, u32)>
         requires right { IsQueue self.old }
         requires filled { IsFilled self.old }
-        ensures some { IfSome result (λ x. GivesLeast self.old self.new x.0 x.1) }
+        ensures some { IfSome result (λ x. GivesLeast self.old self.new (time_of self.old.base x.0) x.1) }
         ensures none { IfNone result (GivesNone self.old self.new) }
     {
         if self.is_far_first() {
-            let top = self.far.pop()?;
-            return Some(top.0);
+            return self.pop_far();
         }
         let top = self.near.pop()?;
-        Some((self.due(top), top.number()))
+        Some((Due::Soon(top.delay()), top.number()))
     }
 
-    /// Whether those of other times have one before all in the heap of items.
+    /// Gives out one with the least time of those that have no item, where it is before all in the heap of items.
+    #[inline(never)]
+    fn pop_far(&mut self) -> Option<(Due, u32)>
+        requires right { IsQueue self.old }
+        requires filled { IsFilled self.old }
+        requires first { FarIsFirst self.old }
+        ensures some { IfSome result (λ x. GivesLeast self.old self.new (time_of self.old.base x.0) x.1) }
+        ensures none { IfNone result (heap_len self.old.far ≡ 0) }
+    {
+        let (at, number) = self.far.pop()?.0;
+        Some((Due::At(at), number))
+    }
+
+    /// Whether those that have no item have one before all in the heap of items.
     #[inline(always)]
     fn is_far_first(&self) -> bool
         requires { IsFarHeap self.now }

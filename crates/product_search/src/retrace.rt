@@ -33,7 +33,7 @@ fn retrace(alloc: Global, frontier: &Frontier, end: Settled) -> Result<Walk, All
     ensures { IfOk result (IsTrailTo frontier.now end.node end.state) }
 {
     let mut hops = Vec::new(alloc);
-    let mut row = frontier.row(end.link - 1);
+    let mut row = frontier.rows.row((end.link - 1) as usize);
     'back: while row.known.parent != 0 {
         let hop = Hop {
             arc: row.known.arc,
@@ -42,7 +42,7 @@ fn retrace(alloc: Global, frontier: &Frontier, end: Settled) -> Result<Walk, All
             at: row.known.at,
         };
         hops.push(hop)?;
-        row = frontier.row(row.known.parent - 1);
+        row = frontier.rows.row((row.known.parent - 1) as usize);
     }
     hops.reverse();
     Ok(Walk {

@@ -4,7 +4,8 @@ ghost use Rattle.std.specs.Prelude.{◌≡◌, ℕ, ◌<◌, length, slice_index
 ghost use Rattle.product_search.specs.inside.Waiting.{IsQueueRight};
 ghost use Rattle.product_search.specs.inside.Exploring.{IsSettledBy, Offers, IsStartAt, IsStartAmong, StartIsReached, IsReachedBy};
 
-use crate::frontier::{Frontier, Reached};
+use crate::frontier::Frontier;
+use crate::row::Reached;
 use search_laws::{Labels, Time};
 use std::alloc::AllocError;
 

@@ -4,7 +4,8 @@ ghost use Rattle.std.specs.Prelude.{◌≡◌, ◌<◌, ◌≤◌, length, slice
 ghost use Rattle.product_search.specs.inside.Places.{ArePlaces};
 ghost use Rattle.product_search.specs.inside.Noting.{IsNoted, IsEndNoted, AreReached, time_of, first_time};
 
-use crate::frontier::{Settled, grow, number_of};
+use crate::frontier::{Settled, grow};
+use crate::rows::number_of;
 use search_laws::{Labels, Time};
 use std::alloc::{AllocError, Global};
 

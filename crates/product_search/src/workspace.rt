@@ -3,7 +3,8 @@
 ghost use Rattle.std.specs.Prelude.{◌≡◌, []};
 ghost use Rattle.product_search.specs.inside.Waiting.{IsClear, IsQueueRight};
 
-use crate::frontier::{Entry, Frontier, cleared};
+use crate::entry::Entry;
+use crate::frontier::{Frontier, cleared};
 use crate::key::Key;
 use std::alloc::Global;
 use std::mem;
@@ -43,15 +44,13 @@ impl Workspace {
         requires { IsQueueRight frontier }
     {
         let Frontier {
-            mut entries,
-            mut keys,
+            rows,
             first,
             chains,
             queue: _queue,
         } = frontier;
-        let first = cleared(&entries, &keys, chains, first);
-        entries.clear();
-        keys.clear();
+        let first = cleared(&rows, chains, first);
+        let (keys, entries) = rows.into_lists();
         *self = Workspace {
             entries,
             keys,

@@ -6,7 +6,7 @@ use Rattle.search_laws.specs.declared.graph.Way.{Way}
 use Rattle.search_laws.specs.LabelLaws.{LabelsMeaning, Follows, AllAfter}
 use Rattle.search_laws.specs.Fresh.{RunRides, WasGiven}
 use Rattle.search_laws.specs.declared.given.GivenRuns.{GivenRuns}
-use Rattle.product_search.specs.declared.frontier.Reached.{Reached}
+use Rattle.product_search.specs.declared.row.Reached.{Reached}
 use Rattle.product_search.specs.declared.frontier.Settled.{Settled}
 use Rattle.product_search.specs.declared.frontier.Frontier.{Frontier}
 use Rattle.product_search.specs.Reach.{IsWithin}

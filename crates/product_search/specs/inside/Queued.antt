@@ -4,6 +4,8 @@ use Rattle.std.specs.declared.cmp.Ordering.{Ordering}
 use Rattle.std.specs.Ordering.{ordering_then, nat_cmp}
 use Rattle.std.specs.BinaryHeap.{heap_items, IsHeap}
 use Rattle.std.specs.declared.cmp.Reverse.{Reverse}
+use Rattle.product_search.specs.declared.due.Due.{Due}
+use Rattle.product_search.specs.declared.due.Due.TheVariants.{Soon, At}
 use Rattle.product_search.specs.declared.queue_item.QueueItem.{QueueItem}
 use Rattle.product_search.specs.declared.queue.Queue.{Queue}
 
@@ -31,6 +33,11 @@ due_at base x = base + delay_in x
 -- the item as an entry
 abbrev pub entry_by : ℕ → QueueItem → Reverse (ℕ × ℕ)
 entry_by base x = entry_of (due_at base x) (number_in x)
+
+-- when something is due
+abbrev pub time_of : ℕ → Due → ℕ
+time_of base (Soon delay) = base + delay
+time_of base (At t) = t
 
 -- ---- queues
 
@@ -76,17 +83,20 @@ pub record SameQueued (old new : Queue) : Type 0 where
   pub far : heap_items new.far ≡ heap_items old.far
 
 pub record TakesIn (old new : Queue) (t k : ℕ) : Type 0 where
+  pub base : new.base ≡ old.base
   pub right : IsQueue new
   pub stays : (u j : ℕ) → Queued old u j → Queued new u j
   pub there : Queued new t k
 
 -- k is given out, at the least time
 pub record GivesLeast (old new : Queue) (t k : ℕ) : Type 0 where
+  pub base : new.base ≡ old.base
   pub right : IsQueue new
   pub least : (u j : ℕ) → Queued old u j → t ≤ u
   pub stays : (u j : ℕ) → Queued old u j → (entry_of t k ≡ entry_of u j → ⊥) → Queued new u j
   pub fewer : queue_len new + 1 ≡ queue_len old
 
 pub record GivesNone (old new : Queue) : Type 0 where
+  pub base : new.base ≡ old.base
   pub right : IsQueue new
   pub none : (u j : ℕ) → Queued old u j → ⊥

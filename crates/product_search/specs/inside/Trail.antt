@@ -2,7 +2,7 @@
 use Rattle.std.specs.Prelude.{◌≡◌, ℕ, ◌+◌, ◌^◌, ◌≤◌, suc, List, [], ◌∷◌, ⊤, Option, Some, None, slice_get}
 use Rattle.product_search.specs.declared.label.Hop.{Hop}
 use Rattle.product_search.specs.declared.label.Walk.{Walk}
-use Rattle.product_search.specs.declared.frontier.Reached.{Reached}
+use Rattle.product_search.specs.declared.row.Reached.{Reached}
 use Rattle.product_search.specs.declared.frontier.Frontier.{Frontier}
 use Rattle.product_search.specs.declared.frontier.Settled.{Settled}
 use Rattle.product_search.specs.declared.row.Row.{Row}

@@ -1,12 +1,12 @@
 -- What is known of the product states, and who waits in the queue.
-use Rattle.std.specs.Prelude.{◌≡◌, ℕ, ◌≤◌, Bool, true, false, not, ◌&&◌, ◌||◌, ◌==◌, suc, ◌+◌, ◌*◌, ◌%◌, ◌<◌, List, map, length, slice_index, slice_get, Option, Some, None, nat_le, if◌then◌else◌, min, ◌-◌, ◌^◌}
-use Rattle.std.specs.List.{zip}
+use Rattle.std.specs.Prelude.{◌≡◌, ℕ, ◌≤◌, Bool, true, false, not, ◌&&◌, ◌||◌, ◌==◌, suc, ◌+◌, ◌*◌, ◌%◌, ◌<◌, List, map, length, slice_index, slice_get, Option, Some, None, nat_le, if◌then◌else◌, ◌^◌}
 use Rattle.std.specs.Map.{lookup}
+use Rattle.product_search.specs.inside.Kept.{told_in}
+use Rattle.product_search.specs.inside.OfRows.{Waits}
 use Rattle.product_search.specs.inside.Queued.{Queued, IsQueue}
-use Rattle.product_search.specs.declared.frontier.Reached.{Reached}
-use Rattle.product_search.specs.declared.frontier.Entry.{Entry}
+use Rattle.product_search.specs.declared.row.Reached.{Reached}
+use Rattle.product_search.specs.declared.entry.Entry.{Entry}
 use Rattle.product_search.specs.declared.frontier.Settled.{Settled}
-use Rattle.product_search.specs.declared.key.Key.{Key}
 use Rattle.product_search.specs.declared.row.Row.{Row}
 use Rattle.product_search.specs.declared.frontier.Frontier.{Frontier}
 
@@ -16,44 +16,12 @@ state_eq x y = (x.0 == y.0) && (x.1 == y.1)
 
 -- ---- rows
 
--- the row of v and q with what is known of it, behind the one that c stands for
-abbrev pub made : ℕ → ℕ → ℕ → Reached → Row
-made v q c x = record { node = v; state = q; next = c; known = x }
-
-abbrev pub settled_now : Row → Row
-settled_now r = record { node = r.node; state = r.state; next = r.next; known = record r.known { settled = true } }
-
--- what a key and its entry say
-abbrev pub keyed_row : Key → Entry → Row
-keyed_row k e = record { node = e.node; state = k.state; next = k.next; known = record { at = e.at; parent = e.parent; arc = e.arc; settled = k.bar == 0 } }
-
-abbrev pub row_by : Key × Entry → Row
-row_by p = keyed_row p.0 p.1
-
-abbrev pub rows_of : List Key → List Entry → List Row
-rows_of ks es = map row_by (zip ks es)
-
 abbrev pub rows : Frontier → List Row
-rows f = rows_of f.keys.items f.entries.items
+rows f = f.rows.rows
 
--- 0 for what is settled; else a way is better if its time and 1 is less, unless the bar is the greatest number
-abbrev pub bar_of : Reached → ℕ
-bar_of x = if x.settled then 0 else min x.at (2 ^ 64 - 2) + 1
-
-abbrev pub key_of : Row → Key
-key_of r = record { state = r.state; next = r.next; bar = bar_of r.known }
-
-abbrev pub slim : Row → Entry
-slim r = record { node = r.node; parent = r.known.parent; arc = r.known.arc; at = r.known.at }
-
--- each entry has a key, whose bar is the one that its row asks for
-pub record HaveKeys (ks : List Key) (es : List Entry) : Type 0 where
-  pub as_long : length ks ≡ length es
-  pub keys : ks ≡ map key_of (rows_of ks es)
-
--- whether what has that bar and the time u waits for the time t
-abbrev pub is_waiting : ℕ → ℕ → ℕ → Bool
-is_waiting bar u t = if bar == 2 ^ 64 - 1 then u == t else (not (bar == 0) && (bar - 1 == t))
+-- the way that an entry tells of a frontier
+abbrev pub told : Frontier → Entry → Reached
+told f entry = told_in f.rows entry
 
 -- ---- product states
 
@@ -119,12 +87,6 @@ pub record IsIndexed (count : ℕ) (rs : List Row) (first : List ℕ) : Type 0 w
   pub first_of : (chain : ℕ) → IsLast count rs chain (length rs) (slice_index first chain)
   pub next : (k : ℕ) (r : Row) → slice_get rs k ≡ Some r → IsLast count rs (chain_in count r) k r.next
 
--- the row with that number waits for the time t
-pub record Waits (rs : List Row) (k t : ℕ) (r : Row) : Type 0 where
-  pub known : slice_get rs k ≡ Some r
-  pub unsettled : r.known.settled ≡ false
-  pub at : r.known.at ≡ t
-
 -- ---- the queue
 
 -- it waits for the time t
@@ -132,14 +94,14 @@ abbrev pub waits_at : Option Reached → ℕ → Bool
 waits_at None t = false
 waits_at (Some x) t = not x.settled && (x.at == t)
 
--- the queue has each that waits, and the rows are apart and found, each kept in an entry and its key, and few
+-- the queue has each that waits, and the rows are apart and found, and few
 pub record IsQueueRight (f : Frontier) : Type 0 where
   pub queue : IsQueue f.queue
+  pub base : f.queue.base ≡ f.rows.base
   pub waits : (k t : ℕ) (r : Row) → Waits (rows f) k t r → Queued f.queue t k
   pub apart : IsApart (rows f)
   pub indexed : IsIndexed f.chains.count (rows f) f.first.items
-  pub kept : HaveKeys f.keys.items f.entries.items
-  pub few : length f.entries.items < 2 ^ 32
+  pub few : length (rows f) < 2 ^ 32
 
 abbrev pub is_same : ℕ → ℕ → ℕ → ℕ → Bool
 is_same v q w r = (v == w) && (q == r)

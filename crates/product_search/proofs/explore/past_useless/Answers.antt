@@ -1,4 +1,4 @@
-use Rattle.std.proofs.Common.{subst, arith}
+use Rattle.std.proofs.Common.{get_or, subst, arith}
 use Rattle.std.proofs.lemmas.List.{get_or_default}
 use Rattle.std.proofs.lemmas.List.Elements.{AllWithin-more}
 use Rattle.product_search.specs.inside.Exploring.{IsReachedAfter}
@@ -12,5 +12,6 @@ useless-preserved c =
       later = omega (arith, c.useless.invariant.later);
       within = omega arith;
       reached = AllWithin-more reached c.args.legs.now c.args.i c.useless.place c.useless.invariant.reached
-          (λ d. subst reached (get_or_default c.args.legs.now c.useless.place no_leg d (omega arith)) (c.is_useless.ensures.0 c.if-not-is_useless.false));
+          (λ d. subst reached (get_or_default c.args.legs.now c.useless.place no_leg d (omega arith))
+          (subst (λ t. IsReachedAfter c.args.frontier.now c.args.state t (get_or c.args.legs.now c.useless.place no_leg)) c.in-Some.ensures.0 (c.is_useless.ensures.0 c.if-not-is_useless.false)));
     }

@@ -1,29 +1,19 @@
-use Rattle.std.proofs.Common.{refl}
-use Rattle.std.proofs.lemmas.Slice.Zip.{either_empty_from_Zip}
+use Rattle.std.proofs.Common.{◌<◌, length, ◌++◌, ◌∙◌, ap, sym, arith}
+use Rattle.std.specs.Prelude.{filter_map, option_to_list, take}
 use Rattle.product_search.specs.inside.Searching.{label_of_row}
-use Rattle.product_search.proofs.RowLemmas.{listed_next, listed_all}
+use Rattle.product_search.specs.inside.Waiting.{rows}
+use Rattle.product_search.proofs.ListingLemmas.{gives_all, gives_more}
 use Rattle.product_search.proofs.listing.settled_labels.Goals as goal
-
-pub rows-init : goal.rows-init
-rows-init c = rw (
-  c.new-list.ensures.items,
-  c.into_iter-key-iterator.ensures.into_iter_gives,
-  c.zip-key-items.ensures.first,
-  c.zip-key-items.ensures.second,
-  c.iter.ensures.rest,
-  c.iter-2.ensures.rest,
-  c.deref.ensures.value,
-  c.deref-2.ensures.value,
-) refl
 
 pub rows-preserved : goal.rows-preserved
 rows-preserved c =
-    let rest = c.in-Some.ensures.steps in
-    rw (c.in_ok-push_some.ensures, c.label_before.ensures, c.of.ensures)
-    (listed_next (label_of_row c.args.arrival) c.rows.list.items _ c.in-Some.key.now c.in-Some.entry.now _ _ _ _ rest.0 rest.1 c.rows.invariant)
+    let h = label_of_row c.args.arrival in
+    let rs = rows c.args.frontier.now in
+    let lt : c.rows.number < length rs = omega (arith, c.rows-test.true, c.len-number-end.ensures) in
+    c.in_ok-push_some.ensures ∙ ap (λ ls. ls ++ option_to_list c.label_before.result) c.rows.invariant ∙ ap (λ o. filter_map h (take c.rows.number rs) ++ option_to_list o) c.label_before.ensures
+    ∙ sym (gives_more h rs c.rows.number c.row.result lt c.row.ensures)
 
 pub returns : goal.returns
 returns c = record {
-  labels = listed_all (label_of_row c.args.arrival) c.rows.list.items _ _ _
-      (either_empty_from_Zip c.rows.key-iterator c.next.new.self c.next.result c.in-None.is c.next.ensures.steps) c.rows.invariant;
+  labels = c.rows.invariant ∙ gives_all (label_of_row c.args.arrival) (rows c.args.frontier.now) c.rows.number (omega (arith, c.rows-test.false, c.len-number-end.ensures));
 }

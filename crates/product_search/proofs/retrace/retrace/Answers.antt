@@ -8,8 +8,8 @@ back-init c =
     c.row-row.result c.row-row.ensures _ c.new-hops.ensures.len in
     record { here = begins.0; back = begins.1; trail = rw c.new-hops.ensures.items begins.2 }
 
-pub row-row-requires-in-back-clause-there : goal.row-row-requires-in-back-clause-there
-row-row-requires-in-back-clause-there c =
+pub row-row-requires-in-back : goal.row-row-requires-in-back
+row-row-requires-in-back c =
     let parent = parent_link c.args.frontier.now c.requires.right c.requires.parents c.back.row c.back.invariant.here c.back-test.true in
     link_within c.args.frontier.now c.requires.right parent.0 parent.1 c.back.row.known.parent parent.2
 

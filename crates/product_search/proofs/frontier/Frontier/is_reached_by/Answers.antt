@@ -1,5 +1,5 @@
 use Rattle.std.proofs.Common.{◌≡◌, ◌+◌, Some, None, sym, ◌∙◌}
-use Rattle.std.proofs.lemmas.Bool.{false≢true, leb-true, le-leb}
+use Rattle.std.proofs.lemmas.Bool.{false≢true}
 use Rattle.product_search.specs.inside.Waiting.{rows}
 use Rattle.product_search.proofs.QueueLemmas.{none_known, reached_here, here_reached}
 use Rattle.product_search.proofs.frontier.Frontier.is_reached_by.Goals as goal
@@ -11,9 +11,10 @@ returns-in-None c =
 
 pub returns-in-Some : goal.returns-in-Some
 returns-in-Some c =
-    let f = c.args.self.now in (
-      λ low. reached_here f c.requires.right c.args.node c.args.state c.in-Some.number c.in-Some.ensures c.index.result.now c.index.ensures c.args.at c.requires.early
-          c.requires.settled (leb-true c.index.result.now.bar (c.args.at + 1) low),
-      λ reached. le-leb c.index.result.now.bar (c.args.at + 1)
-          (here_reached f c.requires.right c.args.node c.args.state c.in-Some.number c.in-Some.ensures c.index.result.now c.index.ensures c.args.at c.requires.early reached),
+    let f = c.args.self.now in
+    let there = c.in-Some.ensures in
+    let u = f.rows.base + c.args.delay in
+    let is = c.is_by.ensures (there.row) there.known in (
+      reached_here f c.requires.right c.args.node c.args.state c.in-Some.number there c.is_by.result u is c.requires.settled,
+      here_reached f c.requires.right c.args.node c.args.state c.in-Some.number there c.is_by.result u is,
     )
