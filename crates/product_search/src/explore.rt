@@ -20,6 +20,7 @@ use std::alloc::AllocError;
 /// offers. What `ways` holds is lost.
 ///
 /// The steady arcs are offered first, and the others from a list.
+#[inline(always)]
 pub(crate) fn explore<G: Graph, L: Labels>(
     frontier: &mut Frontier,
     given: &mut GivenRuns,
@@ -211,8 +212,35 @@ fn offer_leg(
     Ok(())
 }
 
-/// Offers what each of some arcs leads to within the bound.
+/// Offers what each of some arcs leads to within the bound. At most nodes there are none.
+#[inline(always)]
 fn explore_ways<L: Labels>(
+    frontier: &mut Frontier,
+    machine: &Machine<L>,
+    bound: Option<Time>,
+    from: Settled,
+    ways: &[Way],
+) -> Result<(), AllocError>
+    requires state { from.state < (L.automaton machine.now.labels).states }
+    requires letters { All (λ way. IfSome way.arc.letter IsLetter) ways.now }
+    requires times { All (λ way. from.at ≤ way.at) ways.now }
+    requires right { IsQueueRight frontier.old }
+    requires settled { IsSettledBy frontier.old from.at }
+    ensures right { OnOk result (IsQueueRight frontier.new) }
+    ensures offers { OnOk result (Offers frontier.old frontier.new
+        (IsByWays (L.automaton machine.now.labels) bound from ways.now)) }
+    ensures reached { OnOk result (All (WayIsReached (L.automaton machine.now.labels) bound frontier.new
+        from.state) ways.now) }
+{
+    if ways.is_empty() {
+        return Ok(());
+    }
+    explore_listed(frontier, machine, bound, from, ways)
+}
+
+/// Offers what each of some arcs leads to within the bound, where there are some.
+#[inline(never)]
+fn explore_listed<L: Labels>(
     frontier: &mut Frontier,
     machine: &Machine<L>,
     bound: Option<Time>,

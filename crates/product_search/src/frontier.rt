@@ -198,6 +198,7 @@ impl Frontier {
     }
 
     /// Takes one with the least time from the queue, and settles it.
+    #[inline(always)]
     pub fn settle_least(&mut self) -> Result<Option<Settled>, AllocError>
         requires { IsQueueRight self.old }
         ensures right { OnOk result (IsQueueRight self.new) }

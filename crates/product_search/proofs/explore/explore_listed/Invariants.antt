@@ -3,7 +3,7 @@ use Rattle.std.specs.Prelude.{slice_index_or}
 use Rattle.search_laws.specs.declared.graph.Way.{Way}
 use Rattle.product_search.specs.inside.Waiting.{IsQueueRight}
 use Rattle.product_search.specs.inside.Exploring.{IsSettledBy, Offers, IsByWays, WayIsReached}
-use Rattle.product_search.proofs.explore.explore_ways.Given as goal
+use Rattle.product_search.proofs.explore.explore_listed.Given as goal
 
 abbrev pub invariant-loop-way : goal.invariant-loop-way
 invariant-loop-way g l = record {

@@ -4,7 +4,7 @@ use Rattle.std.proofs.lemmas.List.{get_or_default}
 use Rattle.search_laws.specs.declared.graph.Way.{Way}
 use Rattle.product_search.specs.inside.Exploring.{IsByWay, WayIsReached}
 use Rattle.product_search.proofs.OfferLemmas.{settled_keeps, offers_more, offers_weaker, way_keeps}
-use Rattle.product_search.proofs.explore.explore_ways.Goals as goal
+use Rattle.product_search.proofs.explore.explore_listed.Goals as goal
 
 blank : Way
 blank = record { place = 0; arc = record { to = 0; letter = None }; at = 0 }
