@@ -119,6 +119,7 @@ impl<'a> RideSearch<'a> {
             targets: &self.destinations,
             dep: at,
             bound: None,
+            meets_few: false,
         };
         let best = search_best_with(alloc, workspace, &question)?;
         let Best { arrival, walk } = best;
@@ -157,6 +158,7 @@ impl<'a> RideSearch<'a> {
             targets: &self.destinations,
             dep: self.query.depart,
             bound: Some(last),
+            meets_few: false,
         };
         let best = search_best_with(alloc, workspace, &question)?;
         Ok(best.arrival.is_some())

@@ -104,6 +104,7 @@ pub fn least_below(
         targets: &targets,
         dep: query.depart,
         bound: None,
+        meets_few: false,
     };
     let best = search_best_with(alloc, workspace, &question)?;
     kept.put(expressed)?;

@@ -91,6 +91,7 @@ fn least_moment(
         targets: &search.targets,
         dep: 0,
         bound: Some(search.span),
+        meets_few: false,
     };
     if limit.is_none() {
         let found = search_best_with(alloc, workspace, &question)?;
@@ -203,6 +204,7 @@ fn late_over(
         targets: &search.targets,
         dep: 0,
         bound: Some(search.span),
+        meets_few: false,
     };
     let found = search_within(alloc, &question, limit)?;
     let found = match found {

@@ -65,6 +65,7 @@ pub(crate) fn first_from(
         targets: &search.starts,
         dep: at,
         bound: None,
+        meets_few: false,
     };
     let best = search_best_with(alloc, &mut room.workspace, &question)?;
     room.kept.put(expressed)?;

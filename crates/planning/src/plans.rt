@@ -76,6 +76,7 @@ impl Searched<'_> {
             targets: &self.ends,
             dep: depart,
             bound: None,
+            meets_few: matches!(self.graph, GraphInUse::Phases(_)),
         }
     }
 

@@ -5,6 +5,7 @@ ghost use Rattle.product_search.specs.Arrivals.{AreArrivals};
 ghost use Rattle.product_search.specs.inside.Noting.{AreAllTimes, time_of};
 ghost use Rattle.product_search.specs.inside.Waiting.{IsQueueRight};
 
+use crate::chains::Chains;
 use crate::explore::explore;
 use crate::frontier::Frontier;
 use crate::machine::Machine;
@@ -65,13 +66,8 @@ fn settle_targets<G: Graph, L: Labels>(
 {
     let alloc = workspace.allocator();
     let mut noted = Noted::none(alloc, targets)?;
-    let mut frontier = Frontier::new(
-        alloc,
-        workspace,
-        graph.nodes(),
-        machine.labels.states(),
-        dep as u64,
-    );
+    let chains = Chains::of(graph.nodes(), machine.labels.states(), false);
+    let mut frontier = Frontier::new(alloc, workspace, chains, dep as u64);
     offer_starts(&mut frontier, &machine.labels, starts, dep)?;
     let product = Product {
         graph,

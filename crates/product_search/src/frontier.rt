@@ -2,7 +2,7 @@
 
 ghost use Rattle.std.specs.Prelude.{◌≡◌, ◌≢◌, ℕ, ◌<◌, ◌^◌, false, None, Some, IfSome, IfNone, IfOk, OnOk, IsTrue, MatchOption, slice_index, ◌+◌, ◌-◌, ◌↔◌, length};
 ghost use Rattle.product_search.specs.inside.Exploring.{IsReachedBy, IsSettledBy};
-ghost use Rattle.product_search.specs.inside.Waiting.{IsQueueRight, IsOffered, SettlesLeast, NobodyWaits, SameReached, KeepsNumbers, rows, told, reached_at, IsAt, IsNowhere, IsClear, HasChainsFrom};
+ghost use Rattle.product_search.specs.inside.Waiting.{IsQueueRight, IsOffered, SettlesLeast, NobodyWaits, SameReached, KeepsNumbers, rows, told, reached_at, IsAt, IsNowhere, IsClear, HasChainsFrom, HasAsGood};
 ghost use Rattle.product_search.specs.inside.Kept.{FitsEntry, TellsTime};
 ghost use Rattle.product_search.specs.inside.Queued.{IsQueue, TakesIn};
 
@@ -38,9 +38,9 @@ pub(crate) struct Frontier {
 }
 
 impl Frontier {
-    /// A frontier with nothing reached, for so many nodes, an automaton with so many states, and times soon after the base. It
-    /// uses the lists and the table of a workspace.
-    pub fn new(alloc: Global, workspace: Workspace, nodes: u32, states: u32, base: u64) -> Frontier
+    /// A frontier with nothing reached, with these chains, for times soon after the base. It uses the lists and the table of a
+    /// workspace.
+    pub fn new(alloc: Global, workspace: Workspace, chains: Chains, base: u64) -> Frontier
         ensures right { IsQueueRight result }
         ensures empty { (v q : ℕ) → reached_at result v q ≡ None }
     {
@@ -52,7 +52,7 @@ impl Frontier {
         Frontier {
             rows: Rows::new(alloc, base, keys, entries),
             first,
-            chains: Chains::of(nodes, states),
+            chains,
             queue: Queue::new(alloc, base),
         }
     }
@@ -108,8 +108,22 @@ impl Frontier {
         ensures right { OnOk result (IsQueueRight self.new) }
         ensures offered { OnOk result (IsOffered self.old self.new node state way) }
     {
+        if self.has_as_good(node, state, way.at) {
+            return Ok(());
+        }
         let entry = self.rows.put_wide(way)?;
         self.offer_by(node, state, way.at, entry)
+    }
+
+    /// Whether a product state is settled, or reached no later than at a time.
+    fn has_as_good(&self, node: u32, state: u32, at: Time) -> bool
+        requires { IsQueueRight self.now }
+        ensures { IsTrue result → HasAsGood self.now node state at }
+    {
+        match self.find(node, state) {
+            None => false,
+            Some(number) => !self.rows.waits_past(number as usize, at),
+        }
     }
 
     /// Takes a way that arrives then, if it is the first or better. An entry tells it.

@@ -25,7 +25,7 @@ pub(crate) struct Queue {
     pub near: ItemHeap,
     /// The others, in no order. All are due after the horizon.
     pub later: Vec<QueueItem>,
-    /// Those of other times, be they before the base or long after it.
+    /// Those that come with a time: before the base or long after it, or by an arc past 2^32.
     pub far: BinaryHeap<Reverse<(Time, u32)>>,
     /// The word of the last item that is due by the horizon: the greatest one as long as few wait.
     horizon: u64,

@@ -1,7 +1,7 @@
 //! The product states that are reached, kept in few bytes.
 
 ghost use Rattle.std.specs.Prelude.{◌≡◌, ◌<◌, ◌+◌, ◌-◌, ◌^◌, ◌++◌, ◌∷◌, ◌&&◌, ◌||◌, ◌==◌, [], false, not, nat_le, nat_lt, Some, IfOk, OnOk, IfSome, IfNone, length, slice_get};
-ghost use Rattle.product_search.specs.inside.Kept.{FitsEntry, IsKeyOf, IsRewritten, Settles, TellsBar, told_in};
+ghost use Rattle.product_search.specs.inside.Kept.{FitsEntry, IsKeyOf, IsRewritten, Settles, TellsBar, TellSame, told_in};
 ghost use Rattle.product_search.specs.inside.OfRows.{Waits, made};
 ghost use Rattle.product_search.specs.inside.Queued.{time_of};
 
@@ -117,7 +117,7 @@ impl Rows {
     #[inline(never)]
     fn known(&self, number: usize) -> Reached
         requires { number < length self.now.rows }
-        ensures { (r : Row) → slice_get self.now.rows number ≡ Some r → record r.known { settled = false } ≡ record result { settled = false } }
+        ensures { (r : Row) → slice_get self.now.rows number ≡ Some r → TellSame r.known result }
     {
         match self.entries[number] {
             Entry::Near(way) => Reached {
@@ -191,8 +191,18 @@ impl Rows {
         let bar = self.keys[number].bar;
         match entry {
             Entry::Near(way) if bar != WIDE_BAR => way.delay + 1 < bar,
-            _ => bar != 0 && self.is_after(number, at),
+            _ => self.waits_past(number, at),
         }
+    }
+
+    /// Whether a row waits, and is after a time.
+    #[inline(always)]
+    pub fn waits_past(&self, number: usize, at: Time) -> bool
+        requires { number < length self.now.rows }
+        ensures { (r : Row) → slice_get self.now.rows number ≡ Some r
+            → result ≡ (not r.known.settled && nat_lt at r.known.at) }
+    {
+        self.keys[number].bar != 0 && self.is_after(number, at)
     }
 
     /// Whether a row is after a time.
@@ -242,7 +252,8 @@ impl Rows {
     #[inline(always)]
     fn waits(&self, number: usize, bar: u32, due: Due) -> bool
         requires { number < length self.now.rows }
-        ensures { (r : Row) → slice_get self.now.rows number ≡ Some r → TellsBar self.now.base bar r.known → result ≡ (not r.known.settled && (r.known.at == time_of self.now.base due)) }
+        ensures { (r : Row) → slice_get self.now.rows number ≡ Some r → TellsBar self.now.base bar r.known
+            → result ≡ (not r.known.settled && (r.known.at == time_of self.now.base due)) }
     {
         match due {
             Due::Soon(delay) if bar != WIDE_BAR => u64::from(delay) + 1 == u64::from(bar),

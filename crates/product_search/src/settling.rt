@@ -6,6 +6,7 @@ ghost use Rattle.std.specs.Ordering.{nat_cmp};
 ghost use Rattle.product_search.specs.Questions.{question_of};
 ghost use Rattle.product_search.specs.inside.Searching.{IsExploredWithin, end_arrival};
 
+use crate::chains::Chains;
 use crate::ends::Ends;
 use crate::explore::explore;
 use crate::frontier::{Frontier, Settled};
@@ -36,13 +37,8 @@ pub(crate) fn settle_all<G: Graph, L: Labels>(
 {
     let labels = &question.machine.labels;
     let ends = Ends::of(alloc, question.targets)?;
-    let mut frontier = Frontier::new(
-        alloc,
-        workspace,
-        question.graph.nodes(),
-        labels.states(),
-        question.dep as u64,
-    );
+    let chains = Chains::of(question.graph.nodes(), labels.states(), question.meets_few);
+    let mut frontier = Frontier::new(alloc, workspace, chains, question.dep as u64);
     offer_starts(&mut frontier, labels, question.starts, question.dep)?;
     let product = Product {
         graph: question.graph,

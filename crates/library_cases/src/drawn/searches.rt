@@ -62,6 +62,7 @@ pub fn found_by(alloc: Global, asked: &Asked, bound: Option<Time>) -> Option<Fou
         targets,
         dep: Time::from(asked.dep),
         bound,
+        meets_few: asked.dep % 2 == 1,
     };
     search(alloc, &question).ok()
 }

@@ -86,6 +86,10 @@ pub record IsKept (r : Inside) : Type 0 where
 
 -- ---- what is done with them
 
+-- the ways are the same, but that one may be settled
+abbrev pub TellSame : Reached → Reached → Type 0
+TellSame x y = record x { settled = false } ≡ record y { settled = false }
+
 pub record IsKeyOf (r : Row) (k : Key) : Type 0 where
   pub node : k.node ≡ r.node
   pub state : k.state ≡ r.state

@@ -1,5 +1,5 @@
 -- What is known of the product states, and who waits in the queue.
-use Rattle.std.specs.Prelude.{◌≡◌, ℕ, ◌≤◌, Bool, true, false, not, ◌&&◌, ◌||◌, ◌==◌, suc, ◌+◌, ◌*◌, ◌%◌, ◌<◌, List, map, length, slice_index, slice_get, Option, Some, None, nat_le, if◌then◌else◌, ◌^◌}
+use Rattle.std.specs.Prelude.{◌≡◌, ℕ, ◌≤◌, Bool, true, false, not, ◌&&◌, ◌||◌, ◌==◌, suc, ◌+◌, ◌*◌, ◌/◌, ◌-◌, ◌<◌, List, map, length, slice_index, slice_get, Option, Some, None, nat_le, if◌then◌else◌, ◌^◌, bit_and}
 use Rattle.std.specs.Map.{lookup}
 use Rattle.product_search.specs.inside.Kept.{told_in}
 use Rattle.product_search.specs.inside.OfRows.{Waits}
@@ -63,7 +63,7 @@ KeepsNumbers old new = (v q k : ℕ) → IsAt (rows old) v q k → IsAt (rows ne
 
 -- the chain of v and q, where each node has so many, among which its states are shared out
 abbrev pub chain_of : ℕ → ℕ → ℕ → ℕ
-chain_of count v q = v * count + q % count
+chain_of count v q = v * count + bit_and (q + q / 4) (count - 1)
 
 abbrev pub chain_in : ℕ → Row → ℕ
 chain_in count r = chain_of count r.node r.state
@@ -110,6 +110,10 @@ is_same v q w r = (v == w) && (q == r)
 abbrev pub offered : Option Reached → Reached → Option Reached
 offered None way = Some way
 offered (Some x) way = if x.settled || nat_le x.at way.at then Some x else Some way
+
+-- a way that arrives at t changes nothing of it
+abbrev pub HasAsGood : Frontier → ℕ → ℕ → ℕ → Type 0
+HasAsGood f v q t = (way : Reached) → way.at ≡ t → offered (reached_at f v q) way ≡ reached_at f v q
 
 pub record IsOffered (old new : Frontier) (v q : ℕ) (way : Reached) : Type 0 where
   pub known : (w r : ℕ) → reached_at new w r ≡ (if is_same v q w r then offered (reached_at old w r) way else reached_at old w r)

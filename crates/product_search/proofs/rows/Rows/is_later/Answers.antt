@@ -1,6 +1,6 @@
-use Rattle.std.proofs.Common.{◌≡◌, ◌+◌, ◌∙◌, ap, nat_lt, arith}
+use Rattle.std.proofs.Common.{◌≡◌, ◌+◌, ◌∙◌, ap, arith}
 use Rattle.product_search.specs.inside.Kept.{told_in}
-use Rattle.product_search.proofs.RowLemmas.{keys_count, bar_told, later_near, later_asked, not_later}
+use Rattle.product_search.proofs.RowLemmas.{keys_count, bar_told, later_near}
 use Rattle.product_search.proofs.rows.Rows.is_later.Goals as goal
 
 pub index-requires : goal.index-requires
@@ -12,16 +12,3 @@ returns-in-Near c r known =
     let at : c.args.at ≡ m.base + c.in-Near.way.delay = c.requires.at ∙ ap (λ e. (told_in m e).at) c.in-Near.is in
     later_near m.base c.index.result.now.bar r.known (bar_told c.self.inside c.args.self.now c.self.view_is c.self.invariant c.args.number r known c.index.result.now c.index.ensures)
     c.in-Near.way.delay c.args.at at c.if-bar.true
-
-pub returns-then-bar-ne0 : goal.returns-then-bar-ne0
-returns-then-bar-ne0 c r known =
-    let m = c.args.self.now in
-    c.is_after.ensures r known
-    ∙ later_asked m.base c.index.result.now.bar r.known (bar_told c.self.inside c.args.self.now c.self.view_is c.self.invariant c.args.number r known c.index.result.now c.index.ensures)
-    c.if-bar-ne0.true (nat_lt c.args.at r.known.at)
-
-pub returns-else-bar-ne0 : goal.returns-else-bar-ne0
-returns-else-bar-ne0 c r known =
-    let m = c.args.self.now in
-    rw c.if-bar-ne0.false (not_later m.base c.index.result.now.bar r.known (bar_told c.self.inside c.args.self.now c.self.view_is c.self.invariant c.args.number r known c.index.result.now c.index.ensures)
-    c.if-bar-ne0.false (nat_lt c.args.at r.known.at))
