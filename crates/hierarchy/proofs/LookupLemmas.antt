@@ -1,48 +1,84 @@
 -- What a binary search finds among entries and witnesses.
-use Rattle.std.proofs.Common.{◌≡◌, ℕ, ◌<◌, ◌≤◌, ◌⊎◌, inl, inr, ◌∙◌, List, length, get_or, refl, ap, sym, subst, arith, Ordering, Less, Equal, Greater}
-use Rattle.std.specs.Prelude.{Option, Contains}
+use Rattle.std.proofs.Common.{◌≡◌, ℕ, ◌+◌, ◌-◌, ◌<◌, ◌≤◌, ◌⊎◌, inl, inr, ◌∙◌, List, length, get_or, refl, ap, sym, subst, arith, Ordering, Less, Equal, Greater}
+use Rattle.std.specs.Prelude.{Option, Some, Contains, slice_range}
 use Rattle.std.specs.List.Sorted.{IsNonDecreasingBy, IsPartitionPoint}
 use Rattle.std.specs.Ordering.{ordering_then, ordering_index, nat_cmp, MatchOrdering}
 use Rattle.std.specs.Cmp.{IsTotalOrder, ranks as nat_ranks}
 use Rattle.std.proofs.lemmas.Bool.{cases_lt}
 use Rattle.std.proofs.lemmas.Cmp.{then_total, on_total, nat_cmp_total, tied_itself}
 use Rattle.std.proofs.lemmas.List.{get_or_default}
+use Rattle.std.proofs.lemmas.Map.Lookups.{exact_unsigned}
+use Rattle.std.proofs.lemmas.Option.{slice_get-get_or}
 use Rattle.mode_network.proofs.FindLemmas.{answers_rise, not_there, same_ends}
 use Rattle.hierarchy.specs.declared.entry.Entry.{Entry}
 use Rattle.hierarchy.specs.Lists.{WitnessLists, first_of, last_of}
 use Rattle.mode_network.specs.Rules.{IsAscending}
 use Rattle.hierarchy.specs.Rules.{entry_cmp, witness_cmp}
 use Rattle.hierarchy.specs.Soundness.{HasEntry}
-use Rattle.hierarchy.specs.Lookups.{IsEntryFor, HasNoEntry, IsWitnessFor, HasNoWitness, from_of}
+use Rattle.hierarchy.specs.Lookups.{AreFrom, IsEntryFor, HasNoEntry, IsWitnessFor, HasNoWitness, from_of}
+use Rattle.hierarchy.proofs.PlaceLemmas.{range_length, range_read}
 
 -- ---- entries
 
 pub entry_total : IsTotalOrder entry_cmp
 entry_total = then_total (on_total (λ (e : Entry). e.from) nat_cmp_total) (on_total (λ (e : Entry). e.to) nat_cmp_total)
 
--- a search for the ends of an entry
-abbrev pub ends_cmp : ℕ → ℕ → Entry → Ordering
-ends_cmp u v e = ordering_then (nat_cmp e.from u) (nat_cmp e.to v)
+equal_ends : (u v : ℕ) → ordering_then (nat_cmp u u) (nat_cmp v v) ≡ Equal
+equal_ends u v = rw (tied_itself nat_cmp_total u) (tied_itself nat_cmp_total v)
+
+-- a search for the end of an entry
+abbrev pub end_cmp : ℕ → Entry → Ordering
+end_cmp v e = nat_cmp e.to v
+
+abbrev by_end : Entry → Entry → Ordering
+by_end a b = nat_cmp a.to b.to
+
+ends_total : IsTotalOrder by_end
+ends_total = on_total (λ (e : Entry). e.to) nat_cmp_total
 
 abbrev entry_of : ℕ → ℕ → ℕ → Option ℕ → Entry
 entry_of u v weight via = record { from = u; to = v; weight = weight; via = via }
 
-equal_ends : (u v : ℕ) → ordering_then (nat_cmp u u) (nat_cmp v v) ≡ Equal
-equal_ends u v = rw (tied_itself nat_cmp_total u) (tied_itself nat_cmp_total v)
+-- among the entries from one node
+module _ (entries : List Entry) (u low high : ℕ) (are : AreFrom entries u low high) where
+  abbrev row : List Entry
+  row = slice_range entries low high
 
-pub entry_found : (entries : List Entry) (u v place : ℕ) (e : Entry) → place < length entries → e ≡ get_or entries place e
-    → ((d : Entry) → ends_cmp u v (get_or entries place d) ≡ Equal) → IsEntryFor entries u v e
-entry_found entries u v place e lt is same =
-    let ends = same_ends e.from u e.to v (subst (λ (x : Entry). ends_cmp u v x ≡ Equal) (sym is) (same e)) in
-    record { listed = (place, lt, sym is); from = ends.0; to = ends.1 }
+  long : length row ≡ high - low
+  long = range_length entries low high are.in_order are.within
 
-pub entry_missing : (entries : List Entry) → IsAscending entry_cmp entries → (u v place : ℕ)
-    → (IsNonDecreasingBy (λ e. ordering_index (ends_cmp u v e)) entries → IsPartitionPoint (λ e. ends_cmp u v e ≡ Less) (λ e. ends_cmp u v e ≡ Greater) entries place)
-    → HasNoEntry entries u v
-entry_missing entries ascend u v place ended weight (via, (k, lt, is)) =
-    let e = entry_of u v weight via in
-    not_there entry_cmp entry_total entries ascend e place (ended (answers_rise entry_cmp entry_total entries ascend e)) k e lt
-    (subst (λ (x : Entry). ends_cmp u v x ≡ Equal) (sym is) (equal_ends u v))
+  at : (k : ℕ) (d : Entry) → k < length row → get_or row k d ≡ get_or entries (low + k) d
+  at k d lt = range_read entries low high are.in_order are.within k d (omega (arith, long))
+
+  from_is : (k : ℕ) (d : Entry) → k < length row → (get_or row k d).from ≡ u
+  from_is k d lt =
+      let inside : low + k < high = omega (arith, long) in
+      ap from_of (at k d lt) ∙ are.inside (low + k) (get_or entries (low + k) d) (omega arith) inside (slice_get-get_or entries (low + k) d (omega (arith, are.within)))
+
+  -- they ascend by their ends
+  ends_ascend : IsAscending entry_cmp entries → IsAscending by_end row
+  ends_ascend ascend i j d before lt =
+      let less : entry_cmp (get_or row i d) (get_or row j d) ≡ Less = rw (at i d (omega arith), at j d lt) (ascend (low + i) (low + j) d (omega arith) (omega (arith, long, are.within, are.in_order))) in
+      subst (λ (o : Ordering). ordering_then o (by_end (get_or row i d) (get_or row j d)) ≡ Less)
+      (ap (λ k. nat_cmp k (get_or row j d).from) (from_is i d (omega arith)) ∙ ap (nat_cmp u) (from_is j d lt) ∙ tied_itself nat_cmp_total u) less
+
+  pub entry_found : (v place : ℕ) (e : Entry) → place < length row → e ≡ get_or row place e → end_cmp v e ≡ Equal → IsEntryFor entries u v e
+  entry_found v place e lt is same = record {
+    listed = (low + place, omega (arith, long, are.within, are.in_order), sym (is ∙ at place e lt));
+    from = ap from_of is ∙ from_is place e lt;
+    to = exact_unsigned e.to v same;
+  }
+
+  pub entry_missing : IsAscending entry_cmp entries → (v place : ℕ)
+      → (IsNonDecreasingBy (λ e. ordering_index (end_cmp v e)) row → IsPartitionPoint (λ e. end_cmp v e ≡ Less) (λ e. end_cmp v e ≡ Greater) row place)
+      → HasNoEntry entries u v
+  entry_missing ascend v place ended weight (via, (k, lt, is)) =
+      let e = entry_of u v weight via in
+      let there = are.all k e (slice_get-get_or entries k e lt ∙ ap Some is) refl in
+      let back : low + (k - low) ≡ k = omega (arith, there) in
+      let inside : k - low < length row = omega (arith, there, long) in
+      not_there by_end ends_total row (ends_ascend ascend) e place (ended (answers_rise by_end ends_total row (ends_ascend ascend) e)) (k - low) e inside
+      (ap (end_cmp v) (at (k - low) e inside ∙ ap (λ i. get_or entries i e) back ∙ is) ∙ tied_itself nat_cmp_total v)
 
 -- an entry that stands before another begins at no later node
 pub from_rises : (entries : List Entry) → IsAscending entry_cmp entries → IsNonDecreasingBy from_of entries

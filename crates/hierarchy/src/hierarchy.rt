@@ -9,7 +9,6 @@ ghost use Rattle.hierarchy.specs.Lookups.{IsEntryFor, HasNoEntry, IsWitnessFor, 
 use crate::entry::Entry;
 use crate::falls::Fall;
 use crate::lists::Lists;
-use crate::lookup::entry_between;
 use crate::tables::{NodeRow, Tables};
 use crate::witnesses::{Witness, Witnesses};
 use search_laws::Leg;
@@ -121,13 +120,18 @@ impl Hierarchy {
         self.height(v) < self.order().len() as u64
     }
 
-    /// The entry from `u` to `v`; None exactly where there is none.
+    /// The entry from `u` to `v`; None exactly where there is none. Of all entries it looks at those from `u` alone.
     pub fn entry(&self, u: u32, v: u32) -> Option<&Entry>
         ensures { MatchOption result (HasNoEntry self.now.entries u v)
             (λ e. IsEntryFor self.now.entries u v e.now) }
     {
         self.known();
-        entry_between(self.entries(), u, v)
+        let (first, end) = self.entries_from(u);
+        let row = &self.entries()[first as usize..end as usize];
+        match row.binary_search_by(|entry| entry.to.cmp(&v)) {
+            Ok(place) => Some(&row[place]),
+            Err(_) => None,
+        }
     }
 
     /// The first place in [`entries`](Self::entries) of those from `u`, and one past the last. Where nothing is from

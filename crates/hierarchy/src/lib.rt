@@ -8,7 +8,6 @@ mod heights;
 pub mod hierarchy;
 pub mod laws;
 pub mod lists;
-mod lookup;
 mod rises;
 pub mod sizes;
 mod tables;

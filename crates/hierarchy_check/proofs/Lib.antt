@@ -1,5 +1,4 @@
 pub mod PlaceLemmas
-pub mod RowLemmas
 pub mod OrderLemmas
 pub mod EntryLemmas
 pub mod WalkLemmas

@@ -6,7 +6,6 @@ ghost use Rattle.hierarchy.specs.FirstBroken.{FailsFirst};
 ghost use Rattle.hierarchy_check.specs.inside.Light.{IsLight, IsSumOver, IsModeOfBoth};
 
 use crate::arcs::is_arc_past;
-use crate::rows::entry_from;
 use hierarchy::{Entry, Hierarchy};
 use mode_network::{Arc, Network};
 use plan_base::Mode;
@@ -73,7 +72,7 @@ pub(crate) fn has_lighter(h: &Hierarchy, u: u32, v: u32, limit: u64) -> bool
     ensures { IsTrue result ↔ HasLighter h.now.entries u v limit }
 {
     h.known();
-    match entry_from(h, u, v) {
+    match h.entry(u, v) {
         Some(entry) => entry.weight <= limit,
         None => false,
     }
@@ -123,8 +122,8 @@ fn is_sum_over(h: &Hierarchy, u: u32, m: u32, v: u32, weight: u64) -> bool
     ensures { IsTrue result ↔ IsSumOver h.now.entries u m v weight }
 {
     h.known();
-    match entry_from(h, u, m) {
-        Some(first) => match entry_from(h, m, v) {
+    match h.entry(u, m) {
+        Some(first) => match h.entry(m, v) {
             Some(second) => first.weight + second.weight == weight,
             None => false,
         },

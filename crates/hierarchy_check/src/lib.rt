@@ -7,7 +7,6 @@ mod checking;
 mod entries;
 mod look;
 mod order;
-mod rows;
 mod witnesses;
 
 pub use checking::{check, check_nodes, check_ways};

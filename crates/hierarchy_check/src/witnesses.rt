@@ -5,7 +5,6 @@ ghost use Rattle.hierarchy.specs.Lookups.{IsWitnessFor};
 ghost use Rattle.hierarchy.specs.Soundness.{HasWitness};
 ghost use Rattle.hierarchy_check.specs.inside.Light.{CanStep, CanWalk};
 
-use crate::rows::entry_from;
 use hierarchy::{Hierarchy, Witness};
 
 /// Whether a witness that is listed for `x` leads from `u` to `v` and weighs at most the limit.
@@ -69,7 +68,7 @@ fn after_step(h: &Hierarchy, x: u32, u: u32, y: u32, have: u64) -> Option<u64>
     if !h.above(y, x) {
         return None;
     }
-    match entry_from(h, u, y) {
+    match h.entry(u, y) {
         Some(entry) => rest_of(have, entry.weight),
         None => None,
     }
