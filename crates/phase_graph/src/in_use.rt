@@ -132,6 +132,7 @@ impl Graph for GraphInUse<'_> {
 
     ghost rides = { rides_in_use };
 
+    #[inline(always)]
     fn fresh_ways(
         &self,
         visit: Visit,
