@@ -42,6 +42,18 @@ impl<T> Vec<T> {
 }
 
 impl<T: Clone> Vec<T> {
+    pub fn from_slice(_: Global, items: &[T]) -> Result<Self, AllocError> {
+        Ok(Vec(items.to_vec()))
+    }
+}
+
+impl<T: PartialEq> Vec<T> {
+    pub fn dedup(&mut self) {
+        self.0.dedup()
+    }
+}
+
+impl<T: Clone> Vec<T> {
     pub fn resize(&mut self, count: usize, item: T) -> Result<(), AllocError> {
         self.0.resize(count, item);
         Ok(())
@@ -61,17 +73,17 @@ impl<T> DerefMut for Vec<T> {
     }
 }
 
-impl<T> Index<usize> for Vec<T> {
-    type Output = T;
+impl<T, I: std::slice::SliceIndex<[T]>> Index<I> for Vec<T> {
+    type Output = I::Output;
     #[inline(always)]
-    fn index(&self, place: usize) -> &T {
+    fn index(&self, place: I) -> &I::Output {
         unsafe { self.0.get_unchecked(place) }
     }
 }
 
-impl<T> IndexMut<usize> for Vec<T> {
+impl<T, I: std::slice::SliceIndex<[T]>> IndexMut<I> for Vec<T> {
     #[inline(always)]
-    fn index_mut(&mut self, place: usize) -> &mut T {
+    fn index_mut(&mut self, place: I) -> &mut I::Output {
         unsafe { self.0.get_unchecked_mut(place) }
     }
 }

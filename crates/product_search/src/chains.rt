@@ -19,12 +19,12 @@ impl Chains {
 
     /// One up to 63 states of an automaton, so that most searches look through one short chain; then one for each eight states
     /// or more, but fewer in a graph with so many nodes that the table would be large. A search that comes to few nodes, but to
-    /// each in many states, has four from 16 states on: there the table's size costs less than longer chains do.
+    /// each in many states, has four to eight from 16 states on: there the size of the table costs less than longer chains do.
     pub fn of(nodes: u32, states: u32, meets_few: bool) -> Chains {
         let wanted = if states >= 64 {
             states / 8
         } else if meets_few && states >= 16 {
-            4
+            (states / 4).min(8)
         } else {
             1
         };
