@@ -1,6 +1,6 @@
 //! The heights of nodes in the order in which they were contracted, as a table, and how long such a table is.
 
-ghost use Rattle.std.specs.Prelude.{◌≡◌, ◌<◌, ◌≤◌, ◌^◌, All, IfOk};
+ghost use Rattle.std.specs.Prelude.{◌≡◌, ◌<◌, ◌≤◌, ◌^◌, All, IfOk, length};
 ghost use Rattle.hierarchy.specs.declared.entry.Entry.{Entry};
 ghost use Rattle.hierarchy.specs.Rules.{IsNode, FitsEntry};
 ghost use Rattle.hierarchy.specs.Indexes.{AreHeights, AreEndsBelow};
@@ -13,7 +13,7 @@ use std::alloc::{AllocError, Global};
 pub(crate) struct HeightTable<'a> {
     pub order: &'a [u32],
     pub nodes: u32,
-    pub of: &'a [u64],
+    pub of: &'a [u32],
 }
 
 impl HeightTable<'_> {
@@ -28,9 +28,9 @@ impl HeightTable<'_> {
         requires ends { AreEndsBelow self.now.nodes entry.now }
         ensures { result ≡ is_rise self.now.order.now entry.now }
     {
-        let core = self.order.len() as u64;
-        let from = self.of[entry.from as usize];
-        let to = self.of[entry.to as usize];
+        let core = self.order.len();
+        let from = self.of[entry.from as usize] as usize;
+        let to = self.of[entry.to as usize] as usize;
         from < to || from == core && to == core
     }
 
@@ -73,15 +73,16 @@ pub(crate) fn past_entries(entries: &[Entry], least: u32) -> u32
 }
 
 /// For each node number: its first place in the order, or the order's length where it is not in it.
-pub(crate) fn heights(alloc: Global, nodes: u32, order: &[u32]) -> Result<Vec<u64>, AllocError>
-    requires { All (λ v. v < nodes) order.now }
+pub(crate) fn heights(alloc: Global, nodes: u32, order: &[u32]) -> Result<Vec<u32>, AllocError>
+    requires below { All (λ v. v < nodes) order.now }
+    requires few { length order.now < 2 ^ 32 }
     ensures { IfOk result (λ heights. AreHeights nodes order.now heights.items) }
 {
-    let mut heights = vec![in alloc; order.len() as u64; nodes as usize]?;
+    let mut heights = vec![in alloc; order.len() as u32; nodes as usize]?;
     let mut place = order.len();
     while place > 0 {
         place -= 1;
-        heights[order[place] as usize] = place as u64;
+        heights[order[place] as usize] = place as u32;
     }
     Ok(heights)
 }

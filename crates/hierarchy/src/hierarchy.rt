@@ -22,9 +22,9 @@ pub struct Hierarchy {
     entries: Vec<Entry>,
     witnesses: Witnesses,
     nodes: u32,
-    heights: Vec<u64>,
+    heights: Vec<u32>,
     rows: Vec<NodeRow>,
-    rises: Vec<u64>,
+    rises: Vec<u32>,
     legs: Vec<Leg>,
     fall_offsets: Vec<u32>,
     falls: Vec<Fall>,
@@ -43,7 +43,8 @@ impl Model for Hierarchy {
 }
 
 impl Lists {
-    /// The hierarchy with these lists. Its tables are as long as the greatest node that the order or the entries name.
+    /// The hierarchy with these lists. Its tables are as long as the greatest node that the order or the entries name. An
+    /// order or entries of 2^32 or more count as want of memory.
     pub fn into_hierarchy(self, alloc: Global) -> Result<Hierarchy, AllocError>
         ensures { IfOk result (λ h. h ≡ self) }
     {
@@ -99,7 +100,7 @@ impl Hierarchy {
         ensures { result ≡ height_in self.now.order v }
     {
         if v < self.nodes {
-            self.heights[v as usize]
+            self.heights[v as usize] as u64
         } else {
             self.order.len() as u64
         }
@@ -142,8 +143,8 @@ impl Hierarchy {
     {
         if u < self.nodes {
             (
-                self.rows[u as usize].entries,
-                self.rows[u as usize + 1].entries,
+                self.rows[u as usize].entries as u64,
+                self.rows[u as usize + 1].entries as u64,
             )
         } else {
             let count = self.entries.len() as u64;
@@ -169,26 +170,29 @@ impl Hierarchy {
     /// Where the entries from `u` that lead to a node above it, or from one core node to another, stand among all that do so:
     /// their first place, and one past the last.
     #[inline(always)]
-    fn rise_range(&self, u: u32) -> (u64, u64)
+    fn rise_range(&self, u: u32) -> (usize, usize)
         ensures range { result ≡ range_of rise_from (all_rises self.now) u }
         ensures are { IsRiseRange self.now u (all_rises self.now) result.0 result.1 }
     {
         if u < self.nodes {
-            (self.rows[u as usize].rises, self.rows[u as usize + 1].rises)
+            (
+                self.rows[u as usize].rises as usize,
+                self.rows[u as usize + 1].rises as usize,
+            )
         } else {
-            let count = self.rises.len() as u64;
+            let count = self.rises.len();
             (count, count)
         }
     }
 
     /// The places in [`entries`](Self::entries) of those from `u` that lead to a node above it, or from one core node to another,
     /// ascending.
-    pub fn rise_places_from(&self, u: u32) -> &[u64]
+    pub fn rise_places_from(&self, u: u32) -> &[u32]
         ensures list { result.now ≡ rise_places_from self.now u }
         ensures are { ArePlaces (RisesFrom self.now.order u) self.now.entries result.now }
     {
         let (first, end) = self.rise_range(u);
-        &self.rises[first as usize..end as usize]
+        &self.rises[first..end]
     }
 
     /// Whether each entry that leads to a node above its own, or from one core node to another, takes less than 2^32 ms.
@@ -207,7 +211,7 @@ impl Hierarchy {
     {
         if self.has_legs() {
             let (first, end) = self.rise_range(u);
-            &self.legs[first as usize..end as usize]
+            &self.legs[first..end]
         } else {
             &[]
         }

@@ -20,12 +20,12 @@ fn push_rises_below(
     entries: &[Entry],
     v: u32,
     mut place: usize,
-    rises: &mut Vec<u64>,
+    rises: &mut Vec<u32>,
 ) -> Result<usize, AllocError>
     requires heights { TellHeights heights.now }
     requires ends { All (AreEndsBelow heights.now.nodes) entries.now }
     requires rising { IsNonDecreasingBy from_of entries.now }
-    requires short { length entries.now < 2 ^ 63 }
+    requires few { length entries.now < 2 ^ 32 }
     requires place { place ≤ count_below from_of entries.now v }
     requires rises { rises.old.items ≡ places_before (is_rise heights.now.order.now) entries.now place }
     ensures place { IfOk result (λ place. place ≡ count_below from_of entries.now v) }
@@ -34,7 +34,7 @@ fn push_rises_below(
 {
     while place < entries.len() && entries[place].from < v {
         if heights.is_rise(&entries[place]) {
-            rises.push(place as u64)?;
+            rises.push(place as u32)?;
         }
         place += 1;
     }
@@ -46,12 +46,12 @@ pub(crate) fn rows(
     alloc: Global,
     heights: &HeightTable<'_>,
     entries: &[Entry],
-) -> Result<(Vec<NodeRow>, Vec<u64>), AllocError>
+) -> Result<(Vec<NodeRow>, Vec<u32>), AllocError>
     requires heights { TellHeights heights.now }
     requires few_nodes { heights.now.nodes < 2 ^ 31 }
     requires ends { All (AreEndsBelow heights.now.nodes) entries.now }
     requires rising { IsNonDecreasingBy from_of entries.now }
-    requires short { length entries.now < 2 ^ 63 }
+    requires few { length entries.now < 2 ^ 32 }
     ensures rows { IfOk result (λ made. AreRows heights.now.order.now entries.now heights.now.nodes
         made.0.items) }
     ensures rises { IfOk result (λ made. made.1.items
@@ -63,15 +63,15 @@ pub(crate) fn rows(
     for v in 0..heights.nodes + 1 {
         place = push_rises_below(heights, entries, v, place, &mut rises)?;
         rows.push(NodeRow {
-            entries: place as u64,
-            rises: rises.len() as u64,
+            entries: place as u32,
+            rises: rises.len() as u32,
         })?;
     }
     Ok((rows, rises))
 }
 
 /// Where the entries at these places lead, and how long that takes; or nothing, if one of them takes 2^32 ms or longer.
-pub(crate) fn legs(alloc: Global, entries: &[Entry], rises: &[u64]) -> Result<Vec<Leg>, AllocError>
+pub(crate) fn legs(alloc: Global, entries: &[Entry], rises: &[u32]) -> Result<Vec<Leg>, AllocError>
     requires fit { All FitsEntry entries.now }
     requires within { All (λ k. k < length entries.now) rises.now }
     ensures { IfOk result (λ legs. legs.items ≡ legs_of_rises (rises_at entries.now rises.now)) }

@@ -131,7 +131,7 @@ impl<'a> Phases<'a> {
 
     /// The places of the entries that lead up from a node of the network, or along the core; in the descent there are none.
     #[inline(always)]
-    fn rises_at(&self, v: u32, down: bool) -> &'a [u64]
+    fn rises_at(&self, v: u32, down: bool) -> &'a [u32]
         ensures list { result.now ≡ rises_at self.now.hierarchy.now v down }
         ensures each { All (BeginsAt self.now.hierarchy.now v) result.now }
     {
@@ -233,7 +233,7 @@ impl<'a> Phases<'a> {
         let ups = rises.len() as u64;
         let (first, entries) = self.entries_at(v);
         if i < ups {
-            PhaseArc::Up(rises[i as usize])
+            PhaseArc::Up(rises[i as usize] as u64)
         } else if i - ups < entries {
             PhaseArc::Down(first + (i - ups))
         } else {

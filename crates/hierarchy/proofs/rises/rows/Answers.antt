@@ -6,7 +6,8 @@ use Rattle.hierarchy.specs.declared.tables.NodeRow.{NodeRow}
 use Rattle.hierarchy.specs.Indexes.{AreEndsBelow, node_row}
 use Rattle.hierarchy.specs.Lookups.{count_below, from_of, places_before}
 use Rattle.hierarchy.specs.Rises.{is_rise, rise_from, rises_in}
-use Rattle.hierarchy.proofs.OffsetLemmas.{count_all, count_rises, rows_more}
+use Rattle.hierarchy.proofs.OffsetLemmas.{count_all, count_most, count_rises, rows_more}
+use Rattle.hierarchy.proofs.PlaceLemmas.{places_few}
 use Rattle.hierarchy.proofs.RiseLemmas.{rises_below}
 use Rattle.hierarchy.proofs.rises.rows.Goals as goal
 
@@ -18,6 +19,12 @@ push_rises_below-requires-clause-place c = elim (cases_eq c.loop-v.v 0) [
       omega (arith, last, count_rises from_of c.args.entries.now (c.loop-v.v - 1) c.loop-v.v (omega arith))
       )
 ]
+
+pub overflow_cast-len : goal.overflow_cast-len
+overflow_cast-len c =
+    let entries = c.args.entries.now in
+    let long : c.len.result ≡ length c.push_rises_below.new.rises.items = search rules in
+    omega (arith, long, ap length c.in_ok-place.ensures.rises, places_few (is_rise c.args.heights.now.order.now) entries c.in_ok-place.place, c.in_ok-place.ensures.place, count_most from_of entries c.loop-v.v)
 
 pub loop-v-preserved : goal.loop-v-preserved
 loop-v-preserved c =

@@ -8,12 +8,12 @@ use Rattle.phase_graph.proofs.phases.Phases.push_fresh_others.Goals as goal
 
 pub overflow_add-first : goal.overflow_add-first
 overflow_add-first c =
-    let ups : length c.rises_at.result.now * 8 < 2 ^ 63 = c.rises_at.type_inv.1 in
+    let ups : length c.rises_at.result.now * 4 < 2 ^ 63 = c.rises_at.type_inv.1 in
     omega (arith, c.entries_at.ensures.few, ups)
 
 pub push_fresh_plain-requires-clause-few : goal.push_fresh_plain-requires-clause-few
 push_fresh_plain-requires-clause-few c =
-    let ups : length c.rises_at.result.now * 8 < 2 ^ 63 = c.rises_at.type_inv.1 in
+    let ups : length c.rises_at.result.now * 4 < 2 ^ 63 = c.rises_at.type_inv.1 in
     omega (arith, c.entries_at.ensures.few, ups)
 
 pub push_stand-requires-clause-first : goal.push_stand-requires-clause-first

@@ -35,7 +35,7 @@ fall_way-requires-clause-few c =
     let next = next_appended _ _ _ _ _ _ _ c.loop-number.invariant c.loop-number-test.true _ c.index-chained.ensures in
     let first = rw c.split-v.ensures at c.entries_at-first.ensures.first in
     let count = rw c.split-v.ensures at c.entries_at-first.ensures.count in
-    let ups : length c.rises_at.result.now * 8 < 2 ^ 63 = c.rises_at.type_inv.1 in
+    let ups : length c.rises_at.result.now * 4 < 2 ^ 63 = c.rises_at.type_inv.1 in
     omega (arith, next.within.high, first, count, c.entries_at-first.ensures.few, ups)
 
 pub loop-number-smaller : goal.loop-number-smaller

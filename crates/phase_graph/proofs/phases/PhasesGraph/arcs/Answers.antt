@@ -9,7 +9,7 @@ overflow_add-result-2 c =
     let self = c.args.self.now in
     let few = few_others self.plain.network.now self.plain.kept self.plain.timetable.now (subst IsTable c.timetable.ensures.same c.timetable.ensures.keeps) (node_of c.args.p) (is_down c.args.p) in
     let others = rw c.split-v.ensures at c.others.ensures in
-    let ups : length c.rises_at.result.now * 8 < 2 ^ 63 = c.rises_at.type_inv.1 in
+    let ups : length c.rises_at.result.now * 4 < 2 ^ 63 = c.rises_at.type_inv.1 in
     omega (arith, others, few, ups, c.entries_at.ensures.few)
 
 pub returns : goal.returns
