@@ -9,7 +9,7 @@ ghost use Rattle.hierarchy.specs.Lookups.{IsEntryFor, HasNoEntry, IsWitnessFor, 
 use crate::entry::Entry;
 use crate::falls::Fall;
 use crate::lists::Lists;
-use crate::tables::{NodeRow, Tables};
+use crate::tables::Tables;
 use crate::witnesses::{Witness, Witnesses};
 use search_laws::Leg;
 use std::alloc::{AllocError, Global};
@@ -18,16 +18,8 @@ use std::marker::Model;
 /// An order of contracted nodes, entries and witnesses. A contract sees these lists.
 #[derive(Drop)]
 pub struct Hierarchy {
-    order: Vec<u32>,
-    entries: Vec<Entry>,
-    witnesses: Witnesses,
-    nodes: u32,
-    heights: Vec<u32>,
-    rows: Vec<NodeRow>,
-    rises: Vec<u32>,
-    legs: Vec<Leg>,
-    fall_offsets: Vec<u32>,
-    falls: Vec<Fall>,
+    lists: Lists,
+    tables: Tables,
 }
 
 impl Model for Hierarchy {
@@ -35,9 +27,9 @@ impl Model for Hierarchy {
 
     ghost Value = { HierarchyLists };
 
-    ghost use Rattle.hierarchy.specs.inside.Fields.{lists_of, IsKept};
+    ghost use Rattle.hierarchy.specs.inside.Fields.{IsKept};
 
-    ghost view = { lists_of };
+    ghost view = { λ h. h.lists };
 
     ghost invariant = { IsKept };
 }
@@ -49,19 +41,10 @@ impl Lists {
         ensures { IfOk result (λ h. h ≡ self) }
     {
         self.known();
-        let (order, entries, witnesses) = self.into_parts();
-        let tables = Tables::new(alloc, &order, &entries)?;
+        let tables = Tables::new(alloc, self.order(), self.entries())?;
         Ok(Hierarchy {
-            order,
-            entries,
-            witnesses,
-            nodes: tables.nodes,
-            heights: tables.heights,
-            rows: tables.rows,
-            rises: tables.rises,
-            legs: tables.legs,
-            fall_offsets: tables.fall_offsets,
-            falls: tables.falls,
+            lists: self,
+            tables,
         })
     }
 }
@@ -71,38 +54,38 @@ impl Hierarchy {
     pub fn known(&self)
         ensures { IsHierarchy self.now }
     {
-        let _ = &self.order;
+        self.lists.known();
     }
 
     /// The contracted nodes, lowest first.
     pub fn order(&self) -> &[u32]
         ensures { result.now ≡ self.now.order }
     {
-        &self.order
+        self.lists.order()
     }
 
     /// The entries, ascending by (from, to).
     pub fn entries(&self) -> &[Entry]
         ensures { result.now ≡ self.now.entries }
     {
-        &self.entries
+        self.lists.entries()
     }
 
     /// The witnesses, ascending by (below, first node, last node).
     pub fn witnesses(&self) -> &Witnesses
         ensures { result.now ≡ self.now.witnesses }
     {
-        &self.witnesses
+        self.lists.witnesses()
     }
 
     /// The first place of `v` in the order, or the order's length where it is not in it.
     pub fn height(&self, v: u32) -> u64
         ensures { result ≡ height_in self.now.order v }
     {
-        if v < self.nodes {
-            self.heights[v as usize] as u64
+        if v < self.tables.nodes {
+            self.tables.heights[v as usize] as u64
         } else {
-            self.order.len() as u64
+            self.order().len() as u64
         }
     }
 
@@ -141,13 +124,13 @@ impl Hierarchy {
         ensures range { result ≡ range_of from_of self.now.entries u }
         ensures are { AreFrom self.now.entries u result.0 result.1 }
     {
-        if u < self.nodes {
+        if u < self.tables.nodes {
             (
-                self.rows[u as usize].entries as u64,
-                self.rows[u as usize + 1].entries as u64,
+                self.tables.rows[u as usize].entries as u64,
+                self.tables.rows[u as usize + 1].entries as u64,
             )
         } else {
-            let count = self.entries.len() as u64;
+            let count = self.entries().len() as u64;
             (count, count)
         }
     }
@@ -158,10 +141,10 @@ impl Hierarchy {
     pub fn falls_into(&self, x: u32) -> &[Fall]
         ensures { result.now ≡ falls_into self.now x }
     {
-        if x < self.nodes {
-            let first = self.fall_offsets[x as usize] as usize;
-            let end = self.fall_offsets[x as usize + 1] as usize;
-            &self.falls[first..end]
+        if x < self.tables.nodes {
+            let first = self.tables.fall_offsets[x as usize] as usize;
+            let end = self.tables.fall_offsets[x as usize + 1] as usize;
+            &self.tables.falls[first..end]
         } else {
             &[]
         }
@@ -174,13 +157,13 @@ impl Hierarchy {
         ensures range { result ≡ range_of rise_from (all_rises self.now) u }
         ensures are { IsRiseRange self.now u (all_rises self.now) result.0 result.1 }
     {
-        if u < self.nodes {
+        if u < self.tables.nodes {
             (
-                self.rows[u as usize].rises as usize,
-                self.rows[u as usize + 1].rises as usize,
+                self.tables.rows[u as usize].rises as usize,
+                self.tables.rows[u as usize + 1].rises as usize,
             )
         } else {
-            let count = self.rises.len();
+            let count = self.tables.rises.len();
             (count, count)
         }
     }
@@ -192,7 +175,7 @@ impl Hierarchy {
         ensures are { ArePlaces (RisesFrom self.now.order u) self.now.entries result.now }
     {
         let (first, end) = self.rise_range(u);
-        &self.rises[first..end]
+        &self.tables.rises[first..end]
     }
 
     /// Whether each entry that leads to a node above its own, or from one core node to another, takes less than 2^32 ms.
@@ -200,7 +183,7 @@ impl Hierarchy {
     pub fn has_legs(&self) -> bool
         ensures { result ≡ has_legs self.now }
     {
-        self.legs.len() == self.rises.len()
+        self.tables.legs.len() == self.tables.rises.len()
     }
 
     /// Where the entries at [`rise_places_from`](Self::rise_places_from) lead, and how long that takes. Nodes are numbered as
@@ -211,7 +194,7 @@ impl Hierarchy {
     {
         if self.has_legs() {
             let (first, end) = self.rise_range(u);
-            &self.legs[first..end]
+            &self.tables.legs[first..end]
         } else {
             &[]
         }

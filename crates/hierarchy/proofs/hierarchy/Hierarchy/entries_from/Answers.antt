@@ -1,4 +1,4 @@
-use Rattle.std.proofs.Common.{◌≡◌, ℕ, ◌+◌, ◌<◌, ◌∙◌, length, sym, ap, subst, arith, rules}
+use Rattle.std.proofs.Common.{◌≡◌, ℕ, ◌+◌, ◌<◌, ◌∙◌, length, sym, ap, subst, arith}
 use Rattle.std.specs.Prelude.{All}
 use Rattle.std.proofs.lemmas.List.Elements.{All-weaker}
 use Rattle.hierarchy.specs.declared.entry.Entry.{Entry}
@@ -16,30 +16,28 @@ below entries nodes all = All-weaker (AreEndsBelow nodes) (λ (e : Entry). e.fro
 pub returns-then-u-self-clause-range : goal.returns-then-u-self-clause-range
 returns-then-u-self-clause-range c =
     subst (λ (h : HierarchyLists). (c.index.result.now.entries, c.index-then-u-self.result.now.entries) ≡ range_of from_of h.entries c.args.u) c.self.view_is
-    (range_found c.self.inside.order.items c.self.inside.entries.items c.self.inside.nodes c.self.inside.rows.items c.self.invariant.rows c.args.u c.if-u-self.true c.index.result.now c.index-then-u-self.result.now c.index.ensures c.index-then-u-self.ensures).1
+    (range_found c.self.inside.lists.order c.self.inside.lists.entries c.self.inside.tables.nodes c.self.inside.tables.rows.items c.self.invariant.tables.rows c.args.u c.if-u-self.true c.index.result.now c.index-then-u-self.result.now c.index.ensures c.index-then-u-self.ensures).1
 
 pub returns-then-u-self-clause-are : goal.returns-then-u-self-clause-are
 returns-then-u-self-clause-are c =
-    let entries = c.self.inside.entries.items in
-    let range = (range_found c.self.inside.order.items entries c.self.inside.nodes c.self.inside.rows.items c.self.invariant.rows c.args.u c.if-u-self.true c.index.result.now c.index-then-u-self.result.now c.index.ensures c.index-then-u-self.ensures).1 in
+    let entries = c.self.inside.lists.entries in
+    let range = (range_found c.self.inside.lists.order entries c.self.inside.tables.nodes c.self.inside.tables.rows.items c.self.invariant.tables.rows c.args.u c.if-u-self.true c.index.result.now c.index-then-u-self.result.now c.index.ensures c.index-then-u-self.ensures).1 in
     subst (λ (h : HierarchyLists). AreFrom h.entries c.args.u c.index.result.now.entries c.index-then-u-self.result.now.entries) c.self.view_is
     (subst (λ (r : ℕ × ℕ). AreFrom entries c.args.u r.0 r.1) (sym range) (are_from entries (from_rises entries c.self.invariant.rules.entries_ascend) c.args.u))
 
 pub returns-else-u-self-clause-range : goal.returns-else-u-self-clause-range
 returns-else-u-self-clause-range c =
-    let entries = c.self.inside.entries.items in
-    let long : c.len-count.result ≡ length entries = search rules in
-    let lower = below entries c.self.inside.nodes c.self.invariant.below.entries in
+    let entries = c.self.inside.lists.entries in
+    let lower = below entries c.self.inside.tables.nodes c.self.invariant.tables.entries_below in
     let low : count_below from_of entries c.args.u ≡ length entries =
-    count_all from_of entries c.args.u (All-weaker (λ (e : Entry). e.from < c.self.inside.nodes) (λ (e : Entry). e.from < c.args.u) (λ e h. omega (arith, c.if-u-self.false)) entries lower) in
+    count_all from_of entries c.args.u (All-weaker (λ (e : Entry). e.from < c.self.inside.tables.nodes) (λ (e : Entry). e.from < c.args.u) (λ e h. omega (arith, c.if-u-self.false)) entries lower) in
     let high : count_below from_of entries (c.args.u + 1) ≡ length entries =
-    count_all from_of entries (c.args.u + 1) (All-weaker (λ (e : Entry). e.from < c.self.inside.nodes) (λ (e : Entry). e.from < c.args.u + 1) (λ e h. omega (arith, c.if-u-self.false)) entries lower) in
-    let same = ap (λ n. (n, c.len-count.result)) (long ∙ sym low) ∙ ap (λ n. (count_below from_of entries c.args.u, n)) (long ∙ sym high) in
-    subst (λ (h : HierarchyLists). (c.len-count.result, c.len-count.result) ≡ range_of from_of h.entries c.args.u) c.self.view_is same
+    count_all from_of entries (c.args.u + 1) (All-weaker (λ (e : Entry). e.from < c.self.inside.tables.nodes) (λ (e : Entry). e.from < c.args.u + 1) (λ e h. omega (arith, c.if-u-self.false)) entries lower) in
+    let same = ap (λ n. (n, length entries)) (sym low) ∙ ap (λ n. (count_below from_of entries c.args.u, n)) (sym high) in
+    rw c.entries.ensures (subst (λ (h : HierarchyLists). (length h.entries, length h.entries) ≡ range_of from_of h.entries c.args.u) c.self.view_is same)
 
 pub returns-else-u-self-clause-are : goal.returns-else-u-self-clause-are
 returns-else-u-self-clause-are c =
-    let entries = c.self.inside.entries.items in
-    let long : c.len-count.result ≡ length entries = search rules in
-    subst (λ (h : HierarchyLists). AreFrom h.entries c.args.u c.len-count.result c.len-count.result) c.self.view_is
-    (rw long (none_from entries c.args.u c.self.inside.nodes c.if-u-self.false (below entries c.self.inside.nodes c.self.invariant.below.entries)))
+    let entries = c.self.inside.lists.entries in
+    rw c.entries.ensures (subst (λ (h : HierarchyLists). AreFrom h.entries c.args.u (length h.entries) (length h.entries)) c.self.view_is
+    (none_from entries c.args.u c.self.inside.tables.nodes c.if-u-self.false (below entries c.self.inside.tables.nodes c.self.invariant.tables.entries_below)))

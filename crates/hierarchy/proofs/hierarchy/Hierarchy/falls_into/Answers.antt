@@ -7,4 +7,4 @@ use Rattle.hierarchy.proofs.hierarchy.Hierarchy.falls_into.Goals as goal
 pub returns-else-x-self : goal.returns-else-x-self
 returns-else-x-self c =
     subst (λ (h : HierarchyLists). [] ≡ falls_into h c.args.x) c.self.view_is
-    (sym (none_past c.self.inside.order.items c.self.inside.entries.items c.self.inside.nodes c.args.x c.self.invariant.below.entries c.if-x-self.false))
+    (sym (none_past c.self.inside.lists.order c.self.inside.lists.entries c.self.inside.tables.nodes c.args.x c.self.invariant.tables.entries_below c.if-x-self.false))

@@ -2,7 +2,6 @@ use Rattle.std.proofs.Common.{◌≡◌, ◌∙◌, ◌-◌, cond, [], List, ℕ
 use Rattle.std.specs.Prelude.{slice_range}
 use Rattle.std.proofs.lemmas.List.{drop-map, take-map}
 use Rattle.search_laws.specs.declared.graph.Leg.{Leg}
-use Rattle.hierarchy.specs.inside.Fields.{lists_of}
 use Rattle.hierarchy.specs.Lists.{HierarchyLists}
 use Rattle.hierarchy.specs.Lookups.{range_of}
 use Rattle.hierarchy.specs.Rises.{all_rises, has_legs, leg_of, legs_from, rise_from, rises_of}
@@ -10,11 +9,11 @@ use Rattle.hierarchy.proofs.hierarchy.Hierarchy.legs_from.Goals as goal
 
 pub returns-then-has_legs : goal.returns-then-has_legs
 returns-then-has_legs c =
-    let h = lists_of c.self.inside in
+    let h = c.self.inside.lists in
     let range = c.rise_range-first.result in
     let same : range ≡ range_of rise_from (all_rises h) c.args.u = subst (λ (l : HierarchyLists). range ≡ range_of rise_from (all_rises l) c.args.u) (sym c.self.view_is) c.rise_range-first.ensures.range in
     let short : has_legs h ≡ true = subst (λ (l : HierarchyLists). has_legs l ≡ true) (sym c.self.view_is) (sym c.has_legs.ensures ∙ c.if-has_legs.true) in
-    let legs : c.deref.result.now ≡ map leg_of (all_rises h) = c.deref.ensures.value ∙ c.self.invariant.legs ∙ ap (λ b. cond b (map leg_of (all_rises h)) []) short in
+    let legs : c.deref.result.now ≡ map leg_of (all_rises h) = c.deref.ensures.value ∙ c.self.invariant.tables.legs ∙ ap (λ b. cond b (map leg_of (all_rises h)) []) short in
     let low = (range_of rise_from (all_rises h) c.args.u).0 in
     let high = (range_of rise_from (all_rises h) c.args.u).1 in
     subst (λ (l : HierarchyLists). slice_range c.deref.result.now range.0 range.1 ≡ legs_from l c.args.u) c.self.view_is
