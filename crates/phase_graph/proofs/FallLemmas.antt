@@ -19,6 +19,7 @@ use Rattle.hierarchy.specs.Rules.{IsHierarchy, entry_cmp}
 use Rattle.hierarchy.proofs.FallLemmas.{into_node}
 use Rattle.hierarchy.proofs.LookupLemmas.{entry_total, from_rises}
 use Rattle.hierarchy.proofs.OffsetLemmas.{are_from}
+use Rattle.hierarchy.proofs.PlaceLemmas.{range_ascends, range_within}
 use Rattle.phase_graph.specs.declared.falls.ChainedFall.{ChainedFall}
 use Rattle.phase_graph.specs.declared.falls.Fall.{Fall}
 use Rattle.phase_graph.specs.Marks.{has_mark, is_fall}
@@ -226,14 +227,6 @@ filter_has p xs v (k, lt, is) pass =
 
 range_has : (a n k : ℕ) → a ≤ k → k < a + n → Contains (range_with_len a n) k
 range_has a n k low high = (k - a, omega (arith, length-range_with_len a n), get_or-range_with_len a n (k - a) k (omega arith) ∙ omega arith)
-
-range_within : (a n : ℕ) → All (λ k. (a ≤ k) × (k < a + n)) (range_with_len a n)
-range_within a n i d lt = let inside : i < n = omega (arith, length-range_with_len a n) in rw (get_or-range_with_len a n i d inside) (omega arith, omega arith)
-
-range_ascends : (a n : ℕ) → Ascends (range_with_len a n)
-range_ascends a n i j d before lt =
-    let last : j < n = omega (arith, length-range_with_len a n) in
-    rw (get_or-range_with_len a n i d (omega arith), get_or-range_with_len a n j d last) (omega arith)
 
 module _ (h : HierarchyLists) (rules : IsHierarchy h) (marks : List Bool) (places : List ℕ) (falls : AreFallsByEnd h marks places) where
   -- those that leave a node are the falls among its entries
