@@ -19,7 +19,7 @@ use automaton::{Collapsed, Positions};
 use hierarchy::Hierarchy;
 use journey::{Query, QueryFault, copies, read_query};
 use mode_network::{Journey, Network};
-use phase_graph::{GraphInUse, ends_in, starts_in};
+use phase_graph::{GraphInUse, MarkTable, ends_in, starts_in};
 use plan_base::Time;
 use product_search::{Label, LabelClaim, LabelVerdict, check_labels};
 use search_laws::Labels;
@@ -115,7 +115,8 @@ fn verify_claim(
     let automaton = Collapsed::new(Positions::of(alloc, &query.expr)?);
     let origins = copies(alloc, network, &query.from)?;
     let targets = copies(alloc, network, &query.to)?;
-    let graph = GraphInUse::new(alloc, network, hierarchy, &targets)?;
+    let mut marks = MarkTable::new(alloc);
+    let graph = GraphInUse::new(alloc, &mut marks, network, hierarchy, &targets)?;
     let starts = starts_in(alloc, hierarchy, &origins)?;
     let ends = ends_in(alloc, hierarchy, &targets)?;
     let check = JourneyCheck {

@@ -24,29 +24,9 @@ pub enum GraphInUse<'a> {
 impl<'a> GraphInUse<'a> {
     ghost use Rattle.phase_graph.specs.InUseGraph.{meaning_in_use, network_in, hierarchy_in};
 
-    /// The graph that queries to these targets are answered over: the phase graph of the hierarchy, if one is given. Fails
-    /// where memory runs out.
+    /// The graph that queries to these targets are answered over: the phase graph of the hierarchy, if one is given. Its
+    /// marks are in the numbers of the table, which makes others until they are given back. Fails where memory runs out.
     pub fn new(
-        alloc: Global,
-        network: &'a Network,
-        hierarchy: Option<&'a Hierarchy>,
-        targets: &[u32],
-    ) -> Result<GraphInUse<'a>, AllocError>
-        requires { IfSome hierarchy (λ h. IsSound network.now h.now) }
-        ensures is { IfOk result (λ g. IsInUse network.now (option_map (λ h. h.now) hierarchy.entry)
-            targets.now (meaning_in_use g)) }
-        ensures sound { IfOk result (λ _. IsSoundIfGiven network.now
-            (option_map (λ h. h.now) hierarchy.entry)) }
-        ensures network { IfOk result (λ g. network_in g ≡ network.now) }
-        ensures hierarchy { IfOk result (λ g. hierarchy_in g ≡ option_map (λ h. h.now) hierarchy.entry) }
-    {
-        let mut table = MarkTable::new(alloc);
-        GraphInUse::new_in(alloc, &mut table, network, hierarchy, targets)
-    }
-
-    /// The same as [`new`](Self::new), with marks in the numbers of a table, which it makes anew until they are given
-    /// back.
-    pub fn new_in(
         alloc: Global,
         table: &mut MarkTable,
         network: &'a Network,

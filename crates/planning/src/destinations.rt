@@ -13,7 +13,7 @@ use hierarchy::Hierarchy;
 use journey::{Query, copies};
 use kept_automata::{Forward, Room};
 use mode_network::Network;
-use phase_graph::{GraphInUse, ends_in, starts_in};
+use phase_graph::{GraphInUse, MarkTable, ends_in, starts_in};
 use plan_base::Time;
 use product_search::{TargetTable, search_arrivals};
 use std::alloc::{AllocError, Global};
@@ -63,7 +63,8 @@ impl<'a> Destinations<'a> {
             numbers,
             parts,
         } = listed(alloc, network, hierarchy, queries)?;
-        let graph = GraphInUse::new(alloc, network, hierarchy, &targets)?;
+        let mut marks = MarkTable::new(alloc);
+        let graph = GraphInUse::new(alloc, &mut marks, network, hierarchy, &targets)?;
         let table = TargetTable::new(alloc, numbers)?;
         Ok(Destinations {
             network,

@@ -324,7 +324,7 @@ fn prepared<'a>(
     let expressed = room.kept.take(alloc, Forward, query)?;
     let origins = copies(alloc, network, &query.from)?;
     let targets = copies(alloc, network, &query.to)?;
-    let graph = GraphInUse::new_in(alloc, &mut room.marks, network, hierarchy, &targets)?;
+    let graph = GraphInUse::new(alloc, &mut room.marks, network, hierarchy, &targets)?;
     let starts = starts_in(alloc, hierarchy, &origins)?;
     let ends = ends_in(alloc, hierarchy, &targets)?;
     Ok(Searched {

@@ -4,7 +4,7 @@ use Rattle.mode_network.specs.Timetables.{IsTimetableOf}
 use Rattle.hierarchy.specs.Lists.{HierarchyLists}
 use Rattle.phase_graph.specs.Marks.{marks_in}
 use Rattle.phase_graph.specs.PhaseArcs.{phase_meaning}
-use Rattle.phase_graph.proofs.in_use.GraphInUse.new_in.Goals as goal
+use Rattle.phase_graph.proofs.in_use.GraphInUse.new.Goals as goal
 
 pub returns-in_ok-phases-in-Some-clause-is : goal.returns-in_ok-phases-in-Some-clause-is
 returns-in_ok-phases-in-Some-clause-is c =
