@@ -1,8 +1,11 @@
--- A search that has more labels than a limit has so over each graph in use.
+-- The labels of a search, or that it has more than a limit, over each graph in use.
 use Rattle.std.proofs.Common.{ℕ, ◌≤◌, List, Option, None, Some, inl, inr, refl, arith}
 use Rattle.std.specs.Prelude.{IfSome}
 use Rattle.search_laws.specs.GraphLaws.{GraphMeaning}
 use Rattle.search_laws.specs.LabelLaws.{LabelsMeaning}
+use Rattle.product_search.specs.declared.label.Label.{Label}
+use Rattle.product_search.specs.Answer.{IsArrival}
+use Rattle.product_search.specs.Listed.{AreLeastLabels, HasLeastLabels}
 use Rattle.product_search.specs.Limits.{HasMoreLabels}
 use Rattle.automaton.specs.Collapsed.{collapsed}
 use Rattle.hierarchy.specs.Lists.{HierarchyLists}
@@ -14,25 +17,48 @@ use Rattle.journey.specs.declared.query.Query.{Query}
 use Rattle.journey.specs.declared.fault.QueryFault.{QueryFault}
 use Rattle.journey.specs.Queries.{IsRefused}
 use Rattle.journey.specs.Best.{Asked, asked_by}
+use Rattle.planning.specs.Plans.{AreTheLabels}
 use Rattle.planning.specs.Settled.{HasLabelCount, IsLabelCount, told_count}
 use Rattle.planning.specs.Limits.{SearchHasMore, SearchHasAtMost, IsLineWithin, IsWithinLabels}
 use Rattle.planning.specs.inside.Searched.{IsSearchSpace}
-use Rattle.planning.proofs.AnyGraph.{more_over}
+use Rattle.planning.proofs.AnyGraph.{labels_over, more_over}
 
-pub has_more : (n : NetworkLists) → IsNetwork n → (h : Option HierarchyLists) (q : Query) (g : GraphMeaning) (l : LabelsMeaning) (starts ends : List ℕ)
-    → (is : IsSearchSpace n h q g l starts ends) → (most : ℕ) → HasMoreLabels g (collapsed l) starts ends q.depart None most → SearchHasMore n h (asked_by q) most
-has_more n network h q g l starts ends is most more = record {
-  automaton = l;
-  positions = is.positions;
-  origins = is.origins;
-  targets = is.targets;
-  origin = is.origin;
-  destination = is.destination;
-  graph = g;
-  in_use = is.in_use;
-  over = λ other in_use. more_over g other (graphs_in_use_are_alike n network h is.sound is.targets g other is.in_use in_use)
-      l (starts_in h is.origins) (ends_in h is.targets) q.depart most (rw (is.starts_are, is.ends_are) at more);
-}
+module _ (n : NetworkLists) (network : IsNetwork n) (h : Option HierarchyLists) (q : Query) (g : GraphMeaning) (l : LabelsMeaning) (starts ends : List ℕ)
+    (is : IsSearchSpace n h q g l starts ends) where
+  pub has_more : (most : ℕ) → HasMoreLabels g (collapsed l) starts ends q.depart None most → SearchHasMore n h (asked_by q) most
+  has_more most more = record {
+    automaton = l;
+    positions = is.positions;
+    origins = is.origins;
+    targets = is.targets;
+    origin = is.origin;
+    destination = is.destination;
+    graph = g;
+    in_use = is.in_use;
+    over = λ other in_use. more_over g other (graphs_in_use_are_alike n network h is.sound is.targets g other is.in_use in_use)
+        l (starts_in h is.origins) (ends_in h is.targets) q.depart most (rw (is.starts_are, is.ends_are) at more);
+  }
+
+  pub has_labels : (arrival : Option ℕ) (labels : List Label) → IsArrival g (collapsed l) starts ends q.depart None arrival
+      → AreLeastLabels g (collapsed l) starts q.depart None arrival labels → AreTheLabels n h (asked_by q) labels
+  has_labels arrival labels first least = record {
+    automaton = l;
+    positions = is.positions;
+    origins = is.origins;
+    targets = is.targets;
+    origin = is.origin;
+    destination = is.destination;
+    graph = g;
+    in_use = is.in_use;
+    arrival = arrival;
+    over = λ other in_use. labels_over g other (graphs_in_use_are_alike n network h is.sound is.targets g other is.in_use in_use)
+        l (starts_in h is.origins) (ends_in h is.targets) q.depart arrival labels
+        (record { first = rw (is.starts_are, is.ends_are) at first; least = rw is.starts_are at least });
+  }
+
+  pub has_count : (arrival : Option ℕ) (count : ℕ) → IsArrival g (collapsed l) starts ends q.depart None arrival
+      → HasLeastLabels g (collapsed l) starts q.depart None arrival count → HasLabelCount n h (asked_by q) count
+  has_count arrival count first (labels, least, is) = (labels, has_labels arrival labels first least, is)
 
 -- ---- how many labels a search has
 

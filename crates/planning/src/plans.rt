@@ -9,7 +9,7 @@ ghost use Rattle.phase_graph.specs.InUseGraph.{meaning_in_use, network_in, hiera
 ghost use Rattle.planning.specs.Arrivals.{IsBestArrival};
 ghost use Rattle.planning.specs.Plans.{IsRead, IsPlan, AreTheLabels, IsCertifiable, both, route_of};
 ghost use Rattle.planning.specs.inside.Searched.{IsSearchSpace, IsWalkOf, IsJourneyUnder};
-ghost use Rattle.planning.specs.Settled.{HasLabelCount, IsLabelCount, told_count};
+ghost use Rattle.planning.specs.Settled.{IsLabelCount, told_count};
 ghost use Rattle.planning.specs.Limits.{SearchHasAtMost, SearchHasMore};
 ghost use Rattle.product_search.specs.Limits.{IfEnded, IfStopped};
 
@@ -108,7 +108,6 @@ pub fn find_best(
 
 /// The same as [`find_best`], but stopped where the search has more labels than the limit, if there is one, and there
 /// alone.
-#[tactic(auto, using(crate::proofs::LimitLemmas::told, crate::proofs::LimitLemmas::at_most))]
 pub fn find_best_within(
     alloc: Global,
     room: &mut Room,
@@ -134,13 +133,7 @@ pub fn find_best_within(
             settled: 0,
         }));
     }
-    match find_counted(alloc, room, network, hierarchy, query, limit)? {
-        Limited::Ended(BestPlan { journey, settled }) => Ok(Limited::Ended(BestPlan {
-            journey,
-            settled: told_count(hierarchy, settled),
-        })),
-        Limited::Stopped(most) => Ok(Limited::Stopped(most)),
-    }
+    find_counted(alloc, room, network, hierarchy, query, limit)
 }
 
 /// The count of labels that is told: that over a hierarchy.
@@ -193,8 +186,8 @@ fn find_plain(
     Ok(route)
 }
 
-/// A best journey for a query over the graph in use, and how many labels the search had. It is stopped where there are
-/// more than the limit, if there is one. The search uses the room.
+/// A best journey for a query over the graph in use, and the count of labels that is told. The search counts them, and is
+/// stopped where there are more than the limit, if there is one. It uses the room.
 fn find_counted(
     alloc: Global,
     room: &mut Room,
@@ -206,9 +199,10 @@ fn find_counted(
     requires sound { IfSome hierarchy (λ h. IsSound network.now h.now) }
     requires read { IsRead network.now query.now }
     ensures journey { IfEnded result (λ best. IsPlan network.now (asked_by query.now) best.journey) }
-    ensures labels { IfEnded result (λ best. HasLabelCount network.now
+    ensures settled { IfEnded result (λ best. IsLabelCount network.now
         (option_map (λ h. h.now) hierarchy.entry) (asked_by query.now) best.settled) }
-    ensures few { IfEnded result (λ best. IfSome limit (λ most. best.settled ≤ most)) }
+    ensures few { IfEnded result (λ best. IfSome limit (SearchHasAtMost network.now
+        (option_map (λ h. h.now) hierarchy.entry) (asked_by query.now))) }
     ensures stopped { IfStopped result (λ most. (limit ≡ Some most)
         × SearchHasMore network.now (option_map (λ h. h.now) hierarchy.entry) (asked_by query.now) most) }
 {
@@ -235,7 +229,7 @@ fn find_counted(
     searched.give_back(room)?;
     Ok(Limited::Ended(BestPlan {
         journey,
-        settled: labels,
+        settled: told_count(hierarchy, labels),
     }))
 }
 

@@ -8,13 +8,11 @@ use Rattle.automaton.specs.Meanings.{position_meaning}
 use Rattle.hierarchy.specs.declared.hierarchy.Hierarchy.{Hierarchy}
 use Rattle.phase_graph.specs.InUse.{starts_in, ends_in}
 use Rattle.phase_graph.specs.InUseGraph.{meaning_in_use}
-use Rattle.phase_graph.proofs.InUseLemmas.{graphs_in_use_are_alike}
 use Rattle.mode_network.specs.Journeys.{Route}
 use Rattle.journey.specs.Best.{asked_by}
 use Rattle.planning.specs.Plans.{IsPlan, IsCertifiable, route_of}
 use Rattle.planning.proofs.PlanLemmas.{walk_is_of, found_for}
-use Rattle.planning.proofs.AnyGraph.{labels_over}
-use Rattle.planning.proofs.LimitLemmas.{has_more}
+use Rattle.planning.proofs.LimitLemmas.{has_labels, has_more}
 use Rattle.planning.proofs.plans.find_plan_within.Goals as goal
 
 pub unpacked-requires : goal.unpacked-requires
@@ -36,8 +34,7 @@ returns c =
     let listed = c.in-Ended.found.labels.items in
     let walk = subst (λ (asked : QuestionMeaning). FindsWalk asked c.in-Ended.found.arrival c.in-Ended.found.walk) c.question.ensures (rw c.in-Ended.is at c.in_ok-found.ensures.walk) in
     let arrival = subst (λ (asked : QuestionMeaning). FindsArrival asked c.in-Ended.found.arrival) c.question.ensures (rw c.in-Ended.is at c.in_ok-found.ensures.arrival) in
-    let least = rw is.starts_are at (subst (λ (asked : QuestionMeaning). ListsLabels asked c.in-Ended.found.arrival c.in-Ended.found.labels.items) c.question.ensures (rw c.in-Ended.is at c.in_ok-found.ensures.labels)) in
-    let first = rw (is.starts_are, is.ends_are) at arrival in
+    let least = subst (λ (asked : QuestionMeaning). ListsLabels asked c.in-Ended.found.arrival c.in-Ended.found.labels.items) c.question.ensures (rw c.in-Ended.is at c.in_ok-found.ensures.labels) in
     let closed = rw (is.starts_are, is.ends_are) at (subst (λ (asked : QuestionMeaning). ListsClosed asked c.in-Ended.found.arrival c.in-Ended.found.labels.items) c.question.ensures ((rw c.in-Ended.is at c.in_ok-found.ensures.closed) (ap (λ (asked : QuestionMeaning). asked.bound) c.question.ensures))) in
     let times : IsByLastTime q.depart c.in-Ended.found =
     subst (λ (asked : QuestionMeaning). IsByLastTime asked.dep c.in-Ended.found) c.question.ensures (rw c.in-Ended.is at c.in_ok-found.ensures.times) in
@@ -46,19 +43,7 @@ returns c =
     let best = sym c.with_arrival-best.ensures in
     record {
       journey = subst (λ (b : Option (ℕ × Route)). IsPlan n (asked_by q) (route_of b)) best found.plan;
-      labels = record {
-        automaton = l;
-        positions = is.positions;
-        origins = is.origins;
-        targets = is.targets;
-        origin = is.origin;
-        destination = is.destination;
-        graph = g;
-        in_use = is.in_use;
-        arrival = c.in-Ended.found.arrival;
-        over = λ other in_use. labels_over g other (graphs_in_use_are_alike n c.known.ensures h is.sound is.targets g other is.in_use in_use)
-            l (starts_in h is.origins) (ends_in h is.targets) q.depart c.in-Ended.found.arrival listed (record { first = first; least = least });
-      };
+      labels = has_labels n c.known.ensures h q g l s.starts.items s.ends.items is c.in-Ended.found.arrival listed arrival least;
       certifiable = subst (λ (b : Option (ℕ × Route)). IsCertifiable n h q b listed) best (record {
         valid = record {
           setting = record {
