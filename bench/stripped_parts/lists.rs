@@ -7,13 +7,22 @@ use crate::shim::{Global, Vec};
 pub struct Lists {
     order: Vec<u32>,
     entries: Vec<Entry>,
+    witnesses: Witnesses,
 }
 
 impl Lists {
     pub fn known(&self) {}
 
-    pub fn into_parts(self) -> (Vec<u32>, Vec<Entry>, Witnesses) {
-        (self.order, self.entries, Witnesses)
+    pub fn order(&self) -> &[u32] {
+        &self.order
+    }
+
+    pub fn entries(&self) -> &[Entry] {
+        &self.entries
+    }
+
+    pub fn witnesses(&self) -> &Witnesses {
+        &self.witnesses
     }
 }
 
@@ -27,6 +36,7 @@ pub fn read(data: &[u8]) -> Hierarchy {
         let via = Some(short(at + 16)).filter(|middle| *middle != u32::MAX);
         Entry { from: short(at), to: short(at + 4), weight: long(at + 8), via }
     };
-    let lists = Lists { order: Vec((0..order).map(|k| short(32 + 4 * k)).collect()), entries: Vec((0..entries).map(entry).collect()) };
+    let order = Vec((0..order).map(|k| short(32 + 4 * k)).collect());
+    let lists = Lists { order, entries: Vec((0..entries).map(entry).collect()), witnesses: Witnesses };
     lists.into_hierarchy(Global).unwrap_or_else(|_| panic!("memory"))
 }

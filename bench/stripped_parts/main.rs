@@ -1,6 +1,8 @@
 //! Queries over a region, answered in turn by the plain planner of baseline.rs and by the search of product_search without its contracts:
-//! over the network, or, where a hierarchy is named, over its phase graph, with the journey unpacked. Arrivals are compared.
+//! over the network, or, where a hierarchy is named, over its phase graph, with the journey unpacked; and by a model of another search. Arrivals
+//! are compared.
 mod baseline;
+mod correcting;
 mod hierarchy;
 mod mode_network;
 mod phase_graph;
@@ -11,6 +13,7 @@ mod search_laws;
 mod shim;
 mod unpack;
 
+use correcting::Board;
 use baseline::{parse, read_asked, search, Automaton, Region};
 use hierarchy::Hierarchy;
 use mode_network::Network;
@@ -20,7 +23,7 @@ use product_search::searching::{search_best_with, search_counted_within};
 use product_search::{Machine, Question, Workspace};
 use rules::Rules;
 use search_laws::Time;
-use shim::Global;
+use shim::{AllocError, Global};
 use std::time::Instant;
 
 struct Asked {
@@ -34,6 +37,7 @@ struct Asked {
 struct Room {
     workspace: Workspace,
     marks: MarkTable,
+    board: Board,
 }
 
 fn read(region: &Region, line: &str) -> Asked {
@@ -58,16 +62,43 @@ fn by_baseline(network: &Network, asked: &Asked) -> Option<u64> {
     arrival
 }
 
+/// What a query is answered over.
+struct Prepared<'a> {
+    graph: GraphInUse<'a>,
+    machine: Machine<Rules>,
+    starts: shim::Vec<u32>,
+    ends: shim::Vec<u32>,
+}
+
+impl<'a> Prepared<'a> {
+    fn of(network: &'a Network, hierarchy: Option<&'a Hierarchy>, room: &mut Room, asked: &Asked) -> Result<Self, AllocError> {
+        let origins: Vec<u32> = (asked.from.0..asked.from.1).collect();
+        let targets: Vec<u32> = (asked.to.0..asked.to.1).collect();
+        Ok(Prepared {
+            machine: Machine::new(Global, Rules::of(automaton(asked)))?,
+            graph: GraphInUse::new(Global, &mut room.marks, network, hierarchy, &targets)?,
+            starts: starts_in(Global, hierarchy, &origins)?,
+            ends: ends_in(Global, hierarchy, &targets)?,
+        })
+    }
+
+    fn question(&self, asked: &Asked) -> Question<'_, GraphInUse<'a>, Rules> {
+        let meets_few = matches!(self.graph, GraphInUse::Phases(_));
+        Question {
+            graph: &self.graph,
+            machine: &self.machine,
+            starts: &self.starts,
+            targets: &self.ends,
+            dep: Time::from(asked.dep),
+            bound: None,
+            meets_few,
+        }
+    }
+}
+
 fn by_search(network: &Network, hierarchy: Option<&Hierarchy>, room: &mut Room, asked: &Asked) -> Option<u64> {
-    let machine = Machine::new(Global, Rules::of(automaton(asked))).ok()?;
-    let origins: Vec<u32> = (asked.from.0..asked.from.1).collect();
-    let targets: Vec<u32> = (asked.to.0..asked.to.1).collect();
-    let graph = GraphInUse::new_in(Global, &mut room.marks, network, hierarchy, &targets).ok()?;
-    let starts = starts_in(Global, hierarchy, &origins).ok()?;
-    let ends = ends_in(Global, hierarchy, &targets).ok()?;
-    let meets_few = hierarchy.is_some();
-    let dep = Time::from(asked.dep);
-    let question = Question { graph: &graph, machine: &machine, starts: &starts, targets: &ends, dep, bound: None, meets_few };
+    let prepared = Prepared::of(network, hierarchy, room, asked).ok()?;
+    let question = prepared.question(asked);
     let (arrival, walk) = match hierarchy {
         None => {
             let found = search_best_with(Global, &mut room.workspace, &question).ok()?;
@@ -78,10 +109,18 @@ fn by_search(network: &Network, hierarchy: Option<&Hierarchy>, room: &mut Room, 
             Limited::Stopped(_) => unreachable!(),
         },
     };
-    if let (GraphInUse::Phases(phases), Some(walk)) = (&graph, &walk) {
+    if let (GraphInUse::Phases(phases), Some(walk)) = (&prepared.graph, &walk) {
         unpack::phase_walk::from_phases(Global, phases, walk).ok()?;
     }
-    graph.give_back(&mut room.marks);
+    prepared.graph.give_back(&mut room.marks);
+    Some(arrival? as u64)
+}
+
+/// By the model whose labels are corrected; the journey is not unpacked.
+fn by_board(network: &Network, hierarchy: Option<&Hierarchy>, room: &mut Room, asked: &Asked) -> Option<u64> {
+    let prepared = Prepared::of(network, hierarchy, room, asked).ok()?;
+    let arrival = correcting::arrival(&mut room.board, &prepared.question(asked));
+    prepared.graph.give_back(&mut room.marks);
     Some(arrival? as u64)
 }
 
@@ -103,14 +142,18 @@ fn main() {
     let network = Network::of(Region::read(&text(region)).unwrap_or_else(|e| panic!("{region}: {e}")));
     let all: Vec<Asked> = text(queries).lines().map(|line| read(&network.region, line)).collect();
     let over = over.map(|path| hierarchy::lists::read(&std::fs::read(path).unwrap_or_else(|e| panic!("{path}: {e}"))));
-    let mut room = Room { workspace: Workspace::new(Global), marks: MarkTable::new(Global) };
-    let (mut plain, mut stripped) = (f64::MAX, f64::MAX);
+    let mut room = Room { workspace: Workspace::new(Global), marks: MarkTable::new(Global), board: Board::new() };
+    let (mut plain, mut stripped, mut corrected) = (f64::MAX, f64::MAX, f64::MAX);
     for _ in 0..rounds.parse().expect("a number of rounds") {
         let (first, took) = timed(&all, |asked| by_baseline(&network, asked));
         plain = plain.min(took);
         let (second, took) = timed(&all, |asked| by_search(&network, over.as_ref(), &mut room, asked));
         stripped = stripped.min(took);
         assert_eq!(first, second, "the arrivals differ");
+        let (third, took) = timed(&all, |asked| by_board(&network, over.as_ref(), &mut room, asked));
+        corrected = corrected.min(took);
+        assert_eq!(first, third, "the arrivals differ");
     }
     println!("plain Rust {plain:.4} s, without contracts {stripped:.4} s, ratio {:.3}", stripped / plain);
+    println!("with labels that are corrected {corrected:.4} s, ratio {:.3}", corrected / plain);
 }
