@@ -1,5 +1,6 @@
-//! A model of another search, whose labels are corrected until nothing changes: product states wait in buckets by time, without an order
-//! within one, and each is explored again when a better way to it was found. It keeps rows and chains as product_search does.
+//! A model of another search, whose labels are corrected until nothing changes: product states wait in buckets by time, in the order in
+//! which they came within one, and each is explored again when a better way to it was found. It finds them by keys and chains as
+//! product_search does, and keeps each way that it takes in a list that only grows.
 use crate::product_search::{Machine, Question};
 use crate::search_laws::{GivenRuns, Graph, GraphArc, Labels, Leg, Time, Visit, Way};
 use crate::shim::{AllocError, Global, Vec};
@@ -15,11 +16,13 @@ struct Key {
     state: u32,
     next: u32,
     delay: u32,
+    /// The last way that was taken to it.
+    way: u32,
 }
 
-/// By which row and arc a product state is reached.
+/// By which way before it and which arc a product state is reached.
 #[derive(Clone, Copy)]
-struct Entry {
+struct Taken {
     parent: u32,
     arc: u32,
 }
@@ -29,7 +32,7 @@ pub struct Board {
     first: Vec<u32>,
     chains: u32,
     keys: Vec<Key>,
-    entries: Vec<Entry>,
+    ways: Vec<Taken>,
     buckets: std::vec::Vec<std::vec::Vec<(u32, u32)>>,
     last: usize,
     /// The least time so far at an end.
@@ -47,7 +50,7 @@ struct From {
 
 impl Board {
     pub fn new() -> Board {
-        Board { first: Vec(vec![]), chains: 1, keys: Vec(vec![]), entries: Vec(vec![]), buckets: vec![vec![]; BUCKETS], last: 0, best: NEVER }
+        Board { first: Vec(vec![]), chains: 1, keys: Vec(vec![]), ways: Vec(vec![]), buckets: vec![vec![]; BUCKETS], last: 0, best: NEVER }
     }
 
     #[inline(always)]
@@ -60,7 +63,7 @@ impl Board {
     }
 
     #[inline(always)]
-    fn offer(&mut self, node: u32, state: u32, delay: u32, entry: Entry) {
+    fn offer(&mut self, node: u32, state: u32, delay: u32, taken: Taken) {
         if delay >= self.best {
             return;
         }
@@ -71,23 +74,22 @@ impl Board {
             let key = &mut self.keys[number as usize];
             if key.state == state {
                 if delay < key.delay {
-                    key.delay = delay;
-                    self.entries[number as usize] = entry;
-                    self.wait(delay, number);
+                    (key.delay, key.way) = (delay, self.ways.len() as u32);
+                    self.wait(delay, number, taken);
                 }
                 return;
             }
             link = key.next;
         }
         let number = self.keys.len() as u32;
-        self.keys.0.push(Key { node, state, next: self.first[chain], delay });
-        self.entries.0.push(entry);
+        self.keys.0.push(Key { node, state, next: self.first[chain], delay, way: self.ways.len() as u32 });
         self.first[chain] = number + 1;
-        self.wait(delay, number);
+        self.wait(delay, number, taken);
     }
 
     #[inline(always)]
-    fn wait(&mut self, delay: u32, number: u32) {
+    fn wait(&mut self, delay: u32, number: u32, taken: Taken) {
+        self.ways.0.push(taken);
         let bucket = ((delay >> BITS) as usize).min(BUCKETS - 1);
         self.buckets[bucket].push((delay, number));
         self.last = self.last.max(bucket);
@@ -107,14 +109,14 @@ impl Board {
             self.first[chain] = 0;
         }
         self.keys.clear();
-        self.entries.clear();
+        self.ways.clear();
         self.buckets[..=self.last].iter_mut().for_each(std::vec::Vec::clear);
         (self.last, self.best) = (0, NEVER);
     }
 
-    /// How many rows the walk to a row has.
-    fn walk(&self, number: u32) -> usize {
-        std::iter::successors(Some(number), |number| self.entries[*number as usize].parent.checked_sub(1)).count()
+    /// How many arcs the walk by a way has, and 1.
+    fn walk(&self, way: u32) -> usize {
+        std::iter::successors(Some(way), |way| self.ways[*way as usize].parent.checked_sub(1)).count()
     }
 }
 
@@ -125,28 +127,29 @@ pub fn arrival<G: Graph, L: Labels>(board: &mut Board, question: &Question<'_, G
     board.prepare(question.graph.nodes(), states, question.meets_few);
     for node in question.starts {
         for state in (0..states).filter(|q| labels.is_start(*q)) {
-            board.offer(*node, state, 0, Entry { parent: 0, arc: 0 });
+            board.offer(*node, state, 0, Taken { parent: 0, arc: 0 });
         }
     }
     let (mut given, mut ways) = (GivenRuns::new(Global), Vec::new(Global));
-    let (mut now, mut end) = (0, None);
+    let (mut now, mut place, mut end) = (0, 0, None);
     while now <= board.last && (now as u32) << BITS < board.best {
-        let Some((delay, number)) = board.buckets[now].pop() else {
-            now += 1;
+        let Some(&(delay, number)) = board.buckets[now].get(place) else {
+            (now, place) = (now + 1, 0);
             continue;
         };
+        place += 1;
         let key = board.keys[number as usize];
         if delay >= board.best || delay != key.delay {
             continue;
         }
         if labels.accepts(key.state) && question.targets.contains(&key.node) {
-            (board.best, end) = (delay, Some(number));
+            (board.best, end) = (delay, Some(key.way));
             continue;
         }
-        let from = From { node: key.node, state: key.state, delay, link: number + 1 };
+        let from = From { node: key.node, state: key.state, delay, link: key.way + 1 };
         explore(board, question, &mut given, &mut ways, from).ok()?;
     }
-    std::hint::black_box(end.map(|number| board.walk(number)));
+    std::hint::black_box(end.map(|way| board.walk(way)));
     std::hint::black_box(board.keys.iter().filter(|key| key.delay < board.best).count());
     let found = end.map(|_| question.dep + Time::from(board.best));
     board.clear();
@@ -173,10 +176,10 @@ fn explore<G: Graph, L: Labels>(
     graph.fresh_ways(Visit { node: from.node, at, state: from.state, letters, leaving }, given, ways)?;
     for Way { place, arc: GraphArc { to, letter }, at } in ways.iter().copied() {
         let delay = (at - question.dep).min(Time::from(NEVER)) as u32;
-        let entry = Entry { parent: from.link, arc: place as u32 };
+        let taken = Taken { parent: from.link, arc: place as u32 };
         match letter {
-            None => board.offer(to, from.state, delay, entry),
-            Some(letter) => machine.targets_of(from.state, letter).iter().for_each(|next| board.offer(to, *next, delay, entry)),
+            None => board.offer(to, from.state, delay, taken),
+            Some(letter) => machine.targets_of(from.state, letter).iter().for_each(|next| board.offer(to, *next, delay, taken)),
         }
     }
     Ok(())
@@ -185,6 +188,6 @@ fn explore<G: Graph, L: Labels>(
 #[inline(always)]
 fn offer_legs(board: &mut Board, legs: &[Leg], next: u32, from: From) {
     for (place, leg) in legs.iter().enumerate() {
-        board.offer(leg.to, next, from.delay.saturating_add(leg.ms), Entry { parent: from.link, arc: place as u32 });
+        board.offer(leg.to, next, from.delay.saturating_add(leg.ms), Taken { parent: from.link, arc: place as u32 });
     }
 }
