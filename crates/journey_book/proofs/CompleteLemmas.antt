@@ -28,9 +28,9 @@ use Rattle.journey_book.specs.Books.{Book, dropped, kept}
 use Rattle.journey_book.specs.Commands.{book_says}
 use Rattle.journey_book.specs.Complete.{AreHeld, CanBeDoneByBook, IsDoneOrAbsent}
 use Rattle.journey_book.specs.Keepers.{KeeperMeaning, Tells}
-use Rattle.journey_book.specs.Reports.{IsListing, IsReported, recheck_rule}
-use Rattle.journey_book.specs.Reviews.{review_rule}
-use Rattle.journey_book.specs.Requests.{BookRequest, keep, drop, list, show, recheck, review}
+use Rattle.journey_book.specs.Reports.{IsListing, IsReported}
+use Rattle.journey_book.specs.Rules.{report_rule}
+use Rattle.journey_book.specs.Requests.{BookRequest, keep, drop, list, show, report}
 use Rattle.journey_book.specs.Sayings.{Changes, EndsBy, IsCertificateOutcome, OnBoth, ThenDone, BookWrites}
 use Rattle.journey_book.specs.declared.outcome.BookOutcome.{BookOutcome}
 use Rattle.journey_book.specs.declared.outcome.BookOutcome.TheVariants.{Common, KeepFault, Absent, NotWell}
@@ -112,8 +112,7 @@ module _ (caps : Caps) (files : Files) (old new : Scene KeeperMeaning) (tells : 
   -- what can be done is done
   pub completes : (r : BookRequest) → CanBeDoneByBook caps files r → (outcome : BookOutcome) → book_says caps r old new outcome → IsDoneOrAbsent outcome
   completes (keep name region certificate hierarchy) can outcome said = keep_completes region certificate hierarchy can name outcome said
-  completes (recheck region hierarchy fail) can outcome said = report_completes region hierarchy (λ n h. IsReported (recheck_rule n h) fail old.more) can outcome said
-  completes (review region hierarchy fail) can outcome said = report_completes region hierarchy (λ n h. IsReported (review_rule n) fail old.more) can outcome said
+  completes (report kind region hierarchy fail) can outcome said = report_completes region hierarchy (λ n h. IsReported (report_rule kind n h) fail old.more) can outcome said
   completes (drop name) can outcome (inl (none, ends)) = absent_completes outcome ends.0
   completes (drop name) can outcome (inr changed) = changes_complete (λ book. IsSome (book name)) (dropped name) old new outcome quiet.keeper changed
   completes list can outcome said = writes_complete (ThenDone (IsListing old.more)) old new outcome quiet.keeper quiet.out said

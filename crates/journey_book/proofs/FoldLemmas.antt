@@ -16,9 +16,9 @@ use Rattle.journey_book.specs.Books.{Book, dropped, kept}
 use Rattle.journey_book.specs.Keepers.{KeeperMeaning, Becomes, BookStays, Tells}
 use Rattle.journey_book.specs.Commands.{book_says}
 use Rattle.journey_book.specs.Outcomes.{IsBookOutcome}
-use Rattle.journey_book.specs.Reports.{IsListing, IsReported, recheck_rule}
-use Rattle.journey_book.specs.Reviews.{review_rule}
-use Rattle.journey_book.specs.Requests.{AsksOfBook, BookRequest, keep, drop, list, show, recheck, review}
+use Rattle.journey_book.specs.Reports.{IsListing, IsReported}
+use Rattle.journey_book.specs.Rules.{report_rule}
+use Rattle.journey_book.specs.Requests.{AsksOfBook, BookRequest, keep, drop, list, show, report}
 use Rattle.journey_book.specs.Runs.{Change, Does, Run, RunsFold, book_after, changed, keeps, drops, nothing}
 use Rattle.journey_book.specs.Sayings.{Changes, EndsBy, IsCertificateOutcome, OnBoth, ThenDone, BookWrites}
 use Rattle.journey_book.specs.declared.outcome.BookOutcome.{BookOutcome}
@@ -151,15 +151,10 @@ asked_to caps run list asks said = record { change = nothing; does = inr (list, 
 asked_to caps run (show name) asks (inl (none, ends)) = let e = ends.0 in idles run (ends.1.1, λ done. cc)
 asked_to caps run (show name) asks (inr writes) =
     record { change = nothing; does = inr (show name, asks, refl); becomes = writes_stay (ThenDone (λ text. Tells run.old.more (λ book. book name ≡ Some text))) run.old run.new run.outcome writes }
-asked_to caps run (recheck region hierarchy fail) asks said = record {
+asked_to caps run (report kind region hierarchy fail) asks said = record {
   change = nothing;
-  does = inr (recheck region hierarchy fail, asks, refl);
-  becomes = report_stays caps region hierarchy (λ n h. IsReported (recheck_rule n h) fail run.old.more) run.old run.new run.outcome said;
-}
-asked_to caps run (review region hierarchy fail) asks said = record {
-  change = nothing;
-  does = inr (review region hierarchy fail, asks, refl);
-  becomes = report_stays caps region hierarchy (λ n h. IsReported (review_rule n) fail run.old.more) run.old run.new run.outcome said;
+  does = inr (report kind region hierarchy fail, asks, refl);
+  becomes = report_stays caps region hierarchy (λ n h. IsReported (report_rule kind n h) fail run.old.more) run.old run.new run.outcome said;
 }
 
 one_run : (caps : Caps) (run : Run) → IsBookOutcome caps run.words run.old run.new run.outcome → DoesSo run

@@ -34,8 +34,10 @@ use Rattle.answer_commands.proofs.CompleteLemmas.{same_claim}
 use Rattle.journey_book.specs.Books.{Book, AreNamesOf}
 use Rattle.journey_book.specs.Keepers.{KeeperMeaning, Tells}
 use Rattle.journey_book.specs.Laws.{HoldsOfOneText, IsFixedEnd, ReportsAreFixed, StartsAt, ValidIsSame}
-use Rattle.journey_book.specs.Reports.{AreReported, ClaimRule, IsJudged, IsReported, IsSaidOn, ReportRule, end_by, recheck_rule, verdict_words}
-use Rattle.journey_book.specs.Reviews.{IsAnswered, IsReviewed, arrival_words, beside, kept_arrival, review_rule}
+use Rattle.journey_book.specs.Reports.{AreReported, ClaimRule, IsJudged, IsReported, IsSaidOn, ReportRule, end_by, verdict_words}
+use Rattle.journey_book.specs.Reviews.{IsAnswered, IsReviewed, arrival_words, beside, kept_arrival}
+use Rattle.journey_book.specs.Rules.{report_rule}
+use Rattle.journey_book.specs.declared.words.ReportKind.TheVariants.{Recheck, Review}
 
 -- ---- the names of a book
 
@@ -128,8 +130,8 @@ module _ (n : NetworkLists) (network : IsNetwork n) where
       answered_once claim.result asked2 one other (subst (λ (q : Asked). IsAnswered n claim.result q one) same answer) answer2
 
 pub reports_are_fixed : ReportsAreFixed
-reports_are_fixed n network h sound keeper book is fail =
-    (report_once (recheck_rule n h) (judged_once n network h sound) keeper book is fail, report_once (review_rule n) (reviewed_once n network) keeper book is fail)
+reports_are_fixed n network h sound keeper book is Recheck fail = report_once (report_rule Recheck n h) (judged_once n network h sound) keeper book is fail
+reports_are_fixed n network h sound keeper book is Review fail = report_once (report_rule Review n h) (reviewed_once n network) keeper book is fail
 
 -- ---- a certificate that is valid
 

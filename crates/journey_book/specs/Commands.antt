@@ -3,9 +3,9 @@ use Rattle.std.specs.Prelude.{◌≡◌, ℕ, ◌⊎◌, List, None, Some, IsSom
 use Rattle.plan_base.specs.declared.limits.Caps.{Caps}
 use Rattle.journey_book.specs.Books.{dropped, kept}
 use Rattle.journey_book.specs.Keepers.{Tells}
-use Rattle.journey_book.specs.Reports.{IsListing, IsReported, recheck_rule}
-use Rattle.journey_book.specs.Reviews.{review_rule}
-use Rattle.journey_book.specs.Requests.{BookRequest, keep, drop, list, show, recheck, review}
+use Rattle.journey_book.specs.Reports.{IsListing, IsReported}
+use Rattle.journey_book.specs.Rules.{report_rule}
+use Rattle.journey_book.specs.Requests.{BookRequest, keep, drop, list, show, report}
 use Rattle.journey_book.specs.Sayings.{BookSaying, BookEnds, OnBoth, OnValid, Changes, ThenDone, BookWrites}
 use Rattle.journey_book.specs.declared.outcome.BookOutcome.TheVariants.{Absent}
 
@@ -15,9 +15,9 @@ IsNotKept name old new outcome = Tells old.more (λ book. book name ≡ None) ×
 
 -- What a run says that was asked for this. `keep` keeps the certificate's bytes under the name, where it is valid
 -- in the region; `drop` removes a name that is there; `list` writes the names; `show` what is kept under a name that
--- is there; `recheck` which of the certificates hold in the region; `review` what the region does to their journeys;
--- each of the two may be asked to fail where a line is not well. Certificates are those over the hierarchy, if one is
--- named.
+-- is there; a report what its rule says of each certificate, and it may be asked to fail where a line is not well:
+-- `recheck` which of the certificates hold in the region, `review` what the region does to their journeys. Certificates
+-- are those over the hierarchy, if one is named.
 abbrev pub book_says : Caps → BookRequest → BookSaying
 book_says caps (keep name region certificate hierarchy) old new outcome =
     OnBoth caps region hierarchy
@@ -28,9 +28,6 @@ book_says caps list old new outcome = BookWrites (ThenDone (IsListing old.more))
 book_says caps (show name) old new outcome =
     IsNotKept name old new outcome
     ⊎ BookWrites (ThenDone (λ text. Tells old.more (λ book. book name ≡ Some text))) old new outcome
-book_says caps (recheck region hierarchy fail) old new outcome =
+book_says caps (report kind region hierarchy fail) old new outcome =
     OnBoth caps region hierarchy
-    (λ n h. BookWrites (IsReported (recheck_rule n h) fail old.more)) old new outcome
-book_says caps (review region hierarchy fail) old new outcome =
-    OnBoth caps region hierarchy
-    (λ n h. BookWrites (IsReported (review_rule n) fail old.more)) old new outcome
+    (λ n h. BookWrites (IsReported (report_rule kind n h) fail old.more)) old new outcome

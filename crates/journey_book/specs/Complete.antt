@@ -4,7 +4,7 @@ use Rattle.plan_base.specs.declared.limits.Caps.{Caps}
 use Rattle.hierarchy_commands.specs.Complete.{IsSoundIfNamed}
 use Rattle.run_steps.specs.Complete.{Files, IsDoneOrMemory, IsRegionHeld}
 use Rattle.answer_commands.specs.Complete.{CanVerify}
-use Rattle.journey_book.specs.Requests.{BookRequest, keep, drop, list, show, recheck, review}
+use Rattle.journey_book.specs.Requests.{BookRequest, keep, drop, list, show, report}
 use Rattle.journey_book.specs.declared.outcome.BookOutcome.{BookOutcome}
 use Rattle.journey_book.specs.declared.outcome.BookOutcome.TheVariants.{Common, KeepFault, Absent, NotWell}
 
@@ -17,8 +17,7 @@ AreHeld caps files region hierarchy =
 abbrev pub CanBeDoneByBook : Caps → Files → BookRequest → Type 0
 CanBeDoneByBook caps files (keep name region certificate hierarchy) =
     CanVerify caps files region certificate hierarchy
-CanBeDoneByBook caps files (recheck region hierarchy fail) = AreHeld caps files region hierarchy
-CanBeDoneByBook caps files (review region hierarchy fail) = AreHeld caps files region hierarchy
+CanBeDoneByBook caps files (report kind region hierarchy fail) = AreHeld caps files region hierarchy
 CanBeDoneByBook caps files (drop name) = Unit {0}
 CanBeDoneByBook caps files list = Unit {0}
 CanBeDoneByBook caps files (show name) = Unit {0}

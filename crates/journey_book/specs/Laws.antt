@@ -9,8 +9,10 @@ use Rattle.certificate.specs.Certificates.{Claim}
 use Rattle.certificate.specs.Valid.{IsValid}
 use Rattle.journey_book.specs.Books.{Book}
 use Rattle.journey_book.specs.Keepers.{KeeperMeaning}
-use Rattle.journey_book.specs.Reports.{IsReported, recheck_rule}
-use Rattle.journey_book.specs.Reviews.{IsReviewed, review_rule}
+use Rattle.journey_book.specs.Reports.{IsReported}
+use Rattle.journey_book.specs.Reviews.{IsReviewed}
+use Rattle.journey_book.specs.Rules.{report_rule}
+use Rattle.journey_book.specs.declared.words.ReportKind.{ReportKind}
 use Rattle.journey_book.specs.declared.outcome.BookOutcome.{BookOutcome}
 
 -- one text alone is so
@@ -23,12 +25,11 @@ IsFixedEnd IsText =
     (one other : List ℕ) (end last : BookOutcome) → IsText one end → IsText other last
     → (one ≡ other) × (end ≡ last)
 
--- what is reported of a book is fixed by the book, the region and the hierarchy, if there is one
+-- what a report says of a book is fixed by the book, the region and the hierarchy, if there is one
 abbrev pub ReportsAreFixed : Type 0
 ReportsAreFixed = (n : NetworkLists) → IsNetwork n → (h : Option HierarchyLists) → IsSoundIfGiven n h
-    → (keeper : KeeperMeaning) (book : Book) → keeper.book ≡ Some book → (fail : Bool)
-    → IsFixedEnd (IsReported (recheck_rule n h) fail keeper)
-    × IsFixedEnd (IsReported (review_rule n) fail keeper)
+    → (keeper : KeeperMeaning) (book : Book) → keeper.book ≡ Some book → (kind : ReportKind) (fail : Bool)
+    → IsFixedEnd (IsReported (report_rule kind n h) fail keeper)
 
 -- the journey that is claimed, if one is, starts then
 abbrev pub StartsAt : ℕ → Option (ℕ × Route) → Type 0

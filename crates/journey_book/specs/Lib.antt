@@ -7,6 +7,7 @@ pub mod Statuses
 pub mod Sayings
 pub mod Reports
 pub mod Reviews
+pub mod Rules
 pub mod Commands
 pub mod Complete
 pub mod Outcomes

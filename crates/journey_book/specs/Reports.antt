@@ -95,7 +95,3 @@ IsJudged n h claim words =
 -- a line is well that says `valid`
 abbrev pub says_valid : List ℕ → Bool
 says_valid words = bytes_eq words (codes "valid")
-
--- which of the certificates hold in a region
-abbrev pub recheck_rule : NetworkLists → Option HierarchyLists → ReportRule
-recheck_rule n h = record { AreRight = IsJudged n h; is_well = says_valid }

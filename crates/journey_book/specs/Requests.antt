@@ -5,6 +5,10 @@ use Rattle.std.specs.Str.{bytes_eq}
 use Rattle.journey_book.specs.Given.{Given, given_by}
 use Rattle.journey_book.specs.declared.words.BookCommand.{BookCommand}
 use Rattle.journey_book.specs.declared.words.BookCommand.TheVariants as command
+use Rattle.journey_book.specs.declared.words.Keeping.{Keeping}
+use Rattle.journey_book.specs.declared.words.ReportAsked.{ReportAsked}
+use Rattle.journey_book.specs.declared.words.ReportKind.{ReportKind}
+use Rattle.journey_book.specs.declared.words.ReportKind.TheVariants.{Recheck, Review}
 
 -- a command with what it works on: names, and the paths of files; and whether it is to fail where a line of its
 -- report is not well
@@ -13,19 +17,20 @@ pub data BookRequest : Type 0 where
   drop : (name : List ℕ) → BookRequest
   list : BookRequest
   show : (name : List ℕ) → BookRequest
-  recheck : (region : List ℕ) (hierarchy : Option (List ℕ)) (fail : Bool) → BookRequest
-  review : (region : List ℕ) (hierarchy : Option (List ℕ)) (fail : Bool) → BookRequest
+  report : (kind : ReportKind) (region : List ℕ) (hierarchy : Option (List ℕ)) (fail : Bool) → BookRequest
+
+abbrev pub asked_keeping : Keeping → BookRequest
+asked_keeping what = keep what.name.now what.region.now what.certificate.now (option_map (λ h. h.now) what.hierarchy)
+
+abbrev pub asked_report : ReportAsked → BookRequest
+asked_report asked = report asked.kind asked.region.now (option_map (λ h. h.now) asked.hierarchy) asked.fail
 
 abbrev pub book_request_of : BookCommand → BookRequest
-book_request_of (command.Keep name region certificate hierarchy) =
-    keep name.now region.now certificate.now (option_map (λ h. h.now) hierarchy)
+book_request_of (command.Keep what) = asked_keeping what
 book_request_of (command.Drop name) = drop name.now
 book_request_of command.List = list
 book_request_of (command.Show name) = show name.now
-book_request_of (command.Recheck region hierarchy fail) =
-    recheck region.now (option_map (λ h. h.now) hierarchy) fail
-book_request_of (command.Review region hierarchy fail) =
-    review region.now (option_map (λ h. h.now) hierarchy) fail
+book_request_of (command.Report asked) = asked_report asked
 
 -- a small letter or a digit
 abbrev pub is_letter_or_digit : ℕ → Bool
@@ -61,13 +66,9 @@ abbrev pub show_by : List (List ℕ) → Option (List ℕ) → Bool → Option B
 show_by (name ∷ []) None false = if is_book_name name then Some (show name) else None
 show_by _ _ _ = None
 
-abbrev pub recheck_by : List (List ℕ) → Option (List ℕ) → Bool → Option BookRequest
-recheck_by (region ∷ []) hierarchy fail = Some (recheck region hierarchy fail)
-recheck_by _ _ _ = None
-
-abbrev pub review_by : List (List ℕ) → Option (List ℕ) → Bool → Option BookRequest
-review_by (region ∷ []) hierarchy fail = Some (review region hierarchy fail)
-review_by _ _ _ = None
+abbrev pub report_by : ReportKind → List (List ℕ) → Option (List ℕ) → Bool → Option BookRequest
+report_by kind (region ∷ []) hierarchy fail = Some (report kind region hierarchy fail)
+report_by kind _ _ _ = None
 
 -- the commands by their names
 abbrev pub book_commands : List (List ℕ × (List (List ℕ) → Option (List ℕ) → Bool → Option BookRequest))
@@ -76,8 +77,8 @@ book_commands =
     ∷ (codes "drop", drop_by)
     ∷ (codes "list", list_by)
     ∷ (codes "show", show_by)
-    ∷ (codes "recheck", recheck_by)
-    ∷ (codes "review", review_by)
+    ∷ (codes "recheck", report_by Recheck)
+    ∷ (codes "review", report_by Review)
     ∷ []
 
 -- what a command of this name asks for, where this stands behind it

@@ -9,7 +9,7 @@ use Rattle.journey.specs.declared.fault.QueryFault.{QueryFault}
 use Rattle.journey.specs.Queries.{IsRefused}
 use Rattle.journey.specs.Best.{Asked, Asks, IsBest, HasNone}
 use Rattle.journey.specs.Texts.{refusal_text}
-use Rattle.journey_book.specs.Reports.{ClaimRule, ReportRule}
+use Rattle.journey_book.specs.Reports.{ClaimRule}
 
 -- When a kept journey arrives, where its query departs then: as long after the departure as it says that it arrives after its
 -- start. Its own times count from the first date of a region that is not there any more.
@@ -50,7 +50,3 @@ abbrev pub is_no_later : List ℕ → Bool
 is_no_later words =
     bytes_eq words (codes "same")
     || starts_with nat_eq words (codes "earlier ") || starts_with nat_eq words (codes "found ")
-
--- what a region does to the journeys that are kept
-abbrev pub review_rule : NetworkLists → ReportRule
-review_rule n = record { AreRight = IsReviewed n; is_well = is_no_later }

@@ -7,7 +7,7 @@ use Rattle.run_steps.specs.Scene.{Scene}
 use Rattle.journey_book.specs.Books.{Book, dropped, kept}
 use Rattle.journey_book.specs.Keepers.{KeeperMeaning}
 use Rattle.journey_book.specs.Outcomes.{IsBookOutcome}
-use Rattle.journey_book.specs.Requests.{AsksOfBook, BookRequest, keep, drop, list, show, recheck, review}
+use Rattle.journey_book.specs.Requests.{AsksOfBook, BookRequest, keep, drop, list, show, report}
 use Rattle.journey_book.specs.declared.outcome.BookOutcome.{BookOutcome}
 use Rattle.journey_book.specs.declared.outcome.BookOutcome.TheVariants.{Common}
 use Rattle.run_steps.specs.declared.outcome.Outcome.TheVariants.{Done}
@@ -47,8 +47,7 @@ may_change (keep name region certificate hierarchy) = true
 may_change (drop name) = true
 may_change list = false
 may_change (show name) = false
-may_change (recheck region hierarchy fail) = false
-may_change (review region hierarchy fail) = false
+may_change (report kind region hierarchy fail) = false
 
 -- What a run that was asked to keep or to drop, and did its work, does to a book; any other does nothing. What is kept is what
 -- the shelf holds under the certificate's name.

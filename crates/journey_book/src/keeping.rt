@@ -7,28 +7,19 @@ ghost use Rattle.hierarchy.specs.Soundness.{IsSound};
 ghost use Rattle.run_steps.specs.Scene.{scene_of};
 ghost use Rattle.journey_book.specs.Books.{kept};
 ghost use Rattle.journey_book.specs.Commands.{book_says};
-ghost use Rattle.journey_book.specs.Requests.{keep, drop};
+ghost use Rattle.journey_book.specs.Requests.{asked_keeping, drop};
 ghost use Rattle.journey_book.specs.Sayings.{Changes, HasValid, IsCertificateOutcome, OnValid, book_end_of};
 
 use crate::keeper::Keeper;
 use crate::outcome::BookOutcome;
 use crate::steps::outcome_of_keeper;
+use crate::words::Keeping;
 use answer_commands::{BestCertificates, read_both, verified};
 use hierarchy::Hierarchy;
 use mode_network::Network;
 use plan_base::{Caps, Shelf, Sink};
 use run_steps::{FileRole, Outcome, Ports, read_file, tell_unverified};
 use std::alloc::Global;
-
-/// What is to be kept: the certificate of a file, under a name, where it is valid in the region of a file, over the
-/// hierarchy of another, if one is named.
-#[derive(Clone, Copy)]
-pub(crate) struct Keeping<'a> {
-    pub(crate) name: &'a str,
-    pub(crate) region: &'a str,
-    pub(crate) certificate: &'a str,
-    pub(crate) hierarchy: Option<&'a str>,
-}
 
 /// Reads a region, the hierarchy, if one is named, and a certificate, and keeps the certificate's bytes under the name,
 /// if it is valid.
@@ -38,8 +29,7 @@ pub(crate) fn keep<F: Shelf, K: Keeper, O: Sink, E: Sink>(
     keeper: &mut K,
     caps: &Caps,
 ) -> Result<(), BookOutcome>
-    ensures { book_says caps.now (keep what.entry.name.now what.entry.region.now what.entry.certificate.now
-        (option_map (λ it. it.now) what.entry.hierarchy))
+    ensures { book_says caps.now (asked_keeping what.entry)
         (scene_of (F.meaning ports.old.shelf) (O.meaning ports.old.out) (K.meaning keeper.old))
         (scene_of (F.meaning ports.new.shelf) (O.meaning ports.new.out) (K.meaning keeper.new))
         (book_end_of result) }

@@ -1,50 +1,35 @@
 //! Which of the certificates that are kept hold in a region.
 
-ghost use Rattle.std.specs.Prelude.{◌≡◌, ◌++◌, OnOk};
-ghost use Rattle.journey_book.specs.Reports.{says_valid, verdict_words};
+ghost use Rattle.std.specs.Prelude.{◌≡◌, ◌++◌, OnOk, option_map};
+ghost use Rattle.certificate.specs.Valid.{HaveTimes};
+ghost use Rattle.journey.specs.Blocks.{AddsText};
+ghost use Rattle.journey_book.specs.Reports.{IsJudged, says_valid, verdict_words};
+ghost use Rattle.journey_book.specs.Rules.{MayReport};
 
 use crate::reports::Report;
 use certificate::{CertVerdict, Certificate, verify};
-use hierarchy::Hierarchy;
-use mode_network::Network;
 use plain_texts::push_decimal;
-use planning::Room;
 use std::alloc::{AllocError, Global};
 
-/// Says of a certificate whether it is valid in a network, over a hierarchy, if there is one: `valid`, or `invalid CLAUSE AT`.
-#[derive(Drop)]
-pub(crate) struct Recheck<'a> {
-    pub(crate) network: &'a Network,
-    pub(crate) hierarchy: Option<&'a Hierarchy>,
-}
-
-impl Report for Recheck<'_> {
-    ghost use Rattle.std.specs.Prelude.{IfSome, option_map};
-    ghost use Rattle.hierarchy.specs.Soundness.{IsSound};
-    ghost use Rattle.journey_book.specs.Reports.{recheck_rule};
-
-    ghost may = { λ it. IfSome it.hierarchy (λ h. IsSound it.network.now h.now) };
-
-    ghost rule = { λ it. recheck_rule it.network.now (option_map (λ h. h.now) it.hierarchy) };
-
-    fn push_words(
-        &self,
-        alloc: Global,
-        _room: &mut Room,
-        certificate: &Certificate,
-        text: &mut Vec<u8>,
-    ) -> Result<(), AllocError> {
-        let verdict = verify(alloc, self.network, self.hierarchy, certificate)?;
-        push_verdict(verdict, text)
-    }
-
-    fn is_well(&self, words: &[u8]) -> bool {
-        says_valid(words)
-    }
+/// Says of a certificate whether it is valid in the network, over the hierarchy, if there is one: `valid`, or
+/// `invalid CLAUSE AT`.
+pub(crate) fn push_judged(
+    alloc: Global,
+    report: &Report<'_>,
+    certificate: &Certificate,
+    text: &mut Vec<u8>,
+) -> Result<(), AllocError>
+    requires may { MayReport report.now }
+    requires times { HaveTimes certificate.now }
+    ensures { OnOk result (AddsText (IsJudged report.now.network.now
+        (option_map (λ h. h.now) report.now.hierarchy) certificate.now) text.old.items text.new.items) }
+{
+    let verdict = verify(alloc, report.network, report.hierarchy, certificate)?;
+    push_verdict(verdict, text)
 }
 
 /// Whether a line says `valid`.
-fn says_valid(words: &[u8]) -> bool
+pub(crate) fn says_valid(words: &[u8]) -> bool
     ensures { result ≡ says_valid words.now }
 {
     words == b"valid".as_slice()

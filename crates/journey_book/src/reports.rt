@@ -6,24 +6,29 @@ ghost use Rattle.journey.specs.Blocks.{AddsText};
 ghost use Rattle.certificate.specs.Valid.{HaveTimes};
 ghost use Rattle.journey_book.specs.Keepers.{BookStays, IsKeepFault};
 ghost use Rattle.journey_book.specs.Reports.{HasReported, IsReport, IsSaid, IsSaidOn};
+ghost use Rattle.journey_book.specs.Rules.{MayReport, rule_of};
 
 use crate::keeper::{KeepFault, Keeper};
+use crate::rechecking::{push_judged, says_valid};
+use crate::reviewing::{is_no_later, push_reviewed};
+use crate::words::ReportKind;
 use certificate::{CertFault, Certificate, read};
+use hierarchy::Hierarchy;
+use mode_network::Network;
 use plain_texts::{push_decimal, push_line_feed};
 use planning::Room;
 use std::alloc::{AllocError, Global};
 
-/// What says something of a certificate.
-pub(crate) trait Report {
-    ghost use Rattle.journey_book.specs.Reports.{ReportRule};
+/// A report of a kind, by a network, and over a hierarchy, if there is one.
+#[derive(Drop)]
+pub(crate) struct Report<'a> {
+    pub(crate) kind: ReportKind,
+    pub(crate) network: &'a Network,
+    pub(crate) hierarchy: Option<&'a Hierarchy>,
+}
 
-    /// When it may be asked.
-    ghost may: { Self → Type 0 } = { λ _. Unit {0} };
-
-    /// Which words are right, and which of them are well.
-    ghost rule: { Self → ReportRule };
-
-    /// Appends words that are right for a certificate. Searches may use the room.
+impl Report<'_> {
+    /// Appends words that are right for a certificate. Searches use the room.
     fn push_words(
         &self,
         alloc: Global,
@@ -31,14 +36,26 @@ pub(crate) trait Report {
         certificate: &Certificate,
         text: &mut Vec<u8>,
     ) -> Result<(), AllocError>
-        requires may { may self.now }
+        requires may { MayReport self.now }
         requires times { HaveTimes certificate.now }
-        ensures { OnOk result (AddsText ((rule self.now).AreRight certificate.now)
-            text.old.items text.new.items) };
+        ensures { OnOk result (AddsText ((rule_of self.now).AreRight certificate.now)
+            text.old.items text.new.items) }
+    {
+        match self.kind {
+            ReportKind::Recheck => push_judged(alloc, self, certificate, text),
+            ReportKind::Review => push_reviewed(alloc, room, self, certificate, text),
+        }
+    }
 
     /// Whether the words of a line are well.
     fn is_well(&self, words: &[u8]) -> bool
-        ensures { result ≡ (rule self.now).is_well words.now };
+        ensures { result ≡ (rule_of self.now).is_well words.now }
+    {
+        match self.kind {
+            ReportKind::Recheck => says_valid(words),
+            ReportKind::Review => is_no_later(words),
+        }
+    }
 }
 
 /// The lines of a report, and whether all of them are well.
@@ -54,14 +71,14 @@ pub(crate) struct Reported {
 /// # Errors
 ///
 /// Where the keeper fails, or memory is refused.
-pub(crate) fn report_of<R: Report, K: Keeper>(
+pub(crate) fn report_of<K: Keeper>(
     alloc: Global,
-    report: &R,
+    report: &Report<'_>,
     keeper: &mut K,
 ) -> Result<Reported, KeepFault>
-    requires { R.may report.now }
+    requires { MayReport report.now }
     ensures later { (K.meaning keeper.old).faults ≤ (K.meaning keeper.new).faults }
-    ensures ok { IfOk result (λ it. IsReport (R.rule report.now) (K.meaning keeper.old)
+    ensures ok { IfOk result (λ it. IsReport (rule_of report.now) (K.meaning keeper.old)
         it.text.items it.well) }
     ensures same { BookStays (K.meaning keeper.old) (K.meaning keeper.new) }
     ensures cause { IfErr result (IsKeepFault (K.meaning keeper.old) (K.meaning keeper.new)) }
@@ -71,15 +88,15 @@ pub(crate) fn report_of<R: Report, K: Keeper>(
 }
 
 /// A line for each of these names, in order.
-fn report_all<R: Report, K: Keeper>(
+fn report_all<K: Keeper>(
     alloc: Global,
-    report: &R,
+    report: &Report<'_>,
     keeper: &mut K,
     names: &[String],
 ) -> Result<Reported, KeepFault>
-    requires { R.may report.now }
+    requires { MayReport report.now }
     ensures later { (K.meaning keeper.old).faults ≤ (K.meaning keeper.new).faults }
-    ensures ok { IfOk result (λ it. HasReported (R.rule report.now) (K.meaning keeper.old)
+    ensures ok { IfOk result (λ it. HasReported (rule_of report.now) (K.meaning keeper.old)
         (map string_bytes names.now) it.text.items it.well) }
     ensures same { BookStays (K.meaning keeper.old) (K.meaning keeper.new) }
     ensures cause { IfErr result (IsKeepFault (K.meaning keeper.old) (K.meaning keeper.new)) }
@@ -116,14 +133,14 @@ fn push_line(name: &str, words: &[u8], text: &mut Vec<u8>) -> Result<(), AllocEr
 }
 
 /// What is said of what is kept under a name.
-fn said_on<R: Report>(
+fn said_on(
     alloc: Global,
-    report: &R,
+    report: &Report<'_>,
     room: &mut Room,
     held: &Option<Vec<u8>>,
 ) -> Result<Vec<u8>, AllocError>
-    requires { R.may report.now }
-    ensures { IfOk result (λ words. IsSaidOn (R.rule report.now).AreRight
+    requires { MayReport report.now }
+    ensures { IfOk result (λ words. IsSaidOn (rule_of report.now).AreRight
         (option_map (λ body. body.items) held.now) words.items) }
 {
     let mut words = Vec::new(alloc);
@@ -132,16 +149,16 @@ fn said_on<R: Report>(
 }
 
 /// What is said of what is kept under a name.
-fn push_held<R: Report>(
+fn push_held(
     alloc: Global,
-    report: &R,
+    report: &Report<'_>,
     room: &mut Room,
     held: &Option<Vec<u8>>,
     text: &mut Vec<u8>,
 ) -> Result<(), AllocError>
-    requires { R.may report.now }
+    requires { MayReport report.now }
     ensures { OnOk result (AddsText
-        (IsSaidOn (R.rule report.now).AreRight (option_map (λ body. body.items) held.now))
+        (IsSaidOn (rule_of report.now).AreRight (option_map (λ body. body.items) held.now))
         text.old.items text.new.items) }
 {
     match held {
@@ -151,15 +168,15 @@ fn push_held<R: Report>(
 }
 
 /// What is said of bytes.
-fn push_said<R: Report>(
+fn push_said(
     alloc: Global,
-    report: &R,
+    report: &Report<'_>,
     room: &mut Room,
     bytes: &[u8],
     text: &mut Vec<u8>,
 ) -> Result<(), AllocError>
-    requires { R.may report.now }
-    ensures { OnOk result (AddsText (IsSaid (R.rule report.now).AreRight bytes.now)
+    requires { MayReport report.now }
+    ensures { OnOk result (AddsText (IsSaid (rule_of report.now).AreRight bytes.now)
         text.old.items text.new.items) }
 {
     match read(alloc, bytes) {

@@ -6,58 +6,43 @@ ghost use Rattle.search_laws.specs.Times.{time_bound};
 ghost use Rattle.journey.specs.Best.{Asked, IsBest, asked_by};
 ghost use Rattle.journey.specs.Blocks.{AddsText, IsPrintable};
 ghost use Rattle.journey.specs.Ends.{HasTimes};
-ghost use Rattle.hierarchy.specs.Soundness.{IsSound};
+ghost use Rattle.certificate.specs.Valid.{HaveTimes};
 ghost use Rattle.planning.specs.Plans.{IsRead};
-ghost use Rattle.journey_book.specs.Reviews.{IsAnswered, arrival_words, beside, is_no_later, kept_arrival, nothing_words};
+ghost use Rattle.journey_book.specs.Reviews.{IsAnswered, IsReviewed, arrival_words, beside, is_no_later, kept_arrival, nothing_words};
+ghost use Rattle.journey_book.specs.Rules.{MayReport};
 
 use crate::reports::Report;
 use certificate::Certificate;
-use hierarchy::Hierarchy;
 use journey::{Query, QueryFault, ends, push_refusal, read_query};
 use mode_network::{Journey, Network};
 use plan_base::Time;
 use planning::{BestPlan, Room, find_best};
 use std::alloc::{AllocError, Global};
 
-/// Answers the query of a certificate anew in a network, over a hierarchy, if there is one, and says whether its journey
+/// Answers the query of a certificate anew in the network, over the hierarchy, if there is one, and says whether its journey
 /// arrives as is kept: `same`, `earlier CLOCK`, `later CLOCK`, `none` where there is none any more, `found CLOCK` where there was none; or how the query
 /// is refused.
-#[derive(Drop)]
-pub(crate) struct Review<'a> {
-    pub(crate) network: &'a Network,
-    pub(crate) hierarchy: Option<&'a Hierarchy>,
-}
-
-impl Report for Review<'_> {
-    ghost use Rattle.std.specs.Prelude.{IfSome};
-    ghost use Rattle.hierarchy.specs.Soundness.{IsSound};
-    ghost use Rattle.journey_book.specs.Reviews.{review_rule};
-
-    ghost may = { λ it. IfSome it.hierarchy (λ h. IsSound it.network.now h.now) };
-
-    ghost rule = { λ it. review_rule it.network.now };
-
-    fn push_words(
-        &self,
-        alloc: Global,
-        room: &mut Room,
-        certificate: &Certificate,
-        text: &mut Vec<u8>,
-    ) -> Result<(), AllocError> {
-        match read_query(alloc, self.network, certificate.line.as_slice()) {
-            Ok(query) => push_answer(alloc, room, self, &query, &certificate.result, text),
-            Err(QueryFault::OutOfMemory) => Err(AllocError),
-            Err(fault) => push_refusal(text, fault),
-        }
-    }
-
-    fn is_well(&self, words: &[u8]) -> bool {
-        is_no_later(words)
+pub(crate) fn push_reviewed(
+    alloc: Global,
+    room: &mut Room,
+    report: &Report<'_>,
+    certificate: &Certificate,
+    text: &mut Vec<u8>,
+) -> Result<(), AllocError>
+    requires may { MayReport report.now }
+    requires times { HaveTimes certificate.now }
+    ensures { OnOk result (AddsText (IsReviewed report.now.network.now certificate.now)
+        text.old.items text.new.items) }
+{
+    match read_query(alloc, report.network, certificate.line.as_slice()) {
+        Ok(query) => push_answer(alloc, room, report, &query, &certificate.result, text),
+        Err(QueryFault::OutOfMemory) => Err(AllocError),
+        Err(fault) => push_refusal(text, fault),
     }
 }
 
 /// Whether a line says `same`, `earlier` or `found`.
-fn is_no_later(words: &[u8]) -> bool
+pub(crate) fn is_no_later(words: &[u8]) -> bool
     ensures { result ≡ is_no_later words.now }
 {
     words == b"same".as_slice() || words.starts_with(b"earlier ") || words.starts_with(b"found ")
@@ -67,19 +52,19 @@ fn is_no_later(words: &[u8]) -> bool
 fn push_answer(
     alloc: Global,
     room: &mut Room,
-    review: &Review<'_>,
+    report: &Report<'_>,
     query: &Query,
     kept: &Option<(Time, Journey)>,
     text: &mut Vec<u8>,
 ) -> Result<(), AllocError>
-    requires sound { IfSome review.now.hierarchy (λ h. IsSound review.now.network.now h.now) }
-    requires read { IsRead review.now.network.now query.now }
+    requires may { MayReport report.now }
+    requires read { IsRead report.now.network.now query.now }
     requires times { IfSome kept.now (λ kept. (kept.0 < time_bound) × HasTimes kept.1) }
-    ensures { OnOk result (AddsText (IsAnswered review.now.network.now kept.now (asked_by query.now))
+    ensures { OnOk result (AddsText (IsAnswered report.now.network.now kept.now (asked_by query.now))
         text.old.items text.new.items) }
 {
-    let network = review.network;
-    let BestPlan { journey, .. } = find_best(alloc, room, network, review.hierarchy, query)?;
+    let network = report.network;
+    let BestPlan { journey, .. } = find_best(alloc, room, network, report.hierarchy, query)?;
     match journey {
         Some(journey) => {
             let arrival = arrival_of(network, &journey);

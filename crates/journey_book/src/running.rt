@@ -10,9 +10,9 @@ ghost use Rattle.journey_book.specs.Requests.{book_request_of};
 ghost use Rattle.journey_book.specs.Sayings.{book_end_of};
 
 use crate::keeper::Keeper;
-use crate::keeping::{Keeping, drop_name, keep};
+use crate::keeping::{drop_name, keep};
 use crate::outcome::BookOutcome;
-use crate::showing::{list, recheck_all, review_all, show};
+use crate::showing::{list, report, show};
 use crate::words::{BookCommand, read_words};
 use book_help::help;
 use plan_base::{Caps, Shelf, Sink, write_all};
@@ -32,33 +32,11 @@ fn carry_out<F: Shelf, K: Keeper, O: Sink, E: Sink>(
         (book_end_of result) }
 {
     match command {
-        BookCommand::Keep {
-            name,
-            region,
-            certificate,
-            hierarchy,
-        } => {
-            let what = Keeping {
-                name,
-                region,
-                certificate,
-                hierarchy,
-            };
-            keep(ports, what, keeper, caps)
-        }
+        BookCommand::Keep(what) => keep(ports, what, keeper, caps),
         BookCommand::Drop { name } => drop_name(name, keeper, caps),
         BookCommand::List => list(ports.alloc, keeper, &mut ports.out, caps),
         BookCommand::Show { name } => show(name, keeper, &mut ports.out, caps),
-        BookCommand::Recheck {
-            region,
-            hierarchy,
-            fail,
-        } => recheck_all(ports, region, hierarchy, fail, keeper, caps),
-        BookCommand::Review {
-            region,
-            hierarchy,
-            fail,
-        } => review_all(ports, region, hierarchy, fail, keeper, caps),
+        BookCommand::Report(asked) => report(ports, asked, keeper, caps),
     }
 }
 

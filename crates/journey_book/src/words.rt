@@ -3,7 +3,7 @@
 ghost use Rattle.std.specs.Prelude.{◌≡◌, map, option_and_then, option_map, string_bytes};
 ghost use Rattle.std.specs.List.{list_all};
 ghost use Rattle.journey_book.specs.Given.{given_view};
-ghost use Rattle.journey_book.specs.Requests.{begins_name, drop_by, is_book_name, is_book_name_byte, is_letter_or_digit, keep_by, list_by, recheck_by, request_by, request_in_words, book_request_of, review_by, show_by};
+ghost use Rattle.journey_book.specs.Requests.{begins_name, drop_by, is_book_name, is_book_name_byte, is_letter_or_digit, keep_by, list_by, report_by, request_by, request_in_words, book_request_of, show_by};
 
 use crate::given::{GivenWords, Plain, read_given};
 
@@ -11,36 +11,44 @@ use crate::given::{GivenWords, Plain, read_given};
 #[derive(Clone, Copy)]
 pub enum BookCommand<'a> {
     /// Keeps a certificate under a name, if it is valid in the region, over the hierarchy, if one is named.
-    Keep {
-        name: &'a str,
-        region: &'a str,
-        certificate: &'a str,
-        hierarchy: Option<&'a str>,
-    },
+    Keep(Keeping<'a>),
     /// Removes a name.
-    Drop {
-        name: &'a str,
-    },
+    Drop { name: &'a str },
     /// All names.
     List,
     /// What is kept under a name.
-    Show {
-        name: &'a str,
-    },
-    /// Which of the certificates that are kept hold in a region, over the hierarchy, if one is named; and whether it is to fail
-    /// where one does not.
-    Recheck {
-        region: &'a str,
-        hierarchy: Option<&'a str>,
-        fail: bool,
-    },
-    /// What a region does to the journeys that are kept, found over the hierarchy, if one is named; and whether it is to fail
-    /// where one is worse.
-    Review {
-        region: &'a str,
-        hierarchy: Option<&'a str>,
-        fail: bool,
-    },
+    Show { name: &'a str },
+    /// A report on what is kept, by a region, and over the hierarchy, if one is named; and whether it is to fail where a line of
+    /// it is not well.
+    Report(ReportAsked<'a>),
+}
+
+/// What is to be kept: the certificate of a file, under a name, where it is valid in the region of a file, over the
+/// hierarchy of another, if one is named.
+#[derive(Clone, Copy)]
+pub struct Keeping<'a> {
+    pub name: &'a str,
+    pub region: &'a str,
+    pub certificate: &'a str,
+    pub hierarchy: Option<&'a str>,
+}
+
+/// A report that is asked for.
+#[derive(Clone, Copy)]
+pub struct ReportAsked<'a> {
+    pub kind: ReportKind,
+    pub region: &'a str,
+    pub hierarchy: Option<&'a str>,
+    pub fail: bool,
+}
+
+/// What a report says of each certificate that is kept.
+#[derive(Clone, Copy)]
+pub enum ReportKind {
+    /// Whether it holds in the region.
+    Recheck,
+    /// What the region does to its journey.
+    Review,
 }
 
 /// The command that the words ask for: the program's name, the book's, the command's, and what it works on. None exactly where they
@@ -71,8 +79,8 @@ fn named<'a>(command: &str, given: GivenWords<'a>) -> Option<BookCommand<'a>>
         "drop" => drop_name(given),
         "list" => list(given),
         "show" => show(given),
-        "recheck" => recheck(given),
-        "review" => review(given),
+        "recheck" => report(ReportKind::Recheck, given),
+        "review" => report(ReportKind::Review, given),
         _ => None,
     }
 }
@@ -87,12 +95,12 @@ fn keep(given: GivenWords<'_>) -> Option<BookCommand<'_>>
     match given.plain {
         Plain::Three(name, region, certificate) => {
             if is_name(name.as_bytes()) {
-                Some(BookCommand::Keep {
+                Some(BookCommand::Keep(Keeping {
                     name,
                     region,
                     certificate,
                     hierarchy: given.hierarchy,
-                })
+                }))
             } else {
                 None
             }
@@ -152,30 +160,17 @@ fn show(given: GivenWords<'_>) -> Option<BookCommand<'_>>
     }
 }
 
-fn recheck(given: GivenWords<'_>) -> Option<BookCommand<'_>>
-    ensures { option_map book_request_of result
-        ≡ recheck_by (given_view given.entry).words (given_view given.entry).hierarchy given.entry.fail }
+fn report(kind: ReportKind, given: GivenWords<'_>) -> Option<BookCommand<'_>>
+    ensures { option_map book_request_of result ≡ report_by kind (given_view given.entry).words
+        (given_view given.entry).hierarchy given.entry.fail }
 {
     match given.plain {
-        Plain::One(region) => Some(BookCommand::Recheck {
+        Plain::One(region) => Some(BookCommand::Report(ReportAsked {
+            kind,
             region,
             hierarchy: given.hierarchy,
             fail: given.fail,
-        }),
-        _ => None,
-    }
-}
-
-fn review(given: GivenWords<'_>) -> Option<BookCommand<'_>>
-    ensures { option_map book_request_of result
-        ≡ review_by (given_view given.entry).words (given_view given.entry).hierarchy given.entry.fail }
-{
-    match given.plain {
-        Plain::One(region) => Some(BookCommand::Review {
-            region,
-            hierarchy: given.hierarchy,
-            fail: given.fail,
-        }),
+        })),
         _ => None,
     }
 }

@@ -2,20 +2,9 @@ use Rattle.std.proofs.Common.{List, ℕ, Option, Bor}
 use Rattle.std.proofs.lemmas.Result.{err_from_is_err_and}
 use Rattle.std.specs.Prelude.{option_map}
 use Rattle.plan_base.proofs.MoreWritten.{stays_so}
-use Rattle.hierarchy.specs.Lists.{HierarchyLists}
-use Rattle.mode_network.specs.NetworkLists.{NetworkLists}
-use Rattle.run_steps.specs.declared.outcome.FileRole.TheVariants.{Queries}
-use Rattle.run_steps.specs.InTurn.{InTurn}
-use Rattle.run_steps.specs.Sayings.{Saying}
-use Rattle.run_steps.specs.declared.limits.Limits.{Limits}
-use Rattle.answer_commands.specs.Answers.{IsAnswer, WritesSettled}
 use Rattle.answer_commands.proofs.BothLemmas.{both_fail, on_both}
 use Rattle.answer_commands.proofs.LentLemmas.{lent_sound}
 use Rattle.answer_commands.proofs.answering.answer.Goals as goal
-
--- what is said behind the region and the hierarchy
-abbrev told : List ℕ → Limits → NetworkLists → Option HierarchyLists → Saying
-told queries limits n h = InTurn Queries queries (IsAnswer n h limits) (WritesSettled n h limits)
 
 pub answer_over-requires : goal.answer_over-requires
 answer_over-requires g c = lent_sound c.in_ok-network.network c.as_ref.result c.in_ok-network.hierarchy c.as_ref.ensures.value c.in_ok-network.ensures.sound
@@ -26,12 +15,12 @@ returns-in_err-network g c =
     let out = g.O.Sink.meaning c.args.ports.now.out in
     let new = g.F.Shelf.meaning c.read_both.new.shelf in
     rw (p.1, p.2)
-    (both_fail c.args.caps.now (g.F.Shelf.meaning c.args.ports.now.shelf) new new out out c.args.region.now (option_map (λ (x : Bor (List ℕ)). x.now) c.args.hierarchy) (told c.args.queries.now c.args.limits) _ c.in_err-network.ensures.err (stays_so out))
+    (both_fail c.args.caps.now (g.F.Shelf.meaning c.args.ports.now.shelf) new new out out c.args.region.now (option_map (λ (x : Bor (List ℕ)). x.now) c.args.hierarchy) _ _ c.in_err-network.ensures.err (stays_so out))
 
 pub returns : goal.returns
 returns g c =
     let mid = g.F.Shelf.meaning c.read_both.new.shelf in
     let new = g.F.Shelf.meaning c.answer_over.new.ports.shelf in
     on_both c.args.caps.now (g.F.Shelf.meaning c.args.ports.now.shelf) mid new (g.O.Sink.meaning c.args.ports.now.out) (g.O.Sink.meaning c.answer_over.new.ports.out) c.args.region.now
-    (option_map (λ (x : Bor (List ℕ)). x.now) c.args.hierarchy) (told c.args.queries.now c.args.limits) c.in_ok-network.network c.in_ok-network.hierarchy c.in_ok-network.ensures.ok _
+    (option_map (λ (x : Bor (List ℕ)). x.now) c.args.hierarchy) _ c.in_ok-network.network c.in_ok-network.hierarchy c.in_ok-network.ensures.ok _
     (rw c.as_ref.ensures.value at c.answer_over.ensures)

@@ -2,18 +2,9 @@ use Rattle.std.proofs.Common.{List, ℕ, Option, Bor}
 use Rattle.std.proofs.lemmas.Result.{err_from_is_err_and}
 use Rattle.std.specs.Prelude.{option_map}
 use Rattle.plan_base.proofs.MoreWritten.{stays_so}
-use Rattle.hierarchy.specs.Lists.{HierarchyLists}
-use Rattle.mode_network.specs.NetworkLists.{NetworkLists}
-use Rattle.run_steps.specs.declared.limits.Limits.{Limits}
-use Rattle.run_steps.specs.Sayings.{Saying, WritesText}
-use Rattle.answer_commands.specs.Outputs.{IsCertified}
 use Rattle.answer_commands.proofs.BothLemmas.{both_fail, on_both}
 use Rattle.answer_commands.proofs.LentLemmas.{lent_sound}
 use Rattle.answer_commands.proofs.certifying.certify.Goals as goal
-
--- what is said behind the region and the hierarchy
-abbrev told : List ℕ → Limits → NetworkLists → Option HierarchyLists → Saying
-told query limits n h = WritesText (IsCertified n h limits query)
 
 pub write_certified-requires : goal.write_certified-requires
 write_certified-requires g c = lent_sound c.in_ok-network.network c.as_ref.result c.in_ok-network.hierarchy c.as_ref.ensures.value c.in_ok-network.ensures.sound
@@ -24,11 +15,11 @@ returns-in_err-network g c =
     let out = g.O.Sink.meaning c.args.ports.now.out in
     let new = g.F.Shelf.meaning c.read_both.new.shelf in
     rw (p.1, p.2)
-    (both_fail c.args.caps.now (g.F.Shelf.meaning c.args.ports.now.shelf) new new out out c.args.region.now (option_map (λ (x : Bor (List ℕ)). x.now) c.args.hierarchy) (told c.args.query.now c.args.limits) _ c.in_err-network.ensures.err (stays_so out))
+    (both_fail c.args.caps.now (g.F.Shelf.meaning c.args.ports.now.shelf) new new out out c.args.region.now (option_map (λ (x : Bor (List ℕ)). x.now) c.args.hierarchy) _ _ c.in_err-network.ensures.err (stays_so out))
 
 pub returns : goal.returns
 returns g c =
     let mid = g.F.Shelf.meaning c.read_both.new.shelf in
     on_both c.args.caps.now (g.F.Shelf.meaning c.args.ports.now.shelf) mid mid (g.O.Sink.meaning c.args.ports.now.out) (g.O.Sink.meaning c.write_certified.new.out) c.args.region.now
-    (option_map (λ (x : Bor (List ℕ)). x.now) c.args.hierarchy) (told c.args.query.now c.args.limits) c.in_ok-network.network c.in_ok-network.hierarchy c.in_ok-network.ensures.ok _
+    (option_map (λ (x : Bor (List ℕ)). x.now) c.args.hierarchy) _ c.in_ok-network.network c.in_ok-network.hierarchy c.in_ok-network.ensures.ok _
     (rw (c.as_ref.ensures.value, c.as_bytes-line.ensures.value) at c.write_certified.ensures mid mid)

@@ -4,6 +4,7 @@ use Rattle.std.proofs.lemmas.List.{map-append, take_more}
 use Rattle.plain_texts.specs.Lines.{with_feed}
 use Rattle.journey_book.specs.Keepers.{Tells}
 use Rattle.journey_book.specs.Reports.{HasReported}
+use Rattle.journey_book.specs.Rules.{rule_of}
 use Rattle.journey_book.proofs.KeeperLemmas.{stays_over, stays_so, told_before}
 use Rattle.journey_book.proofs.ReportLemmas.{has_more}
 use Rattle.journey_book.proofs.reports.report_all.Goals as goal
@@ -17,7 +18,7 @@ loop-name-init g c = record {
 
 pub loop-name-preserved : goal.loop-name-preserved
 loop-name-preserved g c =
-    let rule = g.R.Report.rule c.args.report.now in
+    let rule = rule_of c.args.report.now in
     let old = g.K.Keeper.meaning c.args.keeper.now in
     let mid = g.K.Keeper.meaning c.loop-name.keeper in
     let new = g.K.Keeper.meaning c.get.new.self in

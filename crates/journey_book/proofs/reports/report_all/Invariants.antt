@@ -1,6 +1,7 @@
 use Rattle.std.specs.Prelude.{◌≤◌, map, string_bytes, take}
 use Rattle.journey_book.specs.Keepers.{BookStays}
 use Rattle.journey_book.specs.Reports.{HasReported}
+use Rattle.journey_book.specs.Rules.{rule_of}
 use Rattle.journey_book.proofs.reports.report_all.Given as goal
 
 -- the book has stayed, and the lines so far are of the names so far
@@ -8,5 +9,5 @@ abbrev pub invariant-loop-name : goal.invariant-loop-name
 invariant-loop-name g l = record {
   later : (g.K.Keeper.meaning l.fn.keeper).faults ≤ (g.K.Keeper.meaning l.keeper).faults;
   stays : BookStays (g.K.Keeper.meaning l.fn.keeper) (g.K.Keeper.meaning l.keeper);
-  lines : HasReported (g.R.Report.rule l.report) (g.K.Keeper.meaning l.fn.keeper) (map string_bytes (take l.name-index l.names)) l.text.items l.well;
+  lines : HasReported (rule_of l.report) (g.K.Keeper.meaning l.fn.keeper) (map string_bytes (take l.name-index l.names)) l.text.items l.well;
 }

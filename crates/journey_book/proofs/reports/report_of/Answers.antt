@@ -1,12 +1,13 @@
 use Rattle.std.proofs.Common.{List, map, string_bytes, subst}
 use Rattle.std.proofs.lemmas.Result.{IfOk-weaker}
 use Rattle.journey_book.specs.Reports.{HasReported}
+use Rattle.journey_book.specs.Rules.{rule_of}
 use Rattle.journey_book.proofs.ReportLemmas.{has_before}
 use Rattle.journey_book.proofs.reports.report_of.Goals as goal
 
 pub returns-clause-ok : goal.returns-clause-ok
 returns-clause-ok g c =
-    let rule = g.R.Report.rule c.args.report.now in
+    let rule = rule_of c.args.report.now in
     let old = g.K.Keeper.meaning c.args.keeper.now in
     let mid = g.K.Keeper.meaning c.names.new.self in
     let names = map string_bytes c.in_ok-names.names.items in

@@ -1,6 +1,7 @@
 use Rattle.journey_book.specs.Reports.{IsSaidOn}
+use Rattle.journey_book.specs.Rules.{rule_of}
 use Rattle.journey_book.proofs.ReportLemmas.{all_added}
 use Rattle.journey_book.proofs.reports.said_on.Goals as goal
 
 pub returns : goal.returns
-returns g c = all_added (IsSaidOn (g.R.Report.rule c.args.report.now).AreRight _) _ _ c.new-words.ensures.items c.in_ok-push_held.ensures
+returns c = all_added (IsSaidOn (rule_of c.args.report.now).AreRight _) _ _ c.new-words.ensures.items c.in_ok-push_held.ensures

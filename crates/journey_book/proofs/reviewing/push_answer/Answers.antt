@@ -8,7 +8,7 @@ use Rattle.journey_book.proofs.reviewing.push_answer.Goals as goal
 
 pub returns-in-Some : goal.returns-in-Some
 returns-in-Some c =
-    let n = c.args.review.now.network.now in
+    let n = c.args.report.now.network.now in
     let asked = asked_by c.args.query.now in
     let kept = c.args.kept.now in
     let plan = subst (λ (j : Option Route). IsPlan n asked j) c.in-Some.is c.in_ok-journey.ensures.journey in

@@ -2,6 +2,7 @@ use Rattle.std.proofs.Common.{◌≡◌, ◌∙◌, ap, subst, sym}
 use Rattle.plan_base.proofs.MoreWritten.{stays_so as unwritten}
 use Rattle.run_steps.specs.Scene.{scene_of}
 use Rattle.journey_book.specs.Reports.{IsReport, IsReported, end_by}
+use Rattle.journey_book.specs.Rules.{rule_of}
 use Rattle.journey_book.specs.Sayings.{BookWrites, book_end_of}
 use Rattle.journey_book.specs.Working.{ended_by}
 use Rattle.journey_book.specs.declared.outcome.BookOutcome.{BookOutcome}
@@ -10,7 +11,7 @@ use Rattle.journey_book.proofs.showing.write_report.Goals as goal
 
 pub returns-in-Ok : goal.returns-in-Ok
 returns-in-Ok g c shelf =
-    let rule = g.R.Report.rule c.args.report.now in
+    let rule = rule_of c.args.report.now in
     let before = g.K.Keeper.meaning c.args.keeper.now in
     let old = scene_of shelf (g.O.Sink.meaning c.args.out.now) before in
     let new = scene_of shelf (g.O.Sink.meaning c.write_text.new.out) (g.K.Keeper.meaning c.report_of.new.keeper) in
@@ -25,4 +26,4 @@ returns-in-Err g c shelf =
     let after = g.K.Keeper.meaning c.report_of.new.keeper in
     let out = g.O.Sink.meaning c.args.out.now in
     rw (c.outcome_of_keeper.ensures)
-    (telling_fails (scene_of shelf out before) (scene_of shelf out after) (unwritten out, c.in-Err.ensures.same) (IsReported (g.R.Report.rule c.args.report.now) c.args.fail before) c.in-Err.fault c.in-Err.ensures.cause)
+    (telling_fails (scene_of shelf out before) (scene_of shelf out after) (unwritten out, c.in-Err.ensures.same) (IsReported (rule_of c.args.report.now) c.args.fail before) c.in-Err.fault c.in-Err.ensures.cause)

@@ -5,11 +5,11 @@ use Rattle.journey.specs.Best.{Asks, asked_by}
 use Rattle.journey.specs.Blocks.{AddsText}
 use Rattle.journey_book.specs.Reviews.{IsAnswered, IsReviewed}
 use Rattle.journey_book.proofs.ReportLemmas.{adds_as}
-use Rattle.journey_book.proofs.reviewing.ReviewReport.push_words.Goals as goal
+use Rattle.journey_book.proofs.reviewing.push_reviewed.Goals as goal
 
 pub returns-in-Ok : goal.returns-in-Ok
 returns-in-Ok c =
-    let n = c.args.self.now.network.now in
+    let n = c.args.report.now.network.now in
     let claim = c.args.certificate.now in
     let asked = asked_by c.in-Ok.query in
     let line : c.as_slice.result.now ≡ claim.line = search rules in

@@ -1,4 +1,0 @@
-use Rattle.journey_book.proofs.showing.review_over.Goals as goal
-
-pub returns : goal.returns
-returns g c shelf = c.write_report.ensures shelf

@@ -1,0 +1,23 @@
+-- What the reports of each kind say.
+use Rattle.std.specs.Prelude.{Option, IfSome, option_map}
+use Rattle.mode_network.specs.NetworkLists.{NetworkLists}
+use Rattle.hierarchy.specs.Lists.{HierarchyLists}
+use Rattle.hierarchy.specs.Soundness.{IsSound}
+use Rattle.journey_book.specs.Reports.{ReportRule, IsJudged, says_valid}
+use Rattle.journey_book.specs.Reviews.{IsReviewed, is_no_later}
+use Rattle.journey_book.specs.declared.reports.Report.{Report}
+use Rattle.journey_book.specs.declared.words.ReportKind.{ReportKind}
+use Rattle.journey_book.specs.declared.words.ReportKind.TheVariants.{Recheck, Review}
+
+-- which of the certificates hold in a region, and what it does to the journeys that are kept
+abbrev pub report_rule : ReportKind → NetworkLists → Option HierarchyLists → ReportRule
+report_rule Recheck n h = record { AreRight = IsJudged n h; is_well = says_valid }
+report_rule Review n h = record { AreRight = IsReviewed n; is_well = is_no_later }
+
+-- that of a report
+abbrev pub rule_of : Report → ReportRule
+rule_of report = report_rule report.kind report.network.now (option_map (λ h. h.now) report.hierarchy)
+
+-- its hierarchy, if there is one, is sound
+abbrev pub MayReport : Report → Type 0
+MayReport report = IfSome report.hierarchy (λ h. IsSound report.network.now h.now)
