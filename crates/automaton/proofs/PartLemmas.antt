@@ -16,16 +16,6 @@ pub written_alt : (expr : Expr) (parts : Vec Expr Global) (items : List Expr) �
 written_alt expr parts items is same =
     ap (λ xs. written (one_of (map form_of xs))) same ∙ sym (ap written (form_alt parts)) ∙ sym (ap (λ e. written (form_of e)) is)
 
-pub written_unbounded : (expr part : Expr) (of : Box Expr Global) (least : ℕ) → expr ≡ Repeat of least None → part ≡ of.value
-    → unbounded least (written (form_of part)) ≡ written (form_of expr)
-written_unbounded expr part of least is same =
-    ap (λ e. unbounded least (written (form_of e))) same ∙ sym (ap (λ e. written (form_of e)) is)
-
-pub written_bounded : (expr part : Expr) (of : Box Expr Global) (least most : ℕ) → expr ≡ Repeat of least (Some most) → part ≡ of.value
-    → sequence (copies_in_turn least (written (form_of part))) (options (most - least) (written (form_of part))) ≡ written (form_of expr)
-written_bounded expr part of least most is same =
-    ap (λ e. repeat (written (form_of e)) least (Some most)) same ∙ sym (ap (λ e. written (form_of e)) is)
-
 -- one more part from the end
 pub drop_less : (parts : List Expr) (left : ℕ) (part : Expr) → 0 < left → left ≤ length parts → part ≡ get_or parts (left - 1) part
     → drop (left - 1) parts ≡ part ∷ drop left parts

@@ -101,28 +101,6 @@ lists_fail caps old new folder texts read (BadCertificate line) none = absurd no
 lists_fail caps old new folder texts read (BadHierarchy fault) none = absurd none
 lists_fail caps old new folder texts read (Unsound clause at by) none = absurd none
 
--- a file of the feed is missed or fails, and so no feed is read
-pub feed_unread : (caps : Caps) (old new : ShelfMeaning) (folder : List ℕ) (outcome : Outcome) → IsFeedUnread old new folder in_order outcome → IsFeedOutcome caps old new folder outcome
-feed_unread caps old new folder (BadFeed (source.Feed fault)) cut = absurd (none_so old new folder cut.table (may_be_absent cut.table) fault cut.unread)
-  where
-    none_so : (old new : ShelfMeaning) (folder : List ℕ) (table : FeedFile) (may : Bool) (fault : FeedFault) → IsTableUnread old new folder table may (BadFeed (source.Feed fault)) → ⊥
-    none_so old new folder table true fault none = none
-    none_so old new folder table false fault none = none
-feed_unread caps old new folder (BadFeed (source.Opl fault)) cut = cut
-feed_unread caps old new folder (BadFeed (source.Build fault)) cut = cut
-feed_unread caps old new folder OutOfMemory cut = cut
-feed_unread caps old new folder (Missing other) cut = cut
-feed_unread caps old new folder (ReadFault other) cut = cut
-feed_unread caps old new folder (TooLong other) cut = cut
-feed_unread caps old new folder Done cut = cut
-feed_unread caps old new folder Usage cut = cut
-feed_unread caps old new folder WriteFault cut = cut
-feed_unread caps old new folder (BadRegion fault) cut = cut
-feed_unread caps old new folder (Invalid clause at) cut = cut
-feed_unread caps old new folder (BadCertificate line) cut = cut
-feed_unread caps old new folder (BadHierarchy fault) cut = cut
-feed_unread caps old new folder (Unsound clause at by) cut = cut
-
 -- ---- files that hold the same
 
 same_some : (a b : Option (Bor (List ℕ))) → bytes_of a ≡ bytes_of b → is_some a ≡ is_some b

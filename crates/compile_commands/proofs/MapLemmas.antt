@@ -129,21 +129,3 @@ module _ (caps : Caps) (first now : ShelfMeaning) (later : IsLater first now) (n
   end_fails new (BadCertificate line) none = none
   end_fails new (BadHierarchy fault) none = none
   end_fails new (Unsound clause at by) none = none
-
--- it could not be read
-pub map_unread : (caps : Caps) (old mid new : ShelfMeaning) → IsLater old mid → (name : List ℕ) (outcome : Outcome) → IsUnread mid new name role.Opl outcome → IsMapOutcome caps old new name outcome
-map_unread caps old mid new later name (Missing file) why = unread_before old mid new later name role.Opl (Missing file) why
-map_unread caps old mid new later name (ReadFault file) why = unread_before old mid new later name role.Opl (ReadFault file) why
-map_unread caps old mid new later name (TooLong file) why = unread_before old mid new later name role.Opl (TooLong file) why
-map_unread caps old mid new later name (BadFeed (source.Opl fault)) none = absurd none
-map_unread caps old mid new later name (BadFeed (source.Feed fault)) none = none
-map_unread caps old mid new later name (BadFeed (source.Build fault)) none = none
-map_unread caps old mid new later name OutOfMemory none = none
-map_unread caps old mid new later name Done none = none
-map_unread caps old mid new later name Usage none = none
-map_unread caps old mid new later name WriteFault none = none
-map_unread caps old mid new later name (BadRegion fault) none = none
-map_unread caps old mid new later name (Invalid clause at) none = none
-map_unread caps old mid new later name (BadCertificate line) none = none
-map_unread caps old mid new later name (BadHierarchy fault) none = none
-map_unread caps old mid new later name (Unsound clause at by) none = none

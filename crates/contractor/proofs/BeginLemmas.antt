@@ -63,26 +63,6 @@ empty_list nodes lists are u = by_get (slice_get lists u) refl where
 pub arc_at : (n : NetworkLists) (items : List Arc) (k : ℕ) (d : Arc) → items ≡ n.arcs → k < length items → (k < length n.arcs) × ((e : Arc) → get_or n.arcs k e ≡ get_or items k d)
 arc_at n items k d same lt = (subst (λ (xs : List Arc). k < length xs) same lt, λ e. subst (λ (xs : List Arc). get_or xs k e ≡ get_or items k d) same (get_or_default items k e d lt))
 
--- nothing is entered yet
-pub no_arcs : (n : NetworkLists) (layer : Layer) → IsNetwork n → layer.order.items ≡ [] → layer.entries.items ≡ [] → layer.witnesses ≡ [] → AreEmptyLists (length (network_nodes n)) layer.rows.items → AreEmptyLists (length (network_nodes n)) layer.into.items
-    → AreArcs n 0 layer
-no_arcs n layer network order entries witnesses rows lists = record {
-  order = order;
-  witnesses = witnesses;
-  count = rows.count_is;
-  layer = record {
-    few = (let few = network.few_nodes in omega (arith, rows.count_is));
-    count = lists.count_is ∙ sym rows.count_is;
-    fit = subst (λ es. All (FitsRows (length layer.rows.items)) es) (sym entries) (λ k d low. absurd (omega arith));
-    apart = subst (λ es. AllPairs HaveOtherEnds es) (sym entries) (λ i j d lt low. absurd (omega arith));
-    listed = λ u edge there. absurd (none_in edge (subst (λ es. Contains es edge) (empty_row (length (network_nodes n)) layer.rows.items rows u) there));
-    all = λ k e at from to. absurd (none_in e (subst (λ es. Contains es e) entries (contains_place layer.entries.items k e at)));
-    into_fit = λ v u there. absurd (none_in u (subst (λ us. Contains us u) (empty_list (length (network_nodes n)) layer.into.items lists v) there));
-  };
-  are = λ e there. absurd (none_in e (subst (λ es. Contains es e) entries there));
-  all = λ k d low. absurd (omega arith);
-}
-
 -- arcs with the same ends are one
 same_arc : (n : NetworkLists) → IsNetwork n → (i j : ℕ) (d : Arc) → i < j → j < length n.arcs → (get_or n.arcs i d).from ≡ (get_or n.arcs j d).from → (get_or n.arcs i d).to ≡ (get_or n.arcs j d).to → ⊥
 same_arc n network i j d lt low from to = not_less (get_or n.arcs i d) (get_or n.arcs j d) (network.arcs_ascend i j d lt low) from to where

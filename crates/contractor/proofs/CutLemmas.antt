@@ -29,9 +29,6 @@ leads_elsewhere x e = not (nat_eq e.to x)
 
 -- ---- rows
 
-pub cut_begins : (x : ℕ) (rows : List (Vec Edge Global)) → IsCut x [] rows rows
-cut_begins x rows = record { count = refl; kept = λ u e t d. t; was = λ u e t. t; gone = λ u e t. absurd (none_in u t) }
-
 pub cut_more : (x : ℕ) (before : List ℕ) (i u : ℕ) (old rows : List (Vec Edge Global)) (row : Vec Edge Global) → i < length before → get_or before i 0 ≡ u → u < length rows
     → row.items ≡ filter (λ (e : Edge). not (nat_eq e.to x)) (row_at rows u) → IsCut x (take i before) old rows → IsCut x (take (i + 1) before) old (set rows u row)
 cut_more x before i u old rows row lt at inside is cut = record {
@@ -58,9 +55,6 @@ cut_more x before i u old rows row lt at inside is cut = record {
 
   filtered : (v : ℕ) (e : Edge) → v ≡ u → Contains (row_at (set rows u row) v) e → Contains (row_at rows u) e × (not (nat_eq e.to x) ≡ true)
   filtered v e same there = filter_was (leads_elsewhere x) (row_at rows u) e (subst (λ es. Contains es e) here (subst (λ w. Contains (row_at (set rows u row) w) e) same there))
-
-pub less_begins : (x : ℕ) (into : List (Vec ℕ Global)) → IsLessInto x into into
-less_begins x into = record { count = refl; kept = λ v u t d. t; was = λ v u t. t }
 
 pub less_more : (x v : ℕ) (old into : List (Vec ℕ Global)) (nodes : Vec ℕ Global) → v < length into → nodes.items ≡ filter (λ (u : ℕ). not (nat_eq u x)) (into_at into v) → IsLessInto x old into → IsLessInto x old (set into v nodes)
 less_more x v old into nodes inside is less = record {
@@ -125,9 +119,6 @@ side_passed u x row old sides i d lt differ are = record {
 
 pub sides_begin : (u x : ℕ) (sides : List Side) → AreSidesOf u x [] sides sides
 sides_begin u x sides = record { kept = All-contains_itself sides; each = λ s t. inl t; all = λ k d low. absurd (omega arith) }
-
-pub no_sides : (rows : List (Vec Edge Global)) (x : ℕ) → AreSides rows x [] []
-no_sides rows x = record { each = λ s t. absurd (none_in s t); all = λ u e t. absurd (none_in u t) }
 
 pub sides_more : (rows : List (Vec Edge Global)) (x : ℕ) (before : List ℕ) (i u : ℕ) (sides new : List Side) (row : List Edge) → i < length before → get_or before i 0 ≡ u → row ≡ row_at rows u
     → AreSidesOf u x row sides new → AreSides rows x (take i before) sides → AreSides rows x (take (i + 1) before) new

@@ -26,12 +26,6 @@ core_less order x v core left = (before, differ) where
   differ : v ≢ x
   differ same = let next = height_next order x core in let now : height_in (order ++ x ∷ []) x ≡ length (order ++ x ∷ []) = subst (IsCore (order ++ x ∷ [])) same left in omega (arith, length_push order x)
 
-pub contracted_or_core : (order : List ℕ) (v : ℕ) → IsContracted order v ⊎ IsCore order v
-contracted_or_core order v = elim (cases_lt (height_in order v) (length order)) [
-  | inl lt ↦ inl lt
-  | inr le ↦ (let most = height_most order v in inr (omega arith))
-]
-
 -- a walk over what is left, no heavier than the limit
 pub record HasLiveWalk (h : HierarchyLists) (u v limit : ℕ) : Type 0 where
   pub hops : List Hop

@@ -37,9 +37,6 @@ pub record AreWaysSoFar (rows : List (Vec Edge Global)) (first : List Side) (sec
   pub each : (way : Way) → Contains ways way → IsWayOf first second way
   pub all : (side : Side) (edge : Edge) → Contains first side → Contains second edge → side.node ≢ edge.to → IsListedOrWithin (row_at rows side.node) ways (way_with side edge)
 
-pub no_ways : (rows : List (Vec Edge Global)) (second : List Edge) → AreWaysSoFar rows [] second []
-no_ways rows second = record { each = λ way there. absurd (none_in way there); all = λ side edge there. absurd (none_in side there) }
-
 wider : (first wide : List Side) (second long : List Edge) (way : Way) → ((side : Side) → Contains first side → Contains wide side) → ((edge : Edge) → Contains second edge → Contains long edge) → IsWayOf first second way → IsWayOf wide long way
 wider first wide second long way sides edges w = record { side = w.side; edge = w.edge; is_side = sides w.side w.is_side; is_edge = edges w.edge w.is_edge; differ = w.differ; is = w.is }
 

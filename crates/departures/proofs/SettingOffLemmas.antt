@@ -74,11 +74,6 @@ rest_nothing : (ridden : Bool) → rest_of ridden [] ≡ []
 rest_nothing true = refl
 rest_nothing false = refl
 
-pub nothing_left : (steps kept : List Step) (ridden : Bool) (k : ℕ) → k ≡ length steps → kept ++ rest_of ridden (drop k steps) ≡ unwaited steps → kept ≡ unwaited steps
-nothing_left steps kept ridden k whole e =
-    let none : drop k steps ≡ [] = drop_all k steps (omega arith) in
-    sym (append-nil kept) ∙ ap (λ (s : List Step). kept ++ s) (sym (rest_nothing ridden)) ∙ ap (λ (s : List Step). kept ++ rest_of ridden s) (sym none) ∙ e
-
 -- ---- when they leave
 
 module _ (n : NetworkLists) where

@@ -1,8 +1,7 @@
 -- Heights in an order, and the table of them.
-use Rattle.std.proofs.Common.{◌≡◌, ℕ, ◌+◌, ◌<◌, ◌≤◌, ◌∙◌, suc, zero, nat_eq, Bool, true, false, cond, List, [], ◌∷◌, length, drop, get_or, set, refl, ap, arith, sym, subst}
+use Rattle.std.proofs.Common.{◌≡◌, ℕ, ◌+◌, ◌<◌, ◌≤◌, suc, zero, nat_eq, Bool, true, false, cond, List, [], ◌∷◌, length, drop, get_or, refl, ap, arith}
 use Rattle.std.specs.Prelude.{All}
-use Rattle.std.proofs.lemmas.Bool.{eqb-true, eqb-false, eq-eqb, ne_eqb}
-use Rattle.std.proofs.lemmas.List.{drop_more, drop_all, get_or-set_same, get_or-set_other}
+use Rattle.std.proofs.lemmas.Bool.{eqb-true, eq-eqb, ne_eqb}
 use Rattle.std.proofs.lemmas.List.Elements.{All-head, All-tail}
 use Rattle.hierarchy.specs.Lists.{height_in}
 
@@ -43,27 +42,3 @@ height_is (x ∷ order) v d lt = by_test (nat_eq x v) refl lt (height_is order v
 -- the heights in what is left of the order from place k on
 abbrev pub AreHeightsFrom : ℕ → List ℕ → ℕ → List ℕ → Type 0
 AreHeightsFrom nodes order k heights = (v d : ℕ) → v < nodes → get_or heights v d ≡ k + height_in (drop k order) v
-
-pub heights_begin : (nodes : ℕ) (order heights : List ℕ) → ((v d : ℕ) → v < nodes → get_or heights v d ≡ length order) → AreHeightsFrom nodes order (length order) heights
-heights_begin nodes order heights filled v d lt =
-    let none : drop (length order) order ≡ [] = drop_all (length order) order (omega arith) in
-    let e : length order ≡ length order + 0 = omega arith in
-    rw none (filled v d lt ∙ e)
-
-pub heights_more : (nodes : ℕ) (order heights : List ℕ) (k x : ℕ) → k < length order → x ≡ get_or order k x → length heights ≡ nodes → x < nodes
-    → AreHeightsFrom nodes order (k + 1) heights → AreHeightsFrom nodes order k (set heights x k)
-heights_more nodes order heights k x lt is len inside before v d in_range = by_node (nat_eq x v) refl
-  where
-    rest : drop k order ≡ x ∷ drop (k + 1) order
-    rest = drop_more order k x lt ∙ ap (λ y. y ∷ drop (k + 1) order) (sym is)
-
-    by_node : (b : Bool) → nat_eq x v ≡ b → get_or (set heights x k) v d ≡ k + height_in (drop k order) v
-    by_node true e =
-        let same : x ≡ v = eqb-true x v e in
-        let here : get_or (set heights x k) v d ≡ k = subst (λ w. get_or (set heights x k) w d ≡ k) same (get_or-set_same heights x k d (omega arith)) in
-        let none : k ≡ k + 0 = omega arith in
-        rw (rest, e) (here ∙ none)
-    by_node false e =
-        let other : get_or (set heights x k) v d ≡ get_or heights v d = get_or-set_other heights x v k d (λ same. eqb-false x v e (sym same)) in
-        let next : k + 1 + height_in (drop (k + 1) order) v ≡ k + suc (height_in (drop (k + 1) order) v) = omega arith in
-        rw (rest, e) (other ∙ before v d in_range ∙ next)

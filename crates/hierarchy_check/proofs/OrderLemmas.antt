@@ -35,20 +35,6 @@ free_iff n x mode road b is = (λ h. free (sym is ∙ not-true b h), λ h. not_f
 
 -- ---- meetings
 
--- before the first place
-pub none_met : (n : NetworkLists) (order : List ℕ) → AreMet n order 0 (replicate (length (nodes_of n)) false)
-none_met n order = record {
-  one_each = length-replicate (length (nodes_of n)) false;
-  stands = λ v d is. absurd (false≢true (sym (blank v) ∙ is));
-  noted = λ j d lt. absurd (omega (arith, lt));
-  in_order = λ j lt. absurd (omega (arith, lt));
-} where
-  blank : (v : ℕ) → get_or (replicate (length (nodes_of n)) false) v false ≡ false
-  blank v = elim (cases_lt v (length (nodes_of n))) [
-    | inl lt ↦ get_or-replicate (length (nodes_of n)) v false false lt
-    | inr ge ↦ get_or_past (replicate (length (nodes_of n)) false) v false (omega (arith, length-replicate (length (nodes_of n)) false))
-  ]
-
 module _ (n : NetworkLists) (order : List ℕ) (k x : ℕ) (met : List Bool) (are : AreMet n order k met) (lt : k < length order) (is : (d : ℕ) → get_or order k d ≡ x) where
   -- who is met for the first time may stand there
   stands_here : IsFirstMeeting n met x → MayStandAt n order k

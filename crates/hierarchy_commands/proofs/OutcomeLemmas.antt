@@ -16,13 +16,6 @@ use Rattle.run_steps.specs.Sayings.{Saying}
 use Rattle.hierarchy_commands.specs.Commands.{OnSound, OnHierarchy, OnHierarchyIfNamed}
 use Rattle.hierarchy_commands.specs.Working.{AreUnsound, hierarchy_outcome, HasSound, HasUnsound, IsHierarchyOutcome, IsFoundSound, IsNamedOutcome}
 
--- a hierarchy that was refused
-pub hierarchy_refused : (n : NetworkLists) (bytes : List ℕ) (fault : HFileFault) → IsRefusedHierarchy bytes fault → AreUnsound n bytes (hierarchy_outcome fault)
-hierarchy_refused n bytes no.BadHead why = why
-hierarchy_refused n bytes (no.BadRecord at) why = why
-hierarchy_refused n bytes (no.Trailing at) why = why
-hierarchy_refused n bytes no.OutOfMemory why = tt
-
 module _ (old mid new : ShelfMeaning) (before after : SinkMeaning) (name : List ℕ) (n : NetworkLists) where
   -- the bytes of a hierarchy spell none that is sound
   unsound : (rest : HierarchyLists → Saying) (outcome : Outcome) → HasUnsound old mid n name outcome → Stays before after → OnHierarchy n name rest (scene old before) (scene mid after) outcome

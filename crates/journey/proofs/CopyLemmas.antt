@@ -79,9 +79,6 @@ pub row_of_copies : (n : NetworkLists) (endpoint : Endpoint) (range : ℕ × ℕ
 row_of_copies n endpoint range exact list is =
     subst (AreTheCopies n endpoint) (sym is) (record { ascending = range_ascends range.0 (range.1 - range.0); are = in_a_row (IsCopy n endpoint) range exact })
 
-pub none_ascend : AllPairs (λ (v w : ℕ). v < w) []
-none_ascend i j d lt within = absurd (omega arith)
-
 -- ---- an endpoint has one list of copies
 
 HasAll : List ℕ → List ℕ → Type 0

@@ -54,12 +54,6 @@ clock_refusal n line shape is fault e = on_fault (clock_fault n.days (date_at sh
     on_fault (inl bad) = subst (λ f. IsRefusal n line f) (sym bad) (inr (shape, is, e ∙ ap Err bad))
     on_fault (inr out) = subst (λ f. IsRefusal n line f) (sym out) (inr (shape, is, e ∙ ap Err out))
 
--- an origin that lacks something, where the clock is right
-pub origin_refusal : (n : NetworkLists) (line : List ℕ) (shape : Shape) (depart : ℕ) → shape_of line ≡ Some shape → departs_at n.days shape ≡ Ok depart
-    → (lack : Lack) → IsLack n shape.from (Some lack) → IsRefusal n line (origin_fault lack)
-origin_refusal n line shape depart is departs Unknown unknown = inr (shape, depart, record { shape_is = is; departs = departs }, unknown)
-origin_refusal n line shape depart is departs (Far mm) far = inr (shape, depart, record { shape_is = is; departs = departs }, far)
-
 -- a destination that lacks something, where the origin is known too
 pub destination_refusal : (n : NetworkLists) (line : List ℕ) (shape : Shape) (depart : ℕ) → shape_of line ≡ Some shape → departs_at n.days shape ≡ Ok depart
     → IsKnown n shape.from → (lack : Lack) → IsLack n shape.to (Some lack) → IsRefusal n line (destination_fault lack)

@@ -56,13 +56,3 @@ telling_more n rules v t steps times k node at word lines step telling lt is w u
       in_range = step_in_range n rules node at step w u c telling.in_range here;
       in_time = on_time k at u telling.in_time (step_in_time n rules node at step w u c time here);
     }
-
-pub telling_starts : (n : NetworkLists) (v t : ℕ) (steps : List Step) → AreTaken n v t steps → v < length (nodes_of n) → t < time_bound → IsTelling n v t steps 0 v t [] []
-telling_starts n v t steps taken node time = record {
-  letters = [];
-  told = (refl, refl, refl, refl);
-  word_is = refl;
-  rest = taken;
-  in_range = node;
-  in_time = omega arith;
-}

@@ -24,10 +24,6 @@ none_asked (a ∷ []) few = refl
 none_asked (a ∷ b ∷ []) few = refl
 none_asked (a ∷ b ∷ c ∷ rest) few = absurd (omega arith)
 
--- words that ask for nothing are refused
-pub are_refused : (words : List (List ℕ)) → None ≡ request_in_words words → AreRefusedByBook words
-are_refused words none r asks = let e = none ∙ asks in absurd (cc)
-
 -- words ask for one thing
 pub asked_once : (words : List (List ℕ)) (one other : BookRequest) → Some one ≡ request_in_words words → AsksOfBook words other → one ≡ other
 asked_once words one other is asks = let e = is ∙ asks in cc

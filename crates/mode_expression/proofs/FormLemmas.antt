@@ -32,9 +32,6 @@ form_alt parts =
     let row = row_of (Alt parts) in
     one_of_row row.0 row.1 ∙ ap (λ es. one_of (map form_of es)) (items_hidden-the_row-Expr-0 parts)
 
-pub form_repeat : (part : Box Expr Global) (least : ℕ) (most : Option ℕ) → form_of (Repeat part least most) ≡ repeated (form_of part.value) least most
-form_repeat part least most = refl
-
 sequence_of_many : (forms : List Form) → length forms ≢ 1 → sequence forms ≡ in_turn forms
 sequence_of_many [] many = refl
 sequence_of_many (form ∷ []) many = absurd (many refl)

@@ -20,13 +20,6 @@ lexemes_apart at c text other join = let e = is_32 c other in rw (e, join)
 drop_at : (text : List ℕ) (i : ℕ) → i < length text → drop i text ≡ get_or text i 0 ∷ drop (i + 1) text
 drop_at text i lt = rw (add-one, drop-cons text i 0)
 
--- one more space
-pub skip_one : (text : List ℕ) (i : ℕ) → i < length text → get_or text i 0 ≡ 32 → (at : ℕ)
-    → lexemes (at + i) (drop i text) ≡ lexemes (at + (i + 1)) (drop (i + 1) text)
-skip_one text i lt is at =
-    ap (λ ts. lexemes (at + i) ts) (drop_at text i lt) ∙ lexemes_space (at + i) (get_or text i 0) (drop (i + 1) text) is
-    ∙ ap (λ n. lexemes n (drop (i + 1) text)) (omega arith)
-
 -- the first lexeme with these bytes before its own
 abbrev pub prefixed : ℕ → List ℕ → List Lexeme → List Lexeme
 prefixed at front [] = []

@@ -81,9 +81,6 @@ permuted xs ys zs moved same = record {
   all = All-weaker (Contains xs) (Contains zs) (λ x held. Contains-permutation xs zs x moved held) ys same.all;
 }
 
-pub no_points : HoldSame [] []
-no_points = record { given = All-nil (Contains []); all = All-nil (Contains []) }
-
 -- one point more of both lists, or of the second alone where the first has it
 pub both_more : (xs ys : List Point) (p : Point) → HoldSame xs ys → HoldSame (xs ++ p ∷ []) (ys ++ p ∷ [])
 both_more xs ys p h = record {

@@ -101,9 +101,6 @@ extends_contains old new ext v (i, lt, is) = (i, (ext i v lt).0, (ext i v lt).1 
 pub extends_more : (a b c : List ℕ) → Extends a b → Extends b c → Extends a c
 extends_more a b c first second i d lt = let x = first i d lt in let y = second i d x.0 in (y.0, y.1 ∙ x.1)
 
-pub extends_same : (a : List ℕ) → Extends a a
-extends_same a i d lt = (lt, refl)
-
 -- what holds of all in a list and of a node holds of all where that node may have been added
 pub all_or : (P : ℕ → Type 0) (old new : List ℕ) (v : ℕ) → All P old → AreOldOr v old new → P v → All P new
 all_or P old new v each only is k d lt = by_origin (only (get_or new k d) (k, lt, get_or_default new k (get_or new k d) d lt))

@@ -670,9 +670,6 @@ module _ (f : Frontier) (right : IsQueueRight f) (v q c : ℕ) (x : Key) (some :
     go zero e = omega (arith, some)
     go (suc k) e = let p = (sought_last.there k e).0 in omega (arith, p, some)
 
-pub sought_none : (count : ℕ) (rs : List Row) (v q c : ℕ) → c ≡ 0 → IsSought count rs v q c → IsNowhere rs v q
-sought_none count rs v q c is sought k at = sought.none_after k (at.row) at.known (omega (arith, is)) at.node at.state
-
 pub sought_within : (count : ℕ) (rs : List Row) (v q c : ℕ) → c ≢ 0 → IsSought count rs v q c → c - 1 < length rs
 sought_within count rs v q c some sought = let p = sought.there (c - 1) (omega (arith, some)) in slice_get_within rs (c - 1) p.0 p.1
 

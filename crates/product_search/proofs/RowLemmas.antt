@@ -183,26 +183,6 @@ kept_set x y n k e wide keys entries bar fits kept = record {
     ]
   ]
 
--- where a key and its entry come behind the others
-pub kept_push : (x y : Inside) (k : Key) (e : Entry) → y.wide ≡ x.wide → y.keys.items ≡ x.keys.items ++ k ∷ [] → y.entries.items ≡ x.entries.items ++ e ∷ []
-    → IsBarOf k e → FitsEntry x.wide.items e → IsKept x → IsKept y
-kept_push x y k e wide keys entries bar fits kept = record {
-  as_long = omega (arith, ap length keys, ap length entries, length-append x.keys.items (k ∷ []), length-append x.entries.items (e ∷ []), kept.as_long);
-  fits = rw (wide, entries) (All-push (FitsEntry x.wide.items) x.entries.items e kept.fits fits);
-  bars = λ i j d key entry. bars i j d (ap (λ xs. slice_get xs i) (sym keys) ∙ key) (ap (λ xs. slice_get xs i) (sym entries) ∙ entry);
-} where
-  bars : (i : ℕ) (j : Key) (d : Entry) → slice_get (x.keys.items ++ k ∷ []) i ≡ Some j → slice_get (x.entries.items ++ e ∷ []) i ≡ Some d → IsBarOf j d
-  bars i j d key entry = elim (push_cases x.keys.items k i j key) [
-    | inl (at, same) ↦ elim (push_cases x.entries.items e i d entry) [
-      | inl (at2, same2) ↦ subst (λ b. IsBarOf j b) same2 (subst (λ b. IsBarOf b e) same bar)
-      | inr (lt, there) ↦ absurd (omega (arith, lt, at, kept.as_long))
-    ]
-    | inr (lt, there) ↦ elim (push_cases x.entries.items e i d entry) [
-      | inl (at, same) ↦ absurd (omega (arith, lt, at, kept.as_long))
-      | inr (lt2, there2) ↦ kept.bars i j d there there2
-    ]
-  ]
-
 -- ---- what is read
 
 module _ (x : Inside) (m : RowsMeaning) (is : rows_meaning x ≡ m) (kept : IsKept x) where

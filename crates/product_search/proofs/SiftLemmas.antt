@@ -22,30 +22,6 @@ alone xs k x lt read = record {
   least = λ i from below. omega (arith, ap (word_at xs) (let same : i ≡ k = omega arith in same), ap (λ y. y.word) (get_or_read xs k x lt read (record { word = 0 })));
 }
 
--- of the least of two parts the lesser is the least of both
-pub least_of_both : (xs : List QueueItem) (low mid high : ℕ) (a b c : Child) → IsLeastWithin xs low mid a → IsLeastWithin xs mid high b
-    → c ≡ (if nat_lt b.item.word a.item.word then b else a) → IsLeastWithin xs low high c
-least_of_both xs low mid high a b c left right is = rw is (go (nat_lt b.item.word a.item.word) refl) where
-  every : (w : ℕ) → w ≤ a.item.word → w ≤ b.item.word → (k : ℕ) → low ≤ k → k < high → w ≤ word_at xs k
-  every w first second k from below = elim (cases_lt k mid) [
-    | inl lt ↦ omega (arith, first, left.least k from lt)
-    | inr ge ↦ omega (arith, second, right.least k ge below)
-  ]
-
-  go : (t : Bool) → nat_lt b.item.word a.item.word ≡ t → IsLeastWithin xs low high (if t then b else a)
-  go true less = record {
-    from = omega (arith, left.from, left.below, right.from);
-    below = right.below;
-    there = right.there;
-    least = every b.item.word (omega (arith, ltb-true b.item.word a.item.word less)) (omega arith);
-  }
-  go false more = record {
-    from = left.from;
-    below = omega (arith, left.below, right.from, right.below);
-    there = left.there;
-    least = every a.item.word (omega arith) (ltb-false b.item.word a.item.word more);
-  }
-
 -- the least of those below a place
 pub least_below : (xs : List QueueItem) (at high : ℕ) (child : Child) → high ≤ 4 * at + 5 → ((k : ℕ) → k < 4 * at + 5 → k < length xs → k < high)
     → IsLeastWithin xs (4 * at + 1) high child → IsLeastChild xs at child

@@ -126,10 +126,6 @@ pub listed_at : (l : LabelsMeaning) (starts : List ℕ) (dep : ℕ) (arrival : O
     → HoldsBelow (length (start_pairs l starts)) (StartIsListedAt l starts dep arrival list)
 listed_at l starts dep arrival list all k lt d before = all k d lt
 
-pub not_asked : (l : LabelsMeaning) (starts : List ℕ) (dep : ℕ) (arrival : Option ℕ) (list : List Label) → (IsBefore arrival dep → ⊥)
-    → HoldsBelow (length (start_pairs l starts)) (StartIsListedAt l starts dep arrival list)
-not_asked l starts dep arrival list late k lt d before = absurd (late before)
-
 pub fails_first : (l : LabelsMeaning) (starts : List ℕ) (dep : ℕ) (arrival : Option ℕ) (list : List Label) (k : ℕ) → IsBefore arrival dep → FailsAt list dep (start_pairs l starts) k
     → FailsFirstAt (length (start_pairs l starts)) (StartIsListedAt l starts dep arrival list) k
 fails_first l starts dep arrival list k before fails = record {

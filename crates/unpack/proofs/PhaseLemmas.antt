@@ -179,14 +179,6 @@ unpacking_begins n h e old listed = record {
   list = sym (append-nil old);
 }
 
-pub unpacking_ends : (n : NetworkLists) (h : HierarchyLists) (e : Entry) (old steps : List Step) → IsUnpacking n h e old steps [] → GoesOnByRoads n e.from e.to e.weight old steps
-unpacking_ends n h e old steps u = record {
-  roads = u.roads;
-  lead = subst (AreHops (Leads n.arcs) e.from u.roads) u.waiting u.lead;
-  weigh = (let sum = u.weigh in omega (arith, sum));
-  list = u.list;
-}
-
 module _ (n : NetworkLists) (network : IsNetwork n) (h : HierarchyLists) (rules : IsHierarchy h) (sound : ∥ IsSound n h ∥₁) (e : Entry) (old steps : List Step) (stack : List Entry) (x : Entry)
     (far : IsUnpacking n h e old steps (stack ++ x ∷ [])) where
   next : Contains h.entries x × (far.at ≡ x.from) × AreStillPacked h.entries x.to stack e.to
@@ -399,16 +391,6 @@ pub record IsUnderWay (n : NetworkLists) (g : GraphMeaning) (start at : ℕ) (ho
   pub told : letters_in g start hops ≡ done ++ letters_in g p (drop k hops)
   pub ends : node_after p (drop k hops) ≡ node_after start hops
   pub arrives : arrival_after time (drop k hops) ≡ arrival_after at hops
-
-pub under_way : (n : NetworkLists) (g : GraphMeaning) (start at : ℕ) (hops : List Hop) → AreHopsIn g start at hops → IsUnderWay n g start at hops 0 start at []
-under_way n g start at hops are = record {
-  done = [];
-  far = record { more = []; letters = []; list = refl; on_time = (refl, refl, refl); once = λ word. refl; soon = All-nil IsSoon };
-  rest = are;
-  told = refl;
-  ends = refl;
-  arrives = refl;
-}
 
 module _ (n : NetworkLists) (g : GraphMeaning) (start at : ℕ) (hops : List Hop) (k p time : ℕ) (steps : List Step) (way : IsUnderWay n g start at hops k p time steps) where
   -- the next hop is by an arc

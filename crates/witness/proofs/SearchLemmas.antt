@@ -167,12 +167,6 @@ next_search rows limit old new at node next s = same_search old new next.same ro
     | inl it ↦ inr (sym (ap (λ (x : Reverse (ℕ × ℕ)). x.0.1) it), sym (ap (λ (x : Reverse (ℕ × ℕ)). x.0.0) it))
   ]
 
-pub next_less : (limit : ℕ) (old new : Workspace) (at node : ℕ) → IsNext old new at node → work limit new + 1 ≡ work limit old
-next_less limit old new at node next =
-    let less = next.one_less in
-    subst (λ r. heap_len new.waiting + 2 * sum_by (left_of r limit) new.places.items + 1 ≡ work limit old) (sym next.same.same.round)
-    (subst (λ ps. heap_len new.waiting + 2 * sum_by (left_of old.round limit) ps + 1 ≡ work limit old) (sym next.same.places) (omega arith))
-
 -- nobody is busy once the ways of who was are closed
 unbusy : (rows : List (Vec Edge Global)) (limit : ℕ) (w : Workspace) (busy : ℕ → ℕ → Type 0) → ((v d p : ℕ) → Knows w v d p → busy v d → IsRelaxed rows limit w v d) → IsSearch rows limit busy w → IsSearch rows limit NobodyBusy w
 unbusy rows limit w busy closed s = record {
